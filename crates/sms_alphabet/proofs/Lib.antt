@@ -1,0 +1,10 @@
+pub mod Table
+pub mod Lookups
+pub mod Texts
+pub mod Codes
+pub mod Readings
+pub mod Surrogates
+pub mod Told
+pub mod Membership
+pub mod Ranges
+pub mod Lawful

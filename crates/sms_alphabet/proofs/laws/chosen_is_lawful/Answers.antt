@@ -1,0 +1,5 @@
+use Rattle.sms_alphabet.proofs.Lawful.{chosen_spells}
+use Rattle.sms_alphabet.proofs.laws.chosen_is_lawful.Goals as goal
+
+pub returns : goal.returns
+returns c = λ text is. (chosen_spells text, (text, is, chosen_spells text))

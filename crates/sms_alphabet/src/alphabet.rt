@@ -1,0 +1,127 @@
+//! Look-ups in the default alphabet and its extension table, from a character and from a code.
+//! Each takes constant time.
+ghost use Rattle.std.specs.Prelude.{◌≡◌, ◌<◌, [], ◌∷◌, slice_index};
+ghost use Rattle.std.specs.Option.{option_map};
+ghost use Rattle.sms_alphabet.specs.Alphabet.{codes_of, IsCharacterOf};
+ghost use Rattle.sms_alphabet.specs.Code.{codes};
+
+/// The escape to the extension table. It is no character's code by itself.
+pub(crate) const ESCAPE: u8 = 0x1b;
+
+/// Where the alphabet has a character.
+#[derive(Clone, Copy)]
+pub(crate) enum Code {
+    /// A code of the default alphabet (3GPP TS 23.038 6.2.1).
+    Basic(u8),
+    /// A code of the extension table, which follows the escape (3GPP TS 23.038 6.2.1.1).
+    Extension(u8),
+}
+
+// The codes of U+0000 to U+00FF in the default alphabet, and the escape for each character that
+// it lacks.
+static LATIN_CODES: [u8; 256] = [
+    0x1b, 0x1b, 0x1b, 0x1b, 0x1b, 0x1b, 0x1b, 0x1b, 0x1b, 0x1b, 0x0a, 0x1b, 0x1b, 0x0d, 0x1b, 0x1b,
+    0x1b, 0x1b, 0x1b, 0x1b, 0x1b, 0x1b, 0x1b, 0x1b, 0x1b, 0x1b, 0x1b, 0x1b, 0x1b, 0x1b, 0x1b, 0x1b,
+    0x20, 0x21, 0x22, 0x23, 0x02, 0x25, 0x26, 0x27, 0x28, 0x29, 0x2a, 0x2b, 0x2c, 0x2d, 0x2e, 0x2f,
+    0x30, 0x31, 0x32, 0x33, 0x34, 0x35, 0x36, 0x37, 0x38, 0x39, 0x3a, 0x3b, 0x3c, 0x3d, 0x3e, 0x3f,
+    0x00, 0x41, 0x42, 0x43, 0x44, 0x45, 0x46, 0x47, 0x48, 0x49, 0x4a, 0x4b, 0x4c, 0x4d, 0x4e, 0x4f,
+    0x50, 0x51, 0x52, 0x53, 0x54, 0x55, 0x56, 0x57, 0x58, 0x59, 0x5a, 0x1b, 0x1b, 0x1b, 0x1b, 0x11,
+    0x1b, 0x61, 0x62, 0x63, 0x64, 0x65, 0x66, 0x67, 0x68, 0x69, 0x6a, 0x6b, 0x6c, 0x6d, 0x6e, 0x6f,
+    0x70, 0x71, 0x72, 0x73, 0x74, 0x75, 0x76, 0x77, 0x78, 0x79, 0x7a, 0x1b, 0x1b, 0x1b, 0x1b, 0x1b,
+    0x1b, 0x1b, 0x1b, 0x1b, 0x1b, 0x1b, 0x1b, 0x1b, 0x1b, 0x1b, 0x1b, 0x1b, 0x1b, 0x1b, 0x1b, 0x1b,
+    0x1b, 0x1b, 0x1b, 0x1b, 0x1b, 0x1b, 0x1b, 0x1b, 0x1b, 0x1b, 0x1b, 0x1b, 0x1b, 0x1b, 0x1b, 0x1b,
+    0x1b, 0x40, 0x1b, 0x01, 0x24, 0x03, 0x1b, 0x5f, 0x1b, 0x1b, 0x1b, 0x1b, 0x1b, 0x1b, 0x1b, 0x1b,
+    0x1b, 0x1b, 0x1b, 0x1b, 0x1b, 0x1b, 0x1b, 0x1b, 0x1b, 0x1b, 0x1b, 0x1b, 0x1b, 0x1b, 0x1b, 0x60,
+    0x1b, 0x1b, 0x1b, 0x1b, 0x5b, 0x0e, 0x1c, 0x09, 0x1b, 0x1f, 0x1b, 0x1b, 0x1b, 0x1b, 0x1b, 0x1b,
+    0x1b, 0x5d, 0x1b, 0x1b, 0x1b, 0x1b, 0x5c, 0x1b, 0x0b, 0x1b, 0x1b, 0x1b, 0x5e, 0x1b, 0x1b, 0x1e,
+    0x7f, 0x1b, 0x1b, 0x1b, 0x7b, 0x0f, 0x1d, 0x1b, 0x04, 0x05, 0x1b, 0x1b, 0x07, 0x1b, 0x1b, 0x1b,
+    0x1b, 0x7d, 0x08, 0x1b, 0x1b, 0x1b, 0x7c, 0x1b, 0x0c, 0x06, 0x1b, 0x1b, 0x7e, 0x1b, 0x1b, 0x1b,
+];
+
+// The characters of the codes 0x00 to 0x7F in the default alphabet. At the escape stands U+001B,
+// which no look-up gives.
+static CHARACTERS: [char; 128] = [
+    '@', '\u{a3}', '$', '\u{a5}', '\u{e8}', '\u{e9}', '\u{f9}', '\u{ec}', '\u{f2}', '\u{c7}', '\n',
+    '\u{d8}', '\u{f8}', '\r', '\u{c5}', '\u{e5}', '\u{394}', '_', '\u{3a6}', '\u{393}', '\u{39b}',
+    '\u{3a9}', '\u{3a0}', '\u{3a8}', '\u{3a3}', '\u{398}', '\u{39e}', '\u{1b}', '\u{c6}', '\u{e6}',
+    '\u{df}', '\u{c9}', ' ', '!', '"', '#', '\u{a4}', '%', '&', '\'', '(', ')', '*', '+', ',', '-',
+    '.', '/', '0', '1', '2', '3', '4', '5', '6', '7', '8', '9', ':', ';', '<', '=', '>', '?',
+    '\u{a1}', 'A', 'B', 'C', 'D', 'E', 'F', 'G', 'H', 'I', 'J', 'K', 'L', 'M', 'N', 'O', 'P', 'Q',
+    'R', 'S', 'T', 'U', 'V', 'W', 'X', 'Y', 'Z', '\u{c4}', '\u{d6}', '\u{d1}', '\u{dc}', '\u{a7}',
+    '\u{bf}', 'a', 'b', 'c', 'd', 'e', 'f', 'g', 'h', 'i', 'j', 'k', 'l', 'm', 'n', 'o', 'p', 'q',
+    'r', 's', 't', 'u', 'v', 'w', 'x', 'y', 'z', '\u{e4}', '\u{f6}', '\u{f1}', '\u{fc}', '\u{e0}',
+];
+
+/// Where the alphabet has the character, if it does.
+pub(crate) fn code_of(c: char) -> Option<Code>
+    ensures { option_map codes result ≡ codes_of c }
+{
+    if c <= '\u{ff}' {
+        let code = LATIN_CODES[c as usize];
+        if code != ESCAPE {
+            return Some(Code::Basic(code));
+        }
+    }
+    code_beyond_latin(c)
+}
+
+// The capital letters of Greek that aren't drawn as Latin ones, and the extension table.
+#[tactic(auto, unfolding(crate::specs::Alphabet::codes_of, crate::specs::Alphabet::default_alphabet))]
+fn code_beyond_latin(c: char) -> Option<Code>
+    requires { c < 256 → slice_index LATIN_CODES c ≡ ESCAPE }
+    ensures { option_map codes result ≡ codes_of c }
+{
+    match c {
+        'Γ' => Some(Code::Basic(0x13)),
+        'Δ' => Some(Code::Basic(0x10)),
+        'Θ' => Some(Code::Basic(0x19)),
+        'Λ' => Some(Code::Basic(0x14)),
+        'Ξ' => Some(Code::Basic(0x1a)),
+        'Π' => Some(Code::Basic(0x16)),
+        'Σ' => Some(Code::Basic(0x18)),
+        'Φ' => Some(Code::Basic(0x12)),
+        'Ψ' => Some(Code::Basic(0x17)),
+        'Ω' => Some(Code::Basic(0x15)),
+        '\u{c}' => Some(Code::Extension(0x0a)),
+        '[' => Some(Code::Extension(0x3c)),
+        '\\' => Some(Code::Extension(0x2f)),
+        ']' => Some(Code::Extension(0x3e)),
+        '^' => Some(Code::Extension(0x14)),
+        '{' => Some(Code::Extension(0x28)),
+        '|' => Some(Code::Extension(0x40)),
+        '}' => Some(Code::Extension(0x29)),
+        '~' => Some(Code::Extension(0x3d)),
+        '€' => Some(Code::Extension(0x65)),
+        _ => None,
+    }
+}
+
+/// The character that has this code in the default alphabet.
+pub(crate) fn basic_character(code: u16) -> Option<char>
+    ensures { IsCharacterOf (code ∷ []) result }
+{
+    if code >= 128 || code == ESCAPE as u16 {
+        return None;
+    }
+    Some(CHARACTERS[code as usize])
+}
+
+/// The character that has this code in the extension table.
+#[tactic(auto, unfolding(crate::specs::Alphabet::codes_of, crate::specs::Alphabet::default_alphabet))]
+pub(crate) fn extension_character(code: u16) -> Option<char>
+    ensures { IsCharacterOf (ESCAPE ∷ code ∷ []) result }
+{
+    match code {
+        0x0a => Some('\u{c}'),
+        0x14 => Some('^'),
+        0x28 => Some('{'),
+        0x29 => Some('}'),
+        0x2f => Some('\\'),
+        0x3c => Some('['),
+        0x3d => Some('~'),
+        0x3e => Some(']'),
+        0x40 => Some('|'),
+        0x65 => Some('€'),
+        _ => None,
+    }
+}

@@ -1,0 +1,92 @@
+//! From a text to its units.
+ghost use Rattle.std.specs.Prelude.{◌≡◌, ◌↔◌, ◌++◌, IfOk, IsSome, IsTrue};
+ghost use Rattle.std.specs.Option.{option_map};
+ghost use Rattle.std.specs.Str.{chars};
+ghost use Rattle.sms_alphabet.specs.Spelling.{IsCodable, Spells, chosen, gsm_spelling, ucs2_spelling};
+ghost use Rattle.sms_alphabet.specs.Writing.{items_of, IsWritten};
+
+use crate::alphabet::{Code, ESCAPE, code_of};
+use crate::coded::{Coded, Coding};
+use crate::units::Units;
+use std::alloc::{AllocError, Global};
+
+/// The codes of the text's characters in the default alphabet, in order, one a septet and one an
+/// octet of the result: one code for a character of the alphabet itself, and the escape and a code
+/// for one of the extension table (3GPP TS 23.038 6.2.1, 6.2.1.1). `None` where a character has no
+/// code.
+pub fn septets(alloc: Global, text: &str) -> Result<Option<Vec<u8>>, AllocError>
+    ensures codes { IfOk result (λ codes. items_of codes ≡ gsm_spelling (chars text.now)) }
+    ensures codable { IfOk result (λ codes. IsSome codes ↔ IsCodable (chars text.now)) }
+{
+    let mut codes = Vec::with_capacity(alloc, text.len())?;
+    for c in text.chars() {
+        match code_of(c) {
+            Some(Code::Basic(code)) => codes.push(code)?,
+            Some(Code::Extension(code)) => {
+                codes.push(ESCAPE)?;
+                codes.push(code)?;
+            }
+            None => return Ok(None),
+        }
+    }
+    Ok(Some(codes))
+}
+
+/// The UTF-16 code units of the text, in order (3GPP TS 23.038 6.2.3).
+pub fn ucs2(alloc: Global, text: &str) -> Result<Vec<u16>, AllocError>
+    ensures { IfOk result (λ units. units.items ≡ ucs2_spelling (chars text.now)) }
+{
+    let mut units = Vec::with_capacity(alloc, text.len())?;
+    write_ucs2(&mut units, text)?;
+    Ok(units)
+}
+
+/// The text in the default alphabet where each of its characters has a code there, and otherwise
+/// in UCS2.
+pub fn choose(alloc: Global, text: &str) -> Result<Coded, AllocError>
+    ensures chosen { IfOk result (λ coded. coded ≡ chosen (chars text.now)) }
+    ensures codable { IfOk result (λ coded. (coded.coding ≡ Coding.Gsm) ↔ IsCodable (chars text.now)) }
+    ensures spelled { IfOk result (λ coded. Spells coded (chars text.now)) }
+{
+    let mut units = Vec::with_capacity(alloc, text.len())?;
+    if write_codes(&mut units, text)? {
+        return Ok(Coded {
+            coding: Coding::Gsm,
+            units: Units::new(units),
+        });
+    }
+    units.clear();
+    write_ucs2(&mut units, text)?;
+    Ok(Coded {
+        coding: Coding::Ucs2,
+        units: Units::new(units),
+    })
+}
+
+// Adds the codes of the text's characters, up to the first that has none, and says whether that
+// was all.
+fn write_codes(units: &mut Vec<u16>, text: &str) -> Result<bool, AllocError>
+    ensures { IfOk result (λ all. IsWritten all units.old.items units.new.items (gsm_spelling (chars text.now))) }
+{
+    for c in text.chars() {
+        match code_of(c) {
+            Some(Code::Basic(code)) => units.push(u16::from(code))?,
+            Some(Code::Extension(code)) => {
+                units.push(u16::from(ESCAPE))?;
+                units.push(u16::from(code))?;
+            }
+            None => return Ok(false),
+        }
+    }
+    Ok(true)
+}
+
+// Adds the UTF-16 code units of the text.
+fn write_ucs2(units: &mut Vec<u16>, text: &str) -> Result<(), AllocError>
+    ensures { IfOk result (λ _. units.new.items ≡ units.old.items ++ ucs2_spelling (chars text.now)) }
+{
+    for unit in text.encode_utf16() {
+        units.push(unit)?;
+    }
+    Ok(())
+}

@@ -1,0 +1,95 @@
+-- The numbers that Posts give: each step draws what it gives.
+use Rattle.std.proofs.Common.{◌≡◌, ◌≢◌, ℕ, ◌+◌, ◌==◌, true, false, List, [], ◌∷◌, ◌++◌, refl, sym, ap, ◌∙◌, ⊎_elim, arith}
+use Rattle.std.proofs.lemmas.Bool.{lt-ltb, le-ltb}
+use Rattle.std.proofs.lemmas.Bool.Decides.{nat_tests, eqb_tells}
+use Rattle.std.proofs.lemmas.List.{get_or-set_same}
+use Rattle.sms_core.specs.declared.event.Event.{Event}
+use Rattle.sms_core.specs.declared.event.Event.TheVariants.{TopUp, Reserve, Claim, Post, Respond, Settle, Expire, Discard, Release}
+use Rattle.sms_core.specs.declared.event.Cause.{Cause}
+use Rattle.sms_core.specs.declared.event.Step.{Step}
+use Rattle.sms_core.specs.declared.event.Step.TheVariants.{Done, Ignored}
+use Rattle.sms_core.specs.declared.mark.Mark.{Mark}
+use Rattle.sms_core.specs.declared.mark.Mark.TheVariants.{Empty, Open, Replied}
+use Rattle.sms_core.specs.CoreLaws.{NumbersGivenOnce}
+use Rattle.sms_core.specs.Numbers.{times, once_below}
+use Rattle.sms_core.specs.State.{State, new_world, mark_of}
+use Rattle.sms_core.specs.Steps.{checks, Steps, Settles, Expires}
+use Rattle.sms_core.specs.Histories.{Moment, IsHistory, number_in, given_by, numbers_given}
+use Rattle.sms_core.proofs.Passed.{all_passed, some_held}
+use Rattle.sms_core.proofs.Runs.{first_step}
+use Rattle.sms_core.proofs.Sound.{IsSound, held_inside, sound_start, sound_step}
+
+pub times_append : (n : ℕ) (xs ys : List ℕ) → times n (xs ++ ys) ≡ times n xs + times n ys
+times_append n [] ys = omega arith
+times_append n (x ∷ xs) ys = omega (arith, times_append n xs ys)
+
+times_next : (n next : ℕ) → times n (next ∷ []) + once_below n next ≡ once_below n (next + 1)
+times_next n next = ⊎_elim
+    (λ (e : ((next == n) ≡ true) × (next ≡ n)). rw (e.0, le-ltb n next (omega arith), lt-ltb n (next + 1) (omega arith)) refl)
+    (λ (e : ((next == n) ≡ false) × (next ≢ n)). rw e.0 (let o = once_same n next (λ h. e.1 (sym h)) in omega arith))
+    (eqb_tells next n)
+  where
+    once_same : (x n : ℕ) → x ≢ n → once_below x n ≡ once_below x (n + 1)
+    once_same x n ne = grind (arith, nat_tests)
+
+-- what a step gives is drawn from the next number
+abbrev IsDrawn : ℕ → State → State → List ℕ → Type 0
+IsDrawn n old new given = times n given + once_below n old.next ≡ once_below n new.next
+
+gives_none : (n : ℕ) (old new : State) (given : List ℕ) → given ≡ [] → new.next ≡ old.next → IsDrawn n old new given
+gives_none n old new given none same =
+    let t : times n given ≡ 0 = ap (times n) none in
+    let o : once_below n new.next ≡ once_below n old.next = ap (once_below n) same in
+    omega arith
+
+ignored_gives : (event : Event) (cause : Cause) (after : State) → given_by event (Ignored cause) after ≡ []
+ignored_gives (TopUp other amount) cause after = refl
+ignored_gives (Reserve request other cost) cause after = refl
+ignored_gives (Claim worker slot) cause after = refl
+ignored_gives (Post worker slot request) cause after = refl
+ignored_gives (Respond number status nack) cause after = refl
+ignored_gives (Settle worker slot) cause after = refl
+ignored_gives (Expire worker slot) cause after = refl
+ignored_gives (Discard request) cause after = refl
+ignored_gives (Release worker slot) cause after = refl
+
+settle_next : (m : Mark) (old new : State) (slot : ℕ) → Settles old slot m new → new.next ≡ old.next
+settle_next Empty old new slot s = absurd s
+settle_next (Open r n) old new slot s = absurd s
+settle_next (Replied r n k b) old new slot s = ap (λ (w : State). w.next) s
+
+expire_next : (m : Mark) (old new : State) (slot : ℕ) → Expires old slot m new → new.next ≡ old.next
+expire_next Empty old new slot s = absurd s
+expire_next (Open r n) old new slot s = ap (λ (w : State). w.next) s
+expire_next (Replied r n k b) old new slot s = absurd s
+
+drawn_step : (n : ℕ) (event : Event) (answer : Step) (old new : State) → Steps old event answer new → IsSound old → IsDrawn n old new (given_by event answer new)
+drawn_step n event (Ignored cause) old new s i = gives_none n old new _ (ignored_gives event cause new) (ap (λ (w : State). w.next) s.1)
+drawn_step n (TopUp account amount) Done old new s i = gives_none n old new [] refl (ap (λ (w : State). w.next) s.1)
+drawn_step n (Reserve request account cost) Done old new s i = gives_none n old new [] refl (ap (λ (w : State). w.next) s.1)
+drawn_step n (Claim worker slot) Done old new s i = gives_none n old new [] refl (ap (λ (w : State). w.next) s.1.1)
+drawn_step n (Post worker slot request) Done old new s i =
+    let check = all_passed (checks old (Post worker slot request)) s.0 in
+    let inside = held_inside old worker slot i (some_held _ check.0) in
+    let mark : mark_of new slot ≡ Open request old.next = ap (λ (w : State). mark_of w slot) s.1 ∙ get_or-set_same old.marks slot (Open request old.next) Empty inside in
+    let given : times n (number_in (mark_of new slot)) ≡ times n (old.next ∷ []) = ap (λ (m : Mark). times n (number_in m)) mark in
+    let next : once_below n new.next ≡ once_below n (old.next + 1) = ap (λ (w : State). once_below n w.next) s.1 in
+    let t = times_next n old.next in
+    omega arith
+drawn_step n (Respond number status nack) Done old new s i = gives_none n old new [] refl (ap (λ (w : State). w.next) s.1.3)
+drawn_step n (Settle worker slot) Done old new s i = gives_none n old new [] refl (settle_next (mark_of old slot) old new slot s.1)
+drawn_step n (Expire worker slot) Done old new s i = gives_none n old new [] refl (expire_next (mark_of old slot) old new slot s.1)
+drawn_step n (Discard request) Done old new s i = gives_none n old new [] refl (ap (λ (w : State). w.next) s.1)
+drawn_step n (Release worker slot) Done old new s i = gives_none n old new [] refl (ap (λ (w : State). w.next) s.1.1)
+
+drawn_run : (n : ℕ) (ms : List Moment) (old new : State) → IsHistory old ms new → IsSound old → IsDrawn n old new (numbers_given ms)
+drawn_run n [] old new h i = gives_none n old new [] refl (ap (λ (w : State). w.next) h)
+drawn_run n (m ∷ ms) old new h i =
+    let s = first_step m ms old new h in
+    let one = drawn_step n m.event m.answer old m.after s i in
+    let rest = drawn_run n ms m.after new h.2 (sound_step m.event m.answer old m.after s i) in
+    let both = times_append n (given_by m.event m.answer m.after) (numbers_given ms) in
+    omega arith
+
+pub numbers_given_once : NumbersGivenOnce
+numbers_given_once ms w h n = drawn_run n ms (new_world h.0 h.1 h.2) w h.4 (sound_start h.0 h.1 h.2 h.3)

@@ -1,0 +1,26 @@
+-- Runs, one event at a time.
+use Rattle.std.proofs.Common.{List, [], ◌∷◌, ◌++◌, refl, ap, ◌∙◌}
+use Rattle.std.proofs.lemmas.List.{map-append}
+use Rattle.sms_core.specs.declared.event.Event.{Event}
+use Rattle.sms_core.specs.declared.event.Step.{Step}
+use Rattle.sms_core.specs.State.{State}
+use Rattle.sms_core.specs.Steps.{Steps}
+use Rattle.sms_core.specs.Histories.{Moment, IsHistory, Runs}
+
+history_more : (old : State) (ms : List Moment) (w : State) (event : Event) (answer : Step) (new : State) → IsHistory old ms w → Steps w event answer new →
+    IsHistory old (ms ++ (record { before = w; event = event; answer = answer; after = new }) ∷ []) new
+history_more old [] w event answer new is step = (is, step, refl)
+history_more old (m ∷ ms) w event answer new is step = (is.0, is.1, history_more m.after ms w event answer new is.2 step)
+
+pub runs_none : (w : State) → Runs w [] [] w
+runs_none w = ([], refl, refl, refl)
+
+pub runs_more : (old : State) (events : List Event) (answers : List Step) (w : State) (event : Event) (answer : Step) (new : State) → Runs old events answers w → Steps w event answer new →
+    Runs old (events ++ event ∷ []) (answers ++ answer ∷ []) new
+runs_more old events answers w event answer new runs step =
+    let m : Moment = record { before = w; event = event; answer = answer; after = new } in (
+      runs.0 ++ m ∷ [],
+      history_more old runs.0 w event answer new runs.1 step,
+      map-append (λ (x : Moment). x.event) runs.0 (m ∷ []) ∙ ap (λ (es : List Event). es ++ event ∷ []) runs.2,
+      map-append (λ (x : Moment). x.answer) runs.0 (m ∷ []) ∙ ap (λ (steps : List Step). steps ++ answer ∷ []) runs.3,
+    )

@@ -1,0 +1,18 @@
+use Rattle.std.proofs.Common.{◌≡◌, ◌∙◌, ◌+◌, ◌<◌, ℕ, List, ap, sym, arith, map, get_or, set, length}
+use Rattle.std.proofs.lemmas.List.{map-set, get_or_read, length-map}
+use Rattle.sms_core.specs.declared.row.Row.{Row}
+use Rattle.sms_core.specs.Ledger.{Records, no_row}
+use Rattle.sms_core.proofs.Sums.{topped_at, records}
+use Rattle.sms_core.proofs.ledger.Ledger.top_up.Goals as goal
+
+pub returns : goal.returns
+returns c =
+    let l = c.self.inside in let account = c.args.account in let row = c.index_mut-row.result.now in
+    let inside : account < length l.rows.items = omega (arith, length-map l.rows.items (λ (x : Row). x.topped), ap (λ (w : Records). length w.topped) c.self.view_is, c.requires.known) in
+    let is : row ≡ get_or l.rows.items account no_row = get_or_read l.rows.items account row inside c.index_mut-row.ensures.value no_row in
+    let next : Row = record row { topped = row.topped + c.args.amount; free = row.free + c.args.amount } in
+    let topped = map-set (λ (x : Row). x.topped) l.rows.items account next in
+    let had = topped_at l.rows.items account in
+    let adds : row.topped + c.args.amount ≡ get_or (map (λ (x : Row). x.topped) l.rows.items) account 0 + c.args.amount = ap (λ (n : ℕ). n + c.args.amount) (ap (λ (x : Row). x.topped) is ∙ sym had) in
+    ap (λ (ts : List ℕ). records l.attempts ts l.requests.list l.requests.room) (topped ∙ ap (set (map (λ (x : Row). x.topped) l.rows.items) account) adds)
+    ∙ ap (λ (w : Records). records w.attempts (set w.topped account (get_or w.topped account 0 + c.args.amount)) w.requests w.room) c.self.view_is

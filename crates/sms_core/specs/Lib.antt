@@ -1,0 +1,13 @@
+pub mod Holds
+pub mod Numbers
+pub mod Replies
+pub mod Rows
+pub mod Marks
+pub mod Requests
+pub mod Slots
+pub mod State
+pub mod Steps
+pub mod Ledger
+pub mod Tables
+pub mod Histories
+pub mod CoreLaws

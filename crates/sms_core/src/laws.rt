@@ -1,0 +1,68 @@
+//! What holds of every run of a world, whatever its events: laws over the definitions alone.
+
+ghost use Rattle.sms_core.specs.CoreLaws.{
+  HoldsAreLawful,
+  ClaimTakesFreeSlot,
+  SlotStaysHeld,
+  NumbersGivenOnce,
+  RowsBalance,
+  ToppedIsSum,
+  FinalStays,
+  ChargeHasAnswer,
+  AnswerIsOfOne,
+  UnknownIsIgnored,
+  OneSlotWaits,
+  StepIsDetermined,
+  PostOpens,
+  RespondReplies,
+  SettleEmpties,
+  ExpireEmpties,
+};
+
+/// No slot is held twice; a claim takes a slot that nobody has, which stays held until its worker releases it.
+pub fn holds_are_lawful()
+    ensures lawful { HoldsAreLawful }
+    ensures taken { ClaimTakesFreeSlot }
+    ensures stays { SlotStaysHeld }
+{}
+
+/// The sequence numbers that were given are 1 to next - 1, each once.
+pub fn numbers_are_given_once()
+    ensures { NumbersGivenOnce }
+{}
+
+/// Each account's top-ups are its free, reserved and charged credits, and the sum of what it was topped up with.
+pub fn rows_balance()
+    ensures balance { RowsBalance }
+    ensures topped { ToppedIsSum }
+{}
+
+/// A request that is charged, refused, unanswered or unsent stays as it is.
+pub fn final_is_final()
+    ensures { FinalStays }
+{}
+
+/// A charge has an accepting answer to one of its request's own numbers, and no two requests share one.
+pub fn a_charge_has_its_answer()
+    ensures answered { ChargeHasAnswer }
+    ensures apart { AnswerIsOfOne }
+{}
+
+/// An answer whose number no open slot has changes nothing.
+pub fn unknown_answers_change_nothing()
+    ensures { UnknownIsIgnored }
+{}
+
+/// No two slots wait with one number, so an event has one answer and leaves one world, but for the order of its pairs.
+pub fn a_step_is_determined()
+    ensures waits { OneSlotWaits }
+    ensures one { StepIsDetermined }
+{}
+
+/// The mark of a slot goes from empty to open to replied and back to empty, or from open to empty, and no other moves.
+pub fn marks_move_as_told()
+    ensures opens { PostOpens }
+    ensures replies { RespondReplies }
+    ensures settles { SettleEmpties }
+    ensures expires { ExpireEmpties }
+{}

@@ -1,0 +1,40 @@
+ghost use Rattle.std.specs.Prelude.{◌≡◌, ◌+◌, ◌^◌, ◌<◌, ◌≤◌};
+ghost use Rattle.sms_core.specs.Ledger.{moved};
+
+use crate::request::Phase;
+
+/// The most credits that an account can be topped up with in all: 2^40.
+pub const MOST_TOPPED: u64 = 0x100_0000_0000;
+
+/// An account's credits: what was topped up, and where it stands. `returned` counts what came back from reserved to free.
+#[derive(Clone, Copy, Debug, PartialEq, Eq)]
+pub struct Row {
+    pub topped: u64,
+    pub free: u64,
+    pub reserved: u64,
+    pub charged: u64,
+    pub returned: u64,
+}
+
+impl Row {
+    /// Moves the reserved credits of a request as its phase says.
+    pub(crate) fn move_credits(&mut self, phase: Phase, cost: u64)
+        requires reserved { cost ≤ self.old.reserved }
+        requires fits { self.old.free + self.old.charged + cost < 2 ^ 64 }
+        requires returned { self.old.returned + cost < 2 ^ 64 }
+        ensures { self.new ≡ moved phase cost self.old }
+    {
+        match phase {
+            Phase::Ready | Phase::Open | Phase::Unanswered => {}
+            Phase::Charged => {
+                self.reserved -= cost;
+                self.charged += cost;
+            }
+            Phase::Refused | Phase::Unsent => {
+                self.reserved -= cost;
+                self.free += cost;
+                self.returned += cost;
+            }
+        }
+    }
+}

@@ -1,0 +1,178 @@
+use crate::*;
+use std::test::Fail;
+
+fn top_up(account: u32, amount: u64) -> Event {
+    Event::TopUp { account, amount }
+}
+
+fn reserve(request: u32, cost: u32) -> Event {
+    Event::Reserve {
+        request,
+        account: 0,
+        cost,
+    }
+}
+
+fn claim(worker: u32) -> Event {
+    Event::Claim { worker, slot: 0 }
+}
+
+fn post(worker: u32, request: u32) -> Event {
+    Event::Post {
+        worker,
+        slot: 0,
+        request,
+    }
+}
+
+fn respond(number: u32, status: u32, nack: bool) -> Event {
+    Event::Respond {
+        number,
+        status,
+        nack,
+    }
+}
+
+fn settle(worker: u32) -> Event {
+    Event::Settle { worker, slot: 0 }
+}
+
+fn row(topped: u64, free: u64, reserved: u64, charged: u64, returned: u64) -> Option<Row> {
+    Some(Row {
+        topped,
+        free,
+        reserved,
+        charged,
+        returned,
+    })
+}
+
+fn state(attempts: u32, phase: Phase) -> Option<RequestState> {
+    Some(RequestState {
+        account: 0,
+        cost: 1,
+        attempts,
+        phase,
+    })
+}
+
+const DONE: Step = Step::Done;
+
+#[test]
+fn refuses_limits_and_events(rt: HostRuntime) -> Result<(), Fail> {
+    for (accounts, limit, attempts) in [(1, 65, 3), (0, 1, 1)] {
+        let made = World::new(rt.alloc(), accounts, limit, attempts);
+        assert!(rt; matches!(made, Err(CoreError::BadLimit)));
+    }
+    let mut world = World::new(rt.alloc(), 1, 1, 1)?;
+    let release = Event::Release { worker: 1, slot: 0 };
+    for (event, cause) in [
+        (reserve(1, 1), Cause::NoCredit),
+        (Event::Claim { worker: 1, slot: 1 }, Cause::SlotHeld),
+        (release, Cause::NotHolder),
+        (Event::Discard { request: 9 }, Cause::NoRequest),
+    ] {
+        assert_eq!(rt; world.step(event)?, Step::Ignored(cause));
+    }
+    assert_eq!(rt; world.accounts(), 1);
+    assert_eq!(rt; world.next(), 1);
+    Ok(())
+}
+
+#[test]
+fn late_answer_changes_nothing(rt: HostRuntime) -> Result<(), Fail> {
+    let mut world = World::new(rt.alloc(), 1, 1, 1)?;
+    let unknown = Step::Ignored(Cause::UnknownNumber);
+    let answers = world.run(&[
+        top_up(0, 2),
+        reserve(1, 1),
+        reserve(2, 1),
+        claim(7),
+        post(7, 1),
+        Event::Expire { worker: 7, slot: 0 },
+        post(7, 2),
+        respond(1, 0, false),
+        respond(2, 0, false),
+        settle(7),
+        Event::Release { worker: 7, slot: 0 },
+    ])?;
+    let wanted = [
+        DONE, DONE, DONE, DONE, DONE, DONE, DONE, unknown, DONE, DONE, DONE,
+    ];
+    assert_eq!(rt; answers.as_slice(), wanted.as_slice());
+    assert_eq!(rt; world.row(0), row(2, 0, 1, 1, 0));
+    assert_eq!(rt; world.request(1), state(1, Phase::Unanswered));
+    assert_eq!(rt; world.request(2), state(1, Phase::Charged));
+    assert_eq!(rt; world.requests().len(), 2);
+    assert_eq!(rt; world.holder(0), None);
+    assert_eq!(rt; world.next(), 3);
+    Ok(())
+}
+
+#[test]
+fn answers_end_a_request_once(rt: HostRuntime) -> Result<(), Fail> {
+    let unknown = Step::Ignored(Cause::UnknownNumber);
+    for (nack, balance, phase) in [
+        (false, row(1, 0, 0, 1, 0), Phase::Charged),
+        (true, row(1, 1, 0, 0, 1), Phase::Refused),
+    ] {
+        let mut world = World::new(rt.alloc(), 1, 1, 3)?;
+        let answers = world.run(&[
+            top_up(0, 1),
+            reserve(1, 1),
+            claim(1),
+            post(1, 1),
+            respond(1, 0, nack),
+            respond(1, 0, false),
+            settle(1),
+            respond(1, 0, false),
+        ])?;
+        let wanted = [DONE, DONE, DONE, DONE, DONE, unknown, DONE, unknown];
+        assert_eq!(rt; answers.as_slice(), wanted.as_slice());
+        assert_eq!(rt; world.row(0), balance);
+        assert_eq!(rt; world.request(1), state(1, phase));
+        assert_eq!(rt; world.holder(0), Some(1));
+        assert_eq!(rt; world.next(), 2);
+    }
+    Ok(())
+}
+
+#[test]
+fn costs_discards_and_retries(rt: HostRuntime) -> Result<(), Fail> {
+    let mut world = World::new(rt.alloc(), 1, 1, 2)?;
+    assert_eq!(rt; world.step(top_up(0, 5))?, DONE);
+    assert_eq!(rt; world.step(reserve(1, 2))?, Step::Ignored(Cause::BadCost));
+    assert_eq!(rt; world.row(0), row(5, 5, 0, 0, 0));
+    let discard = Event::Discard { request: 1 };
+    let answers = world.run(&[reserve(1, 1), discard, discard])?;
+    let wanted = [DONE, DONE, Step::Ignored(Cause::NoRequest)];
+    assert_eq!(rt; answers.as_slice(), wanted.as_slice());
+    assert_eq!(rt; world.row(0), row(5, 5, 0, 0, 1));
+    assert_eq!(rt; world.request(1), state(0, Phase::Unsent));
+    let answers = world.run(&[
+        reserve(2, 1),
+        claim(1),
+        post(1, 2),
+        respond(1, ESME_RTHROTTLED, false),
+        settle(1),
+        post(1, 2),
+        respond(2, ESME_RTHROTTLED, false),
+        settle(1),
+    ])?;
+    assert_eq!(rt; answers.as_slice(), [DONE; 8].as_slice());
+    assert_eq!(rt; world.row(0), row(5, 5, 0, 0, 2));
+    assert_eq!(rt; world.request(2), state(2, Phase::Refused));
+    assert_eq!(rt; world.next(), 3);
+    for (status, nack, charge, retry) in [
+        (0x00, false, true, false),
+        (0x00, true, false, false),
+        (0x14, false, false, true),
+        (0x58, false, false, true),
+        (0x58, true, false, false),
+        (0x45, false, false, false),
+    ] {
+        assert_eq!(rt; is_charge(status, nack), charge);
+        assert_eq!(rt; is_retry(status, nack), retry);
+    }
+    Ok(())
+}

@@ -1,0 +1,8 @@
+use Rattle.std.proofs.Common.{◌≡◌, ◌++◌, take}
+use Rattle.std.specs.List.{flat_map}
+use Rattle.sms_alphabet.specs.declared.coded.Coding.TheVariants.{Gsm}
+use Rattle.sms_segment.specs.Part.{octets_of}
+use Rattle.sms_segment.proofs.part.push_septets.Given as goal
+
+abbrev pub invariant-loop-unit : goal.invariant-loop-unit
+invariant-loop-unit l = l.octets.items ≡ l.initial.octets.items ++ flat_map (octets_of Gsm) (take l.unit-index l.units)
