@@ -12,9 +12,6 @@ history_more : (old : State) (ms : List Moment) (w : State) (event : Event) (ans
 history_more old [] w event answer new is step = (is, step, refl)
 history_more old (m ∷ ms) w event answer new is step = (is.0, is.1, history_more m.after ms w event answer new is.2 step)
 
-pub runs_none : (w : State) → Runs w [] [] w
-runs_none w = ([], refl, refl, refl)
-
 pub runs_more : (old : State) (events : List Event) (answers : List Step) (w : State) (event : Event) (answer : Step) (new : State) → Runs old events answers w → Steps w event answer new →
     Runs old (events ++ event ∷ []) (answers ++ answer ∷ []) new
 runs_more old events answers w event answer new runs step =

@@ -13,7 +13,6 @@ use Rattle.sms_core.specs.declared.request.Request.{Request}
 use Rattle.sms_core.specs.declared.request.RequestState.{RequestState}
 use Rattle.sms_core.specs.declared.request.TheConstants.{LARGEST_COST}
 use Rattle.sms_core.specs.declared.row.Row.{Row}
-use Rattle.sms_core.specs.declared.row.TheConstants.{MOST_TOPPED}
 use Rattle.sms_core.specs.Requests.{place_of}
 use Rattle.sms_core.specs.Rows.{Entry, part, over, reserved_of, charged_of, returned_of, row_of}
 use Rattle.sms_core.specs.State.{entry_of, changed, find_request}
@@ -279,17 +278,6 @@ none_named id (r ∷ rs) none = dite (ℕ_discrete r.id id)
     (λ is. let e : find_request id (r ∷ rs) ≡ Some r.state = rw (eq-eqb r.id id is) refl in absurd (cc (e, none)))
     (λ ne. let zero_here : is_named id r ≡ 0 = rw (ne_eqb r.id id ne) in let e : find_request id (r ∷ rs) ≡ find_request id rs = rw (ne_eqb r.id id ne) refl in
     omega (arith, sum_by-cons (is_named id) r rs, none_named id rs (sym e ∙ none)))
-
--- a top-up
-pub rows_topped : (rows : List Row) (rs : List Request) (account amount : ℕ) → account < length rows → (get_or rows account no_row).topped + amount ≤ MOST_TOPPED → AreRows rows rs →
-    AreRows (set rows account (record (get_or rows account no_row) { topped = (get_or rows account no_row).topped + amount; free = (get_or rows account no_row).free + amount })) rs
-rows_topped rows rs account amount inside le are other below =
-    let row = get_or rows account no_row in
-    let next : Row = record row { topped = row.topped + amount; free = row.free + amount } in
-    dite (ℕ_discrete other account)
-    (λ own. rw own (rw (get_or-set_same rows account next no_row inside)
-    (let is = are account inside in record { balance = omega (arith, is.balance); limit = le; reserved = is.reserved; charged = is.charged; returned = is.returned })))
-    (λ ne. rw (get_or-set_other rows account other next no_row ne) (are other (omega (arith, length-set rows account next))))
 
 phase_open : (phase : Phase) → one_if_open phase ≡ 1 → phase ≡ Open
 phase_open Ready e = absurd (omega arith)

@@ -63,10 +63,6 @@ find-pairs (Some worker ∷ hs) n zero slot e = rw (eq-eqb n slot (omega arith))
 find-pairs (None ∷ hs) n (suc k) slot e = find-pairs hs (suc n) k slot (omega arith)
 find-pairs (Some worker ∷ hs) n (suc k) slot e = rw (ne_eqb n slot (λ i. omega arith)) (find-pairs hs (suc n) k slot (omega arith))
 
-pub pairs-replicate : (m n : ℕ) → pairs_from n (replicate m None) ≡ []
-pairs-replicate zero n = refl
-pairs-replicate (suc m) n = pairs-replicate m (suc n)
-
 -- what the table says of one slot
 
 abbrev pub one_if_some : Option ℕ → ℕ
@@ -127,10 +123,6 @@ pub releases-pairs : (worker slot : ℕ) (hs : List (Option ℕ)) → slot < len
     (f : ℕ × ℕ → ℕ) → weigh f (pairs_from 0 hs) ≡ weigh f (pairs_from 0 (set hs slot None)) + f (worker, slot)
 releases-pairs worker slot hs lt own f =
     let s = weigh-pairs_set f hs 0 slot slot None (omega arith) lt in let one : weight_at f slot (get_or hs slot None) ≡ f (worker, slot) = ap (weight_at f slot) own in omega arith
-
--- the holder of a slot that a worker has
-pub held_by : (worker slot : ℕ) (hs : List (Option ℕ)) → get_or hs slot None ≡ Some worker → holders_of slot (pairs_from 0 hs) ≢ 0
-held_by worker slot hs own e = let n = holders_of-pairs slot hs ∙ ap one_if_some own in omega arith
 
 -- marks beside the holders: a slot that nobody has is empty
 
