@@ -1,0 +1,119 @@
+-- What stands at the front of a stream, and one more frame taken off it.
+use Rattle.std.proofs.Common.{◌≡◌, ℕ, ◌≤◌, ◌⊎◌, Bool, true, false, cond, ltb, List, [], ◌∷◌, ◌++◌, length, take, drop, refl, sym, ap, ◌∙◌, append_assoc, arith, inl, inr}
+use Rattle.std.specs.List.{concat, AllByRecursion}
+use Rattle.std.specs.Int.{w32, from_be_bytes}
+use Rattle.std.proofs.lemmas.Bool.{cases_lt, ltb-false, ltb-true}
+use Rattle.std.proofs.lemmas.List.{append-nil, take-append-drop, take-append-le, length-take-le}
+use Rattle.std.proofs.lemmas.List.Folds.{concat-append}
+use Rattle.sms_pdu.specs.declared.framer.Front.{Front}
+use Rattle.sms_pdu.specs.declared.framer.Front.TheVariants.{Short, Bad, Cut, Whole}
+use Rattle.sms_pdu.specs.Frame.{announced, IsFrame, IsShort, IsCut, IsBad, IsRest, IsPending, front_at, Continues}
+
+-- the first four octets of a longer stream are those of its front
+pub announced-append : (s t : List ℕ) → 4 ≤ length s → announced (s ++ t) ≡ announced s
+announced-append s t le = ap (λ (x : List ℕ). from_be_bytes w32 x) (take-append-le 4 s t le)
+
+pub announced-take : (n : ℕ) (s : List ℕ) → 4 ≤ n → n ≤ length s → announced (take n s) ≡ announced s
+announced-take n s le long =
+    sym (announced-append (take n s) (drop n s) (omega (arith, length-take-le n s long))) ∙ ap announced (take-append-drop n s)
+
+-- ---- the cases of the front
+
+abbrev front_by : Bool → Bool → Bool → Bool → ℕ → Front
+front_by a b c d n = cond a Short (cond b Bad (cond c Bad (cond d (Cut n) (Whole n))))
+
+pub record FoundWhole (s : List ℕ) (n : ℕ) : Type 0 where
+  pub is : n ≡ announced s
+  pub begun : 4 ≤ length s
+  pub least : 16 ≤ n
+  pub most : n ≤ 70000
+  pub there : n ≤ length s
+
+whole_by : (a b c d : Bool) (m n : ℕ) → Whole n ≡ front_by a b c d m → (a ≡ false) × (b ≡ false) × (c ≡ false) × (d ≡ false) × (n ≡ m)
+whole_by true b c d m n e = absurd cc
+whole_by false true c d m n e = absurd cc
+whole_by false false true d m n e = absurd cc
+whole_by false false false true m n e = absurd cc
+whole_by false false false false m n e = (refl, refl, refl, refl, cc)
+
+pub found_whole : (s : List ℕ) (n : ℕ) → Whole n ≡ front_at s → FoundWhole s n
+found_whole s n e =
+    let w = whole_by (ltb (length s) 4) (ltb (announced s) 16) (ltb 70000 (announced s)) (ltb (length s) (announced s)) (announced s) n e in
+    let h0 : 4 ≤ length s = ltb-false _ _ w.0 in
+    let h1 : 16 ≤ announced s = ltb-false _ _ w.1 in
+    let h2 : announced s ≤ 70000 = ltb-false _ _ w.2 in
+    let h3 : announced s ≤ length s = ltb-false _ _ w.3 in
+    record { is = w.4; begun = h0; least = omega (arith, w.4); most = omega (arith, w.4); there = omega (arith, w.4) }
+
+short_by : (a b c d : Bool) (m : ℕ) → Short ≡ front_by a b c d m → a ≡ true
+short_by true b c d m e = refl
+short_by false true c d m e = absurd cc
+short_by false false true d m e = absurd cc
+short_by false false false true m e = absurd cc
+short_by false false false false m e = absurd cc
+
+pub found_short : (s : List ℕ) → Short ≡ front_at s → IsShort s
+found_short s e = ltb-true _ _ (short_by (ltb (length s) 4) (ltb (announced s) 16) (ltb 70000 (announced s)) (ltb (length s) (announced s)) (announced s) e)
+
+bad_by : (a b c d : Bool) (m : ℕ) → Bad ≡ front_by a b c d m → (a ≡ false) × ((b ≡ true) ⊎ (c ≡ true))
+bad_by true b c d m e = absurd cc
+bad_by false true c d m e = (refl, inl refl)
+bad_by false false true d m e = (refl, inr refl)
+bad_by false false false true m e = absurd cc
+bad_by false false false false m e = absurd cc
+
+pub found_bad : (s : List ℕ) → Bad ≡ front_at s → IsBad s
+found_bad s e =
+    let w = bad_by (ltb (length s) 4) (ltb (announced s) 16) (ltb 70000 (announced s)) (ltb (length s) (announced s)) (announced s) e in
+    record { begun = ltb-false _ _ w.0; bad = elim w.1 [ inl h ↦ inl (ltb-true _ _ h) | inr h ↦ inr (ltb-true _ _ h) ] }
+
+cut_by : (a b c d : Bool) (m n : ℕ) → Cut n ≡ front_by a b c d m → (a ≡ false) × (b ≡ false) × (c ≡ false) × (d ≡ true) × (n ≡ m)
+cut_by true b c d m n e = absurd cc
+cut_by false true c d m n e = absurd cc
+cut_by false false true d m n e = absurd cc
+cut_by false false false true m n e = (refl, refl, refl, refl, cc)
+cut_by false false false false m n e = absurd cc
+
+pub found_cut : (s : List ℕ) (n : ℕ) → Cut n ≡ front_at s → IsCut s × (n ≡ announced s)
+found_cut s n e =
+    let w = cut_by (ltb (length s) 4) (ltb (announced s) 16) (ltb 70000 (announced s)) (ltb (length s) (announced s)) (announced s) n e in
+    (record { begun = ltb-false _ _ w.0; good = record { least = ltb-false _ _ w.1; most = ltb-false _ _ w.2 }; cut = ltb-true _ _ w.3 }, w.4)
+
+-- ---- rests
+
+-- a rest is what has no whole frame at its front
+pub rest_pends : (r : List ℕ) → IsRest r → IsPending r
+rest_pends r (inl h) = λ a b c. absurd (omega arith)
+rest_pends r (inr (inl h)) = λ a b c. h.cut
+rest_pends r (inr (inr h)) = λ a b c. elim h.bad [ inl k ↦ absurd (omega arith) | inr k ↦ absurd (omega arith) ]
+
+pub pending_rests : (r : List ℕ) → IsPending r → IsRest r
+pending_rests r h =
+    elim (cases_lt (length r) 4) [
+      | inl short ↦ inl short
+      | inr begun ↦ elim (cases_lt (announced r) 16) [
+        | inl below ↦ inr (inr (record { begun = begun; bad = inl below }))
+        | inr least ↦ elim (cases_lt 70000 (announced r)) [
+          | inl above ↦ inr (inr (record { begun = begun; bad = inr above }))
+          | inr most ↦ inr (inl (record { begun = begun; good = record { least = least; most = most }; cut = h begun least most }))
+        ]
+      ]
+    ]
+
+-- ---- frames taken off the front
+
+pub AllByRecursion-append : {X : Type 0} (P : X → Type 0) (xs ys : List X) → AllByRecursion P xs → AllByRecursion P ys → AllByRecursion P (xs ++ ys)
+AllByRecursion-append P [] ys h k = k
+AllByRecursion-append P (x ∷ xs) ys h k = (h.0, AllByRecursion-append P xs ys h.1 k)
+
+pub whole_is_frame : (s : List ℕ) (n : ℕ) → FoundWhole s n → IsFrame (take n s)
+whole_is_frame s n w =
+    let len : length (take n s) ≡ n = length-take-le n s w.there in
+    let says : announced (take n s) ≡ announced s = announced-take n s (omega (arith, w.least)) w.there in
+    record { good = record { least = omega (arith, len, w.least); most = omega (arith, len, w.most) }; announces = says ∙ sym w.is ∙ sym len }
+
+pub Continues-more : (old new : List (List ℕ)) (s left : List ℕ) (n : ℕ) → FoundWhole left n → Continues old new s left → Continues old (new ++ take n left ∷ []) s (drop n left)
+Continues-more old new s left n w h =
+    let joins : concat (new ++ take n left ∷ []) ++ drop n left ≡ concat new ++ left =
+    rw (concat-append, append-nil, append_assoc) (ap (λ (x : List ℕ). concat new ++ x) (take-append-drop n left)) in
+    record { whole = h.whole ∙ sym joins; each = λ o. AllByRecursion-append IsFrame new (take n left ∷ []) (h.each o) (whole_is_frame left n w, tt) }

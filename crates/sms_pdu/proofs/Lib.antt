@@ -1,0 +1,12 @@
+pub mod Copying
+pub mod Fronts
+pub mod Divisions
+pub mod Parameters
+pub mod Values
+pub mod ParameterTexts
+pub mod Bodies
+pub mod Wholes
+pub mod Lengths
+pub mod SizeLaws
+pub mod Writings
+pub mod Spellings

@@ -1,0 +1,10 @@
+pub mod Header
+pub mod Command
+pub mod Reply
+pub mod Frame
+pub mod Layout
+pub mod Grammar
+pub mod Reading
+pub mod Size
+pub mod Writing
+pub mod Laws

@@ -1,0 +1,68 @@
+//! Laws about streams and PDUs, each of every case: the contract of a function whose body is empty,
+//! or only makes the calls that the law is about.
+
+ghost use Rattle.std.specs.Prelude.{◌≡◌, IfOk};
+ghost use Rattle.sms_pdu.specs.Laws.{OneDivision, EachDivided, PiecesJoin, BadStays, OneSpelling, OneReading, NoPrefix, SpellingIsFrame};
+
+use crate::body::Pdu;
+use crate::decoding::decode;
+use crate::encoding::encode;
+use crate::error::PduError;
+use std::alloc::Global;
+
+/// A stream is divided into frames and a rest in one way alone.
+pub fn one_division()
+    ensures { OneDivision }
+{}
+
+/// Every stream is divided so.
+pub fn each_divided()
+    ensures { EachDivided }
+{}
+
+/// The frames of one piece and then those of the next, fed after the first one's rest, are the
+/// frames of both pieces fed as one.
+pub fn pieces_join()
+    ensures { PiecesJoin }
+{}
+
+/// A rest with a bad length stays bad, whatever follows it.
+pub fn bad_stays()
+    ensures { BadStays }
+{}
+
+/// A lawful PDU has one spelling.
+pub fn one_spelling()
+    ensures { OneSpelling }
+{}
+
+/// Octets spell one PDU at most.
+pub fn one_reading()
+    ensures { OneReading }
+{}
+
+/// No spelling of a PDU is a proper prefix of another.
+pub fn no_prefix()
+    ensures { NoPrefix }
+{}
+
+/// A spelling of a PDU is a frame.
+pub fn spelling_is_frame()
+    ensures { SpellingIsFrame }
+{}
+
+/// What was encoded is decoded again as it was.
+pub fn decode_of_encode(alloc: Global, pdu: &Pdu) -> Result<Pdu, PduError>
+    ensures { IfOk result (λ p. p ≡ pdu.now) }
+{
+    let octets = encode(alloc, pdu)?;
+    decode(alloc, octets.as_slice())
+}
+
+/// What was decoded is encoded again as it was.
+pub fn encode_of_decode(alloc: Global, octets: &[u8]) -> Result<Vec<u8>, PduError>
+    ensures { IfOk result (λ v. v.items ≡ octets.now) }
+{
+    let pdu = decode(alloc, octets)?;
+    encode(alloc, &pdu)
+}

@@ -1,0 +1,84 @@
+//! Octets: the strings of a PDU, and small readings of a slice.
+
+ghost use Rattle.std.specs.Prelude.{List, ℕ, ◌≡◌, ◌==◌, ◌<◌, ◌≤◌, take, length, position, IfSome, IfOk};
+
+use std::alloc::{AllocError, Global};
+use std::marker::Model;
+
+/// A string of octets. Contracts see it as the list of its octets.
+#[derive(Debug, Drop)]
+pub struct Octets {
+    octets: Vec<u8>,
+}
+
+impl Model for Octets {
+    ghost Value = { List ℕ };
+
+    ghost view = { λ o. o.octets.items };
+}
+
+impl Octets {
+    /// These octets. Takes no memory.
+    pub fn new(octets: Vec<u8>) -> Octets
+        ensures { result ≡ octets.items }
+    {
+        Octets { octets }
+    }
+
+    /// A copy of these octets, in one allocation, or in none where there are no octets.
+    pub fn copy(alloc: Global, octets: &[u8]) -> Result<Octets, AllocError>
+        ensures { IfOk result (λ copy. copy ≡ octets.now) }
+    {
+        Ok(Octets {
+            octets: Vec::from_slice(alloc, octets)?,
+        })
+    }
+
+    /// How many octets there are.
+    pub fn len(&self) -> usize
+        ensures { result ≡ length self.now }
+    {
+        self.octets.len()
+    }
+
+    /// Whether there are no octets.
+    pub fn is_empty(&self) -> bool
+        ensures { result ≡ (length self.now == 0) }
+    {
+        self.octets.is_empty()
+    }
+
+    /// The octets.
+    pub fn as_slice(&self) -> &[u8]
+        ensures { result.now ≡ self.now }
+    {
+        self.octets.as_slice()
+    }
+
+    /// The octets again. Takes no memory.
+    pub fn into_vec(self) -> Vec<u8>
+        ensures { result.items ≡ self }
+    {
+        self.octets
+    }
+}
+
+/// The first octets, at most as many as are asked for.
+pub(crate) fn front(octets: &[u8], most: usize) -> &[u8]
+    ensures value { result.now ≡ take most octets.now }
+    ensures bounded { length result.now ≤ most }
+{
+    if octets.len() <= most {
+        octets
+    } else {
+        &octets[..most]
+    }
+}
+
+/// Where the first 0 stands.
+pub(crate) fn first_zero(octets: &[u8]) -> Option<usize>
+    ensures place { result ≡ position (λ octet. octet == 0) octets.now }
+    ensures within { IfSome result (λ place. place < length octets.now) }
+{
+    octets.iter().position(|octet| *octet == 0)
+}

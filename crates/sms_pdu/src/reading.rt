@@ -1,0 +1,126 @@
+//! The values of a PDU's fields, read from left to right.
+
+ghost use Rattle.std.specs.Prelude.{◌≡◌, length};
+ghost use Rattle.sms_pdu.specs.Reading.{Gives, number_octet_at, text_at, time_at, message_at, parameter_at, parameters_at, ended};
+
+use crate::error::PduError;
+use crate::field::Field;
+use crate::octets::{Octets, first_zero, front};
+use crate::parameter::{Parameter, Params};
+use std::alloc::Global;
+
+/// The next octet.
+#[tactic(auto, unfolding(crate::specs::Reading::number_octet_at))]
+pub(crate) fn number(field: Field, octets: &[u8]) -> Result<(u8, &[u8]), PduError>
+    ensures { Gives (λ x. (x.0, x.1.now)) result (number_octet_at field octets.now) }
+{
+    if octets.is_empty() {
+        return Err(PduError::Malformed { field });
+    }
+    let (_, rest) = octets.split_at(1);
+    Ok((octets[0], rest))
+}
+
+/// A C-Octet String (SMPP 3.4 3.1) whose maximum counts its 0.
+#[tactic(auto, unfolding(crate::specs::Reading::text_at))]
+pub(crate) fn text<'a>(
+    alloc: Global,
+    field: Field,
+    maximum: usize,
+    octets: &'a [u8],
+) -> Result<(Octets, &'a [u8]), PduError>
+    ensures { Gives (λ x. (x.0, x.1.now)) result (text_at field maximum octets.now) }
+{
+    let Some(len) = first_zero(front(octets, maximum)) else {
+        if maximum <= octets.len() {
+            return Err(PduError::TooLong { field });
+        }
+        return Err(PduError::Malformed { field });
+    };
+    let (text, _) = octets.split_at(len);
+    let (_, rest) = octets.split_at(len + 1);
+    Ok((Octets::copy(alloc, text)?, rest))
+}
+
+/// A time: a C-Octet String of 0 or 16 octets before its 0 (SMPP 3.4 7.1.1).
+#[tactic(auto, unfolding(crate::specs::Reading::time_at))]
+pub(crate) fn time(alloc: Global, field: Field, octets: &[u8]) -> Result<(Octets, &[u8]), PduError>
+    ensures { Gives (λ x. (x.0, x.1.now)) result (time_at field octets.now) }
+{
+    let (time, rest) = text(alloc, field, 17, octets)?;
+    let len = time.len();
+    if len == 0 || len == 16 {
+        Ok((time, rest))
+    } else {
+        Err(PduError::Malformed { field })
+    }
+}
+
+/// The short_message behind its sm_length.
+#[tactic(auto, unfolding(crate::specs::Reading::message_at))]
+pub(crate) fn message(alloc: Global, octets: &[u8]) -> Result<(Octets, &[u8]), PduError>
+    ensures { Gives (λ x. (x.0, x.1.now)) result (message_at octets.now) }
+{
+    let (len, rest) = number(Field::SmLength, octets)?;
+    let len = len as usize;
+    if 254 < len {
+        return Err(PduError::TooLong {
+            field: Field::ShortMessage,
+        });
+    }
+    if rest.len() < len {
+        return Err(PduError::Malformed {
+            field: Field::ShortMessage,
+        });
+    }
+    let (message, rest) = rest.split_at(len);
+    Ok((Octets::copy(alloc, message)?, rest))
+}
+
+/// An optional parameter (SMPP 3.4 5.3.1).
+#[tactic(auto, unfolding(crate::specs::Reading::parameter_at))]
+pub(crate) fn parameter(alloc: Global, octets: &[u8]) -> Result<(Parameter, &[u8]), PduError>
+    ensures { Gives (λ x. (x.0, x.1.now)) result (parameter_at octets.now) }
+{
+    if octets.len() < 4 {
+        return Err(PduError::Malformed {
+            field: Field::Params,
+        });
+    }
+    let (head, rest) = octets.split_at(4);
+    let tag = u16::from_be_bytes([head[0], head[1]]);
+    let len = u16::from_be_bytes([head[2], head[3]]) as usize;
+    if rest.len() < len {
+        return Err(PduError::Malformed {
+            field: Field::Params,
+        });
+    }
+    let (value, rest) = rest.split_at(len);
+    let value = Octets::copy(alloc, value)?;
+    Ok((Parameter { tag, value }, rest))
+}
+
+/// The optional parameters to the end of the octets.
+pub(crate) fn parameters(alloc: Global, octets: &[u8]) -> Result<Params, PduError>
+    ensures { Gives (λ params. params) result (parameters_at octets.now) }
+{
+    let mut list = Vec::new(alloc);
+    let mut rest = octets;
+    while !rest.is_empty() {
+        let (first, after) = parameter(alloc, rest)?;
+        list.push(first)?;
+        rest = after;
+    }
+    Ok(Params::new(list))
+}
+
+/// Nothing is left.
+pub(crate) fn end(octets: &[u8]) -> Result<(), PduError>
+    ensures { Gives (λ done. done) result (ended octets.now) }
+{
+    if octets.is_empty() {
+        Ok(())
+    } else {
+        Err(PduError::Malformed { field: Field::Rest })
+    }
+}

@@ -1,0 +1,232 @@
+//! The length of a PDU's spelling, or its first fault, before anything is written.
+
+ghost use Rattle.std.specs.Prelude.{◌≡◌, ℕ, ◌+◌, ◌^◌, ◌<◌, ◌≤◌, length};
+ghost use Rattle.sms_pdu.specs.Layout.{sm_fields, bind_fields};
+ghost use Rattle.sms_pdu.specs.Grammar.{sm_values};
+ghost use Rattle.sms_pdu.specs.Reading.{Gives};
+ghost use Rattle.sms_pdu.specs.Size.{text_size, time_size, message_size, values_size, parameters_fit, parameters_checked, whole_size, tail_size, sm_size, absent_size, bind_resp_size, message_id_size, bind_size, body_size};
+
+use crate::body::{Body, Sm};
+use crate::error::PduError;
+use crate::field::Field;
+use crate::octets::{Octets, first_zero};
+use crate::parameter::{Parameter, Params};
+
+/// The length of a C-Octet String with its 0.
+#[tactic(auto, unfolding(crate::specs::Size::text_size))]
+fn text(field: Field, maximum: u8, text: &Octets) -> Result<u8, PduError>
+    ensures { Gives (λ size. size) result (text_size field maximum text.now) }
+{
+    if text.len() >= maximum as usize {
+        return Err(PduError::TooLong { field });
+    }
+    match first_zero(text.as_slice()) {
+        None => Ok(text.len() as u8 + 1),
+        Some(_) => Err(PduError::Malformed { field }),
+    }
+}
+
+/// The length of a time with its 0.
+#[tactic(auto, unfolding(crate::specs::Size::time_size))]
+fn time(field: Field, time: &Octets) -> Result<u8, PduError>
+    ensures { Gives (λ size. size) result (time_size field time.now) }
+{
+    let size = text(field, 17, time)?;
+    if size == 1 || size == 17 {
+        Ok(size)
+    } else {
+        Err(PduError::Malformed { field })
+    }
+}
+
+/// The length of a short_message with its sm_length.
+#[tactic(auto, unfolding(crate::specs::Size::message_size))]
+fn message(message: &Octets) -> Result<u8, PduError>
+    ensures { Gives (λ size. size) result (message_size message.now) }
+{
+    if message.len() > 254 {
+        return Err(PduError::TooLong {
+            field: Field::ShortMessage,
+        });
+    }
+    Ok(message.len() as u8 + 1)
+}
+
+/// No value of a parameter is too long.
+#[tactic(auto, unfolding(crate::specs::Size::parameters_checked))]
+fn check_parameters(params: &[Parameter]) -> Result<(), PduError>
+    ensures { Gives (λ done. done) result (parameters_checked params.now) }
+{
+    if values_fit(params) {
+        Ok(())
+    } else {
+        Err(PduError::TooLong {
+            field: Field::Params,
+        })
+    }
+}
+
+/// Whether each value has a length of two octets (SMPP 3.4 5.3.1).
+fn values_fit(params: &[Parameter]) -> bool
+    ensures { result ≡ parameters_fit params.now }
+{
+    params.iter().all(|p| p.value.len() < 0x1_0000)
+}
+
+/// The length of the whole: what stands before the parameters, and they.
+fn whole(before: usize, params: &[Parameter]) -> Result<usize, PduError>
+    requires { before ≤ 70000 }
+    ensures { Gives (λ size. size) result (whole_size before params.now) }
+{
+    let mut size = before;
+    for p in params {
+        let len = p.value.len();
+        if len > 70_000 || size + 4 + len > 70_000 {
+            return Err(PduError::TooLong {
+                field: Field::Whole,
+            });
+        }
+        size += 4 + len;
+    }
+    Ok(size)
+}
+
+/// The length of the whole with its parameters.
+#[tactic(auto, unfolding(crate::specs::Size::tail_size))]
+fn tail(before: usize, params: &Params) -> Result<usize, PduError>
+    requires { before ≤ 70000 }
+    ensures { Gives (λ size. size) result (tail_size before params.now) }
+{
+    check_parameters(params.as_slice())?;
+    whole(before, params.as_slice())
+}
+
+/// The length of a PDU with a message.
+#[tactic(auto, unfolding(crate::specs::Size::sm_size))]
+fn sm(sm: &Sm) -> Result<usize, PduError>
+    ensures { Gives (λ size. size) result (sm_size sm.now) }
+{
+    let service_type = text(Field::ServiceType, 6, &sm.service_type)?;
+    let source_addr = text(Field::SourceAddr, 21, &sm.source_addr)?;
+    let dest_addr = text(Field::DestAddr, 21, &sm.dest_addr)?;
+    let schedule = time(Field::Schedule, &sm.schedule)?;
+    let validity = time(Field::Validity, &sm.validity)?;
+    let short_message = message(&sm.short_message)?;
+    let addresses = 16
+        + service_type as usize
+        + 1
+        + 1
+        + source_addr as usize
+        + 1
+        + 1
+        + dest_addr as usize;
+    let times = addresses + 1 + 1 + 1 + schedule as usize + validity as usize;
+    let fields = times + 1 + 1 + 1 + 1 + short_message as usize;
+    tail(fields, &sm.params)
+}
+
+/// The length of a bind.
+#[tactic(auto, unfolding(crate::specs::Size::bind_size))]
+fn bind(
+    system_id: &Octets,
+    password: &Octets,
+    system_type: &Octets,
+    address_range: &Octets,
+) -> Result<usize, PduError>
+    ensures { (version ton npi : ℕ) → Gives (λ size. size) result (bind_size (system_id.now, (password.now, (system_type.now, (version, (ton, (npi, (address_range.now, tt)))))))) }
+{
+    let system_id = text(Field::SystemId, 16, system_id)?;
+    let password = text(Field::Password, 9, password)?;
+    let system_type = text(Field::SystemType, 13, system_type)?;
+    let address_range = text(Field::AddressRange, 41, address_range)?;
+    let texts = 16 + system_id as usize + password as usize + system_type as usize;
+    Ok(texts + 1 + 1 + 1 + address_range as usize)
+}
+
+/// The length of a bind's response.
+#[tactic(auto, unfolding(crate::specs::Size::bind_resp_size))]
+fn bind_resp(status: u32, system_id: &Option<Octets>, params: &Params) -> Result<usize, PduError>
+    ensures { Gives (λ size. size) result (bind_resp_size status system_id.now params.now) }
+{
+    match system_id {
+        None => {
+            if status == 0 {
+                return Err(PduError::Malformed {
+                    field: Field::SystemId,
+                });
+            }
+            check_parameters(params.as_slice())?;
+            absent(params.as_slice())
+        }
+        Some(system_id) => {
+            let size = text(Field::SystemId, 16, system_id)?;
+            tail(16 + size as usize, params)
+        }
+    }
+}
+
+/// The length of a response without a body.
+fn absent(params: &[Parameter]) -> Result<usize, PduError>
+    ensures { Gives (λ size. size) result (absent_size params.now) }
+{
+    match params {
+        [] => Ok(16),
+        [_, ..] => Err(PduError::Malformed {
+            field: Field::Params,
+        }),
+    }
+}
+
+/// The length of a response to a message.
+#[tactic(auto, unfolding(crate::specs::Size::message_id_size))]
+fn message_id(status: u32, message_id: &Option<Octets>) -> Result<usize, PduError>
+    ensures { Gives (λ size. size) result (message_id_size status message_id.now) }
+{
+    match message_id {
+        None => {
+            if status == 0 {
+                Err(PduError::Malformed {
+                    field: Field::MessageId,
+                })
+            } else {
+                Ok(16)
+            }
+        }
+        Some(message_id) => {
+            let size = text(Field::MessageId, 65, message_id)?;
+            Ok(16 + size as usize)
+        }
+    }
+}
+
+/// The length of a PDU with this body.
+pub(crate) fn body_length(status: u32, body: &Body) -> Result<usize, PduError>
+    ensures { Gives (λ size. size) result (body_size status body.now) }
+{
+    match body {
+        Body::Bind {
+            mode: _,
+            system_id,
+            password,
+            system_type,
+            interface_version: _,
+            addr_ton: _,
+            addr_npi: _,
+            address_range,
+        } => bind(system_id, password, system_type, address_range),
+        Body::BindResp {
+            mode: _,
+            system_id,
+            params,
+        } => bind_resp(status, system_id, params),
+        Body::Submit(message) => sm(message),
+        Body::Deliver(message) => sm(message),
+        Body::SubmitResp { message_id: id } => message_id(status, id),
+        Body::DeliverResp { message_id: id } => message_id(status, id),
+        Body::Unbind
+        | Body::UnbindResp
+        | Body::EnquireLink
+        | Body::EnquireLinkResp
+        | Body::GenericNack => Ok(16),
+    }
+}

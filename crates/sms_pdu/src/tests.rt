@@ -1,0 +1,71 @@
+use super::*;
+use std::test::*;
+
+const ENQUIRE_LINK: [u8; 16] = [0, 0, 0, 16, 0, 0, 0, 0x15, 0, 0, 0, 0, 0, 0, 0, 2];
+
+// submit_sm number 2 of `Hi` from 12345 to 447700900123.
+const SUBMIT: &[u8; 52] =
+    b"\x00\x00\x00\x34\x00\x00\x00\x04\x00\x00\x00\x00\x00\x00\x00\x02\x00\x01\x0112345\x00\x01\x01447700900123\x00\x00\x00\x00\x00\x00\x00\x00\x00\x00\x02Hi";
+
+#[test]
+fn headers_and_replies(rt: HostRuntime) -> Result<(), Fail> {
+    assert!(rt; header_of(&ENQUIRE_LINK[..15]).is_none());
+    let header = header_of(&ENQUIRE_LINK).ok_or("16 octets are a header")?;
+    assert_eq!(rt; (header.length, header.status, header.number), (16, 0, 2));
+    assert_eq!(rt; Command::of(header.command), Some(Command::EnquireLink));
+    assert_eq!(rt; Command::EnquireLink.id(), 0x15);
+    let bare = [0, 0, 0, 16, 0x80, 0, 0, 4, 0, 0, 0, 0, 0, 0, 0, 3];
+    let reply = reply_of(&bare).ok_or("a submit_sm_resp is a reply")?;
+    assert_eq!(rt;
+        (reply.number, reply.status, reply.nack, reply.id.len),
+        (3, 0, false, 0)
+    );
+    let named = b"\x00\x00\x00\x13\x80\x00\x00\x04\x00\x00\x00\x00\x00\x00\x00\x02m1\x00";
+    let reply = reply_of(named).ok_or("a submit_sm_resp is a reply")?;
+    assert_eq!(rt; reply.id.len, 2);
+    assert_eq!(rt; &reply.id.octets[..3], b"m1\x00".as_slice());
+    let nack = [0, 0, 0, 16, 0x80, 0, 0, 0, 0, 0, 0, 3, 0, 0, 0, 9];
+    let reply = reply_of(&nack).ok_or("a generic_nack is a reply")?;
+    assert_eq!(rt;
+        (reply.number, reply.status, reply.nack, reply.id.len),
+        (9, 3, true, 0)
+    );
+    assert!(rt; reply_of(&ENQUIRE_LINK).is_none());
+    Ok(())
+}
+
+// A whole frame and most of another, in pieces of each length.
+#[test]
+fn pieces_of_each_length(rt: HostRuntime) -> Result<(), Fail> {
+    let mut stream = Vec::from_slice(rt.alloc(), SUBMIT)?;
+    stream.extend_from_slice(&ENQUIRE_LINK[..15])?;
+    for length in 1..68usize {
+        let mut framer = Framer::new(rt.alloc());
+        let mut count = 0usize;
+        for piece in stream.as_slice().chunks(length) {
+            let fed = framer.feed(piece)?;
+            assert!(rt; fed.fault.is_none());
+            for frame in fed.frames.as_slice() {
+                assert_eq!(rt; frame.octets.as_slice(), SUBMIT.as_slice());
+                count = count.saturating_add(1);
+            }
+        }
+        assert_eq!(rt; count, 1, "pieces of {length}");
+        assert_eq!(rt; framer.rest(), &ENQUIRE_LINK[..15]);
+    }
+    Ok(())
+}
+
+#[test]
+fn a_bad_length_ends_the_stream(rt: HostRuntime) -> Result<(), Fail> {
+    let mut piece = Vec::from_slice(rt.alloc(), &ENQUIRE_LINK)?;
+    piece.extend_from_slice(&[0, 0, 0, 15])?;
+    let mut framer = Framer::new(rt.alloc());
+    let fed = framer.feed(&piece)?;
+    assert_eq!(rt; fed.frames.as_slice().len(), 1);
+    assert_eq!(rt; fed.fault, Some(FrameFault::BadLength));
+    let fed = framer.feed(&ENQUIRE_LINK)?;
+    assert_eq!(rt; fed.frames.as_slice().len(), 0);
+    assert_eq!(rt; fed.fault, Some(FrameFault::BadLength));
+    Ok(())
+}
