@@ -1,0 +1,10 @@
+//! The slots of a bind in which requests wait for their answers. An answer finds its request by the sequence number alone (SMPP 3.4 3.2).
+#![tactic(auto)]
+
+mod row;
+mod slot;
+#[cfg(test)]
+mod tests;
+
+pub use row::{Search, SlotRow};
+pub use slot::{Answer, Expired, Slot, SlotError, Taken};

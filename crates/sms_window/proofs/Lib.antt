@@ -1,0 +1,10 @@
+pub mod NumberLists
+pub mod Views
+pub mod Moves
+pub mod Allows
+pub mod Seats
+pub mod Joins
+pub mod Ends
+pub mod Calls
+pub mod Runs
+pub mod LawProofs

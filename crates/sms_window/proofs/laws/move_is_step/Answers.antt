@@ -1,0 +1,5 @@
+use Rattle.sms_window.proofs.Runs.{move_is_step}
+use Rattle.sms_window.proofs.laws.move_is_step.Goals as goal
+
+pub returns : goal.returns
+returns c = move_is_step

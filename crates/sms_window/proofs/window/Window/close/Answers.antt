@@ -1,0 +1,14 @@
+use Rattle.std.proofs.Common.{ℕ, sym, ap, ◌∙◌, subst}
+use Rattle.std.specs.Int.{bit_at}
+use Rattle.sms_window.specs.SeatState.{SeatState}
+use Rattle.sms_window.specs.Outcome.{IsEnd}
+use Rattle.sms_window.proofs.Ends.{closes}
+use Rattle.sms_window.proofs.Calls.{live}
+use Rattle.sms_window.proofs.window.Window.close.Goals as goal
+
+pub returns : goal.returns
+returns c =
+    let i = c.seat.invariant in
+    subst (λ (p : SeatState). IsEnd p.view c.word-held.result c.word-next.result) c.seat.view_is
+    (closes _ _ _ c.seat.inside.seat.id c.seat.inside.seat.me.0 c.close_with-closed.ensures.values.2 (live _ c.seat.inside.name (ap (λ (w : ℕ). bit_at w c.seat.inside.name) (sym i.2) ∙ i.5))
+    c.word-held.result c.word-next.result c.word-held.ensures c.word-next.ensures)

@@ -1,0 +1,7 @@
+pub mod Seats
+pub mod SeatState
+pub mod Rule
+pub mod Steps
+pub mod Outcome
+pub mod Moves
+pub mod Laws

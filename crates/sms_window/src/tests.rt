@@ -1,0 +1,206 @@
+ghost use Rattle.std.specs.Prelude.{◌≡◌, All, IfOk};
+
+use crate::{Claim, Closed, Draw, Freed, Window, WindowError, WindowSeat};
+use std::alloc::{AllocError, Global};
+use std::process::Abort;
+use std::test::Fail;
+
+mod threads;
+
+// A new seat of the window.
+fn seat_of(rt: &impl Abort, window: &Window, keeper: &mut WindowSeat) -> WindowSeat
+    requires own { keeper.old.window ≡ window.now }
+    ensures window { (keeper.new.window ≡ keeper.old.window) × (result.window ≡ keeper.old.window) }
+{
+    let can_split = keeper.can_split();
+    assert!(rt; can_split);
+    window.split(keeper)
+}
+
+// Claims, and wants the slot.
+fn claim_slot(rt: &impl Abort, window: &Window, seat: &mut WindowSeat, wanted: u32)
+    requires own { seat.old.window ≡ window.now }
+    ensures window { seat.new.window ≡ seat.old.window }
+{
+    let claim = window.try_claim(seat);
+    assert_eq!(rt; claim, Claim::Got(wanted));
+}
+
+// Releases a slot that the seat has to hold.
+fn release_slot(rt: &impl Abort, window: &Window, seat: &mut WindowSeat, slot: u32)
+    requires own { seat.old.window ≡ window.now }
+    ensures window { seat.new.window ≡ seat.old.window }
+{
+    let holds = seat.holds(slot);
+    assert!(rt; holds);
+    let freed = window.try_release(seat, slot);
+    assert_eq!(rt; freed, Freed::Done);
+}
+
+fn window_of(rt: &impl Abort, alloc: Global, limit: u32, first: u32) -> (Window, WindowSeat)
+    ensures { result.1.window ≡ result.0 }
+{
+    let Ok(made) = Window::make_from(alloc, limit, first) else {
+        panic!(rt; "no window")
+    };
+    made
+}
+
+// Up to `count` new seats.
+fn seats_of(
+    alloc: Global,
+    window: &Window,
+    keeper: &mut WindowSeat,
+    count: usize,
+) -> Result<Vec<WindowSeat>, AllocError>
+    requires own { keeper.old.window ≡ window.now }
+    ensures window { keeper.new.window ≡ keeper.old.window }
+    ensures seats { IfOk result (λ v. All (λ s. s.window ≡ window.now) v.items) }
+{
+    let mut seats = Vec::new(alloc);
+    for _ in 0..count {
+        if keeper.can_split() {
+            seats.push(window.split(keeper))?;
+        }
+    }
+    Ok(seats)
+}
+
+#[test]
+fn refuses_bad_windows(rt: HostRuntime) {
+    for (limit, first, wanted) in [
+        (0, 1, WindowError::BadLimit),
+        (65, 1, WindowError::BadLimit),
+        (65, 0, WindowError::BadLimit),
+        (1, 0, WindowError::BadFirst),
+        (1, 0x8000_0000, WindowError::BadFirst),
+    ] {
+        let Err(fault) = Window::make_from(rt.alloc(), limit, first) else {
+            panic!(rt; "a window")
+        };
+        assert_eq!(rt; fault, wanted, "limit {limit}, first {first}");
+    }
+    for limit in [0, 65] {
+        let Err(fault) = Window::make(rt.alloc(), limit) else {
+            panic!(rt; "a window")
+        };
+        assert_eq!(rt; fault, WindowError::BadLimit, "limit {limit}");
+    }
+}
+
+#[test]
+fn one_slot_by_turns(rt: HostRuntime) {
+    let Ok((window, mut keeper)) = Window::make(rt.alloc(), 1) else {
+        panic!(rt; "no window")
+    };
+    let mut a = seat_of(&rt, &window, &mut keeper);
+    let mut b = seat_of(&rt, &window, &mut keeper);
+    claim_slot(&rt, &window, &mut a, 0);
+    assert_eq!(rt; window.try_claim(&mut b), Claim::Full);
+    release_slot(&rt, &window, &mut a, 0);
+    claim_slot(&rt, &window, &mut b, 0);
+    release_slot(&rt, &window, &mut b, 0);
+    window.join(&mut keeper, a);
+    window.join(&mut keeper, b);
+    let closed = window.close(keeper);
+    assert_eq!(rt;
+        closed,
+        Closed {
+            held: 0xFFFF_FFFF_FFFF_FFFE,
+            next: 1
+        }
+    );
+}
+
+#[test]
+fn sixty_four_slots(rt: HostRuntime) {
+    let (window, mut keeper) = window_of(&rt, rt.alloc(), 64, 1);
+    let mut a = seat_of(&rt, &window, &mut keeper);
+    let mut b = seat_of(&rt, &window, &mut keeper);
+    claim_slot(&rt, &window, &mut a, 0);
+    claim_slot(&rt, &window, &mut b, 1);
+    release_slot(&rt, &window, &mut a, 0);
+    release_slot(&rt, &window, &mut b, 1);
+    window.join(&mut keeper, a);
+    window.join(&mut keeper, b);
+    let closed = window.close(keeper);
+    assert_eq!(rt; closed, Closed { held: 0, next: 1 });
+}
+
+#[test]
+fn two_slots_for_three_seats(rt: HostRuntime) {
+    let (window, mut keeper) = window_of(&rt, rt.alloc(), 2, 1);
+    let mut a = seat_of(&rt, &window, &mut keeper);
+    let mut b = seat_of(&rt, &window, &mut keeper);
+    let mut c = seat_of(&rt, &window, &mut keeper);
+    claim_slot(&rt, &window, &mut a, 0);
+    claim_slot(&rt, &window, &mut b, 1);
+    assert_eq!(rt; window.try_claim(&mut c), Claim::Full);
+    release_slot(&rt, &window, &mut a, 0);
+    claim_slot(&rt, &window, &mut c, 0);
+    release_slot(&rt, &window, &mut c, 0);
+    release_slot(&rt, &window, &mut b, 1);
+    window.join(&mut keeper, c);
+    window.join(&mut keeper, b);
+    window.join(&mut keeper, a);
+    let closed = window.close(keeper);
+    assert_eq!(rt;
+        closed,
+        Closed {
+            held: 0xFFFF_FFFF_FFFF_FFFC,
+            next: 1
+        }
+    );
+}
+
+#[test]
+fn a_dropped_seat_keeps_its_slot(rt: HostRuntime) {
+    let (window, mut keeper) = window_of(&rt, rt.alloc(), 1, 1);
+    let mut a = seat_of(&rt, &window, &mut keeper);
+    claim_slot(&rt, &window, &mut a, 0);
+    drop(a);
+    let closed = window.close(keeper);
+    assert_eq!(rt;
+        closed,
+        Closed {
+            held: 0xFFFF_FFFF_FFFF_FFFF,
+            next: 1
+        }
+    );
+}
+
+#[test]
+fn the_last_number(rt: HostRuntime) {
+    let (window, mut keeper) = window_of(&rt, rt.alloc(), 64, 0x7FFF_FFFF);
+    assert_eq!(rt; window.try_draw(&mut keeper), Draw::Number(2147483647));
+    assert_eq!(rt; window.try_draw(&mut keeper), Draw::UsedUp);
+    let closed = window.close(keeper);
+    assert_eq!(rt;
+        closed,
+        Closed {
+            held: 0,
+            next: 2147483648
+        }
+    );
+}
+
+// The keeper holds the slots from the limit on, and no seat one from 64 on. Each of the 64 names but the keeper's own is given once.
+#[test]
+fn slots_and_names(rt: HostRuntime) -> Result<(), Fail> {
+    let (window, mut keeper) = window_of(&rt, rt.alloc(), 2, 1);
+    for (slot, wanted) in [
+        (0, false),
+        (1, false),
+        (2, true),
+        (63, true),
+        (64, false),
+        (u32::MAX, false),
+    ] {
+        assert_eq!(rt; keeper.holds(slot), wanted, "slot {slot}");
+    }
+    let seats = seats_of(rt.alloc(), &window, &mut keeper, 64)?;
+    assert_eq!(rt; seats.len(), 63);
+    let can_split = keeper.can_split() || seats.iter().any(|seat| seat.can_split());
+    assert!(rt; !can_split);
+    Ok(())
+}

@@ -1,0 +1,168 @@
+ghost use Rattle.std.specs.Prelude.{◌≡◌, ◌+◌, ◌^◌, [], ◌∷◌, ◌++◌, All, IfOk, IfSome, IfNone};
+ghost use Rattle.sms_window.specs.Seats.{Holds, met_with, with_slots};
+
+use super::seats_of;
+use crate::{Claim, Draw, Freed, Window, WindowSeat};
+use std::alloc::{AllocError, Global};
+use std::snapshot::Snapshot;
+use std::sync::Wait;
+use std::test::Fail;
+use std::thread;
+use std::thread::{Promise, Threads};
+
+const TRIES: u32 = 10_000_000;
+
+// Tries until it has a slot.
+fn claim_some(window: &Window, seat: &mut WindowSeat) -> Option<u32>
+    requires own { seat.old.window ≡ window.now }
+    ensures window { seat.new.window ≡ seat.old.window }
+    ensures some { IfSome result (λ slot. Holds seat.new.view slot × (seat.new.view ≡ with_slots seat.old.view (seat.old.view.slots + 2 ^ slot) seat.new.view.met)) }
+    ensures none { IfNone result (seat.new.view ≡ met_with seat.old.view seat.new.view.met) }
+{
+    for _ in 0..TRIES {
+        if let Claim::Got(slot) = window.try_claim(seat) {
+            return Some(slot);
+        }
+    }
+    None
+}
+
+// Tries until it has a number.
+fn draw_some(window: &Window, seat: &mut WindowSeat) -> Option<u32>
+    requires own { seat.old.window ≡ window.now }
+    ensures window { seat.new.window ≡ seat.old.window }
+    ensures slots { seat.new.view.slots ≡ seat.old.view.slots }
+    ensures some { IfSome result (λ n. seat.new.view.numbers ≡ seat.old.view.numbers ++ n ∷ []) }
+    ensures none { IfNone result (seat.new.view.numbers ≡ seat.old.view.numbers) }
+{
+    for _ in 0..TRIES {
+        if let Draw::Number(n) = window.try_draw(seat) {
+            return Some(n);
+        }
+    }
+    None
+}
+
+// Tries until the slot is released.
+fn release_some(window: &Window, seat: &mut WindowSeat, slot: u32)
+    requires own { seat.old.window ≡ window.now }
+    requires held { Holds seat.old.view slot }
+    ensures window { seat.new.window ≡ seat.old.window }
+{
+    for _ in 0..TRIES {
+        if let Freed::Done = window.try_release(seat, slot) {
+            return;
+        }
+    }
+}
+
+// A seat of the window, and the numbers that it drew.
+type Worked = (WindowSeat, Vec<u32>);
+
+// Claims a slot, draws a number and releases the slot, `rounds` times.
+fn work(alloc: Global, window: &Window, mut seat: WindowSeat, rounds: u32) -> Worked
+    requires own { seat.window ≡ window.now }
+    ensures window { result.0.window ≡ seat.window }
+{
+    let mut numbers = Vec::new(alloc);
+    for _ in 0..rounds {
+        if let Some(slot) = claim_some(window, &mut seat) {
+            if let Some(number) = draw_some(window, &mut seat) {
+                let _kept = numbers.push(number);
+            }
+            release_some(window, &mut seat, slot);
+        }
+    }
+    (seat, numbers)
+}
+
+// A promise that the seat which a thread hands back is of this window.
+#[derive(Drop)]
+struct SeatOf(Snapshot<Window>);
+
+impl Promise<Worked> for SeatOf {
+    ghost kept_by = { λ p r. r.0.window ≡ p.0.value };
+}
+
+// Each seat works in a thread of its own.
+fn work_in_threads<R: Threads + Wait + Sync>(
+    rt: &R,
+    alloc: Global,
+    window: &Window,
+    seats: Vec<WindowSeat>,
+    rounds: u32,
+) -> Option<Vec<Worked>>
+    requires { All (λ s. s.window ≡ window.now) seats.items }
+    ensures { IfSome result (λ v. All (λ w. w.0.window ≡ window.now) v.items) }
+{
+    thread::scope(
+        thread::scope_env(),
+        rt,
+        |scope| -> Option<Vec<Worked>>
+            requires { All (λ s. s.window ≡ window.now) seats.items }
+            ensures { IfSome result (λ v. All (λ w. w.0.window ≡ window.entry.now) v.items) }
+        {
+            let mut handles = Vec::new(alloc);
+            let mut seats = seats;
+            while let Some(seat) = seats.pop() {
+                let handle = scope
+                    .spawn_with(
+                        SeatOf(Snapshot::of(window)),
+                        move || -> Worked
+                            requires { seat.window ≡ window.now }
+                            ensures { result.0.window ≡ window.entry.now }
+                        { work(alloc, window, seat, rounds) },
+                    )
+                    .ok()?;
+                handles.push(handle).ok()?;
+            }
+            thread::join_promised(rt, handles).ok()
+        },
+    )
+}
+
+// All numbers that were drawn, once the seats are joined.
+fn join_all(
+    alloc: Global,
+    window: &Window,
+    keeper: &mut WindowSeat,
+    mut worked: Vec<Worked>,
+) -> Result<Vec<u32>, AllocError>
+    requires own { keeper.old.window ≡ window.now }
+    requires seats { All (λ w. w.0.window ≡ window.now) worked.items }
+    ensures window { keeper.new.window ≡ keeper.old.window }
+{
+    let mut all = Vec::new(alloc);
+    while let Some((seat, numbers)) = worked.pop() {
+        window.join(keeper, seat);
+        all.extend_from_slice(&numbers)?;
+    }
+    Ok(all)
+}
+
+#[test]
+fn two_thousand_numbers(rt: HostRuntime) -> Result<(), Fail> {
+    for (threads, rounds) in [(2, 1000), (4, 500), (8, 250)] {
+        let Ok((window, mut keeper)) = Window::make(rt.alloc(), 2) else {
+            panic!(rt; "no window")
+        };
+        let seats = seats_of(rt.alloc(), &window, &mut keeper, threads)?;
+        let Some(worked) = work_in_threads(&rt, rt.alloc(), &window, seats, rounds) else {
+            panic!(rt; "no thread")
+        };
+        let mut numbers = join_all(rt.alloc(), &window, &mut keeper, worked)?;
+        numbers.sort()?;
+        let mut wanted = 1u32;
+        for &number in numbers.iter() {
+            assert_eq!(rt; number, wanted, "{threads} threads");
+            wanted = wanted.wrapping_add(1);
+        }
+        assert_eq!(rt; wanted, 2001, "{threads} threads");
+        let closed = window.close(keeper);
+        assert!(rt;
+            closed.held == 0xFFFF_FFFF_FFFF_FFFC && closed.next == 2001,
+            "{threads} threads"
+        );
+    }
+    Ok(())
+}

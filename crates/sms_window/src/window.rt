@@ -1,0 +1,199 @@
+// The window, and the steps on it.
+ghost use Rattle.std.specs.Prelude.{◌≡◌, ◌+◌, IfOk, IfErr};
+ghost use Rattle.sms_window.specs.Seats.{CanSplit, Holds, met_with, giver, given, joined};
+ghost use Rattle.sms_window.specs.Outcome.{Claimed, Released, Drawn, IsMade, Refuses, IsEnd};
+
+use crate::error::WindowError;
+use crate::outcome::{Claim, Closed, Draw, Freed};
+use crate::rule::{
+    ExchangeClaim, ExchangeDraw, ExchangeRelease, Families, LoadNumber, LoadWindow, WindowRule,
+};
+use crate::seat::WindowSeat;
+use crate::view::{Opening, View};
+use atomic_table::Table;
+use std::alloc::Global;
+use std::marker::Model;
+
+/// The window of a bind. Its window word has a bit for each of the 64 slots, set where a seat holds it; its number word has the next sequence number. Threads share it by `&`, each with a seat of its own. To a contract it is its name.
+#[derive(Drop)]
+pub struct Window {
+    table: Table<(), View, Opening, WindowRule, Global>,
+}
+
+impl Model for Window {
+    ghost use Rattle.std.specs.Prelude.{◌≡◌};
+    ghost use Rattle.atomic_table.specs.Seated.{TableId, table_id_coded};
+
+    ghost Value = { TableId };
+
+    ghost coded = { table_id_coded };
+
+    ghost view = { λ w. w.table.shared.table_id };
+
+    ghost invariant = { λ w. (w.table.shared.table_id.words ≡ 2) × (w.table.shared.table_id.slots ≡ 0) };
+}
+
+impl Window {
+    /// A window of `limit` slots, 1 to 64, whose numbers begin at 1, and its keeper's seat. That seat has all names, and holds the slots from the limit on.
+    pub fn make(alloc: Global, limit: u32) -> Result<(Window, WindowSeat), WindowError>
+        ensures made { IfOk result (λ r. IsMade limit 1 r.0 r.1) }
+        ensures refused { IfErr result (λ e. Refuses limit 1 e) }
+    {
+        Window::make_from(alloc, limit, 1)
+    }
+
+    /// The same, where the numbers begin at `first`, 1 to 0x7FFFFFFF. A bad limit is told before a bad first number.
+    pub fn make_from(
+        alloc: Global,
+        limit: u32,
+        first: u32,
+    ) -> Result<(Window, WindowSeat), WindowError>
+        ensures made { IfOk result (λ r. IsMade limit first r.0 r.1) }
+        ensures refused { IfErr result (λ e. Refuses limit first e) }
+    {
+        if limit < 1 || limit > 64 {
+            return Err(WindowError::BadLimit);
+        }
+        if first < 1 || first > 0x7FFF_FFFF {
+            return Err(WindowError::BadFirst);
+        }
+        let held = if limit == 64 { 0 } else { u64::MAX << limit };
+        let opening = Opening { limit, first };
+        let Ok((table, seat)) = Table::of_words(alloc, &[held, u64::from(first)], &opening) else {
+            return Err(WindowError::OutOfMemory);
+        };
+        Ok((
+            Window { table },
+            WindowSeat {
+                seat,
+                name: 0,
+                family: u64::MAX,
+                slots: held,
+            },
+        ))
+    }
+
+    /// Makes a new seat, which has one name: the greatest of the seat's family but for its own.
+    pub fn split(&self, seat: &mut WindowSeat) -> WindowSeat
+        requires own { seat.old.window ≡ self.now }
+        requires names { CanSplit seat.old.view }
+        ensures window { (seat.new.window ≡ seat.old.window) × (result.window ≡ seat.old.window) }
+        ensures giver { seat.new.view ≡ met_with (giver seat.old.view) seat.new.view.met }
+        ensures given { result.view ≡ met_with (given seat.old.view) result.view.met }
+        ensures family { seat.new.view.family + result.view.family ≡ seat.old.view.family }
+    {
+        let others = seat.family - (1u64 << seat.name);
+        let name = 63 - others.leading_zeros();
+        let family = 1u64 << name;
+        let mut new = self.table.shared.split_seat::<Families>(&mut seat.seat);
+        // The two loads are for `met`: a split tells no word.
+        self.table.shared.load::<LoadWindow>(&mut seat.seat, 0);
+        self.table.shared.load::<LoadWindow>(&mut new, 0);
+        seat.family -= family;
+        WindowSeat {
+            seat: new,
+            name,
+            family,
+            slots: 0,
+        }
+    }
+
+    /// Takes another seat in: its slots, its numbers and its names.
+    pub fn join(&self, seat: &mut WindowSeat, other: WindowSeat)
+        requires own { (seat.old.window ≡ self.now) × (other.window ≡ self.now) }
+        ensures window { seat.new.window ≡ seat.old.window }
+        ensures joined { seat.new.view ≡ met_with (joined seat.old.view other.view) seat.new.view.met }
+    {
+        let WindowSeat {
+            seat: theirs,
+            name: _,
+            family,
+            slots,
+        } = other;
+        self.table
+            .shared
+            .join_seat::<Families>(&mut seat.seat, theirs);
+        // The load tells `met`, and that the two sets are apart, so that they may be added.
+        self.table.shared.load::<LoadWindow>(&mut seat.seat, 0);
+        seat.family += family;
+        seat.slots += slots;
+    }
+
+    /// Tries to claim the least slot that is clear in the word that it loads.
+    pub fn try_claim(&self, seat: &mut WindowSeat) -> Claim
+        requires own { seat.old.window ≡ self.now }
+        ensures window { seat.new.window ≡ seat.old.window }
+        ensures claimed { Claimed seat.old.view result seat.new.view }
+    {
+        let found = self.table.shared.load::<LoadWindow>(&mut seat.seat, 0);
+        if found == u64::MAX {
+            return Claim::Full;
+        }
+        let slot = found.trailing_ones();
+        let bit = 1u64 << slot;
+        let now = self
+            .table
+            .shared
+            .compare_exchange::<ExchangeClaim>(&mut seat.seat, 0, found, found | bit);
+        if now == found {
+            seat.slots |= bit;
+            Claim::Got(slot)
+        } else {
+            Claim::Contended(now)
+        }
+    }
+
+    /// Tries to release a slot that the seat holds.
+    pub fn try_release(&self, seat: &mut WindowSeat, slot: u32) -> Freed
+        requires own { seat.old.window ≡ self.now }
+        requires held { Holds seat.old.view slot }
+        ensures window { seat.new.window ≡ seat.old.window }
+        ensures released { Released seat.old.view slot result seat.new.view }
+    {
+        let found = self.table.shared.load::<LoadWindow>(&mut seat.seat, 0);
+        let mask = !(1u64 << slot);
+        let now = self
+            .table
+            .shared
+            .compare_exchange::<ExchangeRelease>(&mut seat.seat, 0, found, found & mask);
+        if now == found {
+            seat.slots &= mask;
+            Freed::Done
+        } else {
+            Freed::Contended(now)
+        }
+    }
+
+    /// Tries to draw the next sequence number.
+    pub fn try_draw(&self, seat: &mut WindowSeat) -> Draw
+        requires own { seat.old.window ≡ self.now }
+        ensures window { seat.new.window ≡ seat.old.window }
+        ensures drawn { Drawn seat.old.view result seat.new.view }
+    {
+        let found = self.table.shared.load::<LoadNumber>(&mut seat.seat, 1);
+        if found > 0x7FFF_FFFF {
+            return Draw::UsedUp;
+        }
+        let now = self
+            .table
+            .shared
+            .compare_exchange::<ExchangeDraw>(&mut seat.seat, 1, found, found + 1);
+        if now == found {
+            Draw::Number(found as u32)
+        } else {
+            Draw::Contended(now)
+        }
+    }
+
+    /// Ends the window, and tells its two words. Any seat of it may be handed in; one that has all names accounts for both words alone.
+    pub fn close(self, seat: WindowSeat) -> Closed
+        requires own { seat.window ≡ self }
+        ensures { IsEnd seat.view result.held result.next }
+    {
+        let closed = self.table.close_with(seat.seat);
+        let held = closed.word(0);
+        let next = closed.word(1);
+        closed.free();
+        Closed { held, next }
+    }
+}
