@@ -1,0 +1,99 @@
+-- A book whose numbers are dealt out, one after another.
+use Rattle.std.proofs.Common.{◌≡◌, ℕ, zero, suc, ◌+◌, ◌<◌, ◌≤◌, List, [], ◌∷◌, ◌++◌, length, map, set, Some, refl, sym, ap, ◌∙◌, subst, arith, replicate}
+use Rattle.std.specs.Prelude.{slice_get, slice_index}
+use Rattle.std.proofs.lemmas.List.{get_or-map, length-map}
+use Rattle.sms_core.specs.declared.row.Row.{Row}
+use Rattle.sms_book.specs.declared.rule.Portion.{Portion}
+use Rattle.sms_book.specs.declared.rule.Entry.{Entry}
+use Rattle.sms_book.specs.Portions.{portion_at, row_at, no_row, no_amounts, nothing, of_worker, of_till}
+use Rattle.sms_book.specs.Openings.{AllSmall, opening_row}
+use Rattle.sms_book.specs.Rule.{at_home, away, opening_entries, AllAway}
+use Rattle.sms_book.specs.Sums.{total, Adds, Balanced}
+
+-- the entries after the first n numbers went out
+abbrev pub dealt : ℕ → List Entry → List Entry
+dealt zero es = es
+dealt (suc n) [] = []
+dealt (suc n) (e ∷ es) = away e.portions ∷ dealt n es
+
+pub get_dealt : (k : ℕ) (es : List Entry) (a : List Portion) → slice_get es k ≡ Some (at_home a) → slice_get (dealt k es) k ≡ Some (at_home a)
+get_dealt zero es a e = e
+get_dealt (suc k) [] a e = e
+get_dealt (suc k) (x ∷ es) a e = get_dealt k es a e
+
+pub set_dealt : (k : ℕ) (es : List Entry) (a : List Portion) → slice_get es k ≡ Some (at_home a) → set (dealt k es) k (away a) ≡ dealt (suc k) es
+set_dealt zero [] a e = refl
+set_dealt zero (x ∷ es) a e = let same : at_home a ≡ x = cc in ap (λ (y : Entry). away y.portions ∷ es) same
+set_dealt (suc k) [] a e = refl
+set_dealt (suc k) (x ∷ es) a e = ap (λ (l : List Entry). away x.portions ∷ l) (set_dealt k es a e)
+
+pub length-dealt : (n : ℕ) (es : List Entry) → length (dealt n es) ≡ length es
+length-dealt zero es = refl
+length-dealt (suc n) [] = refl
+length-dealt (suc n) (e ∷ es) = ap suc (length-dealt n es)
+
+pub AllAway-dealt : (n : ℕ) (es : List Entry) → length es ≤ n → AllAway (dealt n es)
+AllAway-dealt zero [] l = tt
+AllAway-dealt zero (e ∷ es) l = absurd (omega arith)
+AllAway-dealt (suc n) [] l = tt
+AllAway-dealt (suc n) (e ∷ es) l = (refl, AllAway-dealt n es (omega arith))
+
+total-dealt : (f : Portion → ℕ) (i n : ℕ) (es : List Entry) → total f i (dealt n es) ≡ total f i es
+total-dealt f i zero es = refl
+total-dealt f i (suc n) [] = refl
+total-dealt f i (suc n) (e ∷ es) = ap (λ (t : ℕ). f (portion_at e.portions i) + t) (total-dealt f i n es)
+
+nothing_at : (n i : ℕ) → portion_at (replicate n nothing) i ≡ nothing
+nothing_at zero i = refl
+nothing_at (suc n) zero = refl
+nothing_at (suc n) (suc i) = nothing_at n i
+
+total-nothing : (f : Portion → ℕ) (i n w : ℕ) → f nothing ≡ 0 → total f i (replicate w (at_home (replicate n nothing))) ≡ 0
+total-nothing f i n zero e = refl
+total-nothing f i n (suc w) e =
+    let rest = total-nothing f i n w e in
+    let here : f (portion_at (replicate n nothing) i) ≡ 0 = ap f (nothing_at n i) ∙ e in
+    omega arith
+
+total-opening : (f : Portion → ℕ) (i n : ℕ) (credits : List ℕ) (w : ℕ) → f nothing ≡ 0 → i < length credits → total f i (dealt n (opening_entries credits w)) ≡ f (of_till (slice_index credits i))
+total-opening f i n credits w e low =
+    let whole = total-dealt f i n (opening_entries credits w) in
+    let rest = total-nothing f i (length credits) w e in
+    let till : f (portion_at (map of_till credits) i) ≡ f (of_till (slice_index credits i)) = ap f (get_or-map of_till credits i 0 nothing low) in
+    omega arith
+
+pub balanced-opening : (n : ℕ) (credits : List ℕ) (w : ℕ) → AllSmall credits → Balanced (map opening_row credits) (dealt n (opening_entries credits w))
+balanced-opening n credits w small i below =
+    let low : i < length credits = let l = length-map credits opening_row in omega arith in
+    let row : row_at (map opening_row credits) i ≡ opening_row (slice_index credits i) = get_or-map opening_row credits i 0 no_row low in
+    let most = small i low in
+    subst (λ (r : Row). Adds r i (dealt n (opening_entries credits w))) (sym row) (record {
+      topped = sym (total-opening (λ p. p.topped) i n credits w refl low);
+      reserved = sym (total-opening (λ p. p.reserved) i n credits w refl low);
+      charged = sym (total-opening (λ p. p.charged) i n credits w refl low);
+      returned = sym (total-opening (λ p. p.returned) i n credits w refl low);
+      balanced = omega arith;
+      small = (most, omega arith);
+    })
+
+-- an element of a list of equal ones
+pub middle : {A : Type 0} (xs : List A) (y : A) (zs : List A) (n : ℕ) (x : A) → xs ++ y ∷ zs ≡ replicate n x → (y ≡ x) × (length xs < n)
+middle [] y zs zero x e = absurd (cc)
+middle [] y zs (suc n) x e = (cc, omega arith)
+middle (z ∷ xs) y zs zero x e = absurd (cc)
+middle (z ∷ xs) y zs (suc n) x e =
+    let rest : xs ++ y ∷ zs ≡ replicate n x = cc in
+    let m = middle xs y zs n x rest in
+    (m.0, let l = m.1 in omega arith)
+
+pub worker_home : (credits : List ℕ) (w k : ℕ) → k < w → slice_get (opening_entries credits w) (suc k) ≡ Some (at_home (replicate (length credits) nothing))
+worker_home credits w k low = go w k low
+  where
+    go : (w k : ℕ) → k < w → slice_get (replicate w (at_home (replicate (length credits) nothing))) k ≡ Some (at_home (replicate (length credits) nothing))
+    go zero k l = absurd (omega arith)
+    go (suc w) zero l = refl
+    go (suc w) (suc k) l = go w k (omega arith)
+
+pub workers-nothing : (n : ℕ) → map of_worker (replicate n no_amounts) ≡ replicate n nothing
+workers-nothing zero = refl
+workers-nothing (suc n) = ap (λ (l : List Portion). nothing ∷ l) (workers-nothing n)

@@ -1,0 +1,109 @@
+-- What a call does to a row and to what its caller has of the account, where both are known.
+use Rattle.std.proofs.Common.{◌≡◌, ◌≢◌, ℕ, ◌+◌, ◌^◌, ◌<◌, ◌≤◌, List, length, set, Some, refl, arith, sym, ◌∙◌, ap, subst}
+use Rattle.std.specs.Prelude.{slice_get, slice_index_or, map}
+use Rattle.std.proofs.lemmas.List.{get_or_read, get_or-map, map-set, length-map}
+use Rattle.sms_core.specs.declared.row.Row.{Row}
+use Rattle.sms_core.specs.Rows.{IsBalanced}
+use Rattle.sms_book.specs.declared.amounts.Amounts.{Amounts}
+use Rattle.sms_book.specs.declared.rule.Portion.{Portion}
+use Rattle.sms_book.specs.declared.rule.Entry.{Entry}
+use Rattle.sms_book.specs.declared.money.Move.{Move}
+use Rattle.sms_book.specs.declared.money.Move.TheVariants.{Reserve, Charge, GiveBack}
+use Rattle.sms_book.specs.Portions.{amounts_at, portion_at, topped_at, row_at, no_row, no_amounts, nothing, of_worker, of_till}
+use Rattle.sms_book.specs.Money.{CanMove, FitsMove, moved_row, moved_amounts, topped_up}
+use Rattle.sms_book.specs.Rule.{away}
+use Rattle.sms_book.specs.Sums.{IsSmall, Balanced}
+use Rattle.sms_book.proofs.Totals.{MovesWith, balanced_set, entry_at_most}
+
+-- a holder has no more than the row
+pub record Within (a : Portion) (r : Row) : Type 0 where
+  pub topped : a.topped ≤ r.topped
+  pub reserved : a.reserved ≤ r.reserved
+  pub charged : a.charged ≤ r.charged
+  pub returned : a.returned ≤ r.returned
+
+pub within_row : (rows : List Row) (account : ℕ) (es : List Entry) (k : ℕ) (ps : List Portion) → account < length rows → slice_get es k ≡ Some (away ps) → Balanced rows es → Within (portion_at ps account) (row_at rows account)
+within_row rows account es k ps within entry all =
+    let was = all account within in
+    record {
+      topped = let e = entry_at_most (λ x. x.topped) account es k ps entry in let w = was.topped in omega arith;
+      reserved = let e = entry_at_most (λ x. x.reserved) account es k ps entry in let w = was.reserved in omega arith;
+      charged = let e = entry_at_most (λ x. x.charged) account es k ps entry in let w = was.charged in omega arith;
+      returned = let e = entry_at_most (λ x. x.returned) account es k ps entry in let w = was.returned in omega arith;
+    }
+
+worker_at : (a : List Amounts) (i : ℕ) → i < length a → portion_at (map of_worker a) i ≡ of_worker (amounts_at a i)
+worker_at a i low = get_or-map of_worker a i no_amounts nothing low
+
+till_at : (t : List ℕ) (i : ℕ) → i < length t → portion_at (map of_till t) i ≡ of_till (topped_at t i)
+till_at t i low = get_or-map of_till t i 0 nothing low
+
+can_turn : (what : Move) (n : ℕ) (r : Row) (a : Amounts) → (what ≡ Reserve → CanMove what n r) → (what ≢ Reserve → n ≤ a.reserved) → Within (of_worker a) r → IsBalanced r → IsSmall r
+    → CanMove what n r × FitsMove what n a
+can_turn Reserve n r a can holds part law small = let c = can refl in let p = part.reserved in (c, omega arith)
+can_turn Charge n r a can holds part law small =
+    let h : n ≤ a.reserved = holds (λ e. cc) in let p = part.reserved in let q = part.charged in ((omega arith, omega arith), (h, omega arith))
+can_turn GiveBack n r a can holds part law small =
+    let h : n ≤ a.reserved = holds (λ e. cc) in let p = part.reserved in let q = part.returned in ((omega arith, omega arith, omega arith), (h, omega arith))
+
+turned : (what : Move) (n : ℕ) (r : Row) (a : Amounts) → CanMove what n r → FitsMove what n a → IsBalanced r → IsSmall r → MovesWith r (of_worker a) (moved_row what n r) (of_worker (moved_amounts what n a))
+turned Reserve n r a can fits law small = record { topped = omega arith; reserved = omega arith; charged = omega arith; returned = omega arith; balanced = omega arith; small = (omega arith, omega arith) }
+turned Charge n r a can fits law small = record { topped = omega arith; reserved = omega arith; charged = omega arith; returned = omega arith; balanced = omega arith; small = (omega arith, omega arith) }
+turned GiveBack n r a can fits law small = record { topped = omega arith; reserved = omega arith; charged = omega arith; returned = omega arith; balanced = omega arith; small = (omega arith, omega arith) }
+
+-- a worker's call, where the book's entry of the share is known
+pub settled : (rows : List Row) (account : ℕ) (es : List Entry) (k : ℕ) (a : List Amounts) (r : Row) (h : Amounts) (what : Move) (n : ℕ)
+    → account < length rows → length a ≡ length rows → slice_get es k ≡ Some (away (map of_worker a)) → Balanced rows es → r ≡ slice_index_or rows account r → h ≡ slice_index_or a account h
+    → (what ≡ Reserve → CanMove what n (row_at rows account)) → (what ≢ Reserve → n ≤ (amounts_at a account).reserved)
+    → CanMove what n r × FitsMove what n h × Balanced (set rows account (moved_row what n r)) (set es k (away (map of_worker (set a account (moved_amounts what n h)))))
+settled rows account es k a r h what n within wide entry all is-r is-h can holds =
+    let row : r ≡ row_at rows account = get_or_read rows account r within is-r no_row in
+    let had : h ≡ amounts_at a account = get_or_read a account h (omega arith) is-h no_amounts in
+    let was = all account within in
+    let at : portion_at (map of_worker a) account ≡ of_worker h = worker_at a account (omega arith) ∙ ap of_worker (sym had) in
+    let part : Within (of_worker h) r = subst (λ (x : Portion × Row). Within x.0 x.1) (λ i. (at i, sym row i)) (within_row rows account es k (map of_worker a) within entry all) in
+    let law : IsBalanced r = rw row was.balanced in
+    let small : IsSmall r = rw row was.small in
+    let both = can_turn what n r h (rw row can) (rw had holds) part law small in
+    let moves : MovesWith (row_at rows account) (portion_at (map of_worker a) account) (moved_row what n r) (of_worker (moved_amounts what n h)) =
+    subst (λ (x : Row × Portion). MovesWith x.0 x.1 (moved_row what n r) (of_worker (moved_amounts what n h))) (λ i. (row i, sym at i)) (turned what n r h both.0 both.1 law small) in (
+      both.0,
+      both.1,
+      subst (λ (l : List Portion). Balanced (set rows account (moved_row what n r)) (set es k (away l))) (sym (map-set of_worker a account (moved_amounts what n h)))
+          (balanced_set rows account (moved_row what n r) es k (map of_worker a) (of_worker (moved_amounts what n h)) within (length-map a of_worker ∙ wide) entry moves all),
+    )
+
+topped_with : (n : ℕ) (r : Row) (t : ℕ) → r.topped + n ≤ 2 ^ 40 → IsBalanced r → IsSmall r → MovesWith r (of_till t) (topped_up n r) (of_till (t + n))
+topped_with n r t can law small = record { topped = omega arith; reserved = omega arith; charged = omega arith; returned = omega arith; balanced = omega arith; small = (omega arith, omega arith) }
+
+-- a top-up, where the book's entry of the till is known
+pub topped : (rows : List Row) (account : ℕ) (es : List Entry) (k : ℕ) (t : List ℕ) (r : Row) (h : ℕ) (n : ℕ)
+    → account < length rows → length t ≡ length rows → slice_get es k ≡ Some (away (map of_till t)) → Balanced rows es → r ≡ slice_index_or rows account r → h ≡ slice_index_or t account h
+    → (row_at rows account).topped + n ≤ 2 ^ 40
+    → (r.topped + n ≤ 2 ^ 40) × (r.free + n ≤ 2 ^ 40) × (h + n ≤ 2 ^ 40) × Balanced (set rows account (topped_up n r)) (set es k (away (map of_till (set t account (h + n)))))
+topped rows account es k t r h n within wide entry all is-r is-h can =
+    let row : r ≡ row_at rows account = get_or_read rows account r within is-r no_row in
+    let had : h ≡ topped_at t account = get_or_read t account h (omega arith) is-h 0 in
+    let was = all account within in
+    let at : portion_at (map of_till t) account ≡ of_till h = till_at t account (omega arith) ∙ ap of_till (sym had) in
+    let part : Within (of_till h) r = subst (λ (x : Portion × Row). Within x.0 x.1) (λ i. (at i, sym row i)) (within_row rows account es k (map of_till t) within entry all) in
+    let law : IsBalanced r = rw row was.balanced in
+    let small : IsSmall r = rw row was.small in
+    let can' : r.topped + n ≤ 2 ^ 40 = rw row can in
+    let moves : MovesWith (row_at rows account) (portion_at (map of_till t) account) (topped_up n r) (of_till (h + n)) =
+    subst (λ (x : Row × Portion). MovesWith x.0 x.1 (topped_up n r) (of_till (h + n))) (λ i. (row i, sym at i)) (topped_with n r h can' law small) in (
+      can',
+      (let p = law in omega arith),
+      (let p = part.topped in omega arith),
+      subst (λ (l : List Portion). Balanced (set rows account (topped_up n r)) (set es k (away l))) (sym (map-set of_till t account (h + n)))
+          (balanced_set rows account (topped_up n r) es k (map of_till t) (of_till (h + n)) within (length-map t of_till ∙ wide) entry moves all),
+    )
+
+-- what a look tells
+pub seen_row : (rows : List Row) (account : ℕ) (es : List Entry) (k : ℕ) (a : List Amounts) (r : Row) → account < length rows → length a ≡ length rows → slice_get es k ≡ Some (away (map of_worker a)) → Balanced rows es → r ≡ slice_index_or rows account r
+    → ((amounts_at a account).reserved ≤ r.reserved) × ((amounts_at a account).charged ≤ r.charged) × ((amounts_at a account).returned ≤ r.returned)
+seen_row rows account es k a r within wide entry all is-r =
+    let row : r ≡ row_at rows account = get_or_read rows account r within is-r no_row in
+    let at : portion_at (map of_worker a) account ≡ of_worker (amounts_at a account) = worker_at a account (omega arith) in
+    let part : Within (of_worker (amounts_at a account)) r = subst (λ (x : Portion × Row). Within x.0 x.1) (λ i. (at i, sym row i)) (within_row rows account es k (map of_worker a) within entry all) in
+    (part.reserved, part.charged, part.returned)

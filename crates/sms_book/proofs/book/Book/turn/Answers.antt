@@ -1,0 +1,56 @@
+use Rattle.std.proofs.Common.{sym, ◌∙◌, length-set}
+use Rattle.std.specs.Prelude.{slice_set, map}
+use Rattle.sms_book.specs.Portions.{of_worker}
+use Rattle.sms_book.specs.Rule.{away}
+use Rattle.sms_book.proofs.Turns.{settled}
+use Rattle.sms_book.proofs.Totals.{AllAway-set}
+use Rattle.sms_book.proofs.book.Book.turn.Goals as goal
+
+pub row_after-requires : goal.row_after-requires
+row_after-requires g c =
+    let i = c.self.invariant in
+    let s = c.share.invariant in
+    let m = c.meet.ensures.views i.5.0 s.2.0 (map of_worker c.share.inside.amounts.items) i.5.1 s.2.1 in
+    let t = settled c.self.inside.rows.items c.args.account i.5.0 s.2.0 c.share.inside.amounts.items c.index-row.result.now c.index-had.result.now c.args.what c.args.n (rw c.self.view_is c.requires.there) (s.1 ∙ sym i.3) m.1 i.5.2 c.index-row.ensures c.index-had.ensures (rw c.self.view_is c.requires.row) (rw c.share.view_is c.requires.share) in
+    t.0
+
+pub amounts_after-requires : goal.amounts_after-requires
+amounts_after-requires g c =
+    let i = c.self.invariant in
+    let s = c.share.invariant in
+    let m = c.meet.ensures.views i.5.0 s.2.0 (map of_worker c.share.inside.amounts.items) i.5.1 s.2.1 in
+    let t = settled c.self.inside.rows.items c.args.account i.5.0 s.2.0 c.share.inside.amounts.items c.index-row.result.now c.index-had.result.now c.args.what c.args.n (rw c.self.view_is c.requires.there) (s.1 ∙ sym i.3) m.1 i.5.2 c.index-row.ensures c.index-had.ensures (rw c.self.view_is c.requires.row) (rw c.share.view_is c.requires.share) in
+    t.1
+
+pub part_worker-requires-clause-book : goal.part_worker-requires-clause-book
+part_worker-requires-clause-book g c =
+    let i = c.self.invariant in
+    let s = c.share.invariant in
+    let m = c.meet.ensures.views i.5.0 s.2.0 (map of_worker c.share.inside.amounts.items) i.5.1 s.2.1 in
+    (i.5.0, s.2.0, map of_worker c.share.inside.amounts.items, m.0)
+
+pub invariant_of-self : goal.invariant_of-self
+invariant_of-self g c =
+    let i = c.self.invariant in
+    let s = c.share.invariant in
+    let a = c.share.inside.amounts.items in
+    let m = c.meet.ensures.views i.5.0 s.2.0 (map of_worker a) i.5.1 s.2.1 in
+    let t = settled c.self.inside.rows.items c.args.account i.5.0 s.2.0 a c.index-row.result.now c.index-had.result.now c.args.what c.args.n (rw c.self.view_is c.requires.there) (s.1 ∙ sym i.3) m.1 i.5.2 c.index-row.ensures c.index-had.ensures (rw c.self.view_is c.requires.row) (rw c.share.view_is c.requires.share) in
+    let p = c.part_worker.ensures.views i.5.0 s.2.0 (map of_worker a) m.0 in
+    let new = map of_worker c.as_slice.result.now in (
+      i.0,
+      i.1,
+      c.part_worker.ensures.table.0 ∙ c.meet.ensures.table ∙ i.2,
+      length-set c.self.inside.rows.items c.args.account c.row_after.result ∙ i.3,
+      i.4,
+      (slice_set i.5.0 s.2.0 (away new), p.0, rw (c.as_slice.ensures.value, c.row_after.ensures, c.amounts_after.ensures) t.2, AllAway-set i.5.0 s.2.0 new i.5.3, length-set i.5.0 s.2.0 (away new) ∙ i.5.4),
+    )
+
+pub invariant_of-share : goal.invariant_of-share
+invariant_of-share g c =
+    let i = c.self.invariant in
+    let s = c.share.invariant in
+    let a = c.share.inside.amounts.items in
+    let m = c.meet.ensures.views i.5.0 s.2.0 (map of_worker a) i.5.1 s.2.1 in
+    let p = c.part_worker.ensures.views i.5.0 s.2.0 (map of_worker a) m.0 in
+    (c.part_worker.ensures.table.1 ∙ c.meet.ensures.table ∙ i.2, length-set a c.args.account c.amounts_after.result ∙ s.1, (s.2.0, rw (← c.as_slice.ensures.value) p.1))

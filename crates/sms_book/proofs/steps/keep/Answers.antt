@@ -1,0 +1,26 @@
+use Rattle.std.proofs.Common.{sym, ◌∙◌, ap, rules}
+use Rattle.sms_book.specs.Rule.{lent}
+use Rattle.sms_book.proofs.Moves.{joins_as, keeps_told_as, same_view}
+use Rattle.sms_book.proofs.steps.keep.Goals as goal
+
+pub join_seat-requires : goal.join_seat-requires
+join_seat-requires c =
+    let b = c.requires.book in
+    let s = c.requires.holder in
+    let keeper = c.into_seat-keeper.ensures in
+    let theirs = c.into_seat-theirs.ensures in
+    let was = ap (λ (x : _). x.views) c.replace.ensures.value in
+    let was' = ap (λ (x : _). x.views) c.replace-2.ensures.value in
+    (search rules, search rules, theirs.3, c.requires.table.2, joins_as _ _ s.0 b.0 s.1 _ _ (same_view _ _ _ (sym was ∙ keeper.2) b.1) (same_view _ _ _ (sym was' ∙ theirs.2) s.2))
+
+pub load-requires : goal.load-requires
+load-requires c =
+    let b = c.requires.book in
+    let s = c.requires.holder in
+    let keeper = c.into_seat-keeper.ensures in
+    let theirs = c.into_seat-theirs.ensures in
+    let was = ap (λ (x : _). x.views) c.replace.ensures.value in
+    let was' = ap (λ (x : _). x.views) c.replace-2.ensures.value in
+    let v = same_view _ _ _ (sym was ∙ keeper.2) b.1 in
+    let w = same_view _ _ _ (sym was' ∙ theirs.2) s.2 in
+    (search rules, c.requires.table.2, keeps_told_as _ _ 0 _ b.0 s.0 s.1 (ap (λ m. m.0) c.join_seat.ensures.2 ∙ (λ i. lent (v i) (w i))) (ap (λ m. m.1) c.join_seat.ensures.2 ∙ keeper.3))

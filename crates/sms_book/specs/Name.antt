@@ -1,0 +1,17 @@
+-- Which book it is: its table, and how many accounts and workers it has.
+use Rattle.std.specs.Prelude.{ℕ, List, []}
+use Rattle.atomic_table.specs.Seated.{TableId}
+
+pub record BookId : Type 0 where
+  pub table : TableId
+  pub accounts : ℕ
+  pub workers : ℕ
+
+-- the name of no book
+abbrev pub no_book : BookId
+no_book = record { table = record { words = 0; slots = 0; views_name = 0; atom = 0; block = 0; offset = 0; slot_names = [] }; accounts = 0; workers = 0 }
+
+-- a book that isn't open yet, as contracts see it: its name, and each account's credits
+pub record Unopened : Type 0 where
+  pub book : BookId
+  pub credits : List ℕ

@@ -1,0 +1,42 @@
+//! A worker's share of a book.
+ghost use Rattle.std.specs.Prelude.{◌≡◌};
+ghost use Rattle.sms_book.specs.Portions.{amounts_at};
+
+use crate::amounts::Amounts;
+use crate::name::BookName;
+use crate::rule::View;
+use atomic_table::Badge;
+use std::marker::{Model, PhantomData};
+
+/// What one worker moved in the book of that name. Contracts see its amounts, by account.
+#[derive(Drop)]
+pub struct Shares<N: BookName> {
+    pub(crate) amounts: Vec<Amounts>,
+    pub(crate) seat: Badge<View>,
+    pub(crate) of: PhantomData<N>,
+}
+
+impl<N: BookName> Model for Shares<N> {
+    ghost use Rattle.std.specs.Prelude.{◌≡◌, ℕ, List, [], ◌∷◌, length, map};
+    ghost use Rattle.sms_book.specs.declared.amounts.Amounts.{Amounts};
+    ghost use Rattle.sms_book.specs.declared.rule.View.TheVariants.{Holder};
+    ghost use Rattle.sms_book.specs.Portions.{of_worker};
+
+    ghost Value = { List Amounts };
+
+    ghost view = { λ s. s.amounts.items };
+
+    ghost invariant = { λ s. (s.seat.table_id ≡ N.book.table) × (length s.amounts.items ≡ N.book.accounts) × ((k : ℕ) × (s.seat.views ≡ Holder k (map of_worker s.amounts.items) ∷ [])) };
+}
+
+impl<N: BookName> Shares<N> {
+    /// The credits of an account that this share holds reserved; 0 where there is no such account.
+    pub fn reserved(&self, account: usize) -> u64
+        ensures { result ≡ (amounts_at self.now account).reserved }
+    {
+        match self.amounts.get(account) {
+            Some(amounts) => amounts.reserved,
+            None => 0,
+        }
+    }
+}

@@ -1,0 +1,27 @@
+//! The cashier's share of a book.
+
+use crate::name::BookName;
+use crate::rule::View;
+use atomic_table::Badge;
+use std::marker::{Model, PhantomData};
+
+/// The cashier's share of the book of that name, through which accounts are topped up. Contracts see the credits that
+/// went through it, by account, the opening credits among them.
+#[derive(Drop)]
+pub struct Till<N: BookName> {
+    pub(crate) topped: Vec<u64>,
+    pub(crate) seat: Badge<View>,
+    pub(crate) of: PhantomData<N>,
+}
+
+impl<N: BookName> Model for Till<N> {
+    ghost use Rattle.std.specs.Prelude.{◌≡◌, ℕ, List, [], ◌∷◌, length, map};
+    ghost use Rattle.sms_book.specs.declared.rule.View.TheVariants.{Holder};
+    ghost use Rattle.sms_book.specs.Portions.{of_till};
+
+    ghost Value = { List ℕ };
+
+    ghost view = { λ t. t.topped.items };
+
+    ghost invariant = { λ t. (t.seat.table_id ≡ N.book.table) × (length t.topped.items ≡ N.book.accounts) × ((k : ℕ) × (t.seat.views ≡ Holder k (map of_till t.topped.items) ∷ [])) };
+}
