@@ -1,8 +1,8 @@
 -- A body that is read is the body that was spelled, and what was spelled is read again.
-use Rattle.std.proofs.Common.{◌≡◌, ◌≢◌, ℕ, zero, suc, ◌+◌, ◌^◌, ◌<◌, ◌≤◌, Bool, true, false, cond, ltb, eqb, List, [], ◌∷◌, ◌++◌, length, get_or, take, drop, Option, Some, None, Result, Ok, Err, refl, sym, ap, subst, ◌∙◌, append_assoc, arith, inl, inr, ◌⊎◌}
+use Rattle.std.proofs.Common.{◌≡◌, ◌≢◌, ℕ, zero, suc, ◌<◌, Bool, true, false, ltb, eqb, List, [], ◌∷◌, ◌++◌, length, drop, Option, Some, None, Result, Ok, refl, sym, ap, subst, ◌∙◌, arith, inl, inr, ◌⊎◌}
 use Rattle.std.specs.Prelude.{◌&&◌}
-use Rattle.std.proofs.lemmas.Bool.{cases_lt, ltb-false, ltb-true, le-ltb, lt-ltb, eqb-true}
-use Rattle.std.proofs.lemmas.List.{append-nil, nil_from_length, length-append, drop_at}
+use Rattle.std.proofs.lemmas.Bool.{ltb-true, lt-ltb, eqb-true}
+use Rattle.std.proofs.lemmas.List.{append-nil, nil_from_length, drop_at}
 use Rattle.sms_pdu.specs.declared.field.Field.TheVariants as fields
 use Rattle.sms_pdu.specs.declared.error.PduError.{PduError}
 use Rattle.sms_pdu.specs.declared.error.PduError.TheVariants as errors
@@ -14,11 +14,11 @@ use Rattle.sms_pdu.specs.declared.body.Sm.{Sm}
 use Rattle.sms_pdu.specs.declared.body.Body.{Body}
 use Rattle.sms_pdu.specs.declared.body.Body.TheVariants as body
 use Rattle.sms_pdu.specs.declared.parameter.Parameter.{Parameter}
-use Rattle.sms_pdu.specs.Layout.{Values, spellings, AllFit, bind_fields, bind_resp_fields, sm_fields, sm_resp_fields, parameters_spelling, ParametersFit}
+use Rattle.sms_pdu.specs.Layout.{Values, spellings, AllFit, bind_fields, bind_resp_fields, sm_fields, sm_resp_fields, parameters_spelling}
 use Rattle.sms_pdu.specs.Grammar.{sm_values, sm_spelling, SmFits, bind_command, bind_resp_command, command_in, bind_resp_spelling, sm_resp_spelling, body_spelling, BindRespFits, SmRespFits, BodyFits}
 use Rattle.sms_pdu.specs.Reading.{◌>>=◌, values_at, parameters_at, ended, bare_at, bind_of, sm_of, bind_at, sm_at, is_absent, bind_resp_at, message_id_at, body_at}
-use Rattle.sms_pdu.proofs.Parameters.{bind_ok, guard_ok, guard_then, ok_is}
-use Rattle.sms_pdu.proofs.Values.{Takes, guard_ended, values_take, values_again, filled_test}
+use Rattle.sms_pdu.proofs.Parameters.{bind_ok, ok_is}
+use Rattle.sms_pdu.proofs.Values.{guard_ended, values_take, values_again, filled_test}
 use Rattle.sms_pdu.proofs.ParameterTexts.{IsOctets, IsOctets-drop, parameters_take, parameters_again}
 
 -- what was read, and of which command and status

@@ -1,11 +1,10 @@
 -- A parameter that is read is the parameter that was spelled, and what was spelled is read again.
-use Rattle.std.proofs.Common.{◌≡◌, ℕ, zero, suc, ◌+◌, ◌^◌, ◌<◌, ◌≤◌, Bool, true, false, cond, ltb, List, [], ◌∷◌, ◌++◌, length, get_or, take, drop, Result, Ok, Err, refl, sym, ap, subst, ◌∙◌, append_assoc, arith, inl, inr}
+use Rattle.std.proofs.Common.{◌≡◌, ℕ, zero, suc, ◌+◌, ◌^◌, ◌<◌, ◌≤◌, false, ltb, List, [], ◌∷◌, ◌++◌, length, get_or, take, drop, Ok, refl, sym, ap, subst, ◌∙◌, append_assoc, arith, inl, inr}
 use Rattle.std.specs.Int.{w16, from_be_bytes, to_be_bytes}
 use Rattle.std.proofs.lemmas.Bool.{cases_lt, ltb-false, le-ltb}
 use Rattle.std.proofs.lemmas.List.{take_at, drop_at, take-append-drop, length-append, length-take, length-drop, get_or-drop, get_or-take, get_or_past, drop-drop}
 use Rattle.std.proofs.lemmas.Nat.{be_bytes_2, from_be_bytes-to_be_bytes_2}
 use Rattle.sms_pdu.specs.declared.field.Field.TheVariants as fields
-use Rattle.sms_pdu.specs.declared.error.PduError.{PduError}
 use Rattle.sms_pdu.specs.declared.error.PduError.TheVariants as errors
 use Rattle.sms_pdu.specs.declared.parameter.Parameter.{Parameter}
 use Rattle.sms_pdu.specs.Layout.{parameter_spelling, ParameterFits, parameters_spelling, ParametersFit}

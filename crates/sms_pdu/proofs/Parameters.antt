@@ -1,11 +1,11 @@
 -- Reading parameters one after the other, as a loop does.
-use Rattle.std.proofs.Common.{◌≡◌, ℕ, zero, suc, ◌+◌, ◌-◌, ◌<◌, ◌≤◌, Bool, true, false, cond, ltb, eqb, List, [], ◌∷◌, ◌++◌, length, take, drop, Result, Ok, Err, refl, sym, ap, ◌∙◌, append_assoc, arith}
+use Rattle.std.proofs.Common.{◌≡◌, ℕ, zero, suc, ◌+◌, ◌-◌, ◌<◌, ◌≤◌, Bool, true, false, cond, ltb, eqb, List, [], ◌∷◌, ◌++◌, length, Result, Ok, Err, refl, sym, ap, ◌∙◌, append_assoc, arith}
 use Rattle.std.proofs.lemmas.Bool.{eqb-true}
 use Rattle.std.proofs.lemmas.List.{append-nil, length-drop}
 use Rattle.sms_pdu.specs.declared.error.PduError.{PduError}
 use Rattle.sms_pdu.specs.declared.error.PduError.TheVariants as errors
 use Rattle.sms_pdu.specs.declared.parameter.Parameter.{Parameter}
-use Rattle.sms_pdu.specs.Reading.{◌>>=◌, Fails, valued, parameter_at, parameters_within}
+use Rattle.sms_pdu.specs.Reading.{◌>>=◌, Fails, parameter_at, parameters_within}
 
 -- the value of a step that did not fail
 pub bind_ok : {A B : Type 0} (r : Result A PduError) (f : A → Result B PduError) (y : B) → (r >>= f) ≡ Ok y → (x : A) × (r ≡ Ok x) × (f x ≡ Ok y)

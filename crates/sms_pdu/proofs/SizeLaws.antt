@@ -1,23 +1,22 @@
 -- A PDU has a size exactly where it has a spelling, and the size is the spelling's length.
-use Rattle.std.proofs.Common.{◌≡◌, ◌≢◌, ℕ, zero, suc, ◌+◌, ◌^◌, ◌<◌, ◌≤◌, ◌⊎◌, Bool, true, false, cond, ltb, leb, eqb, List, [], ◌∷◌, ◌++◌, length, get_or, take, drop, Option, Some, None, Result, Ok, Err, refl, sym, ap, subst, ◌∙◌, append_assoc, add-one, arith, inl, inr}
-use Rattle.std.specs.Prelude.{position, ◌||◌, ◌&&◌}
-use Rattle.std.specs.List.{AllByRecursion, position_from, list_all}
-use Rattle.std.proofs.lemmas.Bool.{ltb-false, ltb-true, le-ltb, lt-ltb, eqb-true, eqb-false, eq-eqb, leb-true, le-leb}
-use Rattle.std.proofs.lemmas.List.{length-append, append-nil}
+use Rattle.std.proofs.Common.{◌≡◌, ◌≢◌, ℕ, ◌+◌, ◌^◌, ◌<◌, ◌≤◌, ◌⊎◌, true, false, cond, ltb, leb, eqb, List, [], ◌∷◌, ◌++◌, length, Option, Some, None, Result, Ok, Err, refl, sym, ap, ◌∙◌, arith, inl, inr}
+use Rattle.std.specs.Prelude.{position, ◌||◌}
+use Rattle.std.specs.List.{position_from}
+use Rattle.std.proofs.lemmas.Bool.{ltb-true, lt-ltb, eqb-true, eqb-false, leb-true, le-leb}
+use Rattle.std.proofs.lemmas.List.{length-append}
 use Rattle.std.proofs.lemmas.Iterator.Adapters.{position_from-zero}
 use Rattle.sms_pdu.specs.declared.field.Field.{Field}
 use Rattle.sms_pdu.specs.declared.field.Field.TheVariants as fields
 use Rattle.sms_pdu.specs.declared.error.PduError.{PduError}
 use Rattle.sms_pdu.specs.declared.error.PduError.TheVariants as errors
 use Rattle.sms_pdu.specs.declared.parameter.Parameter.{Parameter}
-use Rattle.sms_pdu.specs.declared.body.Pdu.{Pdu}
 use Rattle.sms_pdu.specs.declared.body.Sm.{Sm}
 use Rattle.sms_pdu.specs.declared.body.Body.{Body}
 use Rattle.sms_pdu.specs.declared.body.Body.TheVariants as body
-use Rattle.sms_pdu.specs.Layout.{Kind, Number, Text, Time, Message, Row, Value, Values, spelling, spellings, HasNoZero, Fits, AllFit, bind_fields, bind_resp_fields, sm_fields, sm_resp_fields, parameters_spelling, ParameterFits, ParametersFit}
+use Rattle.sms_pdu.specs.Layout.{Kind, Number, Text, Time, Message, Row, Value, Values, spelling, spellings, HasNoZero, Fits, AllFit, bind_fields, sm_fields, parameters_spelling, ParametersFit}
 use Rattle.sms_pdu.specs.Grammar.{sm_values, sm_spelling, SmFits, bind_resp_spelling, sm_resp_spelling, body_spelling, BindRespFits, SmRespFits, BodyFits}
 use Rattle.sms_pdu.specs.Reading.{◌>>=◌}
-use Rattle.sms_pdu.specs.Size.{without_zero, text_size, time_size, message_size, value_size, values_size, parameters_fit, parameters_checked, whole_size, tail_size, sm_size, absent_size, bind_resp_size, message_id_size, bind_size, body_size, size_of}
+use Rattle.sms_pdu.specs.Size.{without_zero, text_size, time_size, message_size, value_size, values_size, parameters_fit, parameters_checked, whole_size, tail_size, sm_size, absent_size, bind_resp_size, message_id_size, bind_size, body_size}
 use Rattle.sms_pdu.specs.Writing.{SmWritable, RespWritable, Writable, RespFit, TagsFit}
 use Rattle.sms_pdu.proofs.Parameters.{bind_ok, guard_ok, guard_then, ok_is}
 use Rattle.sms_pdu.proofs.Values.{zero_test, bool_cases, ne_test, guard_ended, or_true}
@@ -63,7 +62,7 @@ time_sized f text n e =
     let b = bind_ok (text_size f 17 text) (λ size. cond (eqb size 1 || eqb size 17) (Ok size) (Err (errors.Malformed f))) n e in
     let t = text_sized f 17 text b.0 b.1 in
     let g = guard_ended (eqb b.0 1 || eqb b.0 17) (errors.Malformed f) b.0 n b.2 in
-    let which : (length text ≡ 0) ⊎ (length text ≡ 16) = elim (or_true _ _ g.0) [ inl none ↦ inl (omega (arith, eqb-true b.0 1 none, t.0)) | inr full ↦ inr (omega (arith, eqb-true b.0 17 full, t.0)) ] in
+    let which : (length text ≡ 0) ⊎ (length text ≡ 16) = elim (or_true (eqb b.0 1) (eqb b.0 17) g.0) [ inl none ↦ inl (omega (arith, eqb-true b.0 1 none, t.0)) | inr full ↦ inr (omega (arith, eqb-true b.0 17 full, t.0)) ] in
     (omega (arith, g.1, t.0), t.1, which)
 
 time_test : (n : ℕ) → (n ≡ 0) ⊎ (n ≡ 16) → ((eqb (n + 1) 1 || eqb (n + 1) 17) ≡ true) × (n < 17)

@@ -1,5 +1,5 @@
 -- Laws about the spellings of PDUs.
-use Rattle.std.proofs.Common.{◌≡◌, ℕ, ◌+◌, ◌≤◌, List, [], ◌++◌, length, refl, sym, ap, ◌∙◌, arith}
+use Rattle.std.proofs.Common.{◌≡◌, ◌≤◌, ◌++◌, length, sym, ◌∙◌, arith}
 use Rattle.std.proofs.lemmas.List.{length-append, nil_from_length}
 use Rattle.sms_pdu.specs.Laws.{OneSpelling, OneReading, NoPrefix, SpellingIsFrame}
 use Rattle.sms_pdu.proofs.Parameters.{ok_is}

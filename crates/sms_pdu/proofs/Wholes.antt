@@ -1,5 +1,5 @@
 -- A PDU that is read is the PDU that was spelled, and what was spelled is read again.
-use Rattle.std.proofs.Common.{◌≡◌, ◌≢◌, ℕ, zero, suc, ◌+◌, ◌^◌, ◌<◌, ◌≤◌, ◌⊎◌, Bool, true, false, cond, ltb, leb, eqb, List, [], ◌∷◌, ◌++◌, length, get_or, take, drop, Option, Some, None, Result, Ok, Err, refl, sym, ap, subst, ◌∙◌, append_assoc, arith, inl, inr}
+use Rattle.std.proofs.Common.{◌≡◌, ℕ, ◌+◌, ◌^◌, ◌<◌, ◌≤◌, Bool, true, false, cond, ltb, leb, eqb, List, [], ◌∷◌, ◌++◌, length, take, drop, Option, Some, None, Result, Ok, Err, refl, sym, ap, subst, ◌∙◌, append_assoc, arith, inl, inr}
 use Rattle.std.specs.Prelude.{◌&&◌, IfOk, find}
 use Rattle.std.specs.Int.{w32, from_be_bytes, to_be_bytes}
 use Rattle.std.proofs.lemmas.Bool.{ltb-false, le-ltb, eqb-true, eq-eqb, leb-true, le-leb}
@@ -13,7 +13,7 @@ use Rattle.sms_pdu.specs.declared.body.Pdu.{Pdu}
 use Rattle.sms_pdu.specs.declared.body.Body.{Body}
 use Rattle.sms_pdu.specs.Header.{number_at}
 use Rattle.sms_pdu.specs.Command.{id_of, commands, command_of}
-use Rattle.sms_pdu.specs.Grammar.{command_in, body_spelling, BodyFits, spelling_of, Spells}
+use Rattle.sms_pdu.specs.Grammar.{command_in, body_spelling, spelling_of, Spells}
 use Rattle.sms_pdu.specs.Reading.{◌>>=◌, Gives, body_at, body_by, reading}
 use Rattle.sms_pdu.proofs.Parameters.{bind_ok, guard_then, ok_is}
 use Rattle.sms_pdu.proofs.ParameterTexts.{IsOctets, IsOctets-drop, IsOctets-take}

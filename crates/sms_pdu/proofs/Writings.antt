@@ -1,10 +1,8 @@
 -- What is written is the spelling.
-use Rattle.std.proofs.Common.{◌≡◌, ◌≢◌, ℕ, zero, suc, ◌+◌, ◌^◌, ◌<◌, ◌≤◌, true, List, [], ◌∷◌, ◌++◌, length, get_or, take, drop, Option, Some, None, Result, Ok, Err, refl, sym, ap, subst, ◌∙◌, append_assoc, add-one, arith}
-use Rattle.std.specs.Prelude.{IfOk}
+use Rattle.std.proofs.Common.{◌≡◌, ℕ, zero, suc, ◌+◌, ◌^◌, ◌<◌, ◌≤◌, true, List, [], ◌∷◌, ◌++◌, length, get_or, take, Option, Some, None, Result, Ok, refl, sym, ap, subst, ◌∙◌, append_assoc, add-one, arith}
 use Rattle.std.specs.Int.{w32, to_be_bytes}
-use Rattle.std.specs.Global.{Vec}
 use Rattle.std.proofs.lemmas.Bool.{ltb-true}
-use Rattle.std.proofs.lemmas.List.{length-append, append-nil}
+use Rattle.std.proofs.lemmas.List.{append-nil}
 use Rattle.sms_pdu.specs.declared.error.PduError.{PduError}
 use Rattle.sms_pdu.specs.declared.error.PduError.TheVariants as errors
 use Rattle.sms_pdu.specs.declared.parameter.Parameter.{Parameter}
@@ -14,12 +12,12 @@ use Rattle.sms_pdu.specs.declared.body.Body.{Body}
 use Rattle.sms_pdu.specs.declared.body.Body.TheVariants as body
 use Rattle.sms_pdu.specs.Command.{id_of}
 use Rattle.sms_pdu.specs.Layout.{Row, Values, spelling, spellings, bind_fields, sm_fields, parameter_spelling, parameters_spelling, ParameterFits, ParametersFit}
-use Rattle.sms_pdu.specs.Grammar.{sm_values, sm_spelling, bind_resp_spelling, sm_resp_spelling, body_spelling, command_in, spelling_of, BodyFits, Spells}
+use Rattle.sms_pdu.specs.Grammar.{sm_values, sm_spelling, bind_resp_spelling, sm_resp_spelling, body_spelling, command_in, spelling_of, Spells}
 use Rattle.sms_pdu.specs.Reading.{Fails}
-use Rattle.sms_pdu.specs.Size.{parameters_fit, body_size, size_of}
+use Rattle.sms_pdu.specs.Size.{parameters_fit, size_of}
 use Rattle.sms_pdu.specs.Writing.{written, sm_written, bind_resp_written, sm_resp_written, body_written, pdu_written, TagsFit}
 use Rattle.sms_pdu.proofs.Bodies.{both_true}
-use Rattle.sms_pdu.proofs.SizeLaws.{Sized, body_sized, body_size_is}
+use Rattle.sms_pdu.proofs.SizeLaws.{body_sized, body_size_is}
 
 -- ---- parameters, one after the other
 

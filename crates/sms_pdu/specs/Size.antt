@@ -1,5 +1,5 @@
 -- The length of a PDU's spelling, or its first fault: fields from left to right, then the whole.
-use Rattle.std.specs.Prelude.{◌≡◌, ℕ, ◌+◌, ◌^◌, List, [], ◌∷◌, ◌++◌, length, position, Bool, true, false, Option, Some, None, Result, Ok, Err, nat_lt, nat_le, ◌==◌, ◌||◌, if◌then◌else◌}
+use Rattle.std.specs.Prelude.{ℕ, ◌+◌, ◌^◌, List, [], ◌∷◌, length, position, Bool, Option, Some, None, Result, Ok, Err, nat_lt, nat_le, ◌==◌, ◌||◌, if◌then◌else◌}
 use Rattle.std.specs.List.{list_all}
 use Rattle.sms_pdu.specs.declared.field.Field.{Field}
 use Rattle.sms_pdu.specs.declared.field.Field.TheVariants as fields
@@ -10,7 +10,7 @@ use Rattle.sms_pdu.specs.declared.body.Sm.{Sm}
 use Rattle.sms_pdu.specs.declared.body.Body.{Body}
 use Rattle.sms_pdu.specs.declared.body.Body.TheVariants.{Bind, BindResp, Submit, Deliver, SubmitResp, DeliverResp, Unbind, UnbindResp, EnquireLink, EnquireLinkResp, GenericNack}
 use Rattle.sms_pdu.specs.declared.parameter.Parameter.{Parameter}
-use Rattle.sms_pdu.specs.Layout.{Kind, Number, Text, Time, Message, Row, Value, Values, bind_fields, bind_resp_fields, sm_fields, sm_resp_fields, parameters_spelling}
+use Rattle.sms_pdu.specs.Layout.{Kind, Number, Text, Time, Message, Row, Value, Values, bind_fields, sm_fields, parameters_spelling}
 use Rattle.sms_pdu.specs.Grammar.{sm_values}
 use Rattle.sms_pdu.specs.Reading.{◌>>=◌}
 

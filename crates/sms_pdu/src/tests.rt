@@ -69,3 +69,54 @@ fn a_bad_length_ends_the_stream(rt: HostRuntime) -> Result<(), Fail> {
     assert_eq!(rt; fed.fault, Some(FrameFault::BadLength));
     Ok(())
 }
+
+#[test]
+fn refusals(rt: HostRuntime) -> Result<(), Fail> {
+    let malformed = |field| Some(PduError::Malformed { field });
+    let table: [(&[u8], Option<PduError>); 6] = [
+        (&ENQUIRE_LINK[..15], Some(PduError::Short)),
+        (&SUBMIT[..51], Some(PduError::BadLength)),
+        (
+            b"\x00\x00\x00\x11\x00\x00\x00\x15\x00\x00\x00\x00\x00\x00\x00\x02\x00",
+            malformed(Field::Rest),
+        ),
+        (
+            b"\x00\x00\x00\x10\x00\x00\x01\x03\x00\x00\x00\x00\x00\x00\x00\x09",
+            Some(PduError::UnknownCommand),
+        ),
+        (
+            b"\x00\x00\x00\x10\x80\x00\x00\x04\x00\x00\x00\x00\x00\x00\x00\x03",
+            malformed(Field::MessageId),
+        ),
+        (
+            b"\x00\x00\x00\x18\x00\x00\x00\x04\x00\x00\x00\x00\x00\x00\x00\x03service\x00",
+            Some(PduError::TooLong {
+                field: Field::ServiceType,
+            }),
+        ),
+    ];
+    for (octets, error) in table {
+        assert_eq!(rt; decode(rt.alloc(), octets).err(), error);
+    }
+    let text = |octets: &[u8]| Octets::copy(rt.alloc(), octets);
+    let bind = Pdu {
+        status: 0,
+        number: 1,
+        body: Body::Bind {
+            mode: Mode::Transmitter,
+            system_id: text(b"sixteen letters!")?,
+            password: text(b"pw")?,
+            system_type: text(b"")?,
+            interface_version: 0x34,
+            addr_ton: 0,
+            addr_npi: 0,
+            address_range: text(b"")?,
+        },
+    };
+    let field = Field::SystemId;
+    assert_eq!(rt;
+        encode(rt.alloc(), &bind).err(),
+        Some(PduError::TooLong { field })
+    );
+    Ok(())
+}

@@ -1,5 +1,5 @@
-use Rattle.std.proofs.Common.{subst, arith, sym}
-use Rattle.sms_pdu.specs.Reading.{Gives, reading}
+use Rattle.std.proofs.Common.{subst, arith}
+use Rattle.sms_pdu.specs.Reading.{Gives}
 use Rattle.sms_pdu.proofs.Wholes.{is_found, reading_again}
 use Rattle.sms_pdu.proofs.decoding.decode.Goals as goal
 

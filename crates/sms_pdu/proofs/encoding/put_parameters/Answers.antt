@@ -1,4 +1,4 @@
-use Rattle.std.proofs.Common.{◌≡◌, ◌++◌, ◌∙◌, sym, ap, subst, append_assoc, List, ℕ}
+use Rattle.std.proofs.Common.{◌++◌, ◌∙◌, sym, ap, subst, append_assoc, List, ℕ}
 use Rattle.sms_pdu.specs.declared.parameter.Parameter.{Parameter}
 use Rattle.sms_pdu.specs.Layout.{parameter_spelling, parameters_spelling, ParametersFit}
 use Rattle.sms_pdu.proofs.Writings.{spelling-take-more, fit-take-more, take-all, value_fits_at}

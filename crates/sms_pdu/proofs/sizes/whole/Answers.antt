@@ -1,5 +1,5 @@
-use Rattle.std.proofs.Common.{◌≡◌, ◌+◌, ◌<◌, ◌≤◌, length, take, arith, ◌∙◌, sym}
-use Rattle.sms_pdu.proofs.Lengths.{sized, sized-take-more, sized-take-le, sized-take-all, whole_fits, whole_too_long}
+use Rattle.std.proofs.Common.{◌+◌, ◌<◌, arith}
+use Rattle.sms_pdu.proofs.Lengths.{sized-take-more, sized-take-le, sized-take-all, whole_fits, whole_too_long}
 use Rattle.sms_pdu.proofs.sizes.whole.Goals as goal
 use Rattle.sms_pdu.proofs.sizes.whole.Goals.{then-len-gt70000-via-then-len-gt70000, then-len-gt70000-via-else-len-gt70000+then-size-len-gt70000}
 
