@@ -120,3 +120,56 @@ fn refusals(rt: HostRuntime) -> Result<(), Fail> {
     );
     Ok(())
 }
+
+// Frames of each kind of body, one after another, as chapter 4 of SMPP 3.4 lays them out: submit_sm, enquire_link and its
+// response, submit_sm_resp without and with a message_id, deliver_sm_resp, bind_transmitter, bind_transceiver_resp with a
+// parameter, bind_transmitter_resp without a body, unbind, generic_nack.
+static LAYOUTS: &[u8; 239] =
+    b"\x00\x00\x00\x34\x00\x00\x00\x04\x00\x00\x00\x00\x00\x00\x00\x02\x00\x01\x0112345\x00\x01\x01447700900123\x00\x00\x00\x00\x00\x00\x00\x00\x00\x00\x02Hi\x00\x00\x00\x10\x00\x00\x00\x15\x00\x00\x00\x00\x00\x00\x00\x02\x00\x00\x00\x10\x80\x00\x00\x15\x00\x00\x00\x00\x00\x00\x00\x02\x00\x00\x00\x10\x80\x00\x00\x04\x00\x00\x00\x58\x00\x00\x00\x03\x00\x00\x00\x11\x80\x00\x00\x04\x00\x00\x00\x58\x00\x00\x00\x03\x00\x00\x00\x00\x13\x80\x00\x00\x05\x00\x00\x00\x00\x00\x00\x00\x03m1\x00\x00\x00\x00\x1d\x00\x00\x00\x02\x00\x00\x00\x00\x00\x00\x00\x01esme\x00pw\x00\x00\x34\x00\x00\x00\x00\x00\x00\x1a\x80\x00\x00\x09\x00\x00\x00\x00\x00\x00\x00\x01TEST\x00\x02\x10\x00\x01\x34\x00\x00\x00\x10\x80\x00\x00\x02\x00\x00\x00\x0e\x00\x00\x00\x01\x00\x00\x00\x10\x80\x00\x00\x06\x00\x00\x00\x00\x00\x00\x00\x01\x00\x00\x00\x10\x80\x00\x00\x00\x00\x00\x00\x03\x00\x00\x00\x00";
+
+#[test]
+fn layouts_both_ways(rt: HostRuntime) -> Result<(), Fail> {
+    let fed = Framer::new(rt.alloc()).feed(LAYOUTS)?;
+    assert_eq!(rt; fed.frames.as_slice().len(), 11);
+    for frame in fed.frames.as_slice() {
+        let pdu = decode(rt.alloc(), frame.octets.as_slice())?;
+        let octets = encode(rt.alloc(), &pdu)?;
+        assert_eq!(rt; octets.as_slice(), frame.octets.as_slice());
+    }
+    Ok(())
+}
+
+#[test]
+fn fields_of_a_submit_sm(rt: HostRuntime) -> Result<(), Fail> {
+    let pdu = decode(rt.alloc(), SUBMIT)?;
+    assert_eq!(rt; (pdu.status, pdu.number), (0, 2));
+    let Body::Submit(sm) = pdu.body else {
+        return Err("a submit_sm".into());
+    };
+    assert_eq!(rt; sm.source_addr.as_slice(), b"12345".as_slice());
+    assert_eq!(rt; sm.dest_addr.as_slice(), b"447700900123".as_slice());
+    assert_eq!(rt; (sm.source_ton, sm.dest_npi, sm.data_coding), (1, 1, 0));
+    assert_eq!(rt; sm.short_message.as_slice(), b"Hi".as_slice());
+    Ok(())
+}
+
+// Each change of one octet of a frame is refused, or read as what it spells.
+#[test]
+fn changed_octets(rt: HostRuntime) -> Result<(), Fail> {
+    let fed = Framer::new(rt.alloc()).feed(LAYOUTS)?;
+    for frame in fed.frames.as_slice() {
+        let mut octets = Vec::from_slice(rt.alloc(), frame.octets.as_slice())?;
+        for place in 0..octets.len() {
+            for _ in 0..=255u8 {
+                if let Some(octet) = octets.get_mut(place) {
+                    *octet = octet.wrapping_add(1);
+                }
+                if let Ok(pdu) = decode(rt.alloc(), octets.as_slice()) {
+                    let again = encode(rt.alloc(), &pdu)?;
+                    assert_eq!(rt; again.as_slice(), octets.as_slice());
+                }
+            }
+        }
+    }
+    Ok(())
+}

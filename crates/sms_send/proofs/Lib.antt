@@ -1,0 +1,11 @@
+pub mod Digits
+pub mod Left
+pub mod Events
+pub mod Lines
+pub mod Jobs
+pub mod Below
+pub mod Schedules
+pub mod Accounts
+pub mod Replaying
+pub mod MessageRecords
+pub mod Plans

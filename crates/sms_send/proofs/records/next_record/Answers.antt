@@ -1,0 +1,8 @@
+use Rattle.csv.specs.Records.{fields_of}
+use Rattle.sms_send.proofs.Left.{first-left}
+use Rattle.sms_send.proofs.records.next_record.Goals as goal
+
+pub returns-in-Ok-clause-first : goal.returns-in-Ok-clause-first
+returns-in-Ok-clause-first g c =
+    first-left g.R.Read.remaining c.args.reader.now c.read_byte_record.new.self c.in-Ok.found (fields_of c.read_byte_record.new.row) c.requires.0
+    (c.in-Ok.ensures.reads c.requires.1 c.requires.2)

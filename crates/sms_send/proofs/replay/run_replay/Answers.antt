@@ -1,0 +1,25 @@
+use Rattle.std.proofs.Common.{rules, arith, refl, ap, sym, ◌≡◌, ◌∙◌, List}
+use Rattle.std.specs.Prelude.{string_bytes}
+use Rattle.csv.proofs.ReadFacts.{on-ok}
+use Rattle.sms_core.specs.declared.event.Step.{Step}
+use Rattle.sms_send.specs.Text.{replay_text}
+use Rattle.sms_send.proofs.Accounts.{runs-keep}
+use Rattle.sms_send.proofs.Replaying.{replayed}
+use Rattle.sms_send.proofs.replay.run_replay.Goals as goal
+
+pub replay_text-requires : goal.replay_text-requires
+replay_text-requires g c =
+    let keep = runs-keep c.in_ok-world.field-0.world c.run.new.self c.as_slice.result.now c.in_ok-answers.answers.items c.in_ok-answers.ensures.runs in
+    let few = c.in_ok-world.ensures.few in
+    omega (arith, keep, few)
+
+pub returns-clause-replayed : goal.returns-clause-replayed
+returns-clause-replayed g c =
+    let events : c.as_slice.result.now ≡ c.in_ok-world.field-0.events.items = c.as_slice.ensures.value in
+    let bytes : c.as_bytes.result.now ≡ string_bytes c.in_ok-text.text = search rules in
+    let text : string_bytes c.in_ok-text.text ≡ replay_text c.in_ok-answers.answers.items c.run.new.self =
+    c.in_ok-text.ensures ∙ ap (λ (a : List Step). replay_text a c.run.new.self) c.as_slice-2.ensures.value in
+    let wrote = on-ok c.write_all.result (sym c.is_err.ensures.value ∙ c.if-is_err.false) c.write_all.ensures.bytes in
+    replayed (g.R.Read.remaining c.args.input) (g.W.Write.contents c.args.output.now) (g.W.Write.contents c.write_all.new.self) (g.W.Write.contents c.flush.new.self)
+    c.in_ok-world.field-0.world c.in_ok-world.field-0.world c.run.new.self c.in_ok-world.field-0.events.items c.as_slice.result.now c.in_ok-answers.answers.items c.as_bytes.result.now
+    c.in_ok-world.ensures.schedule refl events c.in_ok-answers.ensures.runs (bytes ∙ text) wrote c.flush.ensures.bytes

@@ -1,0 +1,9 @@
+pub mod Fields
+pub mod Records
+pub mod Schedule
+pub mod Text
+pub mod Messages
+pub mod PlanText
+pub mod Faults
+pub mod CommandLine
+pub mod Replays

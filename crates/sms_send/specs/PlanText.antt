@@ -1,0 +1,83 @@
+-- What plan prints: how the text of each message is coded and cut.
+use Rattle.std.specs.Prelude.{◌≡◌, ◌⊎◌, ℕ, ◌+◌, nat_le, List, [], ◌∷◌, ◌++◌, length, map, None, if◌then◌else◌, codes, decimal, flat_map, string_bytes}
+use Rattle.std.specs.Str.{chars}
+use Rattle.sms_alphabet.specs.declared.coded.Coded.{Coded}
+use Rattle.sms_alphabet.specs.declared.coded.Coding.{Coding}
+use Rattle.sms_alphabet.specs.declared.coded.Coding.TheVariants.{Gsm, Ucs2}
+use Rattle.sms_alphabet.specs.Spelling.{chosen}
+use Rattle.sms_segment.specs.declared.part.Part.{Part}
+use Rattle.sms_segment.specs.declared.place.Reference.TheVariants.{Short}
+use Rattle.sms_segment.specs.Message.{parts_of}
+use Rattle.sms_send.specs.declared.fault.Fault.{Fault}
+use Rattle.sms_send.specs.declared.fault.Fault.TheVariants.{Output}
+use Rattle.sms_send.specs.declared.messages.Message.{Message}
+use Rattle.sms_send.specs.Fields.{Field, Record}
+use Rattle.sms_send.specs.Messages.{TellsMessages, messages_fault}
+
+-- the most parts that a header can count
+abbrev pub most_parts : ℕ
+most_parts = 255
+
+abbrev pub coding_name : Coding → List ℕ
+coding_name Gsm = codes "gsm"
+coding_name Ucs2 = codes "ucs2"
+
+-- how many units each part has, a space before each
+abbrev pub size_texts : List Part → List ℕ
+size_texts parts = flat_map (λ (part : Part). codes " " ++ decimal (length part.units)) parts
+
+-- how many units each part has, joined by single spaces
+abbrev pub sizes_text : List Part → List ℕ
+sizes_text [] = []
+sizes_text (part ∷ parts) = decimal (length part.units) ++ size_texts parts
+
+-- the number of parts, and their sizes
+abbrev pub counted_text : List Part → List ℕ
+counted_text parts = decimal (length parts) ++ codes "," ++ sizes_text parts
+
+-- the same, where there are no more parts than a header can count
+abbrev pub parts_text : List Part → List ℕ
+parts_text parts = if nat_le (length parts) most_parts then counted_text parts else codes "0,too-long"
+
+-- what becomes of a coded text; the sizes are alike for every reference
+abbrev pub cutting_text : Coded → List ℕ
+cutting_text coded = parts_text (parts_of coded (Short 0))
+
+-- the line of the message at a place, counted from 0
+abbrev pub coded_line : ℕ → Coded → List ℕ
+coded_line index coded =
+    decimal index ++ codes "," ++ coding_name coded.coding ++ codes "," ++ decimal (length coded.units) ++ codes "," ++ cutting_text coded ++ codes "\n"
+
+-- the line of a text, by its coding
+unfoldable pub text_line : ℕ → List ℕ → List ℕ
+text_line index text = coded_line index (chosen (chars text))
+
+-- a line for each text, counted on from a place
+abbrev pub text_lines : ℕ → List (List ℕ) → List ℕ
+text_lines index [] = []
+text_lines index (text ∷ texts) = text_line index text ++ text_lines (index + 1) texts
+
+abbrev pub plan_text : List (List ℕ) → List ℕ
+plan_text texts = codes "message,coding,units,parts,sizes\n" ++ text_lines 0 texts
+
+-- the same of messages
+abbrev pub message_lines : ℕ → List Message → List ℕ
+message_lines index [] = []
+message_lines index (m ∷ ms) = text_line index (string_bytes m.text) ++ message_lines (index + 1) ms
+
+abbrev pub message_plan : List Message → List ℕ
+message_plan ms = codes "message,coding,units,parts,sizes\n" ++ message_lines 0 ms
+
+-- the text of a message's record
+abbrev pub text_of : Record → Field
+text_of (account ∷ (source ∷ (destination ∷ (text ∷ more)))) = text
+text_of fields = []
+
+-- what plan prints of a file's records, of which the first is the header
+abbrev pub plan_of : List Record → List ℕ
+plan_of [] = []
+plan_of (header ∷ rs) = plan_text (map text_of rs)
+
+-- the record that a fault names is the first faulty one; where the output failed, none was
+abbrev pub TellsPlan : List Record → Fault → Type 0
+TellsPlan rs f = TellsMessages rs f ⊎ ((f ≡ Output) × (messages_fault rs ≡ None))

@@ -1,0 +1,31 @@
+-- What a replay is: the world's steps over the events of the schedule that the input's bytes spell, printed.
+use Rattle.std.specs.Prelude.{◌≡◌, ℕ, List, Option, Some, None}
+use Rattle.std.specs.Io.KnownBytes.{Appends}
+use Rattle.sms_core.specs.declared.event.Event.{Event}
+use Rattle.sms_core.specs.declared.event.Step.{Step}
+use Rattle.sms_core.specs.Histories.{Runs}
+use Rattle.sms_core.specs.State.{State}
+use Rattle.sms_send.specs.Fields.{Record, records_of}
+use Rattle.sms_send.specs.Schedule.{AreSchedule, schedule_fault}
+use Rattle.sms_send.specs.Text.{replay_text}
+use Rattle.sms_send.specs.declared.fault.Fault.{Fault}
+use Rattle.sms_send.specs.declared.fault.Fault.TheVariants.{Words, Help, File, Unreadable, ScheduleRecord, MessagesRecord, Output, OutOfMemory}
+use Rattle.sms_send.specs.declared.fault.Source.TheVariants.{Schedule}
+
+-- the input spells a schedule, and the text of its events' answers and of the world after them was written and nothing else
+abbrev pub Replays : List ℕ → Option (List ℕ) → Option (List ℕ) → Type 0
+Replays bytes old new =
+    (begun : State) × (events : List Event) × (answers : List Step) × (ended : State)
+    × AreSchedule (records_of bytes) begun events × Runs begun events answers ended × Appends old new (replay_text answers ended)
+
+-- what a fault of a replay says of the input: a record that it names is the first that may not stand where it stands, and only the
+-- output of a schedule can fail
+abbrev pub TellsReplay : List Record → Fault → Type 0
+TellsReplay rs (ScheduleRecord place) = schedule_fault rs ≡ Some place
+TellsReplay rs Output = schedule_fault rs ≡ None
+TellsReplay rs (Unreadable source) = source ≡ Schedule
+TellsReplay rs OutOfMemory = Unit {0}
+TellsReplay rs Words = ⊥
+TellsReplay rs (Help text) = ⊥
+TellsReplay rs (File name) = ⊥
+TellsReplay rs (MessagesRecord place) = ⊥

@@ -1,0 +1,119 @@
+-- A schedule: a first record that sets a world up, and a record for each event.
+use Rattle.std.specs.Prelude.{◌≡◌, ◌≤◌, ◌⊎◌, ℕ, ◌+◌, ◌==◌, ◌&&◌, map, nat_le, Bool, List, [], ◌∷◌, length, Option, Some, None, is_some, option_map, option_and_then, if◌then◌else◌, codes}
+use Rattle.std.specs.Str.{bytes_eq}
+use Rattle.csv.specs.Records.{field_at}
+use Rattle.sms_core.specs.declared.event.Event.{Event}
+use Rattle.sms_core.specs.declared.event.Event.TheVariants.{TopUp, Reserve, Claim, Post, Respond, Settle, Expire, Discard, Release}
+use Rattle.sms_core.specs.declared.world.TheConstants.{SLOTS, MOST_ACCOUNTS, MOST_ATTEMPTS}
+use Rattle.sms_core.specs.State.{State, new_world}
+use Rattle.sms_send.specs.Fields.{Record, number_at}
+use Rattle.sms_send.specs.Faults.{IsDevice}
+use Rattle.sms_send.specs.declared.fault.Fault.{Fault}
+use Rattle.sms_send.specs.declared.fault.Fault.TheVariants.{OutOfMemory, ScheduleRecord}
+use Rattle.sms_send.specs.declared.fault.Source.TheVariants.{Schedule}
+use Rattle.sms_send.specs.declared.schedule.TheConstants.{MOST_EVENTS}
+
+-- the greatest numbers of a field's type; a flag is 0 or 1
+abbrev pub most_u32 : ℕ
+most_u32 = 0xFFFF_FFFF
+
+abbrev pub most_u64 : ℕ
+most_u64 = 0xFFFF_FFFF_FFFF_FFFF
+
+abbrev pub most_flag : ℕ
+most_flag = 1
+
+-- the numbers after the word of a record: exactly so many, the last of at most so much, the others below 2^32
+abbrev pub one_number : Record → Option ℕ
+one_number r = if length r == 2 then number_at most_u32 r 1 else None
+
+abbrev pub two_numbers : ℕ → Record → Option (ℕ × ℕ)
+two_numbers most r =
+    if length r == 3
+    then option_and_then (λ a. option_map (λ b. (a, b)) (number_at most r 2)) (number_at most_u32 r 1)
+    else None
+
+abbrev pub three_numbers : ℕ → Record → Option (ℕ × ℕ × ℕ)
+three_numbers most r =
+    if length r == 4
+    then option_and_then (λ a. option_and_then (λ b. option_map (λ c. (a, b, c)) (number_at most r 3)) (number_at most_u32 r 2)) (number_at most_u32 r 1)
+    else None
+
+-- the forms of a record after the word: the event that its numbers make
+abbrev pub Form : Type 0
+Form = Record → Option Event
+
+abbrev pub one : (ℕ → Event) → Form
+one event r = option_map event (one_number r)
+
+abbrev pub two : (ℕ → ℕ → Event) → ℕ → Form
+two event most r = option_map (λ n. event n.0 n.1) (two_numbers most r)
+
+abbrev pub three : (ℕ → ℕ → ℕ → Event) → ℕ → Form
+three event most r = option_map (λ n. event n.0 n.1 n.2) (three_numbers most r)
+
+-- the forms of the events, by the record's first field
+abbrev pub forms : List (List ℕ × Form)
+forms =
+    (codes "topup", two TopUp most_u64)
+    ∷ (codes "reserve", three Reserve most_u32)
+    ∷ (codes "claim", two Claim most_u32)
+    ∷ (codes "post", three Post most_u32)
+    ∷ (codes "respond", three (λ number status nack. Respond number status (nack == 1)) most_flag)
+    ∷ (codes "settle", two Settle most_u32)
+    ∷ (codes "expire", two Expire most_u32)
+    ∷ (codes "discard", one Discard)
+    ∷ (codes "release", two Release most_u32)
+    ∷ []
+
+-- what the first form of that word makes of a record
+abbrev pub made_by : List (List ℕ × Form) → List ℕ → Record → Option Event
+made_by [] word r = None
+made_by (form ∷ rest) word r = if bytes_eq word form.0 then form.1 r else made_by rest word r
+
+-- the event that a record spells
+abbrev pub event_of : Record → Option Event
+event_of r = option_and_then (λ word. made_by forms word r) (field_at r 0)
+
+-- the accounts, the slots and the attempts of a world that may be
+abbrev pub are_limits : ℕ × ℕ × ℕ → Bool
+are_limits n = (nat_le 1 n.0 && nat_le n.0 MOST_ACCOUNTS) && ((nat_le 1 n.1 && nat_le n.1 SLOTS) && (nat_le 1 n.2 && nat_le n.2 MOST_ATTEMPTS))
+
+-- the numbers of the record that sets the world up
+abbrev pub limits_of : Record → Option (ℕ × ℕ × ℕ)
+limits_of r = option_and_then (λ word. if bytes_eq word (codes "world") then three_numbers most_u32 r else None) (field_at r 0)
+
+-- the world that a record sets up, where there is such a world
+abbrev pub world_of : Record → Option State
+world_of r = option_and_then (λ n. if are_limits n then Some (new_world n.0 n.1 n.2) else None) (limits_of r)
+
+-- the number, from 1, of the first record that is no event or is one too many, where so many records stand before
+abbrev pub event_fault : ℕ → List Record → Option ℕ
+event_fault before [] = None
+event_fault before (r ∷ rs) = if nat_le before MOST_EVENTS && is_some (event_of r) then event_fault (before + 1) rs else Some (before + 1)
+
+-- the number, from 1, of the first record that may not stand where it stands; a schedule has a first record
+abbrev pub schedule_fault : List Record → Option ℕ
+schedule_fault [] = Some 1
+schedule_fault (r ∷ rs) = if is_some (world_of r) then event_fault 1 rs else Some 1
+
+-- the records spell these events, one each
+abbrev pub AreEvents : List Record → List Event → Type 0
+AreEvents rs events = map event_of rs ≡ map Some events
+
+-- the records are a schedule of this world and these events
+abbrev pub AreSchedule : List Record → State → List Event → Type 0
+AreSchedule [] w events = ⊥
+AreSchedule (r ∷ rs) w events = (world_of r ≡ Some w) × AreEvents rs events × (length events ≤ MOST_EVENTS)
+
+-- what a fault says of the records after the first: the record that it names is the first faulty one
+abbrev pub TellsEvents : List Record → Fault → Type 0
+TellsEvents rs f = IsDevice Schedule f ⊎ ((place : ℕ) × (f ≡ ScheduleRecord place) × (event_fault 1 rs ≡ Some place))
+
+-- what a fault says of the first record
+abbrev pub TellsWorld : Record → Fault → Type 0
+TellsWorld r f = (f ≡ OutOfMemory) ⊎ ((f ≡ ScheduleRecord 1) × (world_of r ≡ None))
+
+-- what a fault says of a schedule's records: the record that it names is the first faulty one
+abbrev pub TellsSchedule : List Record → Fault → Type 0
+TellsSchedule rs f = IsDevice Schedule f ⊎ ((place : ℕ) × (f ≡ ScheduleRecord place) × (schedule_fault rs ≡ Some place))

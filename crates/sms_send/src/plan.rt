@@ -1,0 +1,51 @@
+//! The plan of a messages file.
+
+ghost use Rattle.std.specs.Prelude.{◌≡◌, ◌≢◌, None, IfErr, IfOk, IfSome, OnOk};
+ghost use Rattle.std.specs.Io.KnownBytes.{Appends};
+ghost use Rattle.sms_send.specs.Fields.{records_of};
+ghost use Rattle.sms_send.specs.Messages.{messages_fault};
+ghost use Rattle.sms_send.specs.PlanText.{TellsPlan, plan_of};
+ghost use Rattle.sms_send.specs.declared.fault.Fault.TheVariants.{Output};
+
+use crate::fault::Fault;
+use crate::messages::read_messages;
+use crate::plan_text::plan_text;
+use std::alloc::Global;
+use std::io::{Read, Write};
+
+/// Reads a messages file and prints, for each message, how its text is coded and cut. Accounts and
+/// addresses aren't looked at. All of the file is read and checked, and the whole output formed,
+/// before anything is written. The exit status is 0.
+pub fn run_plan<R: Read + Drop, W: Write>(
+    alloc: Global,
+    input: R,
+    output: &mut W,
+) -> Result<u8, Fault>
+    ensures status { IfOk result (λ status. status ≡ 0) }
+
+    // The input is a messages file, and its plan was written.
+    ensures good { OnOk result (IfSome (R.remaining input) (λ bytes. messages_fault (records_of bytes) ≡ None)) }
+    ensures written { OnOk result (IfSome (R.remaining input) (λ bytes. Appends (W.contents output.old) (W.contents output.new) (plan_of (records_of bytes)))) }
+
+    // A record is named just where it is the first faulty one.
+    ensures faulty { IfErr result (λ fault. IfSome (R.remaining input) (λ bytes. TellsPlan (records_of bytes) fault)) }
+
+    // Nothing was written, save where writing itself failed.
+    ensures quiet { IfErr result (λ fault. fault ≢ Output → output.new ≡ output.old) }
+{
+    let messages = read_messages(alloc, input)?;
+    let text = plan_text(alloc, &messages)?;
+    write_out(output, text.as_bytes())?;
+    Ok(0)
+}
+
+/// Writes all of the text, and lets it go out.
+fn write_out<W: Write>(output: &mut W, text: &[u8]) -> Result<(), Fault>
+    ensures written { OnOk result (Appends (W.contents output.old) (W.contents output.new) text.now) }
+    ensures failed { IfErr result (λ fault. fault ≡ Output) }
+{
+    if output.write_all(text).is_err() || output.flush().is_err() {
+        return Err(Fault::Output);
+    }
+    Ok(())
+}

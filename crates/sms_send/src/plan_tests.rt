@@ -1,0 +1,137 @@
+use crate::fault::{Fault, Source};
+use crate::plan::run_plan;
+use std::alloc::{AllocError, Global};
+use std::io;
+use std::process::Abort;
+use std::test::Fail;
+
+// The octets that plan prints of a messages file, or the text of its fault; nothing is printed then.
+fn planned(rt: &impl Abort, alloc: Global, input: &[u8]) -> Result<Vec<u8>, Fail> {
+    let mut output = Vec::new(alloc);
+    match run_plan(alloc, input, &mut output) {
+        Ok(status) => assert_eq!(rt; status, 0),
+        Err(Fault::OutOfMemory) => return Err(Fail::from(AllocError)),
+        Err(fault) => {
+            assert!(rt; output.is_empty());
+            assert_eq!(rt; fault.exit_status(), 1);
+            let text = fault.to_string(alloc)?;
+            output.extend_from_slice(text.as_bytes())?;
+        }
+    }
+    Ok(output)
+}
+
+// A messages file whose first message has so many letters, and whose second is one Cyrillic letter.
+fn letters(alloc: Global, count: usize) -> Result<String, Fail> {
+    let mut input = String::from_str(alloc, "account,source,destination,text\nmain,1,2,")?;
+    for _ in 0..count {
+        input.push_str("a")?;
+    }
+    input.push_str("\nmain,1,2,\u{436}\n")?;
+    Ok(input)
+}
+
+#[test]
+fn plans_the_texts_of_a_file(rt: HostRuntime) -> Result<(), Fail> {
+    let alloc = rt.alloc();
+    let rows: [(usize, &str); 3] = [
+        (
+            161,
+            "message,coding,units,parts,sizes\n0,gsm,161,2,153 8\n1,ucs2,1,1,1\n",
+        ),
+        (
+            39_016,
+            "message,coding,units,parts,sizes\n0,gsm,39016,0,too-long\n1,ucs2,1,1,1\n",
+        ),
+        (
+            0,
+            "message,coding,units,parts,sizes\n0,gsm,0,1,0\n1,ucs2,1,1,1\n",
+        ),
+    ];
+    for (count, wanted) in rows {
+        let input = letters(alloc, count)?;
+        let output = planned(&rt, alloc, input.as_bytes())?;
+        assert_eq!(rt; output.as_slice(), wanted.as_bytes(), "{count} letters");
+    }
+    Ok(())
+}
+
+#[test]
+fn names_the_first_faulty_record(rt: HostRuntime) -> Result<(), Fail> {
+    let alloc = rt.alloc();
+    let rows: [(&[u8], &str); 9] = [
+        (
+            b"account,source,destination,text\nmain,1,2\n",
+            "fault: messages record 2",
+        ),
+        (
+            b"account,source,destination,text\nmain,1,2,hi\nmain,1,2,hi,there\nmain\n",
+            "fault: messages record 3",
+        ),
+        (
+            b"account,source,destination,text\nmain,1,2,hi\nmain,1,\xff,hi\n",
+            "fault: messages record 3",
+        ),
+        (
+            b"account,source,destination,text\nmain,1,2,\xd0\n",
+            "fault: messages record 2",
+        ),
+        (b"", "fault: messages record 1"),
+        (
+            b"account,source,destination,texts\nmain,1,2,hi\n",
+            "fault: messages record 1",
+        ),
+        (b"account,source,destination\n", "fault: messages record 1"),
+        // Quotes keep a comma in the text; empty lines are no records.
+        (
+            b"account,source,destination,text\n\nmain,1,2,\"[a,b]\"\n",
+            "message,coding,units,parts,sizes\n0,gsm,7,1,7\n",
+        ),
+        (
+            b"account,source,destination,text",
+            "message,coding,units,parts,sizes\n",
+        ),
+    ];
+    for (input, wanted) in rows {
+        let output = planned(&rt, alloc, input)?;
+        assert_eq!(rt; output.as_slice(), wanted.as_bytes());
+    }
+    Ok(())
+}
+
+// A writer that takes nothing, and a reader that gives nothing.
+#[derive(Drop)]
+struct Broken {}
+
+impl io::Write for Broken {
+    fn write(&mut self, _buf: &[u8]) -> io::Result<usize> {
+        Err(io::Error::from(io::ErrorKind::Other))
+    }
+
+    fn flush(&mut self) -> io::Result<()> {
+        Ok(())
+    }
+}
+
+impl io::Read for Broken {
+    fn read(&mut self, _buf: &mut [u8]) -> io::Result<usize> {
+        Err(io::Error::from(io::ErrorKind::Other))
+    }
+}
+
+#[test]
+fn tells_what_failed(rt: HostRuntime) -> Result<(), Fail> {
+    let alloc = rt.alloc();
+    let input = letters(alloc, 1)?;
+    match run_plan(alloc, input.as_bytes(), &mut Broken {}) {
+        Err(Fault::Output) => {}
+        Err(Fault::OutOfMemory) => return Err(Fail::from(AllocError)),
+        _ => assert!(rt; false, "a broken writer"),
+    }
+    match run_plan(alloc, Broken {}, &mut Vec::new(alloc)) {
+        Err(Fault::Unreadable(Source::Messages)) => {}
+        Err(Fault::OutOfMemory) => return Err(Fail::from(AllocError)),
+        _ => assert!(rt; false, "a broken reader"),
+    }
+    Ok(())
+}

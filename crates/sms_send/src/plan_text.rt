@@ -1,0 +1,100 @@
+//! What plan prints: how the text of each message is coded and cut.
+
+ghost use Rattle.std.specs.Prelude.{◌≡◌, ◌++◌, IfOk, OnOk, string_bytes};
+ghost use Rattle.sms_send.specs.PlanText.{coded_line, coding_name as name_of_coding, counted_text, cutting_text, message_lines, message_plan, size_texts, text_line};
+
+use crate::messages::Message;
+use sms_alphabet::{Coded, Coding, choose};
+use sms_segment::{CutError, Part, Reference, cut};
+use std::alloc::{AllocError, Global};
+use std::fmt::Write;
+
+/// The name that a line gives the coding.
+fn coding_name(coding: Coding) -> &'static str
+    ensures { result.now ≡ name_of_coding coding }
+{
+    match coding {
+        Coding::Gsm => "gsm",
+        Coding::Ucs2 => "ucs2",
+    }
+}
+
+/// The units of each part, a space before each.
+fn write_sizes(text: &mut String, parts: &[Part]) -> Result<(), AllocError>
+    ensures { OnOk result (string_bytes text.new ≡ string_bytes text.old ++ size_texts parts.now) }
+{
+    for part in parts {
+        write!(text, " {}", part.units.len())?;
+    }
+    Ok(())
+}
+
+/// How many parts there are, and the units of each.
+fn write_parts(text: &mut String, parts: &[Part]) -> Result<(), AllocError>
+    ensures { OnOk result (string_bytes text.new ≡ string_bytes text.old ++ counted_text parts.now) }
+{
+    write!(text, "{},", parts.len())?;
+    let Some((first, rest)) = parts.split_first() else {
+        return Ok(());
+    };
+    write!(text, "{}", first.units.len())?;
+    write_sizes(text, rest)
+}
+
+/// What becomes of a coded text as parts. Which reference they have makes no difference to their sizes.
+fn write_cutting(alloc: Global, text: &mut String, coded: &Coded) -> Result<(), AllocError>
+    ensures { OnOk result (string_bytes text.new ≡ string_bytes text.old ++ cutting_text coded.now) }
+{
+    match cut(alloc, coded, Reference::Short(0)) {
+        Ok(parts) => write_parts(text, parts.as_slice()),
+        Err(CutError::TooLong) => text.push_str("0,too-long"),
+        Err(CutError::OutOfMemory) => Err(AllocError),
+    }
+}
+
+/// The line of a coded text at a place, counted from 0.
+fn write_coded(
+    alloc: Global,
+    text: &mut String,
+    index: usize,
+    coded: &Coded,
+) -> Result<(), AllocError>
+    ensures { OnOk result (string_bytes text.new ≡ string_bytes text.old ++ coded_line index coded.now) }
+{
+    let coding = coding_name(coded.coding);
+    write!(text, "{index},{coding},{},", coded.units.len())?;
+    write_cutting(alloc, text, coded)?;
+    text.push_str("\n")
+}
+
+/// The line of the message at a place, counted from 0.
+fn write_line(
+    alloc: Global,
+    text: &mut String,
+    index: usize,
+    message: &Message,
+) -> Result<(), AllocError>
+    ensures { OnOk result (string_bytes text.new ≡ string_bytes text.old ++ text_line index (string_bytes message.now.text)) }
+{
+    let coded = choose(alloc, message.text.as_str())?;
+    write_coded(alloc, text, index, &coded)
+}
+
+/// A line for each message.
+fn write_lines(alloc: Global, text: &mut String, messages: &[Message]) -> Result<(), AllocError>
+    ensures { OnOk result (string_bytes text.new ≡ string_bytes text.old ++ message_lines 0 messages.now) }
+{
+    for (index, message) in messages.iter().enumerate() {
+        write_line(alloc, text, index, message)?;
+    }
+    Ok(())
+}
+
+/// What is printed of these messages.
+pub fn plan_text(alloc: Global, messages: &[Message]) -> Result<String, AllocError>
+    ensures { IfOk result (λ text. string_bytes text ≡ message_plan messages.now) }
+{
+    let mut text = String::from_str(alloc, "message,coding,units,parts,sizes\n")?;
+    write_lines(alloc, &mut text, messages)?;
+    Ok(text)
+}

@@ -1,0 +1,200 @@
+//! Schedules: a world's limits and the events on it, as the records of a file.
+
+ghost use Rattle.std.specs.Prelude.{◌≡◌, ◌≤◌, None, Some, IfErr, IfOk, IfSome, length};
+ghost use Rattle.csv.specs.Records.{fields_of};
+ghost use Rattle.sms_send.specs.Schedule.{one_number as one_spelled, two_numbers as two_spelled, three_numbers as three_spelled, event_of as event_spelled, limits_of as limits_spelled, world_of as world_spelled, AreEvents, AreSchedule, TellsEvents, TellsSchedule, TellsWorld, event_fault, schedule_fault};
+ghost use Rattle.sms_send.specs.Fields.{records_of};
+ghost use Rattle.sms_send.specs.Records.{ReadsAll, records_left};
+
+use crate::fault::{Fault, Source};
+use crate::field::{number_at, u32_at};
+use crate::records::{next_record, read_all};
+use csv::{ByteRecord, Reader};
+use sms_core::{CoreError, Event, MOST_ACCOUNTS, World};
+use std::alloc::Global;
+use std::io::Read;
+
+/// How many events a schedule has at the most.
+pub const MOST_EVENTS: usize = 1_000_000;
+
+/// The greatest number in a field that says yes or no.
+const MOST_FLAG: u32 = 1;
+
+/// The one number after a record's word.
+fn one_number(row: &ByteRecord) -> Option<u32>
+    ensures { result ≡ one_spelled (fields_of row.now) }
+{
+    if row.len() != 2 {
+        return None;
+    }
+    u32_at(row, 1)
+}
+
+/// The two numbers after a record's word, the second at most `most`.
+fn two_numbers(row: &ByteRecord, most: u64) -> Option<(u32, u64)>
+    ensures { result ≡ two_spelled most (fields_of row.now) }
+{
+    if row.len() != 3 {
+        return None;
+    }
+    let first = u32_at(row, 1)?;
+    let second = number_at(row, 2, most)?;
+    Some((first, second))
+}
+
+/// The three numbers after a record's word, the third at most `most`.
+fn three_numbers(row: &ByteRecord, most: u32) -> Option<(u32, u32, u32)>
+    ensures { result ≡ three_spelled most (fields_of row.now) }
+{
+    if row.len() != 4 {
+        return None;
+    }
+    let first = u32_at(row, 1)?;
+    let second = u32_at(row, 2)?;
+    let third = number_at(row, 3, u64::from(most))?;
+    Some((first, second, third as u32))
+}
+
+/// A worker and a slot, after a record's word.
+fn worker_and_slot(row: &ByteRecord) -> Option<(u32, u32)>
+    ensures { result ≡ two_spelled u32.MAX (fields_of row.now) }
+{
+    let (worker, slot) = two_numbers(row, u64::from(u32::MAX))?;
+    Some((worker, slot as u32))
+}
+
+/// The event that a record spells.
+pub fn event_of(row: &ByteRecord) -> Option<Event>
+    ensures { result ≡ event_spelled (fields_of row.now) }
+{
+    let word = row.get(0)?;
+    if word == b"topup".as_slice() {
+        let (account, amount) = two_numbers(row, u64::MAX)?;
+        return Some(Event::TopUp { account, amount });
+    }
+    if word == b"reserve".as_slice() {
+        let (request, account, cost) = three_numbers(row, u32::MAX)?;
+        return Some(Event::Reserve {
+            request,
+            account,
+            cost,
+        });
+    }
+    if word == b"claim".as_slice() {
+        let (worker, slot) = worker_and_slot(row)?;
+        return Some(Event::Claim { worker, slot });
+    }
+    if word == b"post".as_slice() {
+        let (worker, slot, request) = three_numbers(row, u32::MAX)?;
+        return Some(Event::Post {
+            worker,
+            slot,
+            request,
+        });
+    }
+    if word == b"respond".as_slice() {
+        let (number, status, nack) = three_numbers(row, MOST_FLAG)?;
+        return Some(Event::Respond {
+            number,
+            status,
+            nack: nack == 1,
+        });
+    }
+    if word == b"settle".as_slice() {
+        let (worker, slot) = worker_and_slot(row)?;
+        return Some(Event::Settle { worker, slot });
+    }
+    if word == b"expire".as_slice() {
+        let (worker, slot) = worker_and_slot(row)?;
+        return Some(Event::Expire { worker, slot });
+    }
+    if word == b"discard".as_slice() {
+        let request = one_number(row)?;
+        return Some(Event::Discard { request });
+    }
+    if word == b"release".as_slice() {
+        let (worker, slot) = worker_and_slot(row)?;
+        return Some(Event::Release { worker, slot });
+    }
+    None
+}
+
+/// The events of the records that the reader has left, which come after `1` record of the schedule.
+fn read_events<R: Read>(
+    alloc: Global,
+    reader: &mut Reader<R>,
+    row: &mut ByteRecord,
+) -> Result<Vec<Event>, Fault>
+    requires { ReadsAll reader.old }
+    ensures events { IfOk result (λ events. IfSome (records_left R.remaining reader.old) (λ left.
+        AreEvents left events.items × (length events.items ≤ MOST_EVENTS) × (event_fault 1 left ≡ None))) }
+    ensures faulty { IfErr result (λ fault. IfSome (records_left R.remaining reader.old) (λ left. TellsEvents left fault)) }
+{
+    let mut events = Vec::new(alloc);
+    for before in 1..MOST_EVENTS + 1 {
+        if !next_record(reader, row, Source::Schedule)? {
+            return Ok(events);
+        }
+        match event_of(row) {
+            Some(event) => events.push(event)?,
+            None => return Err(Fault::ScheduleRecord(before + 1)),
+        }
+    }
+    if next_record(reader, row, Source::Schedule)? {
+        return Err(Fault::ScheduleRecord(MOST_EVENTS + 2));
+    }
+    Ok(events)
+}
+
+/// The three numbers of the record that sets a world up.
+fn limits_of(row: &ByteRecord) -> Option<(u32, u32, u32)>
+    ensures { result ≡ limits_spelled (fields_of row.now) }
+{
+    let word = row.get(0)?;
+    if word == b"world".as_slice() {
+        return three_numbers(row, u32::MAX);
+    }
+    None
+}
+
+/// The world that the first record of a schedule sets up.
+fn world_of(alloc: Global, row: &ByteRecord) -> Result<World, Fault>
+    ensures world { IfOk result (λ world. world_spelled (fields_of row.now) ≡ Some world) }
+    ensures few { IfOk result (λ world. length world.topped ≤ MOST_ACCOUNTS) }
+    ensures faulty { IfErr result (λ fault. TellsWorld (fields_of row.now) fault) }
+{
+    let Some((accounts, limit, attempts)) = limits_of(row) else {
+        return Err(Fault::ScheduleRecord(1));
+    };
+    match World::new(alloc, accounts, limit, attempts) {
+        Ok(world) => Ok(world),
+        Err(CoreError::BadLimit) => Err(Fault::ScheduleRecord(1)),
+        Err(CoreError::OutOfMemory) => Err(Fault::OutOfMemory),
+    }
+}
+
+/// A world before any event, and the events that a schedule has for it.
+#[derive(Drop)]
+pub struct Schedule {
+    pub world: World,
+    pub events: Vec<Event>,
+}
+
+/// Reads a schedule to its end, or to one record past the most that it may have.
+pub fn read_schedule<R: Read + Drop>(alloc: Global, input: R) -> Result<Schedule, Fault>
+    ensures schedule { IfOk result (λ schedule. IfSome (R.remaining input) (λ bytes.
+        AreSchedule (records_of bytes) schedule.world schedule.events.items × (schedule_fault (records_of bytes) ≡ None))) }
+    ensures few { IfOk result (λ schedule. length schedule.world.topped ≤ MOST_ACCOUNTS) }
+    ensures faulty { IfErr result (λ fault. IfSome (R.remaining input) (λ bytes. TellsSchedule (records_of bytes) fault)) }
+{
+    let mut reader = read_all(alloc, input);
+    let mut row = ByteRecord::new(alloc);
+    if !next_record(&mut reader, &mut row, Source::Schedule)? {
+        return Err(Fault::ScheduleRecord(1));
+    }
+    let world = world_of(alloc, &row)?;
+    match read_events(alloc, &mut reader, &mut row) {
+        Ok(events) => Ok(Schedule { world, events }),
+        Err(fault) => Err(fault),
+    }
+}

@@ -1,0 +1,198 @@
+//! Schedules and what they print, worked out by hand, and the faults.
+
+use crate::fault::Fault;
+use crate::job::{Job, job_of};
+use crate::replay::run_replay;
+use std::io;
+use std::io::{Read, Write};
+use std::process::Abort;
+use std::test::Fail;
+
+/// Schedules, and what a replay of each prints.
+const REPLAYED: [(&str, &str); 9] = [
+    // an empty world
+    (
+        "world,1,64,3",
+        "account 0 topped 0 free 0 reserved 0 charged 0 returned 0\nheld none\nnext 1\n",
+    ),
+    // a byte order mark, empty lines, quotes and leading zeros change nothing
+    (
+        "\u{feff}world,2,64,3\r\n\r\n\n\"claim\",00000000000000000009,0\r\nclaim,1,1\n",
+        "1 done\n2 done\naccount 0 topped 0 free 0 reserved 0 charged 0 returned 0\naccount 1 topped 0 free 0 reserved 0 charged 0 returned 0\nheld 0 by 9\nheld 1 by 1\nnext 1\n",
+    ),
+    // an answer that nobody waits for
+    (
+        "world,1,64,3\ntopup,0,5\nrespond,99,0,0\n",
+        "1 done\n2 ignored UnknownNumber\naccount 0 topped 5 free 5 reserved 0 charged 0 returned 0\nheld none\nnext 1\n",
+    ),
+    // the first attempt's answer comes after its slot was given up and used again
+    (
+        "world,1,1,1\ntopup,0,2\nreserve,1,0,1\nreserve,2,0,1\nclaim,7,0\npost,7,0,1\nexpire,7,0\npost,7,0,2\nrespond,1,0,0\nrespond,2,0,0\nsettle,7,0\nrelease,7,0\n",
+        "1 done\n2 done\n3 done\n4 done\n5 done\n6 done\n7 done\n8 ignored UnknownNumber\n9 done\n10 done\n11 done\naccount 0 topped 2 free 0 reserved 1 charged 1 returned 0\nrequest 1 account 0 cost 1 attempts 1 unanswered\nrequest 2 account 0 cost 1 attempts 1 charged\nheld none\nnext 3\n",
+    ),
+    // an answer that comes twice charges once
+    (
+        "world,1,1,3\ntopup,0,1\nreserve,1,0,1\nclaim,1,0\npost,1,0,1\nrespond,1,0,0\nrespond,1,0,0\nsettle,1,0\nrespond,1,0,0\n",
+        "1 done\n2 done\n3 done\n4 done\n5 done\n6 ignored UnknownNumber\n7 done\n8 ignored UnknownNumber\naccount 0 topped 1 free 0 reserved 0 charged 1 returned 0\nrequest 1 account 0 cost 1 attempts 1 charged\nheld 0 by 1\nnext 2\n",
+    ),
+    // a generic_nack refuses, whatever its status
+    (
+        "world,1,1,3\ntopup,0,1\nreserve,1,0,1\nclaim,1,0\npost,1,0,1\nrespond,1,0,1\nrespond,1,0,0\nsettle,1,0\nrespond,1,0,0\n",
+        "1 done\n2 done\n3 done\n4 done\n5 done\n6 ignored UnknownNumber\n7 done\n8 ignored UnknownNumber\naccount 0 topped 1 free 1 reserved 0 charged 0 returned 1\nrequest 1 account 0 cost 1 attempts 1 refused\nheld 0 by 1\nnext 2\n",
+    ),
+    // a request costs one credit
+    (
+        "world,1,1,1\ntopup,0,5\nreserve,1,0,2\n",
+        "1 done\n2 ignored BadCost\naccount 0 topped 5 free 5 reserved 0 charged 0 returned 0\nheld none\nnext 1\n",
+    ),
+    // a request is given up once
+    (
+        "world,1,1,1\ntopup,0,1\nreserve,1,0,1\ndiscard,1\ndiscard,1\n",
+        "1 done\n2 done\n3 done\n4 ignored NoRequest\naccount 0 topped 1 free 1 reserved 0 charged 0 returned 1\nrequest 1 account 0 cost 1 attempts 0 unsent\nheld none\nnext 1\n",
+    ),
+    // throttled until no attempt is left
+    (
+        "world,1,1,2\ntopup,0,1\nreserve,1,0,1\nclaim,1,0\npost,1,0,1\nrespond,1,88,0\nsettle,1,0\npost,1,0,1\nrespond,2,88,0\nsettle,1,0\n",
+        "1 done\n2 done\n3 done\n4 done\n5 done\n6 done\n7 done\n8 done\n9 done\naccount 0 topped 1 free 1 reserved 0 charged 0 returned 1\nrequest 1 account 0 cost 1 attempts 2 refused\nheld 0 by 1\nnext 3\n",
+    ),
+];
+
+/// Inputs that are no schedule, and the faults.
+const REFUSED: [(&str, &str); 9] = [
+    ("", "fault: schedule record 1"),
+    ("world,0,1,1", "fault: schedule record 1"),
+    ("claim,1,0", "fault: schedule record 1"),
+    ("world,1,1,1\nclaim,1", "fault: schedule record 2"),
+    (
+        "world,1,1,1\nclaim,1,4294967296",
+        "fault: schedule record 2",
+    ),
+    ("world,1,1,1\nclaim,1,+4", "fault: schedule record 2"),
+    (
+        "world,1,1,1\nclaim,1,000000000000000000004",
+        "fault: schedule record 2",
+    ),
+    (
+        "world,1,1,1\nclaim,1,0\nrespond,1,0,2",
+        "fault: schedule record 3",
+    ),
+    (
+        "world,1,1,1\nclaim,1,0\nworld,1,1,1",
+        "fault: schedule record 3",
+    ),
+];
+
+/// What a replay prints, or the text of its fault.
+fn printed(rt: &(impl AllocGlobal + Abort), schedule: &str) -> String {
+    let mut output = Vec::new(rt.alloc());
+    let text = match run_replay(rt.alloc(), schedule.as_bytes(), &mut output) {
+        Ok(status) => {
+            assert_eq!(rt; status, 0);
+            String::from_utf8(output).expect(rt, "text")
+        }
+        Err(fault) => {
+            assert!(rt; output.is_empty());
+            fault.to_string(rt.alloc()).expect(rt, "memory")
+        }
+    };
+    text
+}
+
+#[test]
+fn prints_schedules_and_faults(rt: HostRuntime) {
+    for (schedule, expected) in REPLAYED {
+        assert_eq!(rt; printed(&rt, schedule).as_str(), expected);
+    }
+    for (schedule, expected) in REFUSED {
+        assert_eq!(rt; printed(&rt, schedule).as_str(), expected);
+    }
+}
+
+/// A device whose reads and writes fail.
+struct Broken;
+
+impl Drop for Broken {
+    fn drop(self) {
+        let Broken = self;
+    }
+}
+
+impl Read for Broken {
+    fn read(&mut self, buf: &mut [u8]) -> io::Result<usize> {
+        let _ = buf;
+        Err(io::Error::from(io::ErrorKind::BrokenPipe))
+    }
+}
+
+impl Write for Broken {
+    fn write(&mut self, buf: &[u8]) -> io::Result<usize> {
+        let _ = buf;
+        Err(io::Error::from(io::ErrorKind::BrokenPipe))
+    }
+
+    fn flush(&mut self) -> io::Result<()> {
+        Ok(())
+    }
+}
+
+#[test]
+fn tells_broken_devices(rt: HostRuntime) -> Result<(), Fail> {
+    let schedule = "world,1,64,3";
+    let output = run_replay(rt.alloc(), schedule.as_bytes(), &mut Broken)
+        .err()
+        .ok_or("no fault")?;
+    assert_eq!(rt; output.to_string(rt.alloc())?.as_str(), "fault: output");
+    assert_eq!(rt; output.exit_status(), 1);
+    let input = run_replay(rt.alloc(), Broken, &mut Vec::new(rt.alloc()))
+        .err()
+        .ok_or("no fault")?;
+    assert_eq!(rt;
+        input.to_string(rt.alloc())?.as_str(),
+        "fault: file schedule"
+    );
+    Ok(())
+}
+
+/// The words, each the file of the job, or the text of the fault.
+#[test]
+fn reads_the_words(rt: HostRuntime) -> Result<(), Fail> {
+    let cases = [
+        ("", "standard input"),
+        ("replay -", "standard input"),
+        ("replay events.csv", "events.csv"),
+        ("replay", "fault: words"),
+        ("plan --messages x", "plan of x"),
+        ("plan --messages -", "plan of -"),
+        ("plan", "fault: words"),
+        ("plan x", "fault: words"),
+        ("plan --messages", "fault: words"),
+        ("plan --messages x y", "fault: words"),
+        ("replay a b", "fault: words"),
+        ("frob", "fault: words"),
+        ("--version", "fault: words"),
+    ];
+    for (line, expected) in cases {
+        let mut words = Vec::new(rt.alloc());
+        for word in line.split_whitespace() {
+            words.push(String::from_str(rt.alloc(), word)?)?;
+        }
+        let read = match job_of(rt.alloc(), words.as_slice()) {
+            Ok(Job::Replay(None)) => String::from_str(rt.alloc(), "standard input")?,
+            Ok(Job::Replay(Some(name))) => name,
+            Ok(Job::Plan(name)) => format!(in rt.alloc(); "plan of {name}")?,
+            Err(fault) => fault.to_string(rt.alloc())?,
+        };
+        assert_eq!(rt; read.as_str(), expected);
+    }
+    Ok(())
+}
+
+#[test]
+fn gives_help(rt: HostRuntime) -> Result<(), Fail> {
+    let mut words = Vec::new(rt.alloc());
+    words.push(String::from_str(rt.alloc(), "--help")?)?;
+    let fault = job_of(rt.alloc(), words.as_slice()).err().ok_or("no help")?;
+    assert_eq!(rt; fault.exit_status(), 0);
+    assert!(rt; matches!(&fault, Fault::Help(text) if text.as_str().contains("replay")));
+    Ok(())
+}
