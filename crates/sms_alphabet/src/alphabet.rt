@@ -65,7 +65,7 @@ pub(crate) fn code_of(c: char) -> Option<Code>
     code_beyond_latin(c)
 }
 
-// The capital letters of Greek that aren't drawn as Latin ones, and the extension table.
+/// The capital letters of Greek that aren't drawn as Latin ones, and the extension table.
 #[tactic(auto, unfolding(crate::specs::Alphabet::codes_of, crate::specs::Alphabet::default_alphabet))]
 fn code_beyond_latin(c: char) -> Option<Code>
     requires { c < 256 → slice_index LATIN_CODES c ≡ ESCAPE }

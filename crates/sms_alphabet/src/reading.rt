@@ -69,7 +69,7 @@ fn gsm_text(alloc: Global, codes: &[u16]) -> Result<String, TextError>
     }
 }
 
-// The character that the codes begin with, and the codes after it.
+/// The character that the codes begin with, and the codes after it.
 fn first_character(codes: &[u16]) -> Option<(char, &[u16])>
     ensures first { IfSome result (λ found. BeginsWith codes.now found.0 found.1.now) }
     ensures none { IfNone result ((c : ℕ) (rest : List ℕ) → ¬ BeginsWith codes.now c rest) }

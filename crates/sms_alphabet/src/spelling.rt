@@ -63,8 +63,8 @@ pub fn choose(alloc: Global, text: &str) -> Result<Coded, AllocError>
     })
 }
 
-// Adds the codes of the text's characters, up to the first that has none, and says whether that
-// was all.
+/// Adds the codes of the text's characters, up to the first that has none, and says whether that
+/// was all.
 fn write_codes(units: &mut Vec<u16>, text: &str) -> Result<bool, AllocError>
     ensures { IfOk result (λ all. IsWritten all units.old.items units.new.items (gsm_spelling (chars text.now))) }
 {
@@ -81,7 +81,7 @@ fn write_codes(units: &mut Vec<u16>, text: &str) -> Result<bool, AllocError>
     Ok(true)
 }
 
-// Adds the UTF-16 code units of the text.
+/// Adds the UTF-16 code units of the text.
 fn write_ucs2(units: &mut Vec<u16>, text: &str) -> Result<(), AllocError>
     ensures { IfOk result (λ _. units.new.items ≡ units.old.items ++ ucs2_spelling (chars text.now)) }
 {

@@ -11,7 +11,7 @@ use Rattle.sms_core.specs.declared.request.Phase.{Phase}
 use Rattle.sms_core.specs.declared.request.Phase.TheVariants.{Ready, Open, Charged, Refused, Unanswered, Unsent}
 use Rattle.sms_core.specs.declared.request.Request.{Request}
 use Rattle.sms_core.specs.declared.request.RequestState.{RequestState}
-use Rattle.sms_core.specs.declared.request.TheConstants.{LARGEST_COST}
+use Rattle.sms_core.specs.Limits.{largest_cost}
 use Rattle.sms_core.specs.declared.row.Row.{Row}
 use Rattle.sms_core.specs.Requests.{place_of}
 use Rattle.sms_core.specs.Rows.{Entry, part, over, reserved_of, charged_of, returned_of, row_of}
@@ -198,7 +198,7 @@ returned_sum : (account : ℕ) (rs : List Request) → sum_by (share returned_of
 returned_sum account [] = omega arith
 returned_sum account (r ∷ rs) = omega (arith, sum_by-cons (share returned_of account) r rs, sum_by-cons cost_of r rs, share_le account r, returned_sum account rs)
 
-pub returned_small : (most accounts account : ℕ) (rs : List Request) → AreRequests most accounts rs → over returned_of account (map entry_of rs) ≤ LARGEST_COST * 2 ^ 32
+pub returned_small : (most accounts account : ℕ) (rs : List Request) → AreRequests most accounts rs → over returned_of account (map entry_of rs) ≤ largest_cost * 2 ^ 32
 returned_small most accounts account rs are =
     let s = over-sum_by returned_of account rs in let l = returned_sum account rs in let n = requests_few most accounts rs are in omega (arith, are.costs)
 
@@ -263,7 +263,7 @@ rows_reserved rows rs r ready inside le are account below =
     (row_same account (get_or rows account no_row) (map entry_of rs) (map entry_of (rs ++ r ∷ [])) (are account (omega (arith, length-set rows r.state.account next)))
     (λ f. over-push f account rs r ∙ omega (arith, share_of_other f account r ne))))
 
-pub requests_pushed : (most accounts : ℕ) (rs : List Request) (r : Request) → AreRequests most accounts rs → sum_by (is_named r.id) rs ≡ 0 → r.state.cost ≤ LARGEST_COST → excess most accounts r ≡ 0 → AreRequests most accounts (rs ++ r ∷ [])
+pub requests_pushed : (most accounts : ℕ) (rs : List Request) (r : Request) → AreRequests most accounts rs → sum_by (is_named r.id) rs ≡ 0 → r.state.cost ≤ largest_cost → excess most accounts r ≡ 0 → AreRequests most accounts (rs ++ r ∷ [])
 requests_pushed most accounts rs r are new le fine = record {
   distinct = λ q. let s = sum_by_push (is_named q) rs r in dite (ℕ_discrete r.id q)
       (λ is. let none : sum_by (is_named q) rs ≡ 0 = ap (λ (i : ℕ). sum_by (is_named i) rs) (sym is) ∙ new in let one : is_named q r ≡ 1 = rw (eq-eqb r.id q is) in omega arith)
@@ -336,7 +336,7 @@ topped_at (r ∷ rows) zero = refl
 topped_at (r ∷ rows) (suc account) = topped_at rows account
 
 -- all that is kept after a new request
-pub kept_reserved : (most : ℕ) (rows : List Row) (rs : List Request) (id account cost : ℕ) → IsKept most rows rs → id < 2 ^ 32 → account < length rows → find_request id rs ≡ None → cost ≤ LARGEST_COST →
+pub kept_reserved : (most : ℕ) (rows : List Row) (rs : List Request) (id account cost : ℕ) → IsKept most rows rs → id < 2 ^ 32 → account < length rows → find_request id rs ≡ None → cost ≤ largest_cost →
     cost ≤ (get_or rows account no_row).free →
     IsKept most (set rows account (record (get_or rows account no_row) { free = (get_or rows account no_row).free - cost; reserved = (get_or rows account no_row).reserved + cost })) (rs ++ reserved_request id account cost ∷ [])
 kept_reserved most rows rs id account cost kept low inside new small credit =

@@ -3,10 +3,8 @@ use Rattle.std.specs.Prelude.{◌≡◌, ℕ, suc, ◌+◌, ◌-◌, ◌*◌, �
 use Rattle.sms_core.specs.declared.request.Phase.{Phase}
 use Rattle.sms_core.specs.declared.request.Phase.TheVariants.{Ready, Open, Charged, Refused, Unanswered, Unsent}
 use Rattle.sms_core.specs.declared.request.Request.{Request}
-use Rattle.sms_core.specs.declared.request.TheConstants.{LARGEST_COST}
+use Rattle.sms_core.specs.Limits.{most_attempts, most_topped, largest_cost}
 use Rattle.sms_core.specs.declared.row.Row.{Row}
-use Rattle.sms_core.specs.declared.row.TheConstants.{MOST_TOPPED}
-use Rattle.sms_core.specs.declared.world.TheConstants.{MOST_ATTEMPTS}
 use Rattle.sms_core.specs.Requests.{StandsAt}
 use Rattle.sms_core.specs.Rows.{Entry, over, reserved_of, charged_of, returned_of}
 use Rattle.sms_core.specs.State.{entry_of}
@@ -26,7 +24,7 @@ no_row = record { topped = 0; free = 0; reserved = 0; charged = 0; returned = 0 
 -- the row has the sums of its account
 pub record IsRowOf (r : Row) (account : ℕ) (es : List Entry) : Type 0 where
   pub balance : r.free + r.reserved + r.charged ≡ r.topped
-  pub limit : r.topped ≤ MOST_TOPPED
+  pub limit : r.topped ≤ most_topped
   pub reserved : r.reserved ≡ over reserved_of account es
   pub charged : r.charged ≡ over charged_of account es
   pub returned : r.returned ≡ over returned_of account es
@@ -70,11 +68,11 @@ cost_of r = r.state.cost
 pub record AreRequests (most accounts : ℕ) (rs : List Request) : Type 0 where
   pub distinct : (id : ℕ) → sum_by (is_named id) rs ≤ 1
   pub bounded : sum_by (excess most accounts) rs ≡ 0
-  pub costs : sum_by cost_of rs ≤ LARGEST_COST * length rs
+  pub costs : sum_by cost_of rs ≤ largest_cost * length rs
 
 pub record IsKept (most : ℕ) (rows : List Row) (rs : List Request) : Type 0 where
   pub some : 1 ≤ most
-  pub few : most ≤ MOST_ATTEMPTS
+  pub few : most ≤ most_attempts
   pub rows_are : AreRows rows rs
   pub requests_are : AreRequests most (length rows) rs
 

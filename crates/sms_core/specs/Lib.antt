@@ -1,3 +1,4 @@
+pub mod Limits
 pub mod Holds
 pub mod Numbers
 pub mod Replies

@@ -1,16 +1,25 @@
 -- How the answer to a submit_sm is read, and what a list of attempts comes to (SMPP 3.4, 5.1.3).
 use Rattle.std.specs.Prelude.{◌≡◌, ℕ, ◌≤◌, ◌==◌, ◌&&◌, ◌||◌, not, Bool, List, [], ◌∷◌, length, Option, Some, None, if◌then◌else◌}
-use Rattle.sms_core.specs.declared.reply.TheConstants.{ESME_ROK, ESME_RMSGQFUL, ESME_RTHROTTLED}
 use Rattle.sms_core.specs.declared.request.Phase.{Phase}
 use Rattle.sms_core.specs.declared.request.Phase.TheVariants.{Charged, Refused, Unanswered, Unsent}
 
+-- ESME_ROK, ESME_RMSGQFUL, ESME_RTHROTTLED
+abbrev pub no_error : ℕ
+no_error = 0x00
+
+abbrev pub queue_full : ℕ
+queue_full = 0x14
+
+abbrev pub throttled : ℕ
+throttled = 0x58
+
 -- a submit_sm_resp with ESME_ROK charges; a generic_nack never does
 abbrev pub is_charge : ℕ → Bool → Bool
-is_charge status nack = not nack && (status == ESME_ROK)
+is_charge status nack = not nack && (status == no_error)
 
 -- a submit_sm_resp that says throttled or queue full lets the request be tried again
 abbrev pub is_retry : ℕ → Bool → Bool
-is_retry status nack = not nack && ((status == ESME_RTHROTTLED) || (status == ESME_RMSGQFUL))
+is_retry status nack = not nack && ((status == throttled) || (status == queue_full))
 
 -- an answer: its command_status, and whether it is a generic_nack
 pub record Reply : Type 0 where

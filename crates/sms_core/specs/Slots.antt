@@ -2,7 +2,7 @@
 use Rattle.std.specs.Prelude.{◌≡◌, ℕ, suc, Bool, List, [], ◌∷◌, length, slice_get, slice_set, slice_index_or, Option, Some, None}
 use Rattle.sms_core.specs.declared.mark.Mark.{Mark}
 use Rattle.sms_core.specs.declared.mark.Mark.TheVariants.{Empty, Open, Replied}
-use Rattle.sms_core.specs.declared.world.TheConstants.{SLOTS}
+use Rattle.sms_core.specs.Limits.{most_slots}
 
 pub record Table : Type 0 where
   -- which worker has which slot
@@ -18,8 +18,8 @@ pairs_from n (Some worker ∷ hs) = (worker, n) ∷ pairs_from (suc n) hs
 
 -- the holder and the mark of each slot: a slot that nobody has is empty
 pub record AreSlots (holders : List (Option ℕ)) (marks : List Mark) : Type 0 where
-  pub holders_of_all : length holders ≡ SLOTS
-  pub marks_of_all : length marks ≡ SLOTS
+  pub holders_of_all : length holders ≡ most_slots
+  pub marks_of_all : length marks ≡ most_slots
   pub free_are_empty : (slot : ℕ) → slice_index_or holders slot None ≡ None → slice_index_or marks slot Empty ≡ Empty
 
 -- a slot that waits for this number has its answer

@@ -5,7 +5,7 @@ use Rattle.sms_core.specs.declared.mark.Mark.TheVariants.{Empty}
 use Rattle.sms_core.specs.declared.request.Request.{Request}
 use Rattle.sms_core.specs.declared.request.RequestState.{RequestState}
 use Rattle.sms_core.specs.declared.row.Row.{Row}
-use Rattle.sms_core.specs.declared.world.TheConstants.{SLOTS, MOST_ACCOUNTS, MOST_ATTEMPTS}
+use Rattle.sms_core.specs.Limits.{most_slots, most_accounts, most_attempts}
 use Rattle.sms_core.specs.Holds.{weigh}
 use Rattle.sms_core.specs.Rows.{Entry, row_of}
 
@@ -27,7 +27,7 @@ pub record State : Type 0 where
 -- the limits of a world: accounts, slots, attempts
 abbrev pub AreLimits : ℕ → ℕ → ℕ → Type 0
 AreLimits accounts limit attempts =
-    ((1 ≤ accounts) × (accounts ≤ MOST_ACCOUNTS)) × ((1 ≤ limit) × (limit ≤ SLOTS)) × ((1 ≤ attempts) × (attempts ≤ MOST_ATTEMPTS))
+    ((1 ≤ accounts) × (accounts ≤ most_accounts)) × ((1 ≤ limit) × (limit ≤ most_slots)) × ((1 ≤ attempts) × (attempts ≤ most_attempts))
 
 -- the world before any event
 abbrev pub new_world : ℕ → ℕ → ℕ → State
@@ -38,7 +38,7 @@ new_world accounts limit attempts =
       topped = replicate accounts 0;
       requests = [];
       holds = [];
-      marks = replicate SLOTS Empty;
+      marks = replicate most_slots Empty;
       next = 1;
     }
 

@@ -13,9 +13,7 @@ use Rattle.sms_core.specs.declared.request.Phase.{Phase}
 use Rattle.sms_core.specs.declared.request.Phase.TheVariants.{Ready, Charged, Refused, Unanswered, Unsent, Open as Waiting}
 use Rattle.sms_core.specs.declared.request.Request.{Request}
 use Rattle.sms_core.specs.declared.request.RequestState.{RequestState}
-use Rattle.sms_core.specs.declared.request.TheConstants.{LARGEST_COST}
-use Rattle.sms_core.specs.declared.row.TheConstants.{MOST_TOPPED}
-use Rattle.sms_core.specs.declared.world.TheConstants.{TOP_NUMBER}
+use Rattle.sms_core.specs.Limits.{most_topped, largest_cost, top_number}
 use Rattle.sms_core.specs.Holds.{holders_of, Claims, Releases}
 use Rattle.sms_core.specs.Marks.{is_empty, is_open, waits_for}
 use Rattle.sms_core.specs.Replies.{is_charge, is_retry}
@@ -58,18 +56,18 @@ some_waits_for number (m ∷ ms) = waits_for number m || some_waits_for number m
 abbrev pub checks : State → Event → List (Bool × Cause)
 checks w (TopUp account amount) =
     (has_no_account w account, NoAccount)
-    ∷ (nat_lt MOST_TOPPED (topped_of w account + amount), AmountTooLarge) ∷ []
+    ∷ (nat_lt most_topped (topped_of w account + amount), AmountTooLarge) ∷ []
 checks w (Reserve request account cost) =
     (has_no_account w account, NoAccount)
     ∷ (is_some (request_of w request), RequestKnown)
-    ∷ ((cost == 0) || nat_lt LARGEST_COST cost, BadCost)
+    ∷ ((cost == 0) || nat_lt largest_cost cost, BadCost)
     ∷ (nat_lt (row_at w account).free cost, NoCredit) ∷ []
 checks w (Claim worker slot) = (is_held w slot, SlotHeld) ∷ []
 checks w (Post worker slot request) =
     (is_not_holder w worker slot, NotHolder)
     ∷ (not (is_empty (mark_of w slot)), SlotBusy)
     ∷ (is_not_ready w request, NoRequest)
-    ∷ (nat_lt TOP_NUMBER w.next, NumbersUsedUp) ∷ []
+    ∷ (nat_lt top_number w.next, NumbersUsedUp) ∷ []
 checks w (Respond number status nack) = (not (some_waits_for number w.marks), UnknownNumber) ∷ []
 checks w (Settle worker slot) =
     (is_not_holder w worker slot, NotHolder)

@@ -6,7 +6,7 @@ use Rattle.sms_core.specs.declared.mark.Mark.{Mark}
 use Rattle.sms_core.specs.declared.mark.Mark.TheVariants.{Empty, Open, Replied}
 use Rattle.sms_core.specs.declared.request.Request.{Request}
 use Rattle.sms_core.specs.declared.tables.Tables.{Tables}
-use Rattle.sms_core.specs.declared.world.TheConstants.{SLOTS, TOP_NUMBER}
+use Rattle.sms_core.specs.Limits.{most_slots, top_number}
 use Rattle.sms_core.specs.Ledger.{is_open_named}
 use Rattle.sms_core.specs.State.{State}
 
@@ -33,8 +33,8 @@ abbrev pub AreMarks : List Request → List Mark → Type 0
 AreMarks rs ms = (id : ℕ) → sum_by (is_open_named id) rs ≡ sum_by (is_marked id) ms
 
 pub record IsSound (t : Tables) : Type 0 where
-  pub limit : t.limit ≤ SLOTS
-  pub next : t.next ≤ suc TOP_NUMBER
+  pub limit : t.limit ≤ most_slots
+  pub next : t.next ≤ suc top_number
   pub marks : AreMarks t.ledger.requests t.slots.marks
 
 -- whether the event may need memory

@@ -1,4 +1,5 @@
-/// What may happen to accounts, requests, slots and numbers. Each value of each field has a meaning.
+/// What may happen to accounts, requests, slots and numbers. Each value of each field has a
+/// meaning.
 #[derive(Clone, Copy, Debug, PartialEq, Eq)]
 pub enum Event {
     /// An account gets credits.
@@ -23,7 +24,8 @@ pub enum Event {
         slot: u32,
         request: u32,
     },
-    /// An answer with this sequence number comes in: a submit_sm_resp, or a generic_nack where `nack` is set.
+    /// An answer with this sequence number comes in: a submit_sm_resp, or a generic_nack where
+    /// `nack` is set.
     Respond {
         number: u32,
         status: u32,

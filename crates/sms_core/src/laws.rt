@@ -19,7 +19,8 @@ ghost use Rattle.sms_core.specs.CoreLaws.{
   ExpireEmpties,
 };
 
-/// No slot is held twice; a claim takes a slot that nobody has, which stays held until its worker releases it.
+/// No slot is held twice; a claim takes a slot that nobody has, which stays held until its worker
+/// releases it.
 pub fn holds_are_lawful()
     ensures lawful { HoldsAreLawful }
     ensures taken { ClaimTakesFreeSlot }
@@ -31,7 +32,8 @@ pub fn numbers_are_given_once()
     ensures { NumbersGivenOnce }
 {}
 
-/// Each account's top-ups are its free, reserved and charged credits, and the sum of what it was topped up with.
+/// Each account's top-ups are its free, reserved and charged credits, and the sum of what it was
+/// topped up with.
 pub fn rows_balance()
     ensures balance { RowsBalance }
     ensures topped { ToppedIsSum }
@@ -42,7 +44,8 @@ pub fn final_is_final()
     ensures { FinalStays }
 {}
 
-/// A charge has an accepting answer to one of its request's own numbers, and no two requests share one.
+/// A charge has an accepting answer to one of its request's own numbers, and no two requests share
+/// one.
 pub fn a_charge_has_its_answer()
     ensures answered { ChargeHasAnswer }
     ensures apart { AnswerIsOfOne }
@@ -53,13 +56,15 @@ pub fn unknown_answers_change_nothing()
     ensures { UnknownIsIgnored }
 {}
 
-/// No two slots wait with one number, so an event has one answer and leaves one world, but for the order of its pairs.
+/// No two slots wait with one number, so an event has one answer and leaves one world, but for the
+/// order of its pairs.
 pub fn a_step_is_determined()
     ensures waits { OneSlotWaits }
     ensures one { StepIsDetermined }
 {}
 
-/// The mark of a slot goes from empty to open to replied and back to empty, or from open to empty, and no other moves.
+/// The mark of a slot goes from empty to open to replied and back to empty, or from open to empty,
+/// and no other moves.
 pub fn marks_move_as_told()
     ensures opens { PostOpens }
     ensures replies { RespondReplies }

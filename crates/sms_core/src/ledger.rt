@@ -6,12 +6,12 @@ ghost use Rattle.sms_core.specs.State.{entry_of, find_request, changed};
 ghost use Rattle.sms_core.specs.Steps.{is_ready_state, reserved_request};
 ghost use Rattle.sms_core.specs.declared.request.RequestState.{RequestState};
 ghost use Rattle.sms_core.specs.Requests.{StandsAt};
+ghost use Rattle.sms_core.specs.Limits.{largest_cost, most_attempts, most_topped};
 ghost use Rattle.sms_core.specs.Ledger.{IsFound, IsLive, is_open_named, one_if_open, one_if_ready, became};
 
-use crate::request::{LARGEST_COST, Phase, Request, RequestState};
+use crate::request::{Phase, Request, RequestState};
 use crate::requests::Requests;
-use crate::row::{MOST_TOPPED, Row};
-use crate::world::MOST_ATTEMPTS;
+use crate::row::Row;
 use std::alloc::{AllocError, Global};
 use std::marker::Model;
 
@@ -51,7 +51,7 @@ impl Ledger {
         ensures sums { result ≡ (if nat_lt account (length self.now.topped)
             then Some (row_of (slice_index_or self.now.topped account 0) account (map entry_of self.now.requests))
             else None) }
-        ensures limit { IfSome result (λ r. r.topped ≤ MOST_TOPPED) }
+        ensures limit { IfSome result (λ r. r.topped ≤ most_topped) }
     {
         if (account as usize) < self.rows.len() {
             Some(self.rows[account as usize])
@@ -63,7 +63,7 @@ impl Ledger {
     /// Adds to what an account was topped up with.
     pub(crate) fn top_up(&mut self, account: u32, amount: u64)
         requires known { account < length self.old.topped }
-        requires limit { slice_index_or self.old.topped account 0 + amount ≤ MOST_TOPPED }
+        requires limit { slice_index_or self.old.topped account 0 + amount ≤ most_topped }
         ensures { self.new ≡ record self.old { topped = slice_set self.old.topped account (slice_index_or self.old.topped account 0 + amount) } }
     {
         let row = &mut self.rows[account as usize];
@@ -76,7 +76,7 @@ impl Ledger {
         ensures there { is_some result ≡ is_ready_state (find_request id self.now.requests) }
         ensures found { IfSome result (λ p. IsFound self.now.requests id p.0 p.1 Phase.Ready) }
         ensures left { IfSome result (λ p. p.1.state.attempts < self.now.attempts) }
-        ensures few { IfSome result (λ p. p.1.state.attempts < MOST_ATTEMPTS) }
+        ensures few { IfSome result (λ p. p.1.state.attempts < most_attempts) }
     {
         let (place, request) = self.requests.find(id)?;
         if request.state.phase == Phase::Ready {
@@ -128,7 +128,7 @@ impl Ledger {
     pub(crate) fn reserve(&mut self, id: u32, account: u32, cost: u32) -> Result<(), AllocError>
         requires known { account < length self.old.topped }
         requires new { find_request id self.old.requests ≡ None }
-        requires small { cost ≤ LARGEST_COST }
+        requires small { cost ≤ largest_cost }
         requires credit { cost ≤ (row_of (slice_index_or self.old.topped account 0) account (map entry_of self.old.requests)).free }
         ensures ok { OnOk result (self.new.requests ≡ self.old.requests ++ reserved_request id account cost ∷ []) }
         ensures err { OnErr result (self.new.requests ≡ self.old.requests) }
@@ -180,7 +180,7 @@ impl Ledger {
     /// A ledger of accounts without credits.
     pub(crate) fn new(alloc: Global, accounts: u32, attempts: u32) -> Result<Ledger, AllocError>
         requires some { 1 ≤ attempts }
-        requires few { attempts ≤ MOST_ATTEMPTS }
+        requires few { attempts ≤ most_attempts }
         ensures { IfOk result (λ l. (l.attempts ≡ attempts) × (l.topped ≡ replicate accounts 0) × (l.requests ≡ [])) }
     {
         let none = Row {

@@ -1,7 +1,8 @@
-//! The pure model of a windowed, prepaid sender: events on accounts, requests and slots, and the world that they change.
+//! The pure model of a windowed, prepaid sender: events on accounts, requests and slots, and the
+//! world that they change.
 //!
-//! Every crate above cites the definitions of this one's `specs/`: hold sets, drawn numbers, account sums, the row law,
-//! marks, and the world's step.
+//! Every crate above cites the definitions of this one's `specs/`: hold sets, drawn numbers,
+//! account sums, the row law, marks, and the world's step.
 #![tactic(auto)]
 
 mod event;

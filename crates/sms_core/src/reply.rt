@@ -10,14 +10,16 @@ pub const ESME_RMSGQFUL: u32 = 0x14;
 /// The sender has exceeded its allowed rate.
 pub const ESME_RTHROTTLED: u32 = 0x58;
 
-/// Whether the answer charges its request: a submit_sm_resp with `ESME_ROK`. A generic_nack never does.
+/// Whether the answer charges its request: a submit_sm_resp with `ESME_ROK`. A generic_nack never
+/// does.
 pub fn is_charge(status: u32, nack: bool) -> bool
     ensures { result ≡ charges status nack }
 {
     !nack && status == ESME_ROK
 }
 
-/// Whether the request may be sent again after the answer: a submit_sm_resp that says throttled or queue full.
+/// Whether the request may be sent again after the answer: a submit_sm_resp that says throttled or
+/// queue full.
 pub fn is_retry(status: u32, nack: bool) -> bool
     ensures { result ≡ retries status nack }
 {

@@ -18,7 +18,8 @@ pub enum Phase {
     Unsent,
 }
 
-/// A request: the account that pays, its cost in credits, how often it was sent, and how far it has come.
+/// A request: the account that pays, its cost in credits, how often it was sent, and how far it has
+/// come.
 #[derive(Clone, Copy, Debug, PartialEq, Eq)]
 pub struct RequestState {
     pub account: u32,

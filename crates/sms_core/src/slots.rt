@@ -3,6 +3,7 @@
 ghost use Rattle.std.specs.Prelude.{◌≡◌, ◌≢◌, ◌==◌, ◌<◌, not, nat_lt, [], is_some, length, IfSome, replicate, slice_get, slice_index_or, slice_set};
 ghost use Rattle.std.specs.Bool.{OnTrue, OnFalse};
 ghost use Rattle.sms_core.specs.Holds.{holders_of, Claims, Releases};
+ghost use Rattle.sms_core.specs.Limits.{most_slots};
 ghost use Rattle.sms_core.specs.Slots.{Answers};
 ghost use Rattle.sms_core.specs.State.{find_holder, times_held};
 ghost use Rattle.sms_core.specs.Steps.{some_waits_for};
@@ -31,7 +32,7 @@ impl Slots {
     /// Slots that nobody has.
     pub(crate) fn new() -> Slots
         ensures holds { result.holds ≡ [] }
-        ensures marks { result.marks ≡ replicate SLOTS Mark.Empty }
+        ensures marks { result.marks ≡ replicate most_slots Mark.Empty }
     {
         Slots {
             holders: [None; SLOTS],
@@ -75,7 +76,7 @@ impl Slots {
 
     /// Gives a free slot to a worker.
     pub(crate) fn claim(&mut self, worker: u32, slot: u32)
-        requires inside { slot < SLOTS }
+        requires inside { slot < most_slots }
         requires free { holders_of slot self.old.holds ≡ 0 }
         ensures holds { Claims self.old.holds worker slot self.new.holds }
         ensures marks { self.new.marks ≡ self.old.marks }

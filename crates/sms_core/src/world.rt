@@ -75,8 +75,8 @@ fn reserves_in(events: &[Event]) -> usize
 }
 
 impl World {
-    /// A world without credits, requests or held slots, whose next sequence number is 1. It has 1 to 64 accounts, a window
-    /// of 1 to 64 slots, and lets a request be sent 1 to 10 times.
+    /// A world without credits, requests or held slots, whose next sequence number is 1. It has 1
+    /// to 64 accounts, a window of 1 to 64 slots, and lets a request be sent 1 to 10 times.
     pub fn new(alloc: Global, accounts: u32, limit: u32, attempts: u32) -> Result<World, CoreError>
         ensures made { IfOk result (λ w. w ≡ new_world accounts limit attempts) }
         ensures limits { OnOk result (AreLimits accounts limit attempts) }
@@ -101,7 +101,8 @@ impl World {
         self.tables.step(event)
     }
 
-    /// Lets the events happen in turn, and says what became of each. All memory is taken first: without it nothing happens.
+    /// Lets the events happen in turn, and says what became of each. All memory is taken first:
+    /// without it nothing happens.
     pub fn run(&mut self, events: &[Event]) -> Result<Vec<Step>, AllocError>
         ensures runs { IfOk result (λ answers. Runs self.old events.now answers.items self.new) }
         ensures err { OnErr result (self.new ≡ self.old) }

@@ -69,8 +69,8 @@ fn whole_text(alloc: Global, text: &Coded) -> Result<Vec<Part>, AllocError>
     Ok(parts)
 }
 
-// How many parts there are, where a header can count them. Nothing is copied yet, and of a text
-// that is too long no more than its first 255 parts are looked at.
+/// How many parts there are, where a header can count them. Nothing is copied yet, and of a text
+/// that is too long no more than its first 255 parts are looked at.
 fn part_count(coding: Coding, units: &[u16], limit: usize) -> Option<u8>
     requires { 2 ≤ limit }
     ensures count { IfSome result (λ count. count ≡ length (full_parts coding limit units.now)) }
@@ -88,7 +88,7 @@ fn part_count(coding: Coding, units: &[u16], limit: usize) -> Option<u8>
     Some(count)
 }
 
-// The parts of a text that has as many.
+/// The parts of a text that has as many.
 fn numbered_parts(
     alloc: Global,
     text: &Coded,

@@ -9,7 +9,7 @@ use sms_alphabet::Coding;
 const ESCAPE: u16 = 0x1B;
 
 /// How many of the units the next part takes: as many as the limit allows without parting a pair.
-pub fn front_len(coding: Coding, units: &[u16], limit: usize) -> usize
+pub(crate) fn front_len(coding: Coding, units: &[u16], limit: usize) -> usize
     requires { 2 ≤ limit }
     ensures { IsFront coding limit units.now result }
 {
@@ -23,7 +23,7 @@ pub fn front_len(coding: Coding, units: &[u16], limit: usize) -> usize
     }
 }
 
-// Whether a cut before `units[at]` parts an escape from its code, or a high from a low surrogate.
+/// Whether a cut before `units[at]` parts an escape from its code, or a high from a low surrogate.
 fn parts_pair(coding: Coding, units: &[u16], at: usize) -> bool
     requires positive { 0 < at }
     requires inside { at < length units.now }
@@ -35,8 +35,8 @@ fn parts_pair(coding: Coding, units: &[u16], at: usize) -> bool
     }
 }
 
-// Whether the last code is an escape that is not itself the code after an escape. Two escapes in a
-// row are in no spelling of a text, so there the loop ends at once.
+/// Whether the last code is an escape that is not itself the code after an escape. Two escapes in a
+/// row are in no spelling of a text, so there the loop ends at once.
 fn ends_in_escape(codes: &[u16]) -> bool
     ensures { result ≡ is_open Coding.Gsm codes.now }
 {

@@ -44,7 +44,7 @@ pub fn join(alloc: Global, parts: &[Part]) -> Result<Coded, JoinError>
     }
 }
 
-// The one coding of the parts, if they are a whole message.
+/// The one coding of the parts, if they are a whole message.
 fn coding_of(parts: &[Part]) -> Option<Coding>
     ensures whole { IfSome result (λ _. IsWhole parts.now) }
     ensures coding { IfSome result (λ coding. All (λ part. part.coding ≡ coding) parts.now) }
@@ -58,7 +58,7 @@ fn coding_of(parts: &[Part]) -> Option<Coding>
     if whole { Some(first.coding) } else { None }
 }
 
-// Whether the parts have places of one message, in order.
+/// Whether the parts have places of one message, in order.
 fn is_series(reference: Reference, coding: Coding, parts: &[Part]) -> bool
     requires { 0 < length parts.now }
     ensures { IsTrue result ↔ IsSeries reference coding parts.now }
@@ -95,7 +95,7 @@ fn joined_units(alloc: Global, parts: &[Part]) -> Result<Vec<u16>, AllocError>
     Ok(units)
 }
 
-// How many units the parts have, or the most that a `usize` can say.
+/// How many units the parts have, or the most that a `usize` can say.
 fn unit_count(parts: &[Part]) -> usize
     ensures { result ≡ min (length (flat_map (λ part. part.units) parts.now)) usize.MAX }
 {

@@ -1,7 +1,8 @@
 //! Long texts as concatenated short messages (3GPP TS 23.040 9.2.3.24 and 9.2.3.24.1).
 //!
-//! [`cut`] gives the parts of a coded text, as few as there can be, and [`join`] the text of its parts.
-//! A [`Part`] tells what the fields of its `submit_sm` are: `short_message`, `esm_class` and `data_coding`.
+//! [`cut`] gives the parts of a coded text, as few as there can be, and [`join`] the text of its
+//! parts. A [`Part`] tells what the fields of its `submit_sm` are: `short_message`, `esm_class` and
+//! `data_coding`.
 #![tactic(auto)]
 
 mod cutting;

@@ -7,7 +7,7 @@ use crate::place::Reference;
 use sms_alphabet::Coding;
 
 /// The most units of a text that is sent whole, without a header.
-pub fn single_limit(coding: Coding) -> usize
+pub(crate) fn single_limit(coding: Coding) -> usize
     ensures { result ≡ single_limit coding }
 {
     match coding {
@@ -17,7 +17,7 @@ pub fn single_limit(coding: Coding) -> usize
 }
 
 /// The most units of a part behind a header with this kind of reference.
-pub fn part_limit(reference: Reference, coding: Coding) -> usize
+pub(crate) fn part_limit(reference: Reference, coding: Coding) -> usize
     ensures { result ≡ part_limit reference coding }
 {
     match (reference, coding) {

@@ -35,7 +35,7 @@ impl Part {
         Ok(octets)
     }
 
-    // As many as `short_message` has, or the most that a `usize` can say.
+    /// As many as `short_message` has, or the most that a `usize` can say.
     fn octet_count(&self) -> usize
         ensures { result ≡ min (length (short_message self.now)) usize.MAX }
     {
