@@ -10,34 +10,52 @@ use crate::command::{Command, Mode};
 use crate::error::PduError;
 use crate::field::Field;
 use crate::header::{body_of, header_of};
+use crate::layout::{bind_fields, bind_resp_fields, sm_fields, sm_resp_fields};
 use crate::octets::Octets;
 use crate::parameter::Params;
 use crate::reading::{end, message, number, parameters, text, time};
 use std::alloc::Global;
+
+/// A row's field, read from `$octets`: its value, and the octets after it.
+macro_rules! read_field {
+    (($alloc:ident, $octets:ident) $name:ident: $field:ident is number,) => {
+        number(Field::$field, $octets)?
+    };
+    (($alloc:ident, $octets:ident) $name:ident: $field:ident is text($maximum:literal),) => {
+        text($alloc, Field::$field, $maximum, $octets)?
+    };
+    (($alloc:ident, $octets:ident) $name:ident: $field:ident is time,) => {
+        time($alloc, Field::$field, $octets)?
+    };
+    (($alloc:ident, $octets:ident) $name:ident: $field:ident is message,) => {
+        message($alloc, $octets)?
+    };
+}
+
+/// The fields of a table, read from `$octets` from left to right; then `$then`, with the octets after
+/// them as `$rest`; and then the struct or variant of these fields and of those in the braces.
+macro_rules! read_fields {
+    (
+        ($alloc:ident, $octets:ident => $rest:ident; $then:stmt;
+            $($of:ident)::+ { $($other:ident,)* .. })
+        $($name:ident: $field:ident is $kind:ident $(($maximum:literal))?,)*
+    ) => {{
+        let $rest = $octets;
+        $(let ($name, $rest) =
+            read_field!(($alloc, $rest) $name: $field is $kind $(($maximum))?,);)*
+        $then;
+        $($of)::+ { $($other,)* $($name,)* }
+    }};
+}
 
 /// The body of a bind.
 #[tactic(auto, unfolding(crate::specs::Reading::bind_at))]
 fn bind(alloc: Global, mode: Mode, octets: &[u8]) -> Result<Body, PduError>
     ensures { Gives (λ body. body) result (bind_at mode octets.now) }
 {
-    let (system_id, rest) = text(alloc, Field::SystemId, 16, octets)?;
-    let (password, rest) = text(alloc, Field::Password, 9, rest)?;
-    let (system_type, rest) = text(alloc, Field::SystemType, 13, rest)?;
-    let (interface_version, rest) = number(Field::InterfaceVersion, rest)?;
-    let (addr_ton, rest) = number(Field::AddrTon, rest)?;
-    let (addr_npi, rest) = number(Field::AddrNpi, rest)?;
-    let (address_range, rest) = text(alloc, Field::AddressRange, 41, rest)?;
-    end(rest)?;
-    Ok(Body::Bind {
-        mode,
-        system_id,
-        password,
-        system_type,
-        interface_version,
-        addr_ton,
-        addr_npi,
-        address_range,
-    })
+    Ok(bind_fields!(read_fields!(
+        alloc, octets => rest; end(rest)?; Body::Bind { mode, .. }
+    )))
 }
 
 /// A message.
@@ -45,44 +63,9 @@ fn bind(alloc: Global, mode: Mode, octets: &[u8]) -> Result<Body, PduError>
 fn sm(alloc: Global, octets: &[u8]) -> Result<Sm, PduError>
     ensures { Gives (λ sm. sm) result (sm_at octets.now) }
 {
-    let (service_type, rest) = text(alloc, Field::ServiceType, 6, octets)?;
-    let (source_ton, rest) = number(Field::SourceTon, rest)?;
-    let (source_npi, rest) = number(Field::SourceNpi, rest)?;
-    let (source_addr, rest) = text(alloc, Field::SourceAddr, 21, rest)?;
-    let (dest_ton, rest) = number(Field::DestTon, rest)?;
-    let (dest_npi, rest) = number(Field::DestNpi, rest)?;
-    let (dest_addr, rest) = text(alloc, Field::DestAddr, 21, rest)?;
-    let (esm_class, rest) = number(Field::EsmClass, rest)?;
-    let (protocol_id, rest) = number(Field::ProtocolId, rest)?;
-    let (priority, rest) = number(Field::Priority, rest)?;
-    let (schedule, rest) = time(alloc, Field::Schedule, rest)?;
-    let (validity, rest) = time(alloc, Field::Validity, rest)?;
-    let (registered, rest) = number(Field::Registered, rest)?;
-    let (replace, rest) = number(Field::Replace, rest)?;
-    let (data_coding, rest) = number(Field::DataCoding, rest)?;
-    let (default_msg, rest) = number(Field::DefaultMsg, rest)?;
-    let (short_message, rest) = message(alloc, rest)?;
-    let params = parameters(alloc, rest)?;
-    Ok(Sm {
-        service_type,
-        source_ton,
-        source_npi,
-        source_addr,
-        dest_ton,
-        dest_npi,
-        dest_addr,
-        esm_class,
-        protocol_id,
-        priority,
-        schedule,
-        validity,
-        registered,
-        replace,
-        data_coding,
-        default_msg,
-        short_message,
-        params,
-    })
+    Ok(sm_fields!(read_fields!(
+        alloc, octets => rest; let params = parameters(alloc, rest)?; Sm { params, .. }
+    )))
 }
 
 /// The body of a bind's response.
@@ -97,7 +80,7 @@ fn bind_resp(alloc: Global, mode: Mode, status: u32, octets: &[u8]) -> Result<Bo
             params: Params::none(alloc),
         });
     }
-    let (system_id, rest) = text(alloc, Field::SystemId, 16, octets)?;
+    let (system_id, rest) = bind_resp_fields!(read_field!(alloc, octets));
     let params = parameters(alloc, rest)?;
     Ok(Body::BindResp {
         mode,
@@ -114,7 +97,7 @@ fn message_id(alloc: Global, status: u32, octets: &[u8]) -> Result<Option<Octets
     if octets.is_empty() && status > 0 {
         return Ok(None);
     }
-    let (message_id, rest) = text(alloc, Field::MessageId, 65, octets)?;
+    let (message_id, rest) = sm_resp_fields!(read_field!(alloc, octets));
     end(rest)?;
     Ok(Some(message_id))
 }

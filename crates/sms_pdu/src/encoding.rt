@@ -11,6 +11,7 @@ ghost use Rattle.sms_pdu.specs.Writing.{written, sm_written, bind_resp_written, 
 use crate::body::{Body, Pdu, Sm};
 use crate::command::{Command, Mode};
 use crate::error::PduError;
+use crate::layout::{bind_fields, bind_resp_fields, sm_fields, sm_resp_fields};
 use crate::octets::Octets;
 use crate::parameter::{Parameter, Params};
 use crate::sizes::body_length;
@@ -53,28 +54,54 @@ fn put_parameter(out: &mut Vec<u8>, p: &Parameter) -> Result<(), AllocError>
     out.extend_from_slice(p.value.as_slice())
 }
 
+/// A row's field of this value, written.
+macro_rules! write_field {
+    (($out:ident, $value:expr) $name:ident: $field:ident is number,) => {
+        $out.push(*$value)?
+    };
+    (($out:ident, $value:expr) $name:ident: $field:ident is text($maximum:literal),) => {
+        put_text($out, $value)?
+    };
+    (($out:ident, $value:expr) $name:ident: $field:ident is time,) => {
+        put_text($out, $value)?
+    };
+    (($out:ident, $value:expr) $name:ident: $field:ident is message,) => {
+        put_message($out, $value)?
+    };
+}
+
+/// The fields of a table, written from left to right: those of a struct, or those of the variant
+/// that is the first arm of a match, where `$then` follows.
+macro_rules! write_fields {
+    (
+        ($out:ident, $of:ident)
+        $($name:ident: $field:ident is $kind:ident $(($maximum:literal))?,)*
+    ) => {
+        $(write_field!(($out, &$of.$name) $name: $field is $kind $(($maximum))?,);)*
+    };
+    (
+        ($out:ident, match $of:ident {
+            $($variant:ident)::+ { $other:ident: _, .. } => $then:expr, $($arms:tt)*
+        })
+        $($name:ident: $field:ident is $kind:ident $(($maximum:literal))?,)*
+    ) => {
+        match $of {
+            $($variant)::+ { $other: _, $($name,)* } => {
+                $(write_field!(($out, $name) $name: $field is $kind $(($maximum))?,);)*
+                $then
+            }
+            $($arms)*
+        }
+    };
+}
+
 /// A message before its parameters.
 fn put_fields(out: &mut Vec<u8>, sm: &Sm) -> Result<(), AllocError>
     requires { length sm.now.short_message ≤ 254 }
     ensures { OnOk result (out.new.items ≡ written sm_fields (sm_values sm.now) out.old.items) }
 {
-    put_text(out, &sm.service_type)?;
-    out.push(sm.source_ton)?;
-    out.push(sm.source_npi)?;
-    put_text(out, &sm.source_addr)?;
-    out.push(sm.dest_ton)?;
-    out.push(sm.dest_npi)?;
-    put_text(out, &sm.dest_addr)?;
-    out.push(sm.esm_class)?;
-    out.push(sm.protocol_id)?;
-    out.push(sm.priority)?;
-    put_text(out, &sm.schedule)?;
-    put_text(out, &sm.validity)?;
-    out.push(sm.registered)?;
-    out.push(sm.replace)?;
-    out.push(sm.data_coding)?;
-    out.push(sm.default_msg)?;
-    put_message(out, &sm.short_message)
+    sm_fields!(write_fields!(out, sm));
+    Ok(())
 }
 
 /// The optional parameters.
@@ -112,7 +139,7 @@ fn put_bind_resp(
     match system_id {
         None => Ok(()),
         Some(system_id) => {
-            put_text(out, system_id)?;
+            bind_resp_fields!(write_field!(out, system_id));
             put_parameters(out, params.as_slice())
         }
     }
@@ -124,7 +151,10 @@ fn put_message_id(out: &mut Vec<u8>, message_id: &Option<Octets>) -> Result<(), 
 {
     match message_id {
         None => Ok(()),
-        Some(message_id) => put_text(out, message_id),
+        Some(message_id) => {
+            sm_resp_fields!(write_field!(out, message_id));
+            Ok(())
+        }
     }
 }
 
@@ -134,40 +164,26 @@ fn put_body(out: &mut Vec<u8>, body: &Body) -> Result<(), AllocError>
     ensures put { OnOk result (out.new.items ≡ body_written body.now out.old.items) }
     ensures fit { OnOk result (TagsFit body.now) }
 {
-    match body {
-        Body::Bind {
-            mode: _,
-            system_id,
-            password,
-            system_type,
-            interface_version,
-            addr_ton,
-            addr_npi,
-            address_range,
-        } => {
-            put_text(out, system_id)?;
-            put_text(out, password)?;
-            put_text(out, system_type)?;
-            out.push(*interface_version)?;
-            out.push(*addr_ton)?;
-            out.push(*addr_npi)?;
-            put_text(out, address_range)
+    bind_fields!(write_fields!(
+        out,
+        match body {
+            Body::Bind { mode: _, .. } => Ok(()),
+            Body::BindResp {
+                mode: _,
+                system_id,
+                params
+            } => put_bind_resp(out, system_id, params),
+            Body::Submit(sm) => put_sm(out, sm),
+            Body::Deliver(sm) => put_sm(out, sm),
+            Body::SubmitResp { message_id } => put_message_id(out, message_id),
+            Body::DeliverResp { message_id } => put_message_id(out, message_id),
+            Body::Unbind => Ok(()),
+            Body::UnbindResp => Ok(()),
+            Body::EnquireLink => Ok(()),
+            Body::EnquireLinkResp => Ok(()),
+            Body::GenericNack => Ok(()),
         }
-        Body::BindResp {
-            mode: _,
-            system_id,
-            params,
-        } => put_bind_resp(out, system_id, params),
-        Body::Submit(sm) => put_sm(out, sm),
-        Body::Deliver(sm) => put_sm(out, sm),
-        Body::SubmitResp { message_id } => put_message_id(out, message_id),
-        Body::DeliverResp { message_id } => put_message_id(out, message_id),
-        Body::Unbind => Ok(()),
-        Body::UnbindResp => Ok(()),
-        Body::EnquireLink => Ok(()),
-        Body::EnquireLinkResp => Ok(()),
-        Body::GenericNack => Ok(()),
-    }
+    ))
 }
 
 /// The command of a body.

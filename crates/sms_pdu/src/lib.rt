@@ -11,6 +11,7 @@ mod frame;
 mod framer;
 mod header;
 pub mod laws;
+mod layout;
 mod octets;
 mod parameter;
 mod reading;

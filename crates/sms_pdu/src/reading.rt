@@ -5,6 +5,7 @@ ghost use Rattle.sms_pdu.specs.Reading.{Gives, number_octet_at, text_at, time_at
 
 use crate::error::PduError;
 use crate::field::Field;
+use crate::layout::{MESSAGE_MAXIMUM, TIME_LENGTH};
 use crate::octets::{Octets, first_zero, front};
 use crate::parameter::{Parameter, Params};
 use std::alloc::Global;
@@ -47,9 +48,9 @@ pub(crate) fn text<'a>(
 pub(crate) fn time(alloc: Global, field: Field, octets: &[u8]) -> Result<(Octets, &[u8]), PduError>
     ensures { Gives (λ x. (x.0, x.1.now)) result (time_at field octets.now) }
 {
-    let (time, rest) = text(alloc, field, 17, octets)?;
+    let (time, rest) = text(alloc, field, TIME_LENGTH as usize + 1, octets)?;
     let len = time.len();
-    if len == 0 || len == 16 {
+    if len == 0 || len == TIME_LENGTH as usize {
         Ok((time, rest))
     } else {
         Err(PduError::Malformed { field })
@@ -63,7 +64,7 @@ pub(crate) fn message(alloc: Global, octets: &[u8]) -> Result<(Octets, &[u8]), P
 {
     let (len, rest) = number(Field::SmLength, octets)?;
     let len = len as usize;
-    if 254 < len {
+    if MESSAGE_MAXIMUM < len {
         return Err(PduError::TooLong {
             field: Field::ShortMessage,
         });

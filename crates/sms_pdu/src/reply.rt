@@ -5,6 +5,7 @@ ghost use Rattle.sms_pdu.specs.Reply.{reply_in, id_text, message_id_of};
 
 use crate::command::{GENERIC_NACK, SUBMIT_SM_RESP};
 use crate::header::{body_of, header_of};
+use crate::layout::{maximum_of, sm_resp_fields};
 use crate::octets::{first_zero, front};
 
 /// A message_id of a submit_sm_resp: at most 64 octets (SMPP 3.4 5.2.23).
@@ -30,7 +31,7 @@ pub struct Reply {
 }
 
 /// The octets that a message_id and its 0 have at most.
-const ID_MAXIMUM: usize = 65;
+const ID_MAXIMUM: usize = sm_resp_fields!(maximum_of!());
 
 /// The answer that a PDU is: `Some` exactly where its header's command is submit_sm_resp or
 /// generic_nack. It is lenient: the header's length is not looked at, and a body that isn't a

@@ -9,6 +9,9 @@ ghost use Rattle.sms_pdu.specs.Size.{text_size, time_size, message_size, values_
 use crate::body::{Body, Sm};
 use crate::error::PduError;
 use crate::field::Field;
+use crate::layout::{
+    MESSAGE_MAXIMUM, TIME_LENGTH, bind_fields, bind_resp_fields, sm_fields, sm_resp_fields,
+};
 use crate::octets::{Octets, first_zero};
 use crate::parameter::{Parameter, Params};
 
@@ -31,8 +34,8 @@ fn text(field: Field, maximum: u8, text: &Octets) -> Result<u8, PduError>
 fn time(field: Field, time: &Octets) -> Result<u8, PduError>
     ensures { Gives (λ size. size) result (time_size field time.now) }
 {
-    let size = text(field, 17, time)?;
-    if size == 1 || size == 17 {
+    let size = text(field, TIME_LENGTH + 1, time)?;
+    if size == 1 || size == TIME_LENGTH + 1 {
         Ok(size)
     } else {
         Err(PduError::Malformed { field })
@@ -44,7 +47,7 @@ fn time(field: Field, time: &Octets) -> Result<u8, PduError>
 fn message(message: &Octets) -> Result<u8, PduError>
     ensures { Gives (λ size. size) result (message_size message.now) }
 {
-    if message.len() > 254 {
+    if message.len() > MESSAGE_MAXIMUM {
         return Err(PduError::TooLong {
             field: Field::ShortMessage,
         });
@@ -101,46 +104,60 @@ fn tail(before: usize, params: &Params) -> Result<usize, PduError>
     whole(before, params.as_slice())
 }
 
+/// The length of a row's field of this value, or its fault.
+macro_rules! measure_field {
+    (($value:expr) $name:ident: $field:ident is number,) => {
+        1
+    };
+    (($value:expr) $name:ident: $field:ident is text($maximum:literal),) => {
+        text(Field::$field, $maximum, $value)?
+    };
+    (($value:expr) $name:ident: $field:ident is time,) => {
+        time(Field::$field, $value)?
+    };
+    (($value:expr) $name:ident: $field:ident is message,) => {
+        message($value)?
+    };
+}
+
+/// The length of the fields of a table behind `$before` octets, or the first fault from left to
+/// right: of those of a struct, or of those of the variant that is the first arm of a match, where
+/// `$then` follows with that length as `$size`.
+macro_rules! measure_fields {
+    (
+        ($before:literal, $of:ident)
+        $($name:ident: $field:ident is $kind:ident $(($maximum:literal))?,)*
+    ) => {{
+        let size: usize = $before;
+        $(let size = size
+            + measure_field!((&$of.$name) $name: $field is $kind $(($maximum))?,) as usize;)*
+        size
+    }};
+    (
+        ($before:literal => $size:ident, match $of:ident {
+            $($variant:ident)::+ { $other:ident: _, .. } => $then:expr, $($arms:tt)*
+        })
+        $($name:ident: $field:ident is $kind:ident $(($maximum:literal))?,)*
+    ) => {
+        match $of {
+            $($variant)::+ { $other: _, $($name,)* } => {
+                let $size: usize = $before;
+                $(let $size = $size
+                    + measure_field!(($name) $name: $field is $kind $(($maximum))?,) as usize;)*
+                $then
+            }
+            $($arms)*
+        }
+    };
+}
+
 /// The length of a PDU with a message.
 #[tactic(auto, unfolding(crate::specs::Size::sm_size))]
 fn sm(sm: &Sm) -> Result<usize, PduError>
     ensures { Gives (λ size. size) result (sm_size sm.now) }
 {
-    let service_type = text(Field::ServiceType, 6, &sm.service_type)?;
-    let source_addr = text(Field::SourceAddr, 21, &sm.source_addr)?;
-    let dest_addr = text(Field::DestAddr, 21, &sm.dest_addr)?;
-    let schedule = time(Field::Schedule, &sm.schedule)?;
-    let validity = time(Field::Validity, &sm.validity)?;
-    let short_message = message(&sm.short_message)?;
-    let addresses = 16
-        + service_type as usize
-        + 1
-        + 1
-        + source_addr as usize
-        + 1
-        + 1
-        + dest_addr as usize;
-    let times = addresses + 1 + 1 + 1 + schedule as usize + validity as usize;
-    let fields = times + 1 + 1 + 1 + 1 + short_message as usize;
-    tail(fields, &sm.params)
-}
-
-/// The length of a bind.
-#[tactic(auto, unfolding(crate::specs::Size::bind_size))]
-fn bind(
-    system_id: &Octets,
-    password: &Octets,
-    system_type: &Octets,
-    address_range: &Octets,
-) -> Result<usize, PduError>
-    ensures { (version ton npi : ℕ) → Gives (λ size. size) result (bind_size (system_id.now, (password.now, (system_type.now, (version, (ton, (npi, (address_range.now, tt)))))))) }
-{
-    let system_id = text(Field::SystemId, 16, system_id)?;
-    let password = text(Field::Password, 9, password)?;
-    let system_type = text(Field::SystemType, 13, system_type)?;
-    let address_range = text(Field::AddressRange, 41, address_range)?;
-    let texts = 16 + system_id as usize + password as usize + system_type as usize;
-    Ok(texts + 1 + 1 + 1 + address_range as usize)
+    let size = sm_fields!(measure_fields!(16, sm));
+    tail(size, &sm.params)
 }
 
 /// The length of a bind's response.
@@ -159,7 +176,7 @@ fn bind_resp(status: u32, system_id: &Option<Octets>, params: &Params) -> Result
             absent(params.as_slice())
         }
         Some(system_id) => {
-            let size = text(Field::SystemId, 16, system_id)?;
+            let size = bind_resp_fields!(measure_field!(system_id));
             tail(16 + size as usize, params)
         }
     }
@@ -193,32 +210,20 @@ fn message_id(status: u32, message_id: &Option<Octets>) -> Result<usize, PduErro
             }
         }
         Some(message_id) => {
-            let size = text(Field::MessageId, 65, message_id)?;
+            let size = sm_resp_fields!(measure_field!(message_id));
             Ok(16 + size as usize)
         }
     }
 }
 
 /// The length of a PDU with this body.
+#[tactic(auto, unfolding(crate::specs::Size::bind_size))]
 pub(crate) fn body_length(status: u32, body: &Body) -> Result<usize, PduError>
     ensures { Gives (λ size. size) result (body_size status body.now) }
 {
-    match body {
-        Body::Bind {
-            mode: _,
-            system_id,
-            password,
-            system_type,
-            interface_version: _,
-            addr_ton: _,
-            addr_npi: _,
-            address_range,
-        } => bind(system_id, password, system_type, address_range),
-        Body::BindResp {
-            mode: _,
-            system_id,
-            params,
-        } => bind_resp(status, system_id, params),
+    bind_fields!(measure_fields!(16 => size, match body {
+        Body::Bind { mode: _, .. } => Ok(size),
+        Body::BindResp { mode: _, system_id, params } => bind_resp(status, system_id, params),
         Body::Submit(message) => sm(message),
         Body::Deliver(message) => sm(message),
         Body::SubmitResp { message_id: id } => message_id(status, id),
@@ -228,5 +233,5 @@ pub(crate) fn body_length(status: u32, body: &Body) -> Result<usize, PduError>
         | Body::EnquireLink
         | Body::EnquireLinkResp
         | Body::GenericNack => Ok(16),
-    }
+    }))
 }
