@@ -8,11 +8,10 @@ use Rattle.sms_core.specs.declared.event.Event.{Event}
 use Rattle.sms_send.specs.Faults.{IsDevice}
 use Rattle.sms_send.specs.Fields.{Record}
 use Rattle.sms_send.specs.Records.{GivesFirst}
-use Rattle.sms_send.specs.Schedule.{event_of, event_fault, TellsEvents}
+use Rattle.sms_send.specs.Schedule.{event_of, event_fault, most_events, TellsEvents}
 use Rattle.sms_send.specs.declared.fault.Fault.{Fault}
 use Rattle.sms_send.specs.declared.fault.Fault.TheVariants.{OutOfMemory}
 use Rattle.sms_send.specs.declared.fault.Source.TheVariants.{Schedule}
-use Rattle.sms_send.specs.declared.schedule.TheConstants.{MOST_EVENTS}
 
 -- what holds of a told value, whichever it is
 pub if_known : {A : Type 0} (o : Option A) (P : A → Type 0) → ((x : A) → o ≡ Some x → P x) → IfSome o P
@@ -32,18 +31,18 @@ none-found [] found r after h e = refl
 none-found (first ∷ rest) found r after h e = let bad : true ≡ false = cc in cc
 
 pub fault-bad : (before : ℕ) (r : Record) (rs : List Record) → event_of r ≡ None → event_fault before (r ∷ rs) ≡ Some (before + 1)
-fault-bad before r rs e = by (nat_le before MOST_EVENTS) refl
+fault-bad before r rs e = by (nat_le before most_events) refl
   where
-    by : (b : Bool) → nat_le before MOST_EVENTS ≡ b → event_fault before (r ∷ rs) ≡ Some (before + 1)
+    by : (b : Bool) → nat_le before most_events ≡ b → event_fault before (r ∷ rs) ≡ Some (before + 1)
     by true h = rw (h, e) refl
     by false h = rw h refl
 
-pub fault-good : (before : ℕ) (r : Record) (rs : List Record) (event : Event) → before ≤ MOST_EVENTS → event_of r ≡ Some event
+pub fault-good : (before : ℕ) (r : Record) (rs : List Record) (event : Event) → before ≤ most_events → event_of r ≡ Some event
     → event_fault before (r ∷ rs) ≡ event_fault (before + 1) rs
-fault-good before r rs event low e = let h : nat_le before MOST_EVENTS ≡ true = grind (arith, nat_tests) in rw (h, e) refl
+fault-good before r rs event low e = let h : nat_le before most_events ≡ true = grind (arith, nat_tests) in rw (h, e) refl
 
-pub fault-many : (before : ℕ) (r : Record) (rs : List Record) → MOST_EVENTS < before → event_fault before (r ∷ rs) ≡ Some (before + 1)
-fault-many before r rs high = let h : nat_le before MOST_EVENTS ≡ false = grind (arith, nat_tests) in rw h refl
+pub fault-many : (before : ℕ) (r : Record) (rs : List Record) → most_events < before → event_fault before (r ∷ rs) ≡ Some (before + 1)
+fault-many before r rs high = let h : nat_le before most_events ≡ false = grind (arith, nat_tests) in rw h refl
 
 -- one event more
 pub events-more : (left rest : List Record) (r : Record) (events after : List Event) (event : Event) → map event_of left ≡ map Some events ++ map event_of (r ∷ rest)

@@ -1,5 +1,6 @@
 pub mod Digits
 pub mod Left
+pub mod ReadErrors
 pub mod Events
 pub mod Lines
 pub mod Jobs

@@ -8,13 +8,12 @@ use Rattle.std.proofs.lemmas.Str.{IsUtf8-from_is_utf8, is_utf8-from_IsUtf8}
 use Rattle.csv.specs.Records.{field_at}
 use Rattle.sms_send.specs.Faults.{IsDevice}
 use Rattle.sms_send.specs.Fields.{Field, Record, records_of}
-use Rattle.sms_send.specs.Messages.{AreMessages, IsMessage, TellsMessages, TellsRest, are_texts, as_text, is_header, is_message, message_fault, record_of, text_in}
+use Rattle.sms_send.specs.Messages.{AreMessages, IsMessage, TellsMessages, TellsRest, are_texts, as_text, is_header, is_message, message_fault, most_messages, record_of, text_in}
 use Rattle.sms_send.specs.Records.{GivesFirst}
 use Rattle.sms_send.specs.declared.fault.Fault.{Fault}
 use Rattle.sms_send.specs.declared.fault.Fault.TheVariants.{MessagesRecord}
 use Rattle.sms_send.specs.declared.fault.Source.TheVariants.{Messages}
 use Rattle.sms_send.specs.declared.messages.Message.{Message}
-use Rattle.sms_send.specs.declared.messages.TheConstants.{MOST_MESSAGES}
 use Rattle.sms_send.proofs.Events.{if_known, at_known, next-found, none-found}
 
 -- a field that is text, and one that isn't
@@ -83,17 +82,17 @@ pub bad-message : (r : Record) (o : Option Message) → IsMessage r o → o ≡ 
 bad-message r o h e = rw e at h
 
 pub fault-bad : (before : ℕ) (r : Record) (rs : List Record) → is_message r ≡ false → message_fault before (r ∷ rs) ≡ Some (before + 1)
-fault-bad before r rs e = by (nat_le before MOST_MESSAGES) refl
+fault-bad before r rs e = by (nat_le before most_messages) refl
   where
-    by : (b : Bool) → nat_le before MOST_MESSAGES ≡ b → message_fault before (r ∷ rs) ≡ Some (before + 1)
+    by : (b : Bool) → nat_le before most_messages ≡ b → message_fault before (r ∷ rs) ≡ Some (before + 1)
     by true h = rw (h, e) refl
     by false h = rw h refl
 
-pub fault-good : (before : ℕ) (r : Record) (rs : List Record) → before ≤ MOST_MESSAGES → is_message r ≡ true → message_fault before (r ∷ rs) ≡ message_fault (before + 1) rs
-fault-good before r rs low e = let h : nat_le before MOST_MESSAGES ≡ true = grind (arith, nat_tests) in rw (h, e) refl
+pub fault-good : (before : ℕ) (r : Record) (rs : List Record) → before ≤ most_messages → is_message r ≡ true → message_fault before (r ∷ rs) ≡ message_fault (before + 1) rs
+fault-good before r rs low e = let h : nat_le before most_messages ≡ true = grind (arith, nat_tests) in rw (h, e) refl
 
-pub fault-many : (before : ℕ) (r : Record) (rs : List Record) → MOST_MESSAGES < before → message_fault before (r ∷ rs) ≡ Some (before + 1)
-fault-many before r rs high = let h : nat_le before MOST_MESSAGES ≡ false = grind (arith, nat_tests) in rw h refl
+pub fault-many : (before : ℕ) (r : Record) (rs : List Record) → most_messages < before → message_fault before (r ∷ rs) ≡ Some (before + 1)
+fault-many before r rs high = let h : nat_le before most_messages ≡ false = grind (arith, nat_tests) in rw h refl
 
 -- one message more
 pub messages-more : (left rest : List Record) (r : Record) (ms after : List Message) (m : Message) → left ≡ map record_of ms ++ (r ∷ rest) → record_of m ≡ r

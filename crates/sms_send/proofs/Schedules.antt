@@ -6,10 +6,9 @@ use Rattle.sms_core.specs.declared.event.Event.{Event}
 use Rattle.sms_core.specs.State.{State, AreLimits, new_world}
 use Rattle.sms_send.specs.Fields.{Record, records_of}
 use Rattle.sms_send.specs.Records.{GivesFirst}
-use Rattle.sms_send.specs.Schedule.{AreEvents, AreSchedule, TellsEvents, TellsSchedule, TellsWorld, are_limits, event_fault, limits_of, schedule_fault, world_of}
+use Rattle.sms_send.specs.Schedule.{AreEvents, AreSchedule, TellsEvents, TellsSchedule, TellsWorld, are_limits, event_fault, limits_of, most_events, schedule_fault, world_of}
 use Rattle.sms_send.specs.declared.fault.Fault.{Fault}
 use Rattle.sms_send.specs.declared.fault.Fault.TheVariants.{ScheduleRecord}
-use Rattle.sms_send.specs.declared.schedule.TheConstants.{MOST_EVENTS}
 use Rattle.sms_send.proofs.Events.{first-found, none-found}
 
 both : (a b : Bool) → (a && b) ≡ true → (a ≡ true) × (b ≡ true)
@@ -84,7 +83,7 @@ bad-events (Some bytes) left found r after f w whole h e made tells =
 
 -- the records after the first are events, and no more than there may be
 abbrev pub AreRest : List Event → List Record → Type 0
-AreRest events rs = AreEvents rs events × (length events ≤ MOST_EVENTS) × (event_fault 1 rs ≡ None)
+AreRest events rs = AreEvents rs events × (length events ≤ most_events) × (event_fault 1 rs ≡ None)
 
 abbrev pub IsWhole : State → List Event → List Record → Type 0
 IsWhole w events rs = AreSchedule rs w events × (schedule_fault rs ≡ None)

@@ -1,5 +1,5 @@
 -- The command line, in the words of the parser, and the job that it asks for.
-use Rattle.std.specs.Prelude.{◌≡◌, ◌≢◌, String, true, false, List, [], Option, Some, None, codes, unwrap_or, if◌then◌else◌}
+use Rattle.std.specs.Prelude.{◌≡◌, ◌≢◌, ◌⊎◌, String, Bool, true, List, [], Option, Some, None, codes, option_map, if◌then◌else◌}
 use Rattle.std.specs.Str.{bytes_eq}
 use Rattle.std.specs.String.{string_bytes}
 use Rattle.clap.specs.Words.{App, Kinds, IsAmong, Row, Text, fault_of, first_of, new_app, new_rule, subcommand_of, with_rule, with_subcommand}
@@ -34,33 +34,61 @@ abbrev pub refusals_of : List Text → Kinds
 refusals_of words = fault_of command_line words
 
 -- `-` names standard input, which is no file
-abbrev pub file_named : Option Text → Option Text
-file_named None = None
-file_named (Some name) = if bytes_eq name (codes "-") then None else Some name
+abbrev pub file_named : Text → Option Text
+file_named name = if bytes_eq name (codes "-") then None else Some name
 
 -- the file of a job
 abbrev pub bytes_of : {A : Type 0} → Option (String A) → Option Text
 bytes_of None = None
 bytes_of (Some name) = Some (string_bytes name)
 
--- the name that the parser requires: it takes no words without
-abbrev pub required_name : Option Text → Text
-required_name name = unwrap_or name []
+abbrev pub is_replay : Text × List Row → Bool
+is_replay found = bytes_eq found.0 (codes "replay")
 
--- the job of a subcommand and its matches; without one it is to replay standard input
+abbrev pub is_plan : Text × List Row → Bool
+is_plan found = bytes_eq found.0 (codes "plan")
+
+-- the name that a subcommand was given with its words
+abbrev pub name_given : Text × List Row → Option Text
+name_given found =
+    if is_plan found then first_of (codes "messages") found.1
+    else (if is_replay found then first_of (codes "FILE") found.1 else None)
+
+-- the job of a subcommand and its matches, with the name that it was given; without one it is to replay standard input
 abbrev pub IsJob : Option (Text × List Row) → Job → Type 0
 IsJob None (Replay file) = bytes_of file ≡ None
 IsJob None (Plan messages) = ⊥
-IsJob (Some found) (Replay file) = (bytes_eq found.0 (codes "plan") ≡ false) × (bytes_of file ≡ file_named (first_of (codes "FILE") found.1))
-IsJob (Some found) (Plan messages) = (bytes_eq found.0 (codes "plan") ≡ true) × (string_bytes messages ≡ required_name (first_of (codes "messages") found.1))
+IsJob (Some found) (Replay file) = (is_replay found ≡ true) × (option_map file_named (name_given found) ≡ Some (bytes_of file))
+IsJob (Some found) (Plan messages) = (is_plan found ≡ true) × (name_given found ≡ Some (string_bytes messages))
 
--- help was asked for, or the words are refused
-abbrev pub TellsWords : Kinds → Fault → Type 0
-TellsWords kinds (Help text) = IsAmong kind.DisplayHelp kinds
-TellsWords kinds Words = (k : ErrorKind) × (k ≢ kind.DisplayHelp) × IsAmong k kinds
-TellsWords kinds OutOfMemory = Unit {0}
-TellsWords kinds (File name) = ⊥
-TellsWords kinds (Unreadable source) = ⊥
-TellsWords kinds (ScheduleRecord place) = ⊥
-TellsWords kinds (MessagesRecord place) = ⊥
-TellsWords kinds Output = ⊥
+-- the parser met a subcommand without the name that it needs
+abbrev pub LacksName : Option (Text × List Row) → Type 0
+LacksName None = ⊥
+LacksName (Some found) = name_given found ≡ None
+
+-- what a fault says of the subcommand that the parser met, where it took the words
+abbrev pub TellsName : Option (Text × List Row) → Fault → Type 0
+TellsName found Words = LacksName found
+TellsName found OutOfMemory = Unit {0}
+TellsName found (Help text) = ⊥
+TellsName found (File name) = ⊥
+TellsName found (Unreadable source) = ⊥
+TellsName found (ScheduleRecord place) = ⊥
+TellsName found (MessagesRecord place) = ⊥
+TellsName found Output = ⊥
+
+-- what a fault says of the words that the parser refuses: help was asked for, or not
+abbrev pub TellsRefusal : Kinds → Fault → Type 0
+TellsRefusal kinds (Help text) = IsAmong kind.DisplayHelp kinds
+TellsRefusal kinds Words = (k : ErrorKind) × (k ≢ kind.DisplayHelp) × IsAmong k kinds
+TellsRefusal kinds OutOfMemory = Unit {0}
+TellsRefusal kinds (File name) = ⊥
+TellsRefusal kinds (Unreadable source) = ⊥
+TellsRefusal kinds (ScheduleRecord place) = ⊥
+TellsRefusal kinds (MessagesRecord place) = ⊥
+TellsRefusal kinds Output = ⊥
+
+-- what a fault says of the words: the parser refuses them, or takes them and a name is missing
+abbrev pub TellsWords : List Text → Fault → Type 0
+TellsWords words fault =
+    TellsRefusal (refusals_of words) fault ⊎ ((refusals_of words ≡ []) × TellsName (subcommand_in words) fault)

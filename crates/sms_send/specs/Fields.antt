@@ -4,7 +4,6 @@ use Rattle.std.specs.Str.{all_ascii_digits}
 use Rattle.std.specs.Str.Parse.{digits_value}
 use Rattle.csv.specs.Reading.{default_config, records, strip_bom}
 use Rattle.csv.specs.Records.{field_at}
-use Rattle.sms_send.specs.declared.field.TheConstants.{MOST_DIGITS}
 
 abbrev pub Field : Type 0
 Field = List ℕ
@@ -18,7 +17,7 @@ records_of bytes = records default_config (strip_bom bytes)
 
 -- 1 to 20 decimal digits
 abbrev pub is_numeral : Field → Bool
-is_numeral field = nat_lt 0 (length field) && nat_le (length field) MOST_DIGITS && all_ascii_digits field
+is_numeral field = nat_lt 0 (length field) && nat_le (length field) 20 && all_ascii_digits field
 
 -- the number that a field spells, where it is at most so much
 abbrev pub number_of : ℕ → Field → Option ℕ

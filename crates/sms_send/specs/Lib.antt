@@ -7,3 +7,4 @@ pub mod PlanText
 pub mod Faults
 pub mod CommandLine
 pub mod Replays
+pub mod Jobs

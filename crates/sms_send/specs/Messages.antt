@@ -8,7 +8,10 @@ use Rattle.sms_send.specs.declared.fault.Fault.{Fault}
 use Rattle.sms_send.specs.declared.fault.Fault.TheVariants.{MessagesRecord}
 use Rattle.sms_send.specs.declared.fault.Source.TheVariants.{Messages}
 use Rattle.sms_send.specs.declared.messages.Message.{Message}
-use Rattle.sms_send.specs.declared.messages.TheConstants.{MOST_MESSAGES}
+
+-- how many messages a file has at the most
+abbrev pub most_messages : ℕ
+most_messages = 100_000
 
 -- the field at a place is this one
 abbrev pub is_some_field : Option Field → Field → Bool
@@ -47,7 +50,7 @@ record_of m = string_bytes m.account ∷ (string_bytes m.source ∷ (string_byte
 -- the number, from 1, of the first record that is no message or is one too many, where so many records stand before
 abbrev pub message_fault : ℕ → List Record → Option ℕ
 message_fault before [] = None
-message_fault before (r ∷ rs) = if nat_le before MOST_MESSAGES && is_message r then message_fault (before + 1) rs else Some (before + 1)
+message_fault before (r ∷ rs) = if nat_le before most_messages && is_message r then message_fault (before + 1) rs else Some (before + 1)
 
 -- the number, from 1, of the first record that may not stand where it stands; a messages file has a header
 abbrev pub messages_fault : List Record → Option ℕ

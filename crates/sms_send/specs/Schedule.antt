@@ -4,14 +4,12 @@ use Rattle.std.specs.Str.{bytes_eq}
 use Rattle.csv.specs.Records.{field_at}
 use Rattle.sms_core.specs.declared.event.Event.{Event}
 use Rattle.sms_core.specs.declared.event.Event.TheVariants.{TopUp, Reserve, Claim, Post, Respond, Settle, Expire, Discard, Release}
-use Rattle.sms_core.specs.declared.world.TheConstants.{SLOTS, MOST_ACCOUNTS, MOST_ATTEMPTS}
 use Rattle.sms_core.specs.State.{State, new_world}
 use Rattle.sms_send.specs.Fields.{Record, number_at}
 use Rattle.sms_send.specs.Faults.{IsDevice}
 use Rattle.sms_send.specs.declared.fault.Fault.{Fault}
 use Rattle.sms_send.specs.declared.fault.Fault.TheVariants.{OutOfMemory, ScheduleRecord}
 use Rattle.sms_send.specs.declared.fault.Source.TheVariants.{Schedule}
-use Rattle.sms_send.specs.declared.schedule.TheConstants.{MOST_EVENTS}
 
 -- the greatest numbers of a field's type; a flag is 0 or 1
 abbrev pub most_u32 : ℕ
@@ -22,6 +20,19 @@ most_u64 = 0xFFFF_FFFF_FFFF_FFFF
 
 abbrev pub most_flag : ℕ
 most_flag = 1
+
+-- how many events a schedule has at the most, and accounts, slots and attempts its world
+abbrev pub most_events : ℕ
+most_events = 1_000_000
+
+abbrev pub most_accounts : ℕ
+most_accounts = 64
+
+abbrev pub most_slots : ℕ
+most_slots = 64
+
+abbrev pub most_attempts : ℕ
+most_attempts = 10
 
 -- the numbers after the word of a record: exactly so many, the last of at most so much, the others below 2^32
 abbrev pub one_number : Record → Option ℕ
@@ -77,7 +88,7 @@ event_of r = option_and_then (λ word. made_by forms word r) (field_at r 0)
 
 -- the accounts, the slots and the attempts of a world that may be
 abbrev pub are_limits : ℕ × ℕ × ℕ → Bool
-are_limits n = (nat_le 1 n.0 && nat_le n.0 MOST_ACCOUNTS) && ((nat_le 1 n.1 && nat_le n.1 SLOTS) && (nat_le 1 n.2 && nat_le n.2 MOST_ATTEMPTS))
+are_limits n = (nat_le 1 n.0 && nat_le n.0 most_accounts) && ((nat_le 1 n.1 && nat_le n.1 most_slots) && (nat_le 1 n.2 && nat_le n.2 most_attempts))
 
 -- the numbers of the record that sets the world up
 abbrev pub limits_of : Record → Option (ℕ × ℕ × ℕ)
@@ -90,7 +101,7 @@ world_of r = option_and_then (λ n. if are_limits n then Some (new_world n.0 n.1
 -- the number, from 1, of the first record that is no event or is one too many, where so many records stand before
 abbrev pub event_fault : ℕ → List Record → Option ℕ
 event_fault before [] = None
-event_fault before (r ∷ rs) = if nat_le before MOST_EVENTS && is_some (event_of r) then event_fault (before + 1) rs else Some (before + 1)
+event_fault before (r ∷ rs) = if nat_le before most_events && is_some (event_of r) then event_fault (before + 1) rs else Some (before + 1)
 
 -- the number, from 1, of the first record that may not stand where it stands; a schedule has a first record
 abbrev pub schedule_fault : List Record → Option ℕ
@@ -104,7 +115,7 @@ AreEvents rs events = map event_of rs ≡ map Some events
 -- the records are a schedule of this world and these events
 abbrev pub AreSchedule : List Record → State → List Event → Type 0
 AreSchedule [] w events = ⊥
-AreSchedule (r ∷ rs) w events = (world_of r ≡ Some w) × AreEvents rs events × (length events ≤ MOST_EVENTS)
+AreSchedule (r ∷ rs) w events = (world_of r ≡ Some w) × AreEvents rs events × (length events ≤ most_events)
 
 -- what a fault says of the records after the first: the record that it names is the first faulty one
 abbrev pub TellsEvents : List Record → Fault → Type 0

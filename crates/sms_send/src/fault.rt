@@ -3,8 +3,8 @@
 ghost use Rattle.std.specs.Prelude.{◌≡◌};
 
 use std::alloc::{AllocError, AllocFailed};
+use std::error::Error;
 use std::fmt;
-use thiserror::Error;
 
 /// What is read.
 #[derive(Clone, Copy, Debug, PartialEq, Eq)]
@@ -16,6 +16,11 @@ pub enum Source {
 }
 
 impl fmt::Display for Source {
+    ghost use Rattle.std.specs.Prelude.{Some};
+    ghost use Rattle.sms_send.specs.Faults.{source_name};
+
+    ghost output = { λ source. Some (source_name source) };
+
     fn fmt<W: fmt::Write>(&self, f: &mut fmt::Formatter<W>) -> fmt::Result {
         match self {
             Source::Schedule => write!(f, "schedule"),
@@ -25,33 +30,47 @@ impl fmt::Display for Source {
 }
 
 /// Why the program ends before its work is done. Its text is the line that the program tells it with.
-#[derive(Debug, Drop, Error)]
+#[derive(Debug, Drop)]
 pub enum Fault {
     /// The command line is refused.
-    #[error("fault: words")]
     Words,
     /// Help was asked for, and this is the parser's text.
-    #[error("{0}")]
     Help(String),
     /// The file of this name can't be opened.
-    #[error("fault: file {0}")]
     File(String),
     /// What was opened can't be read.
-    #[error("fault: file {0}")]
     Unreadable(Source),
     /// The record of the schedule, counted from 1, isn't one that may stand there.
-    #[error("fault: schedule record {0}")]
     ScheduleRecord(usize),
     /// The record of the messages file, counted from 1, isn't one that may stand there.
-    #[error("fault: messages record {0}")]
     MessagesRecord(usize),
     /// What is to be printed can't be written.
-    #[error("fault: output")]
     Output,
     /// Memory was refused.
-    #[error("fault: out of memory")]
     OutOfMemory,
 }
+
+impl fmt::Display for Fault {
+    ghost use Rattle.std.specs.Prelude.{Some};
+    ghost use Rattle.sms_send.specs.Faults.{fault_text};
+
+    ghost output = { λ fault. Some (fault_text fault) };
+
+    fn fmt<W: fmt::Write>(&self, f: &mut fmt::Formatter<W>) -> fmt::Result {
+        match self {
+            Fault::Words => write!(f, "fault: words"),
+            Fault::Help(text) => write!(f, "{text}"),
+            Fault::File(name) => write!(f, "fault: file {name}"),
+            Fault::Unreadable(source) => write!(f, "fault: file {source}"),
+            Fault::ScheduleRecord(place) => write!(f, "fault: schedule record {place}"),
+            Fault::MessagesRecord(place) => write!(f, "fault: messages record {place}"),
+            Fault::Output => write!(f, "fault: output"),
+            Fault::OutOfMemory => write!(f, "fault: out of memory"),
+        }
+    }
+}
+
+impl Error for Fault {}
 
 impl Fault {
     ghost use Rattle.sms_send.specs.Faults.{status_of};

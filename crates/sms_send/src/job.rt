@@ -1,9 +1,10 @@
 //! The command line.
 
-ghost use Rattle.std.specs.Prelude.{◌≡◌, [], false, IfErr, IfOk, OnOk, map, option_map, string_bytes};
+ghost use Rattle.std.specs.Prelude.{◌≡◌, ◌≢◌, ◌↔◌, [], false, IfErr, IfOk, OnOk, map, string_bytes};
 ghost use Rattle.clap.specs.Words.{HasKind, Kinds, app_of, kind_of, subcommand_rows_of};
 ghost use Rattle.clap.specs.declared.builder.Command.TheViews.{out-Command as fields_of};
-ghost use Rattle.sms_send.specs.CommandLine.{IsJob, TellsWords, bytes_of, file_named, command_line as words_allowed, plan_line, refusals_of, required_name, subcommand_in};
+ghost use Rattle.sms_send.specs.CommandLine.{IsJob, TellsName, TellsRefusal, TellsWords, bytes_of, file_named, command_line as words_allowed, plan_line, refusals_of, subcommand_in};
+ghost use Rattle.sms_send.specs.declared.fault.Fault.TheVariants.{OutOfMemory, Words};
 
 use crate::fault::Fault;
 use clap::error::ErrorKind;
@@ -23,10 +24,10 @@ pub enum Job {
 pub fn job_of(alloc: Global, words: &[String]) -> Result<Job, Fault>
     ensures job { IfOk result (IsJob (subcommand_in (map string_bytes words.now))) }
     ensures taken { OnOk result (refusals_of (map string_bytes words.now) ≡ []) }
-    ensures refused { IfErr result (TellsWords (refusals_of (map string_bytes words.now))) }
+    ensures refused { IfErr result (TellsWords (map string_bytes words.now)) }
 {
     match command_line(alloc)?.try_get_matches_from(words) {
-        Ok(matches) => Ok(job_in(alloc, &matches)?),
+        Ok(matches) => job_in(alloc, &matches),
         Err(error) => Err(fault_of(alloc, &error)),
     }
 }
@@ -66,38 +67,34 @@ fn plan_command<'a>(alloc: Global) -> Result<Command<'a>, AllocError>
         .arg(messages)
 }
 
-/// The job of the subcommand that the parser met.
-fn job_in(alloc: Global, matches: &ArgMatches<'_>) -> Result<Job, AllocError>
-    ensures { IfOk result (IsJob (subcommand_rows_of matches.now)) }
+/// The job of the subcommand that the parser met. The parser requires each name, and one that is missing is refused all
+/// the same.
+fn job_in(alloc: Global, matches: &ArgMatches<'_>) -> Result<Job, Fault>
+    ensures job { IfOk result (IsJob (subcommand_rows_of matches.now)) }
+    ensures refused { IfErr result (TellsName (subcommand_rows_of matches.now)) }
 {
     let Some((name, found)) = matches.subcommand() else {
         return Ok(Job::Replay(None));
     };
     if name == "plan" {
-        let messages = name_of(alloc, found.get_str("messages"))?;
-        return Ok(Job::Plan(messages));
+        let Some(messages) = found.get_str("messages") else {
+            return Err(Fault::Words);
+        };
+        return Ok(Job::Plan(String::from_str(alloc, messages)?));
     }
-    let file = file_of(alloc, found.get_str("FILE"))?;
-    Ok(Job::Replay(file))
-}
-
-/// The name that the parser requires, and so gives.
-fn name_of(alloc: Global, name: Option<&str>) -> Result<String, AllocError>
-    ensures { IfOk result (λ text. string_bytes text ≡ required_name (option_map (λ text. text.now) name.entry)) }
-{
-    match name {
-        Some(name) => String::from_str(alloc, name),
-        None => Ok(String::new(alloc)),
+    if name == "replay" {
+        let Some(file) = found.get_str("FILE") else {
+            return Err(Fault::Words);
+        };
+        return Ok(Job::Replay(file_of(alloc, file)?));
     }
+    Err(Fault::Words)
 }
 
 /// The file of this name; `-` is standard input, which is none.
-fn file_of(alloc: Global, name: Option<&str>) -> Result<Option<String>, AllocError>
-    ensures { IfOk result (λ file. bytes_of file ≡ file_named (option_map (λ text. text.now) name.entry)) }
+fn file_of(alloc: Global, name: &str) -> Result<Option<String>, AllocError>
+    ensures { IfOk result (λ file. bytes_of file ≡ file_named name.now) }
 {
-    let Some(name) = name else {
-        return Ok(None);
-    };
     if name == "-" {
         return Ok(None);
     }
@@ -107,7 +104,9 @@ fn file_of(alloc: Global, name: Option<&str>) -> Result<Option<String>, AllocErr
 
 /// The fault that the parser's error is.
 fn fault_of(alloc: Global, error: &Error) -> Fault
-    ensures { (kinds : Kinds) → HasKind kinds error.now → TellsWords kinds result }
+    ensures refused { (kinds : Kinds) → HasKind kinds error.now → TellsRefusal kinds result }
+    ensures memory { kind_of error.now ≡ ErrorKind.OutOfMemory → result ≡ OutOfMemory }
+    ensures words { (result ≡ Words) ↔ ((kind_of error.now ≢ ErrorKind.OutOfMemory) × (kind_of error.now ≢ ErrorKind.DisplayHelp)) }
 {
     match error.kind() {
         ErrorKind::OutOfMemory => Fault::OutOfMemory,

@@ -2,10 +2,13 @@
 //! the texts of messages are coded and cut.
 #![tactic(auto)]
 
+#[cfg(test)]
+mod broken;
 mod fault;
 mod field;
 mod job;
 mod messages;
+mod output;
 mod plan;
 #[cfg(test)]
 mod plan_tests;
@@ -17,61 +20,96 @@ mod schedule;
 mod tests;
 mod text;
 
+ghost use Rattle.std.specs.Prelude.{◌≡◌, ◌≢◌, ◌⊎◌, IfErr, IfOk, OnOk, if◌then◌else◌};
+ghost use Rattle.sms_send.specs.Faults.{status_of};
+ghost use Rattle.sms_send.specs.Jobs.{Does, TellsJob, Works};
+ghost use Rattle.sms_send.specs.declared.fault.Fault.TheVariants.{File, Output, OutOfMemory, Words};
+
 use crate::fault::Fault;
 use crate::job::{Job, job_of};
 use crate::plan::run_plan;
 use crate::replay::run_replay;
-use std::io::Read;
+use std::io::{ErrorKind, Write};
 use std::process::ExitCode;
 use std::rt::{Env, Files};
 use std::{env, fs, io};
 
 fn main(rt: HostRuntime) -> ExitCode {
-    let status = match run(&rt) {
+    let status = match run(&rt, &mut io::writer(&rt)) {
         Ok(status) => status,
         Err(fault) => tell(&rt, &fault),
     };
     ExitCode::from(status)
 }
 
-/// Does the job that the words ask for, and gives the exit status.
-fn run<R: AllocGlobal + Env + Files + Input + Print>(rt: &R) -> Result<u8, Fault> {
+/// Does the job that the program's words ask for, and gives the exit status.
+fn run<R: AllocGlobal + Env + Files + Input, W: Write>(rt: &R, output: &mut W) -> Result<u8, Fault>
+    ensures status { IfOk result (λ status. status ≡ 0) }
+    ensures done { OnOk result (Works R.Reader.remaining R.File.remaining (W.contents output.old) (W.contents output.new)) }
+    ensures unwritten { IfErr result (λ fault. fault ≢ Output → output.new ≡ output.old) }
+{
     let words = words_of(rt)?;
-    match job_of(rt.alloc(), words.as_slice())? {
-        Job::Replay(None) => replay_to_output(rt, rt.reader()),
-        Job::Replay(Some(name)) => match fs::open(rt, name.as_str()) {
-            Ok(file) => replay_to_output(rt, file),
-            Err(_) => Err(Fault::File(name)),
-        },
-        Job::Plan(name) => match fs::open(rt, name.as_str()) {
-            Ok(file) => run_plan(rt.alloc(), file, &mut io::writer(rt)),
-            Err(_) => Err(Fault::File(name)),
-        },
+    let job = job_of(rt.alloc(), words.as_slice())?;
+    do_job(rt, job, output)
+}
+
+/// The words after the program's name. One that is not UTF-8 is refused.
+fn words_of<R: AllocGlobal + Env>(rt: &R) -> Result<Vec<String>, Fault>
+    ensures { IfErr result (λ fault. (fault ≡ Words) ⊎ (fault ≡ OutOfMemory)) }
+{
+    match env::args(rt) {
+        Ok(words) => Ok(words.skip(1).collect(rt.alloc())?),
+        Err(error) if error.kind() == ErrorKind::OutOfMemory => Err(Fault::OutOfMemory),
+        Err(_) => Err(Fault::Words),
     }
 }
 
-/// The words after the program's name.
-fn words_of<R: AllocGlobal + Env>(rt: &R) -> Result<Vec<String>, Fault> {
-    let Ok(words) = env::args(rt) else {
-        return Err(Fault::OutOfMemory);
-    };
-    Ok(words.skip(1).collect(rt.alloc())?)
+/// Does a job, and gives the exit status.
+fn do_job<R: AllocGlobal + Files + Input, W: Write>(
+    rt: &R,
+    job: Job,
+    output: &mut W,
+) -> Result<u8, Fault>
+    ensures status { IfOk result (λ status. status ≡ 0) }
+    ensures done { OnOk result (Does R.Reader.remaining R.File.remaining job (W.contents output.old) (W.contents output.new)) }
+    ensures refused { IfErr result (TellsJob R.Reader.remaining R.File.remaining job) }
+    ensures unwritten { IfErr result (λ fault. fault ≢ Output → output.new ≡ output.old) }
+{
+    match job {
+        Job::Replay(None) => run_replay(rt.alloc(), rt.reader(), output),
+        Job::Replay(Some(name)) => run_replay(rt.alloc(), open(rt, name)?, output),
+        Job::Plan(name) => run_plan(rt.alloc(), open(rt, name)?, output),
+    }
 }
 
-/// Replays what the input gives to standard output.
-fn replay_to_output<R: AllocGlobal + Print, I: Read + Drop>(rt: &R, input: I) -> Result<u8, Fault> {
-    let mut output = io::writer(rt);
-    run_replay(rt.alloc(), input, &mut output)
+/// The file of this name, opened to be read.
+fn open<R: Files>(rt: &R, name: String) -> Result<R::File, Fault>
+    ensures { IfErr result (λ fault. fault ≡ File name) }
+{
+    match fs::open(rt, name.as_str()) {
+        Ok(file) => Ok(file),
+        Err(_) => Err(Fault::File(name)),
+    }
 }
 
 /// Tells a fault in one line on standard error, and help on standard output, and gives the exit status.
-fn tell<R: Eprint + Print>(rt: &R, fault: &Fault) -> u8 {
+fn tell<R: Eprint + Print>(rt: &R, fault: &Fault) -> u8
+    ensures { (result ≡ status_of fault.now) ⊎ (result ≡ status_of Output) }
+{
     let told = match fault {
         Fault::Help(text) => print!(rt; "{text}"),
         _ => eprintln!(rt; "{fault}"),
     };
-    match told {
-        Ok(()) => fault.exit_status(),
-        Err(_) => Fault::Output.exit_status(),
+    status_told(told.is_ok(), fault)
+}
+
+/// The exit status where the fault was told, or could not be.
+fn status_told(is_told: bool, fault: &Fault) -> u8
+    ensures { result ≡ (if is_told then status_of fault.now else status_of Output) }
+{
+    if is_told {
+        fault.exit_status()
+    } else {
+        Fault::Output.exit_status()
     }
 }

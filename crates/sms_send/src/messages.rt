@@ -3,7 +3,7 @@
 ghost use Rattle.std.specs.Prelude.{◌≡◌, ◌≤◌, None, IfErr, IfOk, IfSome, length, map, option_map, string_bytes};
 ghost use Rattle.csv.specs.Records.{fields_of};
 ghost use Rattle.sms_send.specs.Fields.{records_of};
-ghost use Rattle.sms_send.specs.Messages.{AreMessages, IsMessage, TellsMessages, TellsRest, field_is, is_header as header_is, message_fault, record_of, text_in};
+ghost use Rattle.sms_send.specs.Messages.{AreMessages, IsMessage, TellsMessages, TellsRest, field_is, is_header as header_is, message_fault, most_messages, record_of, text_in};
 ghost use Rattle.sms_send.specs.Records.{ReadsAll, records_left};
 
 use crate::fault::{Fault, Source};
@@ -35,7 +35,7 @@ pub struct Message {
 /// The messages of a file. Reading stops at the first faulty record, and one record past the limit.
 pub fn read_messages<R: Read + Drop>(alloc: Global, input: R) -> Result<Vec<Message>, Fault>
     ensures messages { IfOk result (λ messages. IfSome (R.remaining input) (λ bytes. AreMessages (records_of bytes) messages.items)) }
-    ensures limit { IfOk result (λ messages. length messages.items ≤ MOST_MESSAGES) }
+    ensures limit { IfOk result (λ messages. length messages.items ≤ most_messages) }
     ensures faulty { IfErr result (λ fault. IfSome (R.remaining input) (λ bytes. TellsMessages (records_of bytes) fault)) }
 {
     let mut reader = read_all(alloc, input);
@@ -58,7 +58,7 @@ fn read_rest<R: Read + Drop>(
     requires { ReadsAll reader.old }
     ensures messages { IfOk result (λ messages. IfSome (records_left R.remaining reader.old) (λ left.
         (map record_of messages.items ≡ left) × (message_fault 1 left ≡ None))) }
-    ensures limit { IfOk result (λ messages. length messages.items ≤ MOST_MESSAGES) }
+    ensures limit { IfOk result (λ messages. length messages.items ≤ most_messages) }
     ensures faulty { IfErr result (λ fault. IfSome (records_left R.remaining reader.old) (λ left. TellsRest left fault)) }
 {
     let mut messages = Vec::new(alloc);

@@ -9,6 +9,7 @@ ghost use Rattle.sms_send.specs.declared.fault.Fault.TheVariants.{Output};
 
 use crate::fault::Fault;
 use crate::messages::read_messages;
+use crate::output::write_out;
 use crate::plan_text::plan_text;
 use std::alloc::Global;
 use std::io::{Read, Write};
@@ -37,15 +38,4 @@ pub fn run_plan<R: Read + Drop, W: Write>(
     let text = plan_text(alloc, &messages)?;
     write_out(output, text.as_bytes())?;
     Ok(0)
-}
-
-/// Writes all of the text, and lets it go out.
-fn write_out<W: Write>(output: &mut W, text: &[u8]) -> Result<(), Fault>
-    ensures written { OnOk result (Appends (W.contents output.old) (W.contents output.new) text.now) }
-    ensures failed { IfErr result (λ fault. fault ≡ Output) }
-{
-    if output.write_all(text).is_err() || output.flush().is_err() {
-        return Err(Fault::Output);
-    }
-    Ok(())
 }

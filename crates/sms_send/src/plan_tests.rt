@@ -1,7 +1,7 @@
+use crate::broken::{FailingInput, FailingOutput};
 use crate::fault::{Fault, Source};
 use crate::plan::run_plan;
 use std::alloc::{AllocError, Global};
-use std::io;
 use std::process::Abort;
 use std::test::Fail;
 
@@ -99,39 +99,24 @@ fn names_the_first_faulty_record(rt: HostRuntime) -> Result<(), Fail> {
     Ok(())
 }
 
-// A writer that takes nothing, and a reader that gives nothing.
-#[derive(Drop)]
-struct Broken {}
-
-impl io::Write for Broken {
-    fn write(&mut self, _buf: &[u8]) -> io::Result<usize> {
-        Err(io::Error::from(io::ErrorKind::Other))
-    }
-
-    fn flush(&mut self) -> io::Result<()> {
-        Ok(())
-    }
-}
-
-impl io::Read for Broken {
-    fn read(&mut self, _buf: &mut [u8]) -> io::Result<usize> {
-        Err(io::Error::from(io::ErrorKind::Other))
-    }
-}
-
 #[test]
 fn tells_what_failed(rt: HostRuntime) -> Result<(), Fail> {
     let alloc = rt.alloc();
     let input = letters(alloc, 1)?;
-    match run_plan(alloc, input.as_bytes(), &mut Broken {}) {
-        Err(Fault::Output) => {}
-        Err(Fault::OutOfMemory) => return Err(Fail::from(AllocError)),
-        _ => assert!(rt; false, "a broken writer"),
+    for room in [0, 10, 1000] {
+        match run_plan(alloc, input.as_bytes(), &mut FailingOutput { room }) {
+            Err(Fault::Output) => {}
+            Err(Fault::OutOfMemory) => return Err(Fail::from(AllocError)),
+            _ => assert!(rt; false, "a broken writer"),
+        }
     }
-    match run_plan(alloc, Broken {}, &mut Vec::new(alloc)) {
-        Err(Fault::Unreadable(Source::Messages)) => {}
-        Err(Fault::OutOfMemory) => return Err(Fail::from(AllocError)),
-        _ => assert!(rt; false, "a broken reader"),
+    for given in [0, 5, 40] {
+        let left = &input.as_bytes()[..given];
+        match run_plan(alloc, FailingInput { left }, &mut Vec::new(alloc)) {
+            Err(Fault::Unreadable(Source::Messages)) => {}
+            Err(Fault::OutOfMemory) => return Err(Fail::from(AllocError)),
+            _ => assert!(rt; false, "a broken reader"),
+        }
     }
     Ok(())
 }

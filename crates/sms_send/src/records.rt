@@ -1,10 +1,12 @@
 //! The records of a CSV file, one at a time.
 
-ghost use Rattle.std.specs.Prelude.{◌≡◌, IfErr, IfOk, IfSome, OnOk, option_map};
+ghost use Rattle.std.specs.Prelude.{◌≡◌, false, true, IfErr, IfOk, IfSome, OnOk, option_map};
+ghost use Rattle.csv.specs.Reading.{error_kind, is_io};
 ghost use Rattle.csv.specs.Records.{fields_of};
 ghost use Rattle.sms_send.specs.Faults.{IsDevice};
 ghost use Rattle.sms_send.specs.Fields.{records_of};
-ghost use Rattle.sms_send.specs.Records.{GivesFirst, ReadsAll, records_left};
+ghost use Rattle.sms_send.specs.Records.{GivesFirst, IsDeviceError, ReadsAll, records_left};
+ghost use Rattle.sms_send.specs.declared.fault.Fault.TheVariants.{OutOfMemory, Unreadable};
 
 use crate::fault::{Fault, Source};
 use csv::{ByteRecord, Error, Reader, ReaderBuilder};
@@ -42,7 +44,9 @@ pub fn next_record<R: Read>(
 
 /// The fault that an error in reading a source is.
 fn fault_of(error: &Error, source: Source) -> Fault
-    ensures { IsDevice source result }
+    requires { IsDeviceError (error_kind error.now) }
+    ensures reader { is_io (error_kind error.now) ≡ true → result ≡ Unreadable source }
+    ensures memory { is_io (error_kind error.now) ≡ false → result ≡ OutOfMemory }
 {
     if error.is_io_error() {
         Fault::Unreadable(source)

@@ -6,6 +6,7 @@ ghost use Rattle.sms_send.specs.Replays.{Replays, TellsReplay};
 ghost use Rattle.sms_send.specs.Schedule.{schedule_fault};
 
 use crate::fault::Fault;
+use crate::output::write_out;
 use crate::schedule::{Schedule, read_schedule};
 use crate::text::replay_text;
 use std::alloc::Global;
@@ -28,11 +29,6 @@ pub fn run_replay<R: Read + Drop, W: Write>(
     let Schedule { mut world, events } = read_schedule(alloc, input)?;
     let answers = world.run(events.as_slice())?;
     let text = replay_text(alloc, answers.as_slice(), &world)?;
-    if output.write_all(text.as_bytes()).is_err() {
-        return Err(Fault::Output);
-    }
-    if output.flush().is_err() {
-        return Err(Fault::Output);
-    }
+    write_out(output, text.as_bytes())?;
     Ok(0)
 }

@@ -2,7 +2,7 @@
 
 ghost use Rattle.std.specs.Prelude.{◌≡◌, ◌≤◌, None, Some, IfErr, IfOk, IfSome, length};
 ghost use Rattle.csv.specs.Records.{fields_of};
-ghost use Rattle.sms_send.specs.Schedule.{one_number as one_spelled, two_numbers as two_spelled, three_numbers as three_spelled, event_of as event_spelled, limits_of as limits_spelled, world_of as world_spelled, AreEvents, AreSchedule, TellsEvents, TellsSchedule, TellsWorld, event_fault, schedule_fault};
+ghost use Rattle.sms_send.specs.Schedule.{one_number as one_spelled, two_numbers as two_spelled, three_numbers as three_spelled, event_of as event_spelled, limits_of as limits_spelled, world_of as world_spelled, AreEvents, AreSchedule, TellsEvents, TellsSchedule, TellsWorld, event_fault, most_events, schedule_fault};
 ghost use Rattle.sms_send.specs.Fields.{records_of};
 ghost use Rattle.sms_send.specs.Records.{ReadsAll, records_left};
 
@@ -127,7 +127,7 @@ fn read_events<R: Read>(
 ) -> Result<Vec<Event>, Fault>
     requires { ReadsAll reader.old }
     ensures events { IfOk result (λ events. IfSome (records_left R.remaining reader.old) (λ left.
-        AreEvents left events.items × (length events.items ≤ MOST_EVENTS) × (event_fault 1 left ≡ None))) }
+        AreEvents left events.items × (length events.items ≤ most_events) × (event_fault 1 left ≡ None))) }
     ensures faulty { IfErr result (λ fault. IfSome (records_left R.remaining reader.old) (λ left. TellsEvents left fault)) }
 {
     let mut events = Vec::new(alloc);

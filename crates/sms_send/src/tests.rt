@@ -1,10 +1,10 @@
 //! Schedules and what they print, worked out by hand, and the faults.
 
+use crate::broken::{FailingInput, FailingOutput};
+use crate::do_job;
 use crate::fault::Fault;
 use crate::job::{Job, job_of};
 use crate::replay::run_replay;
-use std::io;
-use std::io::{Read, Write};
 use std::process::Abort;
 use std::test::Fail;
 
@@ -108,48 +108,54 @@ fn prints_schedules_and_faults(rt: HostRuntime) {
     }
 }
 
-/// A device whose reads and writes fail.
-struct Broken;
-
-impl Drop for Broken {
-    fn drop(self) {
-        let Broken = self;
-    }
-}
-
-impl Read for Broken {
-    fn read(&mut self, buf: &mut [u8]) -> io::Result<usize> {
-        let _ = buf;
-        Err(io::Error::from(io::ErrorKind::BrokenPipe))
-    }
-}
-
-impl Write for Broken {
-    fn write(&mut self, buf: &[u8]) -> io::Result<usize> {
-        let _ = buf;
-        Err(io::Error::from(io::ErrorKind::BrokenPipe))
-    }
-
-    fn flush(&mut self) -> io::Result<()> {
-        Ok(())
-    }
-}
-
 #[test]
 fn tells_broken_devices(rt: HostRuntime) -> Result<(), Fail> {
-    let schedule = "world,1,64,3";
-    let output = run_replay(rt.alloc(), schedule.as_bytes(), &mut Broken)
-        .err()
-        .ok_or("no fault")?;
-    assert_eq!(rt; output.to_string(rt.alloc())?.as_str(), "fault: output");
-    assert_eq!(rt; output.exit_status(), 1);
-    let input = run_replay(rt.alloc(), Broken, &mut Vec::new(rt.alloc()))
-        .err()
-        .ok_or("no fault")?;
-    assert_eq!(rt;
-        input.to_string(rt.alloc())?.as_str(),
-        "fault: file schedule"
-    );
+    let schedule = b"world,1,64,3\nclaim,1,0\n";
+    // at the first octet, in mid-stream, and when it should go out
+    for room in [0, 10, 1000] {
+        let output = run_replay(rt.alloc(), schedule.as_slice(), &mut FailingOutput { room })
+            .err()
+            .ok_or("no fault")?;
+        assert_eq!(rt; output.to_string(rt.alloc())?.as_str(), "fault: output");
+        assert_eq!(rt; output.exit_status(), 1);
+    }
+    for given in [0, 5, 20] {
+        let left = &schedule[..given];
+        let mut output = Vec::new(rt.alloc());
+        let input = run_replay(rt.alloc(), FailingInput { left }, &mut output)
+            .err()
+            .ok_or("no fault")?;
+        assert_eq!(rt;
+            input.to_string(rt.alloc())?.as_str(),
+            "fault: file schedule"
+        );
+        assert_eq!(rt; input.exit_status(), 1);
+        assert!(rt; output.is_empty());
+    }
+    Ok(())
+}
+
+/// Files that can't be opened, and a folder, which opens and can't be read.
+#[test]
+fn tells_files_that_cannot_be_read(rt: HostRuntime) -> Result<(), Fail> {
+    let cases = [
+        ("replay", "nowhere.csv", "fault: file nowhere.csv"),
+        ("plan", "nowhere.csv", "fault: file nowhere.csv"),
+        ("replay", "/", "fault: file schedule"),
+        ("plan", "/", "fault: file messages"),
+    ];
+    for (word, name, expected) in cases {
+        let name = String::from_str(rt.alloc(), name)?;
+        let job = if word == "plan" {
+            Job::Plan(name)
+        } else {
+            Job::Replay(Some(name))
+        };
+        let mut output = Vec::new(rt.alloc());
+        let fault = do_job(&rt, job, &mut output).err().ok_or("no fault")?;
+        assert_eq!(rt; fault.to_string(rt.alloc())?.as_str(), expected);
+        assert!(rt; output.is_empty());
+    }
     Ok(())
 }
 

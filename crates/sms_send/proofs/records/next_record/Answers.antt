@@ -1,6 +1,11 @@
 use Rattle.csv.specs.Records.{fields_of}
 use Rattle.sms_send.proofs.Left.{first-left}
+use Rattle.sms_send.proofs.ReadErrors.{only-device}
 use Rattle.sms_send.proofs.records.next_record.Goals as goal
+
+pub fault_of-requires : goal.fault_of-requires
+fault_of-requires g c =
+    only-device g.R.Read.remaining c.args.reader.now c.read_byte_record.new.self c.in-Err.error.kind c.requires.3 (c.in-Err.ensures.why c.requires.2)
 
 pub returns-in-Ok-clause-first : goal.returns-in-Ok-clause-first
 returns-in-Ok-clause-first g c =

@@ -9,4 +9,5 @@ returns-clause-reads g c =
       rw (e, h) at fr.config ∙ c.new.ensures.config,
       rw (e, h) at fr.trim ∙ c.new.ensures.trim,
       inr (inr (rw (e, h) at fr.has_headers, fr.headers)),
+      rw e at fr.flexible,
     )

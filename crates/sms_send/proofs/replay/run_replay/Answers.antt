@@ -1,6 +1,5 @@
 use Rattle.std.proofs.Common.{rules, arith, refl, ap, sym, ◌≡◌, ◌∙◌, List}
 use Rattle.std.specs.Prelude.{string_bytes}
-use Rattle.csv.proofs.ReadFacts.{on-ok}
 use Rattle.sms_core.specs.declared.event.Step.{Step}
 use Rattle.sms_send.specs.Text.{replay_text}
 use Rattle.sms_send.proofs.Accounts.{runs-keep}
@@ -19,7 +18,6 @@ returns-clause-replayed g c =
     let bytes : c.as_bytes.result.now ≡ string_bytes c.in_ok-text.text = search rules in
     let text : string_bytes c.in_ok-text.text ≡ replay_text c.in_ok-answers.answers.items c.run.new.self =
     c.in_ok-text.ensures ∙ ap (λ (a : List Step). replay_text a c.run.new.self) c.as_slice-2.ensures.value in
-    let wrote = on-ok c.write_all.result (sym c.is_err.ensures.value ∙ c.if-is_err.false) c.write_all.ensures.bytes in
-    replayed (g.R.Read.remaining c.args.input) (g.W.Write.contents c.args.output.now) (g.W.Write.contents c.write_all.new.self) (g.W.Write.contents c.flush.new.self)
+    replayed (g.R.Read.remaining c.args.input) (g.W.Write.contents c.args.output.now) (g.W.Write.contents c.write_out.new.output)
     c.in_ok-world.field-0.world c.in_ok-world.field-0.world c.run.new.self c.in_ok-world.field-0.events.items c.as_slice.result.now c.in_ok-answers.answers.items c.as_bytes.result.now
-    c.in_ok-world.ensures.schedule refl events c.in_ok-answers.ensures.runs (bytes ∙ text) wrote c.flush.ensures.bytes
+    c.in_ok-world.ensures.schedule refl events c.in_ok-answers.ensures.runs (bytes ∙ text) c.in_ok-write_out.ensures.written
