@@ -1,3 +1,4 @@
+//! What the calls of a slot and of a row answer, one after another.
 use crate::{Answer, Expired, Search, Slot, SlotError, SlotRow, Taken};
 use sms_pdu::{Reply, reply_of};
 use std::process::Abort;
@@ -43,6 +44,29 @@ fn one_slot_of_a_row(rt: HostRuntime) -> Result<(), Fail> {
     assert_eq!(rt; row.answer(&rt, reply), Search::Unknown);
     assert_eq!(rt; row.expire(&rt, 3, 5), Expired::Answered);
     assert_eq!(rt; row.take(&rt, 3, 5), Taken::Got(reply));
+    Ok(())
+}
+
+// A call that names another number or an empty slot finds nothing, and leaves what is there.
+#[test]
+fn other_numbers_of_a_row(rt: HostRuntime) -> Result<(), Fail> {
+    let row = SlotRow::new(rt.alloc())?;
+    let reply = reply_to(&rt, 5);
+    assert_eq!(rt; row.take(&rt, 0, 5), Taken::Unknown);
+    assert_eq!(rt; row.expire(&rt, 0, 5), Expired::Unknown);
+    assert_eq!(rt; row.answer(&rt, reply), Search::Unknown);
+    assert_eq!(rt; row.post(&rt, 0, 2, 5), Ok(()));
+    assert_eq!(rt; row.take(&rt, 0, 6), Taken::Unknown);
+    assert_eq!(rt; row.expire(&rt, 0, 6), Expired::Unknown);
+    assert_eq!(rt; row.take(&rt, 1, 5), Taken::Unknown);
+    let found = row.answer(&rt, reply);
+    assert_eq!(rt; found, Search::Found { slot: 0, worker: 2 });
+    assert_eq!(rt; row.take(&rt, 0, 6), Taken::Unknown);
+    assert_eq!(rt; row.expire(&rt, 0, 6), Expired::Unknown);
+    assert_eq!(rt; row.take(&rt, 0, 5), Taken::Got(reply));
+    assert_eq!(rt; row.post(&rt, 0, 3, 6), Ok(()));
+    assert_eq!(rt; row.expire(&rt, 0, 6), Expired::Done);
+    assert_eq!(rt; row.post(&rt, 0, 3, 7), Ok(()));
     Ok(())
 }
 
