@@ -1,4 +1,4 @@
-// The slots of one bind, each behind a lock of its own.
+//! The slots of one bind, each behind a lock of its own.
 ghost use Rattle.std.specs.Prelude.{◌≡◌, ◌<◌, vec_len};
 ghost use Rattle.sms_slot.specs.Slot.{IsSound};
 ghost use Rattle.sms_slot.specs.Row.{IsFoundInRow, HasNumber};
@@ -15,7 +15,9 @@ struct Kept {
     ghost sound: { IsSound slot },
 }
 
-/// The 64 slots of a bind. A call takes one slot's lock at a time, and waits for it. Nothing is said of what a slot had when its lock was taken but that an answer in it has its request's number.
+/// The 64 slots of a bind. A call takes one slot's lock at a time, and waits for it. Nothing is
+/// said of what a slot had when its lock was taken but that an answer in it has its request's
+/// number.
 #[derive(Drop)]
 pub struct SlotRow {
     slots: Vec<Mutex<Kept>>,

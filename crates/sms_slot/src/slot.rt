@@ -1,4 +1,4 @@
-// One slot, and how a request passes through it.
+//! One slot, and how a request passes through it.
 ghost use Rattle.std.specs.Prelude.{◌≡◌, ◌↔◌, IsOk, OnOk, OnErr, MatchResult};
 
 use sms_pdu::Reply;
