@@ -1,4 +1,5 @@
--- Each kind of step as plain data: that it keeps the rule, which step on hold sets and on numbers it is, and what runs of them keep.
+-- Each kind of step as plain data: that it keeps the rule, which step on hold sets and on numbers
+-- it is, and what runs of them keep.
 use Rattle.std.proofs.Common.{◌≡◌, ◌≢◌, ℕ, ◌+◌, ◌-◌, ◌^◌, ◌<◌, ◌≤◌, ◌==◌, List, [], ◌∷◌, ◌++◌, set, refl, sym, ap, ◌∙◌, subst, arith, get_or-set_other, get_or-set_same}
 use Rattle.std.specs.Int.{bit_at}
 use mathlib.Core.Option.{some}
@@ -12,7 +13,7 @@ use Rattle.sms_window.specs.declared.view.View.{View}
 use Rattle.sms_window.specs.declared.view.Opening.{Opening}
 use Rattle.sms_window.specs.Seats.{Holds, met_with, with_slots, seen_with, drawn_with, giver, given, joined, nobody}
 use Rattle.sms_window.specs.Rule.{pairs_of, numbers_of, IsWindow}
-use Rattle.sms_window.specs.Moves.{Shared, window_word, number_word, IsThere, after_step, with_views, Move, looks, claims, releases, splits, joins, looks_at_number, draws, Moves, Runs, Spares, AllSpare, Without, AllWithout}
+use Rattle.sms_window.specs.Moves.{Shared, window_word, number_word, IsThere, after_step, with_views, Move, looks, claims, releases, splits, joins, looks_at_number, draws, Moves, Runs, Spares, AllSpare, Without}
 use Rattle.sms_window.specs.Laws.{HoldStep, SameNumbers, NumberStep, MoveKeepsRule, MoveIsStep, ClaimedOnce, DrawnOnce, DroppedStays}
 use Rattle.sms_window.proofs.NumberLists.{times-append}
 use Rattle.sms_window.proofs.Views.{total_set, total_snoc, total_join, set_at, times-numbers_of}

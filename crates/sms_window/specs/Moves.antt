@@ -1,4 +1,5 @@
--- A window as plain data, each kind of step on it, and runs of such steps in any order by any of its seats. An exchange that fails is a look at the word that it found.
+-- A window as plain data, each kind of step on it, and runs of such steps in any order by any of
+-- its seats. An exchange that fails is a look at the word that it found.
 use Rattle.std.specs.Prelude.{◌≡◌, ◌≢◌, ℕ, ◌+◌, ◌-◌, ◌^◌, ◌<◌, List, [], ◌∷◌, ◌++◌, slice_index, slice_set}
 use Rattle.std.specs.Int.{bit_at}
 use mathlib.Core.Option.{some}
@@ -37,7 +38,8 @@ after_step s word n id v = record { words = slice_set s.words word n; homes = s.
 abbrev pub with_views : Shared → List View → Shared
 with_views s views = record { words = s.words; homes = s.homes; views = views }
 
--- The kinds of step. The first number is that of the seat that steps; then comes the slot, or the seat that is taken in
+-- The kinds of step. The first number is that of the seat that steps; then comes the slot, or the
+-- seat that is taken in
 pub data Move : Type 0 where
   looks : ℕ → Move
   claims : ℕ → ℕ → Move

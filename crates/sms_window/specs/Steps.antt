@@ -14,7 +14,8 @@ pub record IsHoldSet (v : View) (bits : ℕ) (pairs : List (ℕ × ℕ)) : Type 
   pub word : word_of pairs ≡ bits
   pub own : (f : ℕ × ℕ → ℕ) → weigh f (own_pairs v) ≤ weigh f pairs
 
--- The seat v became w by a claim: there are hold sets with the word that it found and the word that it left, and the second is the first after the seat's claim of the slot
+-- The seat v became w by a claim: there are hold sets with the word that it found and the word that
+-- it left, and the second is the first after the seat's claim of the slot
 pub record IsClaim (v : View) (slot word : ℕ) (w : View) : Type 0 where
   pub old : List (ℕ × ℕ)
   pub new : List (ℕ × ℕ)
@@ -31,7 +32,8 @@ pub record IsRelease (v : View) (slot word : ℕ) (w : View) : Type 0 where
   pub after : IsHoldSet w w.met new
   pub releases : Releases old v.name slot new
 
--- The seat v became w by a draw: `all` are the numbers that all seats drew before it, the seat's own among them, and with n they are each number from the first to n once
+-- The seat v became w by a draw: `all` are the numbers that all seats drew before it, the seat's
+-- own among them, and with n they are each number from the first to n once
 pub record IsDraw (v : View) (n : ℕ) (w : View) : Type 0 where
   pub all : List ℕ
   pub own : (x : ℕ) → times x v.numbers ≤ times x all

@@ -1,4 +1,4 @@
-// Why no window is made.
+//! Why no window is made.
 
 /// Why no window is made.
 #[derive(Clone, Copy, Debug, PartialEq, Eq, thiserror::Error)]

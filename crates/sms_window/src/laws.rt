@@ -1,7 +1,10 @@
-//! The laws of a window, over every state that meets its rule and every run of steps. Each holds of all numbers of seats and threads, in any order of their steps.
+//! The laws of a window, over every state that meets its rule and every run of steps. Each holds of
+//! all numbers of seats and threads, in any order of their steps.
 ghost use Rattle.sms_window.specs.Laws.{RuleIsOrderly, OpeningMeetsRule, MoveKeepsRule, RunIsOrderly, MoveIsStep, ClaimedOnce, DrawnOnce, DroppedStays, GivesGreatest};
 
-/// What the rule says in plain terms: the seats' pairs are a lawful hold set whose word is the window word, their numbers are those from the first to below the number word, each once, and no two families share a name.
+/// What the rule says in plain terms: the seats' pairs are a lawful hold set whose word is the
+/// window word, their numbers are those from the first to below the number word, each once, and no
+/// two families share a name.
 pub fn rule_is_orderly()
     ensures { RuleIsOrderly }
 {}
@@ -36,7 +39,8 @@ pub fn drawn_once()
     ensures { DrawnOnce }
 {}
 
-/// What a seat has stays while others step: so also the slots and numbers of a seat that was dropped.
+/// What a seat has stays while others step: so also the slots and numbers of a seat that was
+/// dropped.
 pub fn dropped_stays()
     ensures { DroppedStays }
 {}

@@ -1,4 +1,4 @@
-// What the steps of a window answer.
+//! What the steps of a window answer.
 
 /// What a try to claim a slot answers.
 #[derive(Clone, Copy, Debug, PartialEq, Eq)]

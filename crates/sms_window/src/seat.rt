@@ -1,4 +1,4 @@
-// A thread's part in a window.
+//! A thread's part in a window.
 ghost use Rattle.std.specs.Prelude.{◌≡◌, ℕ, ◌<◌, ◌↔◌, IsTrue};
 ghost use Rattle.sms_window.specs.Seats.{CanSplit, Holds};
 
@@ -6,7 +6,9 @@ use crate::view::View;
 use atomic_table::Seat;
 use std::marker::Model;
 
-/// A seat of a window, with which a thread steps. It has a name, a family of names to give to other seats, the slots that it claimed and the numbers that it drew. The slots of a seat that is dropped stay held.
+/// A seat of a window, with which a thread steps. It has a name, a family of names to give to other
+/// seats, the slots that it claimed and the numbers that it drew. The slots of a seat that is
+/// dropped stay held.
 #[derive(Drop)]
 pub struct WindowSeat {
     pub(crate) seat: Seat<(), View>,

@@ -1,7 +1,8 @@
-// What contracts know of a seat.
+//! What contracts know of a seat.
 use std::collections::LinkedList;
 
-/// What a seat knows. Contracts alone speak of it: no value of it is made when the program runs. `family` and `slots` are sets of numbers below 64, as the bits of a word.
+/// What a seat knows. Contracts alone speak of it: no value of it is made when the program runs.
+/// `family` and `slots` are sets of numbers below 64, as the bits of a word.
 pub struct View {
     /// The seat's own name, below 64.
     pub name: u32,
@@ -9,7 +10,8 @@ pub struct View {
     pub family: u64,
     /// The slots that it holds.
     pub slots: u64,
-    /// The sequence numbers that it drew, in order, and behind them those of the seats that it took in.
+    /// The sequence numbers that it drew, in order, and behind them those of the seats that it took
+    /// in.
     pub numbers: LinkedList<u32>,
     /// It took in another seat, so its numbers may not rise any more.
     pub has_joined: bool,

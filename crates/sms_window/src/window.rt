@@ -1,4 +1,4 @@
-// The window, and the steps on it.
+//! The window, and the steps on it.
 ghost use Rattle.std.specs.Prelude.{◌≡◌, ◌+◌, IfOk, IfErr};
 ghost use Rattle.sms_window.specs.Seats.{CanSplit, Holds, met_with, giver, given, joined};
 ghost use Rattle.sms_window.specs.Outcome.{Claimed, Released, Drawn, IsMade, Refuses, IsEnd};
@@ -14,7 +14,9 @@ use atomic_table::Table;
 use std::alloc::Global;
 use std::marker::Model;
 
-/// The window of a bind. Its window word has a bit for each of the 64 slots, set where a seat holds it; its number word has the next sequence number. Threads share it by `&`, each with a seat of its own. To a contract it is its name.
+/// The window of a bind. Its window word has a bit for each of the 64 slots, set where a seat holds
+/// it; its number word has the next sequence number. Threads share it by `&`, each with a seat of
+/// its own. To a contract it is its name.
 #[derive(Drop)]
 pub struct Window {
     table: Table<(), View, Opening, WindowRule, Global>,
@@ -34,7 +36,8 @@ impl Model for Window {
 }
 
 impl Window {
-    /// A window of `limit` slots, 1 to 64, whose numbers begin at 1, and its keeper's seat. That seat has all names, and holds the slots from the limit on.
+    /// A window of `limit` slots, 1 to 64, whose numbers begin at 1, and its keeper's seat. That
+    /// seat has all names, and holds the slots from the limit on.
     pub fn make(alloc: Global, limit: u32) -> Result<(Window, WindowSeat), WindowError>
         ensures made { IfOk result (λ r. IsMade limit 1 r.0 r.1) }
         ensures refused { IfErr result (λ e. Refuses limit 1 e) }
@@ -42,7 +45,8 @@ impl Window {
         Window::make_from(alloc, limit, 1)
     }
 
-    /// The same, where the numbers begin at `first`, 1 to 0x7FFFFFFF. A bad limit is told before a bad first number.
+    /// The same, where the numbers begin at `first`, 1 to 0x7FFFFFFF. A bad limit is told before a
+    /// bad first number.
     pub fn make_from(
         alloc: Global,
         limit: u32,
@@ -185,7 +189,8 @@ impl Window {
         }
     }
 
-    /// Ends the window, and tells its two words. Any seat of it may be handed in; one that has all names accounts for both words alone.
+    /// Ends the window, and tells its two words. Any seat of it may be handed in; one that has all
+    /// names accounts for both words alone.
     pub fn close(self, seat: WindowSeat) -> Closed
         requires own { seat.window ≡ self }
         ensures { IsEnd seat.view result.held result.next }

@@ -1,3 +1,4 @@
+//! A window that threads share: no number is lost, and none comes twice.
 ghost use Rattle.std.specs.Prelude.{◌≡◌, ◌+◌, ◌^◌, [], ◌∷◌, ◌++◌, All, IfOk, IfSome, IfNone};
 ghost use Rattle.sms_window.specs.Seats.{Holds, met_with, with_slots};
 
