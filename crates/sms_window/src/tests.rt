@@ -1,3 +1,4 @@
+//! Windows as they are used: what each call answers, by one thread.
 ghost use Rattle.std.specs.Prelude.{◌≡◌, All, IfOk};
 
 use crate::{Claim, Closed, Draw, Freed, Window, WindowError, WindowSeat};
@@ -170,6 +171,24 @@ fn a_dropped_seat_keeps_its_slot(rt: HostRuntime) {
 }
 
 #[test]
+fn numbers_by_turns(rt: HostRuntime) {
+    let (window, mut keeper) = window_of(&rt, rt.alloc(), 2, 7);
+    let mut a = seat_of(&rt, &window, &mut keeper);
+    assert_eq!(rt; window.try_draw(&mut keeper), Draw::Number(7));
+    assert_eq!(rt; window.try_draw(&mut a), Draw::Number(8));
+    assert_eq!(rt; window.try_draw(&mut keeper), Draw::Number(9));
+    drop(a);
+    let closed = window.close(keeper);
+    assert_eq!(rt;
+        closed,
+        Closed {
+            held: 0xFFFF_FFFF_FFFF_FFFC,
+            next: 10
+        }
+    );
+}
+
+#[test]
 fn the_last_number(rt: HostRuntime) {
     let (window, mut keeper) = window_of(&rt, rt.alloc(), 64, 0x7FFF_FFFF);
     assert_eq!(rt; window.try_draw(&mut keeper), Draw::Number(2147483647));
@@ -184,7 +203,8 @@ fn the_last_number(rt: HostRuntime) {
     );
 }
 
-// The keeper holds the slots from the limit on, and no seat one from 64 on. Each of the 64 names but the keeper's own is given once.
+// The keeper holds the slots from the limit on, and no seat one from 64 on. Each of the 64 names
+// but the keeper's own is given once.
 #[test]
 fn slots_and_names(rt: HostRuntime) -> Result<(), Fail> {
     let (window, mut keeper) = window_of(&rt, rt.alloc(), 2, 1);
