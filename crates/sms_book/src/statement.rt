@@ -20,6 +20,7 @@ impl Model for Statement {
 }
 
 impl Statement {
+    /// A statement of these rows, an account's in its place.
     pub fn new(rows: Vec<Row>) -> Statement
         ensures { result ≡ rows.items }
     {
@@ -33,6 +34,7 @@ impl Statement {
         self.rows.as_slice()
     }
 
+    /// The rows themselves, an account's in its place.
     pub fn into_rows(self) -> Vec<Row>
         ensures { result.items ≡ self }
     {

@@ -34,6 +34,18 @@ fn blank_of(alloc: Global, credits: u64, workers: usize) -> Result<Blank, Fail> 
     Ok(open_book(alloc, openings.as_slice(), workers)?)
 }
 
+// A row with these amounts: topped, free, reserved, charged, returned.
+fn row_of(amounts: [u64; 5]) -> Row {
+    let [topped, free, reserved, charged, returned] = amounts;
+    Row {
+        topped,
+        free,
+        reserved,
+        charged,
+        returned,
+    }
+}
+
 // The only row of a book whose till and shares all come back.
 fn only_row<N: BookName>(
     rt: &impl Abort,
@@ -63,24 +75,12 @@ fn moves<N: BookName>(rt: &impl Abort, alloc: Global, blank: Blank) -> Result<()
     book.reserve(&mut share, 0, 2)?;
     assert!(rt; share.reserved(0) == 2 && share.reserved(1) == 0);
     book.charge(&mut share, 0, 1);
-    let row = Row {
-        topped: 5,
-        free: 3,
-        reserved: 1,
-        charged: 1,
-        returned: 0,
-    };
+    let row = row_of([5, 3, 1, 1, 0]);
     assert!(rt; book.look(&mut share, 0) == Some(row) && book.look(&mut share, 1) == None);
     assert!(rt; share.reserved(0) == 1);
     book.give_back(&mut share, 0, 1);
     shares.push(share)?;
-    let row = Row {
-        topped: 5,
-        free: 4,
-        reserved: 0,
-        charged: 1,
-        returned: 1,
-    };
+    let row = row_of([5, 4, 0, 1, 1]);
     assert_eq!(rt; only_row(rt, book, till, shares), row);
     Ok(())
 }
@@ -151,13 +151,7 @@ fn calls_refused<N: BookName>(rt: &impl Abort, alloc: Global, blank: Blank) -> R
     };
     assert!(rt; fault == GatherFault::MissingShare && shares.len() == 1);
     shares.push(share)?;
-    let row = Row {
-        topped: 1,
-        free: 1,
-        reserved: 0,
-        charged: 0,
-        returned: 0,
-    };
+    let row = row_of([1, 1, 0, 0, 0]);
     assert_eq!(rt; only_row(rt, book, till, shares), row);
     Ok(())
 }
@@ -185,13 +179,7 @@ fn returns<N: BookName>(rt: &impl Abort, alloc: Global, blank: Blank) -> Result<
     }
     assert!(rt; book.reserve(&mut share, 0, 1) == Err(BookError::AmountTooLarge));
     shares.push(share)?;
-    let row = Row {
-        topped: MOST_TOPPED,
-        free: MOST_TOPPED,
-        reserved: 0,
-        charged: 0,
-        returned: 1 << 60,
-    };
+    let row = row_of([MOST_TOPPED, MOST_TOPPED, 0, 0, 1 << 60]);
     assert_eq!(rt; only_row(rt, book, till, shares), row);
     Ok(())
 }
@@ -337,13 +325,7 @@ fn last<N: BookName + Send + Sync, R: Abort + Threads + Wait + Sync>(
         shares.push(share)?;
     }
     assert_eq!(rt; winners, 1);
-    let row = Row {
-        topped: 1,
-        free: 0,
-        reserved: 0,
-        charged: 1,
-        returned: 0,
-    };
+    let row = row_of([1, 0, 0, 1, 0]);
     assert_eq!(rt; only_row(rt, book.into_inner(), till, shares), row);
     Ok(())
 }
@@ -357,29 +339,51 @@ fn one_worker_gets_the_last_credit(rt: HostRuntime) -> Result<(), Fail> {
 fn opens<N: BookName>(rt: &impl Abort, alloc: Global, blank: Blank) -> Result<(), Fail>
     requires { blank.book ≡ N.book }
 {
-    let opened = match blank.into_book::<N>(alloc) {
+    let opened = match blank.open::<N>(alloc) {
         Ok(opened) => opened,
-        Err((_no_memory, same)) => match same.into_book::<N>(alloc) {
+        Err((_no_memory, same)) => match same.open::<N>(alloc) {
             Ok(opened) => opened,
             Err(_) => panic!(rt; "no memory twice"),
         },
     };
-    let (book, till, shares) = opened;
+    let (book, till, mut shares) = opened;
     assert_eq!(rt; shares.len(), 3);
-    let row = Row {
-        topped: 7,
-        free: 7,
-        reserved: 0,
-        charged: 0,
-        returned: 0,
+    for share in shares.iter_mut() {
+        assert!(rt; share.reserved(0) == 0 && share.reserved(1) == 0);
+    }
+    let Ok(statement) = gather(book.into_inner(), till, shares) else {
+        panic!(rt; "not gathered")
     };
-    assert_eq!(rt; only_row(rt, book, till, shares), row);
+    let rows = [7, 9].map(|credits| row_of([credits, credits, 0, 0, 0]));
+    assert!(rt; statement.rows() == rows.as_slice());
     Ok(())
 }
 
-// Where one allocation fails, the blank comes back and opens at the second try.
+// Where one allocation fails, the blank comes back as it was, and opens at the second try.
 #[test]
 fn a_blank_comes_back(rt: HostRuntime) -> Result<(), Fail> {
-    let blank = blank_of(rt.alloc(), 7, 3)?;
-    opens::<Brand>(&rt, rt.alloc(), blank)
+    let alloc = rt.alloc();
+    let openings = openings_of(alloc, &[("main", 7), ("other", 9)])?;
+    let blank = open_book(alloc, openings.as_slice(), 3)?;
+    opens::<Brand>(&rt, alloc, blank)
+}
+
+// The numbers of a refusal stand in their places in what it says.
+#[test]
+fn refusals_say_their_numbers(rt: HostRuntime) -> Result<(), Fail> {
+    let alloc = rt.alloc();
+    let credit = BookError::NoCredit { free: 1, needed: 2 };
+    let double = BookError::Duplicate {
+        first: 3,
+        second: 4,
+    };
+    assert_eq!(rt;
+        format!(in alloc; "{credit}")?.as_str(),
+        "1 credits are free, and 2 are needed"
+    );
+    assert_eq!(rt;
+        format!(in alloc; "{double}")?.as_str(),
+        "accounts 3 and 4 have the same name"
+    );
+    Ok(())
 }
