@@ -21,7 +21,8 @@ use std::alloc::{AllocError, Global};
 use std::marker::{Model, PhantomData};
 use std::sync::Mutex;
 
-/// A book that isn't open yet. Contracts see its name, and the credits that each account begins with.
+/// A book that isn't open yet. Contracts see its name, and the credits that each account begins
+/// with.
 #[derive(Drop)]
 pub struct Blank {
     credits: Vec<u64>,
@@ -135,8 +136,8 @@ fn room_for<N: BookName>(
 }
 
 impl Blank {
-    /// Opens the book: its rows hold the opening credits free, the till has them as top-ups, and each worker's share has
-    /// nothing. For want of memory the blank comes back.
+    /// Opens the book: its rows hold the opening credits free, the till has them as top-ups, and
+    /// each worker's share has nothing. For want of memory the blank comes back.
     pub fn into_book<N: BookName>(
         self,
         alloc: Global,

@@ -70,7 +70,7 @@ impl<N: BookName> Book<N> {
         Ok(())
     }
 
-    // What an account was topped up with, at most 2^40.
+    /// What an account was topped up with, at most 2^40.
     fn topped(&self, account: usize) -> u64
         requires { account < length self.now }
         ensures is { result ≡ (row_at self.now account).topped }
@@ -194,7 +194,8 @@ impl<N: BookName> Book<N> {
         *theirs = part_worker(table, seat, amounts.as_slice());
     }
 
-    /// The account's row, where there is such an account. What the share has of it is part of the row.
+    /// The account's row, where there is such an account. What the share has of it is part of the
+    /// row.
     pub fn look(&mut self, share: &mut Shares<N>, account: usize) -> Option<Row>
         ensures there { IsSome result ↔ (account < length self.old) }
         ensures row { IfSome result (λ r. (r ≡ row_at self.old account) × IsBalanced r) }

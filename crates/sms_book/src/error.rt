@@ -9,7 +9,8 @@ pub enum BookError {
     /// Two accounts, by their places, have one name.
     #[error("accounts {first} and {second} have the same name")]
     Duplicate { first: usize, second: usize },
-    /// An account would be topped up with more than 2^40 credits, or have more than 2^60 reserved and returned.
+    /// An account would be topped up with more than 2^40 credits, or have more than 2^60 reserved
+    /// and returned.
     #[error("the amount is too large")]
     AmountTooLarge,
     /// The account has fewer free credits than the call needs.

@@ -12,8 +12,8 @@ use crate::statement::Statement;
 use crate::steps::keep;
 use crate::till::Till;
 
-/// The statement of a book whose till and shares all come back: each row balances, its top-ups are the till's, and its
-/// other amounts are the sums over the shares, in whatever order they come.
+/// The statement of a book whose till and shares all come back: each row balances, its top-ups are
+/// the till's, and its other amounts are the sums over the shares, in whatever order they come.
 pub fn gather<N: BookName>(
     book: Book<N>,
     till: Till<N>,

@@ -1,7 +1,8 @@
 //! Prepaid accounts whose rows balance at any moment, for any number of threads.
 //!
-//! `open_book` makes a `Blank`, and `Blank::open` the book under its lock, the cashier's till and a share for each worker.
-//! Each worker reserves, charges and gives back through its own share; `gather` takes every share back and tells the rows.
+//! `open_book` makes a `Blank`, and `Blank::open` the book under its lock, the cashier's till and a
+//! share for each worker. Each worker reserves, charges and gives back through its own share;
+//! `gather` takes every share back and tells the rows.
 #![tactic(auto)]
 
 mod amounts;

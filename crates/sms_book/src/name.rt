@@ -2,8 +2,9 @@
 
 use std::marker::Brand;
 
-/// Names one book. A function that opens a book is generic in such a name; its caller passes `Brand` and picks the
-/// blank's name for it, so that the book's till and shares fit that book and no other.
+/// Names one book. A function that opens a book is generic in such a name; its caller passes
+/// `Brand` and picks the blank's name for it, so that the book's till and shares fit that book and
+/// no other.
 pub trait BookName {
     ghost use Rattle.sms_book.specs.Name.{BookId};
 

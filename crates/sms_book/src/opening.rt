@@ -21,7 +21,7 @@ pub struct Opening {
     pub credits: u64,
 }
 
-// The first place before this one that has its name.
+/// The first place before this one that has its name.
 fn first_like(openings: &[Opening], second: usize) -> Option<usize>
     requires { second < length openings.now }
     ensures found { IfSome result (λ first. HaveOneName (names_of openings.now) first second × ((x : ℕ) → x < first → ¬ (HaveOneName (names_of openings.now) x second))) }
@@ -35,7 +35,7 @@ fn first_like(openings: &[Opening], second: usize) -> Option<usize>
     None
 }
 
-// The first two places with one name.
+/// The first two places with one name.
 fn first_double(openings: &[Opening]) -> Option<(usize, usize)>
     ensures found { IfSome result (λ p. IsFirstDouble (names_of openings.now) p.0 p.1) }
     ensures none { IsNone result → NoDouble (names_of openings.now) }
@@ -59,7 +59,7 @@ fn are_small(openings: &[Opening]) -> bool
     true
 }
 
-// Each account's credits, in their places.
+/// Each account's credits, in their places.
 fn credits_in(alloc: Global, openings: &[Opening]) -> Result<Vec<u64>, AllocError>
     ensures { IfOk result (λ v. v.items ≡ credits_of openings.now) }
 {
@@ -70,7 +70,8 @@ fn credits_in(alloc: Global, openings: &[Opening]) -> Result<Vec<u64>, AllocErro
     Ok(credits)
 }
 
-/// A book with these accounts, not yet open, for so many workers. An account is its place in the list.
+/// A book with these accounts, not yet open, for so many workers. An account is its place in the
+/// list.
 pub fn open_book(alloc: Global, openings: &[Opening], workers: usize) -> Result<Blank, BookError>
     ensures count { IsErrOf result BadCount ↔ ¬ (GoodCount openings.now workers) }
     ensures double { (first second : ℕ) → IsErrOf result (Duplicate first second) ↔ (GoodCount openings.now workers × IsFirstDouble (names_of openings.now) first second) }

@@ -20,8 +20,9 @@ pub struct Entry {
     pub portions: LinkedList<Portion>,
 }
 
-/// What a seat knows: the book's has all entries, and while it is lent a number whose it is; a holder's has its number
-/// and a copy of its entry. The till has the number 0, the workers those from 1 on.
+/// What a seat knows: the book's has all entries, and while it is lent a number whose it is; a
+/// holder's has its number and a copy of its entry. The till has the number 0, the workers those
+/// from 1 on.
 pub enum View {
     Book(LinkedList<Entry>),
     Lent(LinkedList<Entry>, usize, LinkedList<Portion>),

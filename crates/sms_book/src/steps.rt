@@ -47,7 +47,7 @@ pub fn keep(table: &BookTable, book: &mut Badge<View>, holder: &mut Badge<View>)
     *book = keeper.into_badge();
 }
 
-// Splits the lent number off to a worker, with these amounts.
+/// Splits the lent number off to a worker, with these amounts.
 fn give_worker<C: Change>(
     table: &BookTable,
     seat: &mut Seat<(), View>,
@@ -76,7 +76,7 @@ pub fn part_worker(table: &BookTable, book: &mut Badge<View>, new: &[Amounts]) -
     given.into_badge()
 }
 
-// Splits the lent number off to the till, with these top-ups.
+/// Splits the lent number off to the till, with these top-ups.
 fn give_till<C: Change>(table: &BookTable, seat: &mut Seat<(), View>, new: &[u64]) -> Seat<(), View>
     requires picked { map of_till new.now ≡ C.portions }
     requires table { (seat.old.table_id ≡ table.now.table_id) × (0 < table.now.table_id.words) }
@@ -101,7 +101,7 @@ pub fn part_till(table: &BookTable, book: &mut Badge<View>, new: &[u64]) -> Badg
     given.into_badge()
 }
 
-// Splits a number that the book holds off to a new seat.
+/// Splits a number that the book holds off to a new seat.
 fn hand<H: Hand>(table: &BookTable, seat: &mut Seat<(), View>, number: usize) -> Seat<(), View>
     requires picked { number ≡ H.number }
     requires table { (seat.old.table_id ≡ table.now.table_id) × (0 < table.now.table_id.words) }

@@ -5,8 +5,8 @@ use crate::rule::View;
 use atomic_table::Badge;
 use std::marker::{Model, PhantomData};
 
-/// The cashier's share of the book of that name, through which accounts are topped up. Contracts see the credits that
-/// went through it, by account, the opening credits among them.
+/// The cashier's share of the book of that name, through which accounts are topped up. Contracts
+/// see the credits that went through it, by account, the opening credits among them.
 #[derive(Drop)]
 pub struct Till<N: BookName> {
     pub(crate) topped: Vec<u64>,

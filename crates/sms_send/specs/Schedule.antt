@@ -4,6 +4,7 @@ use Rattle.std.specs.Str.{bytes_eq}
 use Rattle.csv.specs.Records.{field_at}
 use Rattle.sms_core.specs.declared.event.Event.{Event}
 use Rattle.sms_core.specs.declared.event.Event.TheVariants.{TopUp, Reserve, Claim, Post, Respond, Settle, Expire, Discard, Release}
+use Rattle.sms_core.specs.Limits.{most_accounts, most_slots, most_attempts}
 use Rattle.sms_core.specs.State.{State, new_world}
 use Rattle.sms_send.specs.Fields.{Record, number_at}
 use Rattle.sms_send.specs.Faults.{IsDevice}
@@ -21,18 +22,9 @@ most_u64 = 0xFFFF_FFFF_FFFF_FFFF
 abbrev pub most_flag : ℕ
 most_flag = 1
 
--- how many events a schedule has at the most, and accounts, slots and attempts its world
+-- how many events a schedule has at the most
 abbrev pub most_events : ℕ
 most_events = 1_000_000
-
-abbrev pub most_accounts : ℕ
-most_accounts = 64
-
-abbrev pub most_slots : ℕ
-most_slots = 64
-
-abbrev pub most_attempts : ℕ
-most_attempts = 10
 
 -- the numbers after the word of a record: exactly so many, the last of at most so much, the others below 2^32
 abbrev pub one_number : Record → Option ℕ

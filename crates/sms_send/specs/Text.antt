@@ -8,6 +8,7 @@ use Rattle.sms_core.specs.declared.request.Phase.{Phase}
 use Rattle.sms_core.specs.declared.request.Phase.TheVariants.{Ready, Open, Charged, Refused, Unanswered, Unsent}
 use Rattle.sms_core.specs.declared.request.Request.{Request}
 use Rattle.sms_core.specs.declared.row.Row.{Row}
+use Rattle.sms_core.specs.Limits.{most_slots}
 use Rattle.sms_core.specs.State.{State, rows, holder_of}
 
 -- the names of the causes and the phases
@@ -79,7 +80,7 @@ or_none [] = codes "held none\n"
 or_none (c ∷ cs) = c ∷ cs
 
 abbrev pub slot_lines : State → List ℕ
-slot_lines w = each_below 64 (λ slot. slot_line slot (holder_of w slot))
+slot_lines w = each_below most_slots (λ slot. slot_line slot (holder_of w slot))
 
 -- the whole output
 abbrev pub replay_text : List Step → State → List ℕ

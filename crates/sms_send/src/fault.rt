@@ -29,7 +29,8 @@ impl fmt::Display for Source {
     }
 }
 
-/// Why the program ends before its work is done. Its text is the line that the program tells it with.
+/// Why the program ends before its work is done. Its text is the line that the program tells it
+/// with.
 #[derive(Debug, Drop)]
 pub enum Fault {
     /// The command line is refused.

@@ -67,8 +67,8 @@ fn plan_command<'a>(alloc: Global) -> Result<Command<'a>, AllocError>
         .arg(messages)
 }
 
-/// The job of the subcommand that the parser met. The parser requires each name, and one that is missing is refused all
-/// the same.
+/// The job of the subcommand that the parser met. The parser requires each name, and one that is
+/// missing is refused all the same.
 fn job_in(alloc: Global, matches: &ArgMatches<'_>) -> Result<Job, Fault>
     ensures job { IfOk result (IsJob (subcommand_rows_of matches.now)) }
     ensures refused { IfErr result (TellsName (subcommand_rows_of matches.now)) }

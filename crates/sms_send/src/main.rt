@@ -1,5 +1,5 @@
-//! The program `sms-send`: it replays schedules of events on accounts, requests and slots, and plans how
-//! the texts of messages are coded and cut.
+//! The program `sms-send`: it replays schedules of events on accounts, requests and slots, and
+//! plans how the texts of messages are coded and cut.
 #![tactic(auto)]
 
 #[cfg(test)]
@@ -92,7 +92,8 @@ fn open<R: Files>(rt: &R, name: String) -> Result<R::File, Fault>
     }
 }
 
-/// Tells a fault in one line on standard error, and help on standard output, and gives the exit status.
+/// Tells a fault in one line on standard error, and help on standard output, and gives the exit
+/// status.
 fn tell<R: Eprint + Print>(rt: &R, fault: &Fault) -> u8
     ensures { (result ≡ status_of fault.now) ⊎ (result ≡ status_of Output) }
 {

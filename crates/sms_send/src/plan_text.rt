@@ -41,7 +41,8 @@ fn write_parts(text: &mut String, parts: &[Part]) -> Result<(), AllocError>
     write_sizes(text, rest)
 }
 
-/// What becomes of a coded text as parts. Which reference they have makes no difference to their sizes.
+/// What becomes of a coded text as parts. Which reference they have makes no difference to their
+/// sizes.
 fn write_cutting(alloc: Global, text: &mut String, coded: &Coded) -> Result<(), AllocError>
     ensures { OnOk result (string_bytes text.new ≡ string_bytes text.old ++ cutting_text coded.now) }
 {

@@ -12,7 +12,8 @@ use crate::text::replay_text;
 use std::alloc::Global;
 use std::io::{Read, Write};
 
-/// Replays the schedule that is read from `input`, and writes what became of each event and of the world.
+/// Replays the schedule that is read from `input`, and writes what became of each event and of the
+/// world.
 ///
 /// The input is read and checked whole, and the output is formed whole, before anything is written.
 pub fn run_replay<R: Read + Drop, W: Write>(
