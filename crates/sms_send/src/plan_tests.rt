@@ -110,8 +110,9 @@ fn tells_what_failed(rt: HostRuntime) -> Result<(), Fail> {
             _ => assert!(rt; false, "a broken writer"),
         }
     }
+    let messages = b"account,source,destination,text\nmain,1,2,a\n";
     for given in [0, 5, 40] {
-        let left = &input.as_bytes()[..given];
+        let left = &messages[..given];
         match run_plan(alloc, FailingInput { left }, &mut Vec::new(alloc)) {
             Err(Fault::Unreadable(Source::Messages)) => {}
             Err(Fault::OutOfMemory) => return Err(Fail::from(AllocError)),
