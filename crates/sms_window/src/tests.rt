@@ -27,6 +27,16 @@ fn claim_slot(rt: &impl Abort, window: &Window, seat: &mut WindowSeat, wanted: u
     assert_eq!(rt; claim, Claim::Got(wanted));
 }
 
+// Claims the slots from 0 to below `count`, and wants them in turn.
+fn claim_all(rt: &impl Abort, window: &Window, seat: &mut WindowSeat, count: u32)
+    requires own { seat.old.window ≡ window.now }
+    ensures window { seat.new.window ≡ seat.old.window }
+{
+    for slot in 0..count {
+        claim_slot(rt, window, seat, slot);
+    }
+}
+
 // Releases a slot that the seat has to hold.
 fn release_slot(rt: &impl Abort, window: &Window, seat: &mut WindowSeat, slot: u32)
     requires own { seat.old.window ≡ window.now }
@@ -126,6 +136,29 @@ fn sixty_four_slots(rt: HostRuntime) {
     window.join(&mut keeper, b);
     let closed = window.close(keeper);
     assert_eq!(rt; closed, Closed { held: 0, next: 1 });
+}
+
+#[test]
+fn all_sixty_four_held(rt: HostRuntime) {
+    let Ok((window, mut keeper)) = Window::make(rt.alloc(), 64) else {
+        panic!(rt; "no window")
+    };
+    let mut a = seat_of(&rt, &window, &mut keeper);
+    claim_all(&rt, &window, &mut a, 64);
+    assert_eq!(rt; window.try_claim(&mut keeper), Claim::Full);
+    release_slot(&rt, &window, &mut a, 63);
+    release_slot(&rt, &window, &mut a, 40);
+    claim_slot(&rt, &window, &mut keeper, 40);
+    claim_slot(&rt, &window, &mut keeper, 63);
+    window.join(&mut keeper, a);
+    let closed = window.close(keeper);
+    assert_eq!(rt;
+        closed,
+        Closed {
+            held: 0xFFFF_FFFF_FFFF_FFFF,
+            next: 1
+        }
+    );
 }
 
 #[test]
