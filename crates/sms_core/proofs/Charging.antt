@@ -16,7 +16,8 @@ use Rattle.sms_core.specs.Steps.{checks, Steps}
 use Rattle.sms_core.specs.Histories.{Moment, IsHistory, FromStart, number_in, given_by, numbers_given, PostedAt, AcceptedAt}
 use Rattle.sms_core.proofs.Backed.{IsBacked, moment, backed_later, backed_start, backed_reserve, backed_claim, backed_post, backed_respond, backed_settle, backed_expire, backed_discard}
 use Rattle.sms_core.proofs.Passed.{all_passed, some_held, ready_request, no_request}
-use Rattle.sms_core.proofs.Drawing.{times_append, numbers_given_once}
+use Rattle.sms_core.proofs.Numbers.{times_append}
+use Rattle.sms_core.proofs.Drawing.{numbers_given_once}
 use Rattle.sms_core.proofs.Runs.{first_step}
 use Rattle.sms_core.proofs.Sound.{IsSound, held_inside, sound_start, sound_step}
 

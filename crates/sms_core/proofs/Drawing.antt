@@ -1,7 +1,5 @@
 -- The numbers that Posts give: each step draws what it gives.
-use Rattle.std.proofs.Common.{◌≡◌, ◌≢◌, ℕ, ◌+◌, ◌==◌, true, false, List, [], ◌∷◌, ◌++◌, refl, sym, ap, ◌∙◌, ⊎_elim, arith}
-use Rattle.std.proofs.lemmas.Bool.{lt-ltb, le-ltb}
-use Rattle.std.proofs.lemmas.Bool.Decides.{nat_tests, eqb_tells}
+use Rattle.std.proofs.Common.{◌≡◌, ℕ, ◌+◌, List, [], ◌∷◌, refl, ap, ◌∙◌, arith}
 use Rattle.std.proofs.lemmas.List.{get_or-set_same}
 use Rattle.sms_core.specs.declared.event.Event.{Event}
 use Rattle.sms_core.specs.declared.event.Event.TheVariants.{TopUp, Reserve, Claim, Post, Respond, Settle, Expire, Discard, Release}
@@ -15,22 +13,10 @@ use Rattle.sms_core.specs.Numbers.{times, once_below}
 use Rattle.sms_core.specs.State.{State, new_world, mark_of}
 use Rattle.sms_core.specs.Steps.{checks, Steps, Settles, Expires}
 use Rattle.sms_core.specs.Histories.{Moment, IsHistory, number_in, given_by, numbers_given}
+use Rattle.sms_core.proofs.Numbers.{times_append, times_next}
 use Rattle.sms_core.proofs.Passed.{all_passed, some_held}
 use Rattle.sms_core.proofs.Runs.{first_step}
 use Rattle.sms_core.proofs.Sound.{IsSound, held_inside, sound_start, sound_step}
-
-pub times_append : (n : ℕ) (xs ys : List ℕ) → times n (xs ++ ys) ≡ times n xs + times n ys
-times_append n [] ys = omega arith
-times_append n (x ∷ xs) ys = omega (arith, times_append n xs ys)
-
-times_next : (n next : ℕ) → times n (next ∷ []) + once_below n next ≡ once_below n (next + 1)
-times_next n next = ⊎_elim
-    (λ (e : ((next == n) ≡ true) × (next ≡ n)). rw (e.0, le-ltb n next (omega arith), lt-ltb n (next + 1) (omega arith)) refl)
-    (λ (e : ((next == n) ≡ false) × (next ≢ n)). rw e.0 (let o = once_same n next (λ h. e.1 (sym h)) in omega arith))
-    (eqb_tells next n)
-  where
-    once_same : (x n : ℕ) → x ≢ n → once_below x n ≡ once_below x (n + 1)
-    once_same x n ne = grind (arith, nat_tests)
 
 -- what a step gives is drawn from the next number
 abbrev IsDrawn : ℕ → State → State → List ℕ → Type 0

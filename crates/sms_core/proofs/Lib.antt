@@ -14,6 +14,7 @@ pub mod Finals
 pub mod Funds
 pub mod Keeping
 pub mod Moved
+pub mod Numbers
 pub mod Named
 pub mod Passed
 pub mod Runs

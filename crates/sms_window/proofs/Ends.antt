@@ -18,7 +18,7 @@ use Rattle.sms_core.specs.Numbers.{times, once_below}
 use Rattle.sms_window.specs.Rule.{IsSeat, IsWindow, keeper}
 use Rattle.sms_window.specs.Outcome.{IsEnd}
 use Rattle.sms_window.proofs.Views.{total_two, total_only, own, weigh-pairs_of, times-numbers_of}
-use Rattle.sms_window.proofs.NumberLists.{below_later}
+use Rattle.sms_core.proofs.Numbers.{below_later}
 use Rattle.sms_window.proofs.Moves.{slot_in_word}
 
 pub opens : {S : Type 0} (o : Opening) → 0 < o.limit → o.limit ≤ 64 → o.first ≤ 2147483648 → IsWindow {S = S} o (opening ((2 ^ 64 - 2 ^ o.limit) ∷ o.first ∷ []) [] (keeper o))

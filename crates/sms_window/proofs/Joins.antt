@@ -18,7 +18,7 @@ use Rattle.sms_core.specs.Numbers.{times}
 use Rattle.sms_window.specs.Rule.{total, pairs_of, IsSeat, IsWindow}
 use Rattle.sms_window.specs.Seats.{joined, nobody}
 use Rattle.sms_window.proofs.Views.{total_set, total_join, total_two, total_same, own, weigh-pairs_of, times-numbers_of}
-use Rattle.sms_window.proofs.NumberLists.{times-append, below_later, below_append}
+use Rattle.sms_core.proofs.Numbers.{times_append, below_later, below_append}
 
 -- f of the pair where one name has become another
 abbrev turned : (ℕ × ℕ → ℕ) → ℕ → ℕ → ℕ × ℕ → ℕ
@@ -70,7 +70,7 @@ module _ {S : Type 0} (o : Opening) where
         lawful = λ slot. let e = weight (λ k. if k == slot then 1 else 0) in let l = r.lawful slot in omega arith;
         word = weight (λ k. 2 ^ k) ∙ r.word;
         names = λ n lt. total_join (λ u. bit_at u.family n) s.views id other v w both nobody ne at there (bit_at_add v.family w.family fa n) (bit_at-zero n) ∙ r.names n lt;
-        drawn = λ n. let e = total_join (λ u. times n u.numbers) s.views id other v w both nobody ne at there (times-append n v.numbers w.numbers) refl in let d = r.drawn n in let a = times-numbers_of n s.views in let b = times-numbers_of n views in omega arith;
+        drawn = λ n. let e = total_join (λ u. times n u.numbers) s.views id other v w both nobody ne at there (times_append n v.numbers w.numbers) refl in let d = r.drawn n in let a = times-numbers_of n s.views in let b = times-numbers_of n views in omega arith;
         next = r.next;
         seats = λ i u e. ⊎_elim
             (λ (x : (i ≡ other) × (nobody ≡ u)). subst (IsSeat o.first next) x.1 (record { small = (omega arith, omega arith); named = λ z. absurd (omega arith); spent = λ _. (refl, refl); seen = omega arith; below = tt; rising = λ _. tt; first = λ z. absurd (omega arith) }))

@@ -1,4 +1,3 @@
-pub mod NumberLists
 pub mod Views
 pub mod Moves
 pub mod Allows

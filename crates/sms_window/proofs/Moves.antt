@@ -21,7 +21,7 @@ use Rattle.sms_window.specs.declared.view.Opening.{Opening}
 use Rattle.sms_window.specs.Rule.{total, pairs_of, numbers_of, IsSeat, IsWindow}
 use Rattle.sms_window.specs.Seats.{met_with, with_slots, seen_with, drawn_with}
 use Rattle.sms_window.specs.Steps.{IsHoldSet, IsClaim, IsRelease, IsDraw}
-use Rattle.sms_window.proofs.NumberLists.{below_later, below_append, rising_push, times_push}
+use Rattle.sms_core.proofs.Numbers.{below_later, below_append, rising_push, times_push}
 use Rattle.sms_window.proofs.Views.{total_set, total_one, own, own_le, pairs_set, weigh-pairs_of, set_at, times-numbers_of}
 
 -- `w | 1 << k`, as a sum

@@ -15,7 +15,7 @@ use Rattle.sms_window.specs.Seats.{Holds, met_with, with_slots, seen_with, drawn
 use Rattle.sms_window.specs.Rule.{pairs_of, numbers_of, IsWindow}
 use Rattle.sms_window.specs.Moves.{Shared, window_word, number_word, IsThere, after_step, with_views, Move, looks, claims, releases, splits, joins, looks_at_number, draws, Moves, Runs, Spares, AllSpare, Without}
 use Rattle.sms_window.specs.Laws.{HoldStep, SameNumbers, NumberStep, MoveKeepsRule, MoveIsStep, ClaimedOnce, DrawnOnce, DroppedStays}
-use Rattle.sms_window.proofs.NumberLists.{times-append}
+use Rattle.sms_core.proofs.Numbers.{times_append}
 use Rattle.sms_window.proofs.Views.{total_set, total_snoc, total_join, set_at, times-numbers_of}
 use Rattle.sms_window.proofs.Moves.{met_seat, seen_seat, same_pairs, looked, claimed, released, drew, slot_in_word, word_small}
 use Rattle.sms_window.proofs.Seats.{splits_keeps, split_pairs}
@@ -97,7 +97,7 @@ join_numbers s id other v w ne at there = (
   λ n.
       let a = times-numbers_of n (set (set s.views id (joined v w)) other nobody) in
       let b = times-numbers_of n s.views in
-      let t = total_join (λ u. times n u.numbers) s.views id other v w (joined v w) nobody ne at there (times-append n v.numbers w.numbers) refl in
+      let t = total_join (λ u. times n u.numbers) s.views id other v w (joined v w) nobody ne at there (times_append n v.numbers w.numbers) refl in
       omega arith,
 )
 
@@ -106,8 +106,8 @@ drawn_numbers views id k v at n =
     let a = times-numbers_of n (set views id (drawn_with v k)) in
     let b = times-numbers_of n views in
     let t = total_set (λ u. times n u.numbers) views id v (drawn_with v k) at in
-    let mine = times-append n v.numbers (k ∷ []) in
-    let all = times-append n (numbers_of views) (k ∷ []) in
+    let mine = times_append n v.numbers (k ∷ []) in
+    let all = times_append n (numbers_of views) (k ∷ []) in
     omega arith
 
 -- and what it does to the numbers

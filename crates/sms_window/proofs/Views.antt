@@ -9,7 +9,7 @@ use Rattle.sms_core.proofs.Pairs.{weigh-append, spread, spread-zero, weigh-pairs
 use Rattle.sms_window.specs.declared.view.View.{View}
 use Rattle.sms_window.specs.Seats.{own_pairs}
 use Rattle.sms_window.specs.Rule.{total, pairs_of, numbers_of}
-use Rattle.sms_window.proofs.NumberLists.{times-append}
+use Rattle.sms_core.proofs.Numbers.{times_append}
 
 pub total_set : (f : View → ℕ) (views : List View) (id : ℕ) (v w : View) → get_elem? views id ≡ some v → total f (set views id w) + f v ≡ total f views + f w
 total_set f [] id v w at = absurd (some-ne-none v (sym at))
@@ -79,4 +79,4 @@ own_le f views id v at =
 -- how often a number was drawn
 pub times-numbers_of : (n : ℕ) (views : List View) → times n (numbers_of views) ≡ total (λ v. times n v.numbers) views
 times-numbers_of n [] = refl
-times-numbers_of n (v ∷ views) = omega (arith, times-append n v.numbers (numbers_of views), times-numbers_of n views)
+times-numbers_of n (v ∷ views) = omega (arith, times_append n v.numbers (numbers_of views), times-numbers_of n views)
