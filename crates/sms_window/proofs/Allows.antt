@@ -12,10 +12,10 @@ use Rattle.atomic_table.specs.Table.{State, Me, step, keeps, stepped, Allows}
 use Rattle.sms_core.proofs.Bits.{clear_bit}
 use Rattle.sms_window.specs.declared.view.View.{View}
 use Rattle.sms_window.specs.declared.view.Opening.{Opening}
-use Rattle.sms_window.specs.Rule.{IsWindow}
+use Rattle.sms_window.specs.Rule.{IsWindow, pairs_of}
 use Rattle.sms_window.specs.Seats.{met_with, with_slots, seen_with, drawn_with, Holds}
-use Rattle.sms_window.specs.Steps.{IsClaim, IsRelease, load_window, exchange_claim, exchange_release, load_number, exchange_draw}
-use Rattle.sms_window.proofs.Moves.{met_seat, seen_seat, looked, claimed, released, drew, slot_in_word}
+use Rattle.sms_window.specs.Steps.{HasMet, IsClaim, IsRelease, load_window, exchange_claim, exchange_release, load_number, exchange_draw}
+use Rattle.sms_window.proofs.Moves.{hold_set, met_seat, seen_seat, looked, claimed, released, drew, slot_in_word}
 
 pow_same : (k j : ℕ) → 2 ^ k ≡ 2 ^ j → k ≡ j
 pow_same k j e = dite (ℕ_discrete k j) (λ same. same) (λ ne. let a = bit_at-pow_same k in let b = bit_at-pow_other j k ne in let c : bit_at (2 ^ k) k ≡ bit_at (2 ^ j) k = ap (λ (n : ℕ). bit_at n k) e in absurd (omega arith))
@@ -32,7 +32,9 @@ module _ {S : Type 0} (o : Opening) where
   pub load_window_allows : (slots id : ℕ) (me : Me S View) → Allows (IsWindow o) slots id me 0 (λ n. n) (load_window (step slots 0 0 0 none) me)
   load_window_allows slots id me s r len at small =
       let w = met_with me.0 (slice_index s.words 0) in
-      (w, keeps, tt, looked o s r 0 (slice_index s.words 0) id me.1 me.0 w at (omega arith) refl refl refl refl refl (met_seat o.first (slice_index s.words 1) me.0 _ (r.seats id me.0 at)), (refl, (let t = r.seats id me.0 at in (t.small.0, t.small.1, t.named))))
+      let h = hold_set o s r id me.0 at in
+      let met : HasMet w = (pairs_of s.views, record { lawful = h.lawful; word = h.word; own = h.own }) in
+      (w, keeps, tt, looked o s r 0 (slice_index s.words 0) id me.1 me.0 w at (omega arith) refl refl refl refl refl (met_seat o.first (slice_index s.words 1) me.0 _ (r.seats id me.0 at)), (refl, (let t = r.seats id me.0 at in (t.small.0, t.small.1, t.named)), met))
 
   pub exchange_claim_allows : (slots id : ℕ) (me : Me S View) (old new k : ℕ) → k < 64 → old < 2 ^ 64 → bit_at old k ≡ 0 → new ≡ old + 2 ^ k → 0 < me.0.family
       → Allows (IsWindow o) slots id me 0 (λ n. either (n == old) new n) (exchange_claim (step slots 0 old new none) me)

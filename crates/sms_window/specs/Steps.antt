@@ -14,6 +14,10 @@ pub record IsHoldSet (v : View) (bits : ℕ) (pairs : List (ℕ × ℕ)) : Type 
   pub word : word_of pairs ≡ bits
   pub own : (f : ℕ × ℕ → ℕ) → weigh f (own_pairs v) ≤ weigh f pairs
 
+-- its `met` is the word of a lawful hold set that has its pairs, so one that a step of it found or left
+abbrev pub HasMet : View → Type 0
+HasMet v = (pairs : List (ℕ × ℕ)) × IsHoldSet v v.met pairs
+
 -- The seat v became w by a claim: there are hold sets with the word that it found and the word that
 -- it left, and the second is the first after the seat's claim of the slot
 pub record IsClaim (v : View) (slot word : ℕ) (w : View) : Type 0 where
@@ -47,7 +51,7 @@ IsWhole v = (v.family < 2 ^ 64) × (v.slots < 2 ^ 64) × (0 < v.family → (v.na
 
 module _ {S : Type 0} where
   abbrev pub load_window : Step S → Me S View → ℕ → Me S View → Type 0
-  load_window st me found me' = (me' ≡ (met_with me.0 found, me.1)) × IsWhole me.0
+  load_window st me found me' = (me' ≡ (met_with me.0 found, me.1)) × IsWhole me.0 × HasMet me'.0
 
   -- the second operand is the first with one bit more
   abbrev pub exchange_claim : Step S → Me S View → ℕ → Me S View → Type 0

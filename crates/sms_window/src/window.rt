@@ -1,6 +1,7 @@
 //! The window, and the steps on it.
 ghost use Rattle.std.specs.Prelude.{◌≡◌, ◌+◌, IfOk, IfErr};
 ghost use Rattle.sms_window.specs.Seats.{CanSplit, Holds, met_with, giver, given, joined};
+ghost use Rattle.sms_window.specs.Steps.{HasMet};
 ghost use Rattle.sms_window.specs.Outcome.{Claimed, Released, Drawn, IsMade, Refuses, IsEnd};
 
 use crate::error::WindowError;
@@ -83,16 +84,16 @@ impl Window {
         requires names { CanSplit seat.old.view }
         ensures window { (seat.new.window ≡ seat.old.window) × (result.window ≡ seat.old.window) }
         ensures giver { seat.new.view ≡ met_with (giver seat.old.view) seat.new.view.met }
-        ensures given { result.view ≡ met_with (given seat.old.view) result.view.met }
+        ensures given { result.view ≡ met_with (given seat.old.view) seat.new.view.met }
+        ensures met { HasMet seat.new.view }
         ensures family { seat.new.view.family + result.view.family ≡ seat.old.view.family }
     {
         let others = seat.family - (1u64 << seat.name);
         let name = 63 - others.leading_zeros();
         let family = 1u64 << name;
-        let mut new = self.table.shared.split_seat::<Families>(&mut seat.seat);
-        // The two loads are for `met`: a split tells no word.
+        // The load tells `met`, with which the new seat begins too: a split tells no word.
         self.table.shared.load::<LoadWindow>(&mut seat.seat, 0);
-        self.table.shared.load::<LoadWindow>(&mut new, 0);
+        let new = self.table.shared.split_seat::<Families>(&mut seat.seat);
         seat.family -= family;
         WindowSeat {
             seat: new,
@@ -107,6 +108,7 @@ impl Window {
         requires own { (seat.old.window ≡ self.now) × (other.window ≡ self.now) }
         ensures window { seat.new.window ≡ seat.old.window }
         ensures joined { seat.new.view ≡ met_with (joined seat.old.view other.view) seat.new.view.met }
+        ensures met { HasMet seat.new.view }
     {
         let WindowSeat {
             seat: theirs,

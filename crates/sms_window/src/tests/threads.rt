@@ -60,12 +60,12 @@ fn release_some(window: &Window, seat: &mut WindowSeat, slot: u32)
 // A seat of the window, and the numbers that it drew.
 type Worked = (WindowSeat, Vec<u32>);
 
-// Claims a slot, draws a number and releases the slot, `rounds` times.
-fn work(alloc: Global, window: &Window, mut seat: WindowSeat, rounds: u32) -> Worked
+// Claims a slot, draws a number and releases the slot, `rounds` times. The list has room for all of
+// them, so that no number is lost.
+fn work(window: &Window, mut seat: WindowSeat, mut numbers: Vec<u32>, rounds: u32) -> Worked
     requires own { seat.window ≡ window.now }
     ensures window { result.0.window ≡ seat.window }
 {
-    let mut numbers = Vec::new(alloc);
     for _ in 0..rounds {
         if let Some(slot) = claim_some(window, &mut seat) {
             if let Some(number) = draw_some(window, &mut seat) {
@@ -106,13 +106,14 @@ fn work_in_threads<R: Threads + Wait + Sync>(
             let mut handles = Vec::new(alloc);
             let mut seats = seats;
             while let Some(seat) = seats.pop() {
+                let numbers = Vec::with_capacity(alloc, rounds as usize).ok()?;
                 let handle = scope
                     .spawn_with(
                         SeatOf(Snapshot::of(window)),
                         move || -> Worked
                             requires { seat.window ≡ window.now }
                             ensures { result.0.window ≡ window.entry.now }
-                        { work(alloc, window, seat, rounds) },
+                        { work(window, seat, numbers, rounds) },
                     )
                     .ok()?;
                 handles.push(handle).ok()?;

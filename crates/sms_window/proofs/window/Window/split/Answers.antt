@@ -4,29 +4,25 @@ use Rattle.std.proofs.lemmas.Nat.{one_shl}
 use Rattle.atomic_table.specs.Table.{Me}
 use Rattle.sms_window.specs.declared.view.View.{View}
 use Rattle.sms_window.specs.SeatState.{SeatState}
-use Rattle.sms_window.specs.Seats.{met_with, name_to_give, CanSplit}
+use Rattle.sms_window.specs.Seats.{name_to_give, CanSplit, giver, given}
 use Rattle.sms_window.proofs.Seats.{splits_keeps, name_apart, name_given}
 use Rattle.sms_window.proofs.Allows.{load_window_allows}
 use Rattle.sms_window.proofs.Calls.{live}
 use Rattle.sms_window.proofs.window.Window.split.Goals as goal
 
+pub load-seat-inside-requires : goal.load-seat-inside-requires
+load-seat-inside-requires c = (ap (λ (p : SeatState). p.window) c.seat.view_is ∙ c.requires.own ∙ sym c.self.view_is, (let i = c.self.invariant in omega arith), load_window_allows _ _ _ _)
+
 pub split_seat-new-requires : goal.split_seat-new-requires
 split_seat-new-requires c =
-    let i = c.seat.invariant in (
-      ap (λ (p : SeatState). p.window) c.seat.view_is ∙ c.requires.own ∙ sym c.self.view_is,
+    let i = c.seat.invariant in
+    let l = c.load-seat-inside.ensures in
+    let family = ap (λ (m : Me (Unit {0}) View). m.0.family) l.2.0 ∙ sym i.2 in
+    let can = subst (λ (p : SeatState). CanSplit p.view) (sym c.seat.view_is) c.requires.names in (
+      l.0 ∙ ap (λ (p : SeatState). p.window) c.seat.view_is ∙ c.requires.own ∙ sym c.self.view_is,
       (let w = c.self.invariant in omega arith),
-      splits_keeps _ _ _ (live _ c.seat.inside.name (ap (λ (w : ℕ). bit_at w c.seat.inside.name) (sym i.2) ∙ i.5)) (subst (λ (p : SeatState). CanSplit p.view) (sym c.seat.view_is) c.requires.names),
+      splits_keeps _ _ _ (live _ c.seat.inside.name (ap (λ (w : ℕ). bit_at w c.seat.inside.name) family ∙ i.5)) (subst (λ (m : Me (Unit {0}) View). CanSplit m.0) (sym l.2.0) can),
     )
-
-pub load-requires : goal.load-requires
-load-requires c =
-    let e = c.split_seat-new.ensures in
-    (e.0 ∙ ap (λ (p : SeatState). p.window) c.seat.view_is ∙ c.requires.own ∙ sym c.self.view_is, (let i = c.self.invariant in omega arith), load_window_allows _ _ _ _)
-
-pub load-seat-inside-requires : goal.load-seat-inside-requires
-load-seat-inside-requires c =
-    let e = c.split_seat-new.ensures in
-    (e.3 ∙ ap (λ (p : SeatState). p.window) c.seat.view_is ∙ c.requires.own ∙ sym c.self.view_is, (let i = c.self.invariant in omega arith), load_window_allows _ _ _ _)
 
 pub overflow_sub-seat : goal.overflow_sub-seat
 overflow_sub-seat c =
@@ -54,8 +50,8 @@ invariant_of-seat c =
     let shl : 1 * 2 ^ k % 2 ^ 64 ≡ 2 ^ name_to_give v = one_shl k 64 (omega (arith, n.0)) ∙ ap (λ (m : ℕ). 2 ^ m) e in
     let rest : c.seat.inside.family - 1 * 2 ^ k % 2 ^ 64 ≡ v.family - 2 ^ name_to_give v = λ j. i.2 j - shl j in
     let s = c.split_seat-new.ensures in
-    let l = c.load.ensures in
-    let me = l.2.0 ∙ ap (λ (m : Me (Unit {0}) View). (met_with m.0 c.load.result, m.1)) s.2 in (
+    let l = c.load-seat-inside.ensures in
+    let me = s.2 ∙ ap (λ (m : Me (Unit {0}) View). (giver m.0, m.1)) l.2.0 in (
       ap (λ (m : Me (Unit {0}) View). m.1) me ∙ i.0,
       i.1 ∙ sym (ap (λ (m : Me (Unit {0}) View). m.0.name) me),
       rest ∙ sym (ap (λ (m : Me (Unit {0}) View). m.0.family) me),
@@ -72,7 +68,8 @@ returns-clause-family c =
     let small : v.family < 2 ^ 64 = let e = i.2 in omega arith in
     let n = name_apart v small (let e = i.1 in let l = i.4 in omega arith) ((λ k. bit_at (sym i.2 k) (sym i.1 k)) ∙ i.5) can in
     let s = c.split_seat-new.ensures in
-    let one = ap (λ (m : Me (Unit {0}) View). m.0.family) c.load.ensures.2.0 ∙ ap (λ (m : Me (Unit {0}) View). m.0.family) s.2 in
-    let two = ap (λ (m : Me (Unit {0}) View). m.0.family) c.load-seat-inside.ensures.2.0 ∙ ap (λ (m : Me (Unit {0}) View). m.0.family) s.4 in
+    let l = c.load-seat-inside.ensures in
+    let one = ap (λ (m : Me (Unit {0}) View). m.0.family) s.2 ∙ ap (λ (m : Me (Unit {0}) View). (giver m.0).family) l.2.0 in
+    let two = ap (λ (m : Me (Unit {0}) View). m.0.family) s.4 ∙ ap (λ (m : Me (Unit {0}) View). (given m.0).family) l.2.0 in
     let was = ap (λ (p : SeatState). p.view.family) c.seat.view_is in
     (λ k. one k + two k) ∙ (let le = n.3 in omega arith)
