@@ -1,11 +1,12 @@
 -- A book whose numbers are dealt out, one after another.
-use Rattle.std.proofs.Common.{◌≡◌, ℕ, zero, suc, ◌+◌, ◌<◌, ◌≤◌, List, [], ◌∷◌, ◌++◌, length, map, set, Some, refl, sym, ap, ◌∙◌, subst, arith, replicate}
+use Rattle.std.proofs.Common.{◌≡◌, ℕ, zero, suc, ◌+◌, ◌<◌, ◌≤◌, List, [], ◌∷◌, ◌++◌, length, map, set, Some, refl, sym, ap, ◌∙◌, subst, arith, replicate, length-append}
 use Rattle.std.specs.Prelude.{slice_get, slice_index}
-use Rattle.std.proofs.lemmas.List.{get_or-map, length-map}
+use Rattle.std.proofs.lemmas.List.{get_or-map, length-map, length-replicate}
 use Rattle.sms_core.specs.declared.row.Row.{Row}
 use Rattle.sms_book.specs.declared.rule.Portion.{Portion}
 use Rattle.sms_book.specs.declared.rule.Entry.{Entry}
 use Rattle.sms_book.specs.Portions.{portion_at, row_at, no_row, no_amounts, nothing, of_worker, of_till}
+use Rattle.sms_book.specs.Shares.{Share, blank_share, opening_shares}
 use Rattle.sms_book.specs.Openings.{AllSmall, opening_row}
 use Rattle.sms_book.specs.Rule.{at_home, away, opening_entries, AllAway}
 use Rattle.sms_book.specs.Sums.{total, Adds, Balanced}
@@ -77,7 +78,7 @@ balanced-opening n credits w small i below =
     })
 
 -- an element of a list of equal ones
-pub middle : {A : Type 0} (xs : List A) (y : A) (zs : List A) (n : ℕ) (x : A) → xs ++ y ∷ zs ≡ replicate n x → (y ≡ x) × (length xs < n)
+middle : {A : Type 0} (xs : List A) (y : A) (zs : List A) (n : ℕ) (x : A) → xs ++ y ∷ zs ≡ replicate n x → (y ≡ x) × (length xs < n)
 middle [] y zs zero x e = absurd (cc)
 middle [] y zs (suc n) x e = (cc, omega arith)
 middle (z ∷ xs) y zs zero x e = absurd (cc)
@@ -85,6 +86,33 @@ middle (z ∷ xs) y zs (suc n) x e =
     let rest : xs ++ y ∷ zs ≡ replicate n x = cc in
     let m = middle xs y zs n x rest in
     (m.0, let l = m.1 in omega arith)
+
+replicate_push : {A : Type 0} (n : ℕ) (x : A) (zs : List A) → replicate n x ++ x ∷ zs ≡ replicate (suc n) x ++ zs
+replicate_push zero x zs = refl
+replicate_push (suc n) x zs = ap (λ l. x ∷ l) (replicate_push n x zs)
+
+-- the next of a list of equal ones, of which so many were taken
+pub next_equal : {A : Type 0} (taken n : ℕ) (x y : A) (ys zs : List A) → replicate taken x ++ ys ≡ replicate n x → ys ≡ y ∷ zs → (y ≡ x) × (taken < n) × (replicate (suc taken) x ++ zs ≡ replicate n x)
+next_equal taken n x y ys zs all is =
+    let whole : replicate taken x ++ y ∷ zs ≡ replicate n x = ap (λ l. replicate taken x ++ l) (sym is) ∙ all in
+    let m = middle (replicate taken x) y zs n x whole in
+    let count = length-replicate taken x in
+    (m.0, (let l = m.1 in omega arith), sym (replicate_push taken x zs) ∙ ap (λ z. replicate taken x ++ z ∷ zs) (sym m.0) ∙ whole)
+
+-- all were taken
+pub all_taken : {A : Type 0} (taken n : ℕ) (x : A) (ys : List A) → replicate taken x ++ ys ≡ replicate n x → length ys ≡ 0 → taken ≡ n
+all_taken taken n x ys all none =
+    let a = length-replicate taken x in
+    let b = length-replicate n x in
+    let c = length-append (replicate taken x) ys in
+    let d : length (replicate taken x ++ ys) ≡ length (replicate n x) = ap length all in
+    omega arith
+
+-- one share more
+pub shares_push : (accounts n m : ℕ) (shares : List Share) (s : Share) → shares ≡ opening_shares accounts n → m ≡ suc n → s.number ≡ suc n → s.amounts ≡ replicate accounts no_amounts → shares ++ s ∷ [] ≡ opening_shares accounts m
+shares_push accounts n m shares s was next number amounts =
+    let new : s ≡ blank_share accounts (suc n) = (λ i. record { number = number i; amounts = amounts i }) in
+    (λ i. was i ++ new i ∷ []) ∙ ap (opening_shares accounts) (sym next)
 
 pub worker_home : (credits : List ℕ) (w k : ℕ) → k < w → slice_get (opening_entries credits w) (suc k) ≡ Some (at_home (replicate (length credits) nothing))
 worker_home credits w k low = go w k low

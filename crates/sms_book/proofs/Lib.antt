@@ -3,4 +3,7 @@ pub mod Totals
 pub mod Turns
 pub mod Openings
 pub mod Dealing
+pub mod Returned
 pub mod Sums
+pub mod LawProofs
+pub mod StepTotals

@@ -9,10 +9,9 @@ use Rattle.atomic_table.specs.Table.{State, Me, Allows, Splits, Joins, keeps, op
 use Rattle.atomic_table.proofs.Lists.{at_set, set_else, set_again, at_longer, at_last}
 use Rattle.sms_book.specs.declared.rule.Portion.{Portion}
 use Rattle.sms_book.specs.declared.rule.Entry.{Entry}
-use Rattle.sms_book.specs.declared.rule.Opened.{Opened}
 use Rattle.sms_book.specs.declared.rule.View.{View}
 use Rattle.sms_book.specs.declared.rule.View.TheVariants.{Book, Lent, Holder, Spent}
-use Rattle.sms_book.specs.Rule.{at_home, away, lent, left_after, right_after, Fits, Kept, Told, KeptTold, left_dealt, right_dealt, portions_in, opened, opening_entries}
+use Rattle.sms_book.specs.Rule.{at_home, away, lent, left_after, right_after, Fits, Kept, Told, KeptTold, left_dealt, right_dealt, portions_in, opening_entries}
 
 module _ {A : Type 0} where
   pub get_set_here : (xs : List A) (k : ℕ) (x y : A) → slice_get xs k ≡ Some x → slice_get (set xs k y) k ≡ Some y
@@ -43,7 +42,7 @@ is_here : Option Entry → Bool
 is_here None = true
 is_here (Some e) = e.here
 
-apart : (a b : List Portion) → Some (at_home a) ≡ Some (away b) → ⊥
+pub apart : (a b : List Portion) → Some (at_home a) ≡ Some (away b) → ⊥
 unfolding is_here
 apart a b e = true≢false (ap is_here e)
 
@@ -191,14 +190,29 @@ deals id k es a v is here =
         (λ c e. apart a c (sym here ∙ subst (λ (l : List Entry). slice_get l k ≡ Some (away c)) (sym mine.1) e))
         (λ q ne. ap (λ (l : List Entry). slice_get l q) (sym mine.1)) h.2 h.3
 
+-- a look leaves all views
+pub look_keeps : (s : State (Unit {0}) View) → Kept s → (id : ℕ) (v : View) → get_elem? s.views id ≡ some v → Kept record { words = s.words; homes = s.homes; views = set s.views id v }
+look_keeps s h id v at =
+    let same = set_again s.views id v at in
+    (h.0, h.1, (λ j u e. h.2 j u (subst (λ (l : List View). get_elem? l j ≡ some u) same e)), (λ q c out. ap (λ (l : List View). get_elem? l (h.1 q)) same ∙ h.3 q c out))
+
 pub tells : (slots id word : ℕ) (v : View) → Allows Kept slots id (v, []) word (λ n. n) (λ _. Told (v, []))
-tells slots id word v s h _ at _ =
-    let same = set_again s.views id v at in (
-      v,
-      keeps,
-      tt,
-      (h.0, h.1, (λ j u e. h.2 j u (subst (λ (l : List View). get_elem? l j ≡ some u) same e)), (λ q c out. ap (λ (l : List View). get_elem? l (h.1 q)) same ∙ h.3 q c out)),
-      (refl, λ es k a is. (subst (Fits h.0 h.1 id) is (h.2 id v at)).2),
+tells slots id word v s h _ at _ = (v, keeps, tt, look_keeps s h id v at, (refl, λ es k a is. (subst (Fits h.0 h.1 id) is (h.2 id v at)).2))
+
+-- the book keeps the number that it was lent
+pub home_keeps : (s : State (Unit {0}) View) → Kept s → (id : ℕ) (es : List Entry) (k : ℕ) (a : List Portion) → get_elem? s.views id ≡ some (Lent es k a)
+    → Kept record { words = s.words; homes = s.homes; views = set s.views id (Book (set es k (at_home a))) }
+home_keeps s h id es k a at =
+    let mine = h.2 id (Lent es k a) at in
+    let w = Book (set es k (at_home a)) in (
+      h.0,
+      h.1,
+      (λ j u e. ⊎_elim
+          (λ (t : (j ≡ id) × (w ≡ u)). subst (Fits h.0 h.1 j) t.1 (t.0 ∙ mine.0, mine.1))
+          (λ (t : (j ≢ id) × (get_elem? s.views j ≡ some u)). h.2 j u t.1)
+          (at_set s.views id j w u e)),
+      (λ q c out. let there = h.3 q c out in
+          set_else s.views id (h.1 q) w (other_seat s id (h.1 q) q (Lent es k a) c at there (λ e. cc)) ∙ there),
     )
 
 pub keeps_told : (slots id word : ℕ) (v : View) (es : List Entry) (k : ℕ) (a : List Portion) → v ≡ Lent es k a → Allows Kept slots id (v, []) word (λ n. n) (λ _. KeptTold (v, []))
@@ -206,22 +220,7 @@ keeps_told slots id word v es k a is =
     subst (λ (x : View). Allows Kept slots id (x, []) word (λ n. n) (λ _. KeptTold (x, []))) (sym is)
     (λ s h _ at _.
     let mine = h.2 id (Lent es k a) at in
-    let w = Book (set es k (at_home a)) in (
-      w,
-      keeps,
-      tt,
-      (
-        h.0,
-        h.1,
-        (λ j u e. ⊎_elim
-            (λ (t : (j ≡ id) × (w ≡ u)). subst (Fits h.0 h.1 j) t.1 (t.0 ∙ mine.0, mine.1))
-            (λ (t : (j ≢ id) × (get_elem? s.views j ≡ some u)). h.2 j u t.1)
-            (at_set s.views id j w u e)),
-        (λ q c out. let there = h.3 q c out in
-            set_else s.views id (h.1 q) w (other_seat s id (h.1 q) q (Lent es k a) c at there (λ e. cc)) ∙ there),
-      ),
-      (refl, λ xs q b same. told es k a xs q b same mine.2),
-    ))
+    (Book (set es k (at_home a)), keeps, tt, home_keeps s h id es k a at, (refl, λ xs q b same. told es k a xs q b same mine.2)))
   where
     told : (es : List Entry) (k : ℕ) (a : List Portion) (xs : List Entry) (q : ℕ) (b : List Portion) → Lent es k a ≡ Lent xs q b → slice_get es k ≡ Some (away a) → slice_get xs q ≡ Some (away b)
     told es k a xs q b same there =
@@ -259,6 +258,5 @@ none_out : (credits : List ℕ) (workers : ℕ) (k : ℕ) (a : List Portion) →
 none_out credits workers zero a e = apart _ a e
 none_out credits workers (suc k) a e = none_away _ k _ a e
 
-pub begins : (about : Opened) (ws : List ℕ) → Kept (opening ws [] (opened about))
-begins about ws =
-    (opening_entries about.credits.items about.workers, (λ _. 0), begun about.credits.items about.workers, λ k a e. absurd (none_out about.credits.items about.workers k a e))
+pub begins : (credits : List ℕ) (workers : ℕ) (ws : List ℕ) → Kept (opening ws [] (Book (opening_entries credits workers)))
+begins credits workers ws = (opening_entries credits workers, (λ _. 0), begun credits workers, λ k a e. absurd (none_out credits workers k a e))

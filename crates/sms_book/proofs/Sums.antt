@@ -7,6 +7,7 @@ use Rattle.sms_book.specs.declared.amounts.Amounts.{Amounts}
 use Rattle.sms_book.specs.declared.rule.Portion.{Portion}
 use Rattle.sms_book.specs.declared.rule.Entry.{Entry}
 use Rattle.sms_book.specs.Portions.{amounts_at, topped_at, portion_at, row_at, of_worker, of_till}
+use Rattle.sms_book.specs.Shares.{Share}
 use Rattle.sms_book.specs.Rule.{away, at_home, AllAway}
 use Rattle.sms_book.specs.Sums.{total, over_shares, Balanced, IsSumOf}
 use Rattle.sms_book.proofs.Totals.{kept, count_here, total_home, kept_home, count_home, all_home, none_kept, none_counted}
@@ -46,15 +47,15 @@ gathered_more rows n es held k ps at g = record {
 }
 
 -- the till's portions, and those of the shares that came back
-abbrev pub back : List ℕ → List (List Amounts) → List (List Portion)
-back till done = map of_till till ∷ map (map of_worker) done
+abbrev pub back : List ℕ → List Share → List (List Portion)
+back till done = map of_till till ∷ map (λ s. map of_worker s.amounts) done
 
-pub back-snoc : (till : List ℕ) (done : List (List Amounts)) (a : List Amounts) → back till done ++ map of_worker a ∷ [] ≡ back till (done ++ a ∷ [])
-back-snoc till done a = ap (λ (l : List (List Portion)). map of_till till ∷ l) (more done)
+pub back-snoc : (till : List ℕ) (done : List Share) (s : Share) → back till done ++ map of_worker s.amounts ∷ [] ≡ back till (done ++ s ∷ [])
+back-snoc till done s = ap (λ (l : List (List Portion)). map of_till till ∷ l) (more done)
   where
-    more : (done : List (List Amounts)) → map (map of_worker) done ++ map of_worker a ∷ [] ≡ map (map of_worker) (done ++ a ∷ [])
+    more : (done : List Share) → map (λ s. map of_worker s.amounts) done ++ map of_worker s.amounts ∷ [] ≡ map (λ s. map of_worker s.amounts) (done ++ s ∷ [])
     more [] = refl
-    more (d ∷ done) = ap (λ (l : List (List Portion)). map of_worker d ∷ l) (more done)
+    more (d ∷ done) = ap (λ (l : List (List Portion)). map of_worker d.amounts ∷ l) (more done)
 
 worker_at : (a : List Amounts) (i : ℕ) → portion_at (map of_worker a) i ≡ of_worker (amounts_at a i)
 worker_at [] i = refl
@@ -66,28 +67,32 @@ till_at [] i = refl
 till_at (x ∷ t) zero = refl
 till_at (x ∷ t) (suc i) = till_at t i
 
-over_workers : (f : Portion → ℕ) (i : ℕ) (done : List (List Amounts)) → total_of f i (map (map of_worker) done) ≡ over_shares (λ a. f (of_worker a)) i done
+over_workers : (f : Portion → ℕ) (i : ℕ) (done : List Share) → total_of f i (map (λ s. map of_worker s.amounts) done) ≡ over_shares (λ a. f (of_worker a)) i done
 over_workers f i [] = refl
-over_workers f i (a ∷ done) =
+over_workers f i (s ∷ done) =
     let rest = over_workers f i done in
-    let here : f (portion_at (map of_worker a) i) ≡ f (of_worker (amounts_at a i)) = ap f (worker_at a i) in
+    let here : f (portion_at (map of_worker s.amounts) i) ≡ f (of_worker (amounts_at s.amounts i)) = ap f (worker_at s.amounts i) in
     omega arith
 
-none_topped : (i : ℕ) (done : List (List Amounts)) → over_shares (λ a. 0) i done ≡ 0
+none_topped : (i : ℕ) (done : List Share) → over_shares (λ a. 0) i done ≡ 0
 none_topped i [] = refl
 none_topped i (a ∷ done) = let rest = none_topped i done in omega arith
 
-over_back : (f : Portion → ℕ) (i : ℕ) (till : List ℕ) (done : List (List Amounts)) → total_of f i (back till done) ≡ f (of_till (topped_at till i)) + over_shares (λ a. f (of_worker a)) i done
+over_back : (f : Portion → ℕ) (i : ℕ) (till : List ℕ) (done : List Share) → total_of f i (back till done) ≡ f (of_till (topped_at till i)) + over_shares (λ a. f (of_worker a)) i done
 over_back f i till done =
     let rest = over_workers f i done in
     let here : f (portion_at (map of_till till) i) ≡ f (of_till (topped_at till i)) = ap f (till_at till i) in
     omega arith
 
-pub gathered_all : (rows : List Row) (n : ℕ) (es : List Entry) (till : List ℕ) (done : List (List Amounts)) → Gathered rows n es (back till done) → length done + 1 ≡ n
+-- each number is with the book, once the till and as many shares as there are workers came back
+pub gathered_home : (rows : List Row) (n : ℕ) (es : List Entry) (till : List ℕ) (done : List Share) → Gathered rows n es (back till done) → length done + 1 ≡ n → count_here es ≡ length es
+gathered_home rows n es till done g all = let c = g.count in let l = g.long in let m = length-map done (λ s. map of_worker s.amounts) in omega arith
+
+pub gathered_all : (rows : List Row) (n : ℕ) (es : List Entry) (till : List ℕ) (done : List Share) → Gathered rows n es (back till done) → length done + 1 ≡ n
     → (i : ℕ) → i < length rows → IsSumOf (row_at rows i) i till done
 gathered_all rows n es till done g all i low =
     let was = g.balanced i low in
-    let home : count_here es ≡ length es = (let c = g.count in let l = g.long in let m = length-map done (map of_worker) in omega arith) in
+    let home = gathered_home rows n es till done g all in
     let sum : (f : Portion → ℕ) → total f i es ≡ f (of_till (topped_at till i)) + over_shares (λ a. f (of_worker a)) i done = λ f. sym (all_home f i es home) ∙ g.sums f i ∙ over_back f i till done in
     record {
       topped = let a = was.topped in let b = sum (λ p. p.topped) in let z = none_topped i done in omega arith;

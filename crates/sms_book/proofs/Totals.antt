@@ -121,7 +121,7 @@ count_home (x ∷ es) zero a e =
     omega arith
 count_home (x ∷ es) (suc k) a e = let rest = count_home es k a e in omega arith
 
-one_if_most : (b : Bool) → one_if b ≤ 1
+pub one_if_most : (b : Bool) → one_if b ≤ 1
 one_if_most true = omega arith
 one_if_most false = omega arith
 

@@ -1,7 +1,9 @@
 pub mod Name
 pub mod Portions
 pub mod Rule
+pub mod Shares
 pub mod Sums
 pub mod Money
 pub mod Openings
-pub mod BookLaws
+pub mod TableSteps
+pub mod Laws

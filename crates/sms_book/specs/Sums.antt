@@ -5,6 +5,7 @@ use Rattle.sms_core.specs.Rows.{IsBalanced}
 use Rattle.sms_book.specs.declared.amounts.Amounts.{Amounts}
 use Rattle.sms_book.specs.declared.rule.Portion.{Portion}
 use Rattle.sms_book.specs.declared.rule.Entry.{Entry}
+use Rattle.sms_book.specs.Shares.{Share}
 use Rattle.sms_book.specs.Portions.{amounts_at, topped_at, row_at, portion_at}
 
 -- one amount of an account, over all entries
@@ -13,9 +14,9 @@ total f i [] = 0
 total f i (e ∷ es) = f (portion_at e.portions i) + total f i es
 
 -- one amount of an account, over the workers' shares
-abbrev pub over_shares : (Amounts → ℕ) → ℕ → List (List Amounts) → ℕ
+abbrev pub over_shares : (Amounts → ℕ) → ℕ → List Share → ℕ
 over_shares f i [] = 0
-over_shares f i (a ∷ shares) = f (amounts_at a i) + over_shares f i shares
+over_shares f i (s ∷ shares) = f (amounts_at s.amounts i) + over_shares f i shares
 
 -- top-ups are at most 2^40, and what was ever returned with what may yet be is at most 2^60, so that no sum wraps
 abbrev pub IsSmall : Row → Type 0
@@ -34,7 +35,7 @@ abbrev pub Balanced : List Row → List Entry → Type 0
 Balanced rows es = (i : ℕ) → i < length rows → Adds (row_at rows i) i es
 
 -- a gathered row balances; its top-ups are the till's, and its other totals the sums over the workers' shares
-pub record IsSumOf (r : Row) (i : ℕ) (till : List ℕ) (shares : List (List Amounts)) : Type 0 where
+pub record IsSumOf (r : Row) (i : ℕ) (till : List ℕ) (shares : List Share) : Type 0 where
   pub topped : r.topped ≡ topped_at till i
   pub reserved : r.reserved ≡ over_shares (λ a. a.reserved) i shares
   pub charged : r.charged ≡ over_shares (λ a. a.charged) i shares

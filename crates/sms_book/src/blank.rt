@@ -5,6 +5,7 @@ ghost use Rattle.sms_book.specs.declared.rule.View.TheVariants.{Book as BookView
 ghost use Rattle.sms_book.specs.declared.rule.Portion.{Portion};
 ghost use Rattle.sms_book.specs.declared.rule.Entry.{Entry};
 ghost use Rattle.sms_book.specs.Portions.{no_amounts, of_till, of_worker, nothing};
+ghost use Rattle.sms_book.specs.Shares.{opening_shares};
 ghost use Rattle.sms_book.specs.Rule.{opening_entries, at_home};
 ghost use Rattle.sms_book.specs.Openings.{AllSmall, opening_row};
 
@@ -137,7 +138,7 @@ fn room_for<N: BookName>(
 
 impl Blank {
     /// Opens the book: its rows hold the opening credits free, the till has them as top-ups, and
-    /// each worker's share has nothing. For want of memory the blank comes back.
+    /// there is one share a worker, which has nothing. For want of memory the blank comes back.
     pub fn into_book<N: BookName>(
         self,
         alloc: Global,
@@ -145,7 +146,7 @@ impl Blank {
         requires { self.book ≡ N.book }
         ensures book { IfOk result (λ o. o.0 ≡ map opening_row self.credits) }
         ensures till { IfOk result (λ o. o.1 ≡ self.credits) }
-        ensures shares { IfOk result (λ o. o.2.items ≡ replicate self.book.workers (replicate self.book.accounts no_amounts)) }
+        ensures shares { IfOk result (λ o. o.2.items ≡ opening_shares self.book.accounts self.book.workers) }
         ensures back { IfErr result (λ e. e.1 ≡ self) }
     {
         match room_for(alloc, self.credits.as_slice(), self.workers) {
@@ -161,7 +162,7 @@ impl Blank {
     ) -> Result<(Mutex<Book<N>>, Till<N>, Vec<Shares<N>>), (AllocError, Blank)>
         requires { self.book ≡ N.book }
         ensures till { IfOk result (λ o. o.1 ≡ self.credits) }
-        ensures shares { IfOk result (λ o. o.2.items ≡ replicate self.book.workers (replicate self.book.accounts no_amounts)) }
+        ensures shares { IfOk result (λ o. o.2.items ≡ opening_shares self.book.accounts self.book.workers) }
         ensures back { IfErr result (λ e. e.1 ≡ self) }
     {
         match self.into_book(alloc) {
@@ -177,7 +178,7 @@ impl Blank {
         requires shares { (room.shares.items ≡ []) × (self.book.workers ≤ vec_capacity room.shares) }
         ensures book { result.0 ≡ map opening_row self.credits }
         ensures till { result.1 ≡ self.credits }
-        ensures shares { result.2.items ≡ replicate self.book.workers (replicate self.book.accounts no_amounts) }
+        ensures shares { result.2.items ≡ opening_shares self.book.accounts self.book.workers }
     {
         let Blank {
             credits,

@@ -2,6 +2,7 @@
 ghost use Rattle.std.specs.Prelude.{◌≡◌, ◌≢◌, ℕ, ◌+◌, ◌-◌, ◌^◌, ◌<◌, ◌≤◌, ◌↔◌, length, slice_set, OnOk, OnErr, IsErrOf, IsOk, IsSome, IfSome};
 ghost use Rattle.sms_core.specs.Rows.{IsBalanced};
 ghost use Rattle.sms_book.specs.Portions.{amounts_at, topped_at, row_at};
+ghost use Rattle.sms_book.specs.Shares.{changed};
 ghost use Rattle.sms_book.specs.Money.{topped_up, row_reserved, reserved_more, row_charged, charged_more, row_given_back, returned_more, CanMove, moved_row, moved_amounts};
 ghost use Rattle.sms_book.specs.declared.money.Move.TheVariants.{Reserve};
 ghost use Rattle.sms_book.specs.declared.error.BookError.TheVariants.{NoAccount, NoCredit, AmountTooLarge};
@@ -121,9 +122,9 @@ impl<N: BookName> Book<N> {
         ensures large { IsErrOf result AmountTooLarge ↔ ((account < length self.old) × (n ≤ (row_at self.old account).free) × (2 ^ 60 < (row_at self.old account).returned + (row_at self.old account).reserved + n)) }
         ensures done { IsOk result ↔ ((account < length self.old) × (n ≤ (row_at self.old account).free) × ((row_at self.old account).returned + (row_at self.old account).reserved + n ≤ 2 ^ 60)) }
         ensures book { OnOk result (self.new ≡ slice_set self.old account (row_reserved n (row_at self.old account))) }
-        ensures share { OnOk result (share.new ≡ slice_set share.old account (reserved_more n (amounts_at share.old account))) }
+        ensures share { OnOk result (share.new ≡ changed share.old account (reserved_more n)) }
         ensures refused { OnErr result ((self.new ≡ self.old) × (share.new ≡ share.old)) }
-        ensures there { length share.old ≡ length self.old }
+        ensures there { length share.old.amounts ≡ length self.old }
     {
         let _all = &share.amounts;
         if account >= self.rows.len() {
@@ -145,10 +146,10 @@ impl<N: BookName> Book<N> {
 
     /// Charges credits that the share holds reserved for the account.
     pub fn charge(&mut self, share: &mut Shares<N>, account: usize, n: u64)
-        requires { (0 < n) × (n ≤ (amounts_at share.old account).reserved) }
+        requires { (0 < n) × (n ≤ (amounts_at share.old.amounts account).reserved) }
         ensures book { self.new ≡ slice_set self.old account (row_charged n (row_at self.old account)) }
-        ensures share { share.new ≡ slice_set share.old account (charged_more n (amounts_at share.old account)) }
-        ensures there { (account < length self.old) × (length share.old ≡ length self.old) }
+        ensures share { share.new ≡ changed share.old account (charged_more n) }
+        ensures there { (account < length self.old) × (length share.old.amounts ≡ length self.old) }
     {
         let _rows = &self.rows;
         let _all = &share.amounts;
@@ -157,10 +158,10 @@ impl<N: BookName> Book<N> {
 
     /// Gives back to free what the share holds reserved for the account.
     pub fn give_back(&mut self, share: &mut Shares<N>, account: usize, n: u64)
-        requires { (0 < n) × (n ≤ (amounts_at share.old account).reserved) }
+        requires { (0 < n) × (n ≤ (amounts_at share.old.amounts account).reserved) }
         ensures book { self.new ≡ slice_set self.old account (row_given_back n (row_at self.old account)) }
-        ensures share { share.new ≡ slice_set share.old account (returned_more n (amounts_at share.old account)) }
-        ensures there { (account < length self.old) × (length share.old ≡ length self.old) }
+        ensures share { share.new ≡ changed share.old account (returned_more n) }
+        ensures there { (account < length self.old) × (length share.old.amounts ≡ length self.old) }
     {
         let _rows = &self.rows;
         let _all = &share.amounts;
@@ -170,9 +171,9 @@ impl<N: BookName> Book<N> {
     fn turn(&mut self, share: &mut Shares<N>, account: usize, what: Move, n: u64)
         requires there { account < length self.old }
         requires row { what ≡ Reserve → CanMove what n (row_at self.old account) }
-        requires share { what ≢ Reserve → n ≤ (amounts_at share.old account).reserved }
+        requires share { what ≢ Reserve → n ≤ (amounts_at share.old.amounts account).reserved }
         ensures book { self.new ≡ slice_set self.old account (moved_row what n (row_at self.old account)) }
-        ensures share { share.new ≡ slice_set share.old account (moved_amounts what n (amounts_at share.old account)) }
+        ensures share { share.new ≡ changed share.old account (moved_amounts what n) }
     {
         let Book {
             rows,
@@ -199,7 +200,7 @@ impl<N: BookName> Book<N> {
     pub fn look(&mut self, share: &mut Shares<N>, account: usize) -> Option<Row>
         ensures there { IsSome result ↔ (account < length self.old) }
         ensures row { IfSome result (λ r. (r ≡ row_at self.old account) × IsBalanced r) }
-        ensures least { IfSome result (λ r. let a = amounts_at share.old account in (a.reserved ≤ r.reserved) × (a.charged ≤ r.charged) × (a.returned ≤ r.returned)) }
+        ensures least { IfSome result (λ r. let a = amounts_at share.old.amounts account in (a.reserved ≤ r.reserved) × (a.charged ≤ r.charged) × (a.returned ≤ r.returned)) }
         ensures same { (self.new ≡ self.old) × (share.new ≡ share.old) }
     {
         if account >= self.rows.len() {
@@ -211,7 +212,7 @@ impl<N: BookName> Book<N> {
     fn seen(&mut self, share: &mut Shares<N>, account: usize) -> Row
         requires { account < length self.old }
         ensures row { (result ≡ row_at self.old account) × IsBalanced result }
-        ensures least { let a = amounts_at share.old account in (a.reserved ≤ result.reserved) × (a.charged ≤ result.charged) × (a.returned ≤ result.returned) }
+        ensures least { let a = amounts_at share.old.amounts account in (a.reserved ≤ result.reserved) × (a.charged ≤ result.charged) × (a.returned ≤ result.returned) }
         ensures same { (self.new ≡ self.old) × (share.new ≡ share.old) }
     {
         let Book {

@@ -1,6 +1,7 @@
 //! Takes every share back, and tells what became of each account.
-ghost use Rattle.std.specs.Prelude.{◌≡◌, ◌≢◌, ℕ, ◌<◌, ◌↔◌, length, IfOk, IfErr, IsErr};
+ghost use Rattle.std.specs.Prelude.{◌≡◌, ℕ, ◌<◌, ◌↔◌, length, IfOk, IfErr, IsErr};
 ghost use Rattle.sms_book.specs.Portions.{row_at};
+ghost use Rattle.sms_book.specs.Shares.{AreAll};
 ghost use Rattle.sms_book.specs.Sums.{IsSumOf};
 ghost use Rattle.sms_book.specs.declared.error.GatherFault.TheVariants.{MissingShare};
 
@@ -14,6 +15,7 @@ use crate::till::Till;
 
 /// The statement of a book whose till and shares all come back: each row balances, its top-ups are
 /// the till's, and its other amounts are the sums over the shares, in whatever order they come.
+/// Where a share isn't there, all that was handed in comes back.
 pub fn gather<N: BookName>(
     book: Book<N>,
     till: Till<N>,
@@ -21,7 +23,8 @@ pub fn gather<N: BookName>(
 ) -> Result<Statement, (GatherFault, Book<N>, Till<N>, Vec<Shares<N>>)>
     ensures rows { IfOk result (λ s. s ≡ book) }
     ensures sums { IfOk result (λ s. (i : ℕ) → i < length s → IsSumOf (row_at s i) i till shares.items) }
-    ensures missing { IsErr result ↔ (length shares.items ≢ N.book.workers) }
+    ensures each { IfOk result (λ s. AreAll N.book.workers shares.items) }
+    ensures missing { IsErr result ↔ ¬ (AreAll N.book.workers shares.items) }
     ensures back { IfErr result (λ e. (e.0 ≡ MissingShare) × (e.1 ≡ book) × (e.2 ≡ till) × (e.3.items ≡ shares.items)) }
 {
     if shares.len() != book.workers {

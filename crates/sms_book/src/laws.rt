@@ -1,5 +1,6 @@
-//! What holds of every book.
-ghost use Rattle.sms_book.specs.BookLaws.{EachBalanced};
+//! What holds of every book, and of its table over every state that meets its rule and every run of
+//! steps.
+ghost use Rattle.sms_book.specs.Laws.{EachBalanced, RuleIsOrderly, OpeningMeetsRule, StepKeepsRule, RunIsOrderly, StepMovesTotals};
 
 use crate::book::Book;
 use crate::name::BookName;
@@ -11,3 +12,32 @@ pub fn rows_balance<N: BookName>(book: &Book<N>)
 {
     let _rows = &book.rows;
 }
+
+/// What the rule of a book's table says in plain terms: the book has an entry for each number that
+/// a seat holds, what that seat has is the entry, no two seats hold one number, and a number that
+/// isn't with the book has a holder.
+pub fn rule_is_orderly()
+    ensures { RuleIsOrderly }
+{}
+
+/// A new table meets the rule.
+pub fn opening_meets_rule()
+    ensures { OpeningMeetsRule }
+{}
+
+/// Each kind of step keeps the rule.
+pub fn step_keeps_rule()
+    ensures { StepKeepsRule }
+{}
+
+/// So it holds after every run of steps from a new table, which has an entry for the till and for
+/// each worker throughout.
+pub fn run_is_orderly()
+    ensures { RunIsOrderly }
+{}
+
+/// What all entries have of an account changes only where a number goes out again, and by as much
+/// as what the number's holder has.
+pub fn step_moves_totals()
+    ensures { StepMovesTotals }
+{}

@@ -8,7 +8,8 @@ use crate::rule::View;
 use atomic_table::Badge;
 use std::marker::{Model, PhantomData};
 
-/// What one worker moved in the book of that name. Contracts see its amounts, by account.
+/// What one worker moved in the book of that name. Contracts see its number in the book, which no
+/// other share of it has, and its amounts by account.
 #[derive(Drop)]
 pub struct Shares<N: BookName> {
     pub(crate) amounts: Vec<Amounts>,
@@ -17,14 +18,14 @@ pub struct Shares<N: BookName> {
 }
 
 impl<N: BookName> Model for Shares<N> {
-    ghost use Rattle.std.specs.Prelude.{◌≡◌, ℕ, List, [], ◌∷◌, length, map};
-    ghost use Rattle.sms_book.specs.declared.amounts.Amounts.{Amounts};
+    ghost use Rattle.std.specs.Prelude.{◌≡◌, ℕ, [], ◌∷◌, length, map};
     ghost use Rattle.sms_book.specs.declared.rule.View.TheVariants.{Holder};
     ghost use Rattle.sms_book.specs.Portions.{of_worker};
+    ghost use Rattle.sms_book.specs.Shares.{Share, number_of};
 
-    ghost Value = { List Amounts };
+    ghost Value = { Share };
 
-    ghost view = { λ s. s.amounts.items };
+    ghost view = { λ s. record { number = number_of s.seat.views; amounts = s.amounts.items } };
 
     ghost invariant = { λ s. (s.seat.table_id ≡ N.book.table) × (length s.amounts.items ≡ N.book.accounts) × ((k : ℕ) × (s.seat.views ≡ Holder k (map of_worker s.amounts.items) ∷ [])) };
 }
@@ -32,7 +33,7 @@ impl<N: BookName> Model for Shares<N> {
 impl<N: BookName> Shares<N> {
     /// The credits of an account that this share holds reserved; 0 where there is no such account.
     pub fn reserved(&self, account: usize) -> u64
-        ensures { result ≡ (amounts_at self.now account).reserved }
+        ensures { result ≡ (amounts_at self.now.amounts account).reserved }
     {
         match self.amounts.get(account) {
             Some(amounts) => amounts.reserved,

@@ -150,7 +150,8 @@ fn calls_refused<N: BookName>(rt: &impl Abort, alloc: Global, blank: Blank) -> R
         panic!(rt; "a share is missing")
     };
     assert!(rt; fault == GatherFault::MissingShare && shares.len() == 1);
-    shares.push(share)?;
+    // The second share before the first.
+    shares.insert(0, share)?;
     let row = row_of([1, 1, 0, 0, 0]);
     assert_eq!(rt; only_row(rt, book, till, shares), row);
     Ok(())

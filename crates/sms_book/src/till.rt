@@ -23,5 +23,5 @@ impl<N: BookName> Model for Till<N> {
 
     ghost view = { λ t. t.topped.items };
 
-    ghost invariant = { λ t. (t.seat.table_id ≡ N.book.table) × (length t.topped.items ≡ N.book.accounts) × ((k : ℕ) × (t.seat.views ≡ Holder k (map of_till t.topped.items) ∷ [])) };
+    ghost invariant = { λ t. (t.seat.table_id ≡ N.book.table) × (length t.topped.items ≡ N.book.accounts) × (t.seat.views ≡ Holder 0 (map of_till t.topped.items) ∷ []) };
 }

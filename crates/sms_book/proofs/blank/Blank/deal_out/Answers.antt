@@ -1,18 +1,18 @@
-use Rattle.std.proofs.Common.{◌≡◌, ℕ, suc, ◌+◌, ◌<◌, ◌≤◌, List, [], ◌∷◌, ◌++◌, refl, sym, ap, ◌∙◌, subst, map, length, set, Some, replicate, rules, arith, append_assoc, append-nil, vec_len, vec_capacity}
+use Rattle.std.proofs.Common.{◌≡◌, ℕ, suc, ◌+◌, ◌<◌, ◌≤◌, List, [], ◌∷◌, ◌++◌, refl, sym, ap, ◌∙◌, subst, map, length, set, Some, replicate, rules, arith, vec_capacity}
 use Rattle.std.specs.Prelude.{slice_get, slice_set}
 use Rattle.std.specs.Vec.Iter.{into_iter_items}
 use Rattle.std.proofs.lemmas.List.{length-replicate, length-map}
 use Rattle.sms_core.specs.declared.row.Row.{Row}
-use Rattle.sms_book.specs.declared.amounts.Amounts.{Amounts}
 use Rattle.sms_book.specs.declared.rule.Portion.{Portion}
 use Rattle.sms_book.specs.declared.rule.Entry.{Entry}
 use Rattle.sms_book.specs.declared.rule.View.TheVariants.{Book, Holder}
 use Rattle.sms_book.specs.Name.{BookId, Unopened}
 use Rattle.sms_book.specs.Portions.{no_amounts, nothing, of_till, of_worker}
+use Rattle.sms_book.specs.Shares.{number_of, opening_shares}
 use Rattle.sms_book.specs.Openings.{opening_row}
 use Rattle.sms_book.specs.Rule.{opening_entries, at_home, away}
 use Rattle.sms_book.specs.Sums.{Balanced}
-use Rattle.sms_book.proofs.Dealing.{dealt, get_dealt, set_dealt, length-dealt, AllAway-dealt, balanced-opening, middle, worker_home, workers-nothing}
+use Rattle.sms_book.proofs.Dealing.{dealt, get_dealt, set_dealt, length-dealt, AllAway-dealt, balanced-opening, next_equal, all_taken, shares_push, worker_home, workers-nothing}
 use Rattle.sms_book.proofs.blank.Blank.deal_out.Goals as goal
 
 pub deal-tills-requires-clause-here : goal.deal-tills-requires-clause-here
@@ -29,9 +29,9 @@ loop-amounts-init g c =
       seat = d.0;
       table = c.deal-tills.ensures.table.0 ∙ i.0;
       number = search rules;
-      shares = let given : into_iter_items c.into_iter-amounts-iterator.result ≡ c.args.room.amounts.items = search rules in
-          ap (λ (l : List (List Amounts)). l ++ map (λ a. a.items) (into_iter_items c.into_iter-amounts-iterator.result)) c.requires.shares.0
-          ∙ ap (map (λ a. a.items)) given ∙ c.requires.amounts ∙ ap (λ (u : Unopened). replicate u.book.workers (replicate u.book.accounts no_amounts)) (sym c.self.view_is);
+      shares = c.requires.shares.0;
+      rest = let given : into_iter_items c.into_iter-amounts-iterator.result ≡ c.args.room.amounts.items = search rules in
+          ap (map (λ a. a.items)) given ∙ c.requires.amounts ∙ ap (λ (u : Unopened). replicate u.book.workers (replicate u.book.accounts no_amounts)) (sym c.self.view_is);
       room = subst (λ (w : ℕ). w ≤ vec_capacity c.args.room.shares) (sym (ap (λ (u : Unopened). u.book.workers) c.self.view_is)) c.requires.shares.1;
     }
 
@@ -40,12 +40,9 @@ deal-theirs-requires-clause-here g c =
     let i = c.loop-amounts.invariant in
     let s = c.self.inside in
     let l = c.loop-amounts in
-    let rest = map (λ a. a.items) (into_iter_items c.next.new.self) in
-    let whole : l.shares.items ++ c.in-Some.amounts.items ∷ rest ≡ replicate s.workers (replicate (length s.credits.items) no_amounts) =
-    ap (λ v. l.shares.items ++ map (λ a. a.items) v) (sym c.in-Some.ensures.steps.0) ∙ i.shares in
-    let mid = middle l.shares.items c.in-Some.amounts.items rest s.workers (replicate (length s.credits.items) no_amounts) whole in
-    let count : vec_len l.shares ≡ length l.shares.items = search rules in
-    let low : l.number < s.workers = (let n = i.number in let m = mid.1 in omega arith) in
+    let x = replicate (length s.credits.items) no_amounts in
+    let mid = next_equal l.number s.workers x c.in-Some.amounts.items (map (λ a. a.items) (into_iter_items l.amounts-iterator)) (map (λ a. a.items) (into_iter_items c.next.new.self)) i.rest (ap (map (λ a. a.items)) c.in-Some.ensures.steps.0) in
+    let low = mid.1 in
     let one : l.number + 1 ≡ suc l.number = omega arith in
     let es = opening_entries s.credits.items s.workers in
     let ps = replicate (length s.credits.items) nothing in
@@ -56,13 +53,11 @@ push_reserved-requires g c =
     let i = c.loop-amounts.invariant in
     let s = c.self.inside in
     let l = c.loop-amounts in
-    let rest = map (λ a. a.items) (into_iter_items c.next.new.self) in
-    let whole : l.shares.items ++ c.in-Some.amounts.items ∷ rest ≡ replicate s.workers (replicate (length s.credits.items) no_amounts) =
-    ap (λ v. l.shares.items ++ map (λ a. a.items) v) (sym c.in-Some.ensures.steps.0) ∙ i.shares in
-    let mid = middle l.shares.items c.in-Some.amounts.items rest s.workers (replicate (length s.credits.items) no_amounts) whole in
-    let count : vec_len l.shares ≡ length l.shares.items = search rules in
+    let x = replicate (length s.credits.items) no_amounts in
+    let mid = next_equal l.number s.workers x c.in-Some.amounts.items (map (λ a. a.items) (into_iter_items l.amounts-iterator)) (map (λ a. a.items) (into_iter_items c.next.new.self)) i.rest (ap (map (λ a. a.items)) c.in-Some.ensures.steps.0) in
     let room = i.room in
     let m = mid.1 in
+    let n = i.number in
     omega arith
 
 pub invariant_of-push_reserved : goal.invariant_of-push_reserved
@@ -71,12 +66,9 @@ invariant_of-push_reserved g c =
     let s = c.self.inside in
     let l = c.loop-amounts in
     let name : record { table = s.table.shared.table_id; accounts = length s.credits.items; workers = s.workers } ≡ g.N.BookName.book = ap (λ (u : Unopened). u.book) c.self.view_is ∙ c.requires.name in
-    let rest = map (λ a. a.items) (into_iter_items c.next.new.self) in
-    let whole : l.shares.items ++ c.in-Some.amounts.items ∷ rest ≡ replicate s.workers (replicate (length s.credits.items) no_amounts) =
-    ap (λ v. l.shares.items ++ map (λ a. a.items) v) (sym c.in-Some.ensures.steps.0) ∙ i.shares in
-    let mid = middle l.shares.items c.in-Some.amounts.items rest s.workers (replicate (length s.credits.items) no_amounts) whole in
-    let count : vec_len l.shares ≡ length l.shares.items = search rules in
-    let low : l.number < s.workers = (let n = i.number in let m = mid.1 in omega arith) in
+    let x = replicate (length s.credits.items) no_amounts in
+    let mid = next_equal l.number s.workers x c.in-Some.amounts.items (map (λ a. a.items) (into_iter_items l.amounts-iterator)) (map (λ a. a.items) (into_iter_items c.next.new.self)) i.rest (ap (map (λ a. a.items)) c.in-Some.ensures.steps.0) in
+    let low = mid.1 in
     let one : l.number + 1 ≡ suc l.number = omega arith in
     let es = opening_entries s.credits.items s.workers in
     let ps = replicate (length s.credits.items) nothing in
@@ -92,12 +84,9 @@ loop-amounts-preserved g c =
     let i = c.loop-amounts.invariant in
     let s = c.self.inside in
     let l = c.loop-amounts in
-    let rest = map (λ a. a.items) (into_iter_items c.next.new.self) in
-    let whole : l.shares.items ++ c.in-Some.amounts.items ∷ rest ≡ replicate s.workers (replicate (length s.credits.items) no_amounts) =
-    ap (λ v. l.shares.items ++ map (λ a. a.items) v) (sym c.in-Some.ensures.steps.0) ∙ i.shares in
-    let mid = middle l.shares.items c.in-Some.amounts.items rest s.workers (replicate (length s.credits.items) no_amounts) whole in
-    let count : vec_len l.shares ≡ length l.shares.items = search rules in
-    let low : l.number < s.workers = (let n = i.number in let m = mid.1 in omega arith) in
+    let x = replicate (length s.credits.items) no_amounts in
+    let mid = next_equal l.number s.workers x c.in-Some.amounts.items (map (λ a. a.items) (into_iter_items l.amounts-iterator)) (map (λ a. a.items) (into_iter_items c.next.new.self)) i.rest (ap (map (λ a. a.items)) c.in-Some.ensures.steps.0) in
+    let low = mid.1 in
     let one : l.number + 1 ≡ suc l.number = omega arith in
     let es = opening_entries s.credits.items s.workers in
     let ps = replicate (length s.credits.items) nothing in
@@ -110,13 +99,11 @@ loop-amounts-preserved g c =
       seat = d.0 ∙ ap (λ (x : List Entry). Book x ∷ []) after;
       table = c.deal-theirs.ensures.table.0 ∙ i.table;
       number = c.push_reserved.ensures.len ∙ ap (λ (x : ℕ). x + 1) i.number;
-      shares = ap (λ (x : List (List Amounts)). x ++ rest) c.push_reserved.ensures.items ∙ append_assoc l.shares.items (c.in-Some.amounts.items ∷ []) rest ∙ whole;
+      shares = c.push_reserved.ensures.items
+          ∙ shares_push (length s.credits.items) l.number (l.number + 1) l.shares.items _ i.shares one (ap number_of d.1 ∙ one) mid.0;
+      rest = subst (λ (n : ℕ). replicate n x ++ map (λ a. a.items) (into_iter_items c.next.new.self) ≡ replicate s.workers x) (sym one) mid.2;
       room = subst (λ (k : ℕ). s.workers ≤ k) (sym c.push_reserved.ensures.capacity) i.room;
     }
-
-nil_of : {A : Type 0} (l : List A) → length l ≡ 0 → l ≡ []
-nil_of [] e = refl
-nil_of (x ∷ l) e = absurd (omega arith)
 
 pub invariant_of-book : goal.invariant_of-book
 invariant_of-book g c =
@@ -130,10 +117,8 @@ invariant_of-book g c =
     let accounts = ap (λ (b : BookId). b.accounts) name in
     let workers = ap (λ (b : BookId). b.workers) name in
     let rows : c.args.room.rows.items ≡ map opening_row s.credits.items = c.requires.rows ∙ ap (λ (u : Unopened). map opening_row u.credits) (sym c.self.view_is) in
-    let none : into_iter_items l.amounts-iterator ≡ [] = nil_of (into_iter_items l.amounts-iterator) (let h = c.in-None.ensures.steps in grind rules) in
-    let all : l.shares.items ≡ replicate s.workers (replicate (length s.credits.items) no_amounts) = sym (append-nil l.shares.items) ∙ ap (λ v. l.shares.items ++ map (λ a. a.items) v) (sym none) ∙ j.shares in
-    let count : vec_len l.shares ≡ length l.shares.items = search rules in
-    let done : l.number ≡ s.workers = sym j.number ∙ count ∙ ap length all ∙ length-replicate s.workers (replicate (length s.credits.items) no_amounts) in
+    let none : length (into_iter_items l.amounts-iterator) ≡ 0 = (let h = c.in-None.ensures.steps in grind rules) in
+    let done : l.number ≡ s.workers = all_taken l.number s.workers (replicate (length s.credits.items) no_amounts) (map (λ a. a.items) (into_iter_items l.amounts-iterator)) j.rest (length-map (into_iter_items l.amounts-iterator) (λ a. a.items) ∙ none) in
     let long : length es ≡ s.workers + 1 = (let r = length-replicate s.workers (at_home (replicate (length s.credits.items) nothing)) in omega arith) in (
       table,
       subst (λ t. 0 < t.words) table i.1,
@@ -155,4 +140,13 @@ invariant_of-till g c =
     let s = c.self.inside in
     let name : record { table = s.table.shared.table_id; accounts = length s.credits.items; workers = s.workers } ≡ g.N.BookName.book = ap (λ (u : Unopened). u.book) c.self.view_is ∙ c.requires.name in
     let d = c.deal-tills.ensures.views (opening_entries s.credits.items s.workers) (map of_till s.credits.items) i.4 refl in
-    (c.deal-tills.ensures.table.1 ∙ i.0 ∙ ap (λ (b : BookId). b.table) name, ap (λ (b : BookId). b.accounts) name, (0, d.1))
+    (c.deal-tills.ensures.table.1 ∙ i.0 ∙ ap (λ (b : BookId). b.table) name, ap (λ (b : BookId). b.accounts) name, d.1)
+
+pub returns-clause-shares : goal.returns-clause-shares
+returns-clause-shares g c =
+    let j = c.loop-amounts.invariant in
+    let s = c.self.inside in
+    let l = c.loop-amounts in
+    let none : length (into_iter_items l.amounts-iterator) ≡ 0 = (let h = c.in-None.ensures.steps in grind rules) in
+    let done : l.number ≡ s.workers = all_taken l.number s.workers (replicate (length s.credits.items) no_amounts) (map (λ a. a.items) (into_iter_items l.amounts-iterator)) j.rest (length-map (into_iter_items l.amounts-iterator) (λ a. a.items) ∙ none) in
+    j.shares ∙ ap (opening_shares (length s.credits.items)) done ∙ ap (λ (u : Unopened). opening_shares u.book.accounts u.book.workers) c.self.view_is

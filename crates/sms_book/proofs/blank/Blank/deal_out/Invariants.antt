@@ -3,6 +3,7 @@ use Rattle.std.specs.Vec.Iter.{into_iter_items}
 use Rattle.sms_book.specs.declared.rule.View.TheVariants.{Book}
 use Rattle.sms_book.specs.Portions.{no_amounts}
 use Rattle.sms_book.specs.Rule.{opening_entries}
+use Rattle.sms_book.specs.Shares.{opening_shares}
 use Rattle.sms_book.proofs.Dealing.{dealt}
 use Rattle.sms_book.proofs.blank.Blank.deal_out.Given as goal
 
@@ -12,6 +13,7 @@ invariant-loop-amounts g l =
       seat : l.seat.views ≡ Book (dealt (suc l.number) (opening_entries l.credits.items l.workers)) ∷ [];
       table : l.seat.table_id ≡ l.table.shared.table_id;
       number : vec_len l.shares ≡ l.number;
-      shares : l.shares.items ++ map (λ a. a.items) (into_iter_items l.amounts-iterator) ≡ replicate l.workers (replicate (length l.credits.items) no_amounts);
+      shares : l.shares.items ≡ opening_shares (length l.credits.items) l.number;
+      rest : replicate l.number (replicate (length l.credits.items) no_amounts) ++ map (λ a. a.items) (into_iter_items l.amounts-iterator) ≡ replicate l.workers (replicate (length l.credits.items) no_amounts);
       room : l.workers ≤ vec_capacity l.shares;
     }

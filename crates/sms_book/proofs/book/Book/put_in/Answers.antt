@@ -10,32 +10,32 @@ pub overflow_add-had : goal.overflow_add-had
 overflow_add-had g c =
     let i = c.self.invariant in
     let s = c.till.invariant in
-    let m = c.meet.ensures.views i.5.0 s.2.0 (map of_till c.till.inside.topped.items) i.5.1 s.2.1 in
-    let t = topped c.self.inside.rows.items c.args.account i.5.0 s.2.0 c.till.inside.topped.items c.index-row.result.now c.index-had.result.now c.args.n (rw c.self.view_is c.requires.there) (s.1 ∙ sym i.3) m.1 i.5.2 c.index-row.ensures c.index-had.ensures (rw c.self.view_is c.requires.small) in
+    let m = c.meet.ensures.views i.5.0 0 (map of_till c.till.inside.topped.items) i.5.1 s.2 in
+    let t = topped c.self.inside.rows.items c.args.account i.5.0 0 c.till.inside.topped.items c.index-row.result.now c.index-had.result.now c.args.n (rw c.self.view_is c.requires.there) (s.1 ∙ sym i.3) m.1 i.5.2 c.index-row.ensures c.index-had.ensures (rw c.self.view_is c.requires.small) in
     let h = t.2 in omega arith
 
 pub part_till-requires-clause-book : goal.part_till-requires-clause-book
 part_till-requires-clause-book g c =
     let i = c.self.invariant in
     let s = c.till.invariant in
-    let m = c.meet.ensures.views i.5.0 s.2.0 (map of_till c.till.inside.topped.items) i.5.1 s.2.1 in
-    (i.5.0, s.2.0, map of_till c.till.inside.topped.items, m.0)
+    let m = c.meet.ensures.views i.5.0 0 (map of_till c.till.inside.topped.items) i.5.1 s.2 in
+    (i.5.0, 0, map of_till c.till.inside.topped.items, m.0)
 
 pub invariant_of-self : goal.invariant_of-self
 invariant_of-self g c =
     let i = c.self.invariant in
     let s = c.till.invariant in
     let a = c.till.inside.topped.items in
-    let m = c.meet.ensures.views i.5.0 s.2.0 (map of_till a) i.5.1 s.2.1 in
-    let t = topped c.self.inside.rows.items c.args.account i.5.0 s.2.0 a c.index-row.result.now c.index-had.result.now c.args.n (rw c.self.view_is c.requires.there) (s.1 ∙ sym i.3) m.1 i.5.2 c.index-row.ensures c.index-had.ensures (rw c.self.view_is c.requires.small) in
-    let p = c.part_till.ensures.views i.5.0 s.2.0 (map of_till a) m.0 in
+    let m = c.meet.ensures.views i.5.0 0 (map of_till a) i.5.1 s.2 in
+    let t = topped c.self.inside.rows.items c.args.account i.5.0 0 a c.index-row.result.now c.index-had.result.now c.args.n (rw c.self.view_is c.requires.there) (s.1 ∙ sym i.3) m.1 i.5.2 c.index-row.ensures c.index-had.ensures (rw c.self.view_is c.requires.small) in
+    let p = c.part_till.ensures.views i.5.0 0 (map of_till a) m.0 in
     let new = map of_till c.as_slice.result.now in (
       i.0,
       i.1,
       c.part_till.ensures.table.0 ∙ c.meet.ensures.table ∙ i.2,
       length-set c.self.inside.rows.items c.args.account _ ∙ i.3,
       i.4,
-      (slice_set i.5.0 s.2.0 (away new), p.0, rw (c.as_slice.ensures.value) t.3, AllAway-set i.5.0 s.2.0 new i.5.3, length-set i.5.0 s.2.0 (away new) ∙ i.5.4),
+      (slice_set i.5.0 0 (away new), p.0, rw (c.as_slice.ensures.value) t.3, AllAway-set i.5.0 0 new i.5.3, length-set i.5.0 0 (away new) ∙ i.5.4),
     )
 
 pub invariant_of-till : goal.invariant_of-till
@@ -43,6 +43,6 @@ invariant_of-till g c =
     let i = c.self.invariant in
     let s = c.till.invariant in
     let a = c.till.inside.topped.items in
-    let m = c.meet.ensures.views i.5.0 s.2.0 (map of_till a) i.5.1 s.2.1 in
-    let p = c.part_till.ensures.views i.5.0 s.2.0 (map of_till a) m.0 in
-    (c.part_till.ensures.table.1 ∙ c.meet.ensures.table ∙ i.2, length-set a c.args.account _ ∙ s.1, (s.2.0, rw (← c.as_slice.ensures.value) p.1))
+    let m = c.meet.ensures.views i.5.0 0 (map of_till a) i.5.1 s.2 in
+    let p = c.part_till.ensures.views i.5.0 0 (map of_till a) m.0 in
+    (c.part_till.ensures.table.1 ∙ c.meet.ensures.table ∙ i.2, length-set a c.args.account _ ∙ s.1, rw (← c.as_slice.ensures.value) p.1)

@@ -1,9 +1,10 @@
-use Rattle.std.proofs.Common.{◌≡◌, sym, ◌∙◌, ap, List, [], ◌∷◌}
+use Rattle.std.proofs.Common.{◌≡◌, ℕ, ◌≤◌, sym, ◌∙◌, ap, subst, List, [], ◌∷◌}
 use Rattle.std.specs.Prelude.{slice_set, map}
 use Rattle.sms_book.specs.declared.amounts.Amounts.{Amounts}
 use Rattle.sms_book.specs.declared.rule.Entry.{Entry}
 use Rattle.sms_book.specs.declared.rule.View.TheVariants.{Book}
-use Rattle.sms_book.specs.Portions.{of_worker}
+use Rattle.sms_book.specs.Portions.{amounts_at, of_worker}
+use Rattle.sms_book.specs.Shares.{Share, number_of}
 use Rattle.sms_book.specs.Rule.{away}
 use Rattle.sms_book.proofs.Moves.{set_back}
 use Rattle.sms_book.proofs.Turns.{seen_row}
@@ -41,4 +42,14 @@ returns-clause-least g c =
     let s = c.share.invariant in
     let a = c.share.inside.amounts.items in
     let m = c.meet.ensures.views i.5.0 s.2.0 (map of_worker a) i.5.1 s.2.1 in
-    rw (← c.share.view_is) (seen_row c.self.inside.rows.items c.args.account i.5.0 s.2.0 a c.index.result.now (rw c.self.view_is c.requires) (s.1 ∙ sym i.3) m.1 i.5.2 c.index.ensures)
+    subst (λ (t : Share). let a = amounts_at t.amounts c.args.account in (a.reserved ≤ c.index.result.now.reserved) × (a.charged ≤ c.index.result.now.charged) × (a.returned ≤ c.index.result.now.returned)) c.share.view_is (seen_row c.self.inside.rows.items c.args.account i.5.0 s.2.0 a c.index.result.now (rw c.self.view_is c.requires) (s.1 ∙ sym i.3) m.1 i.5.2 c.index.ensures)
+
+pub returns-clause-same : goal.returns-clause-same
+returns-clause-same g c =
+    let i = c.self.invariant in
+    let s = c.share.invariant in
+    let a = c.share.inside.amounts.items in
+    let m = c.meet.ensures.views i.5.0 s.2.0 (map of_worker a) i.5.1 s.2.1 in
+    let p = c.part_worker.ensures.views i.5.0 s.2.0 (map of_worker a) m.0 in
+    let number : number_of c.part_worker.result.views ≡ number_of c.share.inside.seat.views = ap number_of p.1 ∙ sym (ap number_of s.2.1) in
+    (c.self.view_is, ap (λ (n : ℕ). record { number = n; amounts = a }) number ∙ c.share.view_is)

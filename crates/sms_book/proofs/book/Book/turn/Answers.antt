@@ -1,17 +1,26 @@
-use Rattle.std.proofs.Common.{sym, ◌∙◌, length-set}
+use Rattle.std.proofs.Common.{◌≡◌, ◌≢◌, ℕ, ◌<◌, ◌≤◌, length, sym, ap, ◌∙◌, subst, arith, length-set}
 use Rattle.std.specs.Prelude.{slice_set, map}
-use Rattle.sms_book.specs.Portions.{of_worker}
+use Rattle.std.proofs.lemmas.List.{get_or_read}
+use Rattle.sms_book.specs.declared.money.Move.{Move}
+use Rattle.sms_book.specs.declared.money.Move.TheVariants.{Reserve}
+use Rattle.sms_book.specs.Money.{moved_amounts}
+use Rattle.sms_book.specs.Portions.{amounts_at, no_amounts, of_worker}
+use Rattle.sms_book.specs.Shares.{Share, number_of, changed}
 use Rattle.sms_book.specs.Rule.{away}
 use Rattle.sms_book.proofs.Turns.{settled}
 use Rattle.sms_book.proofs.Totals.{AllAway-set}
 use Rattle.sms_book.proofs.book.Book.turn.Goals as goal
+
+-- what the caller said of its share, as it stands inside
+held : (what : Move) (account n : ℕ) (inside share : Share) → inside ≡ share → (what ≢ Reserve → n ≤ (amounts_at share.amounts account).reserved) → what ≢ Reserve → n ≤ (amounts_at inside.amounts account).reserved
+held what account n inside share is h = subst (λ (s : Share). what ≢ Reserve → n ≤ (amounts_at s.amounts account).reserved) (sym is) h
 
 pub row_after-requires : goal.row_after-requires
 row_after-requires g c =
     let i = c.self.invariant in
     let s = c.share.invariant in
     let m = c.meet.ensures.views i.5.0 s.2.0 (map of_worker c.share.inside.amounts.items) i.5.1 s.2.1 in
-    let t = settled c.self.inside.rows.items c.args.account i.5.0 s.2.0 c.share.inside.amounts.items c.index-row.result.now c.index-had.result.now c.args.what c.args.n (rw c.self.view_is c.requires.there) (s.1 ∙ sym i.3) m.1 i.5.2 c.index-row.ensures c.index-had.ensures (rw c.self.view_is c.requires.row) (rw c.share.view_is c.requires.share) in
+    let t = settled c.self.inside.rows.items c.args.account i.5.0 s.2.0 c.share.inside.amounts.items c.index-row.result.now c.index-had.result.now c.args.what c.args.n (rw c.self.view_is c.requires.there) (s.1 ∙ sym i.3) m.1 i.5.2 c.index-row.ensures c.index-had.ensures (rw c.self.view_is c.requires.row) (held c.args.what c.args.account c.args.n _ _ c.share.view_is c.requires.share) in
     t.0
 
 pub amounts_after-requires : goal.amounts_after-requires
@@ -19,7 +28,7 @@ amounts_after-requires g c =
     let i = c.self.invariant in
     let s = c.share.invariant in
     let m = c.meet.ensures.views i.5.0 s.2.0 (map of_worker c.share.inside.amounts.items) i.5.1 s.2.1 in
-    let t = settled c.self.inside.rows.items c.args.account i.5.0 s.2.0 c.share.inside.amounts.items c.index-row.result.now c.index-had.result.now c.args.what c.args.n (rw c.self.view_is c.requires.there) (s.1 ∙ sym i.3) m.1 i.5.2 c.index-row.ensures c.index-had.ensures (rw c.self.view_is c.requires.row) (rw c.share.view_is c.requires.share) in
+    let t = settled c.self.inside.rows.items c.args.account i.5.0 s.2.0 c.share.inside.amounts.items c.index-row.result.now c.index-had.result.now c.args.what c.args.n (rw c.self.view_is c.requires.there) (s.1 ∙ sym i.3) m.1 i.5.2 c.index-row.ensures c.index-had.ensures (rw c.self.view_is c.requires.row) (held c.args.what c.args.account c.args.n _ _ c.share.view_is c.requires.share) in
     t.1
 
 pub part_worker-requires-clause-book : goal.part_worker-requires-clause-book
@@ -35,7 +44,7 @@ invariant_of-self g c =
     let s = c.share.invariant in
     let a = c.share.inside.amounts.items in
     let m = c.meet.ensures.views i.5.0 s.2.0 (map of_worker a) i.5.1 s.2.1 in
-    let t = settled c.self.inside.rows.items c.args.account i.5.0 s.2.0 a c.index-row.result.now c.index-had.result.now c.args.what c.args.n (rw c.self.view_is c.requires.there) (s.1 ∙ sym i.3) m.1 i.5.2 c.index-row.ensures c.index-had.ensures (rw c.self.view_is c.requires.row) (rw c.share.view_is c.requires.share) in
+    let t = settled c.self.inside.rows.items c.args.account i.5.0 s.2.0 a c.index-row.result.now c.index-had.result.now c.args.what c.args.n (rw c.self.view_is c.requires.there) (s.1 ∙ sym i.3) m.1 i.5.2 c.index-row.ensures c.index-had.ensures (rw c.self.view_is c.requires.row) (held c.args.what c.args.account c.args.n _ _ c.share.view_is c.requires.share) in
     let p = c.part_worker.ensures.views i.5.0 s.2.0 (map of_worker a) m.0 in
     let new = map of_worker c.as_slice.result.now in (
       i.0,
@@ -54,3 +63,16 @@ invariant_of-share g c =
     let m = c.meet.ensures.views i.5.0 s.2.0 (map of_worker a) i.5.1 s.2.1 in
     let p = c.part_worker.ensures.views i.5.0 s.2.0 (map of_worker a) m.0 in
     (c.part_worker.ensures.table.1 ∙ c.meet.ensures.table ∙ i.2, length-set a c.args.account c.amounts_after.result ∙ s.1, (s.2.0, rw (← c.as_slice.ensures.value) p.1))
+
+pub returns-clause-share : goal.returns-clause-share
+returns-clause-share g c =
+    let i = c.self.invariant in
+    let s = c.share.invariant in
+    let a = c.share.inside.amounts.items in
+    let m = c.meet.ensures.views i.5.0 s.2.0 (map of_worker a) i.5.1 s.2.1 in
+    let p = c.part_worker.ensures.views i.5.0 s.2.0 (map of_worker a) m.0 in
+    let number : number_of c.part_worker.result.views ≡ number_of c.share.inside.seat.views = ap number_of p.1 ∙ sym (ap number_of s.2.1) in
+    let within : c.args.account < length a = let r : c.args.account < length c.self.inside.rows.items = rw c.self.view_is c.requires.there in let w = s.1 ∙ sym i.3 in omega arith in
+    let had : c.index-had.result.now ≡ amounts_at a c.args.account = get_or_read a c.args.account c.index-had.result.now within c.index-had.ensures no_amounts in
+    let new = c.amounts_after.ensures ∙ ap (moved_amounts c.args.what c.args.n) had in
+    (λ j. record { number = number j; amounts = slice_set a c.args.account (new j) }) ∙ ap (λ (t : Share). changed t c.args.account (moved_amounts c.args.what c.args.n)) c.share.view_is
