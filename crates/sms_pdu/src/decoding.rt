@@ -9,7 +9,7 @@ use crate::body::{Body, Pdu, Sm};
 use crate::command::{Command, Mode};
 use crate::error::PduError;
 use crate::field::Field;
-use crate::header::{body_of, header_of};
+use crate::header::{MOST_LENGTH, body_of, header_of};
 use crate::layout::{bind_fields, bind_resp_fields, sm_fields, sm_resp_fields};
 use crate::octets::Octets;
 use crate::parameter::Params;
@@ -156,7 +156,7 @@ fn read(alloc: Global, octets: &[u8]) -> Result<Pdu, PduError>
     let Some(header) = header_of(octets) else {
         return Err(PduError::Short);
     };
-    if header.length as usize != octets.len() || octets.len() > 70_000 {
+    if header.length as usize != octets.len() || octets.len() > MOST_LENGTH {
         return Err(PduError::BadLength);
     }
     let Some(command) = Command::of(header.command) else {

@@ -5,6 +5,7 @@ ghost use Rattle.std.specs.List.{concat, AllByRecursion};
 ghost use Rattle.sms_pdu.specs.Frame.{IsFrame, IsBad, IsPending, Division, octets_of, front_at, announced, Continues};
 
 use crate::frame::{Fed, Frame, FrameFault, Frames};
+use crate::header::{HEADER_LENGTH, MOST_LENGTH};
 use crate::octets::Octets;
 use std::alloc::{AllocError, Global};
 use std::marker::Model;
@@ -131,9 +132,9 @@ fn front_of(held: &[u8], piece: &[u8]) -> Front
         return Front::Short;
     }
     let length = announced_by(held, piece) as usize;
-    if length < 16 {
+    if length < HEADER_LENGTH {
         Front::Bad
-    } else if length > 70_000 {
+    } else if length > MOST_LENGTH {
         Front::Bad
     } else if there < length {
         Front::Cut(length)

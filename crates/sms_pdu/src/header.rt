@@ -16,8 +16,11 @@ pub struct Header {
     pub number: u32,
 }
 
-/// The octets of a header.
+/// The octets of a header, which are the fewest of a PDU.
 pub const HEADER_LENGTH: usize = 16;
+
+/// The most octets of a PDU that is read or written. The standard has no such bound.
+pub const MOST_LENGTH: usize = 70_000;
 
 /// The header of a PDU, or `None` below 16 octets. Octets after the header are not looked at.
 pub fn header_of(octets: &[u8]) -> Option<Header>

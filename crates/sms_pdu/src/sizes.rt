@@ -9,6 +9,7 @@ ghost use Rattle.sms_pdu.specs.Size.{text_size, time_size, message_size, values_
 use crate::body::{Body, Sm};
 use crate::error::PduError;
 use crate::field::Field;
+use crate::header::{HEADER_LENGTH, MOST_LENGTH};
 use crate::layout::{
     MESSAGE_MAXIMUM, TIME_LENGTH, bind_fields, bind_resp_fields, sm_fields, sm_resp_fields,
 };
@@ -84,7 +85,7 @@ fn whole(before: usize, params: &[Parameter]) -> Result<usize, PduError>
     let mut size = before;
     for p in params {
         let len = p.value.len();
-        if len > 70_000 || size + 4 + len > 70_000 {
+        if len > MOST_LENGTH || size + 4 + len > MOST_LENGTH {
             return Err(PduError::TooLong {
                 field: Field::Whole,
             });
@@ -125,7 +126,7 @@ macro_rules! measure_field {
 /// `$then` follows with that length as `$size`.
 macro_rules! measure_fields {
     (
-        ($before:literal, $of:ident)
+        ($before:ident, $of:ident)
         $($name:ident: $field:ident is $kind:ident $(($maximum:literal))?,)*
     ) => {{
         let size: usize = $before;
@@ -134,7 +135,7 @@ macro_rules! measure_fields {
         size
     }};
     (
-        ($before:literal => $size:ident, match $of:ident {
+        ($before:ident => $size:ident, match $of:ident {
             $($variant:ident)::+ { $other:ident: _, .. } => $then:expr, $($arms:tt)*
         })
         $($name:ident: $field:ident is $kind:ident $(($maximum:literal))?,)*
@@ -156,7 +157,7 @@ macro_rules! measure_fields {
 fn sm(sm: &Sm) -> Result<usize, PduError>
     ensures { Gives (λ size. size) result (sm_size sm.now) }
 {
-    let size = sm_fields!(measure_fields!(16, sm));
+    let size = sm_fields!(measure_fields!(HEADER_LENGTH, sm));
     tail(size, &sm.params)
 }
 
@@ -177,7 +178,7 @@ fn bind_resp(status: u32, system_id: &Option<Octets>, params: &Params) -> Result
         }
         Some(system_id) => {
             let size = bind_resp_fields!(measure_field!(system_id));
-            tail(16 + size as usize, params)
+            tail(HEADER_LENGTH + size as usize, params)
         }
     }
 }
@@ -187,7 +188,7 @@ fn absent(params: &[Parameter]) -> Result<usize, PduError>
     ensures { Gives (λ size. size) result (absent_size params.now) }
 {
     match params {
-        [] => Ok(16),
+        [] => Ok(HEADER_LENGTH),
         [_, ..] => Err(PduError::Malformed {
             field: Field::Params,
         }),
@@ -206,12 +207,12 @@ fn message_id(status: u32, message_id: &Option<Octets>) -> Result<usize, PduErro
                     field: Field::MessageId,
                 })
             } else {
-                Ok(16)
+                Ok(HEADER_LENGTH)
             }
         }
         Some(message_id) => {
             let size = sm_resp_fields!(measure_field!(message_id));
-            Ok(16 + size as usize)
+            Ok(HEADER_LENGTH + size as usize)
         }
     }
 }
@@ -221,7 +222,7 @@ fn message_id(status: u32, message_id: &Option<Octets>) -> Result<usize, PduErro
 pub(crate) fn body_length(status: u32, body: &Body) -> Result<usize, PduError>
     ensures { Gives (λ size. size) result (body_size status body.now) }
 {
-    bind_fields!(measure_fields!(16 => size, match body {
+    bind_fields!(measure_fields!(HEADER_LENGTH => size, match body {
         Body::Bind { mode: _, .. } => Ok(size),
         Body::BindResp { mode: _, system_id, params } => bind_resp(status, system_id, params),
         Body::Submit(message) => sm(message),
@@ -232,6 +233,6 @@ pub(crate) fn body_length(status: u32, body: &Body) -> Result<usize, PduError>
         | Body::UnbindResp
         | Body::EnquireLink
         | Body::EnquireLinkResp
-        | Body::GenericNack => Ok(16),
+        | Body::GenericNack => Ok(HEADER_LENGTH),
     }))
 }
