@@ -1,5 +1,5 @@
 -- Which errors a reader of records of any length can meet.
-use Rattle.std.proofs.Common.{◌≡◌, sym, refl, ◌∙◌, inl, inr, List, ℕ, Option, true, false}
+use Rattle.std.proofs.Common.{◌≡◌, refl, inl, inr, List, ℕ, Option, true, false}
 use Rattle.csv.specs.Reading.{ExplainsRead, is_flexible}
 use Rattle.csv.specs.declared.error.ErrorKind.{ErrorKind}
 use Rattle.csv.specs.declared.error.ErrorKind.TheVariants as kind

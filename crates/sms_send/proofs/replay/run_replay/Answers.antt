@@ -1,4 +1,4 @@
-use Rattle.std.proofs.Common.{rules, arith, refl, ap, sym, ◌≡◌, ◌∙◌, List}
+use Rattle.std.proofs.Common.{rules, arith, refl, ap, ◌≡◌, ◌∙◌, List}
 use Rattle.std.specs.Prelude.{string_bytes}
 use Rattle.sms_core.specs.declared.event.Step.{Step}
 use Rattle.sms_send.specs.Text.{replay_text}
