@@ -52,7 +52,7 @@ abbrev pub RunIsOrderly : Type 0
 RunIsOrderly = (credits : List ℕ) (workers : ℕ) (steps : List TableStep) (t : Shared) → Runs (new_table credits workers) steps t → IsOrderly t × HasBook workers t
 
 -- One amount of an account, summed over all entries, before and after a step: it changes only where a number goes out
--- again, and by as much as what the number's holder has
+-- again, and by as much as what its holder has of the account changes
 abbrev pub TotalSteps : (Portion → ℕ) → ℕ → Shared → TableStep → List Entry → List Entry → Type 0
 TotalSteps f i s (takes_in id other) es fs = total f i fs ≡ total f i es
 TotalSteps f i s (looks id) es fs = total f i fs ≡ total f i es

@@ -37,7 +37,7 @@ pub fn run_is_orderly()
 {}
 
 /// What all entries have of an account changes only where a number goes out again, and by as much
-/// as what the number's holder has.
+/// as what its holder has of the account changes.
 pub fn step_moves_totals()
     ensures { StepMovesTotals }
 {}

@@ -14,7 +14,7 @@ pub record IsHoldSet (v : View) (bits : ℕ) (pairs : List (ℕ × ℕ)) : Type 
   pub word : word_of pairs ≡ bits
   pub own : (f : ℕ × ℕ → ℕ) → weigh f (own_pairs v) ≤ weigh f pairs
 
--- its `met` is the word of a lawful hold set that has its pairs, so one that a step of it found or left
+-- its `met` is the word of a lawful hold set that has its pairs, so its slots are bits of it
 abbrev pub HasMet : View → Type 0
 HasMet v = (pairs : List (ℕ × ℕ)) × IsHoldSet v v.met pairs
 
