@@ -14,9 +14,10 @@ use Rattle.sms_core.specs.declared.request.RequestState.{RequestState}
 use Rattle.sms_core.specs.Limits.{largest_cost}
 use Rattle.sms_core.specs.declared.row.Row.{Row}
 use Rattle.sms_core.specs.Requests.{place_of}
-use Rattle.sms_core.specs.Rows.{Entry, part, over, reserved_of, charged_of, returned_of, row_of}
+use Rattle.sms_core.specs.Rows.{no_row, Entry, part, over, reserved_of, charged_of, returned_of, row_of}
+use Rattle.sms_core.specs.RowMoves.{row_after}
 use Rattle.sms_core.specs.State.{entry_of, changed, find_request}
-use Rattle.sms_core.specs.Ledger.{Records, no_row, IsRowOf, AreRows, is_named, is_open_named, one_if_open, one_if_ready, excess, cost_of, AreRequests, IsKept, IsLive, became, moved}
+use Rattle.sms_core.specs.Ledger.{Records, IsRowOf, AreRows, is_named, is_open_named, one_if_open, one_if_ready, excess, cost_of, AreRequests, IsKept, IsLive, became}
 use Rattle.sms_core.specs.Steps.{reserved_request}
 
 -- what a request adds to an account
@@ -71,7 +72,7 @@ MovesTo f was phase cost account old new = over f account new + f was cost ≡ o
 
 row_step : (phase was : Phase) (cost account : ℕ) (r : Row) (old new : List Entry) → (reserved_of was cost ≡ cost) × (charged_of was cost ≡ 0) × (returned_of was cost ≡ 0) →
     IsRowOf r account old → MovesTo reserved_of was phase cost account old new → MovesTo charged_of was phase cost account old new → MovesTo returned_of was phase cost account old new →
-    IsRowOf (moved phase cost r) account new
+    IsRowOf (row_after phase cost r) account new
 row_step Ready was cost account r old new live is a b c = record { balance = omega arith; limit = omega arith; reserved = omega arith; charged = omega arith; returned = omega arith }
 row_step Open was cost account r old new live is a b c = record { balance = omega arith; limit = omega arith; reserved = omega arith; charged = omega arith; returned = omega arith }
 row_step Charged was cost account r old new live is a b c = record { balance = omega arith; limit = omega arith; reserved = omega arith; charged = omega arith; returned = omega arith }
@@ -108,14 +109,14 @@ row_same account r old new is same = let a = same reserved_of in let b = same ch
 
 -- a ready or open request gets another phase
 pub rows_concluded : (rows : List Row) (rs : List Request) (place : ℕ) (r : Request) (attempts : ℕ) (phase : Phase) → IsLive r.state.phase → place < length rs → get_or rs place r ≡ r → r.state.account < length rows → AreRows rows rs →
-    AreRows (set rows r.state.account (moved phase r.state.cost (get_or rows r.state.account no_row))) (set rs place (became attempts phase r))
+    AreRows (set rows r.state.account (row_after phase r.state.cost (get_or rows r.state.account no_row))) (set rs place (became attempts phase r))
 rows_concluded rows rs place r attempts phase live lt is inside are account below = dite (ℕ_discrete account r.state.account)
-    (λ own. rw own (rw (get_or-set_same rows r.state.account (moved phase r.state.cost (get_or rows r.state.account no_row)) no_row inside)
+    (λ own. rw own (rw (get_or-set_same rows r.state.account (row_after phase r.state.cost (get_or rows r.state.account no_row)) no_row inside)
     (row_step phase r.state.phase r.state.cost r.state.account (get_or rows r.state.account no_row) (map entry_of rs) (map entry_of (set rs place (became attempts phase r)))
     (reserved_live r.state.phase r.state.cost live) (are r.state.account inside) (moves_own reserved_of rs place r attempts phase lt is) (moves_own charged_of rs place r attempts phase lt is) (moves_own returned_of rs place r attempts phase lt is))))
-    (λ ne. rw (get_or-set_other rows r.state.account account (moved phase r.state.cost (get_or rows r.state.account no_row)) no_row ne)
+    (λ ne. rw (get_or-set_other rows r.state.account account (row_after phase r.state.cost (get_or rows r.state.account no_row)) no_row ne)
     (row_same account (get_or rows account no_row) (map entry_of rs) (map entry_of (set rs place (became attempts phase r)))
-    (are account (omega (arith, length-set rows r.state.account (moved phase r.state.cost (get_or rows r.state.account no_row)))))
+    (are account (omega (arith, length-set rows r.state.account (row_after phase r.state.cost (get_or rows r.state.account no_row)))))
     (λ f. same_other f account rs place r (became attempts phase r) lt is refl ne)))
 
 -- a request keeps its name and cost, and stays within its bounds
@@ -306,7 +307,7 @@ became_within most accounts attempts phase r e le = omega arith
 
 -- all that is kept after a request's next phase
 pub kept_advanced : (most : ℕ) (rows : List Row) (rs : List Request) (place : ℕ) (r : Request) (attempts : ℕ) (phase : Phase) → IsKept most rows rs → IsLive r.state.phase → place < length rs → get_or rs place r ≡ r →
-    attempts + one_if_ready phase ≤ most → IsKept most (set rows r.state.account (moved phase r.state.cost (get_or rows r.state.account no_row))) (set rs place (became attempts phase r))
+    attempts + one_if_ready phase ≤ most → IsKept most (set rows r.state.account (row_after phase r.state.cost (get_or rows r.state.account no_row))) (set rs place (became attempts phase r))
 kept_advanced most rows rs place r attempts phase kept live lt is left =
     let inside = account_inside most (length rows) rs place r kept.requests_are lt is in
     let e = within most (length rows) rs place r kept.requests_are lt is in
@@ -314,17 +315,17 @@ kept_advanced most rows rs place r attempts phase kept live lt is left =
       some = kept.some;
       few = kept.few;
       rows_are = rows_concluded rows rs place r attempts phase live lt is inside kept.rows_are;
-      requests_are = rw (length-set rows r.state.account (moved phase r.state.cost (get_or rows r.state.account no_row)))
+      requests_are = rw (length-set rows r.state.account (row_after phase r.state.cost (get_or rows r.state.account no_row)))
           (requests_written most (length rows) rs place r (became attempts phase r) kept.requests_are lt is refl refl (became_within most (length rows) attempts phase r e left));
     }
 
-pub moved-topped : (phase : Phase) (cost : ℕ) (r : Row) → (moved phase cost r).topped ≡ r.topped
-moved-topped Ready cost r = refl
-moved-topped Open cost r = refl
-moved-topped Charged cost r = refl
-moved-topped Refused cost r = refl
-moved-topped Unanswered cost r = refl
-moved-topped Unsent cost r = refl
+pub row_after-topped : (phase : Phase) (cost : ℕ) (r : Row) → (row_after phase cost r).topped ≡ r.topped
+row_after-topped Ready cost r = refl
+row_after-topped Open cost r = refl
+row_after-topped Charged cost r = refl
+row_after-topped Refused cost r = refl
+row_after-topped Unanswered cost r = refl
+row_after-topped Unsent cost r = refl
 
 -- a row that keeps its top-ups is set
 pub topped_kept : (rows : List Row) (account : ℕ) (r : Row) → r.topped ≡ (get_or rows account no_row).topped → map (λ (x : Row). x.topped) (set rows account r) ≡ map (λ (x : Row). x.topped) rows

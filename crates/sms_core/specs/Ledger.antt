@@ -6,7 +6,7 @@ use Rattle.sms_core.specs.declared.request.Request.{Request}
 use Rattle.sms_core.specs.Limits.{most_attempts, most_topped, largest_cost}
 use Rattle.sms_core.specs.declared.row.Row.{Row}
 use Rattle.sms_core.specs.Requests.{StandsAt}
-use Rattle.sms_core.specs.Rows.{Entry, over, reserved_of, charged_of, returned_of}
+use Rattle.sms_core.specs.Rows.{no_row, Entry, over, reserved_of, charged_of, returned_of}
 use Rattle.sms_core.specs.State.{entry_of}
 
 pub record Records : Type 0 where
@@ -17,9 +17,6 @@ pub record Records : Type 0 where
   pub requests : List Request
   -- how many more requests surely fit without memory being taken
   pub room : ℕ
-
-abbrev pub no_row : Row
-no_row = record { topped = 0; free = 0; reserved = 0; charged = 0; returned = 0 }
 
 -- the row has the sums of its account
 pub record IsRowOf (r : Row) (account : ℕ) (es : List Entry) : Type 0 where
@@ -94,12 +91,3 @@ pub record IsFound (rs : List Request) (id place : ℕ) (r : Request) (phase : P
   pub at : StandsAt rs place r
   pub named : r.id ≡ id
   pub in_phase : r.state.phase ≡ phase
-
--- a row after the credits of a request that was ready or open go where its phase says
-abbrev pub moved : Phase → ℕ → Row → Row
-moved Ready cost r = r
-moved Open cost r = r
-moved Charged cost r = record r { reserved = r.reserved - cost; charged = r.charged + cost }
-moved Refused cost r = record r { reserved = r.reserved - cost; free = r.free + cost; returned = r.returned + cost }
-moved Unanswered cost r = r
-moved Unsent cost r = record r { reserved = r.reserved - cost; free = r.free + cost; returned = r.returned + cost }

@@ -3,6 +3,7 @@ pub mod Holds
 pub mod Numbers
 pub mod Replies
 pub mod Rows
+pub mod RowMoves
 pub mod Marks
 pub mod Requests
 pub mod Slots

@@ -5,6 +5,10 @@ use Rattle.sms_core.specs.declared.row.Row.{Row}
 use Rattle.sms_core.specs.declared.request.Phase.{Phase}
 use Rattle.sms_core.specs.declared.request.Phase.TheVariants.{Ready, Open, Charged, Refused, Unanswered, Unsent}
 
+-- the row of an account without credits
+abbrev pub no_row : Row
+no_row = record { topped = 0; free = 0; reserved = 0; charged = 0; returned = 0 }
+
 pub record Entry : Type 0 where
   pub account : ℕ
   pub cost : ℕ

@@ -1,5 +1,5 @@
 ghost use Rattle.std.specs.Prelude.{◌≡◌, ◌+◌, ◌^◌, ◌<◌, ◌≤◌};
-ghost use Rattle.sms_core.specs.Ledger.{moved};
+ghost use Rattle.sms_core.specs.RowMoves.{row_after};
 
 use crate::request::Phase;
 
@@ -23,7 +23,7 @@ impl Row {
         requires reserved { cost ≤ self.old.reserved }
         requires fits { self.old.free + self.old.charged + cost < 2 ^ 64 }
         requires returned { self.old.returned + cost < 2 ^ 64 }
-        ensures { self.new ≡ moved phase cost self.old }
+        ensures { self.new ≡ row_after phase cost self.old }
     {
         match phase {
             Phase::Ready | Phase::Open | Phase::Unanswered => {}

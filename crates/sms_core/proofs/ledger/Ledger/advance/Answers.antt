@@ -6,8 +6,10 @@ use Rattle.sms_core.specs.declared.request.RequestState.{RequestState}
 use Rattle.sms_core.specs.declared.row.Row.{Row}
 use Rattle.sms_core.specs.Requests.{Listed}
 use Rattle.sms_core.specs.State.{changed}
-use Rattle.sms_core.specs.Ledger.{Records, no_row, moved, became, is_open_named}
-use Rattle.sms_core.proofs.Sums.{kept_advanced, account_inside, get_or-at, records, topped_kept, moved-topped, returned_small, reserved_enough, changed-set}
+use Rattle.sms_core.specs.Ledger.{Records, became, is_open_named}
+use Rattle.sms_core.specs.Rows.{no_row}
+use Rattle.sms_core.specs.RowMoves.{row_after}
+use Rattle.sms_core.proofs.Sums.{kept_advanced, account_inside, get_or-at, records, topped_kept, row_after-topped, returned_small, reserved_enough, changed-set}
 use Rattle.sms_core.proofs.ledger.Ledger.advance.Goals as goal
 
 pub index_mut-requires : goal.index_mut-requires
@@ -42,8 +44,8 @@ invariant_of-self c =
     let same : row ≡ get_or l.rows.items r.state.account no_row = get_or_read l.rows.items r.state.account row inside c.index_mut.ensures.value no_row in
     let most = ap (λ (w : Records). w.attempts) c.self.view_is in
     let kept = kept_advanced l.attempts l.rows.items l.requests.list c.args.place r c.args.attempts c.args.phase c.self.invariant c.requires.live at.0 at.1 (omega (arith, c.requires.left)) in
-    let moves : c.move_credits.new.self ≡ moved c.args.phase r.state.cost (get_or l.rows.items r.state.account no_row) =
-    c.move_credits.ensures ∙ ap (λ (n : ℕ). moved c.args.phase n row) c.from.ensures ∙ ap (moved c.args.phase r.state.cost) same in
+    let moves : c.move_credits.new.self ≡ row_after c.args.phase r.state.cost (get_or l.rows.items r.state.account no_row) =
+    c.move_credits.ensures ∙ ap (λ (n : ℕ). row_after c.args.phase n row) c.from.ensures ∙ ap (row_after c.args.phase r.state.cost) same in
     let listed : c.set.new.self.list ≡ set l.requests.list c.args.place (became c.args.attempts c.args.phase r) = ap (λ (w : Listed). w.list) c.set.ensures in
     rw (moves, listed) kept
 
@@ -55,7 +57,7 @@ returns-clause-requests c = λ f becomes.
     let row = c.index_mut.result.now in
     let same : row ≡ get_or l.rows.items r.state.account no_row = get_or_read l.rows.items r.state.account row inside c.index_mut.ensures.value no_row in
     let topped = topped_kept l.rows.items r.state.account c.move_credits.new.self
-    (ap (λ (x : Row). x.topped) c.move_credits.ensures ∙ moved-topped c.args.phase c.from.result row ∙ ap (λ (x : Row). x.topped) same) in
+    (ap (λ (x : Row). x.topped) c.move_credits.ensures ∙ row_after-topped c.args.phase c.from.result row ∙ ap (λ (x : Row). x.topped) same) in
     let written = changed-set r.id f l.requests.list c.args.place r (c.self.invariant.requests_are.distinct r.id) at.0 (ap (λ (x : Request). x.id) at.1) in
     let state : f (get_or l.requests.list c.args.place r).state ≡ (became c.args.attempts c.args.phase r).state = ap (λ (x : Request). f x.state) at.1 ∙ becomes in
     let set_is = written ∙ ap (λ (s : RequestState). set l.requests.list c.args.place (record { id = r.id; state = s })) state in

@@ -1,8 +1,8 @@
 use Rattle.std.proofs.Common.{◌≡◌, ◌∙◌, ◌<◌, ◌≤◌, ◌+◌, ◌-◌, ap, get_or, map, length, arith}
 use Rattle.std.proofs.lemmas.List.{get_or_read, length-map}
 use Rattle.sms_core.specs.declared.row.Row.{Row}
-use Rattle.sms_core.specs.Ledger.{Records, no_row}
-use Rattle.sms_core.specs.Rows.{row_of}
+use Rattle.sms_core.specs.Ledger.{Records}
+use Rattle.sms_core.specs.Rows.{no_row, row_of}
 use Rattle.sms_core.specs.State.{entry_of, find_request}
 use Rattle.sms_core.proofs.Places.{unplaced}
 use Rattle.sms_core.proofs.Sums.{kept_reserved, kept_free, topped_at, topped_kept}

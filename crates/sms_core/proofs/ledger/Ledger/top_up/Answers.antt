@@ -1,7 +1,8 @@
 use Rattle.std.proofs.Common.{◌≡◌, ◌∙◌, ◌+◌, ◌<◌, ℕ, List, ap, sym, arith, map, get_or, set, length}
 use Rattle.std.proofs.lemmas.List.{map-set, get_or_read, length-map}
 use Rattle.sms_core.specs.declared.row.Row.{Row}
-use Rattle.sms_core.specs.Ledger.{Records, no_row}
+use Rattle.sms_core.specs.Ledger.{Records}
+use Rattle.sms_core.specs.Rows.{no_row}
 use Rattle.sms_core.proofs.Sums.{topped_at, records}
 use Rattle.sms_core.proofs.ledger.Ledger.top_up.Goals as goal
 
