@@ -1,6 +1,7 @@
 pub mod Limits
 pub mod Holds
 pub mod Numbers
+pub mod Statuses
 pub mod Replies
 pub mod Rows
 pub mod RowMoves

@@ -1,17 +1,8 @@
 -- How the answer to a submit_sm is read, and what a list of attempts comes to (SMPP 3.4, 5.1.3).
 use Rattle.std.specs.Prelude.{◌≡◌, ℕ, ◌≤◌, ◌==◌, ◌&&◌, ◌||◌, not, Bool, List, [], ◌∷◌, length, Option, Some, None, if◌then◌else◌}
+use Rattle.sms_core.specs.Statuses.{no_error, queue_full, throttled}
 use Rattle.sms_core.specs.declared.request.Phase.{Phase}
 use Rattle.sms_core.specs.declared.request.Phase.TheVariants.{Charged, Refused, Unanswered, Unsent}
-
--- ESME_ROK, ESME_RMSGQFUL, ESME_RTHROTTLED
-abbrev pub no_error : ℕ
-no_error = 0x00
-
-abbrev pub queue_full : ℕ
-queue_full = 0x14
-
-abbrev pub throttled : ℕ
-throttled = 0x58
 
 -- a submit_sm_resp with ESME_ROK charges; a generic_nack never does
 abbrev pub is_charge : ℕ → Bool → Bool

@@ -8,20 +8,28 @@
 mod event;
 pub mod laws;
 mod ledger;
+mod limits;
 mod mark;
 mod reply;
 mod request;
 mod requests;
 mod row;
 mod slots;
+mod status;
 mod tables;
 #[cfg(test)]
 mod tests;
 mod world;
 
 pub use event::{Cause, Event, Step};
+pub use limits::{LARGEST_COST, MOST_ACCOUNTS, MOST_ATTEMPTS, MOST_SLOTS, MOST_TOPPED, TOP_NUMBER};
 pub use mark::Mark;
-pub use reply::{ESME_RMSGQFUL, ESME_ROK, ESME_RTHROTTLED, is_charge, is_retry};
-pub use request::{LARGEST_COST, Phase, Request, RequestState};
-pub use row::{MOST_TOPPED, Row};
-pub use world::{CoreError, MOST_ACCOUNTS, MOST_ATTEMPTS, SLOTS, TOP_NUMBER, World};
+pub use reply::{is_charge, is_retry};
+pub use request::{Phase, Request, RequestState};
+pub use row::Row;
+pub use status::{
+    ESME_RALYBND, ESME_RBINDFAIL, ESME_RINVBNDSTS, ESME_RINVCMDID, ESME_RINVCMDLEN,
+    ESME_RINVDSTADR, ESME_RINVPASWD, ESME_RINVSYSID, ESME_RMSGQFUL, ESME_ROK, ESME_RSUBMITFAIL,
+    ESME_RSYSERR, ESME_RTHROTTLED, statuses_are_named,
+};
+pub use world::{CoreError, World};

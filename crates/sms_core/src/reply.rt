@@ -3,12 +3,7 @@
 ghost use Rattle.std.specs.Prelude.{◌≡◌};
 ghost use Rattle.sms_core.specs.Replies.{is_charge as charges, is_retry as retries};
 
-/// The request was taken: no error.
-pub const ESME_ROK: u32 = 0x00;
-/// The message centre's queue is full.
-pub const ESME_RMSGQFUL: u32 = 0x14;
-/// The sender has exceeded its allowed rate.
-pub const ESME_RTHROTTLED: u32 = 0x58;
+use crate::status::{ESME_RMSGQFUL, ESME_ROK, ESME_RTHROTTLED};
 
 /// Whether the answer charges its request: a submit_sm_resp with `ESME_ROK`. A generic_nack never
 /// does.

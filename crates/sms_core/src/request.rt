@@ -1,6 +1,3 @@
-/// The most credits that one request may cost.
-pub const LARGEST_COST: u32 = 1;
-
 /// How far a request has come. The last four are final.
 #[derive(Clone, Copy, Debug, PartialEq, Eq)]
 pub enum Phase {

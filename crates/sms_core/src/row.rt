@@ -3,9 +3,6 @@ ghost use Rattle.sms_core.specs.RowMoves.{row_after};
 
 use crate::request::Phase;
 
-/// The most credits that an account can be topped up with in all: 2^40.
-pub const MOST_TOPPED: u64 = 0x100_0000_0000;
-
 /// An account's credits: what was topped up, and where it stands. `returned` counts what came back
 /// from reserved to free.
 #[derive(Clone, Copy, Debug, PartialEq, Eq)]

@@ -8,9 +8,11 @@ ghost use Rattle.sms_core.specs.Slots.{Answers};
 ghost use Rattle.sms_core.specs.State.{find_holder, times_held};
 ghost use Rattle.sms_core.specs.Steps.{some_waits_for};
 
+use crate::limits::MOST_SLOTS;
 use crate::mark::Mark;
-use crate::world::SLOTS;
 use std::marker::Model;
+
+const SLOTS: usize = MOST_SLOTS as usize;
 
 #[derive(Debug, Drop)]
 pub(crate) struct Slots {

@@ -8,12 +8,11 @@ ghost use Rattle.sms_core.specs.Tables.{state_of, IsSound, takes_memory, TakesMe
 
 use crate::event::{Cause, Event, Step};
 use crate::ledger::Ledger;
+use crate::limits::{LARGEST_COST, MOST_TOPPED, TOP_NUMBER};
 use crate::mark::Mark;
 use crate::reply::{is_charge, is_retry};
-use crate::request::{LARGEST_COST, Phase};
-use crate::row::MOST_TOPPED;
+use crate::request::Phase;
 use crate::slots::Slots;
-use crate::world::TOP_NUMBER;
 use std::alloc::{AllocError, Global};
 
 #[derive(Debug, Drop)]

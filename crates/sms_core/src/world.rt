@@ -7,20 +7,12 @@ ghost use Rattle.sms_core.specs.Steps.{Steps};
 ghost use Rattle.sms_core.specs.Tables.{takes_memory, TakesMemory};
 
 use crate::event::{Event, Step};
+use crate::limits::{MOST_ACCOUNTS, MOST_ATTEMPTS, MOST_SLOTS};
 use crate::request::{Request, RequestState};
 use crate::row::Row;
 use crate::tables::Tables;
 use std::alloc::{AllocError, Global};
 use std::marker::Model;
-
-/// How many slots a window has at the most.
-pub const SLOTS: usize = 64;
-/// How many accounts there are at the most.
-pub const MOST_ACCOUNTS: u32 = 64;
-/// How often a request is sent at the most.
-pub const MOST_ATTEMPTS: u32 = 10;
-/// The greatest sequence number (SMPP 3.4, 5.1.4).
-pub const TOP_NUMBER: u32 = 0x7FFF_FFFF;
 
 /// Why a world can't be made.
 #[derive(Debug, Drop, thiserror::Error)]
@@ -56,7 +48,7 @@ fn are_limits(accounts: u32, limit: u32, attempts: u32) -> bool
     1 <= accounts
         && accounts <= MOST_ACCOUNTS
         && 1 <= limit
-        && limit as usize <= SLOTS
+        && limit <= MOST_SLOTS
         && 1 <= attempts
         && attempts <= MOST_ATTEMPTS
 }

@@ -3,7 +3,7 @@
 ghost use Rattle.std.specs.Prelude.{◌≡◌, ◌≤◌, ◌++◌, decimal, flat_map, length, IfOk, OnOk, string_bytes};
 ghost use Rattle.sms_send.specs.Text.{account_line, account_lines, cause_name as name_of_cause, event_line, event_lines, phase_name as name_of_phase, or_none, replay_text as text_of_replay, request_line, row_line, slot_line, slot_lines};
 
-use sms_core::{Cause, MOST_ACCOUNTS, Phase, Request, Row, SLOTS, Step, World};
+use sms_core::{Cause, MOST_ACCOUNTS, MOST_SLOTS, Phase, Request, Row, Step, World};
 use std::alloc::{AllocError, Global};
 use std::fmt::Write;
 
@@ -143,8 +143,8 @@ fn write_accounts(text: &mut String, world: &World) -> Result<(), AllocError>
 fn write_slots(text: &mut String, world: &World) -> Result<(), AllocError>
     ensures { OnOk result (string_bytes text.new ≡ string_bytes text.old ++ slot_lines world.now) }
 {
-    for slot in 0..SLOTS {
-        write_slot(text, slot as u32, world.holder(slot as u32))?;
+    for slot in 0..MOST_SLOTS {
+        write_slot(text, slot, world.holder(slot))?;
     }
     Ok(())
 }
