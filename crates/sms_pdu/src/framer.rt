@@ -2,7 +2,7 @@
 
 ghost use Rattle.std.specs.Prelude.{◌≡◌, ◌+◌, ◌++◌, ◌^◌, ◌<◌, ◌≤◌, List, ℕ, [], length, map, slice_index, IfOk, OnErr, IsSome, ◌↔◌};
 ghost use Rattle.std.specs.List.{concat, AllByRecursion};
-ghost use Rattle.sms_pdu.specs.Frame.{IsFrame, IsBad, IsPending, Division, octets_of, front_at, announced, Continues};
+ghost use Rattle.sms_pdu.specs.Frame.{IsFrame, IsRest, IsBad, IsPending, Division, octets_of, front_at, announced, Continues};
 
 use crate::frame::{Fed, Frame, FrameFault, Frames};
 use crate::header::{HEADER_LENGTH, MOST_LENGTH};
@@ -54,6 +54,14 @@ impl Framer {
         ensures { result.now ≡ self.now }
     {
         self.rest.as_slice()
+    }
+
+    /// What has come since the last whole frame, as the caller's own. Takes no memory.
+    pub fn into_rest(self) -> Vec<u8>
+        ensures same { result.items ≡ self }
+        ensures rest { IsRest result.items }
+    {
+        self.rest
     }
 
     /// Takes the next piece of the stream and gives the frames that are whole now. Once a
@@ -124,7 +132,7 @@ fn fault_of(left: &[u8]) -> Option<FrameFault>
 }
 
 /// What stands at the front of a stream of which this is held and this piece follows.
-fn front_of(held: &[u8], piece: &[u8]) -> Front
+pub(crate) fn front_of(held: &[u8], piece: &[u8]) -> Front
     ensures { result ≡ front_at (held.now ++ piece.now) }
 {
     let there = held.len() + piece.len();

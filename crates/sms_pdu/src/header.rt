@@ -1,7 +1,7 @@
 //! The header that every PDU begins with (SMPP 3.4 3.2).
 
 ghost use Rattle.std.specs.Prelude.{◌≡◌, ◌+◌, ◌≤◌, length, drop};
-ghost use Rattle.sms_pdu.specs.Header.{number_at, header_in};
+ghost use Rattle.sms_pdu.specs.Header.{number_at, header_at_front, header_in};
 
 /// The four numbers of a PDU's header, each of four octets, high octet first (SMPP 3.4 3.2).
 #[derive(Clone, Copy, Debug, PartialEq, Eq)]
@@ -29,12 +29,20 @@ pub fn header_of(octets: &[u8]) -> Option<Header>
     if octets.len() < HEADER_LENGTH {
         return None;
     }
-    Some(Header {
+    Some(frame_header(octets))
+}
+
+/// The header of octets that are known to have one, as a frame has.
+pub fn frame_header(octets: &[u8]) -> Header
+    requires { 16 ≤ length octets.now }
+    ensures { result ≡ header_at_front octets.now }
+{
+    Header {
         length: number_from(octets, 0),
         command: number_from(octets, 4),
         status: number_from(octets, 8),
         number: number_from(octets, 12),
-    })
+    }
 }
 
 /// What follows the header.

@@ -7,6 +7,7 @@ mod decoding;
 mod encoding;
 mod error;
 mod field;
+mod first;
 mod frame;
 mod framer;
 mod header;
@@ -19,14 +20,19 @@ mod reply;
 mod sizes;
 
 pub use body::{Body, Pdu, Sm};
-pub use command::{Command, Mode};
+pub use command::{
+    BIND_TRANSCEIVER, BIND_TRANSCEIVER_RESP, BIND_TRANSMITTER, BIND_TRANSMITTER_RESP, Command,
+    DELIVER_SM, DELIVER_SM_RESP, ENQUIRE_LINK, ENQUIRE_LINK_RESP, GENERIC_NACK, Mode, SUBMIT_SM,
+    SUBMIT_SM_RESP, UNBIND, UNBIND_RESP,
+};
 pub use decoding::decode;
 pub use encoding::encode;
 pub use error::PduError;
 pub use field::Field;
+pub use first::{first_frame, is_bad};
 pub use frame::{Fed, Frame, FrameFault, Frames};
 pub use framer::Framer;
-pub use header::{Header, header_of};
+pub use header::{Header, frame_header, header_of};
 pub use octets::Octets;
 pub use parameter::{Parameter, Params};
 pub use reply::{MessageId, Reply, reply_of};
