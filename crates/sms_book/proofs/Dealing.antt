@@ -1,15 +1,16 @@
 -- A book whose numbers are dealt out, one after another.
-use Rattle.std.proofs.Common.{◌≡◌, ℕ, zero, suc, ◌+◌, ◌<◌, ◌≤◌, List, [], ◌∷◌, ◌++◌, length, map, set, Some, refl, sym, ap, ◌∙◌, subst, arith, replicate, length-append}
+use Rattle.std.proofs.Common.{◌≡◌, ℕ, zero, suc, ◌<◌, ◌≤◌, List, [], ◌∷◌, ◌++◌, length, map, set, Some, refl, sym, ap, ◌∙◌, subst, arith, replicate, length-append}
 use Rattle.std.specs.Prelude.{slice_get, slice_index}
 use Rattle.std.proofs.lemmas.List.{get_or-map, length-map, length-replicate}
 use Rattle.sms_core.specs.declared.row.Row.{Row}
 use Rattle.sms_book.specs.declared.rule.Portion.{Portion}
 use Rattle.sms_book.specs.declared.rule.Entry.{Entry}
-use Rattle.sms_book.specs.Portions.{portion_at, row_at, no_row, no_amounts, nothing, of_worker, of_till}
+use Rattle.sms_book.specs.Portions.{row_at, no_row, no_amounts, nothing, of_worker, of_till, of_row}
 use Rattle.sms_book.specs.Shares.{Share, blank_share, opening_shares}
 use Rattle.sms_book.specs.Openings.{AllSmall, opening_row}
 use Rattle.sms_book.specs.Rule.{at_home, away, opening_entries, AllAway}
-use Rattle.sms_book.specs.Sums.{total, Adds, Balanced}
+use Rattle.sms_core.specs.Rows.{IsBalanced}
+use Rattle.sms_book.specs.Sums.{AreSound, IsSmall}
 
 -- the entries after the first n numbers went out
 abbrev pub dealt : ℕ → List Entry → List Entry
@@ -39,43 +40,17 @@ AllAway-dealt zero (e ∷ es) l = absurd (omega arith)
 AllAway-dealt (suc n) [] l = tt
 AllAway-dealt (suc n) (e ∷ es) l = (refl, AllAway-dealt n es (omega arith))
 
-total-dealt : (f : Portion → ℕ) (i n : ℕ) (es : List Entry) → total f i (dealt n es) ≡ total f i es
-total-dealt f i zero es = refl
-total-dealt f i (suc n) [] = refl
-total-dealt f i (suc n) (e ∷ es) = ap (λ (t : ℕ). f (portion_at e.portions i) + t) (total-dealt f i n es)
-
-nothing_at : (n i : ℕ) → portion_at (replicate n nothing) i ≡ nothing
-nothing_at zero i = refl
-nothing_at (suc n) zero = refl
-nothing_at (suc n) (suc i) = nothing_at n i
-
-total-nothing : (f : Portion → ℕ) (i n w : ℕ) → f nothing ≡ 0 → total f i (replicate w (at_home (replicate n nothing))) ≡ 0
-total-nothing f i n zero e = refl
-total-nothing f i n (suc w) e =
-    let rest = total-nothing f i n w e in
-    let here : f (portion_at (replicate n nothing) i) ≡ 0 = ap f (nothing_at n i) ∙ e in
-    omega arith
-
-total-opening : (f : Portion → ℕ) (i n : ℕ) (credits : List ℕ) (w : ℕ) → f nothing ≡ 0 → i < length credits → total f i (dealt n (opening_entries credits w)) ≡ f (of_till (slice_index credits i))
-total-opening f i n credits w e low =
-    let whole = total-dealt f i n (opening_entries credits w) in
-    let rest = total-nothing f i (length credits) w e in
-    let till : f (portion_at (map of_till credits) i) ≡ f (of_till (slice_index credits i)) = ap f (get_or-map of_till credits i 0 nothing low) in
-    omega arith
-
-pub balanced-opening : (n : ℕ) (credits : List ℕ) (w : ℕ) → AllSmall credits → Balanced (map opening_row credits) (dealt n (opening_entries credits w))
-balanced-opening n credits w small i below =
+-- the rows of a new book are sound, and agree with its totals
+pub sound-opening : (credits : List ℕ) → AllSmall credits → AreSound (map opening_row credits)
+sound-opening credits small i below =
     let low : i < length credits = let l = length-map credits opening_row in omega arith in
     let row : row_at (map opening_row credits) i ≡ opening_row (slice_index credits i) = get_or-map opening_row credits i 0 no_row low in
     let most = small i low in
-    subst (λ (r : Row). Adds r i (dealt n (opening_entries credits w))) (sym row) (record {
-      topped = sym (total-opening (λ p. p.topped) i n credits w refl low);
-      reserved = sym (total-opening (λ p. p.reserved) i n credits w refl low);
-      charged = sym (total-opening (λ p. p.charged) i n credits w refl low);
-      returned = sym (total-opening (λ p. p.returned) i n credits w refl low);
-      balanced = omega arith;
-      small = (most, omega arith);
-    })
+    subst (λ (r : Row). IsBalanced r × IsSmall r) (sym row) (omega arith, (most, omega arith))
+
+pub totals-opening : (credits : List ℕ) → map of_till credits ≡ map of_row (map opening_row credits)
+totals-opening [] = refl
+totals-opening (c ∷ credits) = ap (λ (l : List Portion). of_till c ∷ l) (totals-opening credits)
 
 -- an element of a list of equal ones
 middle : {A : Type 0} (xs : List A) (y : A) (zs : List A) (n : ℕ) (x : A) → xs ++ y ∷ zs ≡ replicate n x → (y ≡ x) × (length xs < n)

@@ -7,3 +7,4 @@ pub mod Returned
 pub mod Sums
 pub mod LawProofs
 pub mod StepTotals
+pub mod OpeningShares

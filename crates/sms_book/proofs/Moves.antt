@@ -1,6 +1,7 @@
 -- Each step on a book's table keeps its rule.
-use Rattle.std.proofs.Common.{◌≡◌, ◌≢◌, ◌⊎◌, ℕ, zero, suc, List, [], ◌∷◌, ◌++◌, length, set, Option, Some, None, Bool, true, true≢false, refl, sym, ap, ◌∙◌, subst, ⊎_elim, inl, inr}
-use Rattle.std.specs.Prelude.{slice_get, replicate}
+use Rattle.std.proofs.Common.{◌≡◌, ◌≢◌, ◌⊎◌, ℕ, zero, suc, ◌+◌, List, [], ◌∷◌, ◌++◌, length, map, set, Option, Some, None, Bool, true, true≢false, refl, sym, ap, ◌∙◌, subst, ⊎_elim, inl, inr, arith, length-set}
+use Rattle.std.specs.Prelude.{slice_get, slice_index, replicate}
+use Rattle.std.proofs.lemmas.List.{length-map, length-replicate}
 use mathlib.Core.Option.{some, some-ne-none, some-injective}
 use mathlib.Core.Logic.{dite}
 use native.Mathlib.Decide.{ℕ_discrete}
@@ -11,7 +12,10 @@ use Rattle.sms_book.specs.declared.rule.Portion.{Portion}
 use Rattle.sms_book.specs.declared.rule.Entry.{Entry}
 use Rattle.sms_book.specs.declared.rule.View.{View}
 use Rattle.sms_book.specs.declared.rule.View.TheVariants.{Book, Lent, Holder, Spent}
-use Rattle.sms_book.specs.Rule.{at_home, away, lent, left_after, right_after, Fits, Kept, Told, KeptTold, left_dealt, right_dealt, portions_in, opening_entries}
+use Rattle.sms_book.specs.Portions.{nothing, of_till}
+use Rattle.sms_book.specs.Sums.{AddUp, MoveBy}
+use Rattle.sms_book.specs.Rule.{at_home, away, lent, left_after, right_after, Fits, Kept, IsKnown, Told, KeptTold, left_dealt, right_dealt, portions_in, opening_entries, new_book}
+use Rattle.sms_book.proofs.Totals.{adds_home, adds_lent, adds_out, adds_moved, adds_opening}
 
 module _ {A : Type 0} where
   pub get_set_here : (xs : List A) (k : ℕ) (x y : A) → slice_get xs k ≡ Some x → slice_get (set xs k y) k ≡ Some y
@@ -58,37 +62,61 @@ same_portions b c e = ap portions_of e
 other_seat : (s : State (Unit {0}) View) (i j q : ℕ) (v : View) (c : List Portion) → get_elem? s.views i ≡ some v → get_elem? s.views j ≡ some (Holder q c) → (v ≡ Holder q c → ⊥) → j ≢ i
 other_seat s i j q v c here there differ e = differ (some-injective v (Holder q c) (sym here ∙ sym (ap (get_elem? s.views) e) ∙ there))
 
-pub joins : (id other k : ℕ) (es : List Entry) (a : List Portion) → Joins Kept id (Book es) other (Holder k a) (Lent es k a) Spent
-joins id other k es a s h at apart' there =
-    let mine = h.2 id (Book es) at in
-    let at_other : get_elem? s.views other ≡ some (Holder k a) = sym (set_else s.views id other (Lent es k a) apart') ∙ there in
-    let theirs : Fits h.0 h.1 other (Holder k a) = h.2 other (Holder k a) at_other in
-    let entry : slice_get es k ≡ Some (away a) = subst (λ (l : List Entry). slice_get l k ≡ Some (away a)) (sym mine.1) theirs.1 in
-    let es' = set es k (at_home a) in (
-      es',
-      h.1,
-      (λ j u e. ⊎_elim
-          (λ (t : (j ≡ other) × (Spent ≡ u)). subst (Fits es' h.1 j) t.1 tt)
-          (λ (t : (j ≢ other) × (get_elem? (set s.views id (Lent es k a)) j ≡ some u)).
-          ⊎_elim
-          (λ (t' : (j ≡ id) × (Lent es k a ≡ u)). subst (Fits es' h.1 j) t'.1 (t'.0 ∙ mine.0, refl, entry))
-          (λ (t' : (j ≢ id) × (get_elem? s.views j ≡ some u)). kept j u t.0 t'.0 (h.2 j u t'.1) mine theirs)
-          (at_set s.views id j (Lent es k a) u t.1))
-          (at_set (set s.views id (Lent es k a)) other j Spent u e)),
-      (λ q c out.
-          let differ : q ≢ k = (λ e. apart a c (sym (get_set_here es k (away a) (at_home a) entry) ∙ subst (λ (i : ℕ). slice_get es' i ≡ Some (away c)) e out)) in
-          let was : slice_get h.0 q ≡ Some (away c) = subst (λ (l : List Entry). slice_get l q ≡ Some (away c)) mine.1 (sym (get_set_else es k q (at_home a) differ) ∙ out) in
-          let there' : get_elem? s.views (h.1 q) ≡ some (Holder q c) = h.3 q c was in
-          let not_mine : h.1 q ≢ id = other_seat s id (h.1 q) q (Book es) c at there' (λ e. cc) in
-          let not_theirs : h.1 q ≢ other = other_seat s other (h.1 q) q (Holder k a) c at_other there' (λ e. differ (let p : k ≡ q = cc in sym p)) in
-          set_else (set s.views id (Lent es k a)) other (h.1 q) Spent not_theirs ∙ set_else s.views id (h.1 q) (Lent es k a) not_mine ∙ there'),
-    )
+-- what is set at the book's seat stands there
+pub set_at_book : (l : List View) (id : ℕ) (v w : View) → id ≡ 0 → get_elem? l id ≡ some v → get_elem? (set l id w) 0 ≡ some w
+set_at_book l id v w first at = ap (λ (j : ℕ). get_elem? (set l j w) 0) first ∙ here l (sym (ap (get_elem? l) first) ∙ at)
   where
-    kept : (j : ℕ) (u : View) → j ≢ other → j ≢ id → Fits h.0 h.1 j u → Fits h.0 h.1 id (Book es) → Fits h.0 h.1 other (Holder k a) → Fits (set es k (at_home a)) h.1 j u
-    kept j (Book xs) nt ni f mine theirs = absurd (ni (f.0 ∙ sym mine.0))
-    kept j (Lent xs q b) nt ni f mine theirs = absurd (ni (f.0 ∙ sym mine.0))
+    here : (l : List View) → get_elem? l 0 ≡ some v → get_elem? (set l 0 w) 0 ≡ some w
+    here [] e = absurd (cc)
+    here (z ∷ l) e = refl
+
+-- the table's one word, set to what it was
+same_word : (ws : List ℕ) (i : ℕ) → ws ≡ 0 ∷ [] → set ws i (slice_index ws i) ≡ 0 ∷ []
+same_word ws i e = subst (λ (l : List ℕ). set l i (slice_index l i) ≡ 0 ∷ []) (sym e) (one i)
+  where
+    one : (i : ℕ) → set (0 ∷ []) i (slice_index (0 ∷ []) i) ≡ 0 ∷ []
+    one zero = refl
+    one (suc i) = refl
+
+pub joins : (accounts workers id other k : ℕ) (es : List Entry) (ts a : List Portion) → Joins (Kept accounts workers) id (Book es ts) other (Holder k a) (Lent es ts k a) Spent
+joins accounts workers id other k es ts a s h at apart' there =
+    let mine = h.fits id (Book es ts) at in
+    let at_other : get_elem? s.views other ≡ some (Holder k a) = sym (set_else s.views id other (Lent es ts k a) apart') ∙ there in
+    let theirs : Fits h.entries h.totals h.holder other (Holder k a) = h.fits other (Holder k a) at_other in
+    let entry : slice_get es k ≡ Some (away a) = subst (λ (l : List Entry). slice_get l k ≡ Some (away a)) (sym mine.1) theirs.1 in
+    let es' = set es k (at_home a) in
+    record {
+      entries = es';
+      totals = h.totals;
+      holder = h.holder;
+      book = (Lent es ts k a, set_else (set s.views id (Lent es ts k a)) other 0 Spent (λ e. apart' (sym e ∙ sym mine.0)) ∙ set_at_book s.views id (Book es ts) (Lent es ts k a) mine.0 at, refl, mine.2);
+      fits = λ j u e. ⊎_elim
+          (λ (t : (j ≡ other) × (Spent ≡ u)). subst (Fits es' h.totals h.holder j) t.1 tt)
+          (λ (t : (j ≢ other) × (get_elem? (set s.views id (Lent es ts k a)) j ≡ some u)).
+          ⊎_elim
+          (λ (t' : (j ≡ id) × (Lent es ts k a ≡ u)). subst (Fits es' h.totals h.holder j) t'.1 (t'.0 ∙ mine.0, refl, mine.2, entry))
+          (λ (t' : (j ≢ id) × (get_elem? s.views j ≡ some u)). kept j u t.0 t'.0 (h.fits j u t'.1) mine theirs)
+          (at_set s.views id j (Lent es ts k a) u t.1))
+          (at_set (set s.views id (Lent es ts k a)) other j Spent u e);
+      held = λ q c out.
+          let differ : q ≢ k = (λ e. apart a c (sym (get_set_here es k (away a) (at_home a) entry) ∙ subst (λ (i : ℕ). slice_get es' i ≡ Some (away c)) e out)) in
+          let was : slice_get h.entries q ≡ Some (away c) = subst (λ (l : List Entry). slice_get l q ≡ Some (away c)) mine.1 (sym (get_set_else es k q (at_home a) differ) ∙ out) in
+          let there' : get_elem? s.views (h.holder q) ≡ some (Holder q c) = h.held q c was in
+          let not_mine : h.holder q ≢ id = other_seat s id (h.holder q) q (Book es ts) c at there' (λ e. cc) in
+          let not_theirs : h.holder q ≢ other = other_seat s other (h.holder q) q (Holder k a) c at_other there' (λ e. differ (let p : k ≡ q = cc in sym p)) in
+          set_else (set s.views id (Lent es ts k a)) other (h.holder q) Spent not_theirs ∙ set_else s.views id (h.holder q) (Lent es ts k a) not_mine ∙ there';
+      long = length-set es k (at_home a) ∙ ap length mine.1 ∙ h.long;
+      wide = h.wide;
+      sums = adds_home h.totals es k a entry (subst (AddUp h.totals) (sym mine.1) h.sums);
+      word = h.word;
+    }
+  where
+    kept : (j : ℕ) (u : View) → j ≢ other → j ≢ id → Fits h.entries h.totals h.holder j u → Fits h.entries h.totals h.holder id (Book es ts) → Fits h.entries h.totals h.holder other (Holder k a)
+        → Fits (set es k (at_home a)) h.totals h.holder j u
+    kept j (Book xs us) nt ni f mine theirs = absurd (ni (f.0 ∙ sym mine.0))
+    kept j (Lent xs us q b) nt ni f mine theirs = absurd (ni (f.0 ∙ sym mine.0))
     kept j (Holder q b) nt ni f mine theirs =
-        let differ : q ≢ k = (λ e. nt (sym f.0 ∙ ap h.1 e ∙ theirs.0)) in
+        let differ : q ≢ k = (λ e. nt (sym f.0 ∙ ap h.holder e ∙ theirs.0)) in
         (f.0, get_set_else es k q (at_home a) differ ∙ subst (λ (l : List Entry). slice_get l q ≡ Some (away b)) (sym mine.1) f.1)
     kept j Spent nt ni f mine theirs = tt
 
@@ -112,134 +140,179 @@ moved-else holder k n q ne = other (ℕ_discrete q k)
     other (yes p) = absurd (ne p)
     other (no p) = refl
 
--- The number k goes out with the portions b, from a seat whose view fits `fs`, in which k is at home and every other number is as in es
-module _ (id k : ℕ) (es : List Entry) (b : List Portion) (v : View) (s : State (Unit {0}) View) (fs : List Entry) (holder : ℕ → ℕ)
+-- The number k goes out with the portions b, from a seat whose view fits, in which k is at home and every other number is
+-- as in es; the totals us are the sums after it
+module _ (accounts workers id k : ℕ) (es : List Entry) (us b : List Portion) (v : View) (s : State (Unit {0}) View) (h : Kept accounts workers s)
     (first : id ≡ 0) (at : get_elem? s.views id ≡ some v) (book : (q : ℕ) (c : List Portion) → v ≡ Holder q c → ⊥)
-    (home : (x : Entry) × (slice_get es k ≡ Some x)) (free : (c : List Portion) → slice_get fs k ≡ Some (away c) → ⊥)
-    (alike : (q : ℕ) → q ≢ k → slice_get fs q ≡ slice_get es q)
-    (fits : (j : ℕ) (u : View) → get_elem? s.views j ≡ some u → Fits fs holder j u)
-    (held : (q : ℕ) (c : List Portion) → slice_get fs q ≡ Some (away c) → get_elem? s.views (holder q) ≡ some (Holder q c)) where
-  others : (j : ℕ) (u : View) → j ≢ id → Fits fs holder j u → Fits (set es k (away b)) (moved holder k (length (set s.views id (Book (set es k (away b)))))) j u
-  others j (Book xs) ni f = absurd (ni (f.0 ∙ sym first))
-  others j (Lent xs q c) ni f = absurd (ni (f.0 ∙ sym first))
+    (home : (x : Entry) × (slice_get es k ≡ Some x)) (free : (c : List Portion) → slice_get h.entries k ≡ Some (away c) → ⊥)
+    (alike : (q : ℕ) → q ≢ k → slice_get h.entries q ≡ slice_get es q)
+    (long' : length es ≡ workers + 1) (wide' : length us ≡ accounts) (sums' : AddUp us (set es k (away b))) where
+  others : (j : ℕ) (u : View) → j ≢ id → Fits h.entries h.totals h.holder j u → Fits (set es k (away b)) us (moved h.holder k (length (set s.views id (Book (set es k (away b)) us)))) j u
+  others j (Book xs ws) ni f = absurd (ni (f.0 ∙ sym first))
+  others j (Lent xs ws q c) ni f = absurd (ni (f.0 ∙ sym first))
   others j (Holder q c) ni f =
-      let differ : q ≢ k = (λ e. free c (subst (λ (i : ℕ). slice_get fs i ≡ Some (away c)) e f.1)) in
-      (moved-else holder k _ q differ ∙ f.0, get_set_else es k q (away b) differ ∙ sym (alike q differ) ∙ f.1)
+      let differ : q ≢ k = (λ e. free c (subst (λ (i : ℕ). slice_get h.entries i ≡ Some (away c)) e f.1)) in
+      (moved-else h.holder k _ q differ ∙ f.0, get_set_else es k q (away b) differ ∙ sym (alike q differ) ∙ f.1)
   others j Spent ni f = tt
 
-  pub goes_out : Kept record { words = s.words; homes = s.homes; views = set s.views id (Book (set es k (away b))) ++ Holder k b ∷ [] }
+  pub goes_out : Kept accounts workers record { words = s.words; homes = s.homes; views = set s.views id (Book (set es k (away b)) us) ++ Holder k b ∷ [] }
   goes_out =
       let es' = set es k (away b) in
-      let l = set s.views id (Book es') in
+      let w = Book es' us in
+      let l = set s.views id w in
       let n = length l in
-      let holder' = moved holder k n in (
-        es',
-        holder',
-        (λ j u e. ⊎_elim
+      let holder' = moved h.holder k n in
+      record {
+        entries = es';
+        totals = us;
+        holder = holder';
+        book = (w, at_longer l (Holder k b ∷ []) 0 w (set_at_book s.views id v w first at), refl, refl);
+        fits = λ j u e. ⊎_elim
             (λ (t : get_elem? l j ≡ some u).
             ⊎_elim
-            (λ (t' : (j ≡ id) × (Book es' ≡ u)). subst (Fits es' holder' j) t'.1 (t'.0 ∙ first, refl))
-            (λ (t' : (j ≢ id) × (get_elem? s.views j ≡ some u)). others j u t'.0 (fits j u t'.1))
-            (at_set s.views id j (Book es') u t))
-            (λ (t : (j ≡ n) × (Holder k b ≡ u)). subst (Fits es' holder' j) t.1 (moved-here holder k n ∙ sym t.0, get_set_here es k home.0 (away b) home.1))
-            (at_last_or l (Holder k b) u j e)),
-        (λ q c out. by_number q c out (ℕ_discrete q k)),
-      )
+            (λ (t' : (j ≡ id) × (w ≡ u)). subst (Fits es' us holder' j) t'.1 (t'.0 ∙ first, refl, refl))
+            (λ (t' : (j ≢ id) × (get_elem? s.views j ≡ some u)). others j u t'.0 (h.fits j u t'.1))
+            (at_set s.views id j w u t))
+            (λ (t : (j ≡ n) × (Holder k b ≡ u)). subst (Fits es' us holder' j) t.1 (moved-here h.holder k n ∙ sym t.0, get_set_here es k home.0 (away b) home.1))
+            (at_last_or l (Holder k b) u j e);
+        held = λ q c out. by_number q c out (ℕ_discrete q k);
+        long = length-set es k (away b) ∙ long';
+        wide = wide';
+        sums = sums';
+        word = h.word;
+      }
     where
       by_number : (q : ℕ) (c : List Portion) → slice_get (set es k (away b)) q ≡ Some (away c) → Dec (q ≡ k)
-          → get_elem? (set s.views id (Book (set es k (away b))) ++ Holder k b ∷ []) (moved holder k (length (set s.views id (Book (set es k (away b))))) q) ≡ some (Holder q c)
+          → get_elem? (set s.views id (Book (set es k (away b)) us) ++ Holder k b ∷ []) (moved h.holder k (length (set s.views id (Book (set es k (away b)) us))) q) ≡ some (Holder q c)
       by_number q c out (yes is) =
-          let l = set s.views id (Book (set es k (away b))) in
+          let l = set s.views id (Book (set es k (away b)) us) in
           let here : slice_get (set es k (away b)) k ≡ Some (away c) = subst (λ (i : ℕ). slice_get (set es k (away b)) i ≡ Some (away c)) is out in
           let whole : Some (away b) ≡ Some (away c) = sym (get_set_here es k home.0 (away b) home.1) ∙ here in
           let same : b ≡ c = same_portions b c whole in
-          subst (λ (x : ℕ × List Portion). get_elem? (l ++ Holder k b ∷ []) (moved holder k (length l) x.0) ≡ some (Holder x.0 x.1)) (λ i. (sym is i, same i))
-          (ap (get_elem? (l ++ Holder k b ∷ [])) (moved-here holder k (length l)) ∙ at_last l (Holder k b) (length l) refl)
+          subst (λ (x : ℕ × List Portion). get_elem? (l ++ Holder k b ∷ []) (moved h.holder k (length l) x.0) ≡ some (Holder x.0 x.1)) (λ i. (sym is i, same i))
+          (ap (get_elem? (l ++ Holder k b ∷ [])) (moved-here h.holder k (length l)) ∙ at_last l (Holder k b) (length l) refl)
       by_number q c out (no ne) =
-          let l = set s.views id (Book (set es k (away b))) in
-          let there = held q c (alike q ne ∙ sym (get_set_else es k q (away b) ne) ∙ out) in
-          let not_mine : holder q ≢ id = other_seat s id (holder q) q v c at there (book q c) in
-          ap (get_elem? (l ++ Holder k b ∷ [])) (moved-else holder k (length l) q ne)
-          ∙ at_longer l (Holder k b ∷ []) (holder q) (Holder q c) (set_else s.views id (holder q) (Book (set es k (away b))) not_mine ∙ there)
+          let l = set s.views id (Book (set es k (away b)) us) in
+          let there = h.held q c (alike q ne ∙ sym (get_set_else es k q (away b) ne) ∙ out) in
+          let not_mine : h.holder q ≢ id = other_seat s id (h.holder q) q v c at there (book q c) in
+          ap (get_elem? (l ++ Holder k b ∷ [])) (moved-else h.holder k (length l) q ne)
+          ∙ at_longer l (Holder k b ∷ []) (h.holder q) (Holder q c) (set_else s.views id (h.holder q) (Book (set es k (away b)) us) not_mine ∙ there)
 
-pub splits : (id k : ℕ) (es : List Entry) (a b : List Portion) → Splits Kept id (Lent es k a) (Book (set es k (away b))) (Holder k b)
-splits id k es a b s h at =
-    let mine = h.2 id (Lent es k a) at in
-    goes_out id k es b (Lent es k a) s h.0 h.1 mine.0 at (λ q c e. cc) (away a, mine.2)
-    (λ c e. apart a c (sym (get_set_here es k (away a) (at_home a) mine.2) ∙ subst (λ (l : List Entry). slice_get l k ≡ Some (away c)) (sym mine.1) e))
-    (λ q ne. ap (λ (l : List Entry). slice_get l q) (sym mine.1) ∙ get_set_else es k q (at_home a) ne) h.2 h.3
+pub splits : (accounts workers id k : ℕ) (es : List Entry) (ts us a b : List Portion) → MoveBy a b ts us → Splits (Kept accounts workers) id (Lent es ts k a) (Book (set es k (away b)) us) (Holder k b)
+splits accounts workers id k es ts us a b by s h at =
+    let mine = h.fits id (Lent es ts k a) at in
+    let sums : AddUp ts (set es k (at_home a)) = subst (λ (x : List Portion × List Entry). AddUp x.0 x.1) (λ i. (sym mine.2 i, sym mine.1 i)) h.sums in
+    goes_out accounts workers id k es us b (Lent es ts k a) s h mine.0 at (λ q c e. cc) (away a, mine.3)
+    (λ c e. apart a c (sym (get_set_here es k (away a) (at_home a) mine.3) ∙ subst (λ (l : List Entry). slice_get l k ≡ Some (away c)) (sym mine.1) e))
+    (λ q ne. ap (λ (l : List Entry). slice_get l q) (sym mine.1) ∙ get_set_else es k q (at_home a) ne)
+    (sym (length-set es k (at_home a)) ∙ ap length mine.1 ∙ h.long)
+    (by.0 ∙ ap length mine.2 ∙ h.wide)
+    (adds_moved ts us es k a b mine.3 by (adds_lent ts es k a mine.3 sums))
 
-portions_there : (es : List Entry) (k : ℕ) (a : List Portion) → slice_get es k ≡ Some (at_home a) → portions_in es k ≡ a
+pub portions_there : (es : List Entry) (k : ℕ) (a : List Portion) → slice_get es k ≡ Some (at_home a) → portions_in es k ≡ a
 portions_there [] k a e = absurd (cc)
 portions_there (x ∷ es) zero a e = let same : x ≡ at_home a = cc in ap (λ (y : Entry). y.portions) same
 portions_there (x ∷ es) (suc k) a e = portions_there es k a e
 
-pub dealt_views : (k : ℕ) (es : List Entry) (a : List Portion) (v : View) → v ≡ Book es → slice_get es k ≡ Some (at_home a) → (left_dealt k v ≡ Book (set es k (away a))) × (right_dealt k v ≡ Holder k a)
-dealt_views k es a v is here = let p = portions_there es k a here in
-    (ap (left_dealt k) is ∙ ap (λ (c : List Portion). Book (set es k (away c))) p, ap (right_dealt k) is ∙ ap (Holder k) p)
+pub dealt_views : (k : ℕ) (es : List Entry) (ts a : List Portion) (v : View) → v ≡ Book es ts → slice_get es k ≡ Some (at_home a) → (left_dealt k v ≡ Book (set es k (away a)) ts) × (right_dealt k v ≡ Holder k a)
+dealt_views k es ts a v is here = let p = portions_there es k a here in
+    (ap (left_dealt k) is ∙ ap (λ (c : List Portion). Book (set es k (away c)) ts) p, ap (right_dealt k) is ∙ ap (Holder k) p)
 
-pub deals : (id k : ℕ) (es : List Entry) (a : List Portion) (v : View) → v ≡ Book es → slice_get es k ≡ Some (at_home a) → Splits Kept id v (left_dealt k v) (right_dealt k v)
-deals id k es a v is here =
-    let d = dealt_views k es a v is here in
-    subst (λ (x : View × (View × View)). Splits Kept id x.0 x.1.0 x.1.1) (λ i. (sym is i, (sym d.0 i, sym d.1 i))) whole
+pub deals : (accounts workers id k : ℕ) (es : List Entry) (ts a : List Portion) (v : View) → v ≡ Book es ts → slice_get es k ≡ Some (at_home a) → Splits (Kept accounts workers) id v (left_dealt k v) (right_dealt k v)
+deals accounts workers id k es ts a v is here =
+    let d = dealt_views k es ts a v is here in
+    subst (λ (x : View × (View × View)). Splits (Kept accounts workers) id x.0 x.1.0 x.1.1) (λ i. (sym is i, (sym d.0 i, sym d.1 i))) whole
   where
-    whole : Splits Kept id (Book es) (Book (set es k (away a))) (Holder k a)
+    whole : Splits (Kept accounts workers) id (Book es ts) (Book (set es k (away a)) ts) (Holder k a)
     whole s h at =
-        let mine = h.2 id (Book es) at in
-        goes_out id k es a (Book es) s h.0 h.1 mine.0 at (λ q c e. cc) (at_home a, here)
+        let mine = h.fits id (Book es ts) at in
+        let sums : AddUp ts es = subst (λ (x : List Portion × List Entry). AddUp x.0 x.1) (λ i. (sym mine.2 i, sym mine.1 i)) h.sums in
+        goes_out accounts workers id k es ts a (Book es ts) s h mine.0 at (λ q c e. cc) (at_home a, here)
         (λ c e. apart a c (sym here ∙ subst (λ (l : List Entry). slice_get l k ≡ Some (away c)) (sym mine.1) e))
-        (λ q ne. ap (λ (l : List Entry). slice_get l q) (sym mine.1)) h.2 h.3
+        (λ q ne. ap (λ (l : List Entry). slice_get l q) (sym mine.1))
+        (ap length mine.1 ∙ h.long) (ap length mine.2 ∙ h.wide) (adds_out ts es k a here sums)
 
 -- a look leaves all views
-pub look_keeps : (s : State (Unit {0}) View) → Kept s → (id : ℕ) (v : View) → get_elem? s.views id ≡ some v → Kept record { words = s.words; homes = s.homes; views = set s.views id v }
-look_keeps s h id v at =
+pub look_keeps : (accounts workers : ℕ) (s : State (Unit {0}) View) → Kept accounts workers s → (ws : List ℕ) → ws ≡ 0 ∷ [] → (id : ℕ) (v : View) → get_elem? s.views id ≡ some v
+    → Kept accounts workers record { words = ws; homes = s.homes; views = set s.views id v }
+look_keeps accounts workers s h ws one id v at =
     let same = set_again s.views id v at in
-    (h.0, h.1, (λ j u e. h.2 j u (subst (λ (l : List View). get_elem? l j ≡ some u) same e)), (λ q c out. ap (λ (l : List View). get_elem? l (h.1 q)) same ∙ h.3 q c out))
+    record {
+      entries = h.entries;
+      totals = h.totals;
+      holder = h.holder;
+      book = (h.book.0, ap (λ (l : List View). get_elem? l 0) same ∙ h.book.1, h.book.2, h.book.3);
+      fits = λ j u e. h.fits j u (subst (λ (l : List View). get_elem? l j ≡ some u) same e);
+      held = λ q c out. ap (λ (l : List View). get_elem? l (h.holder q)) same ∙ h.held q c out;
+      long = h.long;
+      wide = h.wide;
+      sums = h.sums;
+      word = one;
+    }
 
-pub tells : (slots id word : ℕ) (v : View) → Allows Kept slots id (v, []) word (λ n. n) (λ _. Told (v, []))
-tells slots id word v s h _ at _ = (v, keeps, tt, look_keeps s h id v at, (refl, λ es k a is. (subst (Fits h.0 h.1 id) is (h.2 id v at)).2))
+-- what the rule says of a number that the book was lent
+known : (accounts workers : ℕ) (s : State (Unit {0}) View) → Kept accounts workers s → (id : ℕ) (v : View) → get_elem? s.views id ≡ some v → IsKnown v
+known accounts workers s h id v at es ts k a is =
+    let mine : Fits h.entries h.totals h.holder id (Lent es ts k a) = subst (Fits h.entries h.totals h.holder id) is (h.fits id v at) in
+    let sums : AddUp ts (set es k (at_home a)) = subst (λ (x : List Portion × List Entry). AddUp x.0 x.1) (λ i. (sym mine.2 i, sym mine.1 i)) h.sums in
+    (mine.3, adds_lent ts es k a mine.3 sums)
+
+pub tells : (accounts workers slots id word : ℕ) (v : View) → Allows (Kept accounts workers) slots id (v, []) word (λ n. n) (λ _. Told (v, []))
+tells accounts workers slots id word v s h _ at _ =
+    (v, keeps, tt, look_keeps accounts workers s h (set s.words word (slice_index s.words word)) (same_word s.words word h.word) id v at, (refl, known accounts workers s h id v at))
 
 -- the book keeps the number that it was lent
-pub home_keeps : (s : State (Unit {0}) View) → Kept s → (id : ℕ) (es : List Entry) (k : ℕ) (a : List Portion) → get_elem? s.views id ≡ some (Lent es k a)
-    → Kept record { words = s.words; homes = s.homes; views = set s.views id (Book (set es k (at_home a))) }
-home_keeps s h id es k a at =
-    let mine = h.2 id (Lent es k a) at in
-    let w = Book (set es k (at_home a)) in (
-      h.0,
-      h.1,
-      (λ j u e. ⊎_elim
-          (λ (t : (j ≡ id) × (w ≡ u)). subst (Fits h.0 h.1 j) t.1 (t.0 ∙ mine.0, mine.1))
-          (λ (t : (j ≢ id) × (get_elem? s.views j ≡ some u)). h.2 j u t.1)
-          (at_set s.views id j w u e)),
-      (λ q c out. let there = h.3 q c out in
-          set_else s.views id (h.1 q) w (other_seat s id (h.1 q) q (Lent es k a) c at there (λ e. cc)) ∙ there),
-    )
+pub home_keeps : (accounts workers : ℕ) (s : State (Unit {0}) View) → Kept accounts workers s → (ws : List ℕ) → ws ≡ 0 ∷ [] → (id : ℕ) (es : List Entry) (ts : List Portion) (k : ℕ) (a : List Portion)
+    → get_elem? s.views id ≡ some (Lent es ts k a) → Kept accounts workers record { words = ws; homes = s.homes; views = set s.views id (Book (set es k (at_home a)) ts) }
+home_keeps accounts workers s h ws one id es ts k a at =
+    let mine = h.fits id (Lent es ts k a) at in
+    let w = Book (set es k (at_home a)) ts in
+    record {
+      entries = h.entries;
+      totals = h.totals;
+      holder = h.holder;
+      book = (w, set_at_book s.views id (Lent es ts k a) w mine.0 at, mine.1, mine.2);
+      fits = λ j u e. ⊎_elim
+          (λ (t : (j ≡ id) × (w ≡ u)). subst (Fits h.entries h.totals h.holder j) t.1 (t.0 ∙ mine.0, mine.1, mine.2))
+          (λ (t : (j ≢ id) × (get_elem? s.views j ≡ some u)). h.fits j u t.1)
+          (at_set s.views id j w u e);
+      held = λ q c out.
+          let there = h.held q c out in
+          set_else s.views id (h.holder q) w (other_seat s id (h.holder q) q (Lent es ts k a) c at there (λ e. cc)) ∙ there;
+      long = h.long;
+      wide = h.wide;
+      sums = h.sums;
+      word = one;
+    }
 
-pub keeps_told : (slots id word : ℕ) (v : View) (es : List Entry) (k : ℕ) (a : List Portion) → v ≡ Lent es k a → Allows Kept slots id (v, []) word (λ n. n) (λ _. KeptTold (v, []))
-keeps_told slots id word v es k a is =
-    subst (λ (x : View). Allows Kept slots id (x, []) word (λ n. n) (λ _. KeptTold (x, []))) (sym is)
-    (λ s h _ at _.
-    let mine = h.2 id (Lent es k a) at in
-    (Book (set es k (at_home a)), keeps, tt, home_keeps s h id es k a at, (refl, λ xs q b same. told es k a xs q b same mine.2)))
-  where
-    told : (es : List Entry) (k : ℕ) (a : List Portion) (xs : List Entry) (q : ℕ) (b : List Portion) → Lent es k a ≡ Lent xs q b → slice_get es k ≡ Some (away a) → slice_get xs q ≡ Some (away b)
-    told es k a xs q b same there =
-        let x : es ≡ xs = cc in let y : k ≡ q = cc in let z : a ≡ b = cc in
-        subst (λ (p : List Entry × (ℕ × List Portion)). slice_get p.0 p.1.0 ≡ Some (away p.1.1)) (λ i. (x i, (y i, z i))) there
+pub keeps_told : (accounts workers slots id word : ℕ) (v : View) (es : List Entry) (ts : List Portion) (k : ℕ) (a : List Portion) → v ≡ Lent es ts k a → Allows (Kept accounts workers) slots id (v, []) word (λ n. n) (λ _. KeptTold (v, []))
+keeps_told accounts workers slots id word v es ts k a is =
+    subst (λ (x : View). Allows (Kept accounts workers) slots id (x, []) word (λ n. n) (λ _. KeptTold (x, []))) (sym is)
+    (λ s h _ at _. (
+      Book (set es k (at_home a)) ts,
+      keeps,
+      tt,
+      home_keeps accounts workers s h (set s.words word (slice_index s.words word)) (same_word s.words word h.word) id es ts k a at,
+      (refl, known accounts workers s h id (Lent es ts k a) at),
+    ))
 
 -- the moves, at views that are known by equations
-pub joins_as : (id other k : ℕ) (es : List Entry) (a : List Portion) (v w : View) → v ≡ Book es → w ≡ Holder k a → Joins Kept id v other w (lent v w) Spent
-joins_as id other k es a v w is there =
-    subst (λ (x : View × View). Joins Kept id x.0 other x.1 (lent x.0 x.1) Spent) (λ i. (sym is i, sym there i)) (joins id other k es a)
+pub joins_as : (accounts workers id other k : ℕ) (es : List Entry) (ts a : List Portion) (v w : View) → v ≡ Book es ts → w ≡ Holder k a → Joins (Kept accounts workers) id v other w (lent v w) Spent
+joins_as accounts workers id other k es ts a v w is there =
+    subst (λ (x : View × View). Joins (Kept accounts workers) id x.0 other x.1 (lent x.0 x.1) Spent) (λ i. (sym is i, sym there i)) (joins accounts workers id other k es ts a)
 
-pub splits_as : (id k : ℕ) (es : List Entry) (a b : List Portion) (v : View) → v ≡ Lent es k a → Splits Kept id v (left_after b v) (right_after b v)
-splits_as id k es a b v is = subst (λ (x : View). Splits Kept id x (left_after b x) (right_after b x)) (sym is) (splits id k es a b)
+pub splits_as : (accounts workers id k : ℕ) (es : List Entry) (ts us a b : List Portion) (v : View) → v ≡ Lent es ts k a → MoveBy a b ts us → Splits (Kept accounts workers) id v (left_after b us v) (right_after b v)
+splits_as accounts workers id k es ts us a b v is by =
+    subst (λ (x : View). Splits (Kept accounts workers) id x (left_after b us x) (right_after b x)) (sym is) (splits accounts workers id k es ts us a b by)
 
-pub tells_as : (slots id word : ℕ) (me : Me (Unit {0}) View) → me.1 ≡ [] → Allows Kept slots id me word (λ n. n) (λ _. Told me)
-tells_as slots id word me none = subst (λ (l : List (ℕ × Unit {0})). Allows Kept slots id (me.0, l) word (λ n. n) (λ _. Told (me.0, l))) (sym none) (tells slots id word me.0)
+pub tells_as : (accounts workers slots id word : ℕ) (me : Me (Unit {0}) View) → me.1 ≡ [] → Allows (Kept accounts workers) slots id me word (λ n. n) (λ _. Told me)
+tells_as accounts workers slots id word me none =
+    subst (λ (l : List (ℕ × Unit {0})). Allows (Kept accounts workers) slots id (me.0, l) word (λ n. n) (λ _. Told (me.0, l))) (sym none) (tells accounts workers slots id word me.0)
 
-pub keeps_told_as : (slots id word : ℕ) (me : Me (Unit {0}) View) (es : List Entry) (k : ℕ) (a : List Portion) → me.0 ≡ Lent es k a → me.1 ≡ [] → Allows Kept slots id me word (λ n. n) (λ _. KeptTold me)
-keeps_told_as slots id word me es k a is none = subst (λ (l : List (ℕ × Unit {0})). Allows Kept slots id (me.0, l) word (λ n. n) (λ _. KeptTold (me.0, l))) (sym none) (keeps_told slots id word me.0 es k a is)
+pub keeps_told_as : (accounts workers slots id word : ℕ) (me : Me (Unit {0}) View) (es : List Entry) (ts : List Portion) (k : ℕ) (a : List Portion) → me.0 ≡ Lent es ts k a → me.1 ≡ []
+    → Allows (Kept accounts workers) slots id me word (λ n. n) (λ _. KeptTold me)
+keeps_told_as accounts workers slots id word me es ts k a is none =
+    subst (λ (l : List (ℕ × Unit {0})). Allows (Kept accounts workers) slots id (me.0, l) word (λ n. n) (λ _. KeptTold (me.0, l))) (sym none) (keeps_told accounts workers slots id word me.0 es ts k a is)
 
 -- the one view of a list
 pub same_view : (v w : View) (vs : List View) → vs ≡ v ∷ [] → vs ≡ w ∷ [] → v ≡ w
@@ -250,13 +323,27 @@ none_away zero k a c e = cc
 none_away (suc n) zero a c e = apart a c e
 none_away (suc n) (suc k) a c e = none_away n k a c e
 
-begun : (credits : List ℕ) (workers : ℕ) (id : ℕ) (v : View) → get_elem? (Book (opening_entries credits workers) ∷ []) id ≡ some v → Fits (opening_entries credits workers) (λ _. 0) id v
-begun credits workers zero v e = subst (Fits (opening_entries credits workers) (λ _. 0) 0) (some-injective _ _ e) (refl, refl)
+begun : (credits : List ℕ) (workers : ℕ) (id : ℕ) (v : View) → get_elem? (new_book credits workers ∷ []) id ≡ some v → Fits (opening_entries credits workers) (map of_till credits) (λ _. 0) id v
+begun credits workers zero v e = subst (Fits (opening_entries credits workers) (map of_till credits) (λ _. 0) 0) (some-injective _ _ e) (refl, refl, refl)
 begun credits workers (suc id) v e = absurd (some-ne-none v (sym e))
 
 none_out : (credits : List ℕ) (workers : ℕ) (k : ℕ) (a : List Portion) → slice_get (opening_entries credits workers) k ≡ Some (away a) → ⊥
 none_out credits workers zero a e = apart _ a e
 none_out credits workers (suc k) a e = none_away _ k _ a e
 
-pub begins : (credits : List ℕ) (workers : ℕ) (ws : List ℕ) → Kept (opening ws [] (Book (opening_entries credits workers)))
-begins credits workers ws = (opening_entries credits workers, (λ _. 0), begun credits workers, λ k a e. absurd (none_out credits workers k a e))
+long_opening : (credits : List ℕ) (workers : ℕ) → length (opening_entries credits workers) ≡ workers + 1
+long_opening credits workers = let r = length-replicate workers (at_home (replicate (length credits) nothing)) in omega arith
+
+pub begins : (credits : List ℕ) (workers : ℕ) → Kept (length credits) workers (opening (0 ∷ []) [] (new_book credits workers))
+begins credits workers = record {
+  entries = opening_entries credits workers;
+  totals = map of_till credits;
+  holder = λ _. 0;
+  book = (new_book credits workers, refl, refl, refl);
+  fits = begun credits workers;
+  held = λ k a e. absurd (none_out credits workers k a e);
+  long = long_opening credits workers;
+  wide = length-map credits of_till;
+  sums = adds_opening credits workers;
+  word = refl;
+}

@@ -9,11 +9,14 @@ use Rattle.sms_book.specs.declared.rule.Portion.{Portion}
 use Rattle.sms_book.specs.declared.rule.Entry.{Entry}
 use Rattle.sms_book.specs.declared.money.Move.{Move}
 use Rattle.sms_book.specs.declared.money.Move.TheVariants.{Reserve, Charge, GiveBack}
-use Rattle.sms_book.specs.Portions.{amounts_at, portion_at, topped_at, row_at, no_row, no_amounts, nothing, of_worker, of_till}
+use Rattle.sms_book.specs.Portions.{amounts_at, portion_at, topped_at, row_at, no_row, no_amounts, nothing, of_worker, of_till, of_row}
 use Rattle.sms_book.specs.Money.{CanMove, FitsMove, moved_row, moved_amounts, topped_up}
 use Rattle.sms_book.specs.Rule.{away}
-use Rattle.sms_book.specs.Sums.{IsSmall, Balanced}
-use Rattle.sms_book.proofs.Totals.{MovesWith, balanced_set, entry_at_most}
+use Rattle.sms_book.specs.Sums.{IsSmall, AreSound, AddUp, IsTotal, MovesBy, MoveBy}
+use Rattle.sms_book.proofs.Totals.{no_move, moved_at, sound_set, entry_at_most}
+
+row_total : (rows : List Row) (i : ℕ) → i < length rows → portion_at (map of_row rows) i ≡ of_row (row_at rows i)
+row_total rows i low = get_or-map of_row rows i no_row nothing low
 
 -- a holder has no more than the row
 pub record Within (a : Portion) (r : Row) : Type 0 where
@@ -22,9 +25,9 @@ pub record Within (a : Portion) (r : Row) : Type 0 where
   pub charged : a.charged ≤ r.charged
   pub returned : a.returned ≤ r.returned
 
-pub within_row : (rows : List Row) (account : ℕ) (es : List Entry) (k : ℕ) (ps : List Portion) → account < length rows → slice_get es k ≡ Some (away ps) → Balanced rows es → Within (portion_at ps account) (row_at rows account)
-within_row rows account es k ps within entry all =
-    let was = all account within in
+pub within_row : (rows : List Row) (account : ℕ) (es : List Entry) (k : ℕ) (ps : List Portion) → account < length rows → slice_get es k ≡ Some (away ps) → AddUp (map of_row rows) es → Within (portion_at ps account) (row_at rows account)
+within_row rows account es k ps within entry sums =
+    let was : IsTotal (of_row (row_at rows account)) account es = subst (λ (p : Portion). IsTotal p account es) (row_total rows account within) (sums account) in
     record {
       topped = let e = entry_at_most (λ x. x.topped) account es k ps entry in let w = was.topped in omega arith;
       reserved = let e = entry_at_most (λ x. x.reserved) account es k ps entry in let w = was.reserved in omega arith;
@@ -46,64 +49,77 @@ can_turn Charge n r a can holds part law small =
 can_turn GiveBack n r a can holds part law small =
     let h : n ≤ a.reserved = holds (λ e. cc) in let p = part.reserved in let q = part.returned in ((omega arith, omega arith, omega arith), (h, omega arith))
 
-turned : (what : Move) (n : ℕ) (r : Row) (a : Amounts) → CanMove what n r → FitsMove what n a → IsBalanced r → IsSmall r → MovesWith r (of_worker a) (moved_row what n r) (of_worker (moved_amounts what n a))
-turned Reserve n r a can fits law small = record { topped = omega arith; reserved = omega arith; charged = omega arith; returned = omega arith; balanced = omega arith; small = (omega arith, omega arith) }
-turned Charge n r a can fits law small = record { topped = omega arith; reserved = omega arith; charged = omega arith; returned = omega arith; balanced = omega arith; small = (omega arith, omega arith) }
-turned GiveBack n r a can fits law small = record { topped = omega arith; reserved = omega arith; charged = omega arith; returned = omega arith; balanced = omega arith; small = (omega arith, omega arith) }
+turned : (what : Move) (n : ℕ) (r : Row) (a : Amounts) → CanMove what n r → FitsMove what n a → IsBalanced r → IsSmall r → MovesBy (of_worker a) (of_worker (moved_amounts what n a)) (of_row r) (of_row (moved_row what n r)) × IsBalanced (moved_row what n r) × IsSmall (moved_row what n r)
+turned Reserve n r a can fits law small = (record { topped = omega arith; reserved = omega arith; charged = omega arith; returned = omega arith }, omega arith, (omega arith, omega arith))
+turned Charge n r a can fits law small = (record { topped = omega arith; reserved = omega arith; charged = omega arith; returned = omega arith }, omega arith, (omega arith, omega arith))
+turned GiveBack n r a can fits law small = (record { topped = omega arith; reserved = omega arith; charged = omega arith; returned = omega arith }, omega arith, (omega arith, omega arith))
+
+-- an account's row and a holder's portion of it change together
+change_of : (rows : List Row) (account : ℕ) (a : List Portion) (r : Row) (x : Portion) → account < length rows → length a ≡ length rows → MovesBy (portion_at a account) x (of_row (row_at rows account)) (of_row r)
+    → MoveBy a (set a account x) (map of_row rows) (map of_row (set rows account r))
+change_of rows account a r x within wide by =
+    subst (λ (l : List Portion). MoveBy a (set a account x) (map of_row rows) l) (sym (map-set of_row rows account r))
+    (moved_at a (map of_row rows) account x (of_row r) (omega arith) (let l = length-map rows of_row in omega arith) (rw (row_total rows account within) by))
 
 -- a worker's call, where the book's entry of the share is known
 pub settled : (rows : List Row) (account : ℕ) (es : List Entry) (k : ℕ) (a : List Amounts) (r : Row) (h : Amounts) (what : Move) (n : ℕ)
-    → account < length rows → length a ≡ length rows → slice_get es k ≡ Some (away (map of_worker a)) → Balanced rows es → r ≡ slice_index_or rows account r → h ≡ slice_index_or a account h
+    → account < length rows → length a ≡ length rows → slice_get es k ≡ Some (away (map of_worker a)) → AddUp (map of_row rows) es → AreSound rows → r ≡ slice_index_or rows account r → h ≡ slice_index_or a account h
     → (what ≡ Reserve → CanMove what n (row_at rows account)) → (what ≢ Reserve → n ≤ (amounts_at a account).reserved)
-    → CanMove what n r × FitsMove what n h × Balanced (set rows account (moved_row what n r)) (set es k (away (map of_worker (set a account (moved_amounts what n h)))))
-settled rows account es k a r h what n within wide entry all is-r is-h can holds =
+    → CanMove what n r × FitsMove what n h × AreSound (set rows account (moved_row what n r))
+    × MoveBy (map of_worker a) (map of_worker (set a account (moved_amounts what n h))) (map of_row rows) (map of_row (set rows account (moved_row what n r)))
+settled rows account es k a r h what n within wide entry sums sound is-r is-h can holds =
     let row : r ≡ row_at rows account = get_or_read rows account r within is-r no_row in
     let had : h ≡ amounts_at a account = get_or_read a account h (omega arith) is-h no_amounts in
-    let was = all account within in
     let at : portion_at (map of_worker a) account ≡ of_worker h = worker_at a account (omega arith) ∙ ap of_worker (sym had) in
-    let part : Within (of_worker h) r = subst (λ (x : Portion × Row). Within x.0 x.1) (λ i. (at i, sym row i)) (within_row rows account es k (map of_worker a) within entry all) in
-    let law : IsBalanced r = rw row was.balanced in
-    let small : IsSmall r = rw row was.small in
-    let both = can_turn what n r h (rw row can) (rw had holds) part law small in
-    let moves : MovesWith (row_at rows account) (portion_at (map of_worker a) account) (moved_row what n r) (of_worker (moved_amounts what n h)) =
-    subst (λ (x : Row × Portion). MovesWith x.0 x.1 (moved_row what n r) (of_worker (moved_amounts what n h))) (λ i. (row i, sym at i)) (turned what n r h both.0 both.1 law small) in (
+    let part : Within (of_worker h) r = subst (λ (x : Portion × Row). Within x.0 x.1) (λ i. (at i, sym row i)) (within_row rows account es k (map of_worker a) within entry sums) in
+    let law : IsBalanced r × IsSmall r = rw row (sound account within) in
+    let both = can_turn what n r h (rw row can) (rw had holds) part law.0 law.1 in
+    let moves = turned what n r h both.0 both.1 law.0 law.1 in
+    let by : MovesBy (portion_at (map of_worker a) account) (of_worker (moved_amounts what n h)) (of_row (row_at rows account)) (of_row (moved_row what n r)) =
+    subst (λ (x : Portion × Row). MovesBy x.0 (of_worker (moved_amounts what n h)) (of_row x.1) (of_row (moved_row what n r))) (λ i. (sym at i, row i)) moves.0 in (
       both.0,
       both.1,
-      subst (λ (l : List Portion). Balanced (set rows account (moved_row what n r)) (set es k (away l))) (sym (map-set of_worker a account (moved_amounts what n h)))
-          (balanced_set rows account (moved_row what n r) es k (map of_worker a) (of_worker (moved_amounts what n h)) within (length-map a of_worker ∙ wide) entry moves all),
+      sound_set rows account (moved_row what n r) within sound moves.1 moves.2,
+      subst (λ (l : List Portion). MoveBy (map of_worker a) l (map of_row rows) (map of_row (set rows account (moved_row what n r)))) (sym (map-set of_worker a account (moved_amounts what n h)))
+          (change_of rows account (map of_worker a) (moved_row what n r) (of_worker (moved_amounts what n h)) within (length-map a of_worker ∙ wide) by),
     )
 
-topped_with : (n : ℕ) (r : Row) (t : ℕ) → r.topped + n ≤ 2 ^ 40 → IsBalanced r → IsSmall r → MovesWith r (of_till t) (topped_up n r) (of_till (t + n))
-topped_with n r t can law small = record { topped = omega arith; reserved = omega arith; charged = omega arith; returned = omega arith; balanced = omega arith; small = (omega arith, omega arith) }
+topped_with : (n : ℕ) (r : Row) (t : ℕ) → r.topped + n ≤ 2 ^ 40 → IsBalanced r → IsSmall r → MovesBy (of_till t) (of_till (t + n)) (of_row r) (of_row (topped_up n r)) × IsBalanced (topped_up n r) × IsSmall (topped_up n r)
+topped_with n r t can law small = (record { topped = omega arith; reserved = omega arith; charged = omega arith; returned = omega arith }, omega arith, (omega arith, omega arith))
 
 -- a top-up, where the book's entry of the till is known
 pub topped : (rows : List Row) (account : ℕ) (es : List Entry) (k : ℕ) (t : List ℕ) (r : Row) (h : ℕ) (n : ℕ)
-    → account < length rows → length t ≡ length rows → slice_get es k ≡ Some (away (map of_till t)) → Balanced rows es → r ≡ slice_index_or rows account r → h ≡ slice_index_or t account h
+    → account < length rows → length t ≡ length rows → slice_get es k ≡ Some (away (map of_till t)) → AddUp (map of_row rows) es → AreSound rows → r ≡ slice_index_or rows account r → h ≡ slice_index_or t account h
     → (row_at rows account).topped + n ≤ 2 ^ 40
-    → (r.topped + n ≤ 2 ^ 40) × (r.free + n ≤ 2 ^ 40) × (h + n ≤ 2 ^ 40) × Balanced (set rows account (topped_up n r)) (set es k (away (map of_till (set t account (h + n)))))
-topped rows account es k t r h n within wide entry all is-r is-h can =
+    → (r.topped + n ≤ 2 ^ 40) × (r.free + n ≤ 2 ^ 40) × (h + n ≤ 2 ^ 40) × AreSound (set rows account (topped_up n r))
+    × MoveBy (map of_till t) (map of_till (set t account (h + n))) (map of_row rows) (map of_row (set rows account (topped_up n r)))
+topped rows account es k t r h n within wide entry sums sound is-r is-h can =
     let row : r ≡ row_at rows account = get_or_read rows account r within is-r no_row in
     let had : h ≡ topped_at t account = get_or_read t account h (omega arith) is-h 0 in
-    let was = all account within in
     let at : portion_at (map of_till t) account ≡ of_till h = till_at t account (omega arith) ∙ ap of_till (sym had) in
-    let part : Within (of_till h) r = subst (λ (x : Portion × Row). Within x.0 x.1) (λ i. (at i, sym row i)) (within_row rows account es k (map of_till t) within entry all) in
-    let law : IsBalanced r = rw row was.balanced in
-    let small : IsSmall r = rw row was.small in
+    let part : Within (of_till h) r = subst (λ (x : Portion × Row). Within x.0 x.1) (λ i. (at i, sym row i)) (within_row rows account es k (map of_till t) within entry sums) in
+    let law : IsBalanced r × IsSmall r = rw row (sound account within) in
     let can' : r.topped + n ≤ 2 ^ 40 = rw row can in
-    let moves : MovesWith (row_at rows account) (portion_at (map of_till t) account) (topped_up n r) (of_till (h + n)) =
-    subst (λ (x : Row × Portion). MovesWith x.0 x.1 (topped_up n r) (of_till (h + n))) (λ i. (row i, sym at i)) (topped_with n r h can' law small) in (
+    let moves = topped_with n r h can' law.0 law.1 in
+    let by : MovesBy (portion_at (map of_till t) account) (of_till (h + n)) (of_row (row_at rows account)) (of_row (topped_up n r)) =
+    subst (λ (x : Portion × Row). MovesBy x.0 (of_till (h + n)) (of_row x.1) (of_row (topped_up n r))) (λ i. (sym at i, row i)) moves.0 in (
       can',
-      (let p = law in omega arith),
+      (let p = law.0 in omega arith),
       (let p = part.topped in omega arith),
-      subst (λ (l : List Portion). Balanced (set rows account (topped_up n r)) (set es k (away l))) (sym (map-set of_till t account (h + n)))
-          (balanced_set rows account (topped_up n r) es k (map of_till t) (of_till (h + n)) within (length-map t of_till ∙ wide) entry moves all),
+      sound_set rows account (topped_up n r) within sound moves.1 moves.2,
+      subst (λ (l : List Portion). MoveBy (map of_till t) l (map of_row rows) (map of_row (set rows account (topped_up n r)))) (sym (map-set of_till t account (h + n)))
+          (change_of rows account (map of_till t) (topped_up n r) (of_till (h + n)) within (length-map t of_till ∙ wide) by),
     )
 
 -- what a look tells
-pub seen_row : (rows : List Row) (account : ℕ) (es : List Entry) (k : ℕ) (a : List Amounts) (r : Row) → account < length rows → length a ≡ length rows → slice_get es k ≡ Some (away (map of_worker a)) → Balanced rows es → r ≡ slice_index_or rows account r
+pub seen_row : (rows : List Row) (account : ℕ) (es : List Entry) (k : ℕ) (a : List Amounts) (r : Row) → account < length rows → length a ≡ length rows → slice_get es k ≡ Some (away (map of_worker a)) → AddUp (map of_row rows) es → r ≡ slice_index_or rows account r
     → ((amounts_at a account).reserved ≤ r.reserved) × ((amounts_at a account).charged ≤ r.charged) × ((amounts_at a account).returned ≤ r.returned)
-seen_row rows account es k a r within wide entry all is-r =
+seen_row rows account es k a r within wide entry sums is-r =
     let row : r ≡ row_at rows account = get_or_read rows account r within is-r no_row in
     let at : portion_at (map of_worker a) account ≡ of_worker (amounts_at a account) = worker_at a account (omega arith) in
-    let part : Within (of_worker (amounts_at a account)) r = subst (λ (x : Portion × Row). Within x.0 x.1) (λ i. (at i, sym row i)) (within_row rows account es k (map of_worker a) within entry all) in
+    let part : Within (of_worker (amounts_at a account)) r = subst (λ (x : Portion × Row). Within x.0 x.1) (λ i. (at i, sym row i)) (within_row rows account es k (map of_worker a) within entry sums) in
     (part.reserved, part.charged, part.returned)
+
+-- a look moves nothing
+pub still : (a : List Portion) (ts : List Portion) → MoveBy a a ts ts
+still a ts = (refl, λ i. no_move (portion_at a i) (portion_at ts i))

@@ -34,3 +34,7 @@ of_worker a = record { topped = 0; reserved = a.reserved; charged = a.charged; r
 
 abbrev pub of_till : ℕ → Portion
 of_till topped = record { topped = topped; reserved = 0; charged = 0; returned = 0 }
+
+-- an account's row without its free credits: what all holders together have of it
+abbrev pub of_row : Row → Portion
+of_row r = record { topped = r.topped; reserved = r.reserved; charged = r.charged; returned = r.returned }

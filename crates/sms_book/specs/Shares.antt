@@ -15,8 +15,8 @@ pub record Share : Type 0 where
 abbrev pub number_of : List View → ℕ
 number_of [] = 0
 number_of (Holder k ps ∷ vs) = k
-number_of (Book es ∷ vs) = 0
-number_of (Lent es k ps ∷ vs) = 0
+number_of (Book es ts ∷ vs) = 0
+number_of (Lent es ts k ps ∷ vs) = 0
 number_of (Spent ∷ vs) = 0
 
 -- the share after what it has of an account changed

@@ -22,17 +22,31 @@ over_shares f i (s ∷ shares) = f (amounts_at s.amounts i) + over_shares f i sh
 abbrev pub IsSmall : Row → Type 0
 IsSmall r = (r.topped ≤ 2 ^ 40) × (r.returned + r.reserved ≤ 2 ^ 60)
 
--- an account's row balances, and each of its totals is the sum over the entries
-pub record Adds (r : Row) (i : ℕ) (es : List Entry) : Type 0 where
-  pub topped : r.topped ≡ total (λ p. p.topped) i es
-  pub reserved : r.reserved ≡ total (λ p. p.reserved) i es
-  pub charged : r.charged ≡ total (λ p. p.charged) i es
-  pub returned : r.returned ≡ total (λ p. p.returned) i es
-  pub balanced : IsBalanced r
-  pub small : IsSmall r
+-- each row balances, within its bounds
+abbrev pub AreSound : List Row → Type 0
+AreSound rows = (i : ℕ) → i < length rows → IsBalanced (row_at rows i) × IsSmall (row_at rows i)
 
-abbrev pub Balanced : List Row → List Entry → Type 0
-Balanced rows es = (i : ℕ) → i < length rows → Adds (row_at rows i) i es
+-- an account's total is the sum over the entries
+pub record IsTotal (t : Portion) (i : ℕ) (es : List Entry) : Type 0 where
+  pub topped : t.topped ≡ total (λ p. p.topped) i es
+  pub reserved : t.reserved ≡ total (λ p. p.reserved) i es
+  pub charged : t.charged ≡ total (λ p. p.charged) i es
+  pub returned : t.returned ≡ total (λ p. p.returned) i es
+
+-- so is each account's
+abbrev pub AddUp : List Portion → List Entry → Type 0
+AddUp totals es = (i : ℕ) → IsTotal (portion_at totals i) i es
+
+-- a holder's portion of an account changes, and the account's total by as much
+pub record MovesBy (had new : Portion) (was is : Portion) : Type 0 where
+  pub topped : is.topped + had.topped ≡ was.topped + new.topped
+  pub reserved : is.reserved + had.reserved ≡ was.reserved + new.reserved
+  pub charged : is.charged + had.charged ≡ was.charged + new.charged
+  pub returned : is.returned + had.returned ≡ was.returned + new.returned
+
+-- so does each account's; there are as many totals as before
+abbrev pub MoveBy : List Portion → List Portion → List Portion → List Portion → Type 0
+MoveBy had new was is = (length is ≡ length was) × ((i : ℕ) → MovesBy (portion_at had i) (portion_at new i) (portion_at was i) (portion_at is i))
 
 -- a gathered row balances; its top-ups are the till's, and its other totals the sums over the workers' shares
 pub record IsSumOf (r : Row) (i : ℕ) (till : List ℕ) (shares : List Share) : Type 0 where

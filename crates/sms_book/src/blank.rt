@@ -35,8 +35,7 @@ pub struct Blank {
 impl Model for Blank {
     ghost use Rattle.std.specs.Prelude.{◌≡◌, ◌<◌, ◌≤◌, ◌^◌, [], ◌∷◌, length};
     ghost use Rattle.sms_book.specs.Name.{Unopened};
-    ghost use Rattle.sms_book.specs.declared.rule.View.TheVariants.{Book as BookView};
-    ghost use Rattle.sms_book.specs.Rule.{opening_entries};
+    ghost use Rattle.sms_book.specs.Rule.{new_book};
     ghost use Rattle.sms_book.specs.Openings.{AllSmall};
 
     ghost Value = { Unopened };
@@ -44,7 +43,7 @@ impl Model for Blank {
     ghost view = { λ b. record { book = record { table = b.table.shared.table_id; accounts = length b.credits.items; workers = b.workers }; credits = b.credits.items } };
 
     ghost invariant = { λ b. (b.seat.table_id ≡ b.table.shared.table_id) × (0 < b.table.shared.table_id.words) × AllSmall b.credits.items × (b.workers ≤ 32)
-        × (b.seat.views ≡ BookView (opening_entries b.credits.items b.workers) ∷ []) };
+        × (b.seat.views ≡ new_book b.credits.items b.workers ∷ []) };
 }
 
 /// Makes the book's table, whose one seat has all numbers.

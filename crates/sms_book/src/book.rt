@@ -33,11 +33,12 @@ pub struct Book<N: BookName> {
 }
 
 impl<N: BookName> Model for Book<N> {
-    ghost use Rattle.std.specs.Prelude.{◌≡◌, ◌+◌, ◌<◌, List, [], ◌∷◌, length};
+    ghost use Rattle.std.specs.Prelude.{◌≡◌, ◌+◌, ◌<◌, List, [], ◌∷◌, length, map};
     ghost use Rattle.sms_core.specs.declared.row.Row.{Row};
     ghost use Rattle.sms_book.specs.declared.rule.Entry.{Entry};
     ghost use Rattle.sms_book.specs.declared.rule.View.TheVariants.{Book as BookView};
-    ghost use Rattle.sms_book.specs.Sums.{Balanced};
+    ghost use Rattle.sms_book.specs.Sums.{AreSound};
+    ghost use Rattle.sms_book.specs.Portions.{of_row};
     ghost use Rattle.sms_book.specs.Rule.{AllAway};
 
     ghost Value = { List Row };
@@ -45,8 +46,8 @@ impl<N: BookName> Model for Book<N> {
     ghost view = { λ b. b.rows.items };
 
     ghost invariant = { λ b. (b.table.shared.table_id ≡ N.book.table) × (0 < N.book.table.words) × (b.seat.table_id ≡ N.book.table)
-        × (length b.rows.items ≡ N.book.accounts) × (b.workers ≡ N.book.workers)
-        × ((es : List Entry) × (b.seat.views ≡ BookView es ∷ []) × Balanced b.rows.items es × AllAway es × (length es ≡ N.book.workers + 1)) };
+        × (length b.rows.items ≡ N.book.accounts) × (b.workers ≡ N.book.workers) × AreSound b.rows.items
+        × ((es : List Entry) × (b.seat.views ≡ BookView es (map of_row b.rows.items) ∷ []) × AllAway es × (length es ≡ N.book.workers + 1)) };
 }
 
 impl<N: BookName> Book<N> {
@@ -107,7 +108,7 @@ impl<N: BookName> Book<N> {
             ..row
         };
         topped[account] = had + n;
-        *theirs = part_till(table, seat, topped.as_slice());
+        *theirs = part_till(table, seat, rows.as_slice(), topped.as_slice());
     }
 
     /// Reserves free credits of an account.
@@ -192,7 +193,7 @@ impl<N: BookName> Book<N> {
         let had = amounts[account];
         rows[account] = row_after(row, what, n);
         amounts[account] = amounts_after(had, what, n);
-        *theirs = part_worker(table, seat, amounts.as_slice());
+        *theirs = part_worker(table, seat, rows.as_slice(), amounts.as_slice());
     }
 
     /// The account's row, where there is such an account. What the share has of it is part of the
@@ -228,7 +229,7 @@ impl<N: BookName> Book<N> {
         } = share;
         let table = &table.shared;
         meet(table, seat, theirs);
-        *theirs = part_worker(table, seat, amounts.as_slice());
+        *theirs = part_worker(table, seat, rows.as_slice(), amounts.as_slice());
         rows[account]
     }
 }

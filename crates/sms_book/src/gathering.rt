@@ -23,6 +23,7 @@ pub fn gather<N: BookName>(
 ) -> Result<Statement, (GatherFault, Book<N>, Till<N>, Vec<Shares<N>>)>
     ensures rows { IfOk result (λ s. s ≡ book) }
     ensures sums { IfOk result (λ s. (i : ℕ) → i < length s → IsSumOf (row_at s i) i till shares.items) }
+    ensures length { IfOk result (λ s. length s ≡ N.book.accounts) }
     ensures each { IfOk result (λ s. AreAll N.book.workers shares.items) }
     ensures missing { IsErr result ↔ ¬ (AreAll N.book.workers shares.items) }
     ensures back { IfErr result (λ e. (e.0 ≡ MissingShare) × (e.1 ≡ book) × (e.2 ≡ till) × (e.3.items ≡ shares.items)) }

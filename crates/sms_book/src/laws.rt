@@ -1,6 +1,6 @@
 //! What holds of every book, and of its table over every state that meets its rule and every run of
 //! steps.
-ghost use Rattle.sms_book.specs.Laws.{EachBalanced, RuleIsOrderly, OpeningMeetsRule, StepKeepsRule, RunIsOrderly, StepMovesTotals};
+ghost use Rattle.sms_book.specs.Laws.{EachBalanced, RuleIsOrderly, OpeningMeetsRule, StepKeepsRule, RunIsOrderly, StepMovesTotals, StepMovesBookTotals, OpeningSharesAreBlank};
 
 use crate::book::Book;
 use crate::name::BookName;
@@ -13,9 +13,10 @@ pub fn rows_balance<N: BookName>(book: &Book<N>)
     let _rows = &book.rows;
 }
 
-/// What the rule of a book's table says in plain terms: the book has an entry for each number that
-/// a seat holds, what that seat has is the entry, no two seats hold one number, and a number that
-/// isn't with the book has a holder.
+/// What the rule of a book's table says in plain terms: the book is there, with an entry for the
+/// till and for each worker, and each of its totals is the sum over its entries; it has an entry for
+/// each number that a seat holds, what that seat has is the entry, no two seats hold one number, and
+/// a number that isn't with the book has a holder.
 pub fn rule_is_orderly()
     ensures { RuleIsOrderly }
 {}
@@ -30,8 +31,7 @@ pub fn step_keeps_rule()
     ensures { StepKeepsRule }
 {}
 
-/// So it holds after every run of steps from a new table, which has an entry for the till and for
-/// each worker throughout.
+/// So it holds after every run of steps from a new table.
 pub fn run_is_orderly()
     ensures { RunIsOrderly }
 {}
@@ -40,4 +40,15 @@ pub fn run_is_orderly()
 /// as what its holder has of the account changes.
 pub fn step_moves_totals()
     ensures { StepMovesTotals }
+{}
+
+/// The totals that the book's seat has change with them, each by as much.
+pub fn step_moves_book_totals()
+    ensures { StepMovesBookTotals }
+{}
+
+/// The shares with which a book opens have the numbers from 1 to the workers' count, and nothing of
+/// any account.
+pub fn opening_shares_are_blank()
+    ensures { OpeningSharesAreBlank }
 {}

@@ -20,12 +20,12 @@ pub struct Entry {
     pub portions: LinkedList<Portion>,
 }
 
-/// What a seat knows: the book's has all entries, and while it is lent a number whose it is; a
-/// holder's has its number and a copy of its entry. The till has the number 0, the workers those
-/// from 1 on.
+/// What a seat knows: the book's has all entries and the totals by account, and while it is lent a
+/// number whose it is; a holder's has its number and a copy of its entry. The till has the number
+/// 0, the workers those from 1 on.
 pub enum View {
-    Book(LinkedList<Entry>),
-    Lent(LinkedList<Entry>, usize, LinkedList<Portion>),
+    Book(LinkedList<Entry>, LinkedList<Portion>),
+    Lent(LinkedList<Entry>, LinkedList<Portion>, usize, LinkedList<Portion>),
     Holder(usize, LinkedList<Portion>),
     Spent,
 }
@@ -40,9 +40,10 @@ pub struct Opened {
 pub struct BookRule;
 
 impl TableRule<(), View, Opened> for BookRule {
+    ghost use Rattle.std.specs.Prelude.{length};
     ghost use Rattle.sms_book.specs.Rule.{Kept, opened};
 
-    ghost holds = { λ about s. Kept s };
+    ghost holds = { λ about s. Kept (length about.credits.items) about.workers s };
 
     ghost first = { λ about. opened about };
 }
@@ -58,7 +59,8 @@ impl Join<View> for TakesIn {
     ghost spent = { spent };
 }
 
-/// A look at the table that changes nothing. It tells that what the holder had is its entry.
+/// A look at the table that changes nothing. It tells that what the holder had is its entry, and
+/// that each total is the sum over the entries.
 pub struct Tells;
 
 impl Play<(), View> for Tells {
@@ -76,27 +78,31 @@ impl Play<(), View> for Keeps {
     ghost then = { λ step v found w. KeptTold v w };
 }
 
-/// The portions that a holder has after a call, which the call picks.
+/// The portions that a holder has after a call and the totals then, which the call picks.
 pub trait Change {
     ghost use Rattle.std.specs.Prelude.{List};
     ghost use Rattle.sms_book.specs.declared.rule.Portion.{Portion};
 
     ghost portions: { List Portion };
+
+    ghost totals: { List Portion };
 }
 
 impl Change for Brand {
     ghost use Rattle.std.specs.Prelude.{[]};
 
     ghost portions = { [] };
+
+    ghost totals = { [] };
 }
 
-/// The number that was lent goes out again, with the portions that the call picks.
+/// The number that was lent goes out again, with the portions and the totals that the call picks.
 pub struct GivesBack<C>(PhantomData<C>);
 
 impl<C: Change> Split<View> for GivesBack<C> {
     ghost use Rattle.sms_book.specs.Rule.{left_after, right_after};
 
-    ghost left = { λ v. left_after C.portions v };
+    ghost left = { λ v. left_after C.portions C.totals v };
 
     ghost right = { λ v. right_after C.portions v };
 }

@@ -1,5 +1,5 @@
 //! A worker's share of a book.
-ghost use Rattle.std.specs.Prelude.{◌≡◌};
+ghost use Rattle.std.specs.Prelude.{◌≡◌, length};
 ghost use Rattle.sms_book.specs.Portions.{amounts_at};
 
 use crate::amounts::Amounts;
@@ -31,6 +31,14 @@ impl<N: BookName> Model for Shares<N> {
 }
 
 impl<N: BookName> Shares<N> {
+    /// How many accounts the book has.
+    pub fn accounts(&self) -> usize
+        ensures share { result ≡ length self.now.amounts }
+        ensures book { result ≡ N.book.accounts }
+    {
+        self.amounts.len()
+    }
+
     /// The credits of an account that this share holds reserved; 0 where there is no such account.
     pub fn reserved(&self, account: usize) -> u64
         ensures { result ≡ (amounts_at self.now.amounts account).reserved }

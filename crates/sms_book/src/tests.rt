@@ -74,6 +74,7 @@ fn moves<N: BookName>(rt: &impl Abort, alloc: Global, blank: Blank) -> Result<()
     book.top_up(&mut till, 0, 5)?;
     book.reserve(&mut share, 0, 2)?;
     assert!(rt; share.reserved(0) == 2 && share.reserved(1) == 0);
+    assert_eq!(rt; share.accounts(), 1);
     book.charge(&mut share, 0, 1);
     let row = row_of([5, 3, 1, 1, 0]);
     assert!(rt; book.look(&mut share, 0) == Some(row) && book.look(&mut share, 1) == None);

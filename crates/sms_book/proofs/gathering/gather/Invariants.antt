@@ -2,6 +2,7 @@ use Rattle.std.proofs.Common.{◌≡◌, ◌+◌, ◌++◌, List, [], ◌∷◌,
 use Rattle.std.specs.Vec.Iter.{into_iter_items}
 use Rattle.sms_book.specs.declared.rule.Entry.{Entry}
 use Rattle.sms_book.specs.declared.rule.View.TheVariants.{Book}
+use Rattle.sms_book.specs.Portions.{of_row}
 use Rattle.sms_book.specs.Shares.{Share}
 use Rattle.sms_book.proofs.Returned.{AreBack}
 use Rattle.sms_book.proofs.Sums.{Gathered, back}
@@ -9,5 +10,5 @@ use Rattle.sms_book.proofs.gathering.gather.Given as goal
 
 abbrev pub invariant-loop-share : goal.invariant-loop-share
 invariant-loop-share g l =
-    (es : List Entry) × (done : List Share) × (l.seat.views ≡ Book es ∷ []) × (l.seat.table_id ≡ g.N.BookName.book.table)
-    × (done ++ into_iter_items l.share-iterator ≡ l.fn.shares.items) × Gathered l.rows.items (g.N.BookName.book.workers + 1) es (back l.fn.till done) × AreBack es (0 ∷ map (λ s. s.number) done)
+    (es : List Entry) × (done : List Share) × (l.seat.views ≡ Book es (map of_row l.rows.items) ∷ []) × (l.seat.table_id ≡ g.N.BookName.book.table)
+    × (done ++ into_iter_items l.share-iterator ≡ l.fn.shares.items) × Gathered (map of_row l.rows.items) (g.N.BookName.book.workers + 1) es (back l.fn.till done) × AreBack es (0 ∷ map (λ s. s.number) done)

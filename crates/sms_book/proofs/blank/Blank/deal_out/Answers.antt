@@ -2,29 +2,28 @@ use Rattle.std.proofs.Common.{◌≡◌, ℕ, suc, ◌+◌, ◌<◌, ◌≤◌, 
 use Rattle.std.specs.Prelude.{slice_get, slice_set}
 use Rattle.std.specs.Vec.Iter.{into_iter_items}
 use Rattle.std.proofs.lemmas.List.{length-replicate, length-map}
-use Rattle.sms_core.specs.declared.row.Row.{Row}
 use Rattle.sms_book.specs.declared.rule.Portion.{Portion}
 use Rattle.sms_book.specs.declared.rule.Entry.{Entry}
 use Rattle.sms_book.specs.declared.rule.View.TheVariants.{Book, Holder}
 use Rattle.sms_book.specs.Name.{BookId, Unopened}
-use Rattle.sms_book.specs.Portions.{no_amounts, nothing, of_till, of_worker}
+use Rattle.sms_book.specs.Portions.{no_amounts, nothing, of_till, of_worker, of_row}
 use Rattle.sms_book.specs.Shares.{number_of, opening_shares}
 use Rattle.sms_book.specs.Openings.{opening_row}
 use Rattle.sms_book.specs.Rule.{opening_entries, at_home, away}
-use Rattle.sms_book.specs.Sums.{Balanced}
-use Rattle.sms_book.proofs.Dealing.{dealt, get_dealt, set_dealt, length-dealt, AllAway-dealt, balanced-opening, next_equal, all_taken, shares_push, worker_home, workers-nothing}
+use Rattle.sms_book.specs.Sums.{AreSound}
+use Rattle.sms_book.proofs.Dealing.{dealt, get_dealt, set_dealt, length-dealt, AllAway-dealt, sound-opening, totals-opening, next_equal, all_taken, shares_push, worker_home, workers-nothing}
 use Rattle.sms_book.proofs.blank.Blank.deal_out.Goals as goal
 
 pub deal-tills-requires-clause-here : goal.deal-tills-requires-clause-here
 deal-tills-requires-clause-here g c =
     let i = c.self.invariant in
-    (opening_entries c.self.inside.credits.items c.self.inside.workers, map of_till c.self.inside.credits.items, i.4, refl)
+    (opening_entries c.self.inside.credits.items c.self.inside.workers, map of_till c.self.inside.credits.items, map of_till c.self.inside.credits.items, i.4, refl)
 
 pub loop-amounts-init : goal.loop-amounts-init
 loop-amounts-init g c =
     let i = c.self.invariant in
     let s = c.self.inside in
-    let d = c.deal-tills.ensures.views (opening_entries s.credits.items s.workers) (map of_till s.credits.items) i.4 refl in
+    let d = c.deal-tills.ensures.views (opening_entries s.credits.items s.workers) (map of_till s.credits.items) (map of_till s.credits.items) i.4 refl in
     record {
       seat = d.0;
       table = c.deal-tills.ensures.table.0 ∙ i.0;
@@ -46,7 +45,7 @@ deal-theirs-requires-clause-here g c =
     let one : l.number + 1 ≡ suc l.number = omega arith in
     let es = opening_entries s.credits.items s.workers in
     let ps = replicate (length s.credits.items) nothing in
-    (dealt (suc l.number) es, ps, i.seat, subst (λ (j : ℕ). slice_get (dealt (suc l.number) es) j ≡ Some (at_home ps)) (sym one) (get_dealt (suc l.number) es ps (worker_home s.credits.items s.workers l.number low)))
+    (dealt (suc l.number) es, map of_till s.credits.items, ps, i.seat, subst (λ (j : ℕ). slice_get (dealt (suc l.number) es) j ≡ Some (at_home ps)) (sym one) (get_dealt (suc l.number) es ps (worker_home s.credits.items s.workers l.number low)))
 
 pub push_reserved-requires : goal.push_reserved-requires
 push_reserved-requires g c =
@@ -73,7 +72,7 @@ invariant_of-push_reserved g c =
     let es = opening_entries s.credits.items s.workers in
     let ps = replicate (length s.credits.items) nothing in
     let home = subst (λ (j : ℕ). slice_get (dealt (suc l.number) es) j ≡ Some (at_home ps)) (sym one) (get_dealt (suc l.number) es ps (worker_home s.credits.items s.workers l.number low)) in
-    let d = c.deal-theirs.ensures.views (dealt (suc l.number) es) ps i.seat home in (
+    let d = c.deal-theirs.ensures.views (dealt (suc l.number) es) (map of_till s.credits.items) ps i.seat home in (
       c.deal-theirs.ensures.table.1 ∙ i.table ∙ ap (λ (b : BookId). b.table) name,
       ap length mid.0 ∙ length-replicate (length s.credits.items) no_amounts ∙ ap (λ (b : BookId). b.accounts) name,
       (l.number + 1, d.1 ∙ ap (λ (x : List Portion). Holder (l.number + 1) x ∷ []) (sym (ap (map of_worker) mid.0 ∙ workers-nothing (length s.credits.items)))),
@@ -92,11 +91,11 @@ loop-amounts-preserved g c =
     let ps = replicate (length s.credits.items) nothing in
     let there = get_dealt (suc l.number) es ps (worker_home s.credits.items s.workers l.number low) in
     let home = subst (λ (j : ℕ). slice_get (dealt (suc l.number) es) j ≡ Some (at_home ps)) (sym one) there in
-    let d = c.deal-theirs.ensures.views (dealt (suc l.number) es) ps i.seat home in
+    let d = c.deal-theirs.ensures.views (dealt (suc l.number) es) (map of_till s.credits.items) ps i.seat home in
     let after : slice_set (dealt (suc l.number) es) (l.number + 1) (away ps) ≡ dealt (suc (l.number + 1)) es =
     ap (λ (j : ℕ). set (dealt (suc l.number) es) j (away ps)) one ∙ set_dealt (suc l.number) es ps (worker_home s.credits.items s.workers l.number low) ∙ ap (λ (j : ℕ). dealt (suc j) es) (sym one) in
     record {
-      seat = d.0 ∙ ap (λ (x : List Entry). Book x ∷ []) after;
+      seat = d.0 ∙ ap (λ (x : List Entry). Book x (map of_till s.credits.items) ∷ []) after;
       table = c.deal-theirs.ensures.table.0 ∙ i.table;
       number = c.push_reserved.ensures.len ∙ ap (λ (x : ℕ). x + 1) i.number;
       shares = c.push_reserved.ensures.items
@@ -125,10 +124,10 @@ invariant_of-book g c =
       j.table ∙ table,
       ap length rows ∙ length-map s.credits.items opening_row ∙ accounts,
       workers,
+      subst AreSound (sym rows) (sound-opening s.credits.items i.2),
       (
         dealt (suc l.number) es,
-        j.seat,
-        subst (λ (x : List Row). Balanced x (dealt (suc l.number) es)) (sym rows) (balanced-opening (suc l.number) s.credits.items s.workers i.2),
+        j.seat ∙ ap (λ (ts : List Portion). Book (dealt (suc l.number) es) ts ∷ []) (totals-opening s.credits.items ∙ ap (map of_row) (sym rows)),
         AllAway-dealt (suc l.number) es (omega arith),
         length-dealt (suc l.number) es ∙ long ∙ ap (λ (x : ℕ). x + 1) workers,
       ),
@@ -139,7 +138,7 @@ invariant_of-till g c =
     let i = c.self.invariant in
     let s = c.self.inside in
     let name : record { table = s.table.shared.table_id; accounts = length s.credits.items; workers = s.workers } ≡ g.N.BookName.book = ap (λ (u : Unopened). u.book) c.self.view_is ∙ c.requires.name in
-    let d = c.deal-tills.ensures.views (opening_entries s.credits.items s.workers) (map of_till s.credits.items) i.4 refl in
+    let d = c.deal-tills.ensures.views (opening_entries s.credits.items s.workers) (map of_till s.credits.items) (map of_till s.credits.items) i.4 refl in
     (c.deal-tills.ensures.table.1 ∙ i.0 ∙ ap (λ (b : BookId). b.table) name, ap (λ (b : BookId). b.accounts) name, d.1)
 
 pub returns-clause-shares : goal.returns-clause-shares
