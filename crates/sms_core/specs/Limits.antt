@@ -18,7 +18,7 @@ most_topped = 2 ^ 40
 
 -- the credits that a request costs
 abbrev pub largest_cost : ℕ
-largest_cost = 1
+largest_cost = 1000
 
 -- the greatest sequence number (SMPP 3.4 5.1.4)
 abbrev pub top_number : ℕ

@@ -47,10 +47,10 @@ fn row(topped: u64, free: u64, reserved: u64, charged: u64, returned: u64) -> Op
     })
 }
 
-fn state(attempts: u32, phase: Phase) -> Option<RequestState> {
+fn state(cost: u32, attempts: u32, phase: Phase) -> Option<RequestState> {
     Some(RequestState {
         account: 0,
-        cost: 1,
+        cost,
         attempts,
         phase,
     })
@@ -101,8 +101,8 @@ fn late_answer_changes_nothing(rt: HostRuntime) -> Result<(), Fail> {
     ];
     assert_eq!(rt; answers.as_slice(), wanted.as_slice());
     assert_eq!(rt; world.row(0), row(2, 0, 1, 1, 0));
-    assert_eq!(rt; world.request(1), state(1, Phase::Unanswered));
-    assert_eq!(rt; world.request(2), state(1, Phase::Charged));
+    assert_eq!(rt; world.request(1), state(1, 1, Phase::Unanswered));
+    assert_eq!(rt; world.request(2), state(1, 1, Phase::Charged));
     assert_eq!(rt; world.requests().len(), 2);
     assert_eq!(rt; world.holder(0), None);
     assert_eq!(rt; world.next(), 3);
@@ -130,7 +130,7 @@ fn answers_end_a_request_once(rt: HostRuntime) -> Result<(), Fail> {
         let wanted = [DONE, DONE, DONE, DONE, DONE, unknown, DONE, unknown];
         assert_eq!(rt; answers.as_slice(), wanted.as_slice());
         assert_eq!(rt; world.row(0), balance);
-        assert_eq!(rt; world.request(1), state(1, phase));
+        assert_eq!(rt; world.request(1), state(1, 1, phase));
         assert_eq!(rt; world.holder(0), Some(1));
         assert_eq!(rt; world.next(), 2);
     }
@@ -138,19 +138,35 @@ fn answers_end_a_request_once(rt: HostRuntime) -> Result<(), Fail> {
 }
 
 #[test]
-fn costs_discards_and_retries(rt: HostRuntime) -> Result<(), Fail> {
+fn a_cost_is_1_to_1_000(rt: HostRuntime) -> Result<(), Fail> {
+    let mut world = World::new(rt.alloc(), 1, 1, 1)?;
+    let answers = world.run(&[
+        top_up(0, 2_000),
+        reserve(1, 1_000),
+        reserve(2, 1_001),
+        reserve(3, 0),
+        reserve(4, 1_000),
+        reserve(5, 1),
+    ])?;
+    let bad = Step::Ignored(Cause::BadCost);
+    let wanted = [DONE, DONE, bad, bad, DONE, Step::Ignored(Cause::NoCredit)];
+    assert_eq!(rt; answers.as_slice(), wanted.as_slice());
+    assert_eq!(rt; world.row(0), row(2_000, 0, 2_000, 0, 0));
+    assert_eq!(rt; world.request(4), state(1_000, 0, Phase::Ready));
+    Ok(())
+}
+
+#[test]
+fn discards_and_retries(rt: HostRuntime) -> Result<(), Fail> {
     let mut world = World::new(rt.alloc(), 1, 1, 2)?;
-    assert_eq!(rt; world.step(top_up(0, 5))?, DONE);
-    assert_eq!(rt; world.step(reserve(1, 2))?, Step::Ignored(Cause::BadCost));
-    assert_eq!(rt; world.row(0), row(5, 5, 0, 0, 0));
     let discard = Event::Discard { request: 1 };
-    let answers = world.run(&[reserve(1, 1), discard, discard])?;
-    let wanted = [DONE, DONE, Step::Ignored(Cause::NoRequest)];
+    let answers = world.run(&[top_up(0, 5), reserve(1, 1), discard, discard])?;
+    let wanted = [DONE, DONE, DONE, Step::Ignored(Cause::NoRequest)];
     assert_eq!(rt; answers.as_slice(), wanted.as_slice());
     assert_eq!(rt; world.row(0), row(5, 5, 0, 0, 1));
-    assert_eq!(rt; world.request(1), state(0, Phase::Unsent));
+    assert_eq!(rt; world.request(1), state(1, 0, Phase::Unsent));
     let answers = world.run(&[
-        reserve(2, 1),
+        reserve(2, 3),
         claim(1),
         post(1, 2),
         respond(1, ESME_RTHROTTLED, false),
@@ -160,8 +176,8 @@ fn costs_discards_and_retries(rt: HostRuntime) -> Result<(), Fail> {
         settle(1),
     ])?;
     assert_eq!(rt; answers.as_slice(), [DONE; 8].as_slice());
-    assert_eq!(rt; world.row(0), row(5, 5, 0, 0, 2));
-    assert_eq!(rt; world.request(2), state(2, Phase::Refused));
+    assert_eq!(rt; world.row(0), row(5, 5, 0, 0, 4));
+    assert_eq!(rt; world.request(2), state(3, 2, Phase::Refused));
     assert_eq!(rt; world.next(), 3);
     for (status, nack, charge, retry) in [
         (0x00, false, true, false),

@@ -9,7 +9,7 @@ use std::process::Abort;
 use std::test::Fail;
 
 /// Schedules, and what a replay of each prints.
-const REPLAYED: [(&str, &str); 9] = [
+const REPLAYED: [(&str, &str); 10] = [
     // an empty world
     (
         "world,1,64,3",
@@ -40,10 +40,15 @@ const REPLAYED: [(&str, &str); 9] = [
         "world,1,1,3\ntopup,0,1\nreserve,1,0,1\nclaim,1,0\npost,1,0,1\nrespond,1,0,1\nrespond,1,0,0\nsettle,1,0\nrespond,1,0,0\n",
         "1 done\n2 done\n3 done\n4 done\n5 done\n6 ignored UnknownNumber\n7 done\n8 ignored UnknownNumber\naccount 0 topped 1 free 1 reserved 0 charged 0 returned 1\nrequest 1 account 0 cost 1 attempts 1 refused\nheld 0 by 1\nnext 2\n",
     ),
-    // a request costs one credit
+    // a request may cost two credits
     (
         "world,1,1,1\ntopup,0,5\nreserve,1,0,2\n",
-        "1 done\n2 ignored BadCost\naccount 0 topped 5 free 5 reserved 0 charged 0 returned 0\nheld none\nnext 1\n",
+        "1 done\n2 done\naccount 0 topped 5 free 3 reserved 2 charged 0 returned 0\nrequest 1 account 0 cost 2 attempts 0 ready\nheld none\nnext 1\n",
+    ),
+    // a cost is 1 to 1,000
+    (
+        "world,1,1,1\ntopup,0,2000\nreserve,1,0,1000\nreserve,2,0,1001\nreserve,3,0,0\nreserve,4,0,1000\nreserve,5,0,1\n",
+        "1 done\n2 done\n3 ignored BadCost\n4 ignored BadCost\n5 done\n6 ignored NoCredit\naccount 0 topped 2000 free 0 reserved 2000 charged 0 returned 0\nrequest 1 account 0 cost 1000 attempts 0 ready\nrequest 4 account 0 cost 1000 attempts 0 ready\nheld none\nnext 1\n",
     ),
     // a request is given up once
     (
