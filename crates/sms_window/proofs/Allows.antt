@@ -1,5 +1,5 @@
 -- Each kind of step keeps the rule, and tells what it tells.
-use Rattle.std.proofs.Common.{◌≡◌, ◌≢◌, ℕ, ◌+◌, ◌-◌, ◌^◌, ◌<◌, ◌≤◌, ◌==◌, true, false, refl, sym, ap, ◌∙◌, subst, arith, eq-eqb, ne_eqb}
+use Rattle.std.proofs.Common.{◌≡◌, ◌≢◌, ℕ, ◌+◌, ◌-◌, ◌^◌, ◌<◌, ◌≤◌, ◌==◌, true, false, refl, sym, ap, subst, arith, eq-eqb, ne_eqb}
 use Rattle.std.specs.Prelude.{slice_index, bit_and}
 use Rattle.std.specs.Int.{bit_at}
 use mathlib.Core.Logic.{dite}
@@ -7,6 +7,7 @@ use mathlib.Core.Option.{none, some}
 use native.Mathlib.Decide.{ℕ_discrete}
 use lib.ListN.{get_elem?}
 use prog.Atomic.{either}
+use Rattle.std.proofs.lemmas.Nat.{pow_below}
 use Rattle.std.proofs.lemmas.Nat.Bits.{bit_at-pow_same, bit_at-pow_other}
 use Rattle.atomic_table.specs.Table.{State, Me, step, keeps, stepped, Allows}
 use Rattle.sms_core.proofs.Bits.{clear_bit}
@@ -14,7 +15,7 @@ use Rattle.sms_window.specs.declared.view.View.{View}
 use Rattle.sms_window.specs.declared.view.Opening.{Opening}
 use Rattle.sms_window.specs.Rule.{IsWindow, pairs_of}
 use Rattle.sms_window.specs.Seats.{met_with, with_slots, seen_with, drawn_with, Holds}
-use Rattle.sms_window.specs.Steps.{HasMet, IsClaim, IsRelease, load_window, exchange_claim, exchange_release, load_number, exchange_draw}
+use Rattle.sms_window.specs.Steps.{HasMet, IsClaim, IsRelease, load_window, exchange_claim, fetch_release, load_number, exchange_draw}
 use Rattle.sms_window.proofs.Moves.{hold_set, met_seat, seen_seat, looked, claimed, released, drew, slot_in_word}
 
 pow_same : (k j : ℕ) → 2 ^ k ≡ 2 ^ j → k ≡ j
@@ -51,24 +52,22 @@ module _ {S : Type 0} (o : Opening) where
       let miss : (slice_index s.words 0 == old) ≡ false = ne_eqb (slice_index s.words 0) old ne in
       (met_with me.0 (slice_index s.words 0), keeps, tt, missed s r id me old new at ne, rw miss refl))
 
-  pub exchange_release_allows : (slots id : ℕ) (me : Me S View) (old new k : ℕ) → k < 64 → bit_at me.0.slots k ≡ 1 → new ≡ bit_and old (2 ^ 64 - 1 - 2 ^ k) → 0 < me.0.family
-      → Allows (IsWindow o) slots id me 0 (λ n. either (n == old) new n) (exchange_release (step slots 0 old new none) me)
-  exchange_release_allows slots id me old new k inside has is live s r len at small = dite (ℕ_discrete (slice_index s.words 0) old)
-      (λ e.
+  pub fetch_release_allows : (slots id : ℕ) (me : Me S View) (mask k : ℕ) → k < 64 → bit_at me.0.slots k ≡ 1 → mask ≡ 2 ^ 64 - 1 - 2 ^ k → 0 < me.0.family
+      → Allows (IsWindow o) slots id me 0 (λ n. bit_and n mask) (fetch_release (step slots 0 mask 0 none) me)
+  fetch_release_allows slots id me mask k inside has is live s r len at small =
       let v = me.0 in
+      let old = slice_index s.words 0 in
+      let new = bit_and old mask in
       let w = with_slots v (v.slots - 2 ^ k) new in
-      let cleared : (j : ℕ) → Holds v j → bit_and old (2 ^ 64 - 1 - 2 ^ j) + 2 ^ j ≡ old = λ j h. clear_bit old j h.0 (omega arith) (ap (λ (m : ℕ). bit_at m j) (sym e) ∙ slot_in_word o s r id v j at h.0 h.1) in
-      let mine = cleared k (inside, has) in
-      let d = released o s r id me.1 v k old new at inside has e (omega arith) live in
-      let told : (j : ℕ) → Holds v j → new ≡ bit_and old (2 ^ 64 - 1 - 2 ^ j) → ((w, me.1) ≡ (with_slots v (v.slots - 2 ^ j) new, me.1)) × IsRelease v j old w = λ j h sum.
-      let theirs = cleared j h in
+      let mine : bit_and old (2 ^ 64 - 1 - 2 ^ k) + 2 ^ k ≡ old = clear_bit old k inside small (slot_in_word o s r id v k at inside has) in
+      let masked : bit_and old mask ≡ bit_and old (2 ^ 64 - 1 - 2 ^ k) = ap (bit_and old) is in
+      let d = released o s r id me.1 v k old new at inside has refl (omega arith) live in
+      let told : (j : ℕ) → Holds v j → mask ≡ 2 ^ 64 - 1 - 2 ^ j → ((w, me.1) ≡ (with_slots v (v.slots - 2 ^ j) new, me.1)) × IsRelease v j old w = λ j h sum.
+      let mine_fits : 2 ^ k < 2 ^ 64 = pow_below k 64 inside in
+      let fits : 2 ^ j < 2 ^ 64 = pow_below j 64 h.0 in
       let same : k ≡ j = pow_same k j (omega arith) in
       (ap (λ (i : ℕ). (with_slots v (v.slots - 2 ^ i) new, me.1)) same, subst (λ (i : ℕ). IsRelease v i old w) same d.1) in
-      let hit : (slice_index s.words 0 == old) ≡ true = eq-eqb (slice_index s.words 0) old e in
-      (w, keeps, tt, subst (λ b. IsWindow o (stepped s 0 (either b new (slice_index s.words 0)) id me.1 w keeps)) (sym hit) d.0, rw hit told))
-      (λ ne.
-      let miss : (slice_index s.words 0 == old) ≡ false = ne_eqb (slice_index s.words 0) old ne in
-      (met_with me.0 (slice_index s.words 0), keeps, tt, missed s r id me old new at ne, rw miss refl))
+      (w, keeps, tt, d.0, told)
 
   pub load_number_allows : (slots id : ℕ) (me : Me S View) → Allows (IsWindow o) slots id me 1 (λ n. n) (load_number (step slots 1 0 0 none) me)
   load_number_allows slots id me s r len at small =

@@ -12,9 +12,9 @@ use native.Mathlib.Decide.{ℕ_discrete}
 use Rattle.atomic_table.specs.Table.{Me, step}
 use Rattle.sms_core.proofs.Bits.{bit_at_more, clear_bit}
 use Rattle.sms_window.specs.declared.view.View.{View}
-use Rattle.sms_window.specs.Seats.{met_with, with_slots, Holds}
-use Rattle.sms_window.specs.Steps.{IsClaim, IsRelease, exchange_claim, exchange_release}
-use Rattle.sms_window.specs.Outcome.{GotSlot, FreedSlot}
+use Rattle.sms_window.specs.Seats.{met_with, with_slots}
+use Rattle.sms_window.specs.Steps.{IsClaim, exchange_claim}
+use Rattle.sms_window.specs.Outcome.{GotSlot}
 
 -- `w | 1 << k`
 pub or_bit : (w k : ℕ) → k < 64 → w < 2 ^ 64 → bit_at w k ≡ 0 → (bit_or w (1 * 2 ^ k % 2 ^ 64) ≡ w + 2 ^ k) × (w + 2 ^ k < 2 ^ 64)
@@ -83,18 +83,3 @@ and_clear w k inside small has =
 
 pub mask_is : (k : ℕ) → k < 64 → 2 ^ 64 - 1 - 1 * 2 ^ k % 2 ^ 64 ≡ 2 ^ 64 - 1 - 2 ^ k
 mask_is k inside = ap (λ (m : ℕ). 2 ^ 64 - 1 - m) (one_shl k 64 inside)
-
-pub release_hit : {S : Type 0} (n : ℕ) (m0 m1 m2 : Me S View) (found slot now : ℕ) → m1 ≡ (met_with m0.0 found, m0.1) → exchange_release (step n 0 found (bit_and found (2 ^ 64 - 1 - 1 * 2 ^ slot % 2 ^ 64)) none) m1 now m2 → now ≡ found → Holds m0.0 slot
-    → FreedSlot m0.0 slot m2.0 × (m2.1 ≡ m0.1)
-release_hit {S} n m0 m1 m2 found slot now e told same h =
-    let t = subst (λ (m : Me S View). exchange_release (step n 0 found (bit_and found (2 ^ 64 - 1 - 1 * 2 ^ slot % 2 ^ 64)) none) m now m2) e told in
-    let r = hit _ _ now found same t slot h (ap (bit_and found) (mask_is slot h.0)) in
-    let is = ap (λ (m : Me S View). m.0) r.0 in
-    let met = ap (λ (m : Me S View). m.0.met) r.0 in
-    let d : IsRelease (met_with m0.0 found) slot found m2.0 = r.1 in (
-      record {
-        after = is ∙ (λ i. with_slots m0.0 (m0.0.slots - 2 ^ slot) (sym met i));
-        release = (found, record { old = d.old; new = d.new; before = record { lawful = d.before.lawful; word = d.before.word; own = d.before.own }; after = d.after; releases = d.releases });
-      },
-      ap (λ (m : Me S View). m.1) r.0,
-    )

@@ -6,8 +6,6 @@ use Rattle.sms_window.specs.declared.view.View.{View}
 use Rattle.sms_window.specs.declared.view.Opening.{Opening}
 use Rattle.sms_window.specs.declared.outcome.Claim.{Claim}
 use Rattle.sms_window.specs.declared.outcome.Claim.TheVariants.{Got, Full, Contended}
-use Rattle.sms_window.specs.declared.outcome.Freed.{Freed}
-use Rattle.sms_window.specs.declared.outcome.Freed.TheVariants.{Done, Contended as ReleaseContended}
 use Rattle.sms_window.specs.declared.outcome.Draw.{Draw}
 use Rattle.sms_window.specs.declared.outcome.Draw.TheVariants.{Number, UsedUp, Contended as DrawContended}
 use Rattle.sms_window.specs.declared.error.WindowError.{WindowError}
@@ -34,10 +32,6 @@ Claimed v (Contended found) w = w ≡ met_with v found
 pub record FreedSlot (v : View) (slot : ℕ) (w : View) : Type 0 where
   pub after : w ≡ with_slots v (v.slots - 2 ^ slot) w.met
   pub release : (word : ℕ) × IsRelease v slot word w
-
-abbrev pub Released : View → ℕ → Freed → View → Type 0
-Released v slot Done w = FreedSlot v slot w
-Released v slot (ReleaseContended found) w = w ≡ met_with v found
 
 -- the seat has the number too, by a draw; it is at least what the seat had seen
 pub record DrewNumber (v : View) (n : ℕ) (w : View) : Type 0 where

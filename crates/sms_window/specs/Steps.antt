@@ -60,12 +60,10 @@ module _ {S : Type 0} where
       ((me' ≡ (with_slots me.0 (me.0.slots + (st.second - st.first)) st.second, me.1)) × ((slot : ℕ) → slot < 64 → st.second ≡ st.first + 2 ^ slot → IsClaim me.0 slot st.first me'.0))
       (me' ≡ (met_with me.0 found, me.1))
 
-  -- the second operand is the first with one bit less, whose slot the seat held
-  abbrev pub exchange_release : Step S → Me S View → ℕ → Me S View → Type 0
-  exchange_release st me found me' =
-      MatchBool (found == st.first)
-      ((slot : ℕ) → Holds me.0 slot → st.second ≡ bit_and st.first (2 ^ 64 - 1 - 2 ^ slot) → (me' ≡ (with_slots me.0 (me.0.slots - 2 ^ slot) st.second, me.1)) × IsRelease me.0 slot st.first me'.0)
-      (me' ≡ (met_with me.0 found, me.1))
+  -- the operand has every bit but one, whose slot the seat held
+  abbrev pub fetch_release : Step S → Me S View → ℕ → Me S View → Type 0
+  fetch_release st me found me' =
+      (slot : ℕ) → Holds me.0 slot → st.first ≡ 2 ^ 64 - 1 - 2 ^ slot → (me' ≡ (with_slots me.0 (me.0.slots - 2 ^ slot) (bit_and found st.first), me.1)) × IsRelease me.0 slot found me'.0
 
   abbrev pub load_number : Step S → Me S View → ℕ → Me S View → Type 0
   load_number st me found me' = (me' ≡ (seen_with me.0 found, me.1)) × (me.0.seen ≤ found) × (found ≤ 2147483648)

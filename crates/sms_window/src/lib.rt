@@ -13,6 +13,6 @@ pub mod view;
 pub mod window;
 
 pub use error::WindowError;
-pub use outcome::{Claim, Closed, Draw, Freed};
+pub use outcome::{Claim, Closed, Draw};
 pub use seat::WindowSeat;
 pub use window::Window;

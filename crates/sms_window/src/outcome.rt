@@ -11,15 +11,6 @@ pub enum Claim {
     Contended(u64),
 }
 
-/// What a try to release a slot answers.
-#[derive(Clone, Copy, Debug, PartialEq, Eq)]
-pub enum Freed {
-    /// The seat doesn't hold the slot any more.
-    Done,
-    /// The window word had changed to this one meanwhile: the seat holds what it held.
-    Contended(u64),
-}
-
 /// What a try to draw a sequence number answers.
 #[derive(Clone, Copy, Debug, PartialEq, Eq)]
 pub enum Draw {

@@ -31,13 +31,13 @@ impl<S> Play<S, View> for ExchangeClaim {
     ghost then = { exchange_claim };
 }
 
-/// An exchange of the window word for one with a bit less.
-pub struct ExchangeRelease;
+/// A change of the window word to one with a bit less, whatever it was.
+pub struct FetchRelease;
 
-impl<S> Play<S, View> for ExchangeRelease {
-    ghost use Rattle.sms_window.specs.Steps.{exchange_release};
+impl<S> Play<S, View> for FetchRelease {
+    ghost use Rattle.sms_window.specs.Steps.{fetch_release};
 
-    ghost then = { exchange_release };
+    ghost then = { fetch_release };
 }
 
 /// A load of the number word.

@@ -1,7 +1,7 @@
 //! Windows as they are used: what each call answers, by one thread.
 ghost use Rattle.std.specs.Prelude.{◌≡◌, All, IfOk};
 
-use crate::{Claim, Closed, Draw, Freed, Window, WindowError, WindowSeat};
+use crate::{Claim, Closed, Draw, Window, WindowError, WindowSeat};
 use std::alloc::{AllocError, Global};
 use std::process::Abort;
 use std::test::Fail;
@@ -44,8 +44,7 @@ fn release_slot(rt: &impl Abort, window: &Window, seat: &mut WindowSeat, slot: u
 {
     let holds = seat.holds(slot);
     assert!(rt; holds);
-    let freed = window.try_release(seat, slot);
-    assert_eq!(rt; freed, Freed::Done);
+    window.release(seat, slot);
 }
 
 fn window_of(rt: &impl Abort, alloc: Global, limit: u32, first: u32) -> (Window, WindowSeat)

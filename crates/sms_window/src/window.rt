@@ -2,12 +2,12 @@
 ghost use Rattle.std.specs.Prelude.{◌≡◌, ◌+◌, IfOk, IfErr};
 ghost use Rattle.sms_window.specs.Seats.{CanSplit, Holds, met_with, giver, given, joined};
 ghost use Rattle.sms_window.specs.Steps.{HasMet};
-ghost use Rattle.sms_window.specs.Outcome.{Claimed, Released, Drawn, IsMade, Refuses, IsEnd};
+ghost use Rattle.sms_window.specs.Outcome.{Claimed, FreedSlot, Drawn, IsMade, Refuses, IsEnd};
 
 use crate::error::WindowError;
-use crate::outcome::{Claim, Closed, Draw, Freed};
+use crate::outcome::{Claim, Closed, Draw};
 use crate::rule::{
-    ExchangeClaim, ExchangeDraw, ExchangeRelease, Families, LoadNumber, LoadWindow, WindowRule,
+    ExchangeClaim, ExchangeDraw, Families, FetchRelease, LoadNumber, LoadWindow, WindowRule,
 };
 use crate::seat::WindowSeat;
 use crate::view::{Opening, View};
@@ -149,25 +149,18 @@ impl Window {
         }
     }
 
-    /// Tries to release a slot that the seat holds.
-    pub fn try_release(&self, seat: &mut WindowSeat, slot: u32) -> Freed
+    /// Releases a slot that the seat holds. It is one step, which can't fail.
+    pub fn release(&self, seat: &mut WindowSeat, slot: u32)
         requires own { seat.old.window ≡ self.now }
         requires held { Holds seat.old.view slot }
         ensures window { seat.new.window ≡ seat.old.window }
-        ensures released { Released seat.old.view slot result seat.new.view }
+        ensures freed { FreedSlot seat.old.view slot seat.new.view }
     {
-        let found = self.table.shared.load::<LoadWindow>(&mut seat.seat, 0);
         let mask = !(1u64 << slot);
-        let now = self
-            .table
+        self.table
             .shared
-            .compare_exchange::<ExchangeRelease>(&mut seat.seat, 0, found, found & mask);
-        if now == found {
-            seat.slots &= mask;
-            Freed::Done
-        } else {
-            Freed::Contended(now)
-        }
+            .fetch_and::<FetchRelease>(&mut seat.seat, 0, mask);
+        seat.slots &= mask;
     }
 
     /// Tries to draw the next sequence number.

@@ -3,7 +3,7 @@ ghost use Rattle.std.specs.Prelude.{◌≡◌, ◌+◌, ◌^◌, [], ◌∷◌, 
 ghost use Rattle.sms_window.specs.Seats.{Holds, met_with, with_slots};
 
 use super::seats_of;
-use crate::{Claim, Draw, Freed, Window, WindowSeat};
+use crate::{Claim, Draw, Window, WindowSeat};
 use std::alloc::{AllocError, Global};
 use std::snapshot::Snapshot;
 use std::sync::Wait;
@@ -44,19 +44,6 @@ fn draw_some(window: &Window, seat: &mut WindowSeat) -> Option<u32>
     None
 }
 
-// Tries until the slot is released.
-fn release_some(window: &Window, seat: &mut WindowSeat, slot: u32)
-    requires own { seat.old.window ≡ window.now }
-    requires held { Holds seat.old.view slot }
-    ensures window { seat.new.window ≡ seat.old.window }
-{
-    for _ in 0..TRIES {
-        if let Freed::Done = window.try_release(seat, slot) {
-            return;
-        }
-    }
-}
-
 // A seat of the window, and the numbers that it drew.
 type Worked = (WindowSeat, Vec<u32>);
 
@@ -71,7 +58,7 @@ fn work(window: &Window, mut seat: WindowSeat, mut numbers: Vec<u32>, rounds: u3
             if let Some(number) = draw_some(window, &mut seat) {
                 let _kept = numbers.push(number);
             }
-            release_some(window, &mut seat, slot);
+            window.release(&mut seat, slot);
         }
     }
     (seat, numbers)
@@ -143,9 +130,14 @@ fn join_all(
 }
 
 #[test]
-fn two_thousand_numbers(rt: HostRuntime) -> Result<(), Fail> {
-    for (threads, rounds) in [(2, 1000), (4, 500), (8, 250)] {
-        let Ok((window, mut keeper)) = Window::make(rt.alloc(), 2) else {
+fn each_number_once(rt: HostRuntime) -> Result<(), Fail> {
+    for (limit, threads, rounds, held) in [
+        (2, 2, 1_000, 0xFFFF_FFFF_FFFF_FFFC),
+        (2, 4, 500, 0xFFFF_FFFF_FFFF_FFFC),
+        (2, 8, 250, 0xFFFF_FFFF_FFFF_FFFC),
+        (1, 2, 10_000, 0xFFFF_FFFF_FFFF_FFFE),
+    ] {
+        let Ok((window, mut keeper)) = Window::make(rt.alloc(), limit) else {
             panic!(rt; "no window")
         };
         let seats = seats_of(rt.alloc(), &window, &mut keeper, threads)?;
@@ -154,15 +146,20 @@ fn two_thousand_numbers(rt: HostRuntime) -> Result<(), Fail> {
         };
         let mut numbers = join_all(rt.alloc(), &window, &mut keeper, worked)?;
         numbers.sort()?;
-        let mut wanted = 1u32;
+        let mut next = 1u32;
         for &number in numbers.iter() {
-            assert_eq!(rt; number, wanted, "{threads} threads");
-            wanted = wanted.wrapping_add(1);
+            assert_eq!(rt; number, next, "{threads} threads");
+            next = next.wrapping_add(1);
         }
-        assert_eq!(rt; wanted, 2001, "{threads} threads");
         let closed = window.close(keeper);
         assert!(rt;
-            closed.held == 0xFFFF_FFFF_FFFF_FFFC && closed.next == 2001,
+            closed.held == held && closed.next == u64::from(next),
+            "{threads} threads: held {}, next {}",
+            closed.held,
+            closed.next
+        );
+        assert!(rt;
+            numbers.len() == threads * rounds as usize,
             "{threads} threads"
         );
     }
