@@ -39,12 +39,12 @@ ignored_gives (Expire worker slot) cause after = refl
 ignored_gives (Discard request) cause after = refl
 ignored_gives (Release worker slot) cause after = refl
 
-settle_next : (m : Mark) (old new : State) (slot : ℕ) → Settles old slot m new → new.next ≡ old.next
+pub settle_next : (m : Mark) (old new : State) (slot : ℕ) → Settles old slot m new → new.next ≡ old.next
 settle_next Empty old new slot s = absurd s
 settle_next (Open r n) old new slot s = absurd s
 settle_next (Replied r n k b) old new slot s = ap (λ (w : State). w.next) s
 
-expire_next : (m : Mark) (old new : State) (slot : ℕ) → Expires old slot m new → new.next ≡ old.next
+pub expire_next : (m : Mark) (old new : State) (slot : ℕ) → Expires old slot m new → new.next ≡ old.next
 expire_next Empty old new slot s = absurd s
 expire_next (Open r n) old new slot s = ap (λ (w : State). w.next) s
 expire_next (Replied r n k b) old new slot s = absurd s

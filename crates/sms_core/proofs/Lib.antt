@@ -15,6 +15,11 @@ pub mod Funds
 pub mod Keeping
 pub mod Moved
 pub mod Numbers
+pub mod RequestSteps
+pub mod Accounts
+pub mod RowSteps
+pub mod Drawn
+pub mod EventSteps
 pub mod Named
 pub mod Passed
 pub mod Runs

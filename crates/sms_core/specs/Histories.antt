@@ -44,6 +44,16 @@ abbrev pub numbers_given : List Moment → List ℕ
 numbers_given [] = []
 numbers_given (m ∷ ms) = given_by m.event m.answer m.after ++ numbers_given ms
 
+-- the number that a moment gave out to a worker
+abbrev pub given_to : ℕ → Event → Step → State → List ℕ
+given_to worker (Post other slot request) Done after = if other == worker then number_in (mark_of after slot) else []
+given_to worker event answer after = []
+
+-- the numbers that a worker's Posts were given, in order
+abbrev pub numbers_given_to : ℕ → List Moment → List ℕ
+numbers_given_to worker [] = []
+numbers_given_to worker (m ∷ ms) = given_to worker m.event m.answer m.after ++ numbers_given_to worker ms
+
 -- what a moment topped an account up with
 abbrev pub topped_by : ℕ → Event → Step → ℕ
 topped_by account (TopUp other amount) Done = if other == account then amount else 0

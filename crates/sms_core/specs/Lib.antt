@@ -14,3 +14,4 @@ pub mod Ledger
 pub mod Tables
 pub mod Histories
 pub mod CoreLaws
+pub mod StepLaws

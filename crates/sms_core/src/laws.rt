@@ -18,6 +18,7 @@ ghost use Rattle.sms_core.specs.CoreLaws.{
   SettleEmpties,
   ExpireEmpties,
 };
+ghost use Rattle.sms_core.specs.StepLaws.{RowsMove, RequestsMove, PostDraws, OnlyPostDraws, EventSteps};
 
 /// No slot is held twice; a claim takes a slot that nobody has, which stays held until its worker
 /// releases it.
@@ -70,4 +71,26 @@ pub fn marks_move_as_told()
     ensures replies { RespondReplies }
     ensures settles { SettleEmpties }
     ensures expires { ExpireEmpties }
+{}
+
+/// The row of an event's account is moved as the event says, and no other account's.
+pub fn rows_move_as_told()
+    ensures { RowsMove }
+{}
+
+/// A request is posted, answered (charged, ready again or refused), or given up, a Reserve adds one,
+/// and all others are as they were.
+pub fn requests_move_as_told()
+    ensures { RequestsMove }
+{}
+
+/// A post draws the next sequence number, and nothing else does.
+pub fn a_post_draws_its_number()
+    ensures draws { PostDraws }
+    ensures only { OnlyPostDraws }
+{}
+
+/// Every event has an answer in every world, so a run can always go on.
+pub fn every_event_steps()
+    ensures { EventSteps }
 {}
