@@ -20,6 +20,7 @@ pub mod Accounts
 pub mod RowSteps
 pub mod Drawn
 pub mod EventSteps
+pub mod Renaming
 pub mod Named
 pub mod Passed
 pub mod Runs

@@ -15,3 +15,4 @@ pub mod Tables
 pub mod Histories
 pub mod CoreLaws
 pub mod StepLaws
+pub mod Renaming

@@ -19,6 +19,14 @@ ghost use Rattle.sms_core.specs.CoreLaws.{
   ExpireEmpties,
 };
 ghost use Rattle.sms_core.specs.StepLaws.{RowsMove, RequestsMove, PostDraws, OnlyPostDraws, EventSteps};
+ghost use Rattle.sms_core.specs.Renaming.{
+  NamesKeepSteps,
+  LeavingOutKeepsSteps,
+  OpensAsWorkers,
+  StaysAsWorkers,
+  ClaimIsWorkers,
+  ReleaseIsWorkers,
+};
 
 /// No slot is held twice; a claim takes a slot that nobody has, which stays held until its worker
 /// releases it.
@@ -93,4 +101,20 @@ pub fn a_post_draws_its_number()
 /// Every event has an answer in every world, so a run can always go on.
 pub fn every_event_steps()
     ensures { EventSteps }
+{}
+
+/// A claim, a release, a split and a join of a hold set are the same steps under other names of the
+/// holders, and without the pairs of some of them.
+pub fn readings_keep_steps()
+    ensures named { NamesKeepSteps }
+    ensures without { LeavingOutKeepsSteps }
+{}
+
+/// The seats of a window, but for those that hold what lies beyond its limit, are the workers of a
+/// world: their claims and releases are the workers' events, and what leaves their pairs is none.
+pub fn seats_are_workers()
+    ensures opening { OpensAsWorkers }
+    ensures stays { StaysAsWorkers }
+    ensures claims { ClaimIsWorkers }
+    ensures releases { ReleaseIsWorkers }
 {}
