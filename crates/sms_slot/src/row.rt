@@ -1,33 +1,34 @@
 //! The slots of one bind, each behind a lock of its own.
-ghost use Rattle.std.specs.Prelude.{◌≡◌, ◌<◌, vec_len};
-ghost use Rattle.sms_slot.specs.Slot.{IsSound};
-ghost use Rattle.sms_slot.specs.Row.{IsFoundInRow, HasNumber};
+ghost use Rattle.std.specs.Prelude.{◌≡◌, ◌<◌, length, map, vec_len};
+ghost use Rattle.std.specs.List.{AllZip};
+ghost use Rattle.rtrb.specs.Ring.{sent, known_free, SameProducer};
+ghost use Rattle.sms_core.specs.Limits.{most_slots};
+ghost use Rattle.sms_slot.specs.Row.{IsInRow};
+ghost use Rattle.sms_slot.specs.Rings.{pushed_to, place_of, HasRing, Room, answer_of};
+ghost use Rattle.sms_slot.specs.declared.row.Search.TheVariants.{Unknown};
 
 use crate::slot::{Answer, Expired, Slot, SlotError, Taken};
+use rtrb::Producer;
+use sms_core::MOST_SLOTS;
 use sms_pdu::Reply;
 use std::alloc::{AllocError, Global};
 use std::sync::{Mutex, Wait};
 
-/// What a lock keeps: a slot, whose answer has its request's number.
-#[derive(Drop)]
-struct Kept {
-    slot: Slot,
-    ghost sound: { IsSound slot },
-}
-
-/// The 64 slots of a bind. A call takes one slot's lock at a time, and waits for it. Nothing is
-/// said of what a slot had when its lock was taken but that an answer in it has its request's
-/// number.
+/// The 64 slots of a bind. A call takes one slot's lock at a time, and waits for it. What a slot has
+/// when its lock is taken is whatever the last holder of the lock left there, so no clause tells it.
 #[derive(Drop)]
 pub struct SlotRow {
-    slots: Vec<Mutex<Kept>>,
-    ghost all: { vec_len slots ≡ 64 },
+    slots: Vec<Mutex<Slot>>,
+    ghost all: { vec_len slots ≡ most_slots },
 }
 
 /// Where an answer was brought.
 #[derive(Clone, Copy, Debug, PartialEq, Eq)]
 pub enum Search {
+    /// The slot's request waited for it, and it went into the worker's ring.
     Found { slot: u32, worker: usize },
+    /// The slot's request waits for it, and the worker has no ring in the list or one without room.
+    Overrun { slot: u32, worker: usize },
     /// No slot had a request that waited for this number when it was looked at.
     Unknown,
 }
@@ -35,9 +36,9 @@ pub enum Search {
 impl SlotRow {
     /// 64 empty slots.
     pub fn new(alloc: Global) -> Result<SlotRow, AllocError> {
-        let mut slots = Vec::with_capacity(alloc, 64)?;
-        for _ in 0u32..64 {
-            slots.push_reserved(Mutex::new(Kept { slot: Slot::Empty }));
+        let mut slots = Vec::with_capacity(alloc, MOST_SLOTS as usize)?;
+        for _ in 0..MOST_SLOTS {
+            slots.push_reserved(Mutex::new(Slot::Empty));
         }
         Ok(SlotRow { slots })
     }
@@ -50,37 +51,45 @@ impl SlotRow {
         worker: usize,
         number: u32,
     ) -> Result<(), SlotError>
-        requires slot { slot < 64 }
+        requires slot { slot < most_slots }
     {
         let mut kept = self.slots[slot as usize].lock(rt);
-        kept.slot.post(worker, number)
+        kept.post(worker, number)
     }
 
-    /// `Slot::take` of this slot. The answer has the number.
+    /// `Slot::take` of this slot.
     pub fn take<R: Wait>(&self, rt: &R, slot: u32, number: u32) -> Taken
-        requires slot { slot < 64 }
-        ensures number { HasNumber number result }
+        requires slot { slot < most_slots }
     {
         let mut kept = self.slots[slot as usize].lock(rt);
-        kept.slot.take(number)
+        kept.take(number)
     }
 
     /// `Slot::expire` of this slot.
     pub fn expire<R: Wait>(&self, rt: &R, slot: u32, number: u32) -> Expired
-        requires slot { slot < 64 }
+        requires slot { slot < most_slots }
     {
         let mut kept = self.slots[slot as usize].lock(rt);
-        kept.slot.expire(number)
+        kept.expire(number)
     }
 
-    /// Brings an answer to the first slot, from slot 0 on, that waits for its number.
-    pub fn answer<R: Wait>(&self, rt: &R, reply: Reply) -> Search
-        ensures found { IsFoundInRow result }
+    /// `Slot::answer` of the first slot, from slot 0 on, that waits for the answer's number. The
+    /// answer goes into the ring while that slot is locked.
+    #[tactic(auto, using(crate::proofs::Rings::same_rings))]
+    pub fn answer<R: Wait>(&self, rt: &R, reply: Reply, producers: &mut [Producer<Reply>]) -> Search
+        ensures slot { IsInRow result }
+        ensures rings { AllZip SameProducer producers.old producers.new }
+        ensures sent { map sent producers.new ≡ pushed_to (map sent producers.old) reply (place_of (answer_of result)) }
+        ensures ring { HasRing (answer_of result) (length producers.old) }
+        ensures room { Room (answer_of result) (map known_free producers.old) (map known_free producers.new) }
+        ensures unknown { result ≡ Unknown → producers.new ≡ producers.old }
     {
-        for slot in 0u32..64 {
+        for slot in 0..MOST_SLOTS {
             let mut kept = self.slots[slot as usize].lock(rt);
-            if let Answer::Matched { worker } = kept.slot.answer(reply) {
-                return Search::Found { slot, worker };
+            match kept.answer(reply, producers) {
+                Answer::Matched { worker } => return Search::Found { slot, worker },
+                Answer::Overrun { worker } => return Search::Overrun { slot, worker },
+                Answer::Unknown => {}
             }
         }
         Search::Unknown

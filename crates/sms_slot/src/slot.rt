@@ -1,6 +1,11 @@
 //! One slot, and how a request passes through it.
-ghost use Rattle.std.specs.Prelude.{◌≡◌, ◌↔◌, IsOk, OnOk, OnErr, MatchResult};
+ghost use Rattle.std.specs.Prelude.{◌≡◌, ◌↔◌, ℕ, true, false, length, map, IsOk, OnOk, OnErr, MatchResult, if◌then◌else◌};
+ghost use Rattle.std.specs.List.{AllZip};
+ghost use Rattle.rtrb.specs.Ring.{sent, known_free, SameProducer};
+ghost use Rattle.sms_slot.specs.Rings.{pushed_to, place_of, HasRing, Room};
+ghost use Rattle.sms_slot.specs.declared.slot.Answer.TheVariants.{Matched, Overrun, Unknown};
 
+use rtrb::Producer;
 use sms_pdu::Reply;
 
 /// A slot of the window, as the worker that holds it and the reader of answers share it.
@@ -9,16 +14,9 @@ pub enum Slot {
     /// No request of it waits.
     Empty,
     /// The request with this sequence number was sent by the worker, and has no answer yet.
-    Waiting {
-        worker: usize,
-        number: u32,
-    },
-    /// The answer has come, and the worker has not taken it. Its number is the request's.
-    Answered {
-        worker: usize,
-        number: u32,
-        reply: Reply,
-    },
+    Waiting { worker: usize, number: u32 },
+    /// The answer went into the worker's ring, and the worker has not taken the slot back.
+    Answered { worker: usize, number: u32 },
 }
 
 /// Why a request can't be posted.
@@ -31,15 +29,20 @@ pub enum SlotError {
 /// Whose request an answer belongs to.
 #[derive(Clone, Copy, Debug, PartialEq, Eq)]
 pub enum Answer {
+    /// It is this worker's, and went into its ring.
     Matched { worker: usize },
+    /// It is this worker's, which has no ring in the list or one without room. It is dropped, and the
+    /// request waits on.
+    Overrun { worker: usize },
     /// No request with this number waits here.
     Unknown,
 }
 
-/// What a worker takes.
+/// What a worker finds that asks for its answer.
 #[derive(Clone, Copy, Debug, PartialEq, Eq)]
 pub enum Taken {
-    Got(Reply),
+    /// The answer went into the worker's ring, and the slot is empty.
+    Got,
     /// The request with this number waits still.
     NotYet,
     /// The slot has no request with this number.
@@ -58,16 +61,17 @@ pub enum Expired {
 }
 
 impl Slot {
-    ghost use Rattle.sms_slot.specs.Slot.{IsSound, MarkChanges, MarkForbids, opened_with, Answers, AnswersMark, Takes, TakesMark, Expires, ExpiresMark};
+    ghost use Rattle.sms_core.specs.Marks.{opened};
+    ghost use Rattle.sms_slot.specs.Slot.{MarkChanges, MarkForbids, Answers, AnswersMark, Takes, TakesMark, Expires, ExpiresMark};
     ghost use Rattle.sms_slot.specs.declared.slot.Slot.TheVariants.{Empty, Waiting};
 
-    /// Lets a request wait in an empty slot.
+    /// Lets a request wait in an empty slot. `worker` is the place of the worker's ring in the list
+    /// that the reader of answers has.
     pub fn post(&mut self, worker: usize, number: u32) -> Result<(), SlotError>
         ensures empty { IsOk result ↔ (self.old ≡ Empty) }
         ensures waiting { OnOk result (self.new ≡ Waiting worker number) }
         ensures busy { OnErr result (self.new ≡ self.old) }
-        ensures mark { MatchResult result (λ _. MarkChanges (opened_with number) self.old self.new) (λ _. MarkForbids (opened_with number) self.old) }
-        ensures sound { IsSound self.old → IsSound self.new }
+        ensures mark { (request : ℕ) → MatchResult result (λ _. MarkChanges (opened request number) self.old self.new) (λ _. MarkForbids (opened request number) self.old) }
     {
         match *self {
             Slot::Empty => {
@@ -78,39 +82,39 @@ impl Slot {
         }
     }
 
-    /// Brings an answer. It belongs here where a request with its number waits.
-    pub fn answer(&mut self, reply: Reply) -> Answer
+    /// Brings an answer. It belongs here where a request with its number waits, and goes into the
+    /// ring of the worker whose request it is.
+    #[tactic(auto, using(crate::proofs::Rings::same_rings))]
+    pub fn answer(&mut self, reply: Reply, producers: &mut [Producer<Reply>]) -> Answer
         ensures slot { Answers reply self.old result self.new }
         ensures mark { AnswersMark reply self.old result self.new }
-        ensures sound { IsSound self.old → IsSound self.new }
+        ensures rings { AllZip SameProducer producers.old producers.new }
+        ensures sent { map sent producers.new ≡ pushed_to (map sent producers.old) reply (place_of result) }
+        ensures ring { HasRing result (length producers.old) }
+        ensures room { Room result (map known_free producers.old) (map known_free producers.new) }
+        ensures unknown { result ≡ Unknown → producers.new ≡ producers.old }
     {
         match *self {
             Slot::Waiting { worker, number } if number == reply.number => {
-                *self = Slot::Answered {
-                    worker,
-                    number,
-                    reply,
-                };
+                if !hand_on(producers, worker, reply) {
+                    return Answer::Overrun { worker };
+                }
+                *self = Slot::Answered { worker, number };
                 Answer::Matched { worker }
             }
             Slot::Empty | Slot::Waiting { .. } | Slot::Answered { .. } => Answer::Unknown,
         }
     }
 
-    /// Takes the answer to the request with this number, and empties the slot.
+    /// Empties the slot of the request with this number, where its answer has come.
     pub fn take(&mut self, number: u32) -> Taken
         ensures slot { Takes number self.old result self.new }
         ensures mark { TakesMark self.old result self.new }
-        ensures sound { IsSound self.old → IsSound self.new }
     {
         match *self {
-            Slot::Answered {
-                number: asked,
-                reply,
-                ..
-            } if asked == number => {
+            Slot::Answered { number: asked, .. } if asked == number => {
                 *self = Slot::Empty;
-                Taken::Got(reply)
+                Taken::Got
             }
             Slot::Waiting { number: asked, .. } if asked == number => Taken::NotYet,
             Slot::Empty | Slot::Waiting { .. } | Slot::Answered { .. } => Taken::Unknown,
@@ -121,7 +125,6 @@ impl Slot {
     pub fn expire(&mut self, number: u32) -> Expired
         ensures slot { Expires number self.old result self.new }
         ensures mark { ExpiresMark self.old result self.new }
-        ensures sound { IsSound self.old → IsSound self.new }
     {
         match *self {
             Slot::Waiting { number: asked, .. } if asked == number => {
@@ -131,5 +134,23 @@ impl Slot {
             Slot::Answered { number: asked, .. } if asked == number => Expired::Answered,
             Slot::Empty | Slot::Waiting { .. } | Slot::Answered { .. } => Expired::Unknown,
         }
+    }
+}
+
+/// Pushes an answer into the ring at a place: true where there is such a ring and it took the answer.
+fn hand_on(producers: &mut [Producer<Reply>], place: usize, reply: Reply) -> bool
+    ensures rings { AllZip SameProducer producers.old producers.new }
+    ensures sent { map sent producers.new ≡ pushed_to (map sent producers.old) reply (if result then Some place else None) }
+    ensures ring { result ≡ true → HasRing (Matched place) (length producers.old) }
+    ensures taken { result ≡ true → Room (Matched place) (map known_free producers.old) (map known_free producers.new) }
+    ensures given_back { result ≡ false → Room (Overrun place) (map known_free producers.old) (map known_free producers.new) }
+{
+    if place >= producers.len() {
+        return false;
+    }
+    let producer = &mut producers[place];
+    match producer.push(reply) {
+        Ok(()) => true,
+        Err(_) => false,
     }
 }

@@ -1,0 +1,85 @@
+//! A reader of answers and a worker on one row.
+use super::{reply_to, rings};
+use crate::{Search, SlotRow, Taken};
+use rtrb::{Consumer, Producer};
+use sms_pdu::Reply;
+use std::process::Abort;
+use std::sync::Wait;
+use std::test::Fail;
+use std::thread;
+
+const ROUNDS: u32 = 1000;
+
+const TRIES: u32 = 10_000_000;
+
+// Brings the answer to a number until a slot waits for it.
+fn answer_some<R: Wait>(
+    rt: &R,
+    row: &SlotRow,
+    reply: Reply,
+    producers: &mut [Producer<Reply>],
+) -> Search {
+    for _ in 0..TRIES {
+        let search = row.answer(rt, reply, producers);
+        if search != Search::Unknown {
+            return search;
+        }
+        thread::yield_now();
+    }
+    Search::Unknown
+}
+
+// Takes the answer to a number once it has come.
+fn take_some<R: Wait>(rt: &R, row: &SlotRow, slot: u32, number: u32) -> Taken {
+    if slot >= 64 {
+        return Taken::Unknown;
+    }
+    for _ in 0..TRIES {
+        let taken = row.take(rt, slot, number);
+        if taken != Taken::NotYet {
+            return taken;
+        }
+        thread::yield_now();
+    }
+    Taken::NotYet
+}
+
+// Answers the numbers below `ROUNDS` in turn.
+fn answer_all<R: Wait + Abort>(rt: &R, row: &SlotRow, producers: &mut [Producer<Reply>]) {
+    for number in 0..ROUNDS {
+        let search = answer_some(rt, row, reply_to(rt, number), producers);
+        assert_eq!(rt;
+            search,
+            Search::Found {
+                slot: number % 64,
+                worker: 0
+            }
+        );
+    }
+}
+
+// Lets a request wait for each of the numbers in turn, one slot after another, and finds its answer
+// in the ring.
+fn work_all<R: Wait + Abort>(rt: &R, row: &SlotRow, mut consumer: Consumer<Reply>) {
+    for number in 0..ROUNDS {
+        let slot = number % 64;
+        assert_eq!(rt; row.post(rt, slot, 0, number), Ok(()));
+        assert_eq!(rt; take_some(rt, row, slot, number), Taken::Got);
+        assert_eq!(rt; consumer.pop().ok(), Some(reply_to(rt, number)));
+    }
+}
+
+#[test]
+fn a_reader_and_a_worker(rt: HostRuntime) -> Result<(), Fail> {
+    let row = SlotRow::new(rt.alloc())?;
+    let (mut producers, mut consumers) = rings(rt.alloc(), 1)?;
+    let Some(consumer) = consumers.pop() else {
+        panic!(rt; "no ring")
+    };
+    thread::join(
+        &rt,
+        || answer_all(&rt, &row, &mut producers),
+        || work_all(&rt, &row, consumer),
+    );
+    Ok(())
+}
