@@ -3,9 +3,12 @@ use Rattle.std.proofs.Common.{◌≡◌, ℕ, zero, suc, ◌+◌, ◌≤◌, ◌
 use Rattle.std.specs.List.{concat, AllByRecursion}
 use Rattle.std.proofs.lemmas.Bool.{cases_lt}
 use Rattle.std.proofs.lemmas.List.{take-append-drop, take_at, drop_at, length-append, length-drop}
+use Rattle.std.proofs.lemmas.List.Elements.{filter_map-append}
 use Rattle.std.proofs.lemmas.List.Folds.{concat-append}
 use Rattle.sms_pdu.specs.Frame.{announced, IsFrame, IsRest, Division}
-use Rattle.sms_pdu.specs.Laws.{OneDivision, EachDivided, PiecesJoin, BadStays}
+use Rattle.sms_pdu.specs.Laws.{OneDivision, EachDivided, PiecesJoin, BadStays, LaterAdds, OthersFollow, AnswersJoin, OneListOfAnswers, AnswersGrow}
+use Rattle.sms_pdu.specs.declared.reply.Reply.{Reply}
+use Rattle.sms_pdu.specs.Reply.{reply_in, answers, AnswersOf}
 use Rattle.sms_pdu.proofs.Fronts.{announced-append, FoundWhole, whole_is_frame, rest_pends, AllByRecursion-append}
 
 -- a frame and what follows it are no rest
@@ -101,3 +104,32 @@ pub bad_stays : BadStays
 bad_stays rest piece h =
     let says = announced-append rest piece h.begun in
     record { begun = omega (arith, h.begun, length-append rest piece); bad = rw says h.bad }
+
+pub later_adds : LaterAdds
+later_adds stream piece frames all rest left h k =
+    let more = each_divided (rest ++ piece) in
+    let same = one_division (stream ++ piece) all (frames ++ more.0) left more.1 k (pieces_join stream piece frames more.0 rest more.1 h more.2) in
+    (more.0, same.0, subst (λ l. Division (rest ++ piece) more.0 l) (sym same.1) more.2)
+
+pub others_follow : OthersFollow
+others_follow stream first others rest h = (
+  concat others ++ rest,
+  h.whole ∙ append_assoc first (concat others) rest,
+  record { whole = refl; each = h.each.1; ended = h.ended },
+)
+
+-- ---- answers
+
+pub answers_join : AnswersJoin
+answers_join frames more = filter_map-append reply_in frames more
+
+pub one_list_of_answers : OneListOfAnswers
+one_list_of_answers stream =
+    let d = each_divided stream in
+    let one : (others : List Reply) → AnswersOf stream others → others ≡ answers d.0 = λ others h. h.are ∙ ap answers (one_division stream h.frames d.0 h.rest d.1 h.divided d.2).0 in
+    (answers d.0, record { frames = d.0; rest = d.1; divided = d.2; are = refl }, one)
+
+pub answers_grow : AnswersGrow
+answers_grow stream piece replies all h k =
+    let more = later_adds stream piece h.frames k.frames h.rest k.rest h.divided k.divided in
+    (answers more.0, k.are ∙ ap answers more.1 ∙ answers_join h.frames more.0 ∙ ap (λ l. l ++ answers more.0) (sym h.are))

@@ -10,3 +10,4 @@ pub mod Lengths
 pub mod SizeLaws
 pub mod Writings
 pub mod Spellings
+pub mod Streams

@@ -1,7 +1,9 @@
 -- Laws about streams and PDUs, each of every case.
-use Rattle.std.specs.Prelude.{◌≡◌, ℕ, List, [], ◌++◌}
+use Rattle.std.specs.Prelude.{◌≡◌, ℕ, List, [], ◌∷◌, ◌++◌}
+use Rattle.sms_pdu.specs.declared.reply.Reply.{Reply}
 use Rattle.sms_pdu.specs.declared.body.Pdu.{Pdu}
 use Rattle.sms_pdu.specs.Frame.{IsFrame, IsBad, Division}
+use Rattle.sms_pdu.specs.Reply.{answers, AnswersOf}
 use Rattle.sms_pdu.specs.Grammar.{Spells, IsLawful}
 
 -- two divisions of a stream are one
@@ -19,6 +21,28 @@ PiecesJoin = (stream piece : List ℕ) (frames more : List (List ℕ)) (rest lef
 -- what follows a bad length gives no frame
 abbrev pub BadStays : Type 0
 BadStays = (rest piece : List ℕ) → IsBad rest → IsBad (rest ++ piece)
+
+-- what comes later only adds frames: those of the rest and what came
+abbrev pub LaterAdds : Type 0
+LaterAdds = (stream piece : List ℕ) (frames all : List (List ℕ)) (rest left : List ℕ) → Division stream frames rest → Division (stream ++ piece) all left
+    → (more : List (List ℕ)) × (all ≡ frames ++ more) × Division (rest ++ piece) more left
+
+-- what follows the first frame divides into the others
+abbrev pub OthersFollow : Type 0
+OthersFollow = (stream first : List ℕ) (others : List (List ℕ)) (rest : List ℕ) → Division stream (first ∷ others) rest
+    → (after : List ℕ) × (stream ≡ first ++ after) × Division after others rest
+
+-- the answers among two lists of frames are those of both, one after the other
+abbrev pub AnswersJoin : Type 0
+AnswersJoin = (frames more : List (List ℕ)) → answers (frames ++ more) ≡ answers frames ++ answers more
+
+-- every stream has one list of answers
+abbrev pub OneListOfAnswers : Type 0
+OneListOfAnswers = (stream : List ℕ) → (replies : List Reply) × AnswersOf stream replies × ((others : List Reply) → AnswersOf stream others → others ≡ replies)
+
+-- what comes later only adds answers
+abbrev pub AnswersGrow : Type 0
+AnswersGrow = (stream piece : List ℕ) (replies all : List Reply) → AnswersOf stream replies → AnswersOf (stream ++ piece) all → (more : List Reply) × (all ≡ replies ++ more)
 
 -- a lawful PDU has one spelling
 abbrev pub OneSpelling : Type 0

@@ -8,3 +8,4 @@ pub mod Reading
 pub mod Size
 pub mod Writing
 pub mod Laws
+pub mod Streams

@@ -1,11 +1,12 @@
 -- The answers of a stream: submit_sm_resp and generic_nack (SMPP 3.4 4.3.1, 4.4.2).
-use Rattle.std.specs.Prelude.{ℕ, List, [], ◌++◌, ◌-◌, length, take, drop, replicate, position, Bool, true, false, Option, Some, None, nat_lt, ◌==◌, if◌then◌else◌}
+use Rattle.std.specs.Prelude.{◌≡◌, ℕ, List, [], ◌++◌, ◌-◌, length, take, drop, replicate, position, Bool, true, false, Option, Some, None, nat_lt, ◌==◌, if◌then◌else◌}
 use Rattle.std.specs.List.{filter_map}
 use Rattle.sms_pdu.specs.declared.reply.Reply.{Reply}
 use Rattle.sms_pdu.specs.declared.reply.MessageId.{MessageId}
 use Rattle.sms_pdu.specs.declared.command.Command.TheVariants.{SubmitSmResp, GenericNack}
 use Rattle.sms_pdu.specs.Command.{id_of}
 use Rattle.sms_pdu.specs.Header.{number_at}
+use Rattle.sms_pdu.specs.Frame.{Division}
 
 -- the octets, and zeros up to 64
 abbrev pub message_id_of : List ℕ → MessageId
@@ -36,6 +37,13 @@ reply_by command octets =
 abbrev pub reply_in : List ℕ → Option Reply
 reply_in octets = if nat_lt (length octets) 16 then None else reply_by (number_at 4 octets) octets
 
--- the answers of a stream's frames, in order
+-- the answers among frames, in order
 abbrev pub answers : List (List ℕ) → List Reply
 answers frames = filter_map reply_in frames
+
+-- these are the answers of a stream: those among its whole frames
+pub record AnswersOf (stream : List ℕ) (replies : List Reply) : Type 0 where
+  pub frames : List (List ℕ)
+  pub rest : List ℕ
+  pub divided : Division stream frames rest
+  pub are : replies ≡ answers frames

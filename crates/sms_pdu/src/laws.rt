@@ -2,7 +2,7 @@
 //! or only makes the calls that the law is about.
 
 ghost use Rattle.std.specs.Prelude.{◌≡◌, IfOk};
-ghost use Rattle.sms_pdu.specs.Laws.{OneDivision, EachDivided, PiecesJoin, BadStays, OneSpelling, OneReading, NoPrefix, SpellingIsFrame};
+ghost use Rattle.sms_pdu.specs.Laws.{OneDivision, EachDivided, PiecesJoin, BadStays, LaterAdds, OthersFollow, AnswersJoin, OneListOfAnswers, AnswersGrow, OneSpelling, OneReading, NoPrefix, SpellingIsFrame};
 
 use crate::body::Pdu;
 use crate::decoding::decode;
@@ -29,6 +29,24 @@ pub fn pieces_join()
 /// A rest with a bad length stays bad, whatever follows it.
 pub fn bad_stays()
     ensures { BadStays }
+{}
+
+/// What comes later only adds frames: those of the rest and what came.
+pub fn later_adds()
+    ensures { LaterAdds }
+{}
+
+/// What follows the first frame divides into the others.
+pub fn others_follow()
+    ensures { OthersFollow }
+{}
+
+/// The answers among two lists of frames are those of both, one after the other. So a stream has
+/// one list of answers, and what comes later only adds to it.
+pub fn answers_join()
+    ensures join { AnswersJoin }
+    ensures one { OneListOfAnswers }
+    ensures grow { AnswersGrow }
 {}
 
 /// A lawful PDU has one spelling.

@@ -18,6 +18,7 @@ mod parameter;
 mod reading;
 mod reply;
 mod sizes;
+mod writing;
 
 pub use body::{Body, Pdu, Sm};
 pub use command::{
@@ -36,6 +37,7 @@ pub use header::{Header, frame_header, header_of};
 pub use octets::Octets;
 pub use parameter::{Parameter, Params};
 pub use reply::{MessageId, Reply, reply_of};
+pub use writing::write_octets;
 
 #[cfg(test)]
 mod tests;
