@@ -1,20 +1,16 @@
 -- From what a step tells to what a call says.
-use Rattle.std.proofs.Common.{◌≡◌, ◌≢◌, ℕ, ◌+◌, ◌-◌, ◌*◌, ◌%◌, ◌^◌, ◌<◌, ◌==◌, sym, ap, ◌∙◌, subst, arith, eq-eqb, ne_eqb}
+use Rattle.std.proofs.Common.{◌≡◌, ◌≢◌, ℕ, ◌+◌, ◌-◌, ◌*◌, ◌%◌, ◌^◌, ◌<◌, sym, ap, ◌∙◌, subst, arith}
 use Rattle.std.specs.Prelude.{bit_and, bit_or}
-use Rattle.std.specs.Bool.{MatchBool}
 use Rattle.std.specs.Int.{bit_at, w64, trailing_ones}
-use Rattle.std.proofs.lemmas.Bool.{MatchBool-at_true, MatchBool-at_false}
 use Rattle.std.proofs.lemmas.Nat.{or_disjoint, or_lt, one_shl, pow_below}
 use Rattle.std.proofs.lemmas.Nat.Bits.{and_pow, bit_at-trailing_ones, bit_at-pow_same, bit_at-pow_other, bit_at-zero}
-use mathlib.Core.Option.{none}
 use mathlib.Core.Logic.{dite}
 use native.Mathlib.Decide.{ℕ_discrete}
-use Rattle.atomic_table.specs.Table.{Me, step}
 use Rattle.sms_core.proofs.Bits.{bit_at_more, clear_bit}
 use Rattle.sms_window.specs.declared.view.View.{View}
 use Rattle.sms_window.specs.Seats.{met_with, with_slots}
-use Rattle.sms_window.specs.Steps.{IsClaim, exchange_claim}
-use Rattle.sms_window.specs.Outcome.{GotSlot}
+use Rattle.sms_window.specs.Steps.{IsClaim, IsRelease, ClaimExchange, ReleaseFetch}
+use Rattle.sms_window.specs.Outcome.{GotSlot, FreedSlot}
 
 -- `w | 1 << k`
 pub or_bit : (w k : ℕ) → k < 64 → w < 2 ^ 64 → bit_at w k ≡ 0 → (bit_or w (1 * 2 ^ k % 2 ^ 64) ≡ w + 2 ^ k) × (w + 2 ^ k < 2 ^ 64)
@@ -26,11 +22,9 @@ or_bit w k inside small clear =
     let lt = or_lt 64 w (2 ^ k) small fits in
     (ap (bit_or w) shl ∙ sum, omega arith)
 
-pub hit : (P Q : Type 0) (found old : ℕ) → found ≡ old → MatchBool (found == old) P Q → P
-hit P Q found old e m = MatchBool-at_true P Q (eq-eqb found old e) m
-
-pub miss : (P Q : Type 0) (found old : ℕ) → found ≢ old → MatchBool (found == old) P Q → Q
-miss P Q found old ne m = MatchBool-at_false P Q (ne_eqb found old ne) m
+-- powers of two that are the same
+pow_same : (k j : ℕ) → 2 ^ k ≡ 2 ^ j → k ≡ j
+pow_same k j e = dite (ℕ_discrete k j) (λ same. same) (λ ne. let a = bit_at-pow_same k in let b = bit_at-pow_other j k ne in let c : bit_at (2 ^ k) k ≡ bit_at (2 ^ j) k = ap (λ (n : ℕ). bit_at n k) e in absurd (omega arith))
 
 -- `trailing_ones` of a word that is not full is its least clear slot
 pub least_clear : (found slot : ℕ) → slot ≡ trailing_ones w64 found → found < 2 ^ 64 → found ≢ 2 ^ 64 - 1 → (slot < 64) × (bit_at found slot ≡ 0) × ((i : ℕ) → i < slot → bit_at found i ≡ 1)
@@ -38,14 +32,19 @@ least_clear found slot is small not_full =
     let t = bit_at-trailing_ones w64 found (omega arith) in
     subst (λ (k : ℕ). (k < 64) × (bit_at found k ≡ 0) × ((i : ℕ) → i < k → bit_at found i ≡ 1)) (sym is) t
 
-pub got : (v w : View) (found slot new : ℕ) → slot < 64 → bit_at found slot ≡ 0 → ((i : ℕ) → i < slot → bit_at found i ≡ 1) → new ≡ found + 2 ^ slot
-    → w ≡ with_slots (met_with v found) (v.slots + (new - found)) new → IsClaim (met_with v found) slot found w → GotSlot v slot w
-got v w found slot new inside clear least sum is claim =
-    let met : w.met ≡ new = ap (λ (u : View). u.met) is in
-    let gap : new - found ≡ 2 ^ slot = omega arith in
+-- an exchange that claims and hits, after a load that left u: the seat holds the slot now
+pub got : (v u w : View) (found now slot new : ℕ) → u ≡ met_with v found → ClaimExchange 0 found new u now w → now ≡ found → slot < 64 → bit_at found slot ≡ 0 → ((i : ℕ) → i < slot → bit_at found i ≡ 1) → new ≡ found + 2 ^ slot
+    → GotSlot v slot w
+got v u w found now slot new looked told same inside clear least sum =
+    let t = subst (λ (x : View). ClaimExchange 0 found new x now w) looked told in
+    let which : t.slot ≡ slot = pow_same t.slot slot (let e = t.more in omega arith) in
+    let h = t.hit same in
+    let is : w ≡ with_slots v (v.slots + 2 ^ slot) new = h.0 ∙ (λ i. with_slots v (v.slots + 2 ^ which i) new) in
+    let claim : IsClaim (met_with v found) slot found w = subst (λ (p : ℕ × ℕ). IsClaim (met_with v found) p.0 p.1 w) (λ i. (which i, same i)) h.1 in
+    let met : w.met ≡ new = ap (λ (x : View). x.met) is in
     record {
-      now = (inside, ap (λ (u : View). bit_at u.slots slot) is ∙ ap (λ (m : ℕ). bit_at (v.slots + m) slot) gap ∙ bit_at_more v.slots slot claim.free slot ∙ (let a = claim.free in let b = bit_at-pow_same slot in omega arith));
-      after = is ∙ (λ i. with_slots v (v.slots + gap i) (sym met i));
+      now = (inside, ap (λ (x : View). bit_at x.slots slot) is ∙ bit_at_more v.slots slot claim.free slot ∙ (let a = claim.free in let b = bit_at-pow_same slot in omega arith));
+      after = is ∙ (λ i. with_slots v (v.slots + 2 ^ slot) (sym met i));
       claim = (
         found,
         record { old = claim.old; new = claim.new; before = record { lawful = claim.before.lawful; word = claim.before.word; own = claim.before.own }; after = claim.after; claims = claim.claims; free = claim.free },
@@ -53,25 +52,19 @@ got v w found slot new inside clear least sum is claim =
       least = λ i lt. ap (λ (m : ℕ). bit_at m i) (met ∙ sum) ∙ bit_at_more found slot clear i ∙ (let a = least i lt in let b = bit_at-pow_other slot i (λ e. omega arith) in omega arith);
     }
 
+-- a fetch that releases: the seat has the slot no more
+pub freed : (v w : View) (found slot mask : ℕ) → ReleaseFetch 0 mask v found w → slot < 64 → mask ≡ 2 ^ 64 - 1 - 2 ^ slot → FreedSlot v slot w
+freed v w found slot mask told inside is =
+    let mine : 2 ^ told.slot < 2 ^ 64 = pow_below told.slot 64 told.held.0 in
+    let fits : 2 ^ slot < 2 ^ 64 = pow_below slot 64 inside in
+    let which : told.slot ≡ slot = pow_same told.slot slot (let e = told.less in omega arith) in
+    let after : w ≡ with_slots v (v.slots - 2 ^ slot) (bit_and found mask) = told.after ∙ (λ i. with_slots v (v.slots - 2 ^ which i) (bit_and found mask)) in
+    let met : w.met ≡ bit_and found mask = ap (λ (x : View). x.met) after in
+    record { after = after ∙ (λ i. with_slots v (v.slots - 2 ^ slot) (sym met i)); release = (found, subst (λ (k : ℕ). IsRelease v k found w) which told.release) }
+
 -- a family with a name in it is not empty
 pub live : (family name : ℕ) → bit_at family name ≡ 1 → 0 < family
 live family name e = dite (ℕ_discrete family 0) (λ z. let a = ap (λ (w : ℕ). bit_at w name) z in let b = bit_at-zero name in absurd (omega arith)) (λ ne. omega arith)
-
-module _ {S : Type 0} where
-  -- an exchange that claims, after a load
-  pub claim_hit : (n : ℕ) (m0 m1 m2 : Me S View) (found slot now new : ℕ) → m1 ≡ (met_with m0.0 found, m0.1) → exchange_claim (step n 0 found new none) m1 now m2 → now ≡ found → slot < 64 → bit_at found slot ≡ 0
-      → ((i : ℕ) → i < slot → bit_at found i ≡ 1) → new ≡ found + 2 ^ slot → GotSlot m0.0 slot m2.0 × (m2.1 ≡ m0.1) × (bit_at m0.0.slots slot ≡ 0)
-  claim_hit n m0 m1 m2 found slot now new e told same inside clear least sum =
-      let t = subst (λ (m : Me S View). exchange_claim (step n 0 found new none) m now m2) e told in
-      let h = hit _ _ now found same t in
-      let c = h.1 slot inside sum in
-      (got m0.0 m2.0 found slot new inside clear least sum (ap (λ (m : Me S View). m.0) h.0) c, ap (λ (m : Me S View). m.1) h.0, c.free)
-
-  -- an exchange that failed, after a load
-  pub claim_miss : (n : ℕ) (m0 m1 m2 : Me S View) (found now new : ℕ) → m1 ≡ (met_with m0.0 found, m0.1) → exchange_claim (step n 0 found new none) m1 now m2 → now ≢ found → m2 ≡ (met_with m0.0 now, m0.1)
-  claim_miss n m0 m1 m2 found now new e told ne =
-      let t = subst (λ (m : Me S View). exchange_claim (step n 0 found new none) m now m2) e told in
-      miss _ _ now found ne t
 
 -- `w & !(1 << k)`
 pub and_clear : (w k : ℕ) → k < 64 → w < 2 ^ 64 → bit_at w k ≡ 1 → bit_and w (2 ^ 64 - 1 - 1 * 2 ^ k % 2 ^ 64) ≡ w - 2 ^ k

@@ -16,12 +16,13 @@ use Rattle.sms_window.specs.declared.view.View.{View}
 use Rattle.sms_window.specs.declared.view.Opening.{Opening}
 use Rattle.sms_core.specs.Numbers.{times, once_below}
 use Rattle.sms_window.specs.Rule.{IsSeat, IsWindow, keeper}
+use Rattle.sms_window.specs.Seats.{used_up}
 use Rattle.sms_window.specs.Outcome.{IsEnd}
 use Rattle.sms_window.proofs.Views.{total_two, total_only, own, weigh-pairs_of, times-numbers_of}
 use Rattle.sms_core.proofs.Numbers.{below_later}
 use Rattle.sms_window.proofs.Moves.{slot_in_word}
 
-pub opens : {S : Type 0} (o : Opening) → 0 < o.limit → o.limit ≤ 64 → o.first ≤ 2147483648 → IsWindow {S = S} o (opening ((2 ^ 64 - 2 ^ o.limit) ∷ o.first ∷ []) [] (keeper o))
+pub opens : {S : Type 0} (o : Opening) → 0 < o.limit → o.limit ≤ 64 → o.first ≤ used_up → IsWindow {S = S} o (opening ((2 ^ 64 - 2 ^ o.limit) ∷ o.first ∷ []) [] (keeper o))
 opens o pos le top =
     let v = keeper o in
     let p = pow_pos o.limit in
@@ -39,7 +40,7 @@ opens o pos le top =
     }
   where
     one_seat : (id : ℕ) (v : View) → get_elem? (keeper o ∷ []) id ≡ some v → IsSeat o.first o.first v
-    one_seat zero v e = subst (IsSeat o.first o.first) (some-injective _ _ e) (record { small = (omega arith, let p = pow_pos o.limit in omega arith); named = λ _. (omega arith, bit_at_ones 64 0 (omega arith)); spent = λ z. absurd (omega arith); seen = omega arith; below = tt; rising = λ _. tt; first = λ _. refl })
+    one_seat zero v e = subst (IsSeat o.first o.first) (some-injective _ _ e) (record { whole = record { family = omega arith; slots = let p = pow_pos o.limit in omega arith; named = λ _. (omega arith, bit_at_ones 64 0 (omega arith)) }; spent = λ z. absurd (omega arith); seen = omega arith; below = tt; rising = λ _. tt; first = λ _. refl })
     one_seat (suc id) v e = absurd (some-ne-none v (sym e))
 
 module _ {S : Type 0} (o : Opening) where
@@ -48,7 +49,7 @@ module _ {S : Type 0} (o : Opening) where
       → (j : ℕ) (u : View) → j ≢ id → get_elem? s.views j ≡ some u → (u.slots ≡ 0) × (u.numbers ≡ [])
   alone s r id v at all j u ne there =
       let seat = r.seats j u there in
-      seat.spent (same_from_bits_below 64 u.family 0 seat.small.0 (omega arith) (λ n lt.
+      seat.spent (same_from_bits_below 64 u.family 0 seat.whole.family (omega arith) (λ n lt.
       let t = total_two (λ x. bit_at x.family n) s.views j id u v ne there at in
       let one = r.names n lt in
       let mine : bit_at v.family n ≡ 1 = ap (λ (w : ℕ). bit_at w n) all ∙ bit_at_ones 64 n lt in
@@ -63,12 +64,13 @@ module _ {S : Type 0} (o : Opening) where
         slots = λ k lt has. slot_in_word o s r id v k at lt has;
         numbers = below_later v.seen next v.numbers seat.seen seat.below;
         next = (let f = seat.first live in let n = r.next.0 in omega arith, r.next.1);
+        seen = seat.seen;
         held = λ all.
             let others = alone s r id v at all in
             let e = weigh-pairs_of (λ x. 2 ^ x.1) s.views in
             let t = total_only (own (λ x. 2 ^ x.1)) s.views id v at (λ j u ne there. ap (λ (w : ℕ). spread (λ x. 2 ^ x.1) u.name w 64) (others j u ne there).0 ∙ spread-zero (λ x. 2 ^ x.1) u.name 64) in
             let a = spread-word v.name v.slots 64 in
-            let m = mod-eq_of_lt seat.small.1 in
+            let m = mod-eq_of_lt seat.whole.slots in
             let w = r.word in
             omega arith;
         drawn = λ all n.

@@ -35,7 +35,7 @@ module _ {S : Type 0} (o : Opening) where
   pub families_apart : (s : State S View) → IsWindow o s → (id other : ℕ) (v w : View) → other ≢ id → get_elem? s.views id ≡ some v → get_elem? s.views other ≡ some w → (k : ℕ) → bit_at v.family k + bit_at w.family k ≤ 1
   families_apart s r id other v w ne at there k = dite (dec_lt k 64)
       (λ lt. apart_of (λ u. bit_at u.family k) s.views id other v w ne at there (let e = r.names k lt in omega arith))
-      (λ no. let a = less_64 v.family k (r.seats id v at).small.0 (omega arith) in let b = less_64 w.family k (r.seats other w there).small.0 (omega arith) in omega arith)
+      (λ no. let a = less_64 v.family k (r.seats id v at).whole.family (omega arith) in let b = less_64 w.family k (r.seats other w there).whole.family (omega arith) in omega arith)
 
   pub slots_apart : (s : State S View) → IsWindow o s → (id other : ℕ) (v w : View) → other ≢ id → get_elem? s.views id ≡ some v → get_elem? s.views other ≡ some w → (k : ℕ) → bit_at v.slots k + bit_at w.slots k ≤ 1
   slots_apart s r id other v w ne at there k = dite (dec_lt k 64)
@@ -46,7 +46,7 @@ module _ {S : Type 0} (o : Opening) where
       let a = spread-is_slot v.name v.slots 64 k lt in
       let b = spread-is_slot w.name w.slots 64 k lt in
       omega arith)
-      (λ no. let a = less_64 v.slots k (r.seats id v at).small.1 (omega arith) in let b = less_64 w.slots k (r.seats other w there).small.1 (omega arith) in omega arith)
+      (λ no. let a = less_64 v.slots k (r.seats id v at).whole.slots (omega arith) in let b = less_64 w.slots k (r.seats other w there).whole.slots (omega arith) in omega arith)
 
   pub joins_keeps : (id : ℕ) (v : View) (other : ℕ) (w : View) → 0 < v.family → 0 < w.family → Joins {S = S} (IsWindow o) id v other w (joined v w) nobody
   joins_keeps id v other w live live' s r at ne there' =
@@ -73,11 +73,14 @@ module _ {S : Type 0} (o : Opening) where
         drawn = λ n. let e = total_join (λ u. times n u.numbers) s.views id other v w both nobody ne at there (times_append n v.numbers w.numbers) refl in let d = r.drawn n in let a = times-numbers_of n s.views in let b = times-numbers_of n views in omega arith;
         next = r.next;
         seats = λ i u e. ⊎_elim
-            (λ (x : (i ≡ other) × (nobody ≡ u)). subst (IsSeat o.first next) x.1 (record { small = (omega arith, omega arith); named = λ z. absurd (omega arith); spent = λ _. (refl, refl); seen = omega arith; below = tt; rising = λ _. tt; first = λ z. absurd (omega arith) }))
+            (λ (x : (i ≡ other) × (nobody ≡ u)). subst (IsSeat o.first next) x.1 (record { whole = record { family = omega arith; slots = omega arith; named = λ z. absurd (omega arith) }; spent = λ _. (refl, refl); seen = omega arith; below = tt; rising = λ _. tt; first = λ z. absurd (omega arith) }))
             (λ (x : (i ≢ other) × (get_elem? (set s.views id both) i ≡ some u)). ⊎_elim
             (λ (y : (i ≡ id) × (both ≡ u)). subst (IsSeat o.first next) y.1 (record {
-              small = (add_below 64 v.family w.family sv.small.0 sw.small.0 fa, add_below 64 v.slots w.slots sv.small.1 sw.small.1 sa);
-              named = λ _. let n = sv.named live in (n.0, let b = bit_at_add v.family w.family fa v.name in let c = fa v.name in let d = n.1 in omega arith);
+              whole = record {
+                family = add_below 64 v.family w.family sv.whole.family sw.whole.family fa;
+                slots = add_below 64 v.slots w.slots sv.whole.slots sw.whole.slots sa;
+                named = λ _. let n = sv.whole.named live in (n.0, let b = bit_at_add v.family w.family fa v.name in let c = fa v.name in let d = n.1 in omega arith);
+              };
               spent = λ z. absurd (omega arith);
               seen = let a = sv.seen in let b = sw.seen in omega arith;
               below = below_append (max v.seen w.seen) v.numbers w.numbers (below_later v.seen _ v.numbers (omega arith) sv.below) (below_later w.seen _ w.numbers (omega arith) sw.below);
@@ -121,8 +124,8 @@ module _ {S : Type 0} (o : Opening) where
       others j u apart got = dite (ℕ_discrete u.family 0)
           (λ none_left. own_same u ((r.seats j u got).spent none_left).0)
           (λ some_left.
-          let nu = (r.seats j u got).named (omega arith) in
-          let nw = (r.seats other w there).named live' in
+          let nu = (r.seats j u got).whole.named (omega arith) in
+          let nw = (r.seats other w there).whole.named live' in
           let two = total_two (λ x. bit_at x.family u.name) s.views j other u w apart got there in
           let one = r.names u.name nu.0 in
           let differ : u.name ≢ w.name = λ e. let h : bit_at w.family u.name ≡ 1 = ap (bit_at w.family) e ∙ nw.1 in let k = nu.1 in omega arith in

@@ -7,3 +7,5 @@ pub mod Ends
 pub mod Calls
 pub mod Runs
 pub mod LawProofs
+pub mod SeatSteps
+pub mod Ties

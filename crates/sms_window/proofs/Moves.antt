@@ -12,6 +12,7 @@ use Rattle.std.proofs.lemmas.Nat.Bits.{and_pow, same_from_bits, bit_at-zero, bit
 use Rattle.atomic_table.specs.Table.{State, keeps, stepped}
 use Rattle.atomic_table.proofs.Lists.{at_set}
 use Rattle.sms_core.specs.Holds.{is_slot, holders_of, IsLawful, word_of, SamePairs, Claims, Releases}
+use Rattle.sms_core.specs.Limits.{top_number}
 use Rattle.sms_core.specs.Numbers.{times, AreDrawn, once_below}
 use Rattle.sms_core.proofs.Bits.{bit_at_more, bit_at_less}
 use Rattle.sms_core.proofs.Pairs.{spread, spread_add, spread-pow, bits_of_lawful, weigh-pairs_below, spread-is_slot, spread-is_slot_above, spread-word}
@@ -19,7 +20,7 @@ use Rattle.sms_core.proofs.Held.{lawful_same, lawful_claims, lawful_releases}
 use Rattle.sms_window.specs.declared.view.View.{View}
 use Rattle.sms_window.specs.declared.view.Opening.{Opening}
 use Rattle.sms_window.specs.Rule.{total, pairs_of, numbers_of, IsSeat, IsWindow}
-use Rattle.sms_window.specs.Seats.{met_with, with_slots, seen_with, drawn_with}
+use Rattle.sms_window.specs.Seats.{used_up, met_with, with_slots, seen_with, drawn_with}
 use Rattle.sms_window.specs.Steps.{IsHoldSet, IsClaim, IsRelease, IsDraw}
 use Rattle.sms_core.proofs.Numbers.{below_later, below_append, rising_push, times_push}
 use Rattle.sms_window.proofs.Views.{total_set, total_one, own, own_le, pairs_set, weigh-pairs_of, set_at, times-numbers_of}
@@ -48,7 +49,7 @@ no_more w clear =
     omega arith
 
 seat_later : (opening next later : ℕ) (v : View) → next ≤ later → IsSeat opening next v → IsSeat opening later v
-seat_later opening next later v le s = record { small = s.small; named = s.named; spent = s.spent; seen = let e = s.seen in omega arith; below = s.below; rising = s.rising; first = s.first }
+seat_later opening next later v le s = record { whole = s.whole; spent = s.spent; seen = let e = s.seen in omega arith; below = s.below; rising = s.rising; first = s.first }
 
 seats_set : (opening next later : ℕ) (views : List View) (id : ℕ) (w : View) → next ≤ later → ((j : ℕ) (u : View) → get_elem? views j ≡ some u → IsSeat opening next u) → IsSeat opening later w
     → (j : ℕ) (u : View) → get_elem? (set views id w) j ≡ some u → IsSeat opening later u
@@ -96,18 +97,17 @@ releases_pairs views id v w k at inside small has n s =
     )
 
 pub met_seat : (opening next : ℕ) (v : View) (word : ℕ) → IsSeat opening next v → IsSeat opening next (met_with v word)
-met_seat opening next v word s = record { small = s.small; named = s.named; spent = s.spent; seen = s.seen; below = s.below; rising = s.rising; first = s.first }
+met_seat opening next v word s = record { whole = s.whole; spent = s.spent; seen = s.seen; below = s.below; rising = s.rising; first = s.first }
 
 slots_seat : (opening next : ℕ) (v : View) (slots word : ℕ) → slots < 2 ^ 64 → (v.family ≡ 0 → slots ≡ 0) → IsSeat opening next v → IsSeat opening next (with_slots v slots word)
-slots_seat opening next v slots word lt bare s = record { small = (s.small.0, lt); named = s.named; spent = λ e. (bare e, (s.spent e).1); seen = s.seen; below = s.below; rising = s.rising; first = s.first }
+slots_seat opening next v slots word lt bare s = record { whole = record { family = s.whole.family; slots = lt; named = s.whole.named }; spent = λ e. (bare e, (s.spent e).1); seen = s.seen; below = s.below; rising = s.rising; first = s.first }
 
 pub seen_seat : (opening next : ℕ) (v : View) (n : ℕ) → v.seen ≤ n → n ≤ next → IsSeat opening next v → IsSeat opening next (seen_with v n)
-seen_seat opening next v n up le s = record { small = s.small; named = s.named; spent = s.spent; seen = le; below = below_later v.seen n v.numbers up s.below; rising = s.rising; first = s.first }
+seen_seat opening next v n up le s = record { whole = s.whole; spent = s.spent; seen = le; below = below_later v.seen n v.numbers up s.below; rising = s.rising; first = s.first }
 
 drawn_seat : (opening n : ℕ) (v : View) → v.seen ≤ n → 0 < v.family → IsSeat opening n v → IsSeat opening (n + 1) (drawn_with v n)
 drawn_seat opening n v up live s = record {
-  small = s.small;
-  named = s.named;
+  whole = s.whole;
   spent = λ e. absurd (omega arith);
   seen = omega arith;
   below = below_append (n + 1) v.numbers (n ∷ []) (below_later v.seen (n + 1) v.numbers (omega arith) s.below) (omega arith, tt);
@@ -150,7 +150,7 @@ module _ {S : Type 0} (o : Opening) where
       → length words ≡ 2 → IsLawful (pairs_of (set s.views id w)) → word_of (pairs_of (set s.views id w)) ≡ slice_index words 0
       → w.family ≡ v.family
       → ((n : ℕ) → times n w.numbers + once_below n (slice_index s.words 1) ≡ times n v.numbers + once_below n (slice_index words 1))
-      → slice_index s.words 1 ≤ slice_index words 1 → slice_index words 1 ≤ 2147483648
+      → slice_index s.words 1 ≤ slice_index words 1 → slice_index words 1 ≤ used_up
       → IsSeat o.first (slice_index words 1) w
       → IsWindow o record { words = words; homes = homes; views = set s.views id w }
   rebuilt s r words homes id v w at two law word family numbers up top mine = record {
@@ -197,7 +197,7 @@ module _ {S : Type 0} (o : Opening) where
       let w1 : slice_index words 1 ≡ slice_index s.words 1 = get_or-set_other s.words 0 1 new 0 (λ e. omega arith) in
       let word : word_of (pairs_of (set s.views id w)) ≡ slice_index words 0 = d.1.1 (λ p. 2 ^ p.1) ∙ ap (λ (m : ℕ). m + 2 ^ k) (r.word ∙ e) ∙ sym is ∙ sym w0 in
       let seat = r.seats id v at in
-      let room : v.slots + 2 ^ k < 2 ^ 64 = let le = own_le (λ p. 2 ^ p.1) s.views id v at in let m = spread-word v.name v.slots 64 in let b = seat.small.1 in let q = mod-eq_of_lt b in let x = r.word in omega arith in
+      let room : v.slots + 2 ^ k < 2 ^ 64 = let le = own_le (λ p. 2 ^ p.1) s.views id v at in let m = spread-word v.name v.slots 64 in let b = seat.whole.slots in let q = mod-eq_of_lt b in let x = r.word in omega arith in
       let rule : IsWindow o (stepped s 0 new id c w keeps) = rebuilt s r words s.homes id v w at (length-set s.words 0 new ∙ r.two) (lawful_claims _ _ _ _ d.1 r.lawful) word refl
       (λ x. ap (λ (m : ℕ). times x v.numbers + once_below x m) (sym w1)) (omega arith) (let b = r.next.1 in omega arith)
       (subst (λ (m : ℕ). IsSeat o.first m w) (sym w1) (slots_seat o.first (slice_index s.words 1) v _ new room (λ z. absurd (omega arith)) seat)) in
@@ -212,7 +212,7 @@ module _ {S : Type 0} (o : Opening) where
       let w = with_slots v (v.slots - 2 ^ k) new in
       let two = r.two in
       let seat = r.seats id v at in
-      let small : v.slots < 2 ^ 64 = seat.small.1 in
+      let small : v.slots < 2 ^ 64 = seat.whole.slots in
       let d = releases_pairs s.views id v w k at inside small has refl refl in
       let words = set s.words 0 new in
       let w0 : slice_index words 0 ≡ new = get_or-set_same s.words 0 new 0 (omega arith) in
@@ -226,7 +226,7 @@ module _ {S : Type 0} (o : Opening) where
       (rule, record { old = pairs_of s.views; new = pairs_of (set s.views id w); before = before; after = after; releases = d.1 }, d.1)
 
   -- a draw of the next number
-  pub drew : (s : State S View) → IsWindow o s → (id : ℕ) (c : List (ℕ × S)) (v : View) (n new : ℕ) → get_elem? s.views id ≡ some v → slice_index s.words 1 ≡ n → new ≡ n + 1 → n < 2147483648 → 0 < v.family
+  pub drew : (s : State S View) → IsWindow o s → (id : ℕ) (c : List (ℕ × S)) (v : View) (n new : ℕ) → get_elem? s.views id ≡ some v → slice_index s.words 1 ≡ n → new ≡ n + 1 → n ≤ top_number → 0 < v.family
       → IsWindow o (stepped s 1 new id c (drawn_with v n) keeps) × IsDraw v n (drawn_with v n)
   drew s r id c v n new at e is fits live =
       let w = drawn_with v n in

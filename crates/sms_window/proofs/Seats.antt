@@ -16,6 +16,7 @@ use Rattle.sms_window.specs.declared.view.View.{View}
 use Rattle.sms_window.specs.declared.view.Opening.{Opening}
 use Rattle.sms_core.specs.Numbers.{times}
 use Rattle.sms_window.specs.Rule.{pairs_of, IsSeat, IsWindow}
+use Rattle.sms_window.specs.SeatState.{IsSound}
 use Rattle.sms_window.specs.Seats.{other_names, CanSplit, name_to_give, giver, given}
 use Rattle.sms_window.proofs.Views.{total_set, total_snoc, own, weigh-pairs_of, times-numbers_of}
 
@@ -38,8 +39,14 @@ top_bit w pos small =
         ap (λ (i : ℕ). i % 2) q
 
 -- what a seat's family says of its own name and of the next to give
-pub name_apart : (v : View) → v.family < 2 ^ 64 → v.name < 64 → bit_at v.family v.name ≡ 1 → CanSplit v
-    → (name_to_give v < 64) × (bit_at v.family (name_to_give v) ≡ 1) × (name_to_give v ≢ v.name) × (2 ^ name_to_give v ≤ v.family) × (bit_at (v.family - 2 ^ name_to_give v) v.name ≡ 1)
+pub record Gives (v : View) : Type 0 where
+  pub inside : name_to_give v < 64
+  pub there : bit_at v.family (name_to_give v) ≡ 1
+  pub other : name_to_give v ≢ v.name
+  pub fits : 2 ^ name_to_give v ≤ v.family
+  pub stays : bit_at (v.family - 2 ^ name_to_give v) v.name ≡ 1
+
+pub name_apart : (v : View) → v.family < 2 ^ 64 → v.name < 64 → bit_at v.family v.name ≡ 1 → CanSplit v → Gives v
 name_apart v small in_range has can =
     let less = bit_at_less v.family v.name in_range small has in
     let y : ℕ = less.0 in
@@ -62,11 +69,19 @@ name_apart v small in_range has can =
     let e : bit_at v.family v.name ≡ bit_at (z + 2 ^ j) v.name = ap (λ (w : ℕ). bit_at w v.name) sum' in
     let f = bit_at-pow_other j v.name (λ e. ne (sym e)) in
     let g : bit_at (v.family - 2 ^ j) v.name ≡ bit_at z v.name = ap (λ (w : ℕ). bit_at w v.name) rest in
-    (t.0, here, ne, omega arith, omega arith)
+    record { inside = t.0; there = here; other = ne; fits = omega arith; stays = omega arith }
 
--- as `split` computes it
+-- the name as `split` computes it, and its bit
 pub name_given : (v : View) (family name : ℕ) → family ≡ v.family → name ≡ v.name → name < 64 → 63 - leading_zeros w64 (family - 1 * 2 ^ name % 2 ^ 64) ≡ name_to_give v
 name_given v family name f n lt = ap (λ (w : ℕ). 63 - leading_zeros w64 (family - w)) (one_shl name 64 lt) ∙ (λ i. 63 - leading_zeros w64 (f i - 2 ^ n i))
+
+pub bit_given : {S : Type 0} (v : View) (taken : List S) (name family slots : ℕ) → IsSound v taken name family slots → family < 2 ^ 64 → CanSplit v
+    → Gives v × (1 * 2 ^ (63 - leading_zeros w64 (family - 1 * 2 ^ name % 2 ^ 64)) % 2 ^ 64 ≡ 2 ^ name_to_give v)
+bit_given v taken name family slots i small can =
+    let g = name_apart v (let e = i.family in omega arith) (let e = i.name in let l = i.small in omega arith) ((λ k. bit_at (sym i.family k) (sym i.name k)) ∙ i.has_own) can in
+    let e = name_given v family name i.family i.name i.small in
+    let k : ℕ = 63 - leading_zeros w64 (family - 1 * 2 ^ name % 2 ^ 64) in
+    (g, one_shl k 64 (omega (arith, g.inside)) ∙ ap (λ (m : ℕ). 2 ^ m) e)
 
 -- each weight that a view without slots does not have
 own_bare : (f : ℕ × ℕ → ℕ) (v : View) → v.slots ≡ 0 → own f v ≡ 0
@@ -88,16 +103,16 @@ module _ {S : Type 0} (o : Opening) where
   splits_keeps id v live can s r at =
       let next = slice_index s.words 1 in
       let seat = r.seats id v at in
-      let own_name = seat.named live in
-      let n = name_apart v seat.small.0 own_name.0 own_name.1 can in
+      let own_name = seat.whole.named live in
+      let n = name_apart v seat.whole.family own_name.0 own_name.1 can in
       let j : ℕ = name_to_give v in
-      let less = bit_at_less v.family j n.0 seat.small.0 n.1 in
+      let less = bit_at_less v.family j n.inside seat.whole.family n.there in
       let y : ℕ = less.0 in
       let sum : v.family ≡ y + 2 ^ j = less.1 in
       let rest : v.family - 2 ^ j ≡ y = omega arith in
       let bits : (k : ℕ) → bit_at v.family k ≡ bit_at y k + bit_at (2 ^ j) k = λ k. ap (λ (w : ℕ). bit_at w k) sum ∙ bit_at_more y j less.2 k in
       let p = split_pairs s.views id v (giver v) (given v) at refl refl refl in
-      let kept : bit_at (v.family - 2 ^ j) v.name ≡ 1 = n.4 in
+      let kept : bit_at (v.family - 2 ^ j) v.name ≡ 1 = n.stays in
       let live' : 0 < v.family - 2 ^ j = positive (v.family - 2 ^ j) v.name kept in
       record {
         two = r.two;
@@ -118,10 +133,10 @@ module _ {S : Type 0} (o : Opening) where
         next = r.next;
         seats = λ i u e. ⊎_elim
             (λ (was : get_elem? (set s.views id (giver v)) i ≡ some u). ⊎_elim
-            (λ (x : (i ≡ id) × (giver v ≡ u)). subst (IsSeat o.first next) x.1 (record { small = (omega arith, seat.small.1); named = λ _. (own_name.0, kept); spent = λ z. absurd (omega arith); seen = seat.seen; below = seat.below; rising = seat.rising; first = λ _. seat.first live }))
+            (λ (x : (i ≡ id) × (giver v ≡ u)). subst (IsSeat o.first next) x.1 (record { whole = record { family = omega arith; slots = seat.whole.slots; named = λ _. (own_name.0, kept) }; spent = λ z. absurd (omega arith); seen = seat.seen; below = seat.below; rising = seat.rising; first = λ _. seat.first live }))
             (λ (x : (i ≢ id) × (get_elem? s.views i ≡ some u)). r.seats i u x.1)
             (at_set s.views id i (giver v) u was))
-            (λ (is : given v ≡ u). subst (IsSeat o.first next) is (record { small = (pow_below j 64 n.0, omega arith); named = λ _. (n.0, bit_at-pow_same j); spent = λ _. (refl, refl); seen = seat.seen; below = tt; rising = λ _. tt; first = λ _. seat.first live }))
+            (λ (is : given v ≡ u). subst (IsSeat o.first next) is (record { whole = record { family = pow_below j 64 n.inside; slots = omega arith; named = λ _. (n.inside, bit_at-pow_same j) }; spent = λ _. (refl, refl); seen = seat.seen; below = tt; rising = λ _. tt; first = λ _. seat.first live }))
             (at_snoc (set s.views id (giver v)) (given v) u i e);
       }
     where

@@ -4,4 +4,6 @@ pub mod Rule
 pub mod Steps
 pub mod Outcome
 pub mod Moves
+pub mod MoveSteps
 pub mod Laws
+pub mod Plays

@@ -1,10 +1,11 @@
 -- A window as plain data, each kind of step on it, and runs of such steps in any order by any of
 -- its seats. An exchange that fails is a look at the word that it found.
-use Rattle.std.specs.Prelude.{◌≡◌, ◌≢◌, ℕ, ◌+◌, ◌-◌, ◌^◌, ◌<◌, List, [], ◌∷◌, ◌++◌, slice_index, slice_set}
+use Rattle.std.specs.Prelude.{◌≡◌, ◌≢◌, ℕ, ◌+◌, ◌-◌, ◌^◌, ◌<◌, ◌≤◌, List, [], ◌∷◌, ◌++◌, slice_index, slice_set}
 use Rattle.std.specs.Int.{bit_at}
 use mathlib.Core.Option.{some}
 use lib.ListN.{get_elem?}
 use Rattle.atomic_table.specs.Table.{State, opening}
+use Rattle.sms_core.specs.Limits.{most_slots, top_number}
 use Rattle.sms_window.specs.declared.view.View.{View}
 use Rattle.sms_window.specs.declared.view.Opening.{Opening}
 use Rattle.sms_window.specs.Seats.{CanSplit, Holds, met_with, with_slots, seen_with, drawn_with, giver, given, joined, nobody}
@@ -29,7 +30,7 @@ IsSeated s id v = IsThere s id v × (0 < v.family)
 
 -- a new window, with the keeper's seat
 abbrev pub new_window : Opening → Shared
-new_window o = opening ((2 ^ 64 - 2 ^ o.limit) ∷ o.first ∷ []) [] (keeper o)
+new_window o = opening ((2 ^ most_slots - 2 ^ o.limit) ∷ o.first ∷ []) [] (keeper o)
 
 -- after a step of the seat `id` on a word
 abbrev pub after_step : Shared → ℕ → ℕ → ℕ → View → Shared
@@ -49,17 +50,59 @@ pub data Move : Type 0 where
   looks_at_number : ℕ → Move
   draws : ℕ → Move
 
+-- In each of these the seat `id` steps, which has this view; the state after it is t
+pub record LooksAtWindow (s : Shared) (id : ℕ) (t : Shared) : Type 0 where
+  pub view : View
+  pub seated : IsSeated s id view
+  pub after : t ≡ after_step s 0 (window_word s) id (met_with view (window_word s))
+
+pub record ClaimsSlot (s : Shared) (id slot : ℕ) (t : Shared) : Type 0 where
+  pub view : View
+  pub seated : IsSeated s id view
+  pub inside : slot < most_slots
+  pub free : bit_at (window_word s) slot ≡ 0
+  pub after : t ≡ after_step s 0 (window_word s + 2 ^ slot) id (with_slots view (view.slots + 2 ^ slot) (window_word s + 2 ^ slot))
+
+pub record ReleasesSlot (s : Shared) (id slot : ℕ) (t : Shared) : Type 0 where
+  pub view : View
+  pub seated : IsSeated s id view
+  pub held : Holds view slot
+  pub after : t ≡ after_step s 0 (window_word s - 2 ^ slot) id (with_slots view (view.slots - 2 ^ slot) (window_word s - 2 ^ slot))
+
+pub record SplitsOff (s : Shared) (id : ℕ) (t : Shared) : Type 0 where
+  pub view : View
+  pub seated : IsSeated s id view
+  pub can : CanSplit view
+  pub after : t ≡ with_views s (slice_set s.views id (giver view) ++ given view ∷ [])
+
+-- the seat `other`, which has the view `theirs`, is taken in
+pub record TakesIn (s : Shared) (id other : ℕ) (t : Shared) : Type 0 where
+  pub view : View
+  pub theirs : View
+  pub seated : IsSeated s id view
+  pub there : IsSeated s other theirs
+  pub apart : other ≢ id
+  pub after : t ≡ with_views s (slice_set (slice_set s.views id (joined view theirs)) other nobody)
+
+pub record LooksAtNumber (s : Shared) (id : ℕ) (t : Shared) : Type 0 where
+  pub view : View
+  pub seated : IsSeated s id view
+  pub after : t ≡ after_step s 1 (number_word s) id (seen_with view (number_word s))
+
+pub record DrawsNext (s : Shared) (id : ℕ) (t : Shared) : Type 0 where
+  pub view : View
+  pub seated : IsSeated s id view
+  pub lawful : number_word s ≤ top_number
+  pub after : t ≡ after_step s 1 (number_word s + 1) id (drawn_with view (number_word s))
+
 abbrev pub Moves : Shared → Move → Shared → Type 0
-Moves s (looks id) t = (v : View) × IsSeated s id v × (t ≡ after_step s 0 (window_word s) id (met_with v (window_word s)))
-Moves s (claims id slot) t = (v : View) × IsSeated s id v × (slot < 64) × (bit_at (window_word s) slot ≡ 0)
-    × (t ≡ after_step s 0 (window_word s + 2 ^ slot) id (with_slots v (v.slots + 2 ^ slot) (window_word s + 2 ^ slot)))
-Moves s (releases id slot) t = (v : View) × IsSeated s id v × Holds v slot
-    × (t ≡ after_step s 0 (window_word s - 2 ^ slot) id (with_slots v (v.slots - 2 ^ slot) (window_word s - 2 ^ slot)))
-Moves s (splits id) t = (v : View) × IsSeated s id v × CanSplit v × (t ≡ with_views s (slice_set s.views id (giver v) ++ given v ∷ []))
-Moves s (joins id other) t = (v : View) × (w : View) × IsSeated s id v × IsSeated s other w × (other ≢ id)
-    × (t ≡ with_views s (slice_set (slice_set s.views id (joined v w)) other nobody))
-Moves s (looks_at_number id) t = (v : View) × IsSeated s id v × (t ≡ after_step s 1 (number_word s) id (seen_with v (number_word s)))
-Moves s (draws id) t = (v : View) × IsSeated s id v × (number_word s < 2147483648) × (t ≡ after_step s 1 (number_word s + 1) id (drawn_with v (number_word s)))
+Moves s (looks id) t = LooksAtWindow s id t
+Moves s (claims id slot) t = ClaimsSlot s id slot t
+Moves s (releases id slot) t = ReleasesSlot s id slot t
+Moves s (splits id) t = SplitsOff s id t
+Moves s (joins id other) t = TakesIn s id other t
+Moves s (looks_at_number id) t = LooksAtNumber s id t
+Moves s (draws id) t = DrawsNext s id t
 
 abbrev pub Runs : Shared → List Move → Shared → Type 0
 Runs s [] t = t ≡ s

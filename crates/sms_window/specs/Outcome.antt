@@ -1,6 +1,7 @@
 -- What each call says of the seat before and after.
 use Rattle.std.specs.Prelude.{◌≡◌, ℕ, ◌+◌, ◌-◌, ◌^◌, ◌<◌, ◌≤◌}
 use Rattle.std.specs.Int.{bit_at}
+use Rattle.sms_core.specs.Limits.{most_slots, top_number}
 use Rattle.sms_core.specs.Numbers.{AreDrawn, AllBelow}
 use Rattle.sms_window.specs.declared.view.View.{View}
 use Rattle.sms_window.specs.declared.view.Opening.{Opening}
@@ -12,7 +13,7 @@ use Rattle.sms_window.specs.declared.error.WindowError.{WindowError}
 use Rattle.sms_window.specs.declared.error.WindowError.TheVariants.{BadLimit, BadFirst, OutOfMemory}
 use Rattle.atomic_table.specs.Seated.{TableId}
 use Rattle.sms_window.specs.SeatState.{SeatState}
-use Rattle.sms_window.specs.Seats.{met_with, with_slots, seen_with, drawn_with, Holds, IsComplete}
+use Rattle.sms_window.specs.Seats.{used_up, met_with, with_slots, seen_with, drawn_with, Holds, IsComplete}
 use Rattle.sms_window.specs.Rule.{keeper}
 use Rattle.sms_window.specs.Steps.{IsClaim, IsRelease, IsDraw}
 
@@ -25,7 +26,7 @@ pub record GotSlot (v : View) (slot : ℕ) (w : View) : Type 0 where
 
 abbrev pub Claimed : View → Claim → View → Type 0
 Claimed v (Got slot) w = GotSlot v slot w
-Claimed v Full w = w ≡ met_with v (2 ^ 64 - 1)
+Claimed v Full w = w ≡ met_with v (2 ^ most_slots - 1)
 Claimed v (Contended found) w = w ≡ met_with v found
 
 -- the seat has the slot no more, by a release
@@ -38,19 +39,19 @@ pub record DrewNumber (v : View) (n : ℕ) (w : View) : Type 0 where
   pub after : w ≡ drawn_with v n
   pub draw : IsDraw v n w
   pub later : v.seen ≤ n
-  pub lawful : n ≤ 2147483647
+  pub lawful : n ≤ top_number
 
 abbrev pub Drawn : View → Draw → View → Type 0
 Drawn v (Number n) w = DrewNumber v n w
-Drawn v UsedUp w = w ≡ seen_with v 2147483648
+Drawn v UsedUp w = (w ≡ seen_with v used_up) × (v.seen ≤ used_up)
 Drawn v (DrawContended found) w = (w ≡ seen_with v found) × (v.seen ≤ found)
 
 abbrev pub IsLimit : ℕ → Type 0
-IsLimit limit = (1 ≤ limit) × (limit ≤ 64)
+IsLimit limit = (1 ≤ limit) × (limit ≤ most_slots)
 
 -- a sequence number that a request may have (SMPP 3.4 5.1.4)
 abbrev pub IsFirst : ℕ → Type 0
-IsFirst first = (1 ≤ first) × (first ≤ 2147483647)
+IsFirst first = (1 ≤ first) × (first ≤ top_number)
 
 abbrev pub opening_of : ℕ → ℕ → Opening
 opening_of limit first = record { limit = limit; first = first }
@@ -70,9 +71,10 @@ Refuses limit first OutOfMemory = IsLimit limit × IsFirst first
 
 -- what a window ends with, where the seat v was handed in
 pub record IsEnd (v : View) (word number : ℕ) : Type 0 where
-  pub slots : (k : ℕ) → k < 64 → bit_at v.slots k ≡ 1 → bit_at word k ≡ 1
+  pub slots : (k : ℕ) → k < most_slots → bit_at v.slots k ≡ 1 → bit_at word k ≡ 1
   pub numbers : AllBelow number v.numbers
-  pub next : (v.first ≤ number) × (number ≤ 2147483648)
+  pub next : (v.first ≤ number) × (number ≤ used_up)
+  pub seen : v.seen ≤ number
   pub held : IsComplete v → word ≡ v.slots
   -- each number from the first on was drawn once, and no other
   pub drawn : IsComplete v → AreDrawn v.first number v.numbers

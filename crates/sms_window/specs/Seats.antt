@@ -2,19 +2,34 @@
 use Rattle.std.specs.Prelude.{◌≡◌, ℕ, ◌+◌, ◌-◌, ◌^◌, ◌<◌, max, true, false, List, [], ◌∷◌, ◌++◌}
 use Rattle.std.specs.Int.{w64, leading_zeros, bit_at}
 use Rattle.sms_core.specs.Holds.{pairs_below}
+use Rattle.sms_core.specs.Limits.{most_slots, top_number}
 use Rattle.sms_window.specs.declared.view.View.{View}
+
+-- names are the numbers below it
+abbrev pub most_names : ℕ
+most_names = 64
+
+-- the number word once every number was drawn
+abbrev pub used_up : ℕ
+used_up = top_number + 1
 
 -- the seat holds the slot
 abbrev pub Holds : View → ℕ → Type 0
-Holds v slot = (slot < 64) × (bit_at v.slots slot ≡ 1)
+Holds v slot = (slot < most_slots) × (bit_at v.slots slot ≡ 1)
+
+-- the names and the slots of a seat are words, and its own name is in its family
+pub record IsWhole (own names held : ℕ) : Type 0 where
+  pub family : names < 2 ^ most_names
+  pub slots : held < 2 ^ most_slots
+  pub named : 0 < names → (own < most_names) × (bit_at names own ≡ 1)
 
 -- the pairs of its name and a slot that it holds
 abbrev pub own_pairs : View → List (ℕ × ℕ)
-own_pairs v = pairs_below v.name v.slots 64
+own_pairs v = pairs_below v.name v.slots most_slots
 
 -- it has all names, so every other seat was joined, and its own are all slots and numbers of the window
 abbrev pub IsComplete : View → Type 0
-IsComplete v = v.family ≡ 2 ^ 64 - 1
+IsComplete v = v.family ≡ 2 ^ most_names - 1
 
 -- the family but for the seat's own name
 abbrev pub other_names : View → ℕ

@@ -1,17 +1,24 @@
 //! The laws of a window, over every state that meets its rule and every run of steps. Each holds of
 //! all numbers of seats and threads, in any order of their steps.
 ghost use Rattle.sms_window.specs.Laws.{RuleIsOrderly, OpeningMeetsRule, MoveKeepsRule, RunIsOrderly, MoveIsStep, ClaimedOnce, DrawnOnce, DroppedStays, GivesGreatest};
+ghost use Rattle.sms_window.specs.Plays.{loaded, exchanged, masked, IsLook, IsClaimOrLook, IsReleased, IsLookAtNumber, IsDrawOrLook, StepsAre, SplitIsMove, JoinIsMove};
 
-/// What the rule says in plain terms: the seats' pairs are a lawful hold set whose word is the
+use crate::rule::{
+    ExchangeClaim, ExchangeDraw, Families, FetchRelease, LoadNumber, LoadWindow, WindowRule,
+};
+use crate::view::{Opening, View};
+use atomic_table::{Join, Play, Split, TableRule};
+
+/// What the rule of a window's table says in plain terms: the seats' pairs are a lawful hold set whose word is the
 /// window word, their numbers are those from the first to below the number word, each once, and no
 /// two families share a name.
 pub fn rule_is_orderly()
-    ensures { RuleIsOrderly }
+    ensures { RuleIsOrderly ⟦<WindowRule as TableRule<(), View, Opening>>⟧.holds }
 {}
 
 /// A new window meets the rule.
 pub fn opening_meets_rule()
-    ensures { OpeningMeetsRule }
+    ensures { OpeningMeetsRule ⟦<WindowRule as TableRule<(), View, Opening>>⟧.holds ⟦<WindowRule as TableRule<(), View, Opening>>⟧.first }
 {}
 
 /// Each kind of step keeps the rule.
@@ -24,7 +31,8 @@ pub fn run_is_orderly()
     ensures { RunIsOrderly }
 {}
 
-/// Each kind of step is the step on hold sets of its name, and a draw is one on drawn numbers.
+/// Each kind of step is the step on hold sets of its name, and a draw is one on drawn numbers. The
+/// seat that steps on a word knows that word then; names change by splits and joins alone.
 pub fn move_is_step()
     ensures { MoveIsStep }
 {}
@@ -48,4 +56,35 @@ pub fn dropped_stays()
 /// A seat can split where its family has a name beside its own, and gives the greatest of these.
 pub fn gives_greatest()
     ensures { GivesGreatest }
+{}
+
+/// The program's load of the window word is a look at it.
+pub fn load_is_look()
+    ensures { StepsAre ⟦<LoadWindow as Play<(), View>>⟧.then loaded IsLook }
+{}
+
+/// Its exchange of the window word is a claim, or a look where it finds another word.
+pub fn exchange_is_claim()
+    ensures { StepsAre ⟦<ExchangeClaim as Play<(), View>>⟧.then exchanged IsClaimOrLook }
+{}
+
+/// Its change of the window word by a mask is a release.
+pub fn fetch_is_release()
+    ensures { StepsAre ⟦<FetchRelease as Play<(), View>>⟧.then masked IsReleased }
+{}
+
+/// Its load of the number word is a look at it.
+pub fn number_load_is_look()
+    ensures { StepsAre ⟦<LoadNumber as Play<(), View>>⟧.then loaded IsLookAtNumber }
+{}
+
+/// Its exchange of the number word is a draw, or a look where it finds another number.
+pub fn exchange_is_draw()
+    ensures { StepsAre ⟦<ExchangeDraw as Play<(), View>>⟧.then exchanged IsDrawOrLook }
+{}
+
+/// Its split of a seat, and its join of two, are those of the laws.
+pub fn families_are_moves()
+    ensures split { SplitIsMove ⟦<Families as Split<View>>⟧.left ⟦<Families as Split<View>>⟧.right }
+    ensures join { JoinIsMove ⟦<Families as Join<View>>⟧.both ⟦<Families as Join<View>>⟧.spent }
 {}

@@ -4,6 +4,7 @@ ghost use Rattle.sms_window.specs.Seats.{CanSplit, Holds};
 
 use crate::view::View;
 use atomic_table::Seat;
+use sms_core::MOST_SLOTS;
 use std::marker::Model;
 
 /// A seat of a window, with which a thread steps. It has a name, a family of names to give to other
@@ -18,15 +19,13 @@ pub struct WindowSeat {
 }
 
 impl Model for WindowSeat {
-    ghost use Rattle.std.specs.Prelude.{◌≡◌, ◌<◌, []};
-    ghost use Rattle.std.specs.Int.{bit_at};
-    ghost use Rattle.sms_window.specs.SeatState.{SeatState};
+    ghost use Rattle.sms_window.specs.SeatState.{SeatState, IsSound};
 
     ghost Value = { SeatState };
 
     ghost view = { λ s. record { window = s.seat.table_id; view = s.seat.me.0 } };
 
-    ghost invariant = { λ s. (s.seat.me.1 ≡ []) × (s.name ≡ s.seat.me.0.name) × (s.family ≡ s.seat.me.0.family) × (s.slots ≡ s.seat.me.0.slots) × (s.name < 64) × (bit_at s.family s.name ≡ 1) };
+    ghost invariant = { λ s. IsSound s.seat.me.0 s.seat.me.1 s.name s.family s.slots };
 }
 
 impl WindowSeat {
@@ -41,6 +40,6 @@ impl WindowSeat {
     pub fn holds(&self, slot: u32) -> bool
         ensures { IsTrue result ↔ Holds self.now.view slot }
     {
-        slot < 64 && (self.slots >> slot) & 1 == 1
+        slot < MOST_SLOTS && (self.slots >> slot) & 1 == 1
     }
 }

@@ -12,6 +12,7 @@ use crate::rule::{
 use crate::seat::WindowSeat;
 use crate::view::{Opening, View};
 use atomic_table::Table;
+use sms_core::{MOST_SLOTS, TOP_NUMBER};
 use std::alloc::Global;
 use std::marker::Model;
 
@@ -56,13 +57,17 @@ impl Window {
         ensures made { IfOk result (λ r. IsMade limit first r.0 r.1) }
         ensures refused { IfErr result (λ e. Refuses limit first e) }
     {
-        if limit < 1 || limit > 64 {
+        if limit < 1 || limit > MOST_SLOTS {
             return Err(WindowError::BadLimit);
         }
-        if first < 1 || first > 0x7FFF_FFFF {
+        if first < 1 || first > TOP_NUMBER {
             return Err(WindowError::BadFirst);
         }
-        let held = if limit == 64 { 0 } else { u64::MAX << limit };
+        let held = if limit == MOST_SLOTS {
+            0
+        } else {
+            u64::MAX << limit
+        };
         let opening = Opening { limit, first };
         let Ok((table, seat)) = Table::of_words(alloc, &[held, u64::from(first)], &opening) else {
             return Err(WindowError::OutOfMemory);
@@ -170,7 +175,7 @@ impl Window {
         ensures drawn { Drawn seat.old.view result seat.new.view }
     {
         let found = self.table.shared.load::<LoadNumber>(&mut seat.seat, 1);
-        if found > 0x7FFF_FFFF {
+        if found > u64::from(TOP_NUMBER) {
             return Draw::UsedUp;
         }
         let now = self

@@ -13,9 +13,9 @@ join_seat-requires c =
     let w = c.self.invariant in (
       ap (λ (p : SeatState). p.window) c.seat.view_is ∙ c.requires.own.0 ∙ sym c.self.view_is,
       ap (λ (p : SeatState). p.window) c.other.view_is ∙ c.requires.own.1 ∙ sym c.self.view_is,
-      j.0,
+      j.empty,
       omega arith,
-      joins_keeps _ _ _ _ _ (live _ c.seat.inside.name (ap (λ (w : ℕ). bit_at w c.seat.inside.name) (sym i.2) ∙ i.5)) (live _ c.other.inside.name (ap (λ (w : ℕ). bit_at w c.other.inside.name) (sym j.2) ∙ j.5)),
+      joins_keeps _ _ _ _ _ (live _ c.seat.inside.name (ap (λ (w : ℕ). bit_at w c.seat.inside.name) (sym i.family) ∙ i.has_own)) (live _ c.other.inside.name (ap (λ (w : ℕ). bit_at w c.other.inside.name) (sym j.family) ∙ j.has_own)),
     )
 
 pub load-requires : goal.load-requires

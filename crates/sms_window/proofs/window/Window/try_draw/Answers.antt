@@ -1,6 +1,5 @@
 use Rattle.std.proofs.Common.{◌≡◌, ℕ, refl, sym, ap, ◌∙◌, arith}
 use Rattle.std.specs.Int.{bit_at}
-use Rattle.atomic_table.specs.Table.{Me}
 use Rattle.sms_window.specs.declared.view.View.{View}
 use Rattle.sms_window.specs.SeatState.{SeatState}
 use Rattle.sms_window.proofs.Allows.{load_number_allows, exchange_draw_allows}
@@ -14,8 +13,8 @@ pub compare_exchange-now-requires : goal.compare_exchange-now-requires
 compare_exchange-now-requires c =
     let l = c.load-found.ensures in
     let i = c.seat.invariant in
-    let family : c.load-found.new.seat.me.0.family ≡ c.seat.inside.family = ap (λ (m : Me (Unit {0}) View). m.0.family) l.2.0 ∙ sym i.2 in (
+    let family : c.load-found.new.seat.me.0.family ≡ c.seat.inside.family = ap (λ (v : View). v.family) l.2.0.after ∙ sym i.family in (
       l.0 ∙ ap (λ (p : SeatState). p.window) c.seat.view_is ∙ c.requires.own ∙ sym c.self.view_is,
       (let w = c.self.invariant in omega arith),
-      exchange_draw_allows _ _ _ _ _ _ (omega arith) refl (live c.load-found.new.seat.me.0.family c.seat.inside.name (ap (λ (w : ℕ). bit_at w c.seat.inside.name) family ∙ i.5)),
+      exchange_draw_allows _ _ _ _ _ _ (omega arith) refl (live c.load-found.new.seat.me.0.family c.seat.inside.name (ap (λ (w : ℕ). bit_at w c.seat.inside.name) family ∙ i.has_own)),
     )
