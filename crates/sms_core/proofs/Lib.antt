@@ -1,8 +1,11 @@
 pub mod Bits
+pub mod Digits
 pub mod Pairs
 pub mod Held
 pub mod Places
 pub mod Table
+pub mod ListSums
+pub mod AccountSums
 pub mod Sums
 pub mod Marked
 pub mod Running

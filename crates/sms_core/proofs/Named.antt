@@ -3,12 +3,14 @@ use Rattle.std.proofs.Common.{◌≡◌, ◌≢◌, ℕ, ◌+◌, ◌≤◌, ◌
 use Rattle.std.specs.Prelude.{if◌then◌else◌}
 use mathlib.Core.Logic.{dite}
 use native.Mathlib.Decide.{ℕ_discrete}
+use Rattle.std.proofs.lemmas.List.{map-append}
 use Rattle.sms_core.specs.declared.request.Phase.{Phase}
 use Rattle.sms_core.specs.declared.request.Phase.TheVariants.{Ready, Open, Charged, Refused, Unanswered, Unsent}
 use Rattle.sms_core.specs.declared.request.Request.{Request}
 use Rattle.sms_core.specs.declared.request.RequestState.{RequestState}
 use Rattle.sms_core.specs.Rows.{reserved_of, charged_of, over}
 use Rattle.sms_core.specs.State.{entry_of, find_request, changed}
+use Rattle.sms_core.proofs.AccountSums.{over-cons, over_push}
 
 -- a request is found at the head or behind it
 pub find_head : (id : ℕ) (r : Request) (rs : List Request) → r.id ≡ id → find_request id (r ∷ rs) ≡ Some r.state
@@ -119,16 +121,19 @@ over_changed g account id f (r ∷ rs) s a e = dite (ℕ_discrete r.id id)
     let none : find_request id rs ≡ None = ap (λ (n : ℕ). find_request n rs) (sym is) ∙ a.0 in
     let rest : over g account (map entry_of (changed id f rs)) ≡ over g account (map entry_of rs) = ap (λ (l : List Request). over g account (map entry_of l)) (unchanged id f rs none) in
     let old : share g account r.state ≡ share g account s = ap (share g account) at in
+    let was = over-cons g account (entry_of r) (map entry_of rs) in
+    let now = over-cons g account (entry_of (changed_one id f r)) (map entry_of (changed id f rs)) in
     let new : share g account (changed_one id f r).state ≡ share g account (f s) = ap (λ (x : Request). share g account x.state) (changed_this id f r is) ∙ ap (λ (x : RequestState). share g account (f x)) at in
     omega arith)
     (λ ne.
+    let was = over-cons g account (entry_of r) (map entry_of rs) in
+    let now = over-cons g account (entry_of (changed_one id f r)) (map entry_of (changed id f rs)) in
     let rest = over_changed g account id f rs s a.1 (sym (find_behind id r rs ne) ∙ e) in
     let head : share g account (changed_one id f r).state ≡ share g account r.state = ap (λ (x : Request). share g account x.state) (changed_other id f r ne) in
     omega arith)
 
 pub over_more : (g : Phase → ℕ → ℕ) (account : ℕ) (rs : List Request) (x : Request) → over g account (map entry_of (rs ++ x ∷ [])) ≡ over g account (map entry_of rs) + share g account x.state
-over_more g account [] x = omega arith
-over_more g account (r ∷ rs) x = omega (arith, over_more g account rs x)
+over_more g account rs x = rw (map-append entry_of rs (x ∷ [])) (over_push g account (map entry_of rs) (entry_of x))
 
 committed_most : (p : Phase) (cost : ℕ) → reserved_of p cost + charged_of p cost ≤ cost
 committed_most Ready cost = omega arith

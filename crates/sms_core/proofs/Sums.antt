@@ -19,14 +19,14 @@ use Rattle.sms_core.specs.RowMoves.{row_after}
 use Rattle.sms_core.specs.State.{entry_of, changed, find_request}
 use Rattle.sms_core.specs.Ledger.{Records, IsRowOf, AreRows, is_named, is_open_named, one_if_open, one_if_ready, excess, cost_of, AreRequests, IsKept, IsLive, became}
 use Rattle.sms_core.specs.Steps.{reserved_request}
+use Rattle.sms_core.proofs.AccountSums.{over-map}
 
 -- what a request adds to an account
 abbrev pub share : (Phase → ℕ → ℕ) → ℕ → Request → ℕ
 share f account r = part f account (entry_of r)
 
 pub over-sum_by : (f : Phase → ℕ → ℕ) (account : ℕ) (rs : List Request) → over f account (map entry_of rs) ≡ sum_by (share f account) rs
-over-sum_by f account [] = refl
-over-sum_by f account (r ∷ rs) = rw (sum_by-cons (share f account) r rs, over-sum_by f account rs) refl
+over-sum_by f account rs = over-map f account entry_of rs
 
 pub over-set : (f : Phase → ℕ → ℕ) (account : ℕ) (rs : List Request) (p : ℕ) (r d : Request) → p < length rs →
     over f account (map entry_of (set rs p r)) + share f account (get_or rs p d) ≡ over f account (map entry_of rs) + share f account r

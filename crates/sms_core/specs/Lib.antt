@@ -1,4 +1,5 @@
 pub mod Limits
+pub mod Decimal
 pub mod Holds
 pub mod Numbers
 pub mod Statuses

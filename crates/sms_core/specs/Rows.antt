@@ -1,6 +1,6 @@
 -- Accounts: what their entries add up to, and the law of a row. An entry is whatever has an account, a cost and an
 -- outcome: a request of the core, or the end of a segment.
-use Rattle.std.specs.Prelude.{◌≡◌, ℕ, ◌+◌, ◌-◌, ◌==◌, List, [], ◌∷◌, if◌then◌else◌}
+use Rattle.std.specs.Prelude.{◌≡◌, ℕ, ◌+◌, ◌-◌, ◌==◌, List, sum_by, if◌then◌else◌}
 use Rattle.sms_core.specs.declared.row.Row.{Row}
 use Rattle.sms_core.specs.declared.request.Phase.{Phase}
 use Rattle.sms_core.specs.declared.request.Phase.TheVariants.{Ready, Open, Charged, Refused, Unanswered, Unsent}
@@ -45,8 +45,7 @@ part f account e = if e.account == account then f e.phase e.cost else 0
 
 -- what all entries add to an account
 abbrev pub over : (Phase → ℕ → ℕ) → ℕ → List Entry → ℕ
-over f account [] = 0
-over f account (e ∷ es) = part f account e + over f account es
+over f account es = sum_by (part f account) es
 
 -- the row of an account with these top-ups and entries
 abbrev pub row_of : ℕ → ℕ → List Entry → Row

@@ -5,6 +5,7 @@
 //! account sums, the row law, marks, and the world's step.
 #![tactic(auto)]
 
+mod decimal;
 mod event;
 pub mod laws;
 mod ledger;
@@ -21,6 +22,7 @@ mod tables;
 mod tests;
 mod world;
 
+pub use decimal::decimal_of;
 pub use event::{Cause, Event, Step};
 pub use limits::{LARGEST_COST, MOST_ACCOUNTS, MOST_ATTEMPTS, MOST_SLOTS, MOST_TOPPED, TOP_NUMBER};
 pub use mark::Mark;

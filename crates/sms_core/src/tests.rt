@@ -192,3 +192,21 @@ fn discards_and_retries(rt: HostRuntime) -> Result<(), Fail> {
     }
     Ok(())
 }
+
+#[test]
+fn reads_decimal_numbers(rt: HostRuntime) -> Result<(), Fail> {
+    assert_eq!(rt; decimal_of(b"0", 0), Some(0));
+    assert_eq!(rt; decimal_of(b"00000000000000000007", 9), Some(7));
+    assert_eq!(rt; decimal_of(b"000000000000000000007", 9), None);
+    assert_eq!(rt; decimal_of(b"4294967295", 0xFFFF_FFFF), Some(0xFFFF_FFFF));
+    assert_eq!(rt; decimal_of(b"4294967296", 0xFFFF_FFFF), None);
+    assert_eq!(rt;
+        decimal_of(b"18446744073709551615", u64::MAX),
+        Some(u64::MAX)
+    );
+    assert_eq!(rt; decimal_of(b"18446744073709551616", u64::MAX), None);
+    for text in ["", " 1", "1 ", "+1", "-1", "1e3", "0x10", "1_000"] {
+        assert_eq!(rt; decimal_of(text.as_bytes(), u64::MAX), None);
+    }
+    Ok(())
+}

@@ -1,4 +1,3 @@
-pub mod Digits
 pub mod Left
 pub mod ReadErrors
 pub mod Events

@@ -1,10 +1,10 @@
 use Rattle.std.proofs.Common.{◌≡◌, drop}
 use Rattle.std.specs.Str.{all_ascii_digits}
 use Rattle.std.specs.Str.Parse.{digits_value, digits_value_after}
-use Rattle.sms_send.proofs.field.number_of.Given as goal
+use Rattle.sms_core.proofs.decimal.decimal_of.Given as goal
 
 abbrev pub invariant-loop-digit : goal.invariant-loop-digit
 invariant-loop-digit l = record {
-  value : digits_value_after 10 l.number (drop l.digit-index l.field) ≡ digits_value 10 l.field;
-  digits : all_ascii_digits (drop l.digit-index l.field) ≡ all_ascii_digits l.field;
+  value : digits_value_after 10 l.number (drop l.digit-index l.text) ≡ digits_value 10 l.text;
+  digits : all_ascii_digits (drop l.digit-index l.text) ≡ all_ascii_digits l.text;
 }
