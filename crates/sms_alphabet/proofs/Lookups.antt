@@ -1,5 +1,5 @@
 -- The look-ups of the code agree with the alphabet's table.
-use Rattle.std.proofs.Common.{◌≡◌, ◌≢◌, ℕ, ◌<◌, inl, inr, Bool, true, false, not, ◌&&◌, ◌||◌, eqb, ltb, List, [], ◌∷◌, get_or, Option, None, Some, refl, ap}
+use Rattle.std.proofs.Common.{◌≡◌, ◌≢◌, ℕ, ◌/◌, ◌%◌, ◌<◌, inl, inr, Bool, true, false, not, ◌&&◌, ◌||◌, eqb, ltb, List, [], ◌∷◌, get_or, Option, None, Some, refl, ap}
 use Rattle.std.proofs.lemmas.Bool.{eqb-true, eqb-false, ltb-true, and_parts, or_cases, not-true, agree_below, agree_below_at}
 use Rattle.std.proofs.lemmas.Slice.Eq.{bytes_eq-Decides}
 use Rattle.std.specs.List.{list_all, list_any}
@@ -38,18 +38,21 @@ latin_code c below other =
       | inr is ↦ found_codes (codes_of c) (get_or LATIN_CODES c 0 ∷ []) is
     ]
 
--- the characters by their codes
-characters_agree : agree_below (λ n. eqb n escape || is_found (codes_of (get_or CHARACTERS n 0)) (n ∷ [])) (λ _. true) 128 ≡ true
+-- the character in a code's row, at its place there
+abbrev pub character_at : ℕ → ℕ
+character_at code = get_or (get_or CHARACTERS (code / 16) []) (code % 16) 0
+
+characters_agree : agree_below (λ n. eqb n escape || is_found (codes_of (character_at n)) (n ∷ [])) (λ _. true) 128 ≡ true
 unfolding codes_of default_alphabet
 characters_agree = refl
 
-pub basic_code : (code : ℕ) → code < 128 → code ≢ escape → codes_of (get_or CHARACTERS code 0) ≡ Some (code ∷ [])
+pub basic_code : (code : ℕ) → code < 128 → code ≢ escape → codes_of (character_at code) ≡ Some (code ∷ [])
 basic_code code below other =
-    let same : (eqb code escape || is_found (codes_of (get_or CHARACTERS code 0)) (code ∷ [])) ≡ true =
-    agree_below_at (λ n. eqb n escape || is_found (codes_of (get_or CHARACTERS n 0)) (n ∷ [])) (λ _. true) 128 code characters_agree below in
-    elim (or_cases (eqb code escape) (is_found (codes_of (get_or CHARACTERS code 0)) (code ∷ [])) same) [
+    let same : (eqb code escape || is_found (codes_of (character_at code)) (code ∷ [])) ≡ true =
+    agree_below_at (λ n. eqb n escape || is_found (codes_of (character_at n)) (n ∷ [])) (λ _. true) 128 code characters_agree below in
+    elim (or_cases (eqb code escape) (is_found (codes_of (character_at code)) (code ∷ [])) same) [
       | inl is ↦ absurd (other (eqb-true _ _ is))
-      | inr is ↦ found_codes (codes_of (get_or CHARACTERS code 0)) (code ∷ []) is
+      | inr is ↦ found_codes (codes_of (character_at code)) (code ∷ []) is
     ]
 
 -- n is none of the numbers

@@ -5,8 +5,8 @@ ghost use Rattle.std.specs.Option.{option_map};
 ghost use Rattle.sms_alphabet.specs.Alphabet.{codes_of, IsCharacterOf};
 ghost use Rattle.sms_alphabet.specs.Code.{codes};
 
-/// The escape to the extension table. It is no character's code by itself.
-pub(crate) const ESCAPE: u8 = 0x1b;
+/// The escape to the extension table (3GPP TS 23.038 6.2.1.1). It is no character's code by itself.
+pub const ESCAPE: u8 = 0x1b;
 
 /// Where the alphabet has a character.
 #[derive(Clone, Copy)]
@@ -38,18 +38,33 @@ static LATIN_CODES: [u8; 256] = [
     0x1b, 0x7d, 0x08, 0x1b, 0x1b, 0x1b, 0x7c, 0x1b, 0x0c, 0x06, 0x1b, 0x1b, 0x7e, 0x1b, 0x1b, 0x1b,
 ];
 
-// The characters of the codes 0x00 to 0x7F in the default alphabet. At the escape stands U+001B,
-// which no look-up gives.
-static CHARACTERS: [char; 128] = [
-    '@', '\u{a3}', '$', '\u{a5}', '\u{e8}', '\u{e9}', '\u{f9}', '\u{ec}', '\u{f2}', '\u{c7}', '\n',
-    '\u{d8}', '\u{f8}', '\r', '\u{c5}', '\u{e5}', '\u{394}', '_', '\u{3a6}', '\u{393}', '\u{39b}',
-    '\u{3a9}', '\u{3a0}', '\u{3a8}', '\u{3a3}', '\u{398}', '\u{39e}', '\u{1b}', '\u{c6}', '\u{e6}',
-    '\u{df}', '\u{c9}', ' ', '!', '"', '#', '\u{a4}', '%', '&', '\'', '(', ')', '*', '+', ',', '-',
-    '.', '/', '0', '1', '2', '3', '4', '5', '6', '7', '8', '9', ':', ';', '<', '=', '>', '?',
-    '\u{a1}', 'A', 'B', 'C', 'D', 'E', 'F', 'G', 'H', 'I', 'J', 'K', 'L', 'M', 'N', 'O', 'P', 'Q',
-    'R', 'S', 'T', 'U', 'V', 'W', 'X', 'Y', 'Z', '\u{c4}', '\u{d6}', '\u{d1}', '\u{dc}', '\u{a7}',
-    '\u{bf}', 'a', 'b', 'c', 'd', 'e', 'f', 'g', 'h', 'i', 'j', 'k', 'l', 'm', 'n', 'o', 'p', 'q',
-    'r', 's', 't', 'u', 'v', 'w', 'x', 'y', 'z', '\u{e4}', '\u{f6}', '\u{f1}', '\u{fc}', '\u{e0}',
+// The characters of the default alphabet by their codes, a row for each column of the standard's
+// table: 0x00 to 0x0F, 0x10 to 0x1F and so on. At the escape stands U+001B, which no look-up gives.
+static CHARACTERS: [[char; 16]; 8] = [
+    [
+        '@', '£', '$', '¥', 'è', 'é', 'ù', 'ì', 'ò', 'Ç', '\n', 'Ø', 'ø', '\r', 'Å', 'å',
+    ],
+    [
+        'Δ', '_', 'Φ', 'Γ', 'Λ', 'Ω', 'Π', 'Ψ', 'Σ', 'Θ', 'Ξ', '\u{1b}', 'Æ', 'æ', 'ß', 'É',
+    ],
+    [
+        ' ', '!', '"', '#', '¤', '%', '&', '\'', '(', ')', '*', '+', ',', '-', '.', '/',
+    ],
+    [
+        '0', '1', '2', '3', '4', '5', '6', '7', '8', '9', ':', ';', '<', '=', '>', '?',
+    ],
+    [
+        '¡', 'A', 'B', 'C', 'D', 'E', 'F', 'G', 'H', 'I', 'J', 'K', 'L', 'M', 'N', 'O',
+    ],
+    [
+        'P', 'Q', 'R', 'S', 'T', 'U', 'V', 'W', 'X', 'Y', 'Z', 'Ä', 'Ö', 'Ñ', 'Ü', '§',
+    ],
+    [
+        '¿', 'a', 'b', 'c', 'd', 'e', 'f', 'g', 'h', 'i', 'j', 'k', 'l', 'm', 'n', 'o',
+    ],
+    [
+        'p', 'q', 'r', 's', 't', 'u', 'v', 'w', 'x', 'y', 'z', 'ä', 'ö', 'ñ', 'ü', 'à',
+    ],
 ];
 
 /// Where the alphabet has the character, if it does.
@@ -103,7 +118,8 @@ pub(crate) fn basic_character(code: u16) -> Option<char>
     if code >= 128 || code == ESCAPE as u16 {
         return None;
     }
-    Some(CHARACTERS[code as usize])
+    let code = code as usize;
+    Some(CHARACTERS[code / 16][code % 16])
 }
 
 /// The character that has this code in the extension table.

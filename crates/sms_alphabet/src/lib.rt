@@ -12,6 +12,7 @@ mod reading;
 mod spelling;
 mod units;
 
+pub use alphabet::ESCAPE;
 pub use coded::{Coded, Coding};
 pub use reading::{TextError, text_of};
 pub use spelling::{choose, septets, ucs2};

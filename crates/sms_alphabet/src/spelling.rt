@@ -1,9 +1,8 @@
 //! From a text to its units.
-ghost use Rattle.std.specs.Prelude.{◌≡◌, ◌↔◌, ◌++◌, IfOk, IsSome, IsTrue};
-ghost use Rattle.std.specs.Option.{option_map};
+ghost use Rattle.std.specs.Prelude.{◌≡◌, ◌↔◌, IfOk, IsSome};
 ghost use Rattle.std.specs.Str.{chars};
-ghost use Rattle.sms_alphabet.specs.Spelling.{IsCodable, Spells, chosen, gsm_spelling, ucs2_spelling};
-ghost use Rattle.sms_alphabet.specs.Writing.{items_of, IsWritten};
+ghost use Rattle.sms_alphabet.specs.Spelling.{IsCodable, IsLawful, Spells, chosen, gsm_spelling, ucs2_spelling};
+ghost use Rattle.sms_alphabet.specs.Writing.{items_of};
 
 use crate::alphabet::{Code, ESCAPE, code_of};
 use crate::coded::{Coded, Coding};
@@ -37,7 +36,9 @@ pub fn ucs2(alloc: Global, text: &str) -> Result<Vec<u16>, AllocError>
     ensures { IfOk result (λ units. units.items ≡ ucs2_spelling (chars text.now)) }
 {
     let mut units = Vec::with_capacity(alloc, text.len())?;
-    write_ucs2(&mut units, text)?;
+    for unit in text.encode_utf16() {
+        units.push(unit)?;
+    }
     Ok(units)
 }
 
@@ -47,46 +48,23 @@ pub fn choose(alloc: Global, text: &str) -> Result<Coded, AllocError>
     ensures chosen { IfOk result (λ coded. coded ≡ chosen (chars text.now)) }
     ensures codable { IfOk result (λ coded. (coded.coding ≡ Coding.Gsm) ↔ IsCodable (chars text.now)) }
     ensures spelled { IfOk result (λ coded. Spells coded (chars text.now)) }
+    ensures lawful { IfOk result (λ coded. IsLawful coded) }
 {
-    let mut units = Vec::with_capacity(alloc, text.len())?;
-    if write_codes(&mut units, text)? {
-        return Ok(Coded {
+    match septets(alloc, text)? {
+        Some(codes) => Ok(Coded {
             coding: Coding::Gsm,
-            units: Units::new(units),
-        });
+            units: Units::new(units_of(alloc, codes.as_slice())?),
+        }),
+        None => Ok(Coded {
+            coding: Coding::Ucs2,
+            units: Units::new(ucs2(alloc, text)?),
+        }),
     }
-    units.clear();
-    write_ucs2(&mut units, text)?;
-    Ok(Coded {
-        coding: Coding::Ucs2,
-        units: Units::new(units),
-    })
 }
 
-/// Adds the codes of the text's characters, up to the first that has none, and says whether that
-/// was all.
-fn write_codes(units: &mut Vec<u16>, text: &str) -> Result<bool, AllocError>
-    ensures { IfOk result (λ all. IsWritten all units.old.items units.new.items (gsm_spelling (chars text.now))) }
+/// The codes as units, which have room for UTF-16 too.
+fn units_of(alloc: Global, codes: &[u8]) -> Result<Vec<u16>, AllocError>
+    ensures { IfOk result (λ units. units.items ≡ codes.now) }
 {
-    for c in text.chars() {
-        match code_of(c) {
-            Some(Code::Basic(code)) => units.push(u16::from(code))?,
-            Some(Code::Extension(code)) => {
-                units.push(u16::from(ESCAPE))?;
-                units.push(u16::from(code))?;
-            }
-            None => return Ok(false),
-        }
-    }
-    Ok(true)
-}
-
-/// Adds the UTF-16 code units of the text.
-fn write_ucs2(units: &mut Vec<u16>, text: &str) -> Result<(), AllocError>
-    ensures { IfOk result (λ _. units.new.items ≡ units.old.items ++ ucs2_spelling (chars text.now)) }
-{
-    for unit in text.encode_utf16() {
-        units.push(unit)?;
-    }
-    Ok(())
+    codes.iter().map(|code| u16::from(*code)).collect(alloc)
 }

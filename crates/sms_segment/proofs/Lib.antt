@@ -6,3 +6,4 @@ pub mod TextLemmas
 pub mod EscapeLemmas
 pub mod PartLemmas
 pub mod JoinLemmas
+pub mod SizeLemmas

@@ -8,7 +8,7 @@ use Rattle.sms_alphabet.specs.declared.coded.Coding.TheVariants.{Gsm, Ucs2}
 use Rattle.sms_alphabet.specs.declared.coded.Coded.{Coded}
 use Rattle.sms_segment.specs.declared.part.Part.{Part}
 use Rattle.sms_segment.specs.declared.place.Reference.{Reference}
-use Rattle.sms_segment.specs.declared.place.Reference.TheVariants.{Short}
+use Rattle.sms_segment.specs.declared.place.Reference.TheVariants.{Short, Long}
 use Rattle.sms_segment.specs.Group.{groups}
 use Rattle.sms_segment.specs.Front.{IsFront}
 use Rattle.sms_segment.specs.Limits.{single_limit, part_limit}
@@ -23,6 +23,8 @@ use Rattle.sms_segment.proofs.FrontLemmas.{full_cutting-front}
 pub pair_fits : (reference : Reference) (coding : Coding) → 2 ≤ part_limit reference coding
 pair_fits (Short number) Gsm = omega arith
 pair_fits (Short number) Ucs2 = omega arith
+pair_fits (Long number) Gsm = omega arith
+pair_fits (Long number) Ucs2 = omega arith
 
 module _ (text : Coded) (reference : Reference) where
   text_parts-short : length text.units ≤ single_limit text.coding → text_parts text reference ≡ groups text.coding text.units ∷ []
@@ -146,3 +148,14 @@ parts_of-count text reference count long same =
 pub length-text_parts : (text : Coded) (reference : Reference) (limit : ℕ) (units : List ℕ) → single_limit text.coding < length text.units → limit ≡ part_limit reference text.coding → units ≡ text.units → length (text_parts text reference) ≡ length (full_cutting limit (groups text.coding units))
 length-text_parts text reference limit units long limit_is units_are =
     ap length (text_parts-long text reference long) ∙ rw (limit_is, units_are) refl
+
+-- a text is sent as one part at least
+pub some-parts_of : (text : Coded) (reference : Reference) → 0 < length (parts_of text reference)
+some-parts_of text reference =
+    elim (cases_lt (single_limit text.coding) (length text.units)) [
+      | inl long ↦
+          let left : 0 < length text.units = omega arith in
+          let parts = some_parts text.coding (part_limit reference text.coding) text.units left in
+          rw (length-parts_of text reference, text_parts-long text reference long) parts
+      | inr short ↦ rw (parts_of-short text reference short) (omega arith)
+    ]

@@ -3,10 +3,11 @@
 use Rattle.std.specs.Prelude.{ℕ, Bool, true, ◌&&◌, ◌==◌, nat_le, nat_lt, List, [], ◌∷◌, if◌then◌else◌}
 use Rattle.sms_alphabet.specs.declared.coded.Coding.{Coding}
 use Rattle.sms_alphabet.specs.declared.coded.Coding.TheVariants.{Gsm, Ucs2}
+use Rattle.sms_alphabet.specs.Alphabet.{escape}
 
 -- the first unit of a pair: the escape to the extension table, or a high surrogate
 abbrev pub opens : Coding → ℕ → Bool
-opens Gsm unit = unit == 0x1B
+opens Gsm unit = unit == escape
 opens Ucs2 unit = nat_le 0xD800 unit && nat_lt unit 0xDC00
 
 -- the second unit of a pair: whatever code follows the escape, or a low surrogate

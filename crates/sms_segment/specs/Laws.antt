@@ -10,6 +10,8 @@ use Rattle.sms_segment.specs.Limits.{part_limit}
 use Rattle.sms_segment.specs.Cutting.{IsCutting, IsFull}
 use Rattle.sms_segment.specs.Message.{IsTextCutting, IsFullyCut, IsTooLong, parts_of}
 use Rattle.sms_segment.specs.Joining.{IsWhole, IsJoined}
+use Rattle.sms_segment.specs.Part.{HasSeptets, short_message}
+use Rattle.sms_alphabet.specs.Spelling.{IsLawful}
 
 -- one unit, or the two of a pair
 abbrev pub IsGroup : Coding → List ℕ → Type 0
@@ -50,3 +52,15 @@ JoinGivesTextBack =
     (text : Coded) (reference : Reference) (sent : List Part)
     → IsFullyCut text reference sent
     → IsWhole sent × IsJoined sent text × ((joined : Coded) → IsJoined sent joined → joined ≡ text)
+
+-- no part has more octets than a short message can carry
+abbrev pub PartsFit : Type 0
+PartsFit =
+    (text : Coded) (reference : Reference) (sent : List Part)
+    → IsFullyCut text reference sent → All (λ part. length (short_message part) ≤ 160) sent
+
+-- what `short_message` asks of a part holds of each part of a lawful text
+abbrev pub PartsHaveSeptets : Type 0
+PartsHaveSeptets =
+    (text : Coded) (reference : Reference) (sent : List Part)
+    → IsLawful text → IsFullyCut text reference sent → All HasSeptets sent

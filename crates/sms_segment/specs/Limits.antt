@@ -3,7 +3,7 @@ use Rattle.std.specs.Prelude.{ℕ}
 use Rattle.sms_alphabet.specs.declared.coded.Coding.{Coding}
 use Rattle.sms_alphabet.specs.declared.coded.Coding.TheVariants.{Gsm, Ucs2}
 use Rattle.sms_segment.specs.declared.place.Reference.{Reference}
-use Rattle.sms_segment.specs.declared.place.Reference.TheVariants.{Short}
+use Rattle.sms_segment.specs.declared.place.Reference.TheVariants.{Short, Long}
 
 -- the most units of a text that is sent whole
 abbrev pub single_limit : Coding → ℕ
@@ -14,3 +14,5 @@ single_limit Ucs2 = 70
 abbrev pub part_limit : Reference → Coding → ℕ
 part_limit (Short number) Gsm = 153
 part_limit (Short number) Ucs2 = 67
+part_limit (Long number) Gsm = 152
+part_limit (Long number) Ucs2 = 66

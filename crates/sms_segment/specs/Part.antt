@@ -6,12 +6,13 @@ use Rattle.sms_alphabet.specs.declared.coded.Coding.TheVariants.{Gsm, Ucs2}
 use Rattle.sms_segment.specs.declared.part.Part.{Part}
 use Rattle.sms_segment.specs.declared.place.Place.{Place}
 use Rattle.sms_segment.specs.declared.place.Reference.{Reference}
-use Rattle.sms_segment.specs.declared.place.Reference.TheVariants.{Short}
+use Rattle.sms_segment.specs.declared.place.Reference.TheVariants.{Short, Long}
 
 -- The user data header: its length, and the one element of concatenation, whose data are the reference,
 -- the count and the number.
 abbrev pub header : Reference → ℕ → ℕ → List ℕ
 header (Short reference) count number = 0x05 ∷ (0x00 ∷ (0x03 ∷ (reference ∷ (count ∷ (number ∷ [])))))
+header (Long reference) count number = 0x06 ∷ (0x08 ∷ (0x04 ∷ ((reference / 256) ∷ ((reference % 256) ∷ (count ∷ (number ∷ []))))))
 
 -- a part without a place has no header
 abbrev pub header_of : Option Place → List ℕ

@@ -40,6 +40,10 @@ pub fn cut(alloc: Global, text: &Coded, reference: Reference) -> Result<Vec<Part
     // No cutting has fewer parts.
     ensures least { IfOk result (λ parts. IsLeast text.now reference parts.items) }
 
+    // There is one part at least, and no more than a header can count.
+    ensures some { IfOk result (λ parts. 0 < length parts.items) }
+    ensures countable { IfOk result (λ parts. length parts.items ≤ 255) }
+
     // The parts are these.
     ensures exact { IfOk result (λ parts. parts.items ≡ parts_of text.now reference) }
 

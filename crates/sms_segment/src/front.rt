@@ -3,10 +3,7 @@ ghost use Rattle.std.specs.Prelude.{◌≡◌, ◌≤◌, ◌<◌, ◌&&◌, len
 ghost use Rattle.sms_segment.specs.Group.{closes, opens};
 ghost use Rattle.sms_segment.specs.Front.{IsFront, is_open};
 
-use sms_alphabet::Coding;
-
-/// The escape to the extension table of the default alphabet (3GPP TS 23.038 6.2.1).
-const ESCAPE: u16 = 0x1B;
+use sms_alphabet::{Coding, ESCAPE};
 
 /// How many of the units the next part takes: as many as the limit allows without parting a pair.
 pub(crate) fn front_len(coding: Coding, units: &[u16], limit: usize) -> usize
@@ -42,7 +39,7 @@ fn ends_in_escape(codes: &[u16]) -> bool
 {
     let mut open = false;
     let mut start = codes.len();
-    while start > 0 && codes[start - 1] == ESCAPE {
+    while start > 0 && codes[start - 1] == u16::from(ESCAPE) {
         start -= 1;
         open = !open;
     }

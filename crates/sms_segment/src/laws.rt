@@ -1,7 +1,7 @@
 //! Laws of cuttings, for every text and every cutting. Each holds by the contract of its function,
 //! which does nothing.
 ghost use Rattle.sms_segment.specs.Laws.{FullIsLeast, FullIsOnlyOne, GroupsSpellText, HasFullCutting};
-ghost use Rattle.sms_segment.specs.Laws.{JoinGivesTextBack, PartsAreFullyCut, PartsTellTooLong};
+ghost use Rattle.sms_segment.specs.Laws.{JoinGivesTextBack, PartsAreFullyCut, PartsFit, PartsHaveSeptets, PartsTellTooLong};
 
 /// The groups of a text, one after another, are the text, and each is one unit or a pair.
 pub fn groups_spell_the_text()
@@ -36,4 +36,14 @@ pub fn the_parts_tell_what_is_too_long()
 /// The parts that a text is sent as are a whole message, and joined they are the text again.
 pub fn joining_gives_the_text_back()
     ensures { JoinGivesTextBack }
+{}
+
+/// No part of a text has more octets than the 160 that a short message has room for.
+pub fn the_parts_fit()
+    ensures { PartsFit }
+{}
+
+/// The parts of a lawful text meet what [`short_message`](crate::Part::short_message) asks of them.
+pub fn the_parts_have_septets()
+    ensures { PartsHaveSeptets }
 {}

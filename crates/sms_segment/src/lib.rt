@@ -1,4 +1,4 @@
-//! Long texts as concatenated short messages (3GPP TS 23.040 9.2.3.24 and 9.2.3.24.1).
+//! Long texts as concatenated short messages (3GPP TS 23.040 9.2.3.24, 9.2.3.24.1 and 9.2.3.24.8).
 //!
 //! [`cut`] gives the parts of a coded text, as few as there can be, and [`join`] the text of its
 //! parts. A [`Part`] tells what the fields of its `submit_sm` are: `short_message`, `esm_class` and

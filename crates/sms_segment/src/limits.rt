@@ -1,5 +1,5 @@
 //! How many units fit into the 140 octets of user data (3GPP TS 23.040 9.2.3.24): septets or
-//! UTF-16 units, with a header of its length octet and 5 octets, or without.
+//! UTF-16 units, without a header, or behind one of 6 octets (a reference of 8 bits) or 7 (of 16).
 ghost use Rattle.std.specs.Prelude.{◌≡◌};
 ghost use Rattle.sms_segment.specs.Limits.{single_limit, part_limit};
 
@@ -23,5 +23,7 @@ pub(crate) fn part_limit(reference: Reference, coding: Coding) -> usize
     match (reference, coding) {
         (Reference::Short(_), Coding::Gsm) => 153,
         (Reference::Short(_), Coding::Ucs2) => 67,
+        (Reference::Long(_), Coding::Gsm) => 152,
+        (Reference::Long(_), Coding::Ucs2) => 66,
     }
 }

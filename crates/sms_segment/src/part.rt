@@ -1,7 +1,7 @@
 //! One short message of a text.
 ghost use Rattle.std.specs.Prelude.{◌≡◌, ◌≤◌, ◌++◌, All, IfOk, OnOk, List, ℕ, length, min};
 ghost use Rattle.std.specs.List.{flat_map};
-ghost use Rattle.sms_segment.specs.Part.{HasSeptets, data_coding, esm_class, header, octets_of, short_message};
+ghost use Rattle.sms_segment.specs.Part.{HasSeptets, data_coding, esm_class, header, header_of, octets_of, short_message};
 
 use crate::place::{Place, Reference};
 use sms_alphabet::{Coding, Units};
@@ -18,7 +18,7 @@ pub struct Part {
 
 impl Part {
     /// The octets of `short_message`: the header, where the part has a place (3GPP TS 23.040
-    /// 9.2.3.24.1), and then each septet in an octet of its own, or each UTF-16 unit in two, the
+    /// 9.2.3.24.1 and 9.2.3.24.8), and then each septet in an octet of its own, or each UTF-16 unit in two, the
     /// high one first. It fails where memory runs out.
     pub fn short_message(&self, alloc: Global) -> Result<Vec<u8>, AllocError>
         requires { HasSeptets self.now }
@@ -39,12 +39,11 @@ impl Part {
     fn octet_count(&self) -> usize
         ensures { result ≡ min (length (short_message self.now)) usize.MAX }
     {
-        let header_len: usize = if self.place.is_some() { 6 } else { 0 };
         let unit_octets = match self.coding {
             Coding::Gsm => self.units.len(),
             Coding::Ucs2 => self.units.len().saturating_mul(2),
         };
-        header_len.saturating_add(unit_octets)
+        header_len(self.place).saturating_add(unit_octets)
     }
 
     /// The `esm_class` (SMPP 3.4 5.2.12): 0x40, a header is in the user data, or 0.
@@ -65,12 +64,29 @@ impl Part {
     }
 }
 
+/// How many octets the header has, its length octet among them.
+fn header_len(place: Option<Place>) -> usize
+    ensures { result ≡ length (header_of place) }
+{
+    let Some(place) = place else {
+        return 0;
+    };
+    match place.reference {
+        Reference::Short(_) => 6,
+        Reference::Long(_) => 7,
+    }
+}
+
 fn push_header(octets: &mut Vec<u8>, place: Place) -> Result<(), AllocError>
     ensures { OnOk result (octets.new.items ≡ octets.old.items ++ header place.reference place.count place.number) }
 {
     match place.reference {
         Reference::Short(reference) => {
             octets.extend_from_slice(&[0x05, 0x00, 0x03, reference, place.count, place.number])?;
+        }
+        Reference::Long(reference) => {
+            let [high, low] = reference.to_be_bytes();
+            octets.extend_from_slice(&[0x06, 0x08, 0x04, high, low, place.count, place.number])?;
         }
     }
     Ok(())

@@ -1,5 +1,6 @@
-use crate::{CutError, JoinError, Part, Place, Reference, cut, join};
-use sms_alphabet::{Coded, Coding, Units};
+//! What no contract says: that memory is there, and worked rows of the standard's numbers.
+use crate::{CutError, JoinError, Part, Place, Reference, cut, join, laws};
+use sms_alphabet::{Coded, Coding, Units, choose};
 use std::alloc::{AllocError, Global};
 use std::process::Abort;
 use std::test::Fail;
@@ -52,39 +53,43 @@ fn assert_sizes(rt: &impl Abort, parts: &[Part], sizes: &[usize], total: usize, 
 fn cuts_no_pair_and_joins_again(rt: HostRuntime) -> Result<(), Fail> {
     let alloc = rt.alloc();
     // The units, the place of a pair among them, and the sizes of the parts.
-    let rows: [(Coding, usize, usize, &[usize]); 28] = [
-        (Coding::Gsm, 0, 0, &[0]),
-        (Coding::Gsm, 159, 157, &[159]),
-        (Coding::Gsm, 160, 152, &[160]),
-        (Coding::Gsm, 160, 158, &[160]),
-        (Coding::Gsm, 161, 151, &[153, 8]),
-        (Coding::Gsm, 161, 152, &[152, 9]),
-        (Coding::Gsm, 161, 153, &[153, 8]),
-        (Coding::Gsm, 161, 159, &[153, 8]),
-        (Coding::Gsm, 164, 152, &[152, 12]),
-        (Coding::Gsm, 306, 151, &[153, 153]),
-        (Coding::Gsm, 306, 152, &[152, 153, 1]),
-        (Coding::Gsm, 306, 153, &[153, 153]),
-        (Coding::Gsm, 306, 304, &[153, 153]),
-        (Coding::Gsm, 307, 152, &[152, 153, 2]),
-        (Coding::Gsm, 307, 304, &[153, 153, 1]),
-        (Coding::Gsm, 307, 305, &[153, 152, 2]),
-        (Coding::Ucs2, 69, 67, &[69]),
-        (Coding::Ucs2, 70, 66, &[70]),
-        (Coding::Ucs2, 70, 68, &[70]),
-        (Coding::Ucs2, 71, 65, &[67, 4]),
-        (Coding::Ucs2, 71, 66, &[66, 5]),
-        (Coding::Ucs2, 71, 67, &[67, 4]),
-        (Coding::Ucs2, 71, 71, &[67, 4]),
-        (Coding::Ucs2, 134, 66, &[66, 67, 1]),
-        (Coding::Ucs2, 134, 132, &[67, 67]),
-        (Coding::Ucs2, 135, 66, &[66, 67, 2]),
-        (Coding::Ucs2, 135, 132, &[67, 67, 1]),
-        (Coding::Ucs2, 135, 133, &[67, 66, 2]),
+    let rows: [(Reference, Coding, usize, usize, &[usize]); 32] = [
+        (Reference::Short(0), Coding::Gsm, 0, 0, &[0]),
+        (Reference::Short(0), Coding::Gsm, 159, 157, &[159]),
+        (Reference::Short(0), Coding::Gsm, 160, 152, &[160]),
+        (Reference::Short(0), Coding::Gsm, 160, 158, &[160]),
+        (Reference::Short(0), Coding::Gsm, 161, 151, &[153, 8]),
+        (Reference::Short(0), Coding::Gsm, 161, 152, &[152, 9]),
+        (Reference::Short(0), Coding::Gsm, 161, 153, &[153, 8]),
+        (Reference::Short(0), Coding::Gsm, 161, 159, &[153, 8]),
+        (Reference::Short(0), Coding::Gsm, 164, 152, &[152, 12]),
+        (Reference::Short(0), Coding::Gsm, 306, 151, &[153, 153]),
+        (Reference::Short(0), Coding::Gsm, 306, 152, &[152, 153, 1]),
+        (Reference::Short(0), Coding::Gsm, 306, 153, &[153, 153]),
+        (Reference::Short(0), Coding::Gsm, 306, 304, &[153, 153]),
+        (Reference::Short(0), Coding::Gsm, 307, 152, &[152, 153, 2]),
+        (Reference::Short(0), Coding::Gsm, 307, 304, &[153, 153, 1]),
+        (Reference::Short(0), Coding::Gsm, 307, 305, &[153, 152, 2]),
+        (Reference::Short(0), Coding::Ucs2, 69, 67, &[69]),
+        (Reference::Short(0), Coding::Ucs2, 70, 66, &[70]),
+        (Reference::Short(0), Coding::Ucs2, 70, 68, &[70]),
+        (Reference::Short(0), Coding::Ucs2, 71, 65, &[67, 4]),
+        (Reference::Short(0), Coding::Ucs2, 71, 66, &[66, 5]),
+        (Reference::Short(0), Coding::Ucs2, 71, 67, &[67, 4]),
+        (Reference::Short(0), Coding::Ucs2, 71, 71, &[67, 4]),
+        (Reference::Short(0), Coding::Ucs2, 134, 66, &[66, 67, 1]),
+        (Reference::Short(0), Coding::Ucs2, 134, 132, &[67, 67]),
+        (Reference::Short(0), Coding::Ucs2, 135, 66, &[66, 67, 2]),
+        (Reference::Short(0), Coding::Ucs2, 135, 132, &[67, 67, 1]),
+        (Reference::Short(0), Coding::Ucs2, 135, 133, &[67, 66, 2]),
+        (Reference::Long(0), Coding::Gsm, 161, 161, &[152, 9]),
+        (Reference::Long(0), Coding::Gsm, 163, 151, &[151, 12]),
+        (Reference::Long(0), Coding::Gsm, 305, 305, &[152, 152, 1]),
+        (Reference::Long(0), Coding::Ucs2, 71, 71, &[66, 5]),
     ];
-    for (coding, total, place, sizes) in rows {
+    for (reference, coding, total, place, sizes) in rows {
         let text = text_with_pair(alloc, coding, total, place)?;
-        let parts = cut(alloc, &text, Reference::Short(0))?;
+        let parts = cut(alloc, &text, reference)?;
         assert_sizes(&rt, parts.as_slice(), sizes, total, place);
         assert_eq!(rt; join(alloc, parts.as_slice())?, text);
     }
@@ -108,28 +113,64 @@ fn cuts_a_row_of_pairs(rt: HostRuntime) -> Result<(), Fail> {
             coding,
             units: Units::new(units),
         };
-        let parts = cut(alloc, &text, Reference::Short(0))?;
-        assert_sizes(&rt, parts.as_slice(), &sizes, pairs, 0);
+        for reference in [Reference::Short(0), Reference::Long(0)] {
+            let parts = cut(alloc, &text, reference)?;
+            assert_sizes(&rt, parts.as_slice(), &sizes, pairs, 0);
+        }
+    }
+    Ok(())
+}
+
+// The esm_class and the short_message of each part of a text.
+fn spelled(alloc: Global, text: &str, reference: Reference) -> Result<Vec<(u8, Vec<u8>)>, Fail> {
+    let coded = choose(alloc, text)?;
+    let parts = cut(alloc, &coded, reference)?;
+    laws::the_parts_have_septets();
+    let mut spelled = Vec::new(alloc);
+    for part in &parts {
+        spelled.push((part.esm_class(), part.short_message(alloc)?))?;
+    }
+    Ok(spelled)
+}
+
+#[test]
+fn spells_what_was_cut(rt: HostRuntime) -> Result<(), Fail> {
+    let alloc = rt.alloc();
+    // The letters of a text, its reference, and the header and the letters of each part.
+    let rows: [(usize, Reference, &[(&[u8], usize)]); 4] = [
+        (0, Reference::Short(7), &[(&[], 0)]),
+        (160, Reference::Short(7), &[(&[], 160)]),
+        (
+            161,
+            Reference::Short(7),
+            &[(&[5, 0, 3, 7, 2, 1], 153), (&[5, 0, 3, 7, 2, 2], 8)],
+        ),
+        (
+            161,
+            Reference::Long(263),
+            &[(&[6, 8, 4, 1, 7, 2, 1], 152), (&[6, 8, 4, 1, 7, 2, 2], 9)],
+        ),
+    ];
+    for (total, reference, wanted) in rows {
+        let text = "a".repeat(alloc, total)?;
+        let parts = spelled(alloc, text.as_str(), reference)?;
+        assert_eq!(rt; parts.len(), wanted.len());
+        for ((esm_class, octets), (header, count)) in parts.iter().zip(wanted) {
+            let mut all = Vec::from_slice(alloc, header)?;
+            for _ in 0..*count {
+                all.push(0x61)?;
+            }
+            assert_eq!(rt; octets.as_slice(), all.as_slice());
+            assert_eq!(rt; *esm_class, if header.is_empty() { 0x00 } else { 0x40 });
+        }
     }
     Ok(())
 }
 
 #[test]
-fn spells_the_parts(rt: HostRuntime) -> Result<(), Fail> {
+fn spells_pairs(rt: HostRuntime) -> Result<(), Fail> {
     let alloc = rt.alloc();
-    let whole = cut(alloc, &letters(alloc, 160)?, Reference::Short(7))?;
-    for part in &whole {
-        assert_eq!(rt; part.place, None);
-        assert_eq!(rt; (part.esm_class(), part.data_coding()), (0x00, 0x00));
-    }
-    let parts = cut(alloc, &letters(alloc, 161)?, Reference::Short(7))?;
-    let headers: [[u8; 6]; 2] = [[5, 0, 3, 7, 2, 1], [5, 0, 3, 7, 2, 2]];
-    for (part, header) in parts.iter().zip(&headers) {
-        assert_eq!(rt; (part.esm_class(), part.data_coding()), (0x40, 0x00));
-        let place = part.place.ok_or("a place")?;
-        assert_eq!(rt; [place.count, place.number], [header[4], header[5]]);
-    }
-    let second = Part {
+    let escaped = Part {
         coding: Coding::Gsm,
         place: Some(Place {
             reference: Reference::Short(7),
@@ -139,7 +180,7 @@ fn spells_the_parts(rt: HostRuntime) -> Result<(), Fail> {
         units: Units::new(vec![in alloc; 0x41, 0x1B, 0x65]?),
     };
     assert_eq!(rt;
-        second.short_message(alloc)?.as_slice(),
+        escaped.short_message(alloc)?.as_slice(),
         [5, 0, 3, 7, 2, 2, 0x41, 0x1B, 0x65].as_slice()
     );
     let wide = Part {
@@ -158,21 +199,24 @@ fn spells_the_parts(rt: HostRuntime) -> Result<(), Fail> {
 #[test]
 fn counts_to_255_parts(rt: HostRuntime) -> Result<(), Fail> {
     let alloc = rt.alloc();
-    let parts = cut(alloc, &letters(alloc, 39_015)?, Reference::Short(255))?;
-    assert_eq!(rt; parts.len(), 255);
-    let last = parts.as_slice().last().ok_or("a last part")?;
-    assert_eq!(rt;
-        last.place,
-        Some(Place {
-            reference: Reference::Short(255),
+    for (reference, most) in [
+        (Reference::Short(255), 39_015usize),
+        (Reference::Long(65_535), 38_760),
+    ] {
+        let parts = cut(alloc, &letters(alloc, most)?, reference)?;
+        assert_eq!(rt; parts.len(), 255);
+        let last = parts.as_slice().last().ok_or("a last part")?;
+        let place = Place {
+            reference,
             count: 255,
-            number: 255
-        })
-    );
-    assert_eq!(rt;
-        cut(alloc, &letters(alloc, 39_016)?, Reference::Short(255)).err(),
-        Some(CutError::TooLong)
-    );
+            number: 255,
+        };
+        assert_eq!(rt; last.place, Some(place));
+        assert_eq!(rt;
+            cut(alloc, &letters(alloc, most + 1)?, reference).err(),
+            Some(CutError::TooLong)
+        );
+    }
     Ok(())
 }
 
@@ -180,20 +224,44 @@ fn counts_to_255_parts(rt: HostRuntime) -> Result<(), Fail> {
 fn joins_whole_messages_alone(rt: HostRuntime) -> Result<(), Fail> {
     let alloc = rt.alloc();
     let text = letters(alloc, 161)?;
-    let mut parts = cut(alloc, &text, Reference::Short(7))?;
-    assert_eq!(rt; join(alloc, parts.as_slice())?, text);
     assert_eq!(rt; join(alloc, &[]).err(), Some(JoinError::NotWhole));
-    parts.reverse();
-    assert_eq!(rt;
-        join(alloc, parts.as_slice()).err(),
-        Some(JoinError::NotWhole)
-    );
-    let first = parts.pop().ok_or("a first part")?;
-    let mut other = cut(alloc, &text, Reference::Short(8))?;
-    let second = other.pop().ok_or("a second part")?;
-    assert_eq!(rt;
-        join(alloc, &[first, second]).err(),
-        Some(JoinError::NotWhole)
-    );
+    // The references of the first part and of the second, which were cut from one text.
+    for (first, second) in [
+        (Reference::Short(7), Reference::Short(8)),
+        (Reference::Short(7), Reference::Long(7)),
+        (Reference::Long(263), Reference::Short(7)),
+    ] {
+        let mut parts = cut(alloc, &text, first)?;
+        assert_eq!(rt; join(alloc, parts.as_slice())?, text);
+        parts.reverse();
+        assert_eq!(rt;
+            join(alloc, parts.as_slice()).err(),
+            Some(JoinError::NotWhole)
+        );
+        let mut others = cut(alloc, &text, second)?;
+        let parts = [
+            parts.pop().ok_or("a first part")?,
+            others.pop().ok_or("a second part")?,
+        ];
+        assert_eq!(rt; join(alloc, &parts).err(), Some(JoinError::NotWhole));
+    }
+    Ok(())
+}
+
+#[test]
+fn what_failures_say(rt: HostRuntime) -> Result<(), Fail> {
+    let alloc = rt.alloc();
+    for (error, said) in [
+        (CutError::TooLong, "the text needs more than 255 parts"),
+        (CutError::OutOfMemory, "out of memory"),
+    ] {
+        assert_eq!(rt; error.to_string(alloc)?.as_str(), said);
+    }
+    for (error, said) in [
+        (JoinError::NotWhole, "the parts are not one whole message"),
+        (JoinError::OutOfMemory, "out of memory"),
+    ] {
+        assert_eq!(rt; error.to_string(alloc)?.as_str(), said);
+    }
     Ok(())
 }

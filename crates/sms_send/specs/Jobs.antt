@@ -1,11 +1,11 @@
 -- What the program does: a job, of an input of the kind that the job names.
-use Rattle.std.specs.Prelude.{◌≡◌, ◌⊎◌, ℕ, List, Option, None, Some, IfSome}
+use Rattle.std.specs.Prelude.{◌≡◌, ◌⊎◌, false, ℕ, List, Option, None, Some, IfSome}
 use Rattle.std.specs.Io.KnownBytes.{Appends}
 use Rattle.clap.specs.Words.{Text}
 use Rattle.sms_send.specs.CommandLine.{IsJob, subcommand_in}
 use Rattle.sms_send.specs.Fields.{records_of}
 use Rattle.sms_send.specs.Messages.{messages_fault}
-use Rattle.sms_send.specs.PlanText.{TellsPlan, plan_of}
+use Rattle.sms_send.specs.PlanText.{TellsPlan, kind_of, plan_of}
 use Rattle.sms_send.specs.Replays.{Replays, TellsReplay}
 use Rattle.sms_send.specs.declared.fault.Fault.{Fault}
 use Rattle.sms_send.specs.declared.fault.Fault.TheVariants.{File}
@@ -18,7 +18,7 @@ OfInput {I} remaining P = (input : I) × IfSome (remaining input) P
 
 -- the bytes are a messages file, and its plan was written and nothing else
 abbrev pub Plans : List ℕ → Option (List ℕ) → Option (List ℕ) → Type 0
-Plans bytes old new = (messages_fault (records_of bytes) ≡ None) × Appends old new (plan_of (records_of bytes))
+Plans bytes old new = (messages_fault (records_of bytes) ≡ None) × Appends old new (plan_of (kind_of false) (records_of bytes))
 
 -- the job was done: standard input or a file was replayed, or a file planned
 abbrev pub Does : {S F : Type 0} → (S → Option (List ℕ)) → (F → Option (List ℕ)) → Job → Option (List ℕ) → Option (List ℕ) → Type 0

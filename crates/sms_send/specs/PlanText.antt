@@ -1,12 +1,13 @@
 -- What plan prints: how the text of each message is coded and cut.
-use Rattle.std.specs.Prelude.{◌≡◌, ◌⊎◌, ℕ, ◌+◌, nat_le, List, [], ◌∷◌, ◌++◌, length, map, None, if◌then◌else◌, codes, decimal, flat_map, string_bytes}
+use Rattle.std.specs.Prelude.{◌≡◌, ◌⊎◌, Bool, true, false, ℕ, ◌+◌, nat_le, List, [], ◌∷◌, ◌++◌, length, map, None, if◌then◌else◌, codes, decimal, flat_map, string_bytes}
 use Rattle.std.specs.Str.{chars}
 use Rattle.sms_alphabet.specs.declared.coded.Coded.{Coded}
 use Rattle.sms_alphabet.specs.declared.coded.Coding.{Coding}
 use Rattle.sms_alphabet.specs.declared.coded.Coding.TheVariants.{Gsm, Ucs2}
 use Rattle.sms_alphabet.specs.Spelling.{chosen}
 use Rattle.sms_segment.specs.declared.part.Part.{Part}
-use Rattle.sms_segment.specs.declared.place.Reference.TheVariants.{Short}
+use Rattle.sms_segment.specs.declared.place.Reference.{Reference}
+use Rattle.sms_segment.specs.declared.place.Reference.TheVariants.{Short, Long}
 use Rattle.sms_segment.specs.Message.{parts_of}
 use Rattle.sms_send.specs.declared.fault.Fault.{Fault}
 use Rattle.sms_send.specs.declared.fault.Fault.TheVariants.{Output}
@@ -39,34 +40,39 @@ counted_text parts = decimal (length parts) ++ codes "," ++ sizes_text parts
 abbrev pub parts_text : List Part → List ℕ
 parts_text parts = if nat_le (length parts) most_parts then counted_text parts else codes "0,too-long"
 
--- what becomes of a coded text; the sizes are alike for every reference
-abbrev pub cutting_text : Coded → List ℕ
-cutting_text coded = parts_text (parts_of coded (Short 0))
+-- what becomes of a coded text; the sizes are alike for every reference of one kind
+abbrev pub cutting_text : Reference → Coded → List ℕ
+cutting_text reference coded = parts_text (parts_of coded reference)
+
+-- a reference of 16 bits or of 8
+abbrev pub kind_of : Bool → Reference
+kind_of true = Long 0
+kind_of false = Short 0
 
 -- the line of the message at a place, counted from 0
-abbrev pub coded_line : ℕ → Coded → List ℕ
-coded_line index coded =
-    decimal index ++ codes "," ++ coding_name coded.coding ++ codes "," ++ decimal (length coded.units) ++ codes "," ++ cutting_text coded ++ codes "\n"
+abbrev pub coded_line : Reference → ℕ → Coded → List ℕ
+coded_line reference index coded =
+    decimal index ++ codes "," ++ coding_name coded.coding ++ codes "," ++ decimal (length coded.units) ++ codes "," ++ cutting_text reference coded ++ codes "\n"
 
 -- the line of a text, by its coding
-unfoldable pub text_line : ℕ → List ℕ → List ℕ
-text_line index text = coded_line index (chosen (chars text))
+unfoldable pub text_line : Reference → ℕ → List ℕ → List ℕ
+text_line reference index text = coded_line reference index (chosen (chars text))
 
 -- a line for each text, counted on from a place
-abbrev pub text_lines : ℕ → List (List ℕ) → List ℕ
-text_lines index [] = []
-text_lines index (text ∷ texts) = text_line index text ++ text_lines (index + 1) texts
+abbrev pub text_lines : Reference → ℕ → List (List ℕ) → List ℕ
+text_lines reference index [] = []
+text_lines reference index (text ∷ texts) = text_line reference index text ++ text_lines reference (index + 1) texts
 
-abbrev pub plan_text : List (List ℕ) → List ℕ
-plan_text texts = codes "message,coding,units,parts,sizes\n" ++ text_lines 0 texts
+abbrev pub plan_text : Reference → List (List ℕ) → List ℕ
+plan_text reference texts = codes "message,coding,units,parts,sizes\n" ++ text_lines reference 0 texts
 
 -- the same of messages
-abbrev pub message_lines : ℕ → List Message → List ℕ
-message_lines index [] = []
-message_lines index (m ∷ ms) = text_line index (string_bytes m.text) ++ message_lines (index + 1) ms
+abbrev pub message_lines : Reference → ℕ → List Message → List ℕ
+message_lines reference index [] = []
+message_lines reference index (m ∷ ms) = text_line reference index (string_bytes m.text) ++ message_lines reference (index + 1) ms
 
-abbrev pub message_plan : List Message → List ℕ
-message_plan ms = codes "message,coding,units,parts,sizes\n" ++ message_lines 0 ms
+abbrev pub message_plan : Reference → List Message → List ℕ
+message_plan reference ms = codes "message,coding,units,parts,sizes\n" ++ message_lines reference 0 ms
 
 -- the text of a message's record
 abbrev pub text_of : Record → Field
@@ -74,9 +80,9 @@ text_of (account ∷ (source ∷ (destination ∷ (text ∷ more)))) = text
 text_of fields = []
 
 -- what plan prints of a file's records, of which the first is the header
-abbrev pub plan_of : List Record → List ℕ
-plan_of [] = []
-plan_of (header ∷ rs) = plan_text (map text_of rs)
+abbrev pub plan_of : Reference → List Record → List ℕ
+plan_of reference [] = []
+plan_of reference (header ∷ rs) = plan_text reference (map text_of rs)
 
 -- the record that a fault names is the first faulty one; where the output failed, none was
 abbrev pub TellsPlan : List Record → Fault → Type 0

@@ -4,13 +4,14 @@ ghost use Rattle.std.specs.Prelude.{◌≡◌, ◌≢◌, None, IfErr, IfOk, IfS
 ghost use Rattle.std.specs.Io.KnownBytes.{Appends};
 ghost use Rattle.sms_send.specs.Fields.{records_of};
 ghost use Rattle.sms_send.specs.Messages.{messages_fault};
-ghost use Rattle.sms_send.specs.PlanText.{TellsPlan, plan_of};
+ghost use Rattle.sms_send.specs.PlanText.{TellsPlan, kind_of, plan_of};
 ghost use Rattle.sms_send.specs.declared.fault.Fault.TheVariants.{Output};
 
 use crate::fault::Fault;
 use crate::messages::read_messages;
 use crate::output::write_out;
 use crate::plan_text::plan_text;
+use sms_segment::Reference;
 use std::alloc::Global;
 use std::io::{Read, Write};
 
@@ -20,13 +21,14 @@ use std::io::{Read, Write};
 pub fn run_plan<R: Read + Drop, W: Write>(
     alloc: Global,
     input: R,
+    long: bool,
     output: &mut W,
 ) -> Result<u8, Fault>
     ensures status { IfOk result (λ status. status ≡ 0) }
 
     // The input is a messages file, and its plan was written.
     ensures good { OnOk result (IfSome (R.remaining input) (λ bytes. messages_fault (records_of bytes) ≡ None)) }
-    ensures written { OnOk result (IfSome (R.remaining input) (λ bytes. Appends (W.contents output.old) (W.contents output.new) (plan_of (records_of bytes)))) }
+    ensures written { OnOk result (IfSome (R.remaining input) (λ bytes. Appends (W.contents output.old) (W.contents output.new) (plan_of (kind_of long) (records_of bytes)))) }
 
     // A record is named just where it is the first faulty one.
     ensures faulty { IfErr result (λ fault. IfSome (R.remaining input) (λ bytes. TellsPlan (records_of bytes) fault)) }
@@ -35,7 +37,18 @@ pub fn run_plan<R: Read + Drop, W: Write>(
     ensures quiet { IfErr result (λ fault. fault ≢ Output → output.new ≡ output.old) }
 {
     let messages = read_messages(alloc, input)?;
-    let text = plan_text(alloc, &messages)?;
+    let text = plan_text(alloc, reference_of(long), &messages)?;
     write_out(output, text.as_bytes())?;
     Ok(0)
+}
+
+/// A reference of the kind that the parts have; its number makes no difference to their sizes.
+fn reference_of(long: bool) -> Reference
+    ensures { result ≡ kind_of long }
+{
+    if long {
+        Reference::Long(0)
+    } else {
+        Reference::Short(0)
+    }
 }

@@ -8,7 +8,7 @@ use std::test::Fail;
 // The octets that plan prints of a messages file, or the text of its fault; nothing is printed then.
 fn planned(rt: &impl Abort, alloc: Global, input: &[u8]) -> Result<Vec<u8>, Fail> {
     let mut output = Vec::new(alloc);
-    match run_plan(alloc, input, &mut output) {
+    match run_plan(alloc, input, false, &mut output) {
         Ok(status) => assert_eq!(rt; status, 0),
         Err(Fault::OutOfMemory) => return Err(Fail::from(AllocError)),
         Err(fault) => {
@@ -104,7 +104,7 @@ fn tells_what_failed(rt: HostRuntime) -> Result<(), Fail> {
     let alloc = rt.alloc();
     let input = letters(alloc, 1)?;
     for room in [0, 10, 1000] {
-        match run_plan(alloc, input.as_bytes(), &mut FailingOutput { room }) {
+        match run_plan(alloc, input.as_bytes(), false, &mut FailingOutput { room }) {
             Err(Fault::Output) => {}
             Err(Fault::OutOfMemory) => return Err(Fail::from(AllocError)),
             _ => assert!(rt; false, "a broken writer"),
@@ -113,7 +113,7 @@ fn tells_what_failed(rt: HostRuntime) -> Result<(), Fail> {
     let messages = b"account,source,destination,text\nmain,1,2,a\n";
     for given in [0, 5, 40] {
         let left = &messages[..given];
-        match run_plan(alloc, FailingInput { left }, &mut Vec::new(alloc)) {
+        match run_plan(alloc, FailingInput { left }, false, &mut Vec::new(alloc)) {
             Err(Fault::Unreadable(Source::Messages)) => {}
             Err(Fault::OutOfMemory) => return Err(Fail::from(AllocError)),
             _ => assert!(rt; false, "a broken reader"),

@@ -5,6 +5,7 @@ ghost use Rattle.sms_send.specs.PlanText.{coded_line, coding_name as name_of_cod
 
 use crate::messages::Message;
 use sms_alphabet::{Coded, Coding, choose};
+use sms_segment::laws::the_parts_tell_what_is_too_long;
 use sms_segment::{CutError, Part, Reference, cut};
 use std::alloc::{AllocError, Global};
 use std::fmt::Write;
@@ -41,14 +42,21 @@ fn write_parts(text: &mut String, parts: &[Part]) -> Result<(), AllocError>
     write_sizes(text, rest)
 }
 
-/// What becomes of a coded text as parts. Which reference they have makes no difference to their
-/// sizes.
-fn write_cutting(alloc: Global, text: &mut String, coded: &Coded) -> Result<(), AllocError>
-    ensures { OnOk result (string_bytes text.new ≡ string_bytes text.old ++ cutting_text coded.now) }
+/// What becomes of a coded text as parts with such a reference.
+fn write_cutting(
+    alloc: Global,
+    text: &mut String,
+    reference: Reference,
+    coded: &Coded,
+) -> Result<(), AllocError>
+    ensures { OnOk result (string_bytes text.new ≡ string_bytes text.old ++ cutting_text reference coded.now) }
 {
-    match cut(alloc, coded, Reference::Short(0)) {
+    match cut(alloc, coded, reference) {
         Ok(parts) => write_parts(text, parts.as_slice()),
-        Err(CutError::TooLong) => text.push_str("0,too-long"),
+        Err(CutError::TooLong) => {
+            the_parts_tell_what_is_too_long();
+            text.push_str("0,too-long")
+        }
         Err(CutError::OutOfMemory) => Err(AllocError),
     }
 }
@@ -57,14 +65,15 @@ fn write_cutting(alloc: Global, text: &mut String, coded: &Coded) -> Result<(), 
 fn write_coded(
     alloc: Global,
     text: &mut String,
+    reference: Reference,
     index: usize,
     coded: &Coded,
 ) -> Result<(), AllocError>
-    ensures { OnOk result (string_bytes text.new ≡ string_bytes text.old ++ coded_line index coded.now) }
+    ensures { OnOk result (string_bytes text.new ≡ string_bytes text.old ++ coded_line reference index coded.now) }
 {
     let coding = coding_name(coded.coding);
     write!(text, "{index},{coding},{},", coded.units.len())?;
-    write_cutting(alloc, text, coded)?;
+    write_cutting(alloc, text, reference, coded)?;
     text.push_str("\n")
 }
 
@@ -72,30 +81,40 @@ fn write_coded(
 fn write_line(
     alloc: Global,
     text: &mut String,
+    reference: Reference,
     index: usize,
     message: &Message,
 ) -> Result<(), AllocError>
-    ensures { OnOk result (string_bytes text.new ≡ string_bytes text.old ++ text_line index (string_bytes message.now.text)) }
+    ensures { OnOk result (string_bytes text.new ≡ string_bytes text.old ++ text_line reference index (string_bytes message.now.text)) }
 {
     let coded = choose(alloc, message.text.as_str())?;
-    write_coded(alloc, text, index, &coded)
+    write_coded(alloc, text, reference, index, &coded)
 }
 
 /// A line for each message.
-fn write_lines(alloc: Global, text: &mut String, messages: &[Message]) -> Result<(), AllocError>
-    ensures { OnOk result (string_bytes text.new ≡ string_bytes text.old ++ message_lines 0 messages.now) }
+fn write_lines(
+    alloc: Global,
+    text: &mut String,
+    reference: Reference,
+    messages: &[Message],
+) -> Result<(), AllocError>
+    ensures { OnOk result (string_bytes text.new ≡ string_bytes text.old ++ message_lines reference 0 messages.now) }
 {
     for (index, message) in messages.iter().enumerate() {
-        write_line(alloc, text, index, message)?;
+        write_line(alloc, text, reference, index, message)?;
     }
     Ok(())
 }
 
 /// What is printed of these messages.
-pub fn plan_text(alloc: Global, messages: &[Message]) -> Result<String, AllocError>
-    ensures { IfOk result (λ text. string_bytes text ≡ message_plan messages.now) }
+pub fn plan_text(
+    alloc: Global,
+    reference: Reference,
+    messages: &[Message],
+) -> Result<String, AllocError>
+    ensures { IfOk result (λ text. string_bytes text ≡ message_plan reference messages.now) }
 {
     let mut text = String::from_str(alloc, "message,coding,units,parts,sizes\n")?;
-    write_lines(alloc, &mut text, messages)?;
+    write_lines(alloc, &mut text, reference, messages)?;
     Ok(text)
 }

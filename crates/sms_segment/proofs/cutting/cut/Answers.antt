@@ -8,7 +8,7 @@ use Rattle.sms_segment.specs.Group.{groups}
 use Rattle.sms_segment.specs.Limits.{single_limit, part_limit}
 use Rattle.sms_segment.specs.Cutting.{full_cutting}
 use Rattle.sms_segment.specs.Message.{parts_of, text_parts, numbered_parts}
-use Rattle.sms_segment.proofs.TextLemmas.{parts_of-short, parts_of-count, length-text_parts, fully_cut, length-parts_of, text_least, short_is_not_too_long, not_too_long, too_long}
+use Rattle.sms_segment.proofs.TextLemmas.{parts_of-short, parts_of-count, length-text_parts, fully_cut, length-parts_of, some-parts_of, text_least, short_is_not_too_long, not_too_long, too_long}
 use Rattle.sms_segment.proofs.cutting.cut.Goals as goal
 
 pub returns-in_err-whole_text-clause-too_long : goal.returns-in_err-whole_text-clause-too_long
@@ -71,6 +71,19 @@ returns-in_ok-numbered_parts-in-Some-clause-least c = λ other cutting.
     let long : single_limit c.args.text.now.coding < length c.args.text.now.units = omega (arith, c.len.ensures, c.single_limit.ensures) in
     let parts : c.in_ok-numbered_parts-in-Some.field-0.items ≡ parts_of c.args.text.now c.args.reference = sent_long c.args.text.now c.args.reference c.part_limit-limit.result c.in-Some.count c.as_slice.result.now c.in_ok-numbered_parts-in-Some.field-0.items long c.part_limit-limit.ensures c.as_slice.ensures c.in-Some.ensures.count c.in_ok-numbered_parts-in-Some.ensures in
     rw (parts, length-parts_of c.args.text.now c.args.reference) (text_least c.args.text.now c.args.reference other cutting)
+
+pub returns-in_ok-numbered_parts-in-Some-clause-some : goal.returns-in_ok-numbered_parts-in-Some-clause-some
+returns-in_ok-numbered_parts-in-Some-clause-some c =
+    let long : single_limit c.args.text.now.coding < length c.args.text.now.units = omega (arith, c.len.ensures, c.single_limit.ensures) in
+    let parts : c.in_ok-numbered_parts-in-Some.field-0.items ≡ parts_of c.args.text.now c.args.reference = sent_long c.args.text.now c.args.reference c.part_limit-limit.result c.in-Some.count c.as_slice.result.now c.in_ok-numbered_parts-in-Some.field-0.items long c.part_limit-limit.ensures c.as_slice.ensures c.in-Some.ensures.count c.in_ok-numbered_parts-in-Some.ensures in
+    rw parts (some-parts_of c.args.text.now c.args.reference)
+
+pub returns-in_ok-numbered_parts-in-Some-clause-countable : goal.returns-in_ok-numbered_parts-in-Some-clause-countable
+returns-in_ok-numbered_parts-in-Some-clause-countable c =
+    let long : single_limit c.args.text.now.coding < length c.args.text.now.units = omega (arith, c.len.ensures, c.single_limit.ensures) in
+    let parts : c.in_ok-numbered_parts-in-Some.field-0.items ≡ parts_of c.args.text.now c.args.reference = sent_long c.args.text.now c.args.reference c.part_limit-limit.result c.in-Some.count c.as_slice.result.now c.in_ok-numbered_parts-in-Some.field-0.items long c.part_limit-limit.ensures c.as_slice.ensures c.in-Some.ensures.count c.in_ok-numbered_parts-in-Some.ensures in
+    let small : length (text_parts c.args.text.now c.args.reference) ≤ 255 = few c.args.text.now c.args.reference c.part_limit-limit.result c.in-Some.count c.as_slice.result.now long c.part_limit-limit.ensures c.as_slice.ensures c.in-Some.ensures.none.1 in
+    rw (parts, length-parts_of c.args.text.now c.args.reference) small
 
 pub returns-in_ok-numbered_parts-in-Some-clause-too_long : goal.returns-in_ok-numbered_parts-in-Some-clause-too_long
 returns-in_ok-numbered_parts-in-Some-clause-too_long c =

@@ -6,10 +6,10 @@ use Rattle.sms_send.proofs.plan_text.write_cutting.Goals as goal
 
 pub returns-in-Ok : goal.returns-in-Ok
 returns-in-Ok c =
-    let same = cut-short c.args.coded.now c.as_slice.result.now (c.as_slice.ensures.value ∙ c.in-Ok.ensures.exact) (λ long. let bad = c.in-Ok.ensures.too_long.1 long in cc) in
+    let same = cut-short c.args.reference c.args.coded.now c.as_slice.result.now (c.as_slice.ensures.value ∙ c.in-Ok.ensures.exact) (rw c.as_slice.ensures.value c.in-Ok.ensures.countable) in
     on_ok_weaker c.write_parts.result (λ h. h ∙ ap (λ (t : List ℕ). string_bytes c.args.text.now ++ t) same) c.write_parts.ensures
 
 pub returns-in-Err-TooLong : goal.returns-in-Err-TooLong
 returns-in-Err-TooLong c =
-    let same = cut-long c.args.coded.now (c.in-Err-TooLong.ensures.too_long.0 (let long = c.in-Err-TooLong.field-0-is in let failed = c.in-Err-TooLong.is in cc)) in
+    let same = cut-long c.args.reference c.args.coded.now ((c.the_parts_tell_what_is_too_long.ensures c.args.coded.now c.args.reference).0 (c.in-Err-TooLong.ensures.too_long.0 (let long = c.in-Err-TooLong.field-0-is in let failed = c.in-Err-TooLong.is in cc))) in
     pushed c.push_str.result (string_bytes c.push_str.new.self) (string_bytes c.args.text.now) _ _ c.push_str.ensures.bytes same

@@ -11,4 +11,4 @@ pub returns : goal.returns
 unfolding text_line
 returns c =
     let same = c.in_ok-coded.ensures.chosen ∙ ap (λ (t : List ℕ). chosen (chars t)) c.as_str.ensures.value in
-    on_ok_weaker c.write_coded.result (λ h. h ∙ ap (λ (k : Coded). string_bytes c.args.text.now ++ coded_line c.args.index k) same) c.write_coded.ensures
+    on_ok_weaker c.write_coded.result (λ h. h ∙ ap (λ (k : Coded). string_bytes c.args.text.now ++ coded_line c.args.reference c.args.index k) same) c.write_coded.ensures
