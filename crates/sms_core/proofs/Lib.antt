@@ -2,7 +2,10 @@ pub mod Bits
 pub mod Digits
 pub mod Pairs
 pub mod Held
+pub mod Links
 pub mod Places
+pub mod Seeking
+pub mod Growing
 pub mod Table
 pub mod ListSums
 pub mod AccountSums

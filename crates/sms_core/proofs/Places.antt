@@ -1,9 +1,8 @@
 -- Where a request stands in the list, and what that says of a look-up by its name.
-use Rattle.std.proofs.Common.{◌≡◌, ◌≢◌, ℕ, suc, zero, ◌<◌, ◌==◌, Bool, true, false, List, [], ◌∷◌, ◌++◌, length, get_or, set, slice_get, Option, Some, None, if◌then◌else◌, refl, ap, ◌∙◌, sym, arith, eqb, eq-eqb, ne_eqb}
+use Rattle.std.proofs.Common.{◌≡◌, ℕ, suc, zero, ◌<◌, Bool, true, false, List, [], ◌∷◌, length, get_or, slice_get, is_some, Option, Some, None, if◌then◌else◌, refl, ap, arith, eqb}
 use Rattle.std.specs.Option.{option_map}
-use mathlib.Core.Logic.{dite}
-use native.Mathlib.Decide.{ℕ_discrete}
 use Rattle.sms_core.specs.declared.request.Request.{Request}
+use Rattle.sms_core.specs.declared.request.RequestState.{RequestState}
 use Rattle.sms_core.specs.Requests.{place_of}
 use Rattle.sms_core.specs.State.{find_request}
 
@@ -28,30 +27,6 @@ at_step id r rs d false (Some k) (suc p) is e h = let i : k ≡ p = cc in h p (a
 pub place_named : (id : ℕ) (rs : List Request) (p : ℕ) (d : Request) → place_of id rs ≡ Some p → (get_or rs p d).id ≡ id
 place_named id [] p d e = absurd (cc)
 place_named id (r ∷ rs) p d e = at_step id r rs d (eqb r.id id) (place_of id rs) p refl e (λ k. place_named id rs k d)
-
--- a request that keeps its name is set
-pub place-set : (rs : List Request) (p : ℕ) (r : Request) (q : ℕ) → (get_or rs p r).id ≡ r.id → place_of q (set rs p r) ≡ place_of q rs
-place-set [] p r q e = refl
-place-set (x ∷ xs) zero r q e = ap (λ (i : ℕ). if i == q then Some 0 else option_map suc (place_of q xs)) (sym e)
-place-set (x ∷ xs) (suc p) r q e = ap (λ (o : Option ℕ). if x.id == q then Some 0 else option_map suc o) (place-set xs p r q e)
-
-new_step : (b : Bool) (o o' : Option ℕ) (n : ℕ) → (if b then Some 0 else option_map suc o) ≡ None → (o ≡ None → o' ≡ Some n) → (if b then Some 0 else option_map suc o') ≡ Some (suc n)
-new_step true o o' n e h = absurd (cc)
-new_step false None o' n e h = ap (option_map suc) (h refl)
-new_step false (Some k) o' n e h = absurd (cc)
-
-pub place-push_same : (rs : List Request) (r : Request) (q : ℕ) → r.id ≡ q → place_of q rs ≡ None → place_of q (rs ++ r ∷ []) ≡ Some (length rs)
-place-push_same [] r q is none = rw (eq-eqb r.id q is) refl
-place-push_same (x ∷ xs) r q is none = new_step (eqb x.id q) (place_of q xs) (place_of q (xs ++ r ∷ [])) (length xs) none (place-push_same xs r q is)
-
-pub place-push_other : (rs : List Request) (r : Request) (q : ℕ) → r.id ≢ q → place_of q (rs ++ r ∷ []) ≡ place_of q rs
-place-push_other [] r q ne = rw (ne_eqb r.id q ne) refl
-place-push_other (x ∷ xs) r q ne = ap (λ (o : Option ℕ). if x.id == q then Some 0 else option_map suc o) (place-push_other xs r q ne)
-
-pub place-push : (rs : List Request) (r : Request) (q : ℕ) → place_of r.id rs ≡ None → place_of q (rs ++ r ∷ []) ≡ (if r.id == q then Some (length rs) else place_of q rs)
-place-push rs r q none = dite (ℕ_discrete r.id q)
-    (λ is. rw (eq-eqb r.id q is) (place-push_same rs r q is (ap (λ (i : ℕ). place_of i rs) (sym is) ∙ none)))
-    (λ ne. rw (ne_eqb r.id q ne) (place-push_other rs r q ne))
 
 find_step : (id : ℕ) (r : Request) (rs : List Request) (d : Request) (b : Bool) (o : Option ℕ) (p : ℕ) → (if b then Some 0 else option_map suc o) ≡ Some p →
     ((k : ℕ) → o ≡ Some k → find_request id rs ≡ Some (get_or rs k d).state) → (if b then Some r.state else find_request id rs) ≡ Some (get_or (r ∷ rs) p d).state
@@ -83,6 +58,14 @@ unplaced_step id r rs false e h = ap (option_map suc) (h e)
 pub unplaced : (id : ℕ) (rs : List Request) → find_request id rs ≡ None → place_of id rs ≡ None
 unplaced id [] e = refl
 unplaced id (r ∷ rs) e = unplaced_step id r rs (eqb r.id id) e (unplaced id rs)
+
+found_step : (id : ℕ) (rs : List Request) (p : ℕ) (o : Option RequestState) → find_request id rs ≡ o → place_of id rs ≡ Some p → is_some o ≡ true
+found_step id rs p None none e = absurd (cc (unplaced id rs none, e))
+found_step id rs p (Some s) is e = refl
+
+-- a request that has a place is found
+pub found_placed : (id : ℕ) (rs : List Request) (p : ℕ) → place_of id rs ≡ Some p → is_some (find_request id rs) ≡ true
+found_placed id rs p e = found_step id rs p (find_request id rs) refl e
 
 pub slice_get-in : (rs : List Request) (p : ℕ) (r : Request) → p < length rs → get_or rs p r ≡ r → slice_get rs p ≡ Some r
 slice_get-in [] p r lt e = absurd (omega arith)

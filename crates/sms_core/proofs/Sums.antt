@@ -359,5 +359,5 @@ pub topped_none : (n : ℕ) → map (λ (x : Row). x.topped) (replicate n no_row
 topped_none zero = refl
 topped_none (suc n) = ap (λ (xs : List ℕ). 0 ∷ xs) (topped_none n)
 
-abbrev pub records : ℕ → List ℕ → List Request → ℕ → Records
-records attempts topped requests room = record { attempts = attempts; topped = topped; requests = requests; room = room }
+abbrev pub records : ℕ → List ℕ → List Request → List ℕ → ℕ → Records
+records attempts topped requests links room = record { attempts = attempts; topped = topped; requests = requests; links = links; room = room }

@@ -15,6 +15,8 @@ pub record Records : Type 0 where
   -- what each account was topped up with
   pub topped : List ℕ
   pub requests : List Request
+  -- the links by which they are found
+  pub links : List ℕ
   -- how many more requests surely fit without memory being taken
   pub room : ℕ
 

@@ -8,6 +8,7 @@ pub mod Rows
 pub mod RowMoves
 pub mod Marks
 pub mod Requests
+pub mod Links
 pub mod Slots
 pub mod State
 pub mod Steps

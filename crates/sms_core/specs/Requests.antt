@@ -5,6 +5,8 @@ use Rattle.sms_core.specs.declared.request.Request.{Request}
 
 pub record Listed : Type 0 where
   pub list : List Request
+  -- the links by which they are found
+  pub links : List ℕ
   -- how many more requests surely fit without memory being taken
   pub room : ℕ
 

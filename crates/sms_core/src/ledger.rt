@@ -1,16 +1,17 @@
 //! The accounts' running balances and the requests that draw on them.
 
-ghost use Rattle.std.specs.Prelude.{◌≡◌, ◌==◌, ◌+◌, ◌<◌, ◌≤◌, ℕ, [], ◌∷◌, ◌++◌, Some, None, IfOk, IfSome, OnOk, OnErr, is_some, length, map, nat_lt, replicate, slice_index_or, slice_set, sum_by, if◌then◌else◌};
+ghost use Rattle.std.specs.Prelude.{◌≡◌, ◌==◌, ◌+◌, ◌<◌, ◌≤◌, ℕ, [], ◌∷◌, ◌++◌, Some, None, IfOk, IfSome, OnOk, OnErr, is_some, length, map, nat_lt, not, replicate, slice_index_or, slice_set, sum_by, if◌then◌else◌};
 ghost use Rattle.sms_core.specs.Rows.{row_of};
 ghost use Rattle.sms_core.specs.State.{entry_of, find_request, changed};
 ghost use Rattle.sms_core.specs.Steps.{is_ready_state, reserved_request};
 ghost use Rattle.sms_core.specs.declared.request.RequestState.{RequestState};
 ghost use Rattle.sms_core.specs.Requests.{StandsAt};
+ghost use Rattle.sms_core.specs.Links.{IsGap};
 ghost use Rattle.sms_core.specs.Limits.{largest_cost, most_attempts, most_topped};
 ghost use Rattle.sms_core.specs.Ledger.{IsFound, IsLive, is_open_named, one_if_open, one_if_ready, became};
 
 use crate::request::{Phase, Request, RequestState};
-use crate::requests::Requests;
+use crate::requests::{Gap, Requests};
 use crate::row::Row;
 use std::alloc::{AllocError, Global};
 use std::marker::Model;
@@ -28,7 +29,7 @@ impl Model for Ledger {
 
     ghost Value = { Records };
 
-    ghost view = { λ l. record { attempts = l.attempts; topped = map (λ r. r.topped) l.rows.items; requests = l.requests.list; room = l.requests.room } };
+    ghost view = { λ l. record { attempts = l.attempts; topped = map (λ r. r.topped) l.rows.items; requests = l.requests.list; links = l.requests.links; room = l.requests.room } };
 
     ghost invariant = { λ l. IsKept l.attempts l.rows.items l.requests.list };
 }
@@ -125,27 +126,25 @@ impl Ledger {
     }
 
     /// Sets the cost of a new request aside.
-    pub(crate) fn reserve(&mut self, id: u32, account: u32, cost: u32) -> Result<(), AllocError>
+    pub(crate) fn reserve(&mut self, gap: Gap, account: u32, cost: u32) -> Result<(), AllocError>
         requires known { account < length self.old.topped }
-        requires new { find_request id self.old.requests ≡ None }
+        requires new { IsGap self.old.requests self.old.links gap }
         requires small { cost ≤ largest_cost }
         requires credit { cost ≤ (row_of (slice_index_or self.old.topped account 0) account (map entry_of self.old.requests)).free }
-        ensures ok { OnOk result (self.new.requests ≡ self.old.requests ++ reserved_request id account cost ∷ []) }
+        ensures ok { OnOk result (self.new.requests ≡ self.old.requests ++ reserved_request gap.id account cost ∷ []) }
         ensures err { OnErr result (self.new.requests ≡ self.old.requests) }
         ensures topped { self.new.topped ≡ self.old.topped }
         ensures attempts { self.new.attempts ≡ self.old.attempts }
         ensures room { OnOk result (self.old.room ≤ self.new.room + 1) }
         ensures full { OnErr result (self.old.room ≡ 0) }
     {
-        self.requests.push(Request {
-            id,
-            state: RequestState {
-                account,
-                cost,
-                attempts: 0,
-                phase: Phase::Ready,
-            },
-        })?;
+        let state = RequestState {
+            account,
+            cost,
+            attempts: 0,
+            phase: Phase::Ready,
+        };
+        self.requests.push(gap, state)?;
         let row = &mut self.rows[account as usize];
         row.free -= u64::from(cost);
         row.reserved += u64::from(cost);
@@ -160,6 +159,15 @@ impl Ledger {
         ensures room { OnOk result (additional ≤ self.new.room) }
     {
         self.requests.reserve(additional)
+    }
+
+    /// Where a request of this name goes, if there is none.
+    pub(crate) fn gap(&self, id: u32) -> Option<Gap>
+        ensures there { is_some result ≡ not (is_some (find_request id self.now.requests)) }
+        ensures gap { IfSome result (λ gap. IsGap self.now.requests self.now.links gap) }
+        ensures named { IfSome result (λ gap. gap.id ≡ id) }
+    {
+        self.requests.gap(id)
     }
 
     pub(crate) fn find(&self, id: u32) -> Option<RequestState>
@@ -193,7 +201,7 @@ impl Ledger {
         Ok(Ledger {
             attempts,
             rows: vec![in alloc; none; accounts as usize]?,
-            requests: Requests::new(alloc),
+            requests: Requests::new(alloc)?,
         })
     }
 }

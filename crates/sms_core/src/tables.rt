@@ -92,16 +92,16 @@ impl Tables {
         let Some(row) = self.ledger.row(account) else {
             return Ok(Step::Ignored(Cause::NoAccount));
         };
-        if self.ledger.find(request).is_some() {
+        let Some(gap) = self.ledger.gap(request) else {
             return Ok(Step::Ignored(Cause::RequestKnown));
-        }
+        };
         if cost == 0 || cost > LARGEST_COST {
             return Ok(Step::Ignored(Cause::BadCost));
         }
         if row.free < u64::from(cost) {
             return Ok(Step::Ignored(Cause::NoCredit));
         }
-        self.ledger.reserve(request, account, cost)?;
+        self.ledger.reserve(gap, account, cost)?;
         Ok(Step::Done)
     }
 

@@ -61,10 +61,10 @@ returns-clause-requests c = λ f becomes.
     let written = changed-set r.id f l.requests.list c.args.place r (c.self.invariant.requests_are.distinct r.id) at.0 (ap (λ (x : Request). x.id) at.1) in
     let state : f (get_or l.requests.list c.args.place r).state ≡ (became c.args.attempts c.args.phase r).state = ap (λ (x : Request). f x.state) at.1 ∙ becomes in
     let set_is = written ∙ ap (λ (s : RequestState). set l.requests.list c.args.place (record { id = r.id; state = s })) state in
-    ap (λ (ts : List ℕ). records l.attempts ts c.set.new.self.list c.set.new.self.room) topped
-    ∙ ap (λ (w : Listed). records l.attempts (map (λ (x : Row). x.topped) l.rows.items) w.list w.room) c.set.ensures
-    ∙ ap (λ (rs : List Request). records l.attempts (map (λ (x : Row). x.topped) l.rows.items) rs l.requests.room) (sym set_is)
-    ∙ ap (λ (w : Records). records w.attempts w.topped (changed r.id f w.requests) w.room) c.self.view_is
+    ap (λ (ts : List ℕ). records l.attempts ts c.set.new.self.list c.set.new.self.links c.set.new.self.room) topped
+    ∙ ap (λ (w : Listed). records l.attempts (map (λ (x : Row). x.topped) l.rows.items) w.list w.links w.room) c.set.ensures
+    ∙ ap (λ (rs : List Request). records l.attempts (map (λ (x : Row). x.topped) l.rows.items) rs l.requests.links l.requests.room) (sym set_is)
+    ∙ ap (λ (w : Records). records w.attempts w.topped (changed r.id f w.requests) w.links w.room) c.self.view_is
 
 pub returns-clause-open : goal.returns-clause-open
 returns-clause-open c = λ id.

@@ -15,5 +15,5 @@ returns c =
     let topped = map-set (λ (x : Row). x.topped) l.rows.items account next in
     let had = topped_at l.rows.items account in
     let adds : row.topped + c.args.amount ≡ get_or (map (λ (x : Row). x.topped) l.rows.items) account 0 + c.args.amount = ap (λ (n : ℕ). n + c.args.amount) (ap (λ (x : Row). x.topped) is ∙ sym had) in
-    ap (λ (ts : List ℕ). records l.attempts ts l.requests.list l.requests.room) (topped ∙ ap (set (map (λ (x : Row). x.topped) l.rows.items) account) adds)
-    ∙ ap (λ (w : Records). records w.attempts (set w.topped account (get_or w.topped account 0 + c.args.amount)) w.requests w.room) c.self.view_is
+    ap (λ (ts : List ℕ). records l.attempts ts l.requests.list l.requests.links l.requests.room) (topped ∙ ap (set (map (λ (x : Row). x.topped) l.rows.items) account) adds)
+    ∙ ap (λ (w : Records). records w.attempts (set w.topped account (get_or w.topped account 0 + c.args.amount)) w.requests w.links w.room) c.self.view_is
