@@ -314,6 +314,7 @@ kept_advanced most rows rs place r attempts phase kept live lt is left =
     record {
       some = kept.some;
       few = kept.few;
+      accounts = rw (length-set rows r.state.account (row_after phase r.state.cost (get_or rows r.state.account no_row))) kept.accounts;
       rows_are = rows_concluded rows rs place r attempts phase live lt is inside kept.rows_are;
       requests_are = rw (length-set rows r.state.account (row_after phase r.state.cost (get_or rows r.state.account no_row)))
           (requests_written most (length rows) rs place r (became attempts phase r) kept.requests_are lt is refl refl (became_within most (length rows) attempts phase r e left));
@@ -347,6 +348,7 @@ kept_reserved most rows rs id account cost kept low inside new small credit =
     record {
       some = kept.some;
       few = kept.few;
+      accounts = rw (length-set rows account next) kept.accounts;
       rows_are = rows_reserved rows rs (reserved_request id account cost) refl inside credit kept.rows_are;
       requests_are = rw (length-set rows account next) (requests_pushed most (length rows) rs (reserved_request id account cost) kept.requests_are (none_named id rs new) small fine);
     }

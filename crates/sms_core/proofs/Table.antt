@@ -1,17 +1,17 @@
 -- The pairs of a table of slots, counted slot by slot.
-use Rattle.std.proofs.Common.{◌≡◌, ◌≢◌, ℕ, suc, zero, ◌+◌, ◌<◌, ◌≤◌, ◌==◌, ◌&&◌, Bool, true, false, not, nat_lt, is_some, slice_get, List, [], ◌∷◌, length, get_or, set, replicate, Option, Some, None, if◌then◌else◌, refl, sym, ap, ◌∙◌, inl, inr, arith, eqb, eq-eqb, ne_eqb}
+use Rattle.std.proofs.Common.{◌≡◌, ◌≢◌, ℕ, suc, zero, ◌+◌, ◌<◌, ◌==◌, true, false, not, nat_lt, is_some, slice_get, List, [], ◌∷◌, length, map, get_or, set, Option, Some, None, if◌then◌else◌, refl, sym, ap, ◌∙◌, inl, inr, arith, eq-eqb, ne_eqb}
 use Rattle.std.proofs.Math.Bool.{and-true, and-false, or-true}
 use Rattle.std.proofs.lemmas.Bool.{cases_lt}
-use Rattle.std.proofs.lemmas.List.{get_or_past, get_or-set_other}
-use Rattle.std.specs.Bool.{OnTrue}
-use Rattle.std.specs.Option.{option_eq}
+use Rattle.std.proofs.lemmas.List.{get_or_past}
 use mathlib.Core.Logic.{dite}
 use native.Mathlib.Decide.{ℕ_discrete}
 use Rattle.sms_core.specs.declared.mark.Mark.{Mark}
 use Rattle.sms_core.specs.declared.mark.Mark.TheVariants.{Empty}
 use Rattle.sms_core.specs.Holds.{weigh, is_slot, holders_of}
 use Rattle.sms_core.specs.Marks.{waits_for}
-use Rattle.sms_core.specs.Slots.{pairs_from, AreSlots}
+use Rattle.sms_core.specs.declared.slots.Slot.{Slot}
+use Rattle.sms_core.specs.declared.slots.Slot.TheVariants.{Free, Held}
+use Rattle.sms_core.specs.Slots.{pairs_from, worker_in, mark_in, is_of}
 use Rattle.sms_core.specs.State.{find_holder, is_pair, times_held}
 use Rattle.sms_core.specs.Steps.{some_waits_for}
 
@@ -124,20 +124,6 @@ pub releases-pairs : (worker slot : ℕ) (hs : List (Option ℕ)) → slot < len
 releases-pairs worker slot hs lt own f =
     let s = weigh-pairs_set f hs 0 slot slot None (omega arith) lt in let one : weight_at f slot (get_or hs slot None) ≡ f (worker, slot) = ap (weight_at f slot) own in omega arith
 
--- marks beside the holders: a slot that nobody has is empty
-
-abbrev pub IsIdleEmpty : List (Option ℕ) → List Mark → Type 0
-IsIdleEmpty hs ms = (slot : ℕ) → get_or hs slot None ≡ None → get_or ms slot Empty ≡ Empty
-
-pub idle_marked : (hs : List (Option ℕ)) (ms : List Mark) (slot : ℕ) (m : Mark) → IsIdleEmpty hs ms → get_or hs slot None ≢ None → IsIdleEmpty hs (set ms slot m)
-idle_marked hs ms slot m idle held k free =
-    dite (ℕ_discrete k slot) (λ is. absurd (held (ap (λ (i : ℕ). get_or hs i None) (sym is) ∙ free))) (λ ne. get_or-set_other ms slot k m Empty ne ∙ idle k free)
-
-pub same_default : {X : Type 0} → (n i : ℕ) (x : X) → get_or (replicate n x) i x ≡ x
-same_default zero i x = refl
-same_default (suc n) zero x = refl
-same_default (suc n) (suc i) x = same_default n i x
-
 pub is_held-pairs : (slot : ℕ) (hs : List (Option ℕ)) → nat_lt 0 (holders_of slot (pairs_from 0 hs)) ≡ is_some (get_or hs slot None)
 is_held-pairs slot hs = ap (nat_lt 0) (holders_of-pairs slot hs) ∙ step (get_or hs slot None)
   where
@@ -145,23 +131,37 @@ is_held-pairs slot hs = ap (nat_lt 0) (holders_of-pairs slot hs) ∙ step (get_o
     step None = refl
     step (Some w) = refl
 
--- whether the worker is the holder
-abbrev pub is_this : ℕ → Option ℕ → Bool
-is_this worker None = false
-is_this worker (Some holder) = holder == worker
+-- the slots themselves
 
-pub same_option : (h : Option ℕ) (worker : ℕ) → option_eq eqb h (Some worker) ≡ is_this worker h
-same_option None worker = refl
-same_option (Some holder) worker = refl
+pub worker_at : (ss : List Slot) (k : ℕ) → get_or (map worker_in ss) k None ≡ worker_in (get_or ss k Free)
+worker_at [] k = refl
+worker_at (s ∷ ss) zero = refl
+worker_at (s ∷ ss) (suc k) = worker_at ss k
 
-pub is_holder-pairs : (worker slot : ℕ) (hs : List (Option ℕ)) → not (times_held worker slot (pairs_from 0 hs) == 0) ≡ is_this worker (get_or hs slot None)
-is_holder-pairs worker slot hs = ap (λ (n : ℕ). not (n == 0)) (times_held-pairs worker slot hs) ∙ step (get_or hs slot None)
-  where
-    step : (h : Option ℕ) → not (one_if_same worker h == 0) ≡ is_this worker h
-    step None = refl
-    step (Some holder) = dite (ℕ_discrete holder worker)
-        (λ is. rw (eq-eqb holder worker is) refl)
-        (λ ne. rw (ne_eqb holder worker ne) refl)
+pub mark_at : (ss : List Slot) (k : ℕ) → get_or (map mark_in ss) k Empty ≡ mark_in (get_or ss k Free)
+mark_at [] k = refl
+mark_at (s ∷ ss) zero = refl
+mark_at (s ∷ ss) (suc k) = mark_at ss k
+
+-- a slot that nobody has is empty
+pub idle : (s : Slot) → worker_in s ≡ None → mark_in s ≡ Empty
+idle Free e = refl
+idle (Held worker mark) e = absurd (cc)
+
+pub find-slots : (ss : List Slot) (slot : ℕ) → worker_in (get_or ss slot Free) ≡ find_holder slot (pairs_from 0 (map worker_in ss))
+find-slots ss slot = sym (find-pairs (map worker_in ss) 0 slot slot (omega arith) ∙ worker_at ss slot)
+
+pub is_held-slots : (ss : List Slot) (slot : ℕ) → is_some (worker_in (get_or ss slot Free)) ≡ nat_lt 0 (holders_of slot (pairs_from 0 (map worker_in ss)))
+is_held-slots ss slot = sym (is_held-pairs slot (map worker_in ss) ∙ ap is_some (worker_at ss slot))
+
+own_test : (worker : ℕ) (s : Slot) → not (one_if_same worker (worker_in s) == 0) ≡ is_of worker s
+own_test worker Free = refl
+own_test worker (Held holder mark) = dite (ℕ_discrete holder worker)
+    (λ is. rw (eq-eqb holder worker is) refl)
+    (λ ne. rw (ne_eqb holder worker ne) refl)
+
+pub is_of-slots : (ss : List Slot) (worker slot : ℕ) → not (times_held worker slot (pairs_from 0 (map worker_in ss)) == 0) ≡ is_of worker (get_or ss slot Free)
+is_of-slots ss worker slot = ap (λ (n : ℕ). not (n == 0)) (times_held-pairs worker slot (map worker_in ss) ∙ ap (one_if_same worker) (worker_at ss slot)) ∙ own_test worker (get_or ss slot Free)
 
 -- looking for the slot that waits for a number, up to a slot
 pub none_waits_below : (number : ℕ) (ms : List Mark) → ((k : ℕ) → k < length ms → waits_for number (get_or ms k Empty) ≡ false) → some_waits_for number ms ≡ false
@@ -177,25 +177,3 @@ pub slice_get-at : (ms : List Mark) (k : ℕ) (m : Mark) → get_or ms k Empty �
 slice_get-at [] k m is ne = absurd (ne (sym is))
 slice_get-at (x ∷ ms) zero m is ne = ap Some is
 slice_get-at (x ∷ ms) (suc k) m is ne = slice_get-at ms k m is ne
-
--- a pair is a pair of its slot
-pub pair_of_slot : (worker slot : ℕ) (holds : List (ℕ × ℕ)) → times_held worker slot holds ≤ holders_of slot holds
-pair_of_slot worker slot [] = omega arith
-pair_of_slot worker slot (p ∷ ps) = let ih = pair_of_slot worker slot ps in let here = step (p.0 == worker) (p.1 == slot) in omega arith
-  where
-    step : (a b : Bool) → (if a && b then 1 else 0) ≤ (if b then 1 else 0)
-    step true true = omega arith
-    step true false = omega arith
-    step false true = omega arith
-    step false false = omega arith
-
--- a slot that a worker has is held
-pub held_by_worker : (b : Bool) (worker slot : ℕ) (holds : List (ℕ × ℕ)) → b ≡ not (times_held worker slot holds == 0) → OnTrue b (holders_of slot holds ≢ 0)
-held_by_worker true worker slot holds e = λ none.
-    let le = pair_of_slot worker slot holds in
-    let zero_times : times_held worker slot holds ≡ 0 = omega arith in
-    absurd (cc (e, ap (λ (n : ℕ). not (n == 0)) zero_times))
-held_by_worker false worker slot holds e = tt
-
-pub inside_table : (slot : ℕ) (hs : List (Option ℕ)) (ms : List Mark) → AreSlots hs ms → holders_of slot (pairs_from 0 hs) ≢ 0 → slot < length ms
-inside_table slot hs ms are held = let l = held_inside slot hs (held_holder slot hs held) in omega (arith, are.holders_of_all, are.marks_of_all)

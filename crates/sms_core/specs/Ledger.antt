@@ -3,7 +3,7 @@ use Rattle.std.specs.Prelude.{◌≡◌, ℕ, suc, ◌+◌, ◌-◌, ◌*◌, �
 use Rattle.sms_core.specs.declared.request.Phase.{Phase}
 use Rattle.sms_core.specs.declared.request.Phase.TheVariants.{Ready, Open, Charged, Refused, Unanswered, Unsent}
 use Rattle.sms_core.specs.declared.request.Request.{Request}
-use Rattle.sms_core.specs.Limits.{most_attempts, most_topped, largest_cost}
+use Rattle.sms_core.specs.Limits.{most_accounts, most_attempts, most_topped, largest_cost}
 use Rattle.sms_core.specs.declared.row.Row.{Row}
 use Rattle.sms_core.specs.Requests.{StandsAt}
 use Rattle.sms_core.specs.Rows.{no_row, Entry, over, reserved_of, charged_of, returned_of}
@@ -72,6 +72,7 @@ pub record AreRequests (most accounts : ℕ) (rs : List Request) : Type 0 where
 pub record IsKept (most : ℕ) (rows : List Row) (rs : List Request) : Type 0 where
   pub some : 1 ≤ most
   pub few : most ≤ most_attempts
+  pub accounts : length rows ≤ most_accounts
   pub rows_are : AreRows rows rs
   pub requests_are : AreRequests most (length rows) rs
 

@@ -1,8 +1,9 @@
 -- The table of a window's slots: who has each, and what for.
-use Rattle.std.specs.Prelude.{◌≡◌, ℕ, suc, Bool, List, [], ◌∷◌, length, slice_get, slice_set, slice_index_or, Option, Some, None}
+use Rattle.std.specs.Prelude.{◌≡◌, ℕ, suc, ◌==◌, Bool, false, List, [], ◌∷◌, slice_get, slice_set, Option, Some, None}
 use Rattle.sms_core.specs.declared.mark.Mark.{Mark}
 use Rattle.sms_core.specs.declared.mark.Mark.TheVariants.{Empty, Open, Replied}
-use Rattle.sms_core.specs.Limits.{most_slots}
+use Rattle.sms_core.specs.declared.slots.Slot.{Slot}
+use Rattle.sms_core.specs.declared.slots.Slot.TheVariants.{Free, Held}
 
 pub record Table : Type 0 where
   -- which worker has which slot
@@ -16,11 +17,19 @@ pairs_from n [] = []
 pairs_from n (None ∷ hs) = pairs_from (suc n) hs
 pairs_from n (Some worker ∷ hs) = (worker, n) ∷ pairs_from (suc n) hs
 
--- the holder and the mark of each slot: a slot that nobody has is empty
-pub record AreSlots (holders : List (Option ℕ)) (marks : List Mark) : Type 0 where
-  pub holders_of_all : length holders ≡ most_slots
-  pub marks_of_all : length marks ≡ most_slots
-  pub free_are_empty : (slot : ℕ) → slice_index_or holders slot None ≡ None → slice_index_or marks slot Empty ≡ Empty
+-- the worker that has a slot, and what for: a slot that nobody has is empty
+abbrev pub worker_in : Slot → Option ℕ
+worker_in Free = None
+worker_in (Held worker mark) = Some worker
+
+abbrev pub mark_in : Slot → Mark
+mark_in Free = Empty
+mark_in (Held worker mark) = mark
+
+-- whether the worker has the slot
+abbrev pub is_of : ℕ → Slot → Bool
+is_of worker Free = false
+is_of worker (Held holder mark) = holder == worker
 
 -- a slot that waits for this number has its answer
 abbrev pub Answers : Table → ℕ → ℕ → Bool → Table → Type 0

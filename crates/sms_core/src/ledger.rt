@@ -7,7 +7,7 @@ ghost use Rattle.sms_core.specs.Steps.{is_ready_state, reserved_request};
 ghost use Rattle.sms_core.specs.declared.request.RequestState.{RequestState};
 ghost use Rattle.sms_core.specs.Requests.{StandsAt};
 ghost use Rattle.sms_core.specs.Links.{IsGap};
-ghost use Rattle.sms_core.specs.Limits.{largest_cost, most_attempts, most_topped};
+ghost use Rattle.sms_core.specs.Limits.{largest_cost, most_accounts, most_attempts, most_topped};
 ghost use Rattle.sms_core.specs.Ledger.{IsFound, IsLive, is_open_named, one_if_open, one_if_ready, became};
 
 use crate::request::{Phase, Request, RequestState};
@@ -42,7 +42,8 @@ impl Ledger {
     }
 
     pub(crate) fn accounts(&self) -> usize
-        ensures { result ≡ length self.now.topped }
+        ensures all { result ≡ length self.now.topped }
+        ensures few { result ≤ most_accounts }
     {
         self.rows.len()
     }
@@ -189,6 +190,7 @@ impl Ledger {
     pub(crate) fn new(alloc: Global, accounts: u32, attempts: u32) -> Result<Ledger, AllocError>
         requires some { 1 ≤ attempts }
         requires few { attempts ≤ most_attempts }
+        requires accounts { accounts ≤ most_accounts }
         ensures { IfOk result (λ l. (l.attempts ≡ attempts) × (l.topped ≡ replicate accounts 0) × (l.requests ≡ [])) }
     {
         let none = Row {

@@ -1,6 +1,6 @@
 //! The world of a windowed, prepaid sender, which events change.
 
-ghost use Rattle.std.specs.Prelude.{◌≡◌, ◌↔◌, Err, IfOk, IsErrOf, IsTrue, OnErr, OnOk, count_by, length};
+ghost use Rattle.std.specs.Prelude.{◌≡◌, ◌↔◌, ◌≤◌, Err, IfOk, IsErrOf, IsTrue, OnErr, OnOk, count_by, length};
 ghost use Rattle.sms_core.specs.Histories.{Runs};
 ghost use Rattle.sms_core.specs.State.{AreLimits, new_world, rows, holder_of, request_of};
 ghost use Rattle.sms_core.specs.Steps.{Steps};
@@ -106,7 +106,8 @@ impl World {
 
     /// How many accounts there are.
     pub fn accounts(&self) -> usize
-        ensures { result ≡ length self.now.topped }
+        ensures all { result ≡ length self.now.topped }
+        ensures few { result ≤ MOST_ACCOUNTS }
     {
         self.tables.ledger.accounts()
     }

@@ -5,7 +5,6 @@ pub mod Lines
 pub mod Jobs
 pub mod Below
 pub mod Schedules
-pub mod Accounts
 pub mod Replaying
 pub mod MessageRecords
 pub mod Plans

@@ -10,7 +10,7 @@ use crate::fault::{Fault, Source};
 use crate::field::{number_at, u32_at};
 use crate::records::{next_record, read_all};
 use csv::{ByteRecord, Reader};
-use sms_core::{CoreError, Event, MOST_ACCOUNTS, World};
+use sms_core::{CoreError, Event, World};
 use std::alloc::Global;
 use std::io::Read;
 
@@ -160,7 +160,6 @@ fn limits_of(row: &ByteRecord) -> Option<(u32, u32, u32)>
 /// The world that the first record of a schedule sets up.
 fn world_of(alloc: Global, row: &ByteRecord) -> Result<World, Fault>
     ensures world { IfOk result (λ world. world_spelled (fields_of row.now) ≡ Some world) }
-    ensures few { IfOk result (λ world. length world.topped ≤ MOST_ACCOUNTS) }
     ensures faulty { IfErr result (λ fault. TellsWorld (fields_of row.now) fault) }
 {
     let Some((accounts, limit, attempts)) = limits_of(row) else {
@@ -184,7 +183,6 @@ pub struct Schedule {
 pub fn read_schedule<R: Read + Drop>(alloc: Global, input: R) -> Result<Schedule, Fault>
     ensures schedule { IfOk result (λ schedule. IfSome (R.remaining input) (λ bytes.
         AreSchedule (records_of bytes) schedule.world schedule.events.items × (schedule_fault (records_of bytes) ≡ None))) }
-    ensures few { IfOk result (λ schedule. length schedule.world.topped ≤ MOST_ACCOUNTS) }
     ensures faulty { IfErr result (λ fault. IfSome (R.remaining input) (λ bytes. TellsSchedule (records_of bytes) fault)) }
 {
     let mut reader = read_all(alloc, input);

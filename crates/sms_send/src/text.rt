@@ -1,9 +1,9 @@
 //! What replay prints.
 
-ghost use Rattle.std.specs.Prelude.{◌≡◌, ◌≤◌, ◌++◌, decimal, flat_map, length, IfOk, OnOk, string_bytes};
+ghost use Rattle.std.specs.Prelude.{◌≡◌, ◌++◌, decimal, flat_map, IfOk, OnOk, string_bytes};
 ghost use Rattle.sms_send.specs.Text.{account_line, account_lines, cause_name as name_of_cause, event_line, event_lines, phase_name as name_of_phase, or_none, replay_text as text_of_replay, request_line, row_line, slot_line, slot_lines};
 
-use sms_core::{Cause, MOST_ACCOUNTS, MOST_SLOTS, Phase, Request, Row, Step, World};
+use sms_core::{Cause, MOST_SLOTS, Phase, Request, Row, Step, World};
 use std::alloc::{AllocError, Global};
 use std::fmt::Write;
 
@@ -130,7 +130,6 @@ fn write_slot(text: &mut String, slot: u32, holder: Option<u32>) -> Result<(), A
 
 /// A line for each account.
 fn write_accounts(text: &mut String, world: &World) -> Result<(), AllocError>
-    requires { length world.now.topped ≤ MOST_ACCOUNTS }
     ensures { OnOk result (string_bytes text.new ≡ string_bytes text.old ++ account_lines world.now) }
 {
     for account in 0..world.accounts() {
@@ -163,7 +162,6 @@ fn write_held(text: &mut String, world: &World) -> Result<(), AllocError>
 
 /// What is printed of a replay: what became of the events, and the world after them.
 pub fn replay_text(alloc: Global, answers: &[Step], world: &World) -> Result<String, AllocError>
-    requires { length world.now.topped ≤ MOST_ACCOUNTS }
     ensures { IfOk result (λ text. string_bytes text ≡ text_of_replay answers.now world.now) }
 {
     let mut text = String::new(alloc);

@@ -1,16 +1,9 @@
-use Rattle.std.proofs.Common.{rules, arith, refl, ap, ◌≡◌, ◌∙◌, List}
+use Rattle.std.proofs.Common.{rules, refl, ap, ◌≡◌, ◌∙◌, List}
 use Rattle.std.specs.Prelude.{string_bytes}
 use Rattle.sms_core.specs.declared.event.Step.{Step}
 use Rattle.sms_send.specs.Text.{replay_text}
-use Rattle.sms_send.proofs.Accounts.{runs-keep}
 use Rattle.sms_send.proofs.Replaying.{replayed}
 use Rattle.sms_send.proofs.replay.run_replay.Goals as goal
-
-pub replay_text-requires : goal.replay_text-requires
-replay_text-requires g c =
-    let keep = runs-keep c.in_ok-world.field-0.world c.run.new.self c.as_slice.result.now c.in_ok-answers.answers.items c.in_ok-answers.ensures.runs in
-    let few = c.in_ok-world.ensures.few in
-    omega (arith, keep, few)
 
 pub returns-clause-replayed : goal.returns-clause-replayed
 returns-clause-replayed g c =
