@@ -9,3 +9,6 @@ pub mod Runs
 pub mod LawProofs
 pub mod SeatSteps
 pub mod Ties
+pub mod OpenSlots
+pub mod Drawing
+pub mod Names

@@ -3,6 +3,9 @@ pub mod SeatState
 pub mod Rule
 pub mod Steps
 pub mod Outcome
+pub mod OpenSlots
+pub mod Drawing
+pub mod Names
 pub mod Moves
 pub mod MoveSteps
 pub mod Laws

@@ -41,10 +41,17 @@ pub record DrewNumber (v : View) (n : ℕ) (w : View) : Type 0 where
   pub later : v.seen ≤ n
   pub lawful : n ≤ top_number
 
+-- the seat drew nothing, and has seen that the number word is this one; it never falls
+pub record SawNumber (v : View) (found : ℕ) (w : View) : Type 0 where
+  pub after : w ≡ seen_with v found
+  pub seen : w.seen ≡ found
+  pub later : v.seen ≤ found
+  pub top : found ≤ used_up
+
 abbrev pub Drawn : View → Draw → View → Type 0
 Drawn v (Number n) w = DrewNumber v n w
-Drawn v UsedUp w = (w ≡ seen_with v used_up) × (v.seen ≤ used_up)
-Drawn v (DrawContended found) w = (w ≡ seen_with v found) × (v.seen ≤ found)
+Drawn v UsedUp w = SawNumber v used_up w
+Drawn v (DrawContended found) w = SawNumber v found w
 
 abbrev pub IsLimit : ℕ → Type 0
 IsLimit limit = (1 ≤ limit) × (limit ≤ most_slots)

@@ -1,6 +1,9 @@
 //! The laws of a window, over every state that meets its rule and every run of steps. Each holds of
 //! all numbers of seats and threads, in any order of their steps.
 ghost use Rattle.sms_window.specs.Laws.{RuleIsOrderly, OpeningMeetsRule, MoveKeepsRule, RunIsOrderly, MoveIsStep, ClaimedOnce, DrawnOnce, DroppedStays, GivesGreatest};
+ghost use Rattle.sms_window.specs.OpenSlots.{NoneMore, OneMore, OneLess};
+ghost use Rattle.sms_window.specs.Drawing.{DrawsNone, DrawsOne, LooksDrawNone, ClaimsDrawNone, ReleasesDrawNone, DrawsAddUp, DrawsEachOnce};
+ghost use Rattle.sms_window.specs.Names.{KeeperHasAll, GivesInTurn, GivesAll};
 ghost use Rattle.sms_window.specs.Plays.{loaded, exchanged, masked, IsLook, IsClaimOrLook, IsReleased, IsLookAtNumber, IsDrawOrLook, StepsAre, SplitIsMove, JoinIsMove};
 
 use crate::rule::{
@@ -87,4 +90,32 @@ pub fn exchange_is_draw()
 pub fn families_are_moves()
     ensures split { SplitIsMove ⟦<Families as Split<View>>⟧.left ⟦<Families as Split<View>>⟧.right }
     ensures join { JoinIsMove ⟦<Families as Join<View>>⟧.both ⟦<Families as Join<View>>⟧.spent }
+{}
+
+/// A seat's slots, as those that it had and some that it opened beside them: a claim opens one
+/// more, and each open one may be released, whatever its place in their list.
+pub fn slots_open_and_close()
+    ensures none { NoneMore }
+    ensures more { OneMore }
+    ensures less { OneLess }
+{}
+
+/// What a seat drew since it was as it was: a draw adds its number and no other step does, the
+/// numbers of one stretch stand behind those of the stretch before it, and none comes twice.
+pub fn draws_add_up()
+    ensures none { DrawsNone }
+    ensures one { DrawsOne }
+    ensures looks { LooksDrawNone }
+    ensures claims { ClaimsDrawNone }
+    ensures releases { ReleasesDrawNone }
+    ensures stretches { DrawsAddUp }
+    ensures once { DrawsEachOnce }
+{}
+
+/// The keeper's seat has all 64 names at first. It can split 63 times, and gives them from the
+/// greatest down.
+pub fn keeper_gives_in_turn()
+    ensures all { KeeperHasAll }
+    ensures next { GivesInTurn }
+    ensures after { GivesAll }
 {}

@@ -202,6 +202,56 @@ fn a_dropped_seat_keeps_its_slot(rt: HostRuntime) {
     );
 }
 
+// A seat that took another in has its slots and names, and can give these on. It needn't be the
+// keeper's.
+#[test]
+fn names_and_slots_go_on(rt: HostRuntime) {
+    let (window, mut keeper) = window_of(&rt, rt.alloc(), 2, 1);
+    let mut a = seat_of(&rt, &window, &mut keeper);
+    let mut b = seat_of(&rt, &window, &mut keeper);
+    claim_slot(&rt, &window, &mut b, 0);
+    assert_eq!(rt; window.try_draw(&mut b), Draw::Number(1));
+    assert!(rt; !a.can_split());
+    window.join(&mut a, b);
+    assert!(rt; a.holds(0));
+    let c = seat_of(&rt, &window, &mut a);
+    assert!(rt; !a.can_split());
+    assert!(rt; !c.can_split());
+    assert!(rt; a.holds(0));
+    assert!(rt; !c.holds(0));
+    release_slot(&rt, &window, &mut a, 0);
+    window.join(&mut a, c);
+    assert!(rt; a.can_split());
+    window.join(&mut keeper, a);
+    let closed = window.close(keeper);
+    assert_eq!(rt;
+        closed,
+        Closed {
+            held: 0xFFFF_FFFF_FFFF_FFFC,
+            next: 2
+        }
+    );
+}
+
+// The words are told whichever seat is handed in, with the slots and numbers of the others.
+#[test]
+fn closed_with_another_seat(rt: HostRuntime) {
+    let (window, mut keeper) = window_of(&rt, rt.alloc(), 3, 1);
+    let mut a = seat_of(&rt, &window, &mut keeper);
+    let mut b = seat_of(&rt, &window, &mut keeper);
+    claim_slot(&rt, &window, &mut a, 0);
+    claim_slot(&rt, &window, &mut b, 1);
+    assert_eq!(rt; window.try_draw(&mut b), Draw::Number(1));
+    let closed = window.close(a);
+    assert_eq!(rt;
+        closed,
+        Closed {
+            held: 0xFFFF_FFFF_FFFF_FFFB,
+            next: 2
+        }
+    );
+}
+
 #[test]
 fn numbers_by_turns(rt: HostRuntime) {
     let (window, mut keeper) = window_of(&rt, rt.alloc(), 2, 7);

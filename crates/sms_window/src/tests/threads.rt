@@ -7,6 +7,7 @@ use crate::{Claim, Draw, Window, WindowSeat};
 use std::alloc::{AllocError, Global};
 use std::snapshot::Snapshot;
 use std::sync::Wait;
+use std::sync::atomic::{AtomicBool, Ordering};
 use std::test::Fail;
 use std::thread;
 use std::thread::{Promise, Threads};
@@ -163,5 +164,68 @@ fn each_number_once(rt: HostRuntime) -> Result<(), Fail> {
             "{threads} threads"
         );
     }
+    Ok(())
+}
+
+// A seat, and whether a claim and a draw of it were contended.
+type Contended = (WindowSeat, bool, bool);
+
+// Claims, releases and draws until a claim and a draw were contended, or another is done.
+fn contend(window: &Window, mut seat: WindowSeat, done: &AtomicBool) -> Contended
+    requires own { seat.window ≡ window.now }
+    ensures window { result.0.window ≡ seat.window }
+{
+    let mut claim_met = false;
+    let mut draw_met = false;
+    for _ in 0..TRIES {
+        if done.load(Ordering::SeqCst) {
+            return (seat, claim_met, draw_met);
+        }
+        match window.try_claim(&mut seat) {
+            Claim::Got(slot) => window.release(&mut seat, slot),
+            Claim::Full => {}
+            Claim::Contended(_) => claim_met = true,
+        }
+        if let Draw::Contended(_) = window.try_draw(&mut seat) {
+            draw_met = true;
+        }
+        if claim_met && draw_met {
+            done.store(true, Ordering::SeqCst);
+        }
+    }
+    (seat, claim_met, draw_met)
+}
+
+#[test]
+fn claims_and_draws_contend(rt: HostRuntime) -> Result<(), Fail> {
+    let Ok((window, mut keeper)) = Window::make(rt.alloc(), 2) else {
+        panic!(rt; "no window")
+    };
+    let mut seats = seats_of(rt.alloc(), &window, &mut keeper, 2)?;
+    let Some(a) = seats.pop() else {
+        panic!(rt; "no seat")
+    };
+    let Some(b) = seats.pop() else {
+        panic!(rt; "no seat")
+    };
+    let done = AtomicBool::new(false);
+    let shared = &window;
+    let (first, second) = thread::join(
+        &rt,
+        || -> Contended
+            requires { a.window ≡ shared.now }
+            ensures { result.0.window ≡ shared.entry.now }
+        { contend(shared, a, &done) },
+        || -> Contended
+            requires { b.window ≡ shared.now }
+            ensures { result.0.window ≡ shared.entry.now }
+        { contend(shared, b, &done) },
+    );
+    assert!(rt; first.1 || second.1, "no claim was contended");
+    assert!(rt; first.2 || second.2, "no draw was contended");
+    window.join(&mut keeper, first.0);
+    window.join(&mut keeper, second.0);
+    let closed = window.close(keeper);
+    assert_eq!(rt; closed.held, 0xFFFF_FFFF_FFFF_FFFC);
     Ok(())
 }
