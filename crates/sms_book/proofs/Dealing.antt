@@ -1,15 +1,15 @@
 -- A book whose numbers are dealt out, one after another.
-use Rattle.std.proofs.Common.{◌≡◌, ℕ, zero, suc, ◌<◌, ◌≤◌, List, [], ◌∷◌, ◌++◌, length, map, set, Some, refl, sym, ap, ◌∙◌, subst, arith, replicate, length-append}
+use Rattle.std.proofs.Common.{◌≡◌, ℕ, zero, suc, ◌<◌, List, [], ◌∷◌, ◌++◌, length, map, set, Some, refl, sym, ap, ◌∙◌, subst, arith, replicate, length-append}
 use Rattle.std.specs.Prelude.{slice_get, slice_index}
 use Rattle.std.proofs.lemmas.List.{get_or-map, length-map, length-replicate}
 use Rattle.sms_core.specs.declared.row.Row.{Row}
 use Rattle.sms_book.specs.declared.rule.Portion.{Portion}
 use Rattle.sms_book.specs.declared.rule.Entry.{Entry}
-use Rattle.sms_book.specs.Portions.{row_at, no_row, no_amounts, nothing, of_worker, of_till, of_row}
+use Rattle.sms_book.specs.Portions.{row_at, no_amounts, nothing, of_worker, of_till, of_row}
 use Rattle.sms_book.specs.Shares.{Share, blank_share, opening_shares}
 use Rattle.sms_book.specs.Openings.{AllSmall, opening_row}
-use Rattle.sms_book.specs.Rule.{at_home, away, opening_entries, AllAway}
-use Rattle.sms_core.specs.Rows.{IsBalanced}
+use Rattle.sms_book.specs.Rule.{at_home, away, AllAway}
+use Rattle.sms_core.specs.Rows.{no_row, IsBalanced}
 use Rattle.sms_book.specs.Sums.{AreSound, IsSmall}
 
 -- the entries after the first n numbers went out
@@ -29,16 +29,20 @@ set_dealt zero (x ∷ es) a e = let same : at_home a ≡ x = cc in ap (λ (y : E
 set_dealt (suc k) [] a e = refl
 set_dealt (suc k) (x ∷ es) a e = ap (λ (l : List Entry). away x.portions ∷ l) (set_dealt k es a e)
 
-pub length-dealt : (n : ℕ) (es : List Entry) → length (dealt n es) ≡ length es
-length-dealt zero es = refl
-length-dealt (suc n) [] = refl
-length-dealt (suc n) (e ∷ es) = ap suc (length-dealt n es)
+-- an element of a list of equal ones
+pub replicate_get : {A : Type 0} (n k : ℕ) (x : A) → k < n → slice_get (replicate n x) k ≡ Some x
+replicate_get zero k x l = absurd (omega arith)
+replicate_get (suc n) zero x l = refl
+replicate_get (suc n) (suc k) x l = replicate_get n k x (omega arith)
 
-pub AllAway-dealt : (n : ℕ) (es : List Entry) → length es ≤ n → AllAway (dealt n es)
-AllAway-dealt zero [] l = tt
-AllAway-dealt zero (e ∷ es) l = absurd (omega arith)
-AllAway-dealt (suc n) [] l = tt
-AllAway-dealt (suc n) (e ∷ es) l = (refl, AllAway-dealt n es (omega arith))
+-- all went out
+pub dealt-replicate : (n : ℕ) (a : List Portion) → dealt n (replicate n (at_home a)) ≡ replicate n (away a)
+dealt-replicate zero a = refl
+dealt-replicate (suc n) a = ap (λ (l : List Entry). away a ∷ l) (dealt-replicate n a)
+
+pub AllAway-replicate : (n : ℕ) (a : List Portion) → AllAway (replicate n (away a))
+AllAway-replicate zero a = tt
+AllAway-replicate (suc n) a = (refl, AllAway-replicate n a)
 
 -- the rows of a new book are sound, and agree with its totals
 pub sound-opening : (credits : List ℕ) → AllSmall credits → AreSound (map opening_row credits)
@@ -88,14 +92,6 @@ pub shares_push : (accounts n m : ℕ) (shares : List Share) (s : Share) → sha
 shares_push accounts n m shares s was next number amounts =
     let new : s ≡ blank_share accounts (suc n) = (λ i. record { number = number i; amounts = amounts i }) in
     (λ i. was i ++ new i ∷ []) ∙ ap (opening_shares accounts) (sym next)
-
-pub worker_home : (credits : List ℕ) (w k : ℕ) → k < w → slice_get (opening_entries credits w) (suc k) ≡ Some (at_home (replicate (length credits) nothing))
-worker_home credits w k low = go w k low
-  where
-    go : (w k : ℕ) → k < w → slice_get (replicate w (at_home (replicate (length credits) nothing))) k ≡ Some (at_home (replicate (length credits) nothing))
-    go zero k l = absurd (omega arith)
-    go (suc w) zero l = refl
-    go (suc w) (suc k) l = go w k (omega arith)
 
 pub workers-nothing : (n : ℕ) → map of_worker (replicate n no_amounts) ≡ replicate n nothing
 workers-nothing zero = refl

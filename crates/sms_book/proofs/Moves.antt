@@ -6,7 +6,7 @@ use mathlib.Core.Option.{some, some-ne-none, some-injective}
 use mathlib.Core.Logic.{dite}
 use native.Mathlib.Decide.{ℕ_discrete}
 use lib.ListN.{get_elem?}
-use Rattle.atomic_table.specs.Table.{State, Me, Allows, Splits, Joins, keeps, opening}
+use Rattle.atomic_table.specs.Table.{Me, Allows, Splits, Joins, keeps, opening}
 use Rattle.atomic_table.proofs.Lists.{at_set, set_else, set_again, at_longer, at_last}
 use Rattle.sms_book.specs.declared.rule.Portion.{Portion}
 use Rattle.sms_book.specs.declared.rule.Entry.{Entry}
@@ -14,7 +14,7 @@ use Rattle.sms_book.specs.declared.rule.View.{View}
 use Rattle.sms_book.specs.declared.rule.View.TheVariants.{Book, Lent, Holder, Spent}
 use Rattle.sms_book.specs.Portions.{nothing, of_till}
 use Rattle.sms_book.specs.Sums.{AddUp, MoveBy}
-use Rattle.sms_book.specs.Rule.{at_home, away, lent, left_after, right_after, Fits, Kept, IsKnown, Told, KeptTold, left_dealt, right_dealt, portions_in, opening_entries, new_book}
+use Rattle.sms_book.specs.Rule.{at_home, away, lent, left_after, right_after, Shared, IsThere, IsBooks, Fits, Kept, IsKnown, Told, KeptTold, left_dealt, right_dealt, portions_in, opening_entries, new_book}
 use Rattle.sms_book.proofs.Totals.{adds_home, adds_lent, adds_out, adds_moved, adds_opening}
 
 module _ {A : Type 0} where
@@ -59,7 +59,7 @@ unfolding portions_of
 same_portions b c e = ap portions_of e
 
 -- a seat has one view, so views of two kinds are of two seats
-other_seat : (s : State (Unit {0}) View) (i j q : ℕ) (v : View) (c : List Portion) → get_elem? s.views i ≡ some v → get_elem? s.views j ≡ some (Holder q c) → (v ≡ Holder q c → ⊥) → j ≢ i
+other_seat : (s : Shared) (i j q : ℕ) (v : View) (c : List Portion) → IsThere s i v → IsThere s j (Holder q c) → (v ≡ Holder q c → ⊥) → j ≢ i
 other_seat s i j q v c here there differ e = differ (some-injective v (Holder q c) (sym here ∙ sym (ap (get_elem? s.views) e) ∙ there))
 
 -- what is set at the book's seat stands there
@@ -80,44 +80,49 @@ same_word ws i e = subst (λ (l : List ℕ). set l i (slice_index l i) ≡ 0 ∷
 
 pub joins : (accounts workers id other k : ℕ) (es : List Entry) (ts a : List Portion) → Joins (Kept accounts workers) id (Book es ts) other (Holder k a) (Lent es ts k a) Spent
 joins accounts workers id other k es ts a s h at apart' there =
-    let mine = h.fits id (Book es ts) at in
-    let at_other : get_elem? s.views other ≡ some (Holder k a) = sym (set_else s.views id other (Lent es ts k a) apart') ∙ there in
+    let mine : IsBooks h.entries h.totals id (Book es ts) = h.fits id (Book es ts) at in
+    let at_other : IsThere s other (Holder k a) = sym (set_else s.views id other (Lent es ts k a) apart') ∙ there in
     let theirs : Fits h.entries h.totals h.holder other (Holder k a) = h.fits other (Holder k a) at_other in
-    let entry : slice_get es k ≡ Some (away a) = subst (λ (l : List Entry). slice_get l k ≡ Some (away a)) (sym mine.1) theirs.1 in
+    let entry : slice_get es k ≡ Some (away a) = subst (λ (l : List Entry). slice_get l k ≡ Some (away a)) (sym mine.entries) theirs.1 in
     let es' = set es k (at_home a) in
     record {
       entries = es';
       totals = h.totals;
       holder = h.holder;
-      book = (Lent es ts k a, set_else (set s.views id (Lent es ts k a)) other 0 Spent (λ e. apart' (sym e ∙ sym mine.0)) ∙ set_at_book s.views id (Book es ts) (Lent es ts k a) mine.0 at, refl, mine.2);
+      book = record {
+        view = Lent es ts k a;
+        there = set_else (set s.views id (Lent es ts k a)) other 0 Spent (λ e. apart' (sym e ∙ sym mine.first)) ∙ set_at_book s.views id (Book es ts) (Lent es ts k a) mine.first at;
+        entries = refl;
+        totals = mine.totals;
+      };
       fits = λ j u e. ⊎_elim
           (λ (t : (j ≡ other) × (Spent ≡ u)). subst (Fits es' h.totals h.holder j) t.1 tt)
           (λ (t : (j ≢ other) × (get_elem? (set s.views id (Lent es ts k a)) j ≡ some u)).
           ⊎_elim
-          (λ (t' : (j ≡ id) × (Lent es ts k a ≡ u)). subst (Fits es' h.totals h.holder j) t'.1 (t'.0 ∙ mine.0, refl, mine.2, entry))
+          (λ (t' : (j ≡ id) × (Lent es ts k a ≡ u)). subst (Fits es' h.totals h.holder j) t'.1 (record { first = t'.0 ∙ mine.first; entries = refl; totals = mine.totals }, entry))
           (λ (t' : (j ≢ id) × (get_elem? s.views j ≡ some u)). kept j u t.0 t'.0 (h.fits j u t'.1) mine theirs)
           (at_set s.views id j (Lent es ts k a) u t.1))
           (at_set (set s.views id (Lent es ts k a)) other j Spent u e);
       held = λ q c out.
           let differ : q ≢ k = (λ e. apart a c (sym (get_set_here es k (away a) (at_home a) entry) ∙ subst (λ (i : ℕ). slice_get es' i ≡ Some (away c)) e out)) in
-          let was : slice_get h.entries q ≡ Some (away c) = subst (λ (l : List Entry). slice_get l q ≡ Some (away c)) mine.1 (sym (get_set_else es k q (at_home a) differ) ∙ out) in
-          let there' : get_elem? s.views (h.holder q) ≡ some (Holder q c) = h.held q c was in
+          let was : slice_get h.entries q ≡ Some (away c) = subst (λ (l : List Entry). slice_get l q ≡ Some (away c)) mine.entries (sym (get_set_else es k q (at_home a) differ) ∙ out) in
+          let there' : IsThere s (h.holder q) (Holder q c) = h.held q c was in
           let not_mine : h.holder q ≢ id = other_seat s id (h.holder q) q (Book es ts) c at there' (λ e. cc) in
           let not_theirs : h.holder q ≢ other = other_seat s other (h.holder q) q (Holder k a) c at_other there' (λ e. differ (let p : k ≡ q = cc in sym p)) in
           set_else (set s.views id (Lent es ts k a)) other (h.holder q) Spent not_theirs ∙ set_else s.views id (h.holder q) (Lent es ts k a) not_mine ∙ there';
-      long = length-set es k (at_home a) ∙ ap length mine.1 ∙ h.long;
+      long = length-set es k (at_home a) ∙ ap length mine.entries ∙ h.long;
       wide = h.wide;
-      sums = adds_home h.totals es k a entry (subst (AddUp h.totals) (sym mine.1) h.sums);
+      sums = adds_home h.totals es k a entry (subst (AddUp h.totals) (sym mine.entries) h.sums);
       word = h.word;
     }
   where
-    kept : (j : ℕ) (u : View) → j ≢ other → j ≢ id → Fits h.entries h.totals h.holder j u → Fits h.entries h.totals h.holder id (Book es ts) → Fits h.entries h.totals h.holder other (Holder k a)
+    kept : (j : ℕ) (u : View) → j ≢ other → j ≢ id → Fits h.entries h.totals h.holder j u → IsBooks h.entries h.totals id (Book es ts) → Fits h.entries h.totals h.holder other (Holder k a)
         → Fits (set es k (at_home a)) h.totals h.holder j u
-    kept j (Book xs us) nt ni f mine theirs = absurd (ni (f.0 ∙ sym mine.0))
-    kept j (Lent xs us q b) nt ni f mine theirs = absurd (ni (f.0 ∙ sym mine.0))
+    kept j (Book xs us) nt ni f mine theirs = absurd (ni (f.first ∙ sym mine.first))
+    kept j (Lent xs us q b) nt ni f mine theirs = absurd (ni (f.0.first ∙ sym mine.first))
     kept j (Holder q b) nt ni f mine theirs =
         let differ : q ≢ k = (λ e. nt (sym f.0 ∙ ap h.holder e ∙ theirs.0)) in
-        (f.0, get_set_else es k q (at_home a) differ ∙ subst (λ (l : List Entry). slice_get l q ≡ Some (away b)) (sym mine.1) f.1)
+        (f.0, get_set_else es k q (at_home a) differ ∙ subst (λ (l : List Entry). slice_get l q ≡ Some (away b)) (sym mine.entries) f.1)
     kept j Spent nt ni f mine theirs = tt
 
 -- the holder of each number after a split
@@ -142,14 +147,14 @@ moved-else holder k n q ne = other (ℕ_discrete q k)
 
 -- The number k goes out with the portions b, from a seat whose view fits, in which k is at home and every other number is
 -- as in es; the totals us are the sums after it
-module _ (accounts workers id k : ℕ) (es : List Entry) (us b : List Portion) (v : View) (s : State (Unit {0}) View) (h : Kept accounts workers s)
-    (first : id ≡ 0) (at : get_elem? s.views id ≡ some v) (book : (q : ℕ) (c : List Portion) → v ≡ Holder q c → ⊥)
+module _ (accounts workers id k : ℕ) (es : List Entry) (us b : List Portion) (v : View) (s : Shared) (h : Kept accounts workers s)
+    (first : id ≡ 0) (at : IsThere s id v) (book : (q : ℕ) (c : List Portion) → v ≡ Holder q c → ⊥)
     (home : (x : Entry) × (slice_get es k ≡ Some x)) (free : (c : List Portion) → slice_get h.entries k ≡ Some (away c) → ⊥)
     (alike : (q : ℕ) → q ≢ k → slice_get h.entries q ≡ slice_get es q)
     (long' : length es ≡ workers + 1) (wide' : length us ≡ accounts) (sums' : AddUp us (set es k (away b))) where
   others : (j : ℕ) (u : View) → j ≢ id → Fits h.entries h.totals h.holder j u → Fits (set es k (away b)) us (moved h.holder k (length (set s.views id (Book (set es k (away b)) us)))) j u
-  others j (Book xs ws) ni f = absurd (ni (f.0 ∙ sym first))
-  others j (Lent xs ws q c) ni f = absurd (ni (f.0 ∙ sym first))
+  others j (Book xs ws) ni f = absurd (ni (f.first ∙ sym first))
+  others j (Lent xs ws q c) ni f = absurd (ni (f.0.first ∙ sym first))
   others j (Holder q c) ni f =
       let differ : q ≢ k = (λ e. free c (subst (λ (i : ℕ). slice_get h.entries i ≡ Some (away c)) e f.1)) in
       (moved-else h.holder k _ q differ ∙ f.0, get_set_else es k q (away b) differ ∙ sym (alike q differ) ∙ f.1)
@@ -166,11 +171,11 @@ module _ (accounts workers id k : ℕ) (es : List Entry) (us b : List Portion) (
         entries = es';
         totals = us;
         holder = holder';
-        book = (w, at_longer l (Holder k b ∷ []) 0 w (set_at_book s.views id v w first at), refl, refl);
+        book = record { view = w; there = at_longer l (Holder k b ∷ []) 0 w (set_at_book s.views id v w first at); entries = refl; totals = refl };
         fits = λ j u e. ⊎_elim
             (λ (t : get_elem? l j ≡ some u).
             ⊎_elim
-            (λ (t' : (j ≡ id) × (w ≡ u)). subst (Fits es' us holder' j) t'.1 (t'.0 ∙ first, refl, refl))
+            (λ (t' : (j ≡ id) × (w ≡ u)). subst (Fits es' us holder' j) t'.1 (record { first = t'.0 ∙ first; entries = refl; totals = refl }))
             (λ (t' : (j ≢ id) × (get_elem? s.views j ≡ some u)). others j u t'.0 (h.fits j u t'.1))
             (at_set s.views id j w u t))
             (λ (t : (j ≡ n) × (Holder k b ≡ u)). subst (Fits es' us holder' j) t.1 (moved-here h.holder k n ∙ sym t.0, get_set_here es k home.0 (away b) home.1))
@@ -198,16 +203,22 @@ module _ (accounts workers id k : ℕ) (es : List Entry) (us b : List Portion) (
           ap (get_elem? (l ++ Holder k b ∷ [])) (moved-else h.holder k (length l) q ne)
           ∙ at_longer l (Holder k b ∷ []) (h.holder q) (Holder q c) (set_else s.views id (h.holder q) (Book (set es k (away b)) us) not_mine ∙ there)
 
+-- the totals of a view that fits are the sums over its entries
+fits_sums : (es fs : List Entry) (ts us : List Portion) → fs ≡ es → us ≡ ts → AddUp ts es → AddUp us fs
+fits_sums es fs ts us e t = subst (λ (x : List Portion × List Entry). AddUp x.0 x.1) (λ i. (sym t i, sym e i))
+
 pub splits : (accounts workers id k : ℕ) (es : List Entry) (ts us a b : List Portion) → MoveBy a b ts us → Splits (Kept accounts workers) id (Lent es ts k a) (Book (set es k (away b)) us) (Holder k b)
 splits accounts workers id k es ts us a b by s h at =
-    let mine = h.fits id (Lent es ts k a) at in
-    let sums : AddUp ts (set es k (at_home a)) = subst (λ (x : List Portion × List Entry). AddUp x.0 x.1) (λ i. (sym mine.2 i, sym mine.1 i)) h.sums in
-    goes_out accounts workers id k es us b (Lent es ts k a) s h mine.0 at (λ q c e. cc) (away a, mine.3)
-    (λ c e. apart a c (sym (get_set_here es k (away a) (at_home a) mine.3) ∙ subst (λ (l : List Entry). slice_get l k ≡ Some (away c)) (sym mine.1) e))
-    (λ q ne. ap (λ (l : List Entry). slice_get l q) (sym mine.1) ∙ get_set_else es k q (at_home a) ne)
-    (sym (length-set es k (at_home a)) ∙ ap length mine.1 ∙ h.long)
-    (by.0 ∙ ap length mine.2 ∙ h.wide)
-    (adds_moved ts us es k a b mine.3 by (adds_lent ts es k a mine.3 sums))
+    let fits = h.fits id (Lent es ts k a) at in
+    let mine = fits.0 in
+    let entry = fits.1 in
+    let sums = fits_sums h.entries (set es k (at_home a)) h.totals ts mine.entries mine.totals h.sums in
+    goes_out accounts workers id k es us b (Lent es ts k a) s h mine.first at (λ q c e. cc) (away a, entry)
+    (λ c e. apart a c (sym (get_set_here es k (away a) (at_home a) entry) ∙ subst (λ (l : List Entry). slice_get l k ≡ Some (away c)) (sym mine.entries) e))
+    (λ q ne. ap (λ (l : List Entry). slice_get l q) (sym mine.entries) ∙ get_set_else es k q (at_home a) ne)
+    (sym (length-set es k (at_home a)) ∙ ap length mine.entries ∙ h.long)
+    (by.0 ∙ ap length mine.totals ∙ h.wide)
+    (adds_moved ts us es k a b entry by (adds_lent ts es k a entry sums))
 
 pub portions_there : (es : List Entry) (k : ℕ) (a : List Portion) → slice_get es k ≡ Some (at_home a) → portions_in es k ≡ a
 portions_there [] k a e = absurd (cc)
@@ -226,14 +237,14 @@ deals accounts workers id k es ts a v is here =
     whole : Splits (Kept accounts workers) id (Book es ts) (Book (set es k (away a)) ts) (Holder k a)
     whole s h at =
         let mine = h.fits id (Book es ts) at in
-        let sums : AddUp ts es = subst (λ (x : List Portion × List Entry). AddUp x.0 x.1) (λ i. (sym mine.2 i, sym mine.1 i)) h.sums in
-        goes_out accounts workers id k es ts a (Book es ts) s h mine.0 at (λ q c e. cc) (at_home a, here)
-        (λ c e. apart a c (sym here ∙ subst (λ (l : List Entry). slice_get l k ≡ Some (away c)) (sym mine.1) e))
-        (λ q ne. ap (λ (l : List Entry). slice_get l q) (sym mine.1))
-        (ap length mine.1 ∙ h.long) (ap length mine.2 ∙ h.wide) (adds_out ts es k a here sums)
+        let sums = fits_sums h.entries es h.totals ts mine.entries mine.totals h.sums in
+        goes_out accounts workers id k es ts a (Book es ts) s h mine.first at (λ q c e. cc) (at_home a, here)
+        (λ c e. apart a c (sym here ∙ subst (λ (l : List Entry). slice_get l k ≡ Some (away c)) (sym mine.entries) e))
+        (λ q ne. ap (λ (l : List Entry). slice_get l q) (sym mine.entries))
+        (ap length mine.entries ∙ h.long) (ap length mine.totals ∙ h.wide) (adds_out ts es k a here sums)
 
 -- a look leaves all views
-pub look_keeps : (accounts workers : ℕ) (s : State (Unit {0}) View) → Kept accounts workers s → (ws : List ℕ) → ws ≡ 0 ∷ [] → (id : ℕ) (v : View) → get_elem? s.views id ≡ some v
+pub look_keeps : (accounts workers : ℕ) (s : Shared) → Kept accounts workers s → (ws : List ℕ) → ws ≡ 0 ∷ [] → (id : ℕ) (v : View) → IsThere s id v
     → Kept accounts workers record { words = ws; homes = s.homes; views = set s.views id v }
 look_keeps accounts workers s h ws one id v at =
     let same = set_again s.views id v at in
@@ -241,7 +252,7 @@ look_keeps accounts workers s h ws one id v at =
       entries = h.entries;
       totals = h.totals;
       holder = h.holder;
-      book = (h.book.0, ap (λ (l : List View). get_elem? l 0) same ∙ h.book.1, h.book.2, h.book.3);
+      book = record { view = h.book.view; there = ap (λ (l : List View). get_elem? l 0) same ∙ h.book.there; entries = h.book.entries; totals = h.book.totals };
       fits = λ j u e. h.fits j u (subst (λ (l : List View). get_elem? l j ≡ some u) same e);
       held = λ q c out. ap (λ (l : List View). get_elem? l (h.holder q)) same ∙ h.held q c out;
       long = h.long;
@@ -251,29 +262,29 @@ look_keeps accounts workers s h ws one id v at =
     }
 
 -- what the rule says of a number that the book was lent
-known : (accounts workers : ℕ) (s : State (Unit {0}) View) → Kept accounts workers s → (id : ℕ) (v : View) → get_elem? s.views id ≡ some v → IsKnown v
+known : (accounts workers : ℕ) (s : Shared) → Kept accounts workers s → (id : ℕ) (v : View) → IsThere s id v → IsKnown v
 known accounts workers s h id v at es ts k a is =
-    let mine : Fits h.entries h.totals h.holder id (Lent es ts k a) = subst (Fits h.entries h.totals h.holder id) is (h.fits id v at) in
-    let sums : AddUp ts (set es k (at_home a)) = subst (λ (x : List Portion × List Entry). AddUp x.0 x.1) (λ i. (sym mine.2 i, sym mine.1 i)) h.sums in
-    (mine.3, adds_lent ts es k a mine.3 sums)
+    let fits : Fits h.entries h.totals h.holder id (Lent es ts k a) = subst (Fits h.entries h.totals h.holder id) is (h.fits id v at) in
+    let mine = fits.0 in
+    (fits.1, adds_lent ts es k a fits.1 (fits_sums h.entries (set es k (at_home a)) h.totals ts mine.entries mine.totals h.sums))
 
 pub tells : (accounts workers slots id word : ℕ) (v : View) → Allows (Kept accounts workers) slots id (v, []) word (λ n. n) (λ _. Told (v, []))
 tells accounts workers slots id word v s h _ at _ =
     (v, keeps, tt, look_keeps accounts workers s h (set s.words word (slice_index s.words word)) (same_word s.words word h.word) id v at, (refl, known accounts workers s h id v at))
 
 -- the book keeps the number that it was lent
-pub home_keeps : (accounts workers : ℕ) (s : State (Unit {0}) View) → Kept accounts workers s → (ws : List ℕ) → ws ≡ 0 ∷ [] → (id : ℕ) (es : List Entry) (ts : List Portion) (k : ℕ) (a : List Portion)
-    → get_elem? s.views id ≡ some (Lent es ts k a) → Kept accounts workers record { words = ws; homes = s.homes; views = set s.views id (Book (set es k (at_home a)) ts) }
+pub home_keeps : (accounts workers : ℕ) (s : Shared) → Kept accounts workers s → (ws : List ℕ) → ws ≡ 0 ∷ [] → (id : ℕ) (es : List Entry) (ts : List Portion) (k : ℕ) (a : List Portion)
+    → IsThere s id (Lent es ts k a) → Kept accounts workers record { words = ws; homes = s.homes; views = set s.views id (Book (set es k (at_home a)) ts) }
 home_keeps accounts workers s h ws one id es ts k a at =
-    let mine = h.fits id (Lent es ts k a) at in
+    let mine = (h.fits id (Lent es ts k a) at).0 in
     let w = Book (set es k (at_home a)) ts in
     record {
       entries = h.entries;
       totals = h.totals;
       holder = h.holder;
-      book = (w, set_at_book s.views id (Lent es ts k a) w mine.0 at, mine.1, mine.2);
+      book = record { view = w; there = set_at_book s.views id (Lent es ts k a) w mine.first at; entries = mine.entries; totals = mine.totals };
       fits = λ j u e. ⊎_elim
-          (λ (t : (j ≡ id) × (w ≡ u)). subst (Fits h.entries h.totals h.holder j) t.1 (t.0 ∙ mine.0, mine.1, mine.2))
+          (λ (t : (j ≡ id) × (w ≡ u)). subst (Fits h.entries h.totals h.holder j) t.1 (record { first = t.0 ∙ mine.first; entries = mine.entries; totals = mine.totals }))
           (λ (t : (j ≢ id) × (get_elem? s.views j ≡ some u)). h.fits j u t.1)
           (at_set s.views id j w u e);
       held = λ q c out.
@@ -324,7 +335,7 @@ none_away (suc n) zero a c e = apart a c e
 none_away (suc n) (suc k) a c e = none_away n k a c e
 
 begun : (credits : List ℕ) (workers : ℕ) (id : ℕ) (v : View) → get_elem? (new_book credits workers ∷ []) id ≡ some v → Fits (opening_entries credits workers) (map of_till credits) (λ _. 0) id v
-begun credits workers zero v e = subst (Fits (opening_entries credits workers) (map of_till credits) (λ _. 0) 0) (some-injective _ _ e) (refl, refl, refl)
+begun credits workers zero v e = subst (Fits (opening_entries credits workers) (map of_till credits) (λ _. 0) 0) (some-injective _ _ e) (record { first = refl; entries = refl; totals = refl })
 begun credits workers (suc id) v e = absurd (some-ne-none v (sym e))
 
 none_out : (credits : List ℕ) (workers : ℕ) (k : ℕ) (a : List Portion) → slice_get (opening_entries credits workers) k ≡ Some (away a) → ⊥
@@ -339,7 +350,7 @@ begins credits workers = record {
   entries = opening_entries credits workers;
   totals = map of_till credits;
   holder = λ _. 0;
-  book = (new_book credits workers, refl, refl, refl);
+  book = record { view = new_book credits workers; there = refl; entries = refl; totals = refl };
   fits = begun credits workers;
   held = λ k a e. absurd (none_out credits workers k a e);
   long = long_opening credits workers;

@@ -1,10 +1,11 @@
 -- Looking through a list of openings.
-use Rattle.std.proofs.Common.{◌≡◌, ◌⊎◌, ℕ, ◌+◌, ◌^◌, ◌<◌, ◌≤◌, List, [], length, sym, ap, ◌∙◌, subst, arith, inl, inr}
+use Rattle.std.proofs.Common.{◌≡◌, ◌⊎◌, ℕ, ◌+◌, ◌<◌, ◌≤◌, List, [], length, sym, ap, ◌∙◌, subst, arith, inl, inr}
 use Rattle.std.specs.Prelude.{slice_index, slice_index_or, string_bytes}
 use Rattle.std.proofs.lemmas.List.{get_or-map, length-map}
 use native.Mathlib.Decide.{ℕ_discrete, dec_lt}
 use mathlib.Core.Logic.{dite}
 use Rattle.sms_book.specs.declared.opening.Opening.{Opening}
+use Rattle.sms_core.specs.Limits.{most_topped}
 use Rattle.sms_book.specs.Openings.{names_of, credits_of, HaveOneName, IsFirstDouble, AllSmall}
 
 credits_at : (os : List Opening) (n : ℕ) (o : Opening) → n < length os → o ≡ slice_index_or os n o → slice_index (credits_of os) n ≡ o.credits
@@ -13,19 +14,19 @@ credits_at os n o low is = get_or-map (λ x. x.credits) os n o 0 low ∙ ap (λ 
 name_at : (os : List Opening) (n : ℕ) (o : Opening) → n < length os → o ≡ slice_index_or os n o → slice_index_or (names_of os) n [] ≡ string_bytes o.name
 name_at os n o low is = get_or-map (λ x. string_bytes x.name) os n o [] low ∙ ap (λ x. string_bytes x.name) (sym is)
 
-pub small_more : (os : List Opening) (n : ℕ) (o : Opening) → n < length os → o ≡ slice_index_or os n o → o.credits ≤ 2 ^ 40 → ((k : ℕ) → k < n → slice_index (credits_of os) k ≤ 2 ^ 40)
-    → (k : ℕ) → k < n + 1 → slice_index (credits_of os) k ≤ 2 ^ 40
+pub small_more : (os : List Opening) (n : ℕ) (o : Opening) → n < length os → o ≡ slice_index_or os n o → o.credits ≤ most_topped → ((k : ℕ) → k < n → slice_index (credits_of os) k ≤ most_topped)
+    → (k : ℕ) → k < n + 1 → slice_index (credits_of os) k ≤ most_topped
 small_more os n o low is small before k below = dite (ℕ_discrete k n)
-    (λ e. subst (λ (j : ℕ). slice_index (credits_of os) j ≤ 2 ^ 40) (sym e) (rw (credits_at os n o low is) small))
+    (λ e. subst (λ (j : ℕ). slice_index (credits_of os) j ≤ most_topped) (sym e) (rw (credits_at os n o low is) small))
     (λ ne. before k (omega arith))
 
-pub not_small : (os : List Opening) (n : ℕ) (o : Opening) → n < length os → o ≡ slice_index_or os n o → 2 ^ 40 < o.credits → ¬ (AllSmall (credits_of os))
+pub not_small : (os : List Opening) (n : ℕ) (o : Opening) → n < length os → o ≡ slice_index_or os n o → most_topped < o.credits → ¬ (AllSmall (credits_of os))
 not_small os n o low is large all =
-    let h : slice_index (credits_of os) n ≤ 2 ^ 40 = all n (let l = length-map os (λ x. x.credits) in omega arith) in
+    let h : slice_index (credits_of os) n ≤ most_topped = all n (let l = length-map os (λ x. x.credits) in omega arith) in
     let e = credits_at os n o low is in
     omega arith
 
-pub all_small : (os : List Opening) → ((k : ℕ) → k < length os → slice_index (credits_of os) k ≤ 2 ^ 40) → AllSmall (credits_of os)
+pub all_small : (os : List Opening) → ((k : ℕ) → k < length os → slice_index (credits_of os) k ≤ most_topped) → AllSmall (credits_of os)
 all_small os h i low = h i (let l = length-map os (λ x. x.credits) in omega arith)
 
 pub one_name : (os : List Opening) (first second : ℕ) (o p : Opening) → first < second → second < length os → o ≡ slice_index_or os first o → p ≡ slice_index_or os second p → string_bytes o.name ≡ string_bytes p.name

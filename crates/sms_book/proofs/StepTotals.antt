@@ -8,65 +8,127 @@ use Rattle.sms_book.specs.declared.rule.Portion.{Portion}
 use Rattle.sms_book.specs.declared.rule.Entry.{Entry}
 use Rattle.sms_book.specs.declared.rule.View.{View}
 use Rattle.sms_book.specs.declared.rule.View.TheVariants.{Book, Lent, Holder, Spent}
-use Rattle.sms_book.specs.Rule.{at_home, away, HasEntries, HasTotals, Kept, portions_in}
+use Rattle.sms_book.specs.Rule.{Shared, IsThere, BookHas, at_home, away, HasEntries, HasTotals, Kept, portions_in}
 use Rattle.sms_book.specs.Sums.{total, MoveBy}
-use Rattle.sms_book.specs.TableSteps.{Shared, IsThere, TableStep, takes_in, looks, gives_back, deals, keeps, Steps}
+use Rattle.sms_book.specs.TableSteps.{TableStep, takes_in, looks, gives_back, deals, keeps, Steps}
 use Rattle.sms_book.specs.Laws.{TotalSteps, StepMovesTotals, BookTotalsMove, StepMovesBookTotals}
 use Rattle.sms_book.proofs.Moves.{portions_there, set_at_book}
 use Rattle.sms_book.proofs.Totals.{total_home, total_out, total_set}
-use Rattle.sms_book.proofs.LawProofs.{same_entries, other_seat}
+use Rattle.sms_book.proofs.LawProofs.{is_books, other_seat}
 
--- The book's view before a step, and after it
-BookSteps : Shared → TableStep → View → View → Type 0
-BookSteps s (takes_in id other) v w = (es : List Entry) × (ts : List Portion) × (k : ℕ) × (ps : List Portion) × (slice_get es k ≡ Some (away ps)) × (v ≡ Book es ts) × (w ≡ Lent es ts k ps)
+-- The book's view before a step and after it, where the number's entry is of this kind
+record Turns (kind : List Portion → Entry) (before after : List Entry → List Portion → ℕ → List Portion → View) (v w : View) : Type 0 where
+  entries : List Entry
+  totals : List Portion
+  number : ℕ
+  portions : List Portion
+  entry : slice_get entries number ≡ Some (kind portions)
+  was : v ≡ before entries totals number portions
+  is : w ≡ after entries totals number portions
+
+-- the book's view before each kind of step, and after it
+abbrev BookSteps : Shared → TableStep → View → View → Type 0
+BookSteps s (takes_in id other) v w = Turns away (λ es ts k ps. Book es ts) Lent v w
 BookSteps s (looks id) v w = w ≡ v
-BookSteps s (gives_back id new totals) v w = (es : List Entry) × (ts : List Portion) × (k : ℕ) × (ps : List Portion) × (slice_get es k ≡ Some (away ps)) × (v ≡ Lent es ts k ps) × (w ≡ Book (set es k (away new)) totals)
-    × IsThere s id (Lent es ts k ps) × MoveBy ps new ts totals
-BookSteps s (deals id q) v w = (es : List Entry) × (ts : List Portion) × (k : ℕ) × (ps : List Portion) × (slice_get es k ≡ Some (at_home ps)) × (v ≡ Book es ts) × (w ≡ Book (set es k (away ps)) ts)
-BookSteps s (keeps id) v w = (es : List Entry) × (ts : List Portion) × (k : ℕ) × (ps : List Portion) × (slice_get es k ≡ Some (away ps)) × (v ≡ Lent es ts k ps) × (w ≡ Book (set es k (at_home ps)) ts)
+BookSteps s (gives_back id new totals) v w = (m : Turns away Lent (λ es ts k ps. Book (set es k (away new)) totals) v w)
+    × IsThere s id (Lent m.entries m.totals m.number m.portions) × MoveBy m.portions new m.totals totals
+BookSteps s (deals id q) v w = Turns at_home (λ es ts k ps. Book es ts) (λ es ts k ps. Book (set es k (away ps)) ts) v w
+BookSteps s (keeps id) v w = Turns away Lent (λ es ts k ps. Book (set es k (at_home ps)) ts) v w
 
--- the book's seat is the first
-first : (accounts workers : ℕ) (s : Shared) (h : Kept accounts workers s) (id : ℕ) (v : View) (es : List Entry) → IsThere s id v → HasEntries v es → (id ≡ 0) × (h.entries ≡ es) × IsThere s 0 v
-first accounts workers s h id v es at has = let e = same_entries h.entries h.totals h.holder id v es (h.fits id v at) has in (e.0, e.1, sym (ap (get_elem? s.views) e.0) ∙ at)
+record BookTurn (s : Shared) (step : TableStep) (t : Shared) : Type 0 where
+  before : View
+  after : View
+  there : IsThere s 0 before
+  then : IsThere t 0 after
+  how : BookSteps s step before after
 
-book_steps : (accounts workers : ℕ) (s : Shared) (step : TableStep) (t : Shared) → Kept accounts workers s → Steps s step t → (v : View) × (w : View) × IsThere s 0 v × IsThere t 0 w × BookSteps s step v w
-unfolding BookSteps
-book_steps accounts workers s (takes_in id other) t h m =
-    let es = m.0 in let ts = m.1 in let k = m.2 in let ps = m.3 in
-    let v = Book es ts in let w = Lent es ts k ps in
-    let here = first accounts workers s h id v es m.4 refl in
-    let ne = other_seat s id other es ts k ps m.4 m.5 in
-    let entry : slice_get es k ≡ Some (away ps) = subst (λ (l : List Entry). slice_get l k ≡ Some (away ps)) here.1 (h.fits other (Holder k ps) m.5).1 in
-    let there : IsThere t 0 w = ap (λ (u : Shared). get_elem? u.views 0) m.6 ∙ set_else (set s.views id w) other 0 Spent (λ e. ne (sym e ∙ sym here.0)) ∙ set_at_book s.views id v w here.0 m.4 in
-    (v, w, here.2, there, (es, ts, k, ps, entry, refl, refl))
-book_steps accounts workers s (looks id) t h m =
-    let there : IsThere t 0 h.book.0 = ap (λ (u : Shared). get_elem? u.views 0) m.2 ∙ ap (λ (l : List View). get_elem? l 0) (set_again s.views id m.0 m.1) ∙ h.book.1 in
-    (h.book.0, h.book.0, h.book.1, there, refl)
-book_steps accounts workers s (gives_back id new totals) t h m =
-    let es = m.0 in let ts = m.1 in let k = m.2 in let ps = m.3 in
-    let v = Lent es ts k ps in let w = Book (set es k (away new)) totals in
-    let here = first accounts workers s h id v (set es k (at_home ps)) m.4 refl in
-    let there : IsThere t 0 w = ap (λ (u : Shared). get_elem? u.views 0) m.6 ∙ at_longer (set s.views id w) (Holder k new ∷ []) 0 w (set_at_book s.views id v w here.0 m.4) in
-    (v, w, here.2, there, (es, ts, k, ps, (h.fits id v m.4).3, refl, refl, m.4, m.5))
-book_steps accounts workers s (deals id k) t h m =
-    let es = m.0 in let ts = m.1 in let ps = m.2 in
-    let v = Book es ts in let w = Book (set es k (away (portions_in es k))) ts in
-    let here = first accounts workers s h id v es m.3 refl in
-    let there : IsThere t 0 w = ap (λ (u : Shared). get_elem? u.views 0) m.5 ∙ at_longer (set s.views id w) (Holder k (portions_in es k) ∷ []) 0 w (set_at_book s.views id v w here.0 m.3) in
-    (v, w, here.2, there, (es, ts, k, ps, m.4, refl, ap (λ (c : List Portion). Book (set es k (away c)) ts) (portions_there es k ps m.4)))
-book_steps accounts workers s (keeps id) t h m =
-    let es = m.0 in let ts = m.1 in let k = m.2 in let ps = m.3 in
-    let v = Lent es ts k ps in let w = Book (set es k (at_home ps)) ts in
-    let here = first accounts workers s h id v (set es k (at_home ps)) m.4 refl in
-    let there : IsThere t 0 w = ap (λ (u : Shared). get_elem? u.views 0) m.5 ∙ set_at_book s.views id v w here.0 m.4 in
-    (v, w, here.2, there, (es, ts, k, ps, (h.fits id v m.4).3, refl, refl))
+-- a seat with entries is the first
+first : (accounts workers : ℕ) (s : Shared) (h : Kept accounts workers s) (id : ℕ) (v : View) (es : List Entry) → IsThere s id v → HasEntries v es → id ≡ 0
+first accounts workers s h id v es at has = (is_books h.entries h.totals h.holder id v es (h.fits id v at) has).first
+
+at_first : (s : Shared) (id : ℕ) (v : View) → id ≡ 0 → IsThere s id v → IsThere s 0 v
+at_first s id v e at = sym (ap (get_elem? s.views) e) ∙ at
+
+book_turn : (accounts workers : ℕ) (s : Shared) (step : TableStep) (t : Shared) → Kept accounts workers s → Steps s step t → BookTurn s step t
+book_turn accounts workers s (takes_in id other) t h m =
+    let v = Book m.entries m.totals in
+    let w = Lent m.entries m.totals m.number m.portions in
+    let zero = first accounts workers s h id v m.entries m.book refl in
+    let ne = other_seat s id other m.entries m.totals m.number m.portions m.book m.holder in
+    record {
+      before = v;
+      after = w;
+      there = at_first s id v zero m.book;
+      then = ap (λ (u : Shared). get_elem? u.views 0) m.after ∙ set_else (set s.views id w) other 0 Spent (λ e. ne (sym e ∙ sym zero)) ∙ set_at_book s.views id v w zero m.book;
+      how = record {
+        entries = m.entries;
+        totals = m.totals;
+        number = m.number;
+        portions = m.portions;
+        entry = subst (λ (l : List Entry). slice_get l m.number ≡ Some (away m.portions)) (sym (h.fits id v m.book).entries) (h.fits other (Holder m.number m.portions) m.holder).1;
+        was = refl;
+        is = refl;
+      };
+    }
+book_turn accounts workers s (looks id) t h m = record {
+  before = h.book.view;
+  after = h.book.view;
+  there = h.book.there;
+  then = ap (λ (u : Shared). get_elem? u.views 0) m.after ∙ ap (λ (l : List View). get_elem? l 0) (set_again s.views id m.view m.there) ∙ h.book.there;
+  how = refl;
+}
+book_turn accounts workers s (gives_back id new totals) t h m =
+    let v = Lent m.entries m.had m.number m.portions in
+    let w = Book (set m.entries m.number (away new)) totals in
+    let zero = first accounts workers s h id v (set m.entries m.number (at_home m.portions)) m.book refl in
+    record {
+      before = v;
+      after = w;
+      there = at_first s id v zero m.book;
+      then = ap (λ (u : Shared). get_elem? u.views 0) m.after ∙ at_longer (set s.views id w) (Holder m.number new ∷ []) 0 w (set_at_book s.views id v w zero m.book);
+      how = (
+        record { entries = m.entries; totals = m.had; number = m.number; portions = m.portions; entry = (h.fits id v m.book).1; was = refl; is = refl },
+        m.book,
+        m.moves,
+      );
+    }
+book_turn accounts workers s (deals id k) t h m =
+    let v = Book m.entries m.totals in
+    let w = Book (set m.entries k (away (portions_in m.entries k))) m.totals in
+    let zero = first accounts workers s h id v m.entries m.book refl in
+    record {
+      before = v;
+      after = w;
+      there = at_first s id v zero m.book;
+      then = ap (λ (u : Shared). get_elem? u.views 0) m.after ∙ at_longer (set s.views id w) (Holder k (portions_in m.entries k) ∷ []) 0 w (set_at_book s.views id v w zero m.book);
+      how = record {
+        entries = m.entries;
+        totals = m.totals;
+        number = k;
+        portions = m.portions;
+        entry = m.entry;
+        was = refl;
+        is = ap (λ (c : List Portion). Book (set m.entries k (away c)) m.totals) (portions_there m.entries k m.portions m.entry);
+      };
+    }
+book_turn accounts workers s (keeps id) t h m =
+    let v = Lent m.entries m.totals m.number m.portions in
+    let w = Book (set m.entries m.number (at_home m.portions)) m.totals in
+    let zero = first accounts workers s h id v (set m.entries m.number (at_home m.portions)) m.book refl in
+    record {
+      before = v;
+      after = w;
+      there = at_first s id v zero m.book;
+      then = ap (λ (u : Shared). get_elem? u.views 0) m.after ∙ set_at_book s.views id v w zero m.book;
+      how = record { entries = m.entries; totals = m.totals; number = m.number; portions = m.portions; entry = (h.fits id v m.book).1; was = refl; is = refl };
+    }
 
 -- the entries, and the totals, of the view that stands there
-entries_there : (s : Shared) (v w : View) (es : List Entry) → IsThere s 0 v → HasEntries v es → IsThere s 0 w → HasEntries w es
-entries_there s v w es at has there = subst (λ (u : View). HasEntries u es) (some-injective v w (sym at ∙ there)) has
+entries_there : (s : Shared) (es : List Entry) (ts : List Portion) (w : View) → BookHas s es ts → IsThere s 0 w → HasEntries w es
+entries_there s es ts w b there = subst (λ (u : View). HasEntries u es) (some-injective b.view w (sym b.there ∙ there)) b.entries
 
-totals_there : (s : Shared) (v w : View) (ts : List Portion) → IsThere s 0 v → HasTotals v ts → IsThere s 0 w → HasTotals w ts
-totals_there s v w ts at has there = subst (λ (u : View). HasTotals u ts) (some-injective v w (sym at ∙ there)) has
+totals_there : (s : Shared) (es : List Entry) (ts : List Portion) (w : View) → BookHas s es ts → IsThere s 0 w → HasTotals w ts
+totals_there s es ts w b there = subst (λ (u : View). HasTotals u ts) (some-injective b.view w (sym b.there ∙ there)) b.totals
 
 same_sum : (f : Portion → ℕ) (i : ℕ) (v : View) (es fs : List Entry) → HasEntries v es → HasEntries v fs → total f i fs ≡ total f i es
 same_sum f i (Book xs ts) es fs a b = ap (total f i) (sym b ∙ a)
@@ -81,46 +143,48 @@ same_list (Holder k ps) ts us a b = absurd a
 same_list Spent ts us a b = absurd a
 
 sums_step : (s : Shared) (step : TableStep) (v w : View) (es fs : List Entry) (f : Portion → ℕ) (i : ℕ) → BookSteps s step v w → HasEntries v es → HasEntries w fs → TotalSteps f i s step es fs
-unfolding BookSteps
 sums_step s (takes_in id other) v w es fs f i b has has' =
-    let old : b.0 ≡ es = subst (λ (u : View). HasEntries u es) b.5 has in
-    let new : set b.0 b.2 (at_home b.3) ≡ fs = subst (λ (u : View). HasEntries u fs) b.6 has' in
-    ap (total f i) (sym new) ∙ total_home f i b.0 b.2 b.3 b.4 ∙ ap (total f i) old
+    let old : b.entries ≡ es = subst (λ (u : View). HasEntries u es) b.was has in
+    let new : set b.entries b.number (at_home b.portions) ≡ fs = subst (λ (u : View). HasEntries u fs) b.is has' in
+    ap (total f i) (sym new) ∙ total_home f i b.entries b.number b.portions b.entry ∙ ap (total f i) old
 sums_step s (looks id) v w es fs f i b has has' = same_sum f i v es fs has (subst (λ (u : View). HasEntries u fs) b has')
 sums_step s (gives_back id new totals) v w es fs f i b has has' =
-    let old : set b.0 b.2 (at_home b.3) ≡ es = subst (λ (u : View). HasEntries u es) b.5 has in
-    let next : set b.0 b.2 (away new) ≡ fs = subst (λ (u : View). HasEntries u fs) b.6 has' in
-    let o : total f i (set b.0 b.2 (at_home b.3)) ≡ total f i es = ap (total f i) old in
-    let n : total f i (set b.0 b.2 (away new)) ≡ total f i fs = ap (total f i) next in
-    let c = total_home f i b.0 b.2 b.3 b.4 in
-    let d = total_set f i b.0 b.2 b.3 new b.4 in
-    (b.0, b.1, b.2, b.3, b.7, omega arith)
+    let m = b.0 in
+    let old : set m.entries m.number (at_home m.portions) ≡ es = subst (λ (u : View). HasEntries u es) m.was has in
+    let next : set m.entries m.number (away new) ≡ fs = subst (λ (u : View). HasEntries u fs) m.is has' in
+    let o : total f i (set m.entries m.number (at_home m.portions)) ≡ total f i es = ap (total f i) old in
+    let n : total f i (set m.entries m.number (away new)) ≡ total f i fs = ap (total f i) next in
+    let c = total_home f i m.entries m.number m.portions m.entry in
+    let d = total_set f i m.entries m.number m.portions new m.entry in
+    (m.entries, m.totals, m.number, m.portions, b.1, omega arith)
 sums_step s (deals id q) v w es fs f i b has has' =
-    let old : b.0 ≡ es = subst (λ (u : View). HasEntries u es) b.5 has in
-    let new : set b.0 b.2 (away b.3) ≡ fs = subst (λ (u : View). HasEntries u fs) b.6 has' in
-    ap (total f i) (sym new) ∙ total_out f i b.0 b.2 b.3 b.4 ∙ ap (total f i) old
+    let old : b.entries ≡ es = subst (λ (u : View). HasEntries u es) b.was has in
+    let new : set b.entries b.number (away b.portions) ≡ fs = subst (λ (u : View). HasEntries u fs) b.is has' in
+    ap (total f i) (sym new) ∙ total_out f i b.entries b.number b.portions b.entry ∙ ap (total f i) old
 sums_step s (keeps id) v w es fs f i b has has' =
-    let old : set b.0 b.2 (at_home b.3) ≡ es = subst (λ (u : View). HasEntries u es) b.5 has in
-    let new : set b.0 b.2 (at_home b.3) ≡ fs = subst (λ (u : View). HasEntries u fs) b.6 has' in
+    let old : set b.entries b.number (at_home b.portions) ≡ es = subst (λ (u : View). HasEntries u es) b.was has in
+    let new : set b.entries b.number (at_home b.portions) ≡ fs = subst (λ (u : View). HasEntries u fs) b.is has' in
     ap (total f i) (sym new ∙ old)
 
 pub step_moves_totals : StepMovesTotals
-step_moves_totals accounts workers s step t book after es fs f i h m at has at' has' =
-    let b = book_steps accounts workers s step t h m in
-    sums_step s step b.0 b.1 es fs f i b.4 (entries_there s book b.0 es at has b.2) (entries_there t after b.1 fs at' has' b.3)
+step_moves_totals accounts workers s step t es fs ts us f i h m had has =
+    let b = book_turn accounts workers s step t h m in
+    sums_step s step b.before b.after es fs f i b.how (entries_there s es ts b.before had b.there) (entries_there t fs us b.after has b.then)
 
 totals_step : (s : Shared) (step : TableStep) (v w : View) (ts us : List Portion) → BookSteps s step v w → HasTotals v ts → HasTotals w us → BookTotalsMove s step ts us
-unfolding BookSteps
-totals_step s (takes_in id other) v w ts us b has has' = same_list (Book b.0 b.1) ts us (subst (λ (u : View). HasTotals u ts) b.5 has) (subst (λ (u : View). HasTotals u us) b.6 has')
+totals_step s (takes_in id other) v w ts us b has has' = same_list (Book b.entries b.totals) ts us (subst (λ (u : View). HasTotals u ts) b.was has) (subst (λ (u : View). HasTotals u us) b.is has')
 totals_step s (looks id) v w ts us b has has' = same_list v ts us has (subst (λ (u : View). HasTotals u us) b has')
 totals_step s (gives_back id new totals) v w ts us b has has' =
-    let old : b.1 ≡ ts = subst (λ (u : View). HasTotals u ts) b.5 has in
-    let next : totals ≡ us = subst (λ (u : View). HasTotals u us) b.6 has' in
-    (sym next, (b.0, b.2, b.3, subst (λ (l : List Portion). IsThere s id (Lent b.0 l b.2 b.3)) old b.7, subst (λ (x : List Portion × List Portion). MoveBy b.3 new x.0 x.1) (λ j. (old j, next j)) b.8))
-totals_step s (deals id q) v w ts us b has has' = same_list (Book b.0 b.1) ts us (subst (λ (u : View). HasTotals u ts) b.5 has) (subst (λ (u : View). HasTotals u us) b.6 has')
-totals_step s (keeps id) v w ts us b has has' = same_list (Book b.0 b.1) ts us (subst (λ (u : View). HasTotals u ts) b.5 has) (subst (λ (u : View). HasTotals u us) b.6 has')
+    let m = b.0 in
+    let old : m.totals ≡ ts = subst (λ (u : View). HasTotals u ts) m.was has in
+    let next : totals ≡ us = subst (λ (u : View). HasTotals u us) m.is has' in
+    let there = subst (λ (l : List Portion). IsThere s id (Lent m.entries l m.number m.portions)) old b.1 in
+    let moves = subst (λ (x : List Portion × List Portion). MoveBy m.portions new x.0 x.1) (λ j. (old j, next j)) b.2 in
+    (sym next, (m.entries, m.number, m.portions, there, moves))
+totals_step s (deals id q) v w ts us b has has' = same_list (Book b.entries b.totals) ts us (subst (λ (u : View). HasTotals u ts) b.was has) (subst (λ (u : View). HasTotals u us) b.is has')
+totals_step s (keeps id) v w ts us b has has' = same_list (Book b.entries b.totals) ts us (subst (λ (u : View). HasTotals u ts) b.was has) (subst (λ (u : View). HasTotals u us) b.is has')
 
 pub step_moves_book_totals : StepMovesBookTotals
-step_moves_book_totals accounts workers s step t book after ts us h m at has at' has' =
-    let b = book_steps accounts workers s step t h m in
-    totals_step s step b.0 b.1 ts us b.4 (totals_there s book b.0 ts at has b.2) (totals_there t after b.1 us at' has' b.3)
+step_moves_book_totals accounts workers s step t es fs ts us h m had has =
+    let b = book_turn accounts workers s step t h m in
+    totals_step s step b.before b.after ts us b.how (totals_there s es ts b.before had b.there) (totals_there t fs us b.after has b.then)

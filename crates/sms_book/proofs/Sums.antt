@@ -3,10 +3,11 @@ use Rattle.std.proofs.Common.{◌≡◌, ℕ, zero, suc, ◌+◌, ◌<◌, List,
 use Rattle.std.specs.Prelude.{slice_get}
 use Rattle.std.proofs.lemmas.List.{get_or-map, length-map}
 use Rattle.sms_core.specs.declared.row.Row.{Row}
+use Rattle.sms_core.specs.Rows.{no_row}
 use Rattle.sms_book.specs.declared.amounts.Amounts.{Amounts}
 use Rattle.sms_book.specs.declared.rule.Portion.{Portion}
 use Rattle.sms_book.specs.declared.rule.Entry.{Entry}
-use Rattle.sms_book.specs.Portions.{amounts_at, topped_at, portion_at, row_at, no_row, nothing, of_worker, of_till, of_row}
+use Rattle.sms_book.specs.Portions.{amounts_at, topped_at, portion_at, row_at, nothing, of_worker, of_till, of_row}
 use Rattle.sms_book.specs.Shares.{Share}
 use Rattle.sms_book.specs.Rule.{away, at_home, AllAway}
 use Rattle.sms_book.specs.Sums.{total, over_shares, AreSound, AddUp, IsTotal, IsSumOf}

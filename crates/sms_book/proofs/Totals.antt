@@ -8,8 +8,8 @@ use Rattle.sms_book.specs.declared.rule.Portion.{Portion}
 use Rattle.sms_core.specs.declared.row.Row.{Row}
 use Rattle.sms_book.specs.declared.rule.Entry.{Entry}
 use Rattle.sms_book.specs.Rule.{away, at_home, opening_entries, AllAway}
-use Rattle.sms_core.specs.Rows.{IsBalanced}
-use Rattle.sms_book.specs.Portions.{portion_at, row_at, no_row, nothing, of_till}
+use Rattle.sms_core.specs.Rows.{no_row, IsBalanced}
+use Rattle.sms_book.specs.Portions.{portion_at, row_at, nothing, of_till}
 use Rattle.sms_book.specs.Sums.{total, AreSound, IsSmall, AddUp, MovesBy, MoveBy}
 
 -- one amount of an account, over the entries whose number is with the book

@@ -1,17 +1,23 @@
 -- What a call does to a row and to what its caller has of the account, where both are known.
-use Rattle.std.proofs.Common.{◌≡◌, ◌≢◌, ℕ, ◌+◌, ◌^◌, ◌<◌, ◌≤◌, List, length, set, Some, refl, arith, sym, ◌∙◌, ap, subst}
+use Rattle.std.proofs.Common.{◌≡◌, ◌≢◌, ℕ, ◌+◌, ◌<◌, ◌≤◌, List, length, set, Some, refl, arith, sym, ◌∙◌, ap, subst}
 use Rattle.std.specs.Prelude.{slice_get, slice_index_or, map}
 use Rattle.std.proofs.lemmas.List.{get_or_read, get_or-map, map-set, length-map}
 use Rattle.sms_core.specs.declared.row.Row.{Row}
-use Rattle.sms_core.specs.Rows.{IsBalanced}
+use Rattle.sms_core.specs.Rows.{no_row, IsBalanced}
+use Rattle.sms_core.specs.RowMoves.{row_topped_up}
+use Rattle.sms_core.specs.Limits.{most_topped}
 use Rattle.sms_book.specs.declared.amounts.Amounts.{Amounts}
 use Rattle.sms_book.specs.declared.rule.Portion.{Portion}
 use Rattle.sms_book.specs.declared.rule.Entry.{Entry}
 use Rattle.sms_book.specs.declared.money.Move.{Move}
 use Rattle.sms_book.specs.declared.money.Move.TheVariants.{Reserve, Charge, GiveBack}
-use Rattle.sms_book.specs.Portions.{amounts_at, portion_at, topped_at, row_at, no_row, no_amounts, nothing, of_worker, of_till, of_row}
-use Rattle.sms_book.specs.Money.{CanMove, FitsMove, moved_row, moved_amounts, topped_up}
+use Rattle.sms_book.specs.Portions.{amounts_at, portion_at, topped_at, row_at, no_amounts, nothing, of_worker, of_till, of_row}
+use Rattle.sms_book.specs.Money.{CanMove, FitsMove, moved_row, moved_amounts}
+use Rattle.atomic_table.specs.Seated.{TableId}
+use Rattle.sms_book.specs.declared.rule.View.{View}
+use Rattle.sms_book.specs.Name.{BookId}
 use Rattle.sms_book.specs.Rule.{away}
+use Rattle.sms_book.specs.Standing.{BookStands, TillStands, ShareStands}
 use Rattle.sms_book.specs.Sums.{IsSmall, AreSound, AddUp, IsTotal, MovesBy, MoveBy}
 use Rattle.sms_book.proofs.Totals.{no_move, moved_at, sound_set, entry_at_most}
 
@@ -61,63 +67,82 @@ change_of rows account a r x within wide by =
     subst (λ (l : List Portion). MoveBy a (set a account x) (map of_row rows) l) (sym (map-set of_row rows account r))
     (moved_at a (map of_row rows) account x (of_row r) (omega arith) (let l = length-map rows of_row in omega arith) (rw (row_total rows account within) by))
 
+-- What a worker's call may rest on, and what it leaves
+pub record Settles (rows : List Row) (a : List Amounts) (account : ℕ) (what : Move) (n : ℕ) (r : Row) (h : Amounts) : Type 0 where
+  pub can : CanMove what n r
+  pub fits : FitsMove what n h
+  pub sound : AreSound (set rows account (moved_row what n r))
+  pub moves : MoveBy (map of_worker a) (map of_worker (set a account (moved_amounts what n h))) (map of_row rows) (map of_row (set rows account (moved_row what n r)))
+
 -- a worker's call, where the book's entry of the share is known
-pub settled : (rows : List Row) (account : ℕ) (es : List Entry) (k : ℕ) (a : List Amounts) (r : Row) (h : Amounts) (what : Move) (n : ℕ)
-    → account < length rows → length a ≡ length rows → slice_get es k ≡ Some (away (map of_worker a)) → AddUp (map of_row rows) es → AreSound rows → r ≡ slice_index_or rows account r → h ≡ slice_index_or a account h
-    → (what ≡ Reserve → CanMove what n (row_at rows account)) → (what ≢ Reserve → n ≤ (amounts_at a account).reserved)
-    → CanMove what n r × FitsMove what n h × AreSound (set rows account (moved_row what n r))
-    × MoveBy (map of_worker a) (map of_worker (set a account (moved_amounts what n h))) (map of_row rows) (map of_row (set rows account (moved_row what n r)))
-settled rows account es k a r h what n within wide entry sums sound is-r is-h can holds =
+pub settled : {name : BookId} {table seat other : TableId} {vs ws : List View} {w : ℕ} {rows : List Row} {a : List Amounts} (i : BookStands name table seat vs w rows) (s : ShareStands name other ws a)
+    (account : ℕ) (what : Move) (n : ℕ) (r : Row) (h : Amounts) → slice_get i.entries s.number ≡ Some (away (map of_worker a)) → AddUp (map of_row rows) i.entries
+    → account < length rows → r ≡ slice_index_or rows account r → h ≡ slice_index_or a account h → (what ≡ Reserve → CanMove what n (row_at rows account)) → (what ≢ Reserve → n ≤ (amounts_at a account).reserved)
+    → Settles rows a account what n r h
+settled {rows = rows} {a = a} i s account what n r h entry sums within is-r is-h can holds =
+    let wide : length a ≡ length rows = s.accounts ∙ sym i.accounts in
     let row : r ≡ row_at rows account = get_or_read rows account r within is-r no_row in
     let had : h ≡ amounts_at a account = get_or_read a account h (omega arith) is-h no_amounts in
     let at : portion_at (map of_worker a) account ≡ of_worker h = worker_at a account (omega arith) ∙ ap of_worker (sym had) in
-    let part : Within (of_worker h) r = subst (λ (x : Portion × Row). Within x.0 x.1) (λ i. (at i, sym row i)) (within_row rows account es k (map of_worker a) within entry sums) in
-    let law : IsBalanced r × IsSmall r = rw row (sound account within) in
+    let part : Within (of_worker h) r = subst (λ (x : Portion × Row). Within x.0 x.1) (λ j. (at j, sym row j)) (within_row rows account i.entries s.number (map of_worker a) within entry sums) in
+    let law : IsBalanced r × IsSmall r = rw row (i.sound account within) in
     let both = can_turn what n r h (rw row can) (rw had holds) part law.0 law.1 in
     let moves = turned what n r h both.0 both.1 law.0 law.1 in
     let by : MovesBy (portion_at (map of_worker a) account) (of_worker (moved_amounts what n h)) (of_row (row_at rows account)) (of_row (moved_row what n r)) =
-    subst (λ (x : Portion × Row). MovesBy x.0 (of_worker (moved_amounts what n h)) (of_row x.1) (of_row (moved_row what n r))) (λ i. (sym at i, row i)) moves.0 in (
-      both.0,
-      both.1,
-      sound_set rows account (moved_row what n r) within sound moves.1 moves.2,
-      subst (λ (l : List Portion). MoveBy (map of_worker a) l (map of_row rows) (map of_row (set rows account (moved_row what n r)))) (sym (map-set of_worker a account (moved_amounts what n h)))
-          (change_of rows account (map of_worker a) (moved_row what n r) (of_worker (moved_amounts what n h)) within (length-map a of_worker ∙ wide) by),
-    )
+    subst (λ (x : Portion × Row). MovesBy x.0 (of_worker (moved_amounts what n h)) (of_row x.1) (of_row (moved_row what n r))) (λ j. (sym at j, row j)) moves.0 in
+    record {
+      can = both.0;
+      fits = both.1;
+      sound = sound_set rows account (moved_row what n r) within i.sound moves.1 moves.2;
+      moves = subst (λ (l : List Portion). MoveBy (map of_worker a) l (map of_row rows) (map of_row (set rows account (moved_row what n r)))) (sym (map-set of_worker a account (moved_amounts what n h)))
+          (change_of rows account (map of_worker a) (moved_row what n r) (of_worker (moved_amounts what n h)) within (length-map a of_worker ∙ wide) by);
+    }
 
-topped_with : (n : ℕ) (r : Row) (t : ℕ) → r.topped + n ≤ 2 ^ 40 → IsBalanced r → IsSmall r → MovesBy (of_till t) (of_till (t + n)) (of_row r) (of_row (topped_up n r)) × IsBalanced (topped_up n r) × IsSmall (topped_up n r)
+topped_with : (n : ℕ) (r : Row) (t : ℕ) → r.topped + n ≤ most_topped → IsBalanced r → IsSmall r → MovesBy (of_till t) (of_till (t + n)) (of_row r) (of_row (row_topped_up n r)) × IsBalanced (row_topped_up n r) × IsSmall (row_topped_up n r)
 topped_with n r t can law small = (record { topped = omega arith; reserved = omega arith; charged = omega arith; returned = omega arith }, omega arith, (omega arith, omega arith))
 
+-- What a top-up may rest on, and what it leaves
+pub record TopsUp (rows : List Row) (t : List ℕ) (account n : ℕ) (r : Row) (h : ℕ) : Type 0 where
+  pub topped : r.topped + n ≤ most_topped
+  pub free : r.free + n ≤ most_topped
+  pub had : h + n ≤ most_topped
+  pub sound : AreSound (set rows account (row_topped_up n r))
+  pub moves : MoveBy (map of_till t) (map of_till (set t account (h + n))) (map of_row rows) (map of_row (set rows account (row_topped_up n r)))
+
 -- a top-up, where the book's entry of the till is known
-pub topped : (rows : List Row) (account : ℕ) (es : List Entry) (k : ℕ) (t : List ℕ) (r : Row) (h : ℕ) (n : ℕ)
-    → account < length rows → length t ≡ length rows → slice_get es k ≡ Some (away (map of_till t)) → AddUp (map of_row rows) es → AreSound rows → r ≡ slice_index_or rows account r → h ≡ slice_index_or t account h
-    → (row_at rows account).topped + n ≤ 2 ^ 40
-    → (r.topped + n ≤ 2 ^ 40) × (r.free + n ≤ 2 ^ 40) × (h + n ≤ 2 ^ 40) × AreSound (set rows account (topped_up n r))
-    × MoveBy (map of_till t) (map of_till (set t account (h + n))) (map of_row rows) (map of_row (set rows account (topped_up n r)))
-topped rows account es k t r h n within wide entry sums sound is-r is-h can =
+pub topped : {name : BookId} {table seat other : TableId} {vs ws : List View} {w : ℕ} {rows : List Row} {t : List ℕ} (i : BookStands name table seat vs w rows) (s : TillStands name other ws t)
+    (account n : ℕ) (r : Row) (h : ℕ) → slice_get i.entries 0 ≡ Some (away (map of_till t)) → AddUp (map of_row rows) i.entries
+    → account < length rows → r ≡ slice_index_or rows account r → h ≡ slice_index_or t account h → (row_at rows account).topped + n ≤ most_topped
+    → TopsUp rows t account n r h
+topped {rows = rows} {t = t} i s account n r h entry sums within is-r is-h can =
+    let wide : length t ≡ length rows = s.accounts ∙ sym i.accounts in
     let row : r ≡ row_at rows account = get_or_read rows account r within is-r no_row in
     let had : h ≡ topped_at t account = get_or_read t account h (omega arith) is-h 0 in
     let at : portion_at (map of_till t) account ≡ of_till h = till_at t account (omega arith) ∙ ap of_till (sym had) in
-    let part : Within (of_till h) r = subst (λ (x : Portion × Row). Within x.0 x.1) (λ i. (at i, sym row i)) (within_row rows account es k (map of_till t) within entry sums) in
-    let law : IsBalanced r × IsSmall r = rw row (sound account within) in
-    let can' : r.topped + n ≤ 2 ^ 40 = rw row can in
+    let part : Within (of_till h) r = subst (λ (x : Portion × Row). Within x.0 x.1) (λ j. (at j, sym row j)) (within_row rows account i.entries 0 (map of_till t) within entry sums) in
+    let law : IsBalanced r × IsSmall r = rw row (i.sound account within) in
+    let can' : r.topped + n ≤ most_topped = rw row can in
     let moves = topped_with n r h can' law.0 law.1 in
-    let by : MovesBy (portion_at (map of_till t) account) (of_till (h + n)) (of_row (row_at rows account)) (of_row (topped_up n r)) =
-    subst (λ (x : Portion × Row). MovesBy x.0 (of_till (h + n)) (of_row x.1) (of_row (topped_up n r))) (λ i. (sym at i, row i)) moves.0 in (
-      can',
-      (let p = law.0 in omega arith),
-      (let p = part.topped in omega arith),
-      sound_set rows account (topped_up n r) within sound moves.1 moves.2,
-      subst (λ (l : List Portion). MoveBy (map of_till t) l (map of_row rows) (map of_row (set rows account (topped_up n r)))) (sym (map-set of_till t account (h + n)))
-          (change_of rows account (map of_till t) (topped_up n r) (of_till (h + n)) within (length-map t of_till ∙ wide) by),
-    )
+    let by : MovesBy (portion_at (map of_till t) account) (of_till (h + n)) (of_row (row_at rows account)) (of_row (row_topped_up n r)) =
+    subst (λ (x : Portion × Row). MovesBy x.0 (of_till (h + n)) (of_row x.1) (of_row (row_topped_up n r))) (λ j. (sym at j, row j)) moves.0 in
+    record {
+      topped = can';
+      free = let p = law.0 in omega arith;
+      had = let p = part.topped in omega arith;
+      sound = sound_set rows account (row_topped_up n r) within i.sound moves.1 moves.2;
+      moves = subst (λ (l : List Portion). MoveBy (map of_till t) l (map of_row rows) (map of_row (set rows account (row_topped_up n r)))) (sym (map-set of_till t account (h + n)))
+          (change_of rows account (map of_till t) (row_topped_up n r) (of_till (h + n)) within (length-map t of_till ∙ wide) by);
+    }
 
 -- what a look tells
-pub seen_row : (rows : List Row) (account : ℕ) (es : List Entry) (k : ℕ) (a : List Amounts) (r : Row) → account < length rows → length a ≡ length rows → slice_get es k ≡ Some (away (map of_worker a)) → AddUp (map of_row rows) es → r ≡ slice_index_or rows account r
+pub seen_row : {name : BookId} {table seat other : TableId} {vs ws : List View} {w : ℕ} {rows : List Row} {a : List Amounts} (i : BookStands name table seat vs w rows) (s : ShareStands name other ws a) (account : ℕ) (r : Row)
+    → slice_get i.entries s.number ≡ Some (away (map of_worker a)) → AddUp (map of_row rows) i.entries → account < length rows → r ≡ slice_index_or rows account r
     → ((amounts_at a account).reserved ≤ r.reserved) × ((amounts_at a account).charged ≤ r.charged) × ((amounts_at a account).returned ≤ r.returned)
-seen_row rows account es k a r within wide entry sums is-r =
+seen_row {rows = rows} {a = a} i s account r entry sums within is-r =
+    let wide : length a ≡ length rows = s.accounts ∙ sym i.accounts in
     let row : r ≡ row_at rows account = get_or_read rows account r within is-r no_row in
     let at : portion_at (map of_worker a) account ≡ of_worker (amounts_at a account) = worker_at a account (omega arith) in
-    let part : Within (of_worker (amounts_at a account)) r = subst (λ (x : Portion × Row). Within x.0 x.1) (λ i. (at i, sym row i)) (within_row rows account es k (map of_worker a) within entry sums) in
+    let part : Within (of_worker (amounts_at a account)) r = subst (λ (x : Portion × Row). Within x.0 x.1) (λ j. (at j, sym row j)) (within_row rows account i.entries s.number (map of_worker a) within entry sums) in
     (part.reserved, part.charged, part.returned)
 
 -- a look moves nothing

@@ -10,8 +10,8 @@ use Rattle.sms_book.specs.declared.rule.View.TheVariants.{Lent, Holder}
 use Rattle.sms_book.specs.Portions.{no_amounts, amounts_at, portion_at, row_at}
 use Rattle.sms_book.specs.Shares.{Share, blank_share, opening_shares, AreAll}
 use Rattle.sms_book.specs.Sums.{total, over_shares, AddUp, MoveBy}
-use Rattle.sms_book.specs.Rule.{at_home, away, HasEntries, HasTotals, Kept}
-use Rattle.sms_book.specs.TableSteps.{Shared, IsThere, new_table, TableStep, takes_in, looks, gives_back, deals, keeps, Steps, Runs}
+use Rattle.sms_book.specs.Rule.{at_home, away, HasEntries, Shared, IsThere, BookHas, Kept}
+use Rattle.sms_book.specs.TableSteps.{new_table, TableStep, takes_in, looks, gives_back, deals, keeps, Steps, Runs}
 
 -- each account's top-ups are its free, reserved and charged credits
 abbrev pub EachBalanced : List Row → Type 0
@@ -20,19 +20,23 @@ EachBalanced rows = (i : ℕ) → i < length rows → IsBalanced (row_at rows i)
 -- What holds between any two steps, of a book with so many accounts and workers
 pub record IsOrderly (accounts workers : ℕ) (s : Shared) : Type 0 where
   -- the book is there, with an entry for the till and for each worker, and a total for each account
-  pub there : (book : View) × (es : List Entry) × (ts : List Portion) × IsThere s 0 book × HasEntries book es × HasTotals book ts × (length es ≡ workers + 1) × (length ts ≡ accounts)
-  -- one seat, the first, has the entries
+  pub entries : List Entry
+  pub totals : List Portion
+  pub book : BookHas s entries totals
+  pub long : length entries ≡ workers + 1
+  pub wide : length totals ≡ accounts
+  -- each of its totals is the sum over its entries
+  pub sums : AddUp totals entries
+  -- no other seat has entries
   pub one_book : (id : ℕ) (v : View) (es : List Entry) → IsThere s id v → HasEntries v es → id ≡ 0
-  -- each of the book's totals is the sum over its entries
-  pub totals : (book : View) (es : List Entry) (ts : List Portion) → IsThere s 0 book → HasEntries book es → HasTotals book ts → AddUp ts es
   -- the book has an entry for each number that a seat holds, and what that seat has is the entry
-  pub entry : (id k : ℕ) (ps : List Portion) (book : View) (es : List Entry) → IsThere s id (Holder k ps) → IsThere s 0 book → HasEntries book es → slice_get es k ≡ Some (away ps)
+  pub entry : (id k : ℕ) (ps : List Portion) → IsThere s id (Holder k ps) → slice_get entries k ≡ Some (away ps)
   -- a number that is away has a holder
-  pub held : (k : ℕ) (ps : List Portion) (book : View) (es : List Entry) → IsThere s 0 book → HasEntries book es → slice_get es k ≡ Some (away ps) → (id : ℕ) × IsThere s id (Holder k ps)
+  pub held : (k : ℕ) (ps : List Portion) → slice_get entries k ≡ Some (away ps) → (id : ℕ) × IsThere s id (Holder k ps)
   -- and no other
   pub one_holder : (id other k : ℕ) (ps qs : List Portion) → IsThere s id (Holder k ps) → IsThere s other (Holder k qs) → id ≡ other
   -- a number that is with the book has none
-  pub home : (id k : ℕ) (ps qs : List Portion) (book : View) (es : List Entry) → IsThere s 0 book → HasEntries book es → slice_get es k ≡ Some (at_home ps) → ¬ IsThere s id (Holder k qs)
+  pub home : (id k : ℕ) (ps qs : List Portion) → slice_get entries k ≡ Some (at_home ps) → ¬ IsThere s id (Holder k qs)
   -- the table's one word never changes
   pub word : s.words ≡ 0 ∷ []
 
@@ -59,8 +63,8 @@ TotalSteps f i s (deals id k) es fs = total f i fs ≡ total f i es
 TotalSteps f i s (keeps id) es fs = total f i fs ≡ total f i es
 
 abbrev pub StepMovesTotals : Type 0
-StepMovesTotals = (accounts workers : ℕ) (s : Shared) (step : TableStep) (t : Shared) (book after : View) (es fs : List Entry) (f : Portion → ℕ) (i : ℕ) → Kept accounts workers s → Steps s step t
-    → IsThere s 0 book → HasEntries book es → IsThere t 0 after → HasEntries after fs → TotalSteps f i s step es fs
+StepMovesTotals = (accounts workers : ℕ) (s : Shared) (step : TableStep) (t : Shared) (es fs : List Entry) (ts us : List Portion) (f : Portion → ℕ) (i : ℕ) → Kept accounts workers s → Steps s step t
+    → BookHas s es ts → BookHas t fs us → TotalSteps f i s step es fs
 
 -- The book's totals before and after a step: they change only where a number goes out again, each by as much as what its
 -- holder has of the account changes
@@ -72,8 +76,8 @@ BookTotalsMove s (deals id k) ts us = us ≡ ts
 BookTotalsMove s (keeps id) ts us = us ≡ ts
 
 abbrev pub StepMovesBookTotals : Type 0
-StepMovesBookTotals = (accounts workers : ℕ) (s : Shared) (step : TableStep) (t : Shared) (book after : View) (ts us : List Portion) → Kept accounts workers s → Steps s step t
-    → IsThere s 0 book → HasTotals book ts → IsThere t 0 after → HasTotals after us → BookTotalsMove s step ts us
+StepMovesBookTotals = (accounts workers : ℕ) (s : Shared) (step : TableStep) (t : Shared) (es fs : List Entry) (ts us : List Portion) → Kept accounts workers s → Steps s step t
+    → BookHas s es ts → BookHas t fs us → BookTotalsMove s step ts us
 
 -- the shares of a book that was just opened: each has its number, from 1 on, and moved nothing
 pub record AreBlank (accounts workers : ℕ) (shares : List Share) : Type 0 where

@@ -1,3 +1,4 @@
+pub mod Limits
 pub mod Name
 pub mod Portions
 pub mod Rule
@@ -5,5 +6,6 @@ pub mod Shares
 pub mod Sums
 pub mod Money
 pub mod Openings
+pub mod Standing
 pub mod TableSteps
 pub mod Laws

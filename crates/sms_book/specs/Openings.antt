@@ -1,6 +1,8 @@
 -- With which accounts a book can open.
-use Rattle.std.specs.Prelude.{◌≡◌, ◌⊎◌, ℕ, ◌^◌, ◌<◌, ◌≤◌, List, [], length, map, slice_index, slice_index_or, string_bytes}
+use Rattle.std.specs.Prelude.{◌≡◌, ◌⊎◌, ℕ, ◌<◌, ◌≤◌, List, [], length, map, slice_index, slice_index_or, string_bytes}
 use Rattle.sms_core.specs.declared.row.Row.{Row}
+use Rattle.sms_core.specs.Limits.{most_accounts, most_topped}
+use Rattle.sms_book.specs.Limits.{most_workers}
 use Rattle.sms_book.specs.declared.opening.Opening.{Opening}
 
 -- the accounts' names, in their places
@@ -11,9 +13,9 @@ names_of openings = map (λ o. string_bytes o.name) openings
 abbrev pub credits_of : List Opening → List ℕ
 credits_of openings = map (λ o. o.credits) openings
 
--- 1 to 64 accounts, and 1 to 32 workers
+-- there are accounts and workers, and no more than a book takes
 abbrev pub GoodCount : List Opening → ℕ → Type 0
-GoodCount openings workers = (0 < length openings) × (length openings ≤ 64) × (0 < workers) × (workers ≤ 32)
+GoodCount openings workers = (0 < length openings) × (length openings ≤ most_accounts) × (0 < workers) × (workers ≤ most_workers)
 
 -- two places, in order, have one name
 abbrev pub HaveOneName : List (List ℕ) → ℕ → ℕ → Type 0
@@ -26,9 +28,9 @@ IsFirstDouble names first second = HaveOneName names first second × ((x y : ℕ
 abbrev pub NoDouble : List (List ℕ) → Type 0
 NoDouble names = (x y : ℕ) → ¬ (HaveOneName names x y)
 
--- no account begins with more than 2^40 credits
+-- no account begins with more credits than it may be topped up with
 abbrev pub AllSmall : List ℕ → Type 0
-AllSmall credits = (i : ℕ) → i < length credits → slice_index credits i ≤ 2 ^ 40
+AllSmall credits = (i : ℕ) → i < length credits → slice_index credits i ≤ most_topped
 
 -- the row of an account that was just opened
 abbrev pub opening_row : ℕ → Row

@@ -1,6 +1,7 @@
 -- What a worker or the till has of each account.
 use Rattle.std.specs.Prelude.{ℕ, List, slice_index_or}
 use Rattle.sms_core.specs.declared.row.Row.{Row}
+use Rattle.sms_core.specs.Rows.{no_row}
 use Rattle.sms_book.specs.declared.amounts.Amounts.{Amounts}
 use Rattle.sms_book.specs.declared.rule.Portion.{Portion}
 
@@ -14,9 +15,6 @@ amounts_at share account = slice_index_or share account no_amounts
 -- the top-ups of an account that went through the till
 abbrev pub topped_at : List ℕ → ℕ → ℕ
 topped_at till account = slice_index_or till account 0
-
-abbrev pub no_row : Row
-no_row = record { topped = 0; free = 0; reserved = 0; charged = 0; returned = 0 }
 
 -- the row of an account
 abbrev pub row_at : List Row → ℕ → Row

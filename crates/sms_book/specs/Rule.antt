@@ -49,24 +49,45 @@ HasTotals (Lent xs us k ps) ts = us ≡ ts
 HasTotals (Holder k ps) ts = ⊥
 HasTotals Spent ts = ⊥
 
--- the book's seat is the first; a holder's portions are its number's entry, and `holder` knows the seat of each number, so
--- that no two seats hold one
+-- the seat is the first, the book's, and has these entries and totals
+pub record IsBooks (es : List Entry) (ts : List Portion) (id : ℕ) (v : View) : Type 0 where
+  pub first : id ≡ 0
+  pub entries : HasEntries v es
+  pub totals : HasTotals v ts
+
+-- what a seat's view has to do with the entries and the totals: the book's has them; a holder's portions are its number's
+-- entry, and `holder` knows the seat of each number, so that no two seats hold one
 abbrev pub Fits : List Entry → List Portion → (ℕ → ℕ) → ℕ → View → Type 0
-Fits es ts holder id (Book xs us) = (id ≡ 0) × (xs ≡ es) × (us ≡ ts)
-Fits es ts holder id (Lent xs us k ps) = (id ≡ 0) × (slice_set xs k (at_home ps) ≡ es) × (us ≡ ts) × (slice_get xs k ≡ Some (away ps))
+Fits es ts holder id (Book xs us) = IsBooks es ts id (Book xs us)
+Fits es ts holder id (Lent xs us k ps) = IsBooks es ts id (Lent xs us k ps) × (slice_get xs k ≡ Some (away ps))
 Fits es ts holder id (Holder k ps) = (holder k ≡ id) × (slice_get es k ≡ Some (away ps))
 Fits es ts holder id Spent = Unit {0}
 
+-- the table as plain data
+abbrev pub Shared : Type 0
+Shared = State (Unit {0}) View
+
+-- the seat with this number has the view v
+abbrev pub IsThere : Shared → ℕ → View → Type 0
+IsThere s id v = get_elem? s.views id ≡ some v
+
+-- the book's view is there, with these entries and totals
+pub record BookHas (s : Shared) (es : List Entry) (ts : List Portion) : Type 0 where
+  pub view : View
+  pub there : IsThere s 0 view
+  pub entries : HasEntries view es
+  pub totals : HasTotals view ts
+
 -- What holds between any two steps on the table of a book with so many accounts and workers
-pub record Kept (accounts workers : ℕ) (s : State (Unit {0}) View) : Type 0 where
+pub record Kept (accounts workers : ℕ) (s : Shared) : Type 0 where
   pub entries : List Entry
   pub totals : List Portion
   pub holder : ℕ → ℕ
-  -- the book's view is there, and each view fits
-  pub book : (v : View) × (get_elem? s.views 0 ≡ some v) × HasEntries v entries × HasTotals v totals
-  pub fits : (id : ℕ) (v : View) → get_elem? s.views id ≡ some v → Fits entries totals holder id v
+  -- the book is there, and each view fits
+  pub book : BookHas s entries totals
+  pub fits : (id : ℕ) (v : View) → IsThere s id v → Fits entries totals holder id v
   -- a number that is away has a holder
-  pub held : (k : ℕ) (ps : List Portion) → slice_get entries k ≡ Some (away ps) → get_elem? s.views (holder k) ≡ some (Holder k ps)
+  pub held : (k : ℕ) (ps : List Portion) → slice_get entries k ≡ Some (away ps) → IsThere s (holder k) (Holder k ps)
   -- there is an entry for the till and for each worker, and a total for each account, the sum over the entries
   pub long : length entries ≡ workers + 1
   pub wide : length totals ≡ accounts

@@ -1,7 +1,9 @@
 -- Sums over the holders of a book's numbers, account by account.
-use Rattle.std.specs.Prelude.{◌≡◌, ℕ, ◌+◌, ◌^◌, ◌<◌, ◌≤◌, List, [], ◌∷◌, length}
+use Rattle.std.specs.Prelude.{◌≡◌, ℕ, ◌+◌, ◌<◌, ◌≤◌, List, [], ◌∷◌, length}
 use Rattle.sms_core.specs.declared.row.Row.{Row}
 use Rattle.sms_core.specs.Rows.{IsBalanced}
+use Rattle.sms_core.specs.Limits.{most_topped}
+use Rattle.sms_book.specs.Limits.{most_returned}
 use Rattle.sms_book.specs.declared.amounts.Amounts.{Amounts}
 use Rattle.sms_book.specs.declared.rule.Portion.{Portion}
 use Rattle.sms_book.specs.declared.rule.Entry.{Entry}
@@ -18,9 +20,9 @@ abbrev pub over_shares : (Amounts → ℕ) → ℕ → List Share → ℕ
 over_shares f i [] = 0
 over_shares f i (s ∷ shares) = f (amounts_at s.amounts i) + over_shares f i shares
 
--- top-ups are at most 2^40, and what was ever returned with what may yet be is at most 2^60, so that no sum wraps
+-- top-ups are within their bound, and what was ever returned with what may yet be is within its own, so that no sum wraps
 abbrev pub IsSmall : Row → Type 0
-IsSmall r = (r.topped ≤ 2 ^ 40) × (r.returned + r.reserved ≤ 2 ^ 60)
+IsSmall r = (r.topped ≤ most_topped) × (r.returned + r.reserved ≤ most_returned)
 
 -- each row balances, within its bounds
 abbrev pub AreSound : List Row → Type 0

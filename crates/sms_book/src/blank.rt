@@ -1,25 +1,25 @@
 //! A book that isn't open yet.
-ghost use Rattle.std.specs.Prelude.{◌≡◌, ℕ, ◌+◌, ◌^◌, ◌<◌, ◌≤◌, List, [], ◌∷◌, length, map, replicate, IfOk, IfErr, slice_index, vec_len, vec_capacity};
-ghost use Rattle.sms_book.specs.declared.amounts.Amounts.{Amounts};
-ghost use Rattle.sms_book.specs.declared.rule.View.TheVariants.{Book as BookView, Holder};
-ghost use Rattle.sms_book.specs.declared.rule.Portion.{Portion};
+ghost use Rattle.std.specs.Prelude.{◌≡◌, ℕ, ◌+◌, ◌<◌, ◌≤◌, List, [], ◌∷◌, length, map, replicate, IfOk, IfErr, vec_capacity};
+ghost use Rattle.sms_book.specs.declared.rule.View.TheVariants.{Book as BookView};
 ghost use Rattle.sms_book.specs.declared.rule.Entry.{Entry};
-ghost use Rattle.sms_book.specs.Portions.{no_amounts, of_till, of_worker, nothing};
+ghost use Rattle.sms_book.specs.declared.rule.Portion.{Portion};
+ghost use Rattle.sms_book.specs.Limits.{most_workers};
+ghost use Rattle.sms_book.specs.Portions.{no_amounts, nothing};
 ghost use Rattle.sms_book.specs.Shares.{opening_shares};
-ghost use Rattle.sms_book.specs.Rule.{opening_entries, at_home};
+ghost use Rattle.sms_book.specs.Rule.{at_home, away};
 ghost use Rattle.sms_book.specs.Openings.{AllSmall, opening_row};
 
 use crate::amounts::Amounts;
 use crate::book::Book;
 use crate::name::BookName;
+use crate::room::{Room, room_for};
 use crate::rule::{BookRule, Opened, View};
 use crate::share::Shares;
-use crate::steps::deal;
+use crate::steps::{BookTable, deal};
 use crate::till::Till;
 use atomic_table::{Badge, Table};
-use sms_core::Row;
 use std::alloc::{AllocError, Global};
-use std::marker::{Model, PhantomData};
+use std::marker::{Brand, Model, PhantomData};
 use std::sync::Mutex;
 
 /// A book that isn't open yet. Contracts see its name, and the credits that each account begins
@@ -33,17 +33,15 @@ pub struct Blank {
 }
 
 impl Model for Blank {
-    ghost use Rattle.std.specs.Prelude.{◌≡◌, ◌<◌, ◌≤◌, ◌^◌, [], ◌∷◌, length};
+    ghost use Rattle.std.specs.Prelude.{length};
     ghost use Rattle.sms_book.specs.Name.{Unopened};
-    ghost use Rattle.sms_book.specs.Rule.{new_book};
-    ghost use Rattle.sms_book.specs.Openings.{AllSmall};
+    ghost use Rattle.sms_book.specs.Standing.{BlankStands};
 
     ghost Value = { Unopened };
 
     ghost view = { λ b. record { book = record { table = b.table.shared.table_id; accounts = length b.credits.items; workers = b.workers }; credits = b.credits.items } };
 
-    ghost invariant = { λ b. (b.seat.table_id ≡ b.table.shared.table_id) × (0 < b.table.shared.table_id.words) × AllSmall b.credits.items × (b.workers ≤ 32)
-        × (b.seat.views ≡ new_book b.credits.items b.workers ∷ []) };
+    ghost invariant = { λ b. BlankStands b.table.shared.table_id b.seat.table_id b.seat.views b.workers b.credits.items };
 }
 
 /// Makes the book's table, whose one seat has all numbers.
@@ -53,7 +51,7 @@ pub(crate) fn make_blank(
     workers: usize,
 ) -> Result<Blank, AllocError>
     requires small { AllSmall credits.items }
-    requires few { workers ≤ 32 }
+    requires few { workers ≤ most_workers }
     ensures { IfOk result (λ b. (b.credits ≡ credits.items) × (b.book.accounts ≡ length credits.items) × (b.book.workers ≡ workers)) }
 {
     let opened = Opened { credits, workers };
@@ -64,74 +62,6 @@ pub(crate) fn make_blank(
         workers,
         table,
         seat: seat.into_badge(),
-    })
-}
-
-// The memory that an opening takes.
-#[derive(Drop)]
-struct Room<N: BookName> {
-    rows: Vec<Row>,
-    amounts: Vec<Vec<Amounts>>,
-    shares: Vec<Shares<N>>,
-}
-
-fn opening_rows(alloc: Global, credits: &[u64]) -> Result<Vec<Row>, AllocError>
-    ensures { IfOk result (λ v. v.items ≡ map opening_row credits.now) }
-{
-    let mut rows = Vec::with_capacity(alloc, credits.len())?;
-    for opening in credits {
-        rows.push(Row {
-            topped: *opening,
-            free: *opening,
-            reserved: 0,
-            charged: 0,
-            returned: 0,
-        })?;
-    }
-    Ok(rows)
-}
-
-fn blank_amounts(alloc: Global, accounts: usize) -> Result<Vec<Amounts>, AllocError>
-    ensures { IfOk result (λ v. v.items ≡ replicate accounts no_amounts) }
-{
-    let mut amounts = Vec::with_capacity(alloc, accounts)?;
-    for _ in 0..accounts {
-        amounts.push(Amounts {
-            reserved: 0,
-            charged: 0,
-            returned: 0,
-        })?;
-    }
-    Ok(amounts)
-}
-
-fn amounts_for(
-    alloc: Global,
-    accounts: usize,
-    workers: usize,
-) -> Result<Vec<Vec<Amounts>>, AllocError>
-    ensures { IfOk result (λ v. map (λ a. a.items) v.items ≡ replicate workers (replicate accounts no_amounts)) }
-{
-    let mut all = Vec::with_capacity(alloc, workers)?;
-    for _ in 0..workers {
-        all.push(blank_amounts(alloc, accounts)?)?;
-    }
-    Ok(all)
-}
-
-fn room_for<N: BookName>(
-    alloc: Global,
-    credits: &[u64],
-    workers: usize,
-) -> Result<Room<N>, AllocError>
-    ensures rows { IfOk result (λ r. r.rows.items ≡ map opening_row credits.now) }
-    ensures amounts { IfOk result (λ r. map (λ a. a.items) r.amounts.items ≡ replicate workers (replicate (length credits.now) no_amounts)) }
-    ensures shares { IfOk result (λ r. (r.shares.items ≡ []) × (workers ≤ vec_capacity r.shares)) }
-{
-    Ok(Room {
-        rows: opening_rows(alloc, credits)?,
-        amounts: amounts_for(alloc, credits.len(), workers)?,
-        shares: Vec::with_capacity(alloc, workers)?,
     })
 }
 
@@ -170,6 +100,7 @@ impl Blank {
         }
     }
 
+    /// Deals the numbers out: the till's first, then one to each worker.
     fn deal_out<N: BookName>(self, room: Room<N>) -> (Book<N>, Till<N>, Vec<Shares<N>>)
         requires name { self.book ≡ N.book }
         requires rows { room.rows.items ≡ map opening_row self.credits }
@@ -185,34 +116,48 @@ impl Blank {
             table,
             mut seat,
         } = self;
-        let Room {
-            rows,
-            amounts: all,
-            mut shares,
-        } = room;
-        let tills = deal(&table.shared, &mut seat, 0);
-        let mut number = 0;
-        for amounts in all {
-            number += 1;
-            let theirs = deal(&table.shared, &mut seat, number);
-            shares.push_reserved(Shares {
-                amounts,
-                seat: theirs,
-                of: PhantomData,
-            });
-        }
+        let till = Till {
+            topped: credits,
+            seat: deal::<Brand>(&table.shared, &mut seat, 0),
+            of: PhantomData,
+        };
+        let shares = deal_shares(&table.shared, &mut seat, room.amounts, room.shares);
         let book = Book {
-            rows,
+            rows: room.rows,
             table,
             seat,
             workers,
             of: PhantomData,
         };
-        let till = Till {
-            topped: credits,
-            seat: tills,
-            of: PhantomData,
-        };
         (book, till, shares)
     }
+}
+
+/// The shares of a book's workers, with the numbers from 1 on, put into the room that was made for
+/// them.
+fn deal_shares<N: BookName>(
+    table: &BookTable,
+    seat: &mut Badge<View>,
+    amounts: Vec<Vec<Amounts>>,
+    mut shares: Vec<Shares<N>>,
+) -> Vec<Shares<N>>
+    requires table { (table.now.table_id ≡ N.book.table) × (seat.old.table_id ≡ N.book.table) × (0 < N.book.table.words) }
+    requires book { (e : Entry) × (ts : List Portion) × (seat.old.views ≡ BookView (e ∷ replicate N.book.workers (at_home (replicate N.book.accounts nothing))) ts ∷ []) }
+    requires amounts { map (λ a. a.items) amounts.items ≡ replicate N.book.workers (replicate N.book.accounts no_amounts) }
+    requires room { (shares.items ≡ []) × (N.book.workers ≤ vec_capacity shares) }
+    ensures table { seat.new.table_id ≡ N.book.table }
+    ensures book { (e : Entry) (ts : List Portion) → seat.old.views ≡ BookView (e ∷ replicate N.book.workers (at_home (replicate N.book.accounts nothing))) ts ∷ []
+        → seat.new.views ≡ BookView (e ∷ replicate N.book.workers (away (replicate N.book.accounts nothing))) ts ∷ [] }
+    ensures shares { result.items ≡ opening_shares N.book.accounts N.book.workers }
+{
+    let mut number = 0;
+    for amounts in amounts {
+        number += 1;
+        shares.push_reserved(Shares {
+            amounts,
+            seat: deal::<Brand>(table, seat, number),
+            of: PhantomData,
+        });
+    }
+    shares
 }

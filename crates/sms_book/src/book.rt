@@ -1,26 +1,28 @@
 //! The book: each account's row, and the calls that move its credits.
-ghost use Rattle.std.specs.Prelude.{◌≡◌, ◌≢◌, ℕ, ◌+◌, ◌-◌, ◌^◌, ◌<◌, ◌≤◌, ◌↔◌, length, slice_set, OnOk, OnErr, IsErrOf, IsOk, IsSome, IfSome};
+ghost use Rattle.std.specs.Prelude.{◌≡◌, ◌≢◌, ℕ, ◌+◌, ◌-◌, ◌<◌, ◌≤◌, ◌↔◌, length, slice_set, OnOk, OnErr, IsErrOf, IsOk, IsSome, IfSome};
+ghost use Rattle.sms_core.specs.Limits.{most_topped};
+ghost use Rattle.sms_core.specs.RowMoves.{row_topped_up, row_reserved, row_charged, row_given_back};
 ghost use Rattle.sms_core.specs.Rows.{IsBalanced};
+ghost use Rattle.sms_book.specs.Limits.{most_returned};
 ghost use Rattle.sms_book.specs.Portions.{amounts_at, topped_at, row_at};
 ghost use Rattle.sms_book.specs.Shares.{changed};
-ghost use Rattle.sms_book.specs.Money.{topped_up, row_reserved, reserved_more, row_charged, charged_more, row_given_back, returned_more, CanMove, moved_row, moved_amounts};
+ghost use Rattle.sms_book.specs.Money.{reserved_more, charged_more, returned_more, CanMove, moved_row, moved_amounts};
 ghost use Rattle.sms_book.specs.declared.money.Move.TheVariants.{Reserve};
 ghost use Rattle.sms_book.specs.declared.error.BookError.TheVariants.{NoAccount, NoCredit, AmountTooLarge};
 
+use crate::amounts::Amounts;
 use crate::error::BookError;
+use crate::limits::MOST_RETURNED;
 use crate::money::{Move, amounts_after, row_after};
 use crate::name::BookName;
 use crate::rule::{BookRule, Opened, View};
 use crate::share::Shares;
-use crate::steps::{meet, part_till, part_worker};
+use crate::steps::{meet, part};
 use crate::till::Till;
 use atomic_table::{Badge, Table};
 use sms_core::{MOST_TOPPED, Row};
 use std::alloc::Global;
-use std::marker::{Model, PhantomData};
-
-// What is returned and reserved of an account stays within this: 2^60.
-const MOST_RETURNED: u64 = 1 << 60;
+use std::marker::{Brand, Model, PhantomData};
 
 /// The accounts of the book of that name. Contracts see their rows.
 #[derive(Drop)]
@@ -33,35 +35,30 @@ pub struct Book<N: BookName> {
 }
 
 impl<N: BookName> Model for Book<N> {
-    ghost use Rattle.std.specs.Prelude.{◌≡◌, ◌+◌, ◌<◌, List, [], ◌∷◌, length, map};
+    ghost use Rattle.std.specs.Prelude.{List};
     ghost use Rattle.sms_core.specs.declared.row.Row.{Row};
-    ghost use Rattle.sms_book.specs.declared.rule.Entry.{Entry};
-    ghost use Rattle.sms_book.specs.declared.rule.View.TheVariants.{Book as BookView};
-    ghost use Rattle.sms_book.specs.Sums.{AreSound};
-    ghost use Rattle.sms_book.specs.Portions.{of_row};
-    ghost use Rattle.sms_book.specs.Rule.{AllAway};
+    ghost use Rattle.sms_book.specs.Standing.{BookStands};
 
     ghost Value = { List Row };
 
     ghost view = { λ b. b.rows.items };
 
-    ghost invariant = { λ b. (b.table.shared.table_id ≡ N.book.table) × (0 < N.book.table.words) × (b.seat.table_id ≡ N.book.table)
-        × (length b.rows.items ≡ N.book.accounts) × (b.workers ≡ N.book.workers) × AreSound b.rows.items
-        × ((es : List Entry) × (b.seat.views ≡ BookView es (map of_row b.rows.items) ∷ []) × AllAway es × (length es ≡ N.book.workers + 1)) };
+    ghost invariant = { λ b. BookStands N.book b.table.shared.table_id b.seat.table_id b.seat.views b.workers b.rows.items };
 }
 
 impl<N: BookName> Book<N> {
-    /// Tops an account up through the till.
+    /// Tops an account up with so many credits, through the till. `NoAccount` where there is no such
+    /// account, then `AmountTooLarge` where its top-ups would pass 2^40.
     pub fn top_up(&mut self, till: &mut Till<N>, account: usize, n: u64) -> Result<(), BookError>
         ensures account { IsErrOf result NoAccount ↔ (length self.old ≤ account) }
-        ensures large { IsErrOf result AmountTooLarge ↔ ((account < length self.old) × (2 ^ 40 < (row_at self.old account).topped + n)) }
-        ensures done { IsOk result ↔ ((account < length self.old) × ((row_at self.old account).topped + n ≤ 2 ^ 40)) }
-        ensures book { OnOk result (self.new ≡ slice_set self.old account (topped_up n (row_at self.old account))) }
+        ensures large { IsErrOf result AmountTooLarge ↔ ((account < length self.old) × (most_topped < (row_at self.old account).topped + n)) }
+        ensures done { IsOk result ↔ ((account < length self.old) × ((row_at self.old account).topped + n ≤ most_topped)) }
+        ensures book { OnOk result (self.new ≡ slice_set self.old account (row_topped_up n (row_at self.old account))) }
         ensures till { OnOk result (till.new ≡ slice_set till.old account (topped_at till.old account + n)) }
         ensures refused { OnErr result ((self.new ≡ self.old) × (till.new ≡ till.old)) }
         ensures there { length till.old ≡ length self.old }
     {
-        let _all = &till.topped;
+        prove!(till.topped.len() == self.rows.len());
         if account >= self.rows.len() {
             return Err(BookError::NoAccount);
         }
@@ -76,15 +73,18 @@ impl<N: BookName> Book<N> {
     fn topped(&self, account: usize) -> u64
         requires { account < length self.now }
         ensures is { result ≡ (row_at self.now account).topped }
-        ensures small { result ≤ 2 ^ 40 }
+        ensures small { result ≤ most_topped }
     {
         self.rows[account].topped
     }
 
+    /// Tops an account up, in its row and in the till.
+    // The till's number comes into the book first: that tells that the till's top-ups are its entry,
+    // and so no more than the row's, and nothing wraps. It goes out again with the new top-ups.
     fn put_in(&mut self, till: &mut Till<N>, account: usize, n: u64)
         requires there { account < length self.old }
-        requires small { (row_at self.old account).topped + n ≤ 2 ^ 40 }
-        ensures book { self.new ≡ slice_set self.old account (topped_up n (row_at self.old account)) }
+        requires small { (row_at self.old account).topped + n ≤ most_topped }
+        ensures book { self.new ≡ slice_set self.old account (row_topped_up n (row_at self.old account)) }
         ensures till { till.new ≡ slice_set till.old account (topped_at till.old account + n) }
     {
         let Book {
@@ -108,10 +108,12 @@ impl<N: BookName> Book<N> {
             ..row
         };
         topped[account] = had + n;
-        *theirs = part_till(table, seat, rows.as_slice(), topped.as_slice());
+        *theirs = part::<u64, Brand>(table, seat, rows.as_slice(), topped.as_slice());
     }
 
-    /// Reserves free credits of an account.
+    /// Reserves so many free credits of an account for the share. `NoAccount` where there is no such
+    /// account, then `NoCredit` where fewer are free, then `AmountTooLarge` where what was ever
+    /// returned and what is reserved would pass 2^60.
     pub fn reserve(
         &mut self,
         share: &mut Shares<N>,
@@ -120,14 +122,14 @@ impl<N: BookName> Book<N> {
     ) -> Result<(), BookError>
         ensures account { IsErrOf result NoAccount ↔ (length self.old ≤ account) }
         ensures credit { (free needed : ℕ) → IsErrOf result (NoCredit free needed) ↔ ((account < length self.old) × (free ≡ (row_at self.old account).free) × (needed ≡ n) × (free < n)) }
-        ensures large { IsErrOf result AmountTooLarge ↔ ((account < length self.old) × (n ≤ (row_at self.old account).free) × (2 ^ 60 < (row_at self.old account).returned + (row_at self.old account).reserved + n)) }
-        ensures done { IsOk result ↔ ((account < length self.old) × (n ≤ (row_at self.old account).free) × ((row_at self.old account).returned + (row_at self.old account).reserved + n ≤ 2 ^ 60)) }
+        ensures large { IsErrOf result AmountTooLarge ↔ ((account < length self.old) × (n ≤ (row_at self.old account).free) × (most_returned < (row_at self.old account).returned + (row_at self.old account).reserved + n)) }
+        ensures done { IsOk result ↔ ((account < length self.old) × (n ≤ (row_at self.old account).free) × ((row_at self.old account).returned + (row_at self.old account).reserved + n ≤ most_returned)) }
         ensures book { OnOk result (self.new ≡ slice_set self.old account (row_reserved n (row_at self.old account))) }
         ensures share { OnOk result (share.new ≡ changed share.old account (reserved_more n)) }
         ensures refused { OnErr result ((self.new ≡ self.old) × (share.new ≡ share.old)) }
         ensures there { length share.old.amounts ≡ length self.old }
     {
-        let _all = &share.amounts;
+        prove!(share.amounts.len() == self.rows.len());
         if account >= self.rows.len() {
             return Err(BookError::NoAccount);
         }
@@ -145,30 +147,33 @@ impl<N: BookName> Book<N> {
         Ok(())
     }
 
-    /// Charges credits that the share holds reserved for the account.
+    /// Charges so many of the credits that the share holds reserved for the account, at least one.
     pub fn charge(&mut self, share: &mut Shares<N>, account: usize, n: u64)
         requires { (0 < n) × (n ≤ (amounts_at share.old.amounts account).reserved) }
         ensures book { self.new ≡ slice_set self.old account (row_charged n (row_at self.old account)) }
         ensures share { share.new ≡ changed share.old account (charged_more n) }
         ensures there { (account < length self.old) × (length share.old.amounts ≡ length self.old) }
     {
-        let _rows = &self.rows;
-        let _all = &share.amounts;
+        prove!(share.amounts.len() == self.rows.len());
         self.turn(share, account, Move::Charge, n);
     }
 
-    /// Gives back to free what the share holds reserved for the account.
+    /// Gives so many of the credits that the share holds reserved for the account back to its free
+    /// ones, at least one.
     pub fn give_back(&mut self, share: &mut Shares<N>, account: usize, n: u64)
         requires { (0 < n) × (n ≤ (amounts_at share.old.amounts account).reserved) }
         ensures book { self.new ≡ slice_set self.old account (row_given_back n (row_at self.old account)) }
         ensures share { share.new ≡ changed share.old account (returned_more n) }
         ensures there { (account < length self.old) × (length share.old.amounts ≡ length self.old) }
     {
-        let _rows = &self.rows;
-        let _all = &share.amounts;
+        prove!(share.amounts.len() == self.rows.len());
         self.turn(share, account, Move::GiveBack, n);
     }
 
+    /// Moves credits of an account, in its row and in the share.
+    // The share's number comes into the book first: that tells that what the share has is its entry,
+    // and so no more than the row has, and nothing wraps. It goes out again with the new amounts,
+    // and the totals move as the row does.
     fn turn(&mut self, share: &mut Shares<N>, account: usize, what: Move, n: u64)
         requires there { account < length self.old }
         requires row { what ≡ Reserve → CanMove what n (row_at self.old account) }
@@ -193,7 +198,7 @@ impl<N: BookName> Book<N> {
         let had = amounts[account];
         rows[account] = row_after(row, what, n);
         amounts[account] = amounts_after(had, what, n);
-        *theirs = part_worker(table, seat, rows.as_slice(), amounts.as_slice());
+        *theirs = part::<Amounts, Brand>(table, seat, rows.as_slice(), amounts.as_slice());
     }
 
     /// The account's row, where there is such an account. What the share has of it is part of the
@@ -210,6 +215,9 @@ impl<N: BookName> Book<N> {
         Some(self.seen(share, account))
     }
 
+    /// The account's row.
+    // Nothing changes, and yet the share's number comes into the book and goes out again: only a
+    // look at the table tells that what the share has is part of the row.
     fn seen(&mut self, share: &mut Shares<N>, account: usize) -> Row
         requires { account < length self.old }
         ensures row { (result ≡ row_at self.old account) × IsBalanced result }
@@ -229,7 +237,7 @@ impl<N: BookName> Book<N> {
         } = share;
         let table = &table.shared;
         meet(table, seat, theirs);
-        *theirs = part_worker(table, seat, rows.as_slice(), amounts.as_slice());
+        *theirs = part::<Amounts, Brand>(table, seat, rows.as_slice(), amounts.as_slice());
         rows[account]
     }
 }

@@ -29,6 +29,7 @@ pub enum GatherFault {
     /// The list isn't the share of each worker of this book.
     #[error("a worker's share is missing")]
     MissingShare,
+    /// Memory was refused. No call answers this, since the book's own rows become the statement.
     #[error("out of memory")]
     OutOfMemory,
 }

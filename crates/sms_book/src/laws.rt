@@ -10,6 +10,7 @@ use crate::name::BookName;
 pub fn rows_balance<N: BookName>(book: &Book<N>)
     ensures { EachBalanced book.now }
 {
+    // What a type keeps is known where one of its fields is read.
     let _rows = &book.rows;
 }
 

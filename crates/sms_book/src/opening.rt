@@ -5,14 +5,9 @@ ghost use Rattle.sms_book.specs.declared.error.BookError.TheVariants.{BadCount, 
 
 use crate::blank::{Blank, make_blank};
 use crate::error::BookError;
-use sms_core::MOST_TOPPED;
+use crate::limits::MOST_WORKERS;
+use sms_core::{MOST_ACCOUNTS, MOST_TOPPED};
 use std::alloc::{AllocError, Global};
-
-/// The most accounts that a book has.
-pub const MOST_ACCOUNTS: usize = 64;
-
-/// The most workers that a book has shares for.
-pub const MOST_WORKERS: usize = 32;
 
 /// An account as its book opens: its name, and the credits that it begins with.
 #[derive(Debug, Drop)]
@@ -65,13 +60,14 @@ fn credits_in(alloc: Global, openings: &[Opening]) -> Result<Vec<u64>, AllocErro
 {
     let mut credits = Vec::with_capacity(alloc, openings.len())?;
     for opening in openings {
-        credits.push(opening.credits)?;
+        credits.push_reserved(opening.credits);
     }
     Ok(credits)
 }
 
 /// A book with these accounts, not yet open, for so many workers. An account is its place in the
-/// list.
+/// list. `BadCount` comes first, then `Duplicate` with the first place whose name an earlier one
+/// has, then `AmountTooLarge` where one begins with more than 2^40 credits.
 pub fn open_book(alloc: Global, openings: &[Opening], workers: usize) -> Result<Blank, BookError>
     ensures count { IsErrOf result BadCount ↔ ¬ (GoodCount openings.now workers) }
     ensures double { (first second : ℕ) → IsErrOf result (Duplicate first second) ↔ (GoodCount openings.now workers × IsFirstDouble (names_of openings.now) first second) }
@@ -81,7 +77,8 @@ pub fn open_book(alloc: Global, openings: &[Opening], workers: usize) -> Result<
     ensures blank { IfOk result (λ b. (b.credits ≡ credits_of openings.now) × (b.book.accounts ≡ length openings.now) × (b.book.workers ≡ workers)) }
 {
     let accounts = openings.len();
-    if accounts == 0 || accounts > MOST_ACCOUNTS || workers == 0 || workers > MOST_WORKERS {
+    let most = MOST_ACCOUNTS as usize;
+    if accounts == 0 || accounts > most || workers == 0 || workers > MOST_WORKERS {
         return Err(BookError::BadCount);
     }
     if let Some((first, second)) = first_double(openings) {

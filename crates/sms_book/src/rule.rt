@@ -2,6 +2,7 @@
 //!
 //! No value of `View` is made: it is what contracts and the rule see of a seat.
 
+use crate::amounts::Amounts;
 use atomic_table::{Join, Play, Split, TableRule};
 use std::collections::LinkedList;
 use std::marker::{Brand, PhantomData};
@@ -12,6 +13,25 @@ pub struct Portion {
     pub reserved: u64,
     pub charged: u64,
     pub returned: u64,
+}
+
+/// What a holder keeps of an account: a worker its amounts, the till the top-ups.
+pub trait Holding {
+    ghost use Rattle.sms_book.specs.declared.rule.Portion.{Portion};
+
+    ghost portion: { Self → Portion };
+}
+
+impl Holding for Amounts {
+    ghost use Rattle.sms_book.specs.Portions.{of_worker};
+
+    ghost portion = { of_worker };
+}
+
+impl Holding for u64 {
+    ghost use Rattle.sms_book.specs.Portions.{of_till};
+
+    ghost portion = { of_till };
 }
 
 /// A number's entry in the book: whether the number is with the book, and its portions by account.

@@ -18,16 +18,14 @@ pub struct Shares<N: BookName> {
 }
 
 impl<N: BookName> Model for Shares<N> {
-    ghost use Rattle.std.specs.Prelude.{◌≡◌, ℕ, [], ◌∷◌, length, map};
-    ghost use Rattle.sms_book.specs.declared.rule.View.TheVariants.{Holder};
-    ghost use Rattle.sms_book.specs.Portions.{of_worker};
     ghost use Rattle.sms_book.specs.Shares.{Share, number_of};
+    ghost use Rattle.sms_book.specs.Standing.{ShareStands};
 
     ghost Value = { Share };
 
     ghost view = { λ s. record { number = number_of s.seat.views; amounts = s.amounts.items } };
 
-    ghost invariant = { λ s. (s.seat.table_id ≡ N.book.table) × (length s.amounts.items ≡ N.book.accounts) × ((k : ℕ) × (s.seat.views ≡ Holder k (map of_worker s.amounts.items) ∷ [])) };
+    ghost invariant = { λ s. ShareStands N.book s.seat.table_id s.seat.views s.amounts.items };
 }
 
 impl<N: BookName> Shares<N> {

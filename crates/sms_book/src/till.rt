@@ -15,13 +15,12 @@ pub struct Till<N: BookName> {
 }
 
 impl<N: BookName> Model for Till<N> {
-    ghost use Rattle.std.specs.Prelude.{◌≡◌, ℕ, List, [], ◌∷◌, length, map};
-    ghost use Rattle.sms_book.specs.declared.rule.View.TheVariants.{Holder};
-    ghost use Rattle.sms_book.specs.Portions.{of_till};
+    ghost use Rattle.std.specs.Prelude.{ℕ, List};
+    ghost use Rattle.sms_book.specs.Standing.{TillStands};
 
     ghost Value = { List ℕ };
 
     ghost view = { λ t. t.topped.items };
 
-    ghost invariant = { λ t. (t.seat.table_id ≡ N.book.table) × (length t.topped.items ≡ N.book.accounts) × (t.seat.views ≡ Holder 0 (map of_till t.topped.items) ∷ []) };
+    ghost invariant = { λ t. TillStands N.book t.seat.table_id t.seat.views t.topped.items };
 }

@@ -10,5 +10,13 @@ use Rattle.sms_book.proofs.gathering.gather.Given as goal
 
 abbrev pub invariant-loop-share : goal.invariant-loop-share
 invariant-loop-share g l =
-    (es : List Entry) × (done : List Share) × (l.seat.views ≡ Book es (map of_row l.rows.items) ∷ []) × (l.seat.table_id ≡ g.N.BookName.book.table)
-    × (done ++ into_iter_items l.share-iterator ≡ l.fn.shares.items) × Gathered (map of_row l.rows.items) (g.N.BookName.book.workers + 1) es (back l.fn.till done) × AreBack es (0 ∷ map (λ s. s.number) done)
+    let totals = map of_row l.rows.items in
+    record {
+      entries : List Entry;
+      done : List Share;
+      seat : l.seat.views ≡ Book entries totals ∷ [];
+      table : l.seat.table_id ≡ g.N.BookName.book.table;
+      all : done ++ into_iter_items l.share-iterator ≡ l.fn.shares.items;
+      gathered : Gathered totals (g.N.BookName.book.workers + 1) entries (back l.fn.till done);
+      numbers : AreBack entries (0 ∷ map (λ s. s.number) done);
+    }

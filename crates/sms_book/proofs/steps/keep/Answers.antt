@@ -1,37 +1,27 @@
-use Rattle.std.proofs.Common.{[], ◌∷◌, sym, ◌∙◌, ap, rules}
-use Rattle.sms_book.specs.declared.rule.View.{View}
-use Rattle.sms_book.specs.Rule.{lent, kept_by_book}
-use Rattle.sms_book.proofs.Moves.{joins_as, keeps_told_as, same_view}
+use Rattle.std.proofs.Common.{[], ◌∷◌, ◌∙◌, ap, rules}
+use Rattle.sms_book.specs.Rule.{kept_by_book}
+use Rattle.sms_book.proofs.Moves.{keeps_told_as}
 use Rattle.sms_book.proofs.steps.keep.Goals as goal
-
-pub join_seat-requires : goal.join_seat-requires
-join_seat-requires c =
-    let b = c.requires.book in
-    let s = c.requires.holder in
-    let keeper = c.into_seat-keeper.ensures in
-    let theirs = c.into_seat-theirs.ensures in
-    let was = ap (λ (x : _). x.views) c.replace.ensures.value in
-    let was' = ap (λ (x : _). x.views) c.replace-2.ensures.value in
-    (search rules, search rules, theirs.3, c.requires.table.2, joins_as _ _ _ _ s.0 b.0 b.1 s.1 _ _ (same_view _ _ _ (sym was ∙ keeper.2) b.2) (same_view _ _ _ (sym was' ∙ theirs.2) s.2))
 
 pub load-requires : goal.load-requires
 load-requires c =
     let b = c.requires.book in
     let s = c.requires.holder in
-    let keeper = c.into_seat-keeper.ensures in
-    let theirs = c.into_seat-theirs.ensures in
-    let was = ap (λ (x : _). x.views) c.replace.ensures.value in
-    let was' = ap (λ (x : _). x.views) c.replace-2.ensures.value in
-    let v = same_view _ _ _ (sym was ∙ keeper.2) b.2 in
-    let w = same_view _ _ _ (sym was' ∙ theirs.2) s.2 in
-    (search rules, c.requires.table.2, keeps_told_as _ _ _ _ 0 _ b.0 b.1 s.0 s.1 (ap (λ m. m.0) c.join_seat.ensures.2 ∙ (λ i. lent (v i) (w i))) (ap (λ m. m.1) c.join_seat.ensures.2 ∙ keeper.3))
+    let me = c.take_in-keeper.ensures.seat b.0 b.1 s.0 s.1 b.2 s.2 in
+    (search rules, c.requires.table.2, keeps_told_as _ _ _ _ 0 _ b.0 b.1 s.0 s.1 (ap (λ m. m.0) me) (ap (λ m. m.1) me))
 
-pub returns-clause-views : goal.returns-clause-views
-returns-clause-views c es ts k ps is there =
-    let was = ap (λ (x : _). x.views) c.replace.ensures.value in
-    let was' = ap (λ (x : _). x.views) c.replace-2.ensures.value in
-    let v = same_view _ _ _ (sym was ∙ c.into_seat-keeper.ensures.2) is in
-    let w = same_view _ _ _ (sym was' ∙ c.into_seat-theirs.ensures.2) there in
-    let taken = ap (λ m. m.0) c.join_seat.ensures.2 ∙ (λ i. lent (v i) (w i)) in
-    let known = c.load.ensures.2.1 es ts k ps taken in
-    (c.into_badge.ensures.2 ∙ ap (λ (m : _). m.0 ∷ []) c.load.ensures.2.0 ∙ ap (λ (x : View). kept_by_book x ∷ []) taken, known.0, known.1)
+pub returns-clause-book : goal.returns-clause-book
+returns-clause-book c es ts k ps is there =
+    let me = c.take_in-keeper.ensures.seat es ts k ps is there in
+    c.into_badge.ensures.2 ∙ ap (λ (m : _). m.0 ∷ []) c.load.ensures.2.0 ∙ ap (λ (m : _). kept_by_book m.0 ∷ []) me
+
+pub returns-clause-entry : goal.returns-clause-entry
+returns-clause-entry c es ts k ps is there =
+    let me = c.take_in-keeper.ensures.seat es ts k ps is there in
+    (c.load.ensures.2.1 es ts k ps (ap (λ m. m.0) me)).0
+
+pub returns-clause-sums : goal.returns-clause-sums
+returns-clause-sums c es ts is =
+    let s = c.requires.holder in
+    let me = c.take_in-keeper.ensures.seat es ts s.0 s.1 is s.2 in
+    (c.load.ensures.2.1 es ts s.0 s.1 (ap (λ m. m.0) me)).1

@@ -9,60 +9,65 @@ use Rattle.sms_book.proofs.Moves.{set_back}
 use Rattle.sms_book.proofs.Turns.{seen_row, still}
 use Rattle.sms_book.proofs.book.Book.seen.Goals as goal
 
-pub part_worker-requires-clause-book : goal.part_worker-requires-clause-book
-part_worker-requires-clause-book g c =
+pub part-requires-clause-book : goal.part-requires-clause-book
+part-requires-clause-book g c =
     let i = c.self.invariant in
     let s = c.share.invariant in
     let ts = map of_row c.self.inside.rows.items in
-    let m = c.meet.ensures.views i.6.0 ts s.2.0 (map of_worker c.share.inside.amounts.items) i.6.1 s.2.1 in
     let a = map of_worker c.share.inside.amounts.items in
-    (i.6.0, ts, s.2.0, a, m.0, rw (c.as_slice.ensures.value, c.as_slice-2.ensures.value) (still a ts))
+    let lent = c.meet.ensures.book i.entries _ s.number _ i.view s.view in
+    (i.entries, ts, s.number, a, lent, rw (c.as_slice.ensures.value, c.as_slice-2.ensures.value) (still a ts))
 
 pub invariant_of-self : goal.invariant_of-self
 invariant_of-self g c =
     let i = c.self.invariant in
     let s = c.share.invariant in
-    let ts = map of_row c.self.inside.rows.items in
-    let a = map of_worker c.share.inside.amounts.items in
-    let m = c.meet.ensures.views i.6.0 ts s.2.0 a i.6.1 s.2.1 in
-    let p = c.part_worker.ensures.views i.6.0 ts s.2.0 a m.0 in
-    let same : slice_set i.6.0 s.2.0 (away (map of_worker c.as_slice-2.result.now)) ≡ i.6.0 = ap (λ (x : List Amounts). slice_set i.6.0 s.2.0 (away (map of_worker x))) c.as_slice-2.ensures.value ∙ set_back i.6.0 s.2.0 (away a) m.1 in
-    let rows : map of_row c.as_slice.result.now ≡ ts = ap (map of_row) c.as_slice.ensures.value in (
-      i.0,
-      i.1,
-      c.part_worker.ensures.table.0 ∙ c.meet.ensures.table ∙ i.2,
-      i.3,
-      i.4,
-      i.5,
-      (i.6.0, p.0 ∙ (λ j. Book (same j) (rows j) ∷ []), i.6.2, i.6.3),
-    )
+    let lent = c.meet.ensures.book i.entries _ s.number _ i.view s.view in
+    let entry = c.meet.ensures.entry i.entries _ s.number _ i.view s.view in
+    let book = c.part.ensures.book i.entries _ s.number _ lent in
+    let same : slice_set i.entries s.number (away (map of_worker c.as_slice-2.result.now)) ≡ i.entries =
+    ap (λ (x : List Amounts). slice_set i.entries s.number (away (map of_worker x))) c.as_slice-2.ensures.value ∙ set_back i.entries s.number (away (map of_worker c.share.inside.amounts.items)) entry in
+    let rows : map of_row c.as_slice.result.now ≡ map of_row c.self.inside.rows.items = ap (map of_row) c.as_slice.ensures.value in
+    record {
+      table_is = i.table_is;
+      word = i.word;
+      seat_is = c.part.ensures.table.0 ∙ c.meet.ensures.table ∙ i.seat_is;
+      accounts = i.accounts;
+      workers_are = i.workers_are;
+      sound = i.sound;
+      entries = i.entries;
+      view = book ∙ (λ j. Book (same j) (rows j) ∷ []);
+      away = i.away;
+      long = i.long;
+    }
 
 pub invariant_of-share : goal.invariant_of-share
 invariant_of-share g c =
     let i = c.self.invariant in
     let s = c.share.invariant in
-    let ts = map of_row c.self.inside.rows.items in
-    let a = map of_worker c.share.inside.amounts.items in
-    let m = c.meet.ensures.views i.6.0 ts s.2.0 a i.6.1 s.2.1 in
-    let p = c.part_worker.ensures.views i.6.0 ts s.2.0 a m.0 in
-    (c.part_worker.ensures.table.1 ∙ c.meet.ensures.table ∙ i.2, s.1, (s.2.0, rw (← c.as_slice-2.ensures.value) p.1))
+    let lent = c.meet.ensures.book i.entries _ s.number _ i.view s.view in
+    let given = c.part.ensures.holder i.entries _ s.number _ lent in
+    record {
+      seat_is = c.part.ensures.table.1 ∙ c.meet.ensures.table ∙ i.seat_is;
+      accounts = s.accounts;
+      number = s.number;
+      view = rw (← c.as_slice-2.ensures.value) given;
+    }
 
 pub returns-clause-least : goal.returns-clause-least
 returns-clause-least g c =
     let i = c.self.invariant in
     let s = c.share.invariant in
-    let ts = map of_row c.self.inside.rows.items in
-    let a = c.share.inside.amounts.items in
-    let m = c.meet.ensures.views i.6.0 ts s.2.0 (map of_worker a) i.6.1 s.2.1 in
-    subst (λ (t : Share). let a = amounts_at t.amounts c.args.account in (a.reserved ≤ c.index.result.now.reserved) × (a.charged ≤ c.index.result.now.charged) × (a.returned ≤ c.index.result.now.returned)) c.share.view_is (seen_row c.self.inside.rows.items c.args.account i.6.0 s.2.0 a c.index.result.now (rw c.self.view_is c.requires) (s.1 ∙ sym i.3) m.1 m.2 c.index.ensures)
+    let entry = c.meet.ensures.entry i.entries _ s.number _ i.view s.view in
+    let sums = c.meet.ensures.sums i.entries _ i.view in
+    subst (λ (t : Share). let a = amounts_at t.amounts c.args.account in (a.reserved ≤ c.index.result.now.reserved) × (a.charged ≤ c.index.result.now.charged) × (a.returned ≤ c.index.result.now.returned)) c.share.view_is
+    (seen_row i s c.args.account c.index.result.now entry sums (rw c.self.view_is c.requires) c.index.ensures)
 
 pub returns-clause-same : goal.returns-clause-same
 returns-clause-same g c =
     let i = c.self.invariant in
     let s = c.share.invariant in
-    let ts = map of_row c.self.inside.rows.items in
-    let a = c.share.inside.amounts.items in
-    let m = c.meet.ensures.views i.6.0 ts s.2.0 (map of_worker a) i.6.1 s.2.1 in
-    let p = c.part_worker.ensures.views i.6.0 ts s.2.0 (map of_worker a) m.0 in
-    let number : number_of c.part_worker.result.views ≡ number_of c.share.inside.seat.views = ap number_of p.1 ∙ sym (ap number_of s.2.1) in
-    (c.self.view_is, ap (λ (n : ℕ). record { number = n; amounts = a }) number ∙ c.share.view_is)
+    let lent = c.meet.ensures.book i.entries _ s.number _ i.view s.view in
+    let given = c.part.ensures.holder i.entries _ s.number _ lent in
+    let number : number_of c.part.result.views ≡ number_of c.share.inside.seat.views = ap number_of given ∙ sym (ap number_of s.view) in
+    (c.self.view_is, ap (λ (n : ℕ). record { number = n; amounts = c.share.inside.amounts.items }) number ∙ c.share.view_is)

@@ -21,70 +21,78 @@ pub row_after-requires : goal.row_after-requires
 row_after-requires g c =
     let i = c.self.invariant in
     let s = c.share.invariant in
-    let ts = map of_row c.self.inside.rows.items in
-    let m = c.meet.ensures.views i.6.0 ts s.2.0 (map of_worker c.share.inside.amounts.items) i.6.1 s.2.1 in
-    let t = settled c.self.inside.rows.items c.args.account i.6.0 s.2.0 c.share.inside.amounts.items c.index-row.result.now c.index-had.result.now c.args.what c.args.n (rw c.self.view_is c.requires.there) (s.1 ∙ sym i.3) m.1 m.2 i.5 c.index-row.ensures c.index-had.ensures (rw c.self.view_is c.requires.row) (held c.args.what c.args.account c.args.n _ _ c.share.view_is c.requires.share) in
-    t.0
+    let entry = c.meet.ensures.entry i.entries _ s.number _ i.view s.view in
+    let sums = c.meet.ensures.sums i.entries _ i.view in
+    let holds = held c.args.what c.args.account c.args.n _ _ c.share.view_is c.requires.share in
+    (settled i s c.args.account c.args.what c.args.n c.index-row.result.now c.index-had.result.now entry sums (rw c.self.view_is c.requires.there) c.index-row.ensures c.index-had.ensures (rw c.self.view_is c.requires.row) holds).can
 
 pub amounts_after-requires : goal.amounts_after-requires
 amounts_after-requires g c =
     let i = c.self.invariant in
     let s = c.share.invariant in
-    let ts = map of_row c.self.inside.rows.items in
-    let m = c.meet.ensures.views i.6.0 ts s.2.0 (map of_worker c.share.inside.amounts.items) i.6.1 s.2.1 in
-    let t = settled c.self.inside.rows.items c.args.account i.6.0 s.2.0 c.share.inside.amounts.items c.index-row.result.now c.index-had.result.now c.args.what c.args.n (rw c.self.view_is c.requires.there) (s.1 ∙ sym i.3) m.1 m.2 i.5 c.index-row.ensures c.index-had.ensures (rw c.self.view_is c.requires.row) (held c.args.what c.args.account c.args.n _ _ c.share.view_is c.requires.share) in
-    t.1
+    let entry = c.meet.ensures.entry i.entries _ s.number _ i.view s.view in
+    let sums = c.meet.ensures.sums i.entries _ i.view in
+    let holds = held c.args.what c.args.account c.args.n _ _ c.share.view_is c.requires.share in
+    (settled i s c.args.account c.args.what c.args.n c.index-row.result.now c.index-had.result.now entry sums (rw c.self.view_is c.requires.there) c.index-row.ensures c.index-had.ensures (rw c.self.view_is c.requires.row) holds).fits
 
-pub part_worker-requires-clause-book : goal.part_worker-requires-clause-book
-part_worker-requires-clause-book g c =
+pub part-requires-clause-book : goal.part-requires-clause-book
+part-requires-clause-book g c =
     let i = c.self.invariant in
     let s = c.share.invariant in
-    let ts = map of_row c.self.inside.rows.items in
-    let a = c.share.inside.amounts.items in
-    let m = c.meet.ensures.views i.6.0 ts s.2.0 (map of_worker a) i.6.1 s.2.1 in
-    let t = settled c.self.inside.rows.items c.args.account i.6.0 s.2.0 a c.index-row.result.now c.index-had.result.now c.args.what c.args.n (rw c.self.view_is c.requires.there) (s.1 ∙ sym i.3) m.1 m.2 i.5 c.index-row.ensures c.index-had.ensures (rw c.self.view_is c.requires.row) (held c.args.what c.args.account c.args.n _ _ c.share.view_is c.requires.share) in
-    (i.6.0, ts, s.2.0, map of_worker a, m.0, rw (c.as_slice.ensures.value, c.as_slice-2.ensures.value, c.row_after.ensures, c.amounts_after.ensures) t.3)
+    let lent = c.meet.ensures.book i.entries _ s.number _ i.view s.view in
+    let entry = c.meet.ensures.entry i.entries _ s.number _ i.view s.view in
+    let sums = c.meet.ensures.sums i.entries _ i.view in
+    let holds = held c.args.what c.args.account c.args.n _ _ c.share.view_is c.requires.share in
+    let t = settled i s c.args.account c.args.what c.args.n c.index-row.result.now c.index-had.result.now entry sums (rw c.self.view_is c.requires.there) c.index-row.ensures c.index-had.ensures (rw c.self.view_is c.requires.row) holds in
+    (i.entries, map of_row c.self.inside.rows.items, s.number, map of_worker c.share.inside.amounts.items, lent, rw (c.as_slice.ensures.value, c.as_slice-2.ensures.value, c.row_after.ensures, c.amounts_after.ensures) t.moves)
 
 pub invariant_of-self : goal.invariant_of-self
 invariant_of-self g c =
     let i = c.self.invariant in
     let s = c.share.invariant in
-    let ts = map of_row c.self.inside.rows.items in
-    let a = c.share.inside.amounts.items in
-    let m = c.meet.ensures.views i.6.0 ts s.2.0 (map of_worker a) i.6.1 s.2.1 in
-    let t = settled c.self.inside.rows.items c.args.account i.6.0 s.2.0 a c.index-row.result.now c.index-had.result.now c.args.what c.args.n (rw c.self.view_is c.requires.there) (s.1 ∙ sym i.3) m.1 m.2 i.5 c.index-row.ensures c.index-had.ensures (rw c.self.view_is c.requires.row) (held c.args.what c.args.account c.args.n _ _ c.share.view_is c.requires.share) in
-    let p = c.part_worker.ensures.views i.6.0 ts s.2.0 (map of_worker a) m.0 in
+    let lent = c.meet.ensures.book i.entries _ s.number _ i.view s.view in
+    let entry = c.meet.ensures.entry i.entries _ s.number _ i.view s.view in
+    let sums = c.meet.ensures.sums i.entries _ i.view in
+    let holds = held c.args.what c.args.account c.args.n _ _ c.share.view_is c.requires.share in
+    let t = settled i s c.args.account c.args.what c.args.n c.index-row.result.now c.index-had.result.now entry sums (rw c.self.view_is c.requires.there) c.index-row.ensures c.index-had.ensures (rw c.self.view_is c.requires.row) holds in
+    let book = c.part.ensures.book i.entries _ s.number _ lent in
     let new = map of_worker c.as_slice-2.result.now in
-    let es = slice_set i.6.0 s.2.0 (away new) in (
-      i.0,
-      i.1,
-      c.part_worker.ensures.table.0 ∙ c.meet.ensures.table ∙ i.2,
-      length-set c.self.inside.rows.items c.args.account c.row_after.result ∙ i.3,
-      i.4,
-      rw c.row_after.ensures t.2,
-      (es, p.0 ∙ ap (λ (rows : List Row). Book es (map of_row rows) ∷ []) c.as_slice.ensures.value, AllAway-set i.6.0 s.2.0 new i.6.2, length-set i.6.0 s.2.0 (away new) ∙ i.6.3),
-    )
+    let es = slice_set i.entries s.number (away new) in
+    record {
+      table_is = i.table_is;
+      word = i.word;
+      seat_is = c.part.ensures.table.0 ∙ c.meet.ensures.table ∙ i.seat_is;
+      accounts = length-set c.self.inside.rows.items c.args.account c.row_after.result ∙ i.accounts;
+      workers_are = i.workers_are;
+      sound = rw c.row_after.ensures t.sound;
+      entries = es;
+      view = book ∙ ap (λ (rows : List Row). Book es (map of_row rows) ∷ []) c.as_slice.ensures.value;
+      away = AllAway-set i.entries s.number new i.away;
+      long = length-set i.entries s.number (away new) ∙ i.long;
+    }
 
 pub invariant_of-share : goal.invariant_of-share
 invariant_of-share g c =
     let i = c.self.invariant in
     let s = c.share.invariant in
-    let ts = map of_row c.self.inside.rows.items in
-    let a = c.share.inside.amounts.items in
-    let m = c.meet.ensures.views i.6.0 ts s.2.0 (map of_worker a) i.6.1 s.2.1 in
-    let p = c.part_worker.ensures.views i.6.0 ts s.2.0 (map of_worker a) m.0 in
-    (c.part_worker.ensures.table.1 ∙ c.meet.ensures.table ∙ i.2, length-set a c.args.account c.amounts_after.result ∙ s.1, (s.2.0, rw (← c.as_slice-2.ensures.value) p.1))
+    let lent = c.meet.ensures.book i.entries _ s.number _ i.view s.view in
+    let given = c.part.ensures.holder i.entries _ s.number _ lent in
+    record {
+      seat_is = c.part.ensures.table.1 ∙ c.meet.ensures.table ∙ i.seat_is;
+      accounts = length-set c.share.inside.amounts.items c.args.account c.amounts_after.result ∙ s.accounts;
+      number = s.number;
+      view = rw (← c.as_slice-2.ensures.value) given;
+    }
 
 pub returns-clause-share : goal.returns-clause-share
 returns-clause-share g c =
     let i = c.self.invariant in
     let s = c.share.invariant in
-    let ts = map of_row c.self.inside.rows.items in
     let a = c.share.inside.amounts.items in
-    let m = c.meet.ensures.views i.6.0 ts s.2.0 (map of_worker a) i.6.1 s.2.1 in
-    let p = c.part_worker.ensures.views i.6.0 ts s.2.0 (map of_worker a) m.0 in
-    let number : number_of c.part_worker.result.views ≡ number_of c.share.inside.seat.views = ap number_of p.1 ∙ sym (ap number_of s.2.1) in
-    let within : c.args.account < length a = let r : c.args.account < length c.self.inside.rows.items = rw c.self.view_is c.requires.there in let w = s.1 ∙ sym i.3 in omega arith in
+    let lent = c.meet.ensures.book i.entries _ s.number _ i.view s.view in
+    let given = c.part.ensures.holder i.entries _ s.number _ lent in
+    let number : number_of c.part.result.views ≡ number_of c.share.inside.seat.views = ap number_of given ∙ sym (ap number_of s.view) in
+    let within : c.args.account < length a = let r : c.args.account < length c.self.inside.rows.items = rw c.self.view_is c.requires.there in let w = s.accounts ∙ sym i.accounts in omega arith in
     let had : c.index-had.result.now ≡ amounts_at a c.args.account = get_or_read a c.args.account c.index-had.result.now within c.index-had.ensures no_amounts in
     let new = c.amounts_after.ensures ∙ ap (moved_amounts c.args.what c.args.n) had in
     (λ j. record { number = number j; amounts = slice_set a c.args.account (new j) }) ∙ ap (λ (t : Share). changed t c.args.account (moved_amounts c.args.what c.args.n)) c.share.view_is

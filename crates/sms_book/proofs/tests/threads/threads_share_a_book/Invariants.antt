@@ -1,4 +1,4 @@
-use Rattle.sms_book.proofs.tests.threads_share_a_book.Given as goal
+use Rattle.sms_book.proofs.tests.threads.threads_share_a_book.Given as goal
 
 abbrev pub ghosts-many : goal.ghosts-many
 ghosts-many g a = record { book = a.blank.book }
