@@ -1,0 +1,81 @@
+use Rattle.std.proofs.Common.{◌≡◌, ◌+◌, ◌-◌, ◌<◌, ◌++◌, ◌∷◌, [], List, ℕ, length, take, sym, ap, ◌∙◌, subst, rules, arith}
+use Rattle.std.proofs.KnownBytes.{Consumes-trans}
+use Rattle.std.proofs.lemmas.List.{nil_from_length}
+use Rattle.sms_pdu.specs.declared.frame.Frame.{Frame}
+use Rattle.sms_pdu.specs.Frame.{octets_of, Division, IsBad}
+use Rattle.sms_pdu.proofs.Divisions.{pieces_join}
+use Rattle.sms_pdu.proofs.Streams.{short_rest}
+use Rattle.sms_bind.proofs.Binds.{shorter_to_go, first_of_frames}
+use Rattle.sms_bind.proofs.binding.read_first.Goals as goal
+
+pub returns-in_default-clause-answer : goal.returns-in_default-clause-answer
+returns-in_default-clause-answer g c =
+    let r = g.R.Read.remaining c.args.reader.now.inner in
+    let t = g.R.Read.remaining c.loop-empty.reader.inner in
+    let u = g.R.Read.remaining c.read.new.self.inner in
+    let i = c.loop-empty.invariant.read in
+    let p = take c.in-Ok.n c.read.new.buf in
+    (i.0 ++ p, Consumes-trans r t u i.0 p i.1 c.in-Ok.ensures.bytes.0, tt, tt)
+
+pub returns-then-not-is_empty-clause-answer : goal.returns-then-not-is_empty-clause-answer
+returns-then-not-is_empty-clause-answer g c =
+    let r = g.R.Read.remaining c.args.reader.now.inner in
+    let t = g.R.Read.remaining c.loop-empty.reader.inner in
+    let u = g.R.Read.remaining c.read.new.self.inner in
+    let i = c.loop-empty.invariant.read in
+    let p = take c.in-Ok.n c.read.new.buf in
+    let items = c.into_vec-frames.result.items in
+    let first = c.remove-first.result in
+    let d = pieces_join i.0 p [] (octets_of c.in-Ok-feed.fed.frames) c.loop-empty.framer c.feed.new.self i.2 (c.in-Ok-feed.ensures.divided c.loop-empty.invariant.good) in
+    let low : 0 < length items = search rules in
+    let cut : octets_of c.in-Ok-feed.fed.frames ≡ first.octets ∷ octets_of c.new.result =
+    ap octets_of (sym c.into_vec-frames.ensures) ∙ first_of_frames items first low c.remove-first.ensures.value ∙ ap (λ (l : List Frame). first.octets ∷ octets_of l) (sym (c.new.ensures ∙ c.remove-first.ensures.items)) in
+    (i.0 ++ p, Consumes-trans r t u i.0 p i.1 c.in-Ok.ensures.bytes.0, subst (λ (l : List (List ℕ)). Division (i.0 ++ p) l c.feed.new.self) cut d, tt)
+
+pub returns-then-is_some-clause-answer : goal.returns-then-is_some-clause-answer
+returns-then-is_some-clause-answer g c =
+    let r = g.R.Read.remaining c.args.reader.now.inner in
+    let t = g.R.Read.remaining c.loop-empty.reader.inner in
+    let u = g.R.Read.remaining c.read.new.self.inner in
+    let i = c.loop-empty.invariant.read in
+    let p = take c.in-Ok.n c.read.new.buf in
+    let items = c.into_vec-frames.result.items in
+    let d = pieces_join i.0 p [] (octets_of c.in-Ok-feed.fed.frames) c.loop-empty.framer c.feed.new.self i.2 (c.in-Ok-feed.ensures.divided c.loop-empty.invariant.good) in
+    let zero : length items ≡ 0 = search rules in
+    let none : octets_of c.in-Ok-feed.fed.frames ≡ [] = ap octets_of (sym c.into_vec-frames.ensures ∙ nil_from_length items zero) in
+    let bad : IsBad c.feed.new.self = search rules in
+    (i.0 ++ p, Consumes-trans r t u i.0 p i.1 c.in-Ok.ensures.bytes.0, tt, (c.feed.new.self, subst (λ (l : List (List ℕ)). Division (i.0 ++ p) l c.feed.new.self) none d, bad))
+
+pub loop-empty-smaller-in-Ok : goal.loop-empty-smaller-in-Ok
+loop-empty-smaller-in-Ok g c =
+    let p = take c.in-Ok.n c.read.new.buf in
+    let items = c.into_vec-frames.result.items in
+    let zero : length items ≡ 0 = search rules in
+    let none : octets_of c.in-Ok-feed.fed.frames ≡ [] = ap octets_of (sym c.into_vec-frames.ensures ∙ nil_from_length items zero) in
+    let d = subst (λ (l : List (List ℕ)). Division (c.loop-empty.framer ++ p) l c.feed.new.self) none (c.in-Ok-feed.ensures.divided c.loop-empty.invariant.good) in
+    let good : IsBad c.feed.new.self → ⊥ = search rules in
+    let long : length p ≡ c.in-Ok.n = sym c.in-Ok.ensures.bound.1 in
+    let some : 0 < c.in-Ok.n = search rules in
+    let h : (70000 - length c.feed.new.self) + (600 - c.loop-empty.empty) < (70000 - length c.loop-empty.framer) + (600 - c.loop-empty.empty) =
+    shorter_to_go c.loop-empty.framer p c.feed.new.self c.loop-empty.empty (sym d.whole) (omega (arith, long, some)) (short_rest c.feed.new.self d.ended good) in
+    h
+
+pub loop-empty-preserved-in-Ok : goal.loop-empty-preserved-in-Ok
+loop-empty-preserved-in-Ok g c =
+    let r = g.R.Read.remaining c.args.reader.now.inner in
+    let t = g.R.Read.remaining c.loop-empty.reader.inner in
+    let u = g.R.Read.remaining c.read.new.self.inner in
+    let i = c.loop-empty.invariant.read in
+    let p = take c.in-Ok.n c.read.new.buf in
+    let items = c.into_vec-frames.result.items in
+    let d = pieces_join i.0 p [] (octets_of c.in-Ok-feed.fed.frames) c.loop-empty.framer c.feed.new.self i.2 (c.in-Ok-feed.ensures.divided c.loop-empty.invariant.good) in
+    let zero : length items ≡ 0 = search rules in
+    let none : octets_of c.in-Ok-feed.fed.frames ≡ [] = ap octets_of (sym c.into_vec-frames.ensures ∙ nil_from_length items zero) in
+    record {
+      read = (i.0 ++ p, Consumes-trans r t u i.0 p i.1 c.in-Ok.ensures.bytes.0, subst (λ (l : List (List ℕ)). Division (i.0 ++ p) l c.feed.new.self) none d);
+      good = search rules;
+      faults = (let h = c.loop-empty.invariant.faults in let k = c.read.ensures.grows in omega (arith, h, k));
+      counted = search rules;
+      few = c.loop-empty.invariant.few;
+      piece = search rules;
+    }

@@ -1,0 +1,4 @@
+pub mod Faults
+pub mod Binds
+pub mod Answers
+pub mod Devices

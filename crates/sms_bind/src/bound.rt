@@ -1,0 +1,23 @@
+//! What a bind begins with.
+
+ghost use Rattle.std.specs.Prelude.{◌<◌, ◌^◌, length};
+ghost use Rattle.std.specs.List.{AllByRecursion, AllByRecursion-prop};
+ghost use Rattle.std.proofs.Props.{props};
+ghost use Rattle.sms_pdu.specs.Frame.{IsFrame, octets_of};
+ghost use Rattle.sms_session.specs.Session.{IsBound};
+
+use sms_pdu::{Framer, Frames};
+use sms_session::Session;
+
+/// A session that was bound, and what was read beyond the bind's answer.
+#[derive(Drop)]
+pub struct Bound {
+    pub session: Session,
+    /// What was read after the frames.
+    pub framer: Framer,
+    /// The whole frames that were read after the answer.
+    pub frames: Frames,
+    ghost bound: { IsBound session },
+    ghost each: { AllByRecursion IsFrame (octets_of frames) } by { AllByRecursion-prop IsFrame (λ f. Prim.hlevel props) (octets_of frames) },
+    ghost few: { length frames < 2 ^ 63 },
+}

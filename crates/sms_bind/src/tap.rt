@@ -1,0 +1,132 @@
+//! Readers and writers whose errors are counted.
+
+ghost use Rattle.std.specs.Prelude.{◌≡◌, ℕ, ◌+◌, ◌<◌, ◌≤◌, List, length, take, Some, None, MatchResult, IfOk, OnOk, OnErr, IfSome};
+ghost use Rattle.std.specs.Io.{ReadsAtMost, WritesAtMost};
+ghost use Rattle.std.specs.Io.KnownBytes.{Appends, Keeps, ReadConsumes, WriteAppends};
+ghost use Rattle.sms_bind.specs.Devices.{device, faults_of};
+ghost use Rattle.sms_bind.specs.Faults.{Counts, IsCounted};
+ghost use Rattle.sms_pdu.specs.Streams.{SomeAppended};
+
+use sms_pdu::write_octets;
+use std::io;
+use std::io::{Error, ErrorKind, Read, Write};
+
+/// A reader or a writer with the number of errors that it answered, which stays at its greatest value.
+#[derive(Drop)]
+pub struct Tap<T> {
+    inner: T,
+    faults: u64,
+}
+
+impl<T> Tap<T> {
+    /// A device that has answered no error.
+    pub fn new(inner: T) -> Tap<T>
+        ensures inner { device result ≡ inner }
+        ensures faults { faults_of result ≡ 0 }
+    {
+        Tap { inner, faults: 0 }
+    }
+
+    /// How many errors it answered.
+    pub fn faults(&self) -> u64
+        ensures { result ≡ faults_of self.now }
+    {
+        self.faults
+    }
+
+    /// The device again, and its count is forgotten.
+    pub fn into_inner(self) -> T
+        ensures { result ≡ device self }
+    {
+        self.inner
+    }
+
+    /// Counts one error more.
+    fn count(&mut self)
+        ensures inner { device self.new ≡ device self.old }
+        ensures faults { Counts (faults_of self.old) (faults_of self.new) }
+        ensures counted { IsCounted (faults_of self.old) (faults_of self.new) }
+        ensures grows { faults_of self.old ≤ faults_of self.new }
+    {
+        self.faults = self.faults.saturating_add(1);
+    }
+}
+
+impl<R: Read> Read for Tap<R> {
+    ghost remaining = { λ t. R.remaining (device t) };
+
+    fn read(&mut self, buf: &mut [u8]) -> io::Result<usize>
+        ensures bound { ReadsAtMost result buf.new }
+        ensures bytes { ReadConsumes (R.remaining (device self.old)) (R.remaining (device self.new)) result buf.new }
+        ensures faults { MatchResult result (λ _. faults_of self.new ≡ faults_of self.old) (λ _. Counts (faults_of self.old) (faults_of self.new)) }
+        ensures counted { OnErr result (IsCounted (faults_of self.old) (faults_of self.new)) }
+        ensures grows { faults_of self.old ≤ faults_of self.new }
+    {
+        let result = self.inner.read(buf);
+        if result.is_err() {
+            self.count();
+        }
+        result
+    }
+}
+
+impl<W: Write> Write for Tap<W> {
+    ghost contents = { λ t. W.contents (device t) };
+
+    fn write(&mut self, buf: &[u8]) -> io::Result<usize>
+        ensures bound { WritesAtMost result buf.now }
+        ensures bytes { WriteAppends (W.contents (device self.old)) (W.contents (device self.new)) result buf.now }
+        ensures some { IfOk result (λ n. 0 < length buf.now → 0 < n) }
+        ensures faults { MatchResult result (λ _. faults_of self.new ≡ faults_of self.old) (λ _. Counts (faults_of self.old) (faults_of self.new)) }
+        ensures counted { OnErr result (IsCounted (faults_of self.old) (faults_of self.new)) }
+    {
+        match self.inner.write(buf) {
+            Ok(0) if !buf.is_empty() => {
+                self.count();
+                Err(Error::from(ErrorKind::WriteZero))
+            }
+            Ok(n) => Ok(n),
+            Err(e) => {
+                self.count();
+                Err(e)
+            }
+        }
+    }
+
+    fn flush(&mut self) -> io::Result<()>
+        ensures bytes { Keeps (W.contents (device self.old)) (W.contents (device self.new)) }
+        ensures faults { MatchResult result (λ _. faults_of self.new ≡ faults_of self.old) (λ _. Counts (faults_of self.old) (faults_of self.new)) }
+    {
+        let result = self.inner.flush();
+        if result.is_err() {
+            self.count();
+        }
+        result
+    }
+}
+
+impl<W: Write> Tap<W> {
+    /// Writes all bytes, in as many writes as it takes, up to the first that fails.
+    pub(crate) fn put(&mut self, bytes: &[u8]) -> io::Result<()>
+        ensures all { OnOk result (Appends (W.contents (device self.old)) (W.contents (device self.new)) bytes.now) }
+        ensures some { OnErr result (SomeAppended (W.contents (device self.old)) (W.contents (device self.new)) bytes.now) }
+        ensures faults { MatchResult result (λ _. faults_of self.new ≡ faults_of self.old) (λ _. Counts (faults_of self.old) (faults_of self.new)) }
+        ensures counted { OnErr result (IsCounted (faults_of self.old) (faults_of self.new)) }
+    {
+        match write_octets(&mut self.inner, bytes) {
+            Ok(()) => Ok(()),
+            Err(e) => {
+                self.count();
+                Err(e)
+            }
+        }
+    }
+}
+
+/// Whether a read that failed so is one that gave nothing.
+pub(crate) fn gave_nothing(e: &Error) -> bool {
+    matches!(
+        e.kind(),
+        ErrorKind::WouldBlock | ErrorKind::TimedOut | ErrorKind::Interrupted
+    )
+}

@@ -1,0 +1,254 @@
+//! A wire, and a bind over devices in memory.
+use crate::{BindFault, Bound, Settings, Tap, Wire, WireFault, bind};
+use sms_pdu::{Field, Frame, Mode, Octets, PduError};
+use sms_session::State;
+use std::alloc::{AllocError, Global};
+use std::io;
+use std::io::{Error, ErrorKind, Read, Write};
+use std::process::Abort;
+use std::test::Fail;
+
+// bind_transmitter number 1 of `esme` with the password `pw` and no system_type.
+const BIND: &[u8; 29] =
+    b"\x00\x00\x00\x1d\x00\x00\x00\x02\x00\x00\x00\x00\x00\x00\x00\x01esme\x00pw\x00\x00\x34\x00\x00\x00";
+
+// Its response, from `TEST`, with the parameter sc_interface_version.
+const ACCEPTED: &[u8; 26] =
+    b"\x00\x00\x00\x1a\x80\x00\x00\x02\x00\x00\x00\x00\x00\x00\x00\x01TEST\x00\x02\x10\x00\x01\x34";
+
+const ENQUIRE_LINK: &[u8; 16] = b"\x00\x00\x00\x10\x00\x00\x00\x15\x00\x00\x00\x00\x00\x00\x00\x02";
+
+// Gives nothing so often, then octets, and then the end or an error.
+#[derive(Drop)]
+struct Source<'a> {
+    idle: u32,
+    octets: &'a [u8],
+    fails: bool,
+}
+
+impl Read for Source<'_> {
+    fn read(&mut self, buf: &mut [u8]) -> io::Result<usize> {
+        if self.idle > 0 {
+            self.idle -= 1;
+            return Err(Error::from(ErrorKind::WouldBlock));
+        }
+        if self.fails && self.octets.is_empty() {
+            return Err(Error::from(ErrorKind::Other));
+        }
+        self.octets.read(buf)
+    }
+}
+
+// Takes so many octets, and then none or fails.
+#[derive(Drop)]
+struct Sink {
+    room: usize,
+    octets: Vec<u8>,
+    fails: bool,
+}
+
+impl Write for Sink {
+    fn write(&mut self, buf: &[u8]) -> io::Result<usize> {
+        let taken = buf.len().min(self.room);
+        if taken == 0 && self.fails {
+            return Err(Error::from(ErrorKind::Other));
+        }
+        if self.octets.extend_from_slice(&buf[..taken]).is_err() {
+            return Err(Error::from(ErrorKind::OutOfMemory));
+        }
+        self.room -= taken;
+        Ok(taken)
+    }
+
+    fn flush(&mut self) -> io::Result<()> {
+        Ok(())
+    }
+}
+
+fn settings_of(
+    rt: &impl Abort,
+    alloc: Global,
+    mode: Mode,
+    name: &[u8],
+) -> Result<Settings, PduError> {
+    let (Ok(system_id), Ok(password)) = (Octets::copy(alloc, name), Octets::copy(alloc, b"pw"))
+    else {
+        panic!(rt; "no memory")
+    };
+    Settings::new(
+        alloc,
+        mode,
+        system_id,
+        password,
+        Octets::new(Vec::new(alloc)),
+    )
+}
+
+fn source_of(idle: u32, octets: &[u8], fails: bool) -> Tap<Source<'_>> {
+    Tap::new(Source {
+        idle,
+        octets,
+        fails,
+    })
+}
+
+// Binds as a transmitter over this input.
+fn bound_by(
+    rt: &impl Abort,
+    alloc: Global,
+    mut reader: Tap<Source<'_>>,
+) -> Result<Bound, BindFault> {
+    let Ok(settings) = settings_of(rt, alloc, Mode::Transmitter, b"esme") else {
+        panic!(rt; "no settings")
+    };
+    let mut wire = Wire::new(Tap::new(Vec::<u8>::new(alloc)));
+    bind(alloc, &mut reader, &mut wire, &settings, 1)
+}
+
+fn frame(alloc: Global, octets: &[u8]) -> Result<Frame, AllocError> {
+    Ok(Frame {
+        octets: Octets::copy(alloc, octets)?,
+    })
+}
+
+#[test]
+fn refuses_settings(rt: HostRuntime) {
+    let long = settings_of(&rt, rt.alloc(), Mode::Transmitter, b"sixteen letters!");
+    assert_eq!(rt;
+        long.err(),
+        Some(PduError::TooLong {
+            field: Field::SystemId
+        })
+    );
+    let cut = settings_of(&rt, rt.alloc(), Mode::Transceiver, b"es\x00me");
+    assert_eq!(rt;
+        cut.err(),
+        Some(PduError::Malformed {
+            field: Field::SystemId
+        })
+    );
+}
+
+#[test]
+fn a_broken_wire_writes_nothing_more(rt: HostRuntime) -> Result<(), Fail> {
+    for fails in [false, true] {
+        let sink = Sink {
+            room: 10,
+            octets: Vec::new(rt.alloc()),
+            fails,
+        };
+        let mut wire = Wire::new(Tap::new(sink));
+        assert!(rt; !wire.broken());
+        let Err(WireFault::Write(_receipt)) = wire.send(frame(rt.alloc(), ENQUIRE_LINK)?) else {
+            panic!(rt; "no write fault")
+        };
+        assert!(rt; wire.broken());
+        let Err(WireFault::Broken) = wire.send(frame(rt.alloc(), ENQUIRE_LINK)?) else {
+            panic!(rt; "not broken")
+        };
+        let tap = wire.into_tap();
+        assert_eq!(rt; tap.faults(), 1);
+        let sink = tap.into_inner();
+        assert_eq!(rt; sink.octets.as_slice(), &ENQUIRE_LINK[..10]);
+    }
+    Ok(())
+}
+
+#[test]
+fn a_write_that_takes_nothing_is_counted(rt: HostRuntime) {
+    let mut tap = Tap::new(Sink {
+        room: 0,
+        octets: Vec::new(rt.alloc()),
+        fails: false,
+    });
+    assert_eq!(rt; tap.faults(), 0);
+    assert!(rt; tap.write(&[]).is_ok());
+    assert_eq!(rt; tap.faults(), 0);
+    assert!(rt; tap.write(&[1]).is_err());
+    assert_eq!(rt; tap.faults(), 1);
+    assert!(rt; tap.flush().is_ok());
+}
+
+#[test]
+fn a_bind_and_its_answer(rt: HostRuntime) -> Result<(), Fail> {
+    let alloc = rt.alloc();
+    let Ok(settings) = settings_of(&rt, alloc, Mode::Transmitter, b"esme") else {
+        panic!(rt; "no settings")
+    };
+    let mut stream = Vec::from_slice(alloc, ACCEPTED)?;
+    stream.extend_from_slice(ENQUIRE_LINK)?;
+    stream.extend_from_slice(&ENQUIRE_LINK[..15])?;
+    let mut reader = Tap::new(stream.as_slice());
+    let mut wire = Wire::new(Tap::new(Vec::<u8>::new(alloc)));
+    let Ok(bound) = bind(alloc, &mut reader, &mut wire, &settings, 1) else {
+        panic!(rt; "not bound")
+    };
+    let written = wire.into_tap().into_inner();
+    assert_eq!(rt; written.as_slice(), BIND.as_slice());
+    assert_eq!(rt; bound.session.state(), State::BoundTx);
+    assert_eq!(rt; bound.frames.as_slice().len(), 1);
+    assert_eq!(rt; bound.framer.rest(), &ENQUIRE_LINK[..15]);
+    Ok(())
+}
+
+// What an answer that doesn't bind comes to.
+#[test]
+fn answers_that_refuse(rt: HostRuntime) -> Result<(), Fail> {
+    let cases = [
+        (
+            b"\x00\x00\x00\x10\x80\x00\x00\x02\x00\x00\x00\x0e\x00\x00\x00\x01".as_slice(),
+            BindFault::Refused(14),
+        ),
+        (
+            b"\x00\x00\x00\x10\x80\x00\x00\x00\x00\x00\x00\x03\x00\x00\x00\x01".as_slice(),
+            BindFault::Refused(3),
+        ),
+        (ENQUIRE_LINK.as_slice(), BindFault::NotSmpp),
+        (b"\x00\x00\x00\x0f".as_slice(), BindFault::NotSmpp),
+        (b"".as_slice(), BindFault::Closed),
+        (b"\x00\x00\x00\x10\x80".as_slice(), BindFault::Closed),
+    ];
+    for (octets, wanted) in cases {
+        let reader = source_of(0, octets, false);
+        let result = bound_by(&rt, rt.alloc(), reader);
+        assert_eq!(rt; result.err(), Some(wanted));
+    }
+    let failing = source_of(0, &[], true);
+    assert_eq!(rt;
+        bound_by(&rt, rt.alloc(), failing).err(),
+        Some(BindFault::Read)
+    );
+    Ok(())
+}
+
+// 599 reads may give nothing, and the 600th is a fault.
+#[test]
+fn reads_that_give_nothing(rt: HostRuntime) -> Result<(), Fail> {
+    let patient = source_of(599, ACCEPTED, false);
+    assert!(rt; bound_by(&rt, rt.alloc(), patient).is_ok());
+    let tired = source_of(600, ACCEPTED, false);
+    assert_eq!(rt;
+        bound_by(&rt, rt.alloc(), tired).err(),
+        Some(BindFault::Read)
+    );
+    Ok(())
+}
+
+#[test]
+fn a_bind_that_can_not_be_written(rt: HostRuntime) -> Result<(), Fail> {
+    let alloc = rt.alloc();
+    let Ok(settings) = settings_of(&rt, alloc, Mode::Transmitter, b"esme") else {
+        panic!(rt; "no settings")
+    };
+    let mut reader = source_of(0, ACCEPTED, false);
+    let sink = Sink {
+        room: 28,
+        octets: Vec::new(alloc),
+        fails: true,
+    };
+    let mut wire = Wire::new(Tap::new(sink));
+    let result = bind(alloc, &mut reader, &mut wire, &settings, 1);
+    assert_eq!(rt; result.err(), Some(BindFault::Write));
+    assert!(rt; wire.broken());
+    Ok(())
+}
