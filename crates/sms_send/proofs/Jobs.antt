@@ -1,12 +1,12 @@
 -- From what the parser gives to the job.
-use Rattle.std.proofs.Common.{◌≡◌, ◌∙◌, sym, refl, ap, codes, List, Option, None, Some, true, false}
+use Rattle.std.proofs.Common.{◌≡◌, ◌∙◌, sym, refl, ap, codes, Bool, List, Option, None, Some, true, false}
 use Rattle.std.specs.Prelude.{Box, String, option_map, string_bytes}
 use Rattle.std.specs.Box.{box_value}
 use Rattle.std.specs.Str.{bytes_eq}
 use Rattle.clap.specs.Words.{Row, Text, first_of, subcommand_rows}
 use Rattle.clap.specs.declared.parser.matches.ArgMatches.TheViews.{out-SubCommand}
 use Rattle.clap.specs.declared.parser.matches.SubCommand.{SubCommand}
-use Rattle.sms_send.specs.CommandLine.{IsJob, LacksName, bytes_of, file_named, is_plan, is_replay, name_given}
+use Rattle.sms_send.specs.CommandLine.{IsJob, LacksName, bytes_of, file_named, is_plan, is_replay, is_set, name_given}
 use Rattle.sms_send.specs.declared.job.Job.TheVariants.{Plan, Replay}
 use Rattle.std.proofs.Common.{Global}
 
@@ -28,16 +28,20 @@ given-other found p r = rw (p, r) refl
 abbrev pub Met : Option (Text × List Row) → Text → List Row → Type 0
 Met o name rows = (option_map (λ p. p.0) o ≡ Some name) × (option_map (λ p. p.1) o ≡ Some rows)
 
-pub plan-job : (o : Option (Text × List Row)) (rows : List Row) (name : Text) (messages : String Global) → Met o name rows
-    → bytes_eq name (codes "plan") ≡ true → first_of (codes "messages") rows ≡ Some (string_bytes messages) → IsJob o (Plan messages)
-plan-job None rows name messages m p h = let bad = m.0 in cc
-plan-job (Some found) rows name messages m p h =
+pub plan-job : (o : Option (Text × List Row)) (rows : List Row) (name : Text) (messages : String Global) (long : Bool) → Met o name rows
+    → bytes_eq name (codes "plan") ≡ true → first_of (codes "messages") rows ≡ Some (string_bytes messages)
+    → is_set (first_of (codes "long") rows) ≡ long → IsJob o (Plan messages long)
+plan-job None rows name messages long m p h f = let bad = m.0 in cc
+plan-job (Some found) rows name messages long m p h f =
     let e = m.1 in
     let n = m.0 in
     let same : found.1 ≡ rows = cc in
     let named : found.0 ≡ name = cc in
-    let plan : is_plan found ≡ true = ap (λ (t : Text). bytes_eq t (codes "plan")) named ∙ p in
-    (plan, given-plan found plan ∙ ap (λ (r : List Row). first_of (codes "messages") r) same ∙ h)
+    let plan : is_plan found ≡ true = ap (λ (t : Text). bytes_eq t (codes "plan")) named ∙ p in (
+      plan,
+      given-plan found plan ∙ ap (λ (r : List Row). first_of (codes "messages") r) same ∙ h,
+      ap (λ (r : List Row). is_set (first_of (codes "long") r)) same ∙ f,
+    )
 
 pub replay-job : (o : Option (Text × List Row)) (rows : List Row) (name given : Text) (file : Option (String Global)) → Met o name rows
     → bytes_eq name (codes "plan") ≡ false → bytes_eq name (codes "replay") ≡ true → first_of (codes "FILE") rows ≡ Some given → bytes_of file ≡ file_named given

@@ -1,8 +1,9 @@
 -- The command line, in the words of the parser, and the job that it asks for.
-use Rattle.std.specs.Prelude.{◌≡◌, ◌≢◌, ◌⊎◌, String, Bool, true, List, [], Option, Some, None, codes, option_map, if◌then◌else◌}
+use Rattle.std.specs.Prelude.{◌≡◌, ◌≢◌, ◌⊎◌, String, Bool, true, false, List, [], Option, Some, None, codes, option_map, if◌then◌else◌}
 use Rattle.std.specs.Str.{bytes_eq}
 use Rattle.std.specs.String.{string_bytes}
-use Rattle.clap.specs.Words.{App, Kinds, IsAmong, Row, Text, fault_of, first_of, new_app, new_rule, subcommand_of, with_rule, with_subcommand}
+use Rattle.clap.specs.Words.{App, Kinds, IsAmong, Row, Rule, Text, fault_of, first_of, new_app, new_rule, subcommand_of, with_rule, with_subcommand}
+use Rattle.clap.specs.declared.builder.action.ArgAction.TheVariants.{SetTrue}
 use Rattle.clap.specs.declared.error.kind.ErrorKind.{ErrorKind}
 use Rattle.clap.specs.declared.error.kind.ErrorKind.TheVariants as kind
 use Rattle.sms_send.specs.declared.fault.Fault.{Fault}
@@ -14,9 +15,15 @@ use Rattle.sms_send.specs.declared.job.Job.TheVariants.{Plan, Replay}
 abbrev pub replay_line : App
 replay_line = with_rule (new_app (codes "replay")) (record (new_rule (codes "FILE")) { required = true })
 
--- `plan --messages FILE`, which has no other form
+-- `plan --messages FILE`, with `--long` or without
+abbrev pub messages_rule : Rule
+messages_rule = record (new_rule (codes "messages")) { long = Some (codes "messages"); value_names = 1; required = true }
+
+abbrev pub long_rule : Rule
+long_rule = record (new_rule (codes "long")) { long = Some (codes "long"); action = Some SetTrue }
+
 abbrev pub plan_line : App
-plan_line = with_rule (new_app (codes "plan")) (record (new_rule (codes "messages")) { long = Some (codes "messages"); value_names = 1; required = true })
+plan_line = with_rule (with_rule (new_app (codes "plan")) messages_rule) long_rule
 
 -- no word, or a subcommand; the program's own name is not among the words
 abbrev pub command_line : App
@@ -54,12 +61,21 @@ name_given found =
     if is_plan found then first_of (codes "messages") found.1
     else (if is_replay found then first_of (codes "FILE") found.1 else None)
 
--- the job of a subcommand and its matches, with the name that it was given; without one it is to replay standard input
+-- a flag was given, by the parser's value of it
+abbrev pub is_set : Option Text → Bool
+is_set None = false
+is_set (Some value) = bytes_eq value (codes "true")
+
+abbrev pub is_long : Text × List Row → Bool
+is_long found = is_set (first_of (codes "long") found.1)
+
+-- the job of a subcommand and its matches, with the name and the flag that it was given; without one it is to replay
+-- standard input
 abbrev pub IsJob : Option (Text × List Row) → Job → Type 0
 IsJob None (Replay file) = bytes_of file ≡ None
-IsJob None (Plan messages) = ⊥
+IsJob None (Plan messages long) = ⊥
 IsJob (Some found) (Replay file) = (is_replay found ≡ true) × (option_map file_named (name_given found) ≡ Some (bytes_of file))
-IsJob (Some found) (Plan messages) = (is_plan found ≡ true) × (name_given found ≡ Some (string_bytes messages))
+IsJob (Some found) (Plan messages long) = (is_plan found ≡ true) × (name_given found ≡ Some (string_bytes messages)) × (is_long found ≡ long)
 
 -- the parser met a subcommand without the name that it needs
 abbrev pub LacksName : Option (Text × List Row) → Type 0

@@ -1,5 +1,5 @@
 -- What the program does: a job, of an input of the kind that the job names.
-use Rattle.std.specs.Prelude.{◌≡◌, ◌⊎◌, false, ℕ, List, Option, None, Some, IfSome}
+use Rattle.std.specs.Prelude.{◌≡◌, ◌⊎◌, Bool, ℕ, List, Option, None, Some, IfSome}
 use Rattle.std.specs.Io.KnownBytes.{Appends}
 use Rattle.clap.specs.Words.{Text}
 use Rattle.sms_send.specs.CommandLine.{IsJob, subcommand_in}
@@ -16,21 +16,21 @@ use Rattle.sms_send.specs.declared.job.Job.TheVariants.{Plan, Replay}
 abbrev pub OfInput : {I : Type 0} → (I → Option (List ℕ)) → (List ℕ → Type 0) → Type 0
 OfInput {I} remaining P = (input : I) × IfSome (remaining input) P
 
--- the bytes are a messages file, and its plan was written and nothing else
-abbrev pub Plans : List ℕ → Option (List ℕ) → Option (List ℕ) → Type 0
-Plans bytes old new = (messages_fault (records_of bytes) ≡ None) × Appends old new (plan_of (kind_of false) (records_of bytes))
+-- the bytes are a messages file, and its plan with references of 16 bits or of 8 was written and nothing else
+abbrev pub Plans : Bool → List ℕ → Option (List ℕ) → Option (List ℕ) → Type 0
+Plans long bytes old new = (messages_fault (records_of bytes) ≡ None) × Appends old new (plan_of (kind_of long) (records_of bytes))
 
 -- the job was done: standard input or a file was replayed, or a file planned
 abbrev pub Does : {S F : Type 0} → (S → Option (List ℕ)) → (F → Option (List ℕ)) → Job → Option (List ℕ) → Option (List ℕ) → Type 0
 Does standard file (Replay None) old new = OfInput standard (λ bytes. Replays bytes old new)
 Does standard file (Replay (Some name)) old new = OfInput file (λ bytes. Replays bytes old new)
-Does standard file (Plan name) old new = OfInput file (λ bytes. Plans bytes old new)
+Does standard file (Plan name long) old new = OfInput file (λ bytes. Plans long bytes old new)
 
 -- what a fault of a job says: its file can't be opened, or what the fault says of the input
 abbrev pub TellsJob : {S F : Type 0} → (S → Option (List ℕ)) → (F → Option (List ℕ)) → Job → Fault → Type 0
 TellsJob standard file (Replay None) fault = OfInput standard (λ bytes. TellsReplay (records_of bytes) fault)
 TellsJob standard file (Replay (Some name)) fault = (fault ≡ File name) ⊎ OfInput file (λ bytes. TellsReplay (records_of bytes) fault)
-TellsJob standard file (Plan name) fault = (fault ≡ File name) ⊎ OfInput file (λ bytes. TellsPlan (records_of bytes) fault)
+TellsJob standard file (Plan name long) fault = (fault ≡ File name) ⊎ OfInput file (λ bytes. TellsPlan (records_of bytes) fault)
 
 -- some words ask for a job, and it was done
 abbrev pub Works : {S F : Type 0} → (S → Option (List ℕ)) → (F → Option (List ℕ)) → Option (List ℕ) → Option (List ℕ) → Type 0

@@ -1,14 +1,14 @@
 //! The command line.
 
 ghost use Rattle.std.specs.Prelude.{◌≡◌, ◌≢◌, ◌↔◌, [], false, IfErr, IfOk, OnOk, map, string_bytes};
-ghost use Rattle.clap.specs.Words.{HasKind, Kinds, app_of, kind_of, subcommand_rows_of};
+ghost use Rattle.clap.specs.Words.{HasKind, Kinds, app_of, first_of, found_of, kind_of, rows_of, subcommand_rows_of};
 ghost use Rattle.clap.specs.declared.builder.Command.TheViews.{out-Command as fields_of};
-ghost use Rattle.sms_send.specs.CommandLine.{IsJob, TellsName, TellsRefusal, TellsWords, bytes_of, file_named, command_line as words_allowed, plan_line, refusals_of, subcommand_in};
+ghost use Rattle.sms_send.specs.CommandLine.{IsJob, TellsName, TellsRefusal, TellsWords, bytes_of, file_named, command_line as words_allowed, is_set, plan_line, refusals_of, subcommand_in};
 ghost use Rattle.sms_send.specs.declared.fault.Fault.TheVariants.{OutOfMemory, Words};
 
 use crate::fault::Fault;
 use clap::error::ErrorKind;
-use clap::{Arg, ArgMatches, Command, Error};
+use clap::{Arg, ArgAction, ArgMatches, Command, Error};
 use std::alloc::{AllocError, Global};
 
 /// What the program is asked to do.
@@ -16,8 +16,8 @@ use std::alloc::{AllocError, Global};
 pub enum Job {
     /// To replay the schedule in the file of this name, or that of the standard input.
     Replay(Option<String>),
-    /// To plan the messages in the file of this name.
-    Plan(String),
+    /// To plan the messages in the file of this name; with references of 16 bits where it is true.
+    Plan(String, bool),
 }
 
 /// The job that the words after the program's name ask for.
@@ -62,9 +62,14 @@ fn plan_command<'a>(alloc: Global) -> Result<Command<'a>, AllocError>
         .value_name("FILE")
         .required(true)
         .help("The messages file");
+    let long = Arg::new(alloc, "long")
+        .long("long")
+        .action(ArgAction::SetTrue)
+        .help("Cuts for references of 16 bits, and not of 8");
     Command::new(alloc, "plan")
         .about("Prints how the text of each message is coded and cut into parts")
-        .arg(messages)
+        .arg(messages)?
+        .arg(long)
 }
 
 /// The job of the subcommand that the parser met. The parser requires each name, and one that is
@@ -80,7 +85,8 @@ fn job_in(alloc: Global, matches: &ArgMatches<'_>) -> Result<Job, Fault>
         let Some(messages) = found.get_str("messages") else {
             return Err(Fault::Words);
         };
-        return Ok(Job::Plan(String::from_str(alloc, messages)?));
+        let long = is_given(found, "long");
+        return Ok(Job::Plan(String::from_str(alloc, messages)?, long));
     }
     if name == "replay" {
         let Some(file) = found.get_str("FILE") else {
@@ -89,6 +95,16 @@ fn job_in(alloc: Global, matches: &ArgMatches<'_>) -> Result<Job, Fault>
         return Ok(Job::Replay(file_of(alloc, file)?));
     }
     Err(Fault::Words)
+}
+
+/// Whether a flag was given: the parser's value of it is `true` then, and else `false`.
+fn is_given(matches: &ArgMatches<'_>, flag: &str) -> bool
+    ensures { result ≡ is_set (first_of flag.now (rows_of (found_of matches.now))) }
+{
+    match matches.get_str(flag) {
+        Some(value) => value == "true",
+        None => false,
+    }
 }
 
 /// The file of this name; `-` is standard input, which is none.

@@ -78,7 +78,7 @@ fn do_job<R: AllocGlobal + Files + Input, W: Write>(
     match job {
         Job::Replay(None) => run_replay(rt.alloc(), rt.reader(), output),
         Job::Replay(Some(name)) => run_replay(rt.alloc(), open(rt, name)?, output),
-        Job::Plan(name) => run_plan(rt.alloc(), open(rt, name)?, false, output),
+        Job::Plan(name, long) => run_plan(rt.alloc(), open(rt, name)?, long, output),
     }
 }
 

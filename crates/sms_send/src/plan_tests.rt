@@ -6,9 +6,9 @@ use std::process::Abort;
 use std::test::Fail;
 
 // The octets that plan prints of a messages file, or the text of its fault; nothing is printed then.
-fn planned(rt: &impl Abort, alloc: Global, input: &[u8]) -> Result<Vec<u8>, Fail> {
+fn planned(rt: &impl Abort, alloc: Global, input: &[u8], long: bool) -> Result<Vec<u8>, Fail> {
     let mut output = Vec::new(alloc);
-    match run_plan(alloc, input, false, &mut output) {
+    match run_plan(alloc, input, long, &mut output) {
         Ok(status) => assert_eq!(rt; status, 0),
         Err(Fault::OutOfMemory) => return Err(Fail::from(AllocError)),
         Err(fault) => {
@@ -34,23 +34,31 @@ fn letters(alloc: Global, count: usize) -> Result<String, Fail> {
 #[test]
 fn plans_the_texts_of_a_file(rt: HostRuntime) -> Result<(), Fail> {
     let alloc = rt.alloc();
-    let rows: [(usize, &str); 3] = [
+    let rows: [(usize, bool, &str); 4] = [
         (
             161,
+            false,
             "message,coding,units,parts,sizes\n0,gsm,161,2,153 8\n1,ucs2,1,1,1\n",
         ),
         (
+            161,
+            true,
+            "message,coding,units,parts,sizes\n0,gsm,161,2,152 9\n1,ucs2,1,1,1\n",
+        ),
+        (
             39_016,
+            false,
             "message,coding,units,parts,sizes\n0,gsm,39016,0,too-long\n1,ucs2,1,1,1\n",
         ),
         (
             0,
+            false,
             "message,coding,units,parts,sizes\n0,gsm,0,1,0\n1,ucs2,1,1,1\n",
         ),
     ];
-    for (count, wanted) in rows {
+    for (count, long, wanted) in rows {
         let input = letters(alloc, count)?;
-        let output = planned(&rt, alloc, input.as_bytes())?;
+        let output = planned(&rt, alloc, input.as_bytes(), long)?;
         assert_eq!(rt; output.as_slice(), wanted.as_bytes(), "{count} letters");
     }
     Ok(())
@@ -93,9 +101,25 @@ fn names_the_first_faulty_record(rt: HostRuntime) -> Result<(), Fail> {
         ),
     ];
     for (input, wanted) in rows {
-        let output = planned(&rt, alloc, input)?;
+        let output = planned(&rt, alloc, input, false)?;
         assert_eq!(rt; output.as_slice(), wanted.as_bytes());
     }
+    Ok(())
+}
+
+// A file may have 100,000 messages behind its header.
+#[test]
+fn names_the_record_past_the_limit(rt: HostRuntime) -> Result<(), Fail> {
+    let alloc = rt.alloc();
+    let mut input = String::from_str(alloc, "account,source,destination,text\n")?;
+    for _ in 0..100_001 {
+        input.push_str("main,1,2,a\n")?;
+    }
+    let output = planned(&rt, alloc, input.as_bytes(), false)?;
+    assert_eq!(rt;
+        output.as_slice(),
+        b"fault: messages record 100002".as_slice()
+    );
     Ok(())
 }
 

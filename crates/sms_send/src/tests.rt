@@ -152,7 +152,7 @@ fn tells_files_that_cannot_be_read(rt: HostRuntime) -> Result<(), Fail> {
     for (word, name, expected) in cases {
         let name = String::from_str(rt.alloc(), name)?;
         let job = if word == "plan" {
-            Job::Plan(name)
+            Job::Plan(name, false)
         } else {
             Job::Replay(Some(name))
         };
@@ -174,6 +174,11 @@ fn reads_the_words(rt: HostRuntime) -> Result<(), Fail> {
         ("replay", "fault: words"),
         ("plan --messages x", "plan of x"),
         ("plan --messages -", "plan of -"),
+        ("plan --messages x --long", "long plan of x"),
+        ("plan --long --messages x", "long plan of x"),
+        ("plan --long", "fault: words"),
+        ("plan --messages x --long=true", "fault: words"),
+        ("replay --long x", "fault: words"),
         ("plan", "fault: words"),
         ("plan x", "fault: words"),
         ("plan --messages", "fault: words"),
@@ -190,7 +195,8 @@ fn reads_the_words(rt: HostRuntime) -> Result<(), Fail> {
         let read = match job_of(rt.alloc(), words.as_slice()) {
             Ok(Job::Replay(None)) => String::from_str(rt.alloc(), "standard input")?,
             Ok(Job::Replay(Some(name))) => name,
-            Ok(Job::Plan(name)) => format!(in rt.alloc(); "plan of {name}")?,
+            Ok(Job::Plan(name, true)) => format!(in rt.alloc(); "long plan of {name}")?,
+            Ok(Job::Plan(name, false)) => format!(in rt.alloc(); "plan of {name}")?,
             Err(fault) => fault.to_string(rt.alloc())?,
         };
         assert_eq!(rt; read.as_str(), expected);

@@ -19,8 +19,9 @@ returns-then-eq-clause-job c =
     let met : Met (subcommand_rows_of c.args.matches.now) c.in-Some.name.now (rows_of (found_of c.in-Some.found.now)) =
     (name-of-rows (out-ArgMatches c.args.matches.now).subcommand ∙ sym c.in-Some.ensures.name, sym c.in-Some.ensures.rows) in
     let some : option_map (λ s. s.now) c.get_str.result ≡ Some (string_bytes c.in_ok-from_str.field-0) = search rules in
-    plan-job (subcommand_rows_of c.args.matches.now) (rows_of (found_of c.in-Some.found.now)) c.in-Some.name.now c.in_ok-from_str.field-0 met (search rules)
+    plan-job (subcommand_rows_of c.args.matches.now) (rows_of (found_of c.in-Some.found.now)) c.in-Some.name.now c.in_ok-from_str.field-0 c.is_given-long.result met (search rules)
     (sym (c.get_str.ensures ∙ first_value-rows (found_of c.in-Some.found.now) (codes "messages")) ∙ some)
+    (sym c.is_given-long.ensures)
 
 pub returns-in_default-get_str-2-clause-refused : goal.returns-in_default-get_str-2-clause-refused
 returns-in_default-get_str-2-clause-refused c =

@@ -1,4 +1,4 @@
-use Rattle.std.proofs.Common.{ap, ap₂, ◌∙◌}
+use Rattle.std.proofs.Common.{ap₂, ◌∙◌}
 use Rattle.sms_send.specs.PlanText.{kind_of, message_plan}
 use Rattle.sms_send.proofs.Plans.{plan-written}
 use Rattle.sms_send.proofs.plan.run_plan.Goals as goal
