@@ -1,6 +1,6 @@
 -- One more request: the link at which the search for its name ended leads to it, and it has eight links to nowhere.
-use Rattle.std.proofs.Common.{◌≡◌, ◌≢◌, ℕ, zero, suc, ◌+◌, ◌*◌, ◌^◌, ◌<◌, ◌≤◌, List, [], ◌∷◌, ◌++◌, length, get_or, set, refl, ap, ◌∙◌, sym, arith}
-use Rattle.std.proofs.lemmas.List.{get_or_append_left, get_or_at, get_or-set_same, get_or-set_other, length-append, length-set}
+use Rattle.std.proofs.Common.{◌≡◌, ◌≢◌, ℕ, zero, suc, ◌+◌, ◌*◌, ◌^◌, ◌<◌, ◌≤◌, List, [], ◌∷◌, ◌++◌, length, get_or, set, replicate, refl, ap, ◌∙◌, sym, arith}
+use Rattle.std.proofs.lemmas.List.{get_or_append_left, get_or_at, get_or-set_same, get_or-set_other, length-append, length-replicate, length-set}
 use mathlib.Core.Logic.{dite}
 use native.Mathlib.Decide.{ℕ_discrete}
 use Rattle.std.proofs.Math.Decide.{dec_lt}
@@ -32,8 +32,8 @@ grows : (ids links : List ℕ) (i : ℕ) → AreLinks ids links → length ids <
 grows ids links i w few inside was = record {
   below = few;
   real = w.real;
-  low = λ k lt. dite (dec_lt k (8 * length ids + 1)) (λ h. h)
-      (λ h. let out = far w k (let le : 8 * length ids + 1 ≤ k = omega (arith, h) in le) in absurd (omega (arith, out, lt, few)));
+  low = λ k lt. dite (dec_lt k (8 * length ids + 2048)) (λ h. h)
+      (λ h. let out = far w k (let le : 8 * length ids + 2048 ≤ k = omega (arith, h) in le) in absurd (omega (arith, out, lt, few)));
   inside = omega (arith, inside, w.count);
   was = was;
   now = get_or-set_same (links ++ ends) i (length ids) nowhere (let h : i < length (links ++ ends) = omega (arith, inside, length-append links ends) in h);
@@ -52,11 +52,11 @@ real_grown {n} {i} {f} {g} w k ne = dite (ℕ_discrete k i)
     (λ other. let e : g k ≡ f k = w.kept k other in
     let r : f k < n = w.real k (λ (z : f k ≡ nowhere). ne (e ∙ z)) in omega (arith, e, r))
 
-way_old : {n i : ℕ} {f g : ℕ → ℕ} → Grows n nowhere i f g → (id link : ℕ) → link < 8 * n + 1 → Visits f id link → Visits g id link
+way_old : {n i : ℕ} {f g : ℕ → ℕ} → Grows n nowhere i f g → (id link : ℕ) → link < 8 * n + 2048 → Visits f id link → Visits g id link
 way_old {n} {i} {f} {g} w id link lt v = record {
   turns = v.turns;
   few = v.few;
-  there = link_old w v.turns id (let h : link_at f v.turns id < 8 * n + 1 = omega (arith, v.there, lt) in h) ∙ v.there;
+  there = link_old w v.turns id (let h : link_at f v.turns id < 8 * n + 2048 = omega (arith, v.there, lt) in h) ∙ v.there;
 }
 
 reaches_old : {n i : ℕ} {f g : ℕ → ℕ} → Grows n nowhere i f g → (id p : ℕ) → p < n → Reaches f id p → Reaches g id p
@@ -99,3 +99,19 @@ links_grown ids links id i w few inside was way short new =
           (λ h. let e : p ≡ length ids = omega (arith, n, lt, h) in
           rw (e, last ids id) record { link = i; way = way_old g id i g.inside way; there = g.now });
     }
+
+all_nowhere : (n k : ℕ) → lead (replicate n nowhere) k ≡ nowhere
+all_nowhere zero k = refl
+all_nowhere (suc n) zero = refl
+all_nowhere (suc n) (suc k) = all_nowhere n k
+
+-- before any request
+pub no_links : AreLinks [] (replicate 2048 nowhere)
+no_links = record {
+  count = length-replicate 2048 nowhere;
+  short = λ place. omega arith;
+  distinct = λ p q lp lq e. absurd (omega (arith, lp));
+  real = λ link ne. absurd (ne (all_nowhere 2048 link));
+  once = λ t id u other lt e. absurd (omega (arith, lt));
+  reached = λ place lt. absurd (omega (arith, lt));
+}

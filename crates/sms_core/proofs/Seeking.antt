@@ -47,7 +47,7 @@ at_place id rs q (Some p) e lt is h = ap Some (h p (let b : p < length (names rs
 abbrev pub Passes : List ℕ → List ℕ → ℕ → ℕ → Type 0
 Passes ids links id turns = (t : ℕ) → t < turns → (place_at (lead links) t id < length ids) × (get_or ids (place_at (lead links) t id) 0 ≢ id)
 
-pub far : {ids links : List ℕ} → AreLinks ids links → (k : ℕ) → 8 * length ids + 1 ≤ k → lead links k ≡ nowhere
+pub far : {ids links : List ℕ} → AreLinks ids links → (k : ℕ) → 8 * length ids + 2048 ≤ k → lead links k ≡ nowhere
 far {ids} {links} w k le = get_or_past links k nowhere (let h : length links ≤ k = omega (arith, w.count, le) in h)
 
 nowhere_none : {ids links : List ℕ} → AreLinks ids links → length ids < nowhere → (id t : ℕ) → Passes ids links id t → place_at (lead links) t id ≡ nowhere →

@@ -1,6 +1,6 @@
 -- How a request is found by its name: from link to link, each of which leads to the place of a request or nowhere.
--- A search begins at link 0. A request that has another name sends it on to one of eight links of its own, which the next
--- three bits of the name choose, the lowest first.
+-- A search begins at one of the first 2,048 links, which the lowest eleven bits of the name choose. A request that has
+-- another name sends it on to one of eight links of its own, which the next three bits choose, and so on.
 use Rattle.std.specs.Prelude.{None, ◌≡◌, ◌≢◌, ℕ, zero, suc, ◌+◌, ◌*◌, ◌/◌, ◌%◌, ◌^◌, ◌<◌, ◌≤◌, List, map, length, slice_index, slice_index_or}
 use Rattle.sms_core.specs.declared.request.Request.{Request}
 use Rattle.sms_core.specs.declared.requests.Gap.{Gap}
@@ -17,15 +17,15 @@ nowhere = 18446744073709551615
 abbrev pub lead : List ℕ → ℕ → ℕ
 lead links link = slice_index_or links link nowhere
 
--- what is left of a name after some turns, each of which takes three bits
+-- what is left of a name after its lowest eleven bits and some turns, each of which takes three
 abbrev pub rest_of : ℕ → ℕ → ℕ
-rest_of zero id = id
+rest_of zero id = id / 2048
 rest_of (suc turns) id = rest_of turns id / 8
 
 -- the link that the search for a name has reached after some turns, and where it leads
 abbrev pub link_at : (ℕ → ℕ) → ℕ → ℕ → ℕ
-link_at leads zero id = 0
-link_at leads (suc turns) id = 8 * leads (link_at leads turns id) + 1 + rest_of turns id % 8
+link_at leads zero id = id % 2048
+link_at leads (suc turns) id = 8 * leads (link_at leads turns id) + 2048 + rest_of turns id % 8
 
 abbrev pub place_at : (ℕ → ℕ) → ℕ → ℕ → ℕ
 place_at leads turns id = leads (link_at leads turns id)
@@ -36,9 +36,9 @@ IsReachedOnce n leads =
     (t id u other : ℕ) → place_at leads t id < n → place_at leads t id ≡ place_at leads u other
     → (t ≡ u) × (rest_of t id ≡ rest_of u other → id ≡ other)
 
--- the most turns: 11 of three bits are more than a name has
+-- the most turns: eleven bits, and seven times three, are what a name has
 abbrev pub most_turns : ℕ
-most_turns = 11
+most_turns = 7
 
 -- the search for this name comes to this link
 pub record Visits (leads : ℕ → ℕ) (id link : ℕ) : Type 0 where
@@ -54,7 +54,7 @@ pub record Reaches (leads : ℕ → ℕ) (id place : ℕ) : Type 0 where
 
 -- the links of requests of these names
 pub record AreLinks (ids links : List ℕ) : Type 0 where
-  pub count : length links ≡ 8 * length ids + 1
+  pub count : length links ≡ 8 * length ids + 2048
   pub short : (place : ℕ) → slice_index ids place < 2 ^ 32
   pub distinct : (p q : ℕ) → p < length ids → q < length ids → slice_index ids p ≡ slice_index ids q → p ≡ q
   pub real : (link : ℕ) → lead links link ≢ nowhere → lead links link < length ids

@@ -1,8 +1,8 @@
 //! The requests of a world in order of reservation, found by their names.
 //!
-//! A name is looked for from link to link. A link leads to the place of a request or nowhere, and
-//! each request has eight links, among which the next three bits of the name choose. So a search
-//! ends after twelve links at the most, whatever the names are.
+//! A name is looked for from link to link. A link leads to the place of a request or nowhere. The
+//! lowest eleven bits of the name choose the first link, and the next three one of the eight that
+//! each request has. So a search ends after eight links at the most, whatever the names are.
 
 ghost use Rattle.std.specs.Prelude.{◌≡◌, ◌+◌, ◌≤◌, [], ◌∷◌, ◌++◌, None, Some, IfSome, IfOk, IfErr, OnOk, OnErr, is_some, not, slice_set};
 ghost use Rattle.std.specs.Option.{option_map};
@@ -16,10 +16,12 @@ use std::marker::Model;
 
 /// Where a link leads that leads to no request.
 const NOWHERE: usize = usize::MAX;
+/// How many first links there are.
+const ROOTS: usize = 2_048;
 /// How many links each request has.
 const BRANCHES: usize = 8;
-/// Eleven times three bits are more than a name has, so the twelfth link is the last.
-const MOST_LINKS: u32 = 12;
+/// Eleven bits, and seven times three, are what a name has, so the eighth link is the last.
+const MOST_LINKS: u32 = 8;
 
 /// Where the request of a new name goes: the link at which the search for the name ended.
 #[derive(Clone, Copy, Debug)]
@@ -31,7 +33,7 @@ pub(crate) struct Gap {
 #[derive(Debug, Drop)]
 pub(crate) struct Requests {
     list: Vec<Request>,
-    // a first link, and eight for each request
+    // the first links, and eight for each request
     links: Vec<usize>,
 }
 
@@ -54,8 +56,8 @@ fn seek(list: &[Request], links: &[usize], id: u32) -> Result<usize, Gap>
     ensures gap { IfErr result (λ gap. IsGap list.now links.now gap) }
     ensures named { IfErr result (λ gap. gap.id ≡ id) }
 {
-    let mut link = 0;
-    let mut rest = id;
+    let mut link = id as usize % ROOTS;
+    let mut rest = id as usize / ROOTS;
     for _turn in 0..MOST_LINKS {
         let place = links[link];
         if place == NOWHERE {
@@ -64,8 +66,8 @@ fn seek(list: &[Request], links: &[usize], id: u32) -> Result<usize, Gap>
         if list[place].id == id {
             return Ok(place);
         }
-        link = BRANCHES * place + 1 + (rest % 8) as usize;
-        rest /= 8;
+        link = BRANCHES * place + ROOTS + rest % BRANCHES;
+        rest /= BRANCHES;
     }
     unreachable!()
 }
@@ -76,7 +78,7 @@ impl Requests {
     {
         Ok(Requests {
             list: Vec::new(alloc),
-            links: vec![in alloc; NOWHERE; 1]?,
+            links: vec![in alloc; NOWHERE; ROOTS]?,
         })
     }
 
