@@ -8,3 +8,4 @@ pub mod Schedules
 pub mod Replaying
 pub mod MessageRecords
 pub mod Plans
+pub mod Writing

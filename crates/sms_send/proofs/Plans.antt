@@ -1,7 +1,6 @@
 -- The plan of a file's records, and of the texts that their messages have.
 use Rattle.std.proofs.Common.{◌≡◌, ◌≤◌, ◌<◌, ◌∙◌, sym, refl, ap, ℕ, ◌+◌, List, [], ◌∷◌, ◌++◌, length, map, Option, IfSome, codes, subst, Result, Ok, Err}
 use Rattle.std.specs.Prelude.{string_bytes, OnOk, is_ok, if◌then◌else◌}
-use Rattle.std.specs.Io.KnownBytes.{Appends}
 use Rattle.std.proofs.lemmas.Bool.{le-leb, lt-leb}
 use Rattle.sms_alphabet.specs.declared.coded.Coded.{Coded}
 use Rattle.sms_segment.specs.declared.part.Part.{Part}
@@ -40,8 +39,8 @@ plan-is reference [] ms h = absurd h
 plan-is reference (r ∷ rs) ms h =
     ap (λ (more : List Record). plan_text reference (map text_of more)) (sym h.1) ∙ ap (λ (lines : List ℕ). codes "message,coding,units,parts,sizes\n" ++ lines) (lines-are reference 0 ms)
 
--- the plan of the messages is that of the records
-pub plan-written : (reference : Reference) (o : Option (List ℕ)) (ms : List Message) (text : List ℕ) (old new : Option (List ℕ)) → IfSome o (λ bytes. AreMessages (records_of bytes) ms) → text ≡ message_plan reference ms
-    → Appends old new text → IfSome o (λ bytes. Appends old new (plan_of reference (records_of bytes)))
-plan-written reference o ms text old new are e h = if_known o (λ bytes. Appends old new (plan_of reference (records_of bytes))) (λ bytes known.
-    subst (λ (t : List ℕ). Appends old new t) (e ∙ sym (plan-is reference (records_of bytes) ms (at_known o (λ b. AreMessages (records_of b) ms) bytes are known))) h)
+-- what holds of the plan of the messages holds of that of the records
+pub plan-written : (P : List ℕ → Type 0) (reference : Reference) (o : Option (List ℕ)) (ms : List Message) (text : List ℕ) → IfSome o (λ bytes. AreMessages (records_of bytes) ms) → text ≡ message_plan reference ms
+    → P text → IfSome o (λ bytes. P (plan_of reference (records_of bytes)))
+plan-written P reference o ms text are e h = if_known o (λ bytes. P (plan_of reference (records_of bytes))) (λ bytes known.
+    subst P (e ∙ sym (plan-is reference (records_of bytes) ms (at_known o (λ b. AreMessages (records_of b) ms) bytes are known))) h)

@@ -7,7 +7,7 @@ use Rattle.clap.specs.declared.builder.action.ArgAction.TheVariants.{SetTrue}
 use Rattle.clap.specs.declared.error.kind.ErrorKind.{ErrorKind}
 use Rattle.clap.specs.declared.error.kind.ErrorKind.TheVariants as kind
 use Rattle.sms_send.specs.declared.fault.Fault.{Fault}
-use Rattle.sms_send.specs.declared.fault.Fault.TheVariants.{Words, Help, File, Unreadable, ScheduleRecord, MessagesRecord, Output, OutOfMemory}
+use Rattle.sms_send.specs.declared.fault.Fault.TheVariants.{Words, Help, OutOfMemory}
 use Rattle.sms_send.specs.declared.job.Job.{Job}
 use Rattle.sms_send.specs.declared.job.Job.TheVariants.{Plan, Replay}
 
@@ -86,23 +86,14 @@ LacksName (Some found) = name_given found ≡ None
 abbrev pub TellsName : Option (Text × List Row) → Fault → Type 0
 TellsName found Words = LacksName found
 TellsName found OutOfMemory = Unit {0}
-TellsName found (Help text) = ⊥
-TellsName found (File name) = ⊥
-TellsName found (Unreadable source) = ⊥
-TellsName found (ScheduleRecord place) = ⊥
-TellsName found (MessagesRecord place) = ⊥
-TellsName found Output = ⊥
+TellsName found _ = ⊥
 
 -- what a fault says of the words that the parser refuses: help was asked for, or not
 abbrev pub TellsRefusal : Kinds → Fault → Type 0
 TellsRefusal kinds (Help text) = IsAmong kind.DisplayHelp kinds
 TellsRefusal kinds Words = (k : ErrorKind) × (k ≢ kind.DisplayHelp) × IsAmong k kinds
 TellsRefusal kinds OutOfMemory = Unit {0}
-TellsRefusal kinds (File name) = ⊥
-TellsRefusal kinds (Unreadable source) = ⊥
-TellsRefusal kinds (ScheduleRecord place) = ⊥
-TellsRefusal kinds (MessagesRecord place) = ⊥
-TellsRefusal kinds Output = ⊥
+TellsRefusal kinds _ = ⊥
 
 -- what a fault says of the words: the parser refuses them, or takes them and a name is missing
 abbrev pub TellsWords : List Text → Fault → Type 0

@@ -23,12 +23,7 @@ fault_text OutOfMemory = codes "fault: out of memory"
 abbrev pub status_of : Fault → ℕ
 status_of Words = 2
 status_of (Help text) = 0
-status_of (File name) = 1
-status_of (Unreadable source) = 1
-status_of (ScheduleRecord place) = 1
-status_of (MessagesRecord place) = 1
-status_of Output = 1
-status_of OutOfMemory = 1
+status_of _ = 1
 
 -- the reader of a source failed, or memory was refused
 abbrev pub IsDevice : Source → Fault → Type 0

@@ -5,6 +5,7 @@ pub mod Text
 pub mod Messages
 pub mod PlanText
 pub mod Faults
+pub mod Output
 pub mod CommandLine
 pub mod Replays
 pub mod Jobs

@@ -6,17 +6,26 @@ use Rattle.sms_core.specs.declared.event.Step.{Step}
 use Rattle.sms_core.specs.Histories.{Runs}
 use Rattle.sms_core.specs.State.{State}
 use Rattle.sms_send.specs.Fields.{Record, records_of}
+use Rattle.sms_send.specs.Output.{WritesFront}
 use Rattle.sms_send.specs.Schedule.{AreSchedule, schedule_fault}
 use Rattle.sms_send.specs.Text.{replay_text}
 use Rattle.sms_send.specs.declared.fault.Fault.{Fault}
-use Rattle.sms_send.specs.declared.fault.Fault.TheVariants.{Words, Help, File, Unreadable, ScheduleRecord, MessagesRecord, Output, OutOfMemory}
+use Rattle.sms_send.specs.declared.fault.Fault.TheVariants.{Unreadable, ScheduleRecord, Output, OutOfMemory}
 use Rattle.sms_send.specs.declared.fault.Source.TheVariants.{Schedule}
 
--- the input spells a schedule, and the text of its events' answers and of the world after them was written and nothing else
-abbrev pub Replays : List ℕ → Option (List ℕ) → Option (List ℕ) → Type 0
-Replays bytes old new =
+-- the input spells a schedule, and this holds of the text of its events' answers and of the world after them
+abbrev pub OfReplay : (List ℕ → Type 0) → List ℕ → Type 0
+OfReplay P bytes =
     (begun : State) × (events : List Event) × (answers : List Step) × (ended : State)
-    × AreSchedule (records_of bytes) begun events × Runs begun events answers ended × Appends old new (replay_text answers ended)
+    × AreSchedule (records_of bytes) begun events × Runs begun events answers ended × P (replay_text answers ended)
+
+-- that text was written and nothing else
+abbrev pub Replays : List ℕ → Option (List ℕ) → Option (List ℕ) → Type 0
+Replays bytes old new = OfReplay (Appends old new) bytes
+
+-- a front of that text was written and nothing else
+abbrev pub ReplaysFront : List ℕ → Option (List ℕ) → Option (List ℕ) → Type 0
+ReplaysFront bytes old new = OfReplay (WritesFront old new) bytes
 
 -- what a fault of a replay says of the input: a record that it names is the first that may not stand where it stands, and only the
 -- output of a schedule can fail
@@ -25,7 +34,4 @@ TellsReplay rs (ScheduleRecord place) = schedule_fault rs ≡ Some place
 TellsReplay rs Output = schedule_fault rs ≡ None
 TellsReplay rs (Unreadable source) = source ≡ Schedule
 TellsReplay rs OutOfMemory = Unit {0}
-TellsReplay rs Words = ⊥
-TellsReplay rs (Help text) = ⊥
-TellsReplay rs (File name) = ⊥
-TellsReplay rs (MessagesRecord place) = ⊥
+TellsReplay rs _ = ⊥

@@ -3,8 +3,8 @@
 ghost use Rattle.std.specs.Prelude.{◌≡◌};
 
 use std::alloc::{AllocError, AllocFailed};
-use std::error::Error;
 use std::fmt;
+use thiserror::Error;
 
 /// What is read.
 #[derive(Clone, Copy, Debug, PartialEq, Eq)]
@@ -30,8 +30,8 @@ impl fmt::Display for Source {
 }
 
 /// Why the program ends before its work is done. Its text is the line that the program tells it
-/// with.
-#[derive(Debug, Drop)]
+/// with, and stands in [`Display`](fmt::Display) below, so that it is proved.
+#[derive(Debug, Drop, Error)]
 pub enum Fault {
     /// The command line is refused.
     Words,
@@ -71,8 +71,6 @@ impl fmt::Display for Fault {
     }
 }
 
-impl Error for Fault {}
-
 impl Fault {
     ghost use Rattle.sms_send.specs.Faults.{status_of};
 
@@ -83,12 +81,7 @@ impl Fault {
         match self {
             Fault::Words => 2,
             Fault::Help(_) => 0,
-            Fault::File(_) => 1,
-            Fault::Unreadable(_) => 1,
-            Fault::ScheduleRecord(_) => 1,
-            Fault::MessagesRecord(_) => 1,
-            Fault::Output => 1,
-            Fault::OutOfMemory => 1,
+            _ => 1,
         }
     }
 }

@@ -20,7 +20,7 @@ mod schedule;
 mod tests;
 mod text;
 
-ghost use Rattle.std.specs.Prelude.{◌≡◌, ◌≢◌, ◌⊎◌, IfErr, IfOk, OnOk, if◌then◌else◌};
+ghost use Rattle.std.specs.Prelude.{◌≡◌, ◌≢◌, ◌⊎◌, IfErr, IfOk, OnOk, is_ok, if◌then◌else◌};
 ghost use Rattle.sms_send.specs.Faults.{status_of};
 ghost use Rattle.sms_send.specs.Jobs.{Does, TellsJob, Works};
 ghost use Rattle.sms_send.specs.declared.fault.Fault.TheVariants.{File, Output, OutOfMemory, Words};
@@ -37,7 +37,7 @@ use std::{env, fs, io};
 fn main(rt: HostRuntime) -> ExitCode {
     let status = match run(&rt, &mut io::writer(&rt)) {
         Ok(status) => status,
-        Err(fault) => tell(&rt, &fault),
+        Err(fault) => status_after(&tell(&rt, &fault), &fault),
     };
     ExitCode::from(status)
 }
@@ -92,25 +92,20 @@ fn open<R: Files>(rt: &R, name: String) -> Result<R::File, Fault>
     }
 }
 
-/// Tells a fault in one line on standard error, and help on standard output, and gives the exit
-/// status.
-fn tell<R: Eprint + Print>(rt: &R, fault: &Fault) -> u8
-    ensures { (result ≡ status_of fault.now) ⊎ (result ≡ status_of Output) }
-{
-    let told = match fault {
+/// Tells a fault in one line on standard error, and help on standard output.
+fn tell<R: Eprint + Print>(rt: &R, fault: &Fault) -> io::Result<()> {
+    match fault {
         Fault::Help(text) => print!(rt; "{text}"),
         _ => eprintln!(rt; "{fault}"),
-    };
-    status_told(told.is_ok(), fault)
+    }
 }
 
-/// The exit status where the fault was told, or could not be.
-fn status_told(is_told: bool, fault: &Fault) -> u8
-    ensures { result ≡ (if is_told then status_of fault.now else status_of Output) }
+/// The exit status after a fault was told: its own, and that of the output where telling failed.
+fn status_after(told: &io::Result<()>, fault: &Fault) -> u8
+    ensures { result ≡ (if is_ok told.now then status_of fault.now else status_of Output) }
 {
-    if is_told {
-        fault.exit_status()
-    } else {
-        Fault::Output.exit_status()
+    match told {
+        Ok(()) => fault.exit_status(),
+        Err(_) => Fault::Output.exit_status(),
     }
 }

@@ -1,19 +1,55 @@
 //! The output of a job.
 
-ghost use Rattle.std.specs.Prelude.{◌≡◌, IfErr, OnOk};
+ghost use Rattle.std.specs.Prelude.{◌≡◌, ◌≤◌, [], IfErr, IfOk, OnOk, length, take};
 ghost use Rattle.std.specs.Io.KnownBytes.{Appends};
+ghost use Rattle.sms_send.specs.Output.{WritesFront};
 ghost use Rattle.sms_send.specs.declared.fault.Fault.TheVariants.{Output};
 
 use crate::fault::Fault;
-use std::io::Write;
+use std::io::{ErrorKind, Write};
 
-/// Writes all of the text, and lets it go out.
+/// Writes all of the text, and lets it go out. Where that fails, what went out is a front of it.
 pub fn write_out<W: Write>(output: &mut W, text: &[u8]) -> Result<(), Fault>
     ensures written { OnOk result (Appends (W.contents output.old) (W.contents output.new) text.now) }
+    ensures front { WritesFront (W.contents output.old) (W.contents output.new) text.now }
     ensures failed { IfErr result (λ fault. fault ≡ Output) }
 {
-    if output.write_all(text).is_err() || output.flush().is_err() {
-        return Err(Fault::Output);
+    write_text(output, text)?;
+    match output.flush() {
+        Ok(()) => Ok(()),
+        Err(_) => Err(Fault::Output),
     }
-    Ok(())
+}
+
+/// Writes all of the text, as much at a time as the output takes.
+fn write_text<W: Write>(output: &mut W, text: &[u8]) -> Result<(), Fault>
+    ensures written { OnOk result (Appends (W.contents output.old) (W.contents output.new) text.now) }
+    ensures front { WritesFront (W.contents output.old) (W.contents output.new) text.now }
+    ensures failed { IfErr result (λ fault. fault ≡ Output) }
+{
+    let mut rest = text;
+    for _ in 0..u64::MAX {
+        if rest.is_empty() {
+            return Ok(());
+        }
+        let taken = write_some(output, rest)?;
+        rest = &rest[taken..];
+    }
+    Err(Fault::Output)
+}
+
+/// Writes once, and gives how many octets were taken: none where the write was interrupted. An
+/// output that takes none of its own accord has failed.
+fn write_some<W: Write>(output: &mut W, rest: &[u8]) -> Result<usize, Fault>
+    ensures bound { IfOk result (λ taken. taken ≤ length rest.now) }
+    ensures taken { IfOk result (λ taken. Appends (W.contents output.old) (W.contents output.new) (take taken rest.now)) }
+    ensures failed { IfErr result (λ fault. fault ≡ Output) }
+    ensures none { IfErr result (λ _. Appends (W.contents output.old) (W.contents output.new) []) }
+{
+    match output.write(rest) {
+        Ok(0) => Err(Fault::Output),
+        Ok(taken) => Ok(taken),
+        Err(error) if error.kind() == ErrorKind::Interrupted => Ok(0),
+        Err(_) => Err(Fault::Output),
+    }
 }

@@ -4,6 +4,7 @@ ghost use Rattle.std.specs.Prelude.{◌≡◌, ◌≢◌, None, IfErr, IfOk, IfS
 ghost use Rattle.std.specs.Io.KnownBytes.{Appends};
 ghost use Rattle.sms_send.specs.Fields.{records_of};
 ghost use Rattle.sms_send.specs.Messages.{messages_fault};
+ghost use Rattle.sms_send.specs.Output.{WritesFront};
 ghost use Rattle.sms_send.specs.PlanText.{TellsPlan, kind_of, plan_of};
 ghost use Rattle.sms_send.specs.declared.fault.Fault.TheVariants.{Output};
 
@@ -32,6 +33,9 @@ pub fn run_plan<R: Read + Drop, W: Write>(
 
     // A record is named just where it is the first faulty one.
     ensures faulty { IfErr result (λ fault. IfSome (R.remaining input) (λ bytes. TellsPlan (records_of bytes) fault)) }
+
+    // Where the output failed, a front of the plan was written.
+    ensures front { IfErr result (λ fault. fault ≡ Output → IfSome (R.remaining input) (λ bytes. WritesFront (W.contents output.old) (W.contents output.new) (plan_of (kind_of long) (records_of bytes)))) }
 
     // Nothing was written, save where writing itself failed.
     ensures quiet { IfErr result (λ fault. fault ≢ Output → output.new ≡ output.old) }
