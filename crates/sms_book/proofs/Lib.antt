@@ -2,6 +2,11 @@ pub mod Moves
 pub mod Totals
 pub mod Turns
 pub mod Openings
+pub mod Names
+pub mod Refusals
+pub mod Halving
+pub mod Longest
+pub mod TariffLaws
 pub mod Dealing
 pub mod Returned
 pub mod Sums

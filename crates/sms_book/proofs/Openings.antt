@@ -1,18 +1,15 @@
 -- Looking through a list of openings.
-use Rattle.std.proofs.Common.{◌≡◌, ◌⊎◌, ℕ, ◌+◌, ◌<◌, ◌≤◌, List, [], length, sym, ap, ◌∙◌, subst, arith, inl, inr}
-use Rattle.std.specs.Prelude.{slice_index, slice_index_or, string_bytes}
+use Rattle.std.proofs.Common.{◌≡◌, ◌⊎◌, ℕ, ◌+◌, ◌<◌, ◌≤◌, List, length, sym, ap, ◌∙◌, subst, arith, inl, inr}
+use Rattle.std.specs.Prelude.{slice_index, slice_index_or}
 use Rattle.std.proofs.lemmas.List.{get_or-map, length-map}
 use native.Mathlib.Decide.{ℕ_discrete, dec_lt}
 use mathlib.Core.Logic.{dite}
 use Rattle.sms_book.specs.declared.opening.Opening.{Opening}
 use Rattle.sms_core.specs.Limits.{most_topped}
-use Rattle.sms_book.specs.Openings.{names_of, credits_of, HaveOneName, IsFirstDouble, AllSmall}
+use Rattle.sms_book.specs.Openings.{credits_of, HaveOneName, IsFirstDouble, AllSmall}
 
 credits_at : (os : List Opening) (n : ℕ) (o : Opening) → n < length os → o ≡ slice_index_or os n o → slice_index (credits_of os) n ≡ o.credits
 credits_at os n o low is = get_or-map (λ x. x.credits) os n o 0 low ∙ ap (λ x. x.credits) (sym is)
-
-name_at : (os : List Opening) (n : ℕ) (o : Opening) → n < length os → o ≡ slice_index_or os n o → slice_index_or (names_of os) n [] ≡ string_bytes o.name
-name_at os n o low is = get_or-map (λ x. string_bytes x.name) os n o [] low ∙ ap (λ x. string_bytes x.name) (sym is)
 
 pub small_more : (os : List Opening) (n : ℕ) (o : Opening) → n < length os → o ≡ slice_index_or os n o → o.credits ≤ most_topped → ((k : ℕ) → k < n → slice_index (credits_of os) k ≤ most_topped)
     → (k : ℕ) → k < n + 1 → slice_index (credits_of os) k ≤ most_topped
@@ -28,17 +25,6 @@ not_small os n o low is large all =
 
 pub all_small : (os : List Opening) → ((k : ℕ) → k < length os → slice_index (credits_of os) k ≤ most_topped) → AllSmall (credits_of os)
 all_small os h i low = h i (let l = length-map os (λ x. x.credits) in omega arith)
-
-pub one_name : (os : List Opening) (first second : ℕ) (o p : Opening) → first < second → second < length os → o ≡ slice_index_or os first o → p ≡ slice_index_or os second p → string_bytes o.name ≡ string_bytes p.name
-    → HaveOneName (names_of os) first second
-one_name os first second o p below low is-o is-p same =
-    (below, (let l = length-map os (λ x. string_bytes x.name) in omega arith), name_at os first o (omega arith) is-o ∙ same ∙ sym (name_at os second p low is-p))
-
-pub other_names : (os : List Opening) (first second : ℕ) (o p : Opening) → first < second → second < length os → o ≡ slice_index_or os first o → p ≡ slice_index_or os second p → (string_bytes o.name ≡ string_bytes p.name → ⊥)
-    → ((k : ℕ) → k < first → ¬ (HaveOneName (names_of os) k second)) → (k : ℕ) → k < first + 1 → ¬ (HaveOneName (names_of os) k second)
-other_names os first second o p below low is-o is-p differ before k low-k have = dite (ℕ_discrete k first)
-    (λ e. differ (sym (name_at os first o (omega arith) is-o) ∙ subst (λ (j : ℕ). slice_index_or (names_of os) j [] ≡ slice_index_or (names_of os) second []) e have.2 ∙ name_at os second p low is-p))
-    (λ ne. before k (omega arith) have)
 
 pub first_of_all : (names : List (List ℕ)) (first second : ℕ) → HaveOneName names first second → ((k : ℕ) → k < first → ¬ (HaveOneName names k second)) → ((x y : ℕ) → y < second → ¬ (HaveOneName names x y))
     → IsFirstDouble names first second

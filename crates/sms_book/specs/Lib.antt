@@ -6,6 +6,9 @@ pub mod Shares
 pub mod Sums
 pub mod Money
 pub mod Openings
+pub mod Tariffs
+pub mod TariffLaws
+pub mod Indexes
 pub mod Standing
 pub mod TableSteps
 pub mod Laws

@@ -5,6 +5,14 @@ use Rattle.std.specs.Prelude.{ℕ, ◌^◌}
 abbrev pub most_workers : ℕ
 most_workers = 32
 
+-- the rates of a tariff
+abbrev pub most_rates : ℕ
+most_rates = 1000
+
+-- the digits of a rate's prefix
+abbrev pub most_digits : ℕ
+most_digits = 20
+
 -- the credits of an account that are returned and reserved together, so that no sum wraps
 abbrev pub most_returned : ℕ
 most_returned = 2 ^ 60

@@ -33,3 +33,22 @@ pub enum GatherFault {
     #[error("out of memory")]
     OutOfMemory,
 }
+
+/// Why rates are no tariff.
+#[derive(Clone, Copy, Debug, PartialEq, Eq, thiserror::Error)]
+pub enum TariffError {
+    /// There are more than 1,000 rates.
+    #[error("a tariff has at most 1000 rates")]
+    TooMany,
+    /// The prefix of the rate at this place isn't 0 to 20 digits.
+    #[error("the prefix of rate {place} is not 0 to 20 digits")]
+    BadPrefix { place: usize },
+    /// The credits of the rate at this place aren't 1 to 1,000.
+    #[error("the credits of rate {place} are not 1 to 1000")]
+    BadCredits { place: usize },
+    /// Two rates, by their places, have one prefix.
+    #[error("rates {first} and {second} have the same prefix")]
+    Duplicate { first: usize, second: usize },
+    #[error("out of memory")]
+    OutOfMemory,
+}

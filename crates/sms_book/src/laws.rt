@@ -1,9 +1,12 @@
-//! What holds of every book, and of its table over every state that meets its rule and every run of
-//! steps.
+//! What holds of every book, of its table over every state that meets its rule and every run of
+//! steps, and of what every tariff charges.
 ghost use Rattle.sms_book.specs.Laws.{EachBalanced, RuleIsOrderly, OpeningMeetsRule, StepKeepsRule, RunIsOrderly, StepMovesTotals, StepMovesBookTotals, OpeningSharesAreBlank};
+ghost use Rattle.sms_book.specs.Tariffs.{IsTariff};
+ghost use Rattle.sms_book.specs.TariffLaws.{CostIsOfTheLongest, CostIgnoresOrder};
 
 use crate::book::Book;
 use crate::name::BookName;
+use crate::tariff::Tariff;
 
 /// Of any book, so of whatever a taker of its lock finds: each account's top-ups are its free,
 /// reserved and charged credits.
@@ -52,4 +55,23 @@ pub fn step_moves_book_totals()
 /// any account.
 pub fn opening_shares_are_blank()
     ensures { OpeningSharesAreBlank }
+{}
+
+/// Of any tariff: it has at most 1,000 rates, each a prefix of at most 20 digits with 1 to 1,000
+/// credits, and no two of one prefix.
+pub fn tariff_is_good(tariff: &Tariff)
+    ensures { IsTariff tariff.now }
+{
+    let _rates = &tariff.rates;
+}
+
+/// What a segment costs by a tariff is the credits of a rate with whose prefix the destination's
+/// digits begin, where no rate with a longer prefix fits; where none fits, it is 1.
+pub fn cost_is_of_the_longest()
+    ensures { CostIsOfTheLongest }
+{}
+
+/// Two tariffs with the same rates, in whatever order, cost the same.
+pub fn cost_ignores_order()
+    ensures { CostIgnoresOrder }
 {}

@@ -5,3 +5,7 @@
 pub const MOST_WORKERS: usize = 32;
 /// The most credits of an account that are returned and reserved together: 2^60.
 pub const MOST_RETURNED: u64 = 1 << 60;
+/// The most rates that a tariff has.
+pub const MOST_RATES: usize = 1_000;
+/// The most digits that the prefix of a rate has.
+pub const MOST_DIGITS: usize = 20;

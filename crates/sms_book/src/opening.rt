@@ -6,6 +6,7 @@ ghost use Rattle.sms_book.specs.declared.error.BookError.TheVariants.{BadCount, 
 use crate::blank::{Blank, make_blank};
 use crate::error::BookError;
 use crate::limits::MOST_WORKERS;
+use crate::named::{Named, first_like};
 use sms_core::{MOST_ACCOUNTS, MOST_TOPPED};
 use std::alloc::{AllocError, Global};
 
@@ -16,18 +17,14 @@ pub struct Opening {
     pub credits: u64,
 }
 
-/// The first place before this one that has its name.
-fn first_like(openings: &[Opening], second: usize) -> Option<usize>
-    requires { second < length openings.now }
-    ensures found { IfSome result (λ first. HaveOneName (names_of openings.now) first second × ((x : ℕ) → x < first → ¬ (HaveOneName (names_of openings.now) x second))) }
-    ensures none { IsNone result → (x : ℕ) → ¬ (HaveOneName (names_of openings.now) x second) }
-{
-    for first in 0..second {
-        if openings[first].name == openings[second].name {
-            return Some(first);
-        }
+impl Named for Opening {
+    ghost use Rattle.std.specs.Prelude.{string_bytes};
+
+    ghost name = { λ o. string_bytes o.name };
+
+    fn name(&self) -> &str {
+        self.name.as_str()
     }
-    None
 }
 
 /// The first two places with one name.

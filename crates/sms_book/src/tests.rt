@@ -15,6 +15,7 @@ use std::marker::Brand;
 use std::process::Abort;
 use std::test::Fail;
 
+mod tariffs;
 mod threads;
 
 fn openings_of(alloc: Global, accounts: &[(&str, u64)]) -> Result<Vec<Opening>, Fail> {

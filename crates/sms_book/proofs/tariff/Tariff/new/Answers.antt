@@ -1,0 +1,15 @@
+use Rattle.std.proofs.Common.{◌≡◌, Err, refl, ap}
+use Rattle.sms_book.specs.declared.error.TariffError.TheVariants.{Duplicate}
+use Rattle.sms_book.specs.Tariffs.{prices_of}
+use Rattle.sms_book.proofs.Refusals.{told}
+use Rattle.sms_book.proofs.tariff.Tariff.new.Goals as goal
+
+pub returns-in-Err-clause-double : goal.returns-in-Err-clause-double
+returns-in-Err-clause-double c first second =
+    let t = told (prices_of c.args.rates.now) c.in-Err.fault (Duplicate first second) c.in-Err.ensures.refused in (
+      λ is.
+          let same : c.in-Err.fault ≡ Duplicate first second = cc in
+          let r = t.0 same in
+          (r.0, r.1.1, r.1.2, r.1.3),
+      λ p. ap Err (t.1 (p.0, (refl, p.1, p.2, p.3))),
+    )

@@ -1,0 +1,31 @@
+-- The places of a tariff's rates in the order of their prefixes, in which a prefix is found by halving.
+use Rattle.std.specs.Prelude.{◌≡◌, ℕ, ◌<◌, ◌≤◌, List, length, slice_index}
+use Rattle.std.specs.Cmp.Lexicographic.{slice_cmp}
+use Rattle.std.specs.Ordering.{nat_cmp}
+use Rattle.std.specs.declared.cmp.Ordering.TheVariants.{Less}
+use Rattle.sms_book.specs.Tariffs.{Price, price_at, IsTariff}
+
+-- the prefix of the rate whose place stands at i
+abbrev pub prefix_in : List Price → List ℕ → ℕ → List ℕ
+prefix_in prices order i = (price_at prices (slice_index order i)).prefix
+
+-- one prefix comes before another
+abbrev pub Before : List ℕ → List ℕ → Type 0
+Before a b = slice_cmp nat_cmp a b ≡ Less
+
+-- these are the first n places, by their prefixes
+pub record IsIndex (prices : List Price) (order : List ℕ) (n : ℕ) : Type 0 where
+  pub places : (i : ℕ) → i < length order → slice_index order i < n
+  pub rising : (i j : ℕ) → i < j → j < length order → Before (prefix_in prices order i) (prefix_in prices order j)
+  pub all : (place : ℕ) → place < n → (i : ℕ) × (i < length order) × (slice_index order i ≡ place)
+
+-- a prefix that isn't there belongs at this place
+pub record IsRoom (prices : List Price) (order : List ℕ) (prefix : List ℕ) (at : ℕ) : Type 0 where
+  pub within : at ≤ length order
+  pub below : (i : ℕ) → i < at → Before (prefix_in prices order i) prefix
+  pub above : (i : ℕ) → at ≤ i → i < length order → Before prefix (prefix_in prices order i)
+
+-- what every tariff keeps
+pub record TariffStands (prices : List Price) (order : List ℕ) : Type 0 where
+  pub tariff : IsTariff prices
+  pub index : IsIndex prices order (length prices)

@@ -1,0 +1,156 @@
+//! Tariffs and what they charge, by worked rows.
+use crate::error::TariffError;
+use crate::rate::Rate;
+use crate::tariff::Tariff;
+use std::alloc::Global;
+use std::test::Fail;
+
+fn tariff_of(alloc: Global, rates: &[(&str, u32)]) -> Result<Result<Tariff, TariffError>, Fail> {
+    let mut list = Vec::new(alloc);
+    for (prefix, credits) in rates {
+        list.push(Rate {
+            prefix: String::from_str(alloc, prefix)?,
+            credits: *credits,
+        })?;
+    }
+    Ok(Tariff::new(alloc, list.as_slice()))
+}
+
+// What one segment costs to each of these destinations.
+#[test]
+fn the_longest_prefix_costs(rt: HostRuntime) -> Result<(), Fail> {
+    let alloc = rt.alloc();
+    let tariff = tariff_of(alloc, &[("44", 3), ("4477", 5), ("", 2)])??;
+    let rows = [
+        ("+447700900123", 5),
+        ("447700900123", 5),
+        ("4477", 5),
+        ("4420", 3),
+        ("447", 3),
+        ("44", 3),
+        ("4", 2),
+        ("33", 2),
+        ("+", 2),
+        ("", 2),
+        // One leading + is left out, and no other.
+        ("++4477", 2),
+        ("44+77", 3),
+    ];
+    for (destination, credits) in rows.as_slice() {
+        assert_eq!(rt; tariff.cost(destination), *credits);
+    }
+    Ok(())
+}
+
+// Without a rate that fits a segment costs one credit.
+#[test]
+fn no_prefix_costs_one(rt: HostRuntime) -> Result<(), Fail> {
+    let alloc = rt.alloc();
+    let tariff = tariff_of(alloc, &[("4477", 5), ("44", 3)])??;
+    assert_eq!(rt; tariff.cost("33"), 1);
+    assert_eq!(rt; tariff.cost("+4"), 1);
+    assert_eq!(rt; tariff.cost(""), 1);
+    let empty = tariff_of(alloc, &[])??;
+    assert_eq!(rt; empty.cost("+447700900123"), 1);
+    Ok(())
+}
+
+// A prefix has at most 20 digits, and a destination may have more.
+#[test]
+fn a_prefix_has_20_digits(rt: HostRuntime) -> Result<(), Fail> {
+    let alloc = rt.alloc();
+    let tariff = tariff_of(alloc, &[("01234567890123456789", 1_000), ("0", 2)])??;
+    assert_eq!(rt; tariff.cost("01234567890123456789"), 1_000);
+    assert_eq!(rt; tariff.cost("+0123456789012345678999"), 1_000);
+    assert_eq!(rt; tariff.cost("0123456789012345678"), 2);
+    Ok(())
+}
+
+fn refusal(alloc: Global, rates: &[(&str, u32)]) -> Result<Option<TariffError>, Fail> {
+    match tariff_of(alloc, rates)? {
+        Err(TariffError::OutOfMemory) => Err(TariffError::OutOfMemory.into()),
+        Err(fault) => Ok(Some(fault)),
+        Ok(_) => Ok(None),
+    }
+}
+
+#[test]
+fn rates_are_refused(rt: HostRuntime) -> Result<(), Fail> {
+    let alloc = rt.alloc();
+    let prefix = |place| Some(TariffError::BadPrefix { place });
+    let credits = |place| Some(TariffError::BadCredits { place });
+    let double = |first, second| Some(TariffError::Duplicate { first, second });
+    assert_eq!(rt; refusal(alloc, &[("44", 3), ("44", 3)])?, double(0, 1));
+    assert_eq!(rt; refusal(alloc, &[("4a", 3)])?, prefix(0));
+    assert_eq!(rt; refusal(alloc, &[("44", 0)])?, credits(0));
+    assert_eq!(rt; refusal(alloc, &[("44", 1_001)])?, credits(0));
+    assert_eq!(rt; refusal(alloc, &[("44", 1), ("+44", 1)])?, prefix(1));
+    assert_eq!(rt; refusal(alloc, &[("012345678901234567890", 1)])?, prefix(0));
+    // Of one rate the prefix comes first, then the credits; of two the earlier one.
+    assert_eq!(rt; refusal(alloc, &[("4a", 0)])?, prefix(0));
+    assert_eq!(rt;
+        refusal(alloc, &[("44", 1), ("44", 0), ("4a", 1)])?,
+        credits(1)
+    );
+    assert_eq!(rt;
+        refusal(alloc, &[("", 1), ("1", 1), ("", 2), ("x", 0)])?,
+        double(0, 2)
+    );
+    assert_eq!(rt; refusal(alloc, &[("44", 1), ("4", 1_000)])?, None);
+    // Too many rates come before any fault of a single one.
+    assert_eq!(rt;
+        refusal(alloc, &[("x", 0); 1_001])?,
+        Some(TariffError::TooMany)
+    );
+    assert_eq!(rt; refusal(alloc, &[("x", 0); 1_000])?, prefix(0));
+    Ok(())
+}
+
+// The largest tariff, whose rates come in no order of their prefixes.
+#[test]
+fn a_thousand_rates(rt: HostRuntime) -> Result<(), Fail> {
+    let alloc = rt.alloc();
+    let mut rates = Vec::new(alloc);
+    for n in 0..1_000u32 {
+        let number = n * 7 % 1_000;
+        rates.push(Rate {
+            prefix: format!(in alloc; "{number}")?,
+            credits: 1 + number,
+        })?;
+    }
+    let tariff = Tariff::new(alloc, rates.as_slice())?;
+    for number in 0..1_000u32 {
+        let destination = format!(in alloc; "+{number}")?;
+        assert_eq!(rt; tariff.cost(destination.as_str()), 1 + number);
+    }
+    assert_eq!(rt; tariff.cost("9990"), 1_000);
+    Ok(())
+}
+
+#[test]
+fn refusals_of_rates_say_their_places(rt: HostRuntime) -> Result<(), Fail> {
+    let alloc = rt.alloc();
+    let rows = [
+        (TariffError::TooMany, "a tariff has at most 1000 rates"),
+        (
+            TariffError::BadPrefix { place: 2 },
+            "the prefix of rate 2 is not 0 to 20 digits",
+        ),
+        (
+            TariffError::BadCredits { place: 3 },
+            "the credits of rate 3 are not 1 to 1000",
+        ),
+        (
+            TariffError::Duplicate {
+                first: 4,
+                second: 5,
+            },
+            "rates 4 and 5 have the same prefix",
+        ),
+        (TariffError::OutOfMemory, "out of memory"),
+    ];
+    for (fault, text) in rows.as_slice() {
+        assert_eq!(rt; format!(in alloc; "{fault}")?.as_str(), *text);
+    }
+    Ok(())
+}
