@@ -4,19 +4,25 @@ use Rattle.std.specs.List.{remove}
 use Rattle.std.proofs.KnownBytes.{Appends-nil}
 use Rattle.sms_pdu.specs.declared.body.Pdu.{Pdu}
 use Rattle.sms_pdu.specs.declared.command.Mode.{Mode}
-use Rattle.sms_pdu.specs.Grammar.{Spells}
+use Rattle.sms_pdu.specs.Grammar.{Spells, IsLawful, spelling_of}
+use Rattle.sms_pdu.specs.Size.{size_of}
 use Rattle.sms_pdu.proofs.Spellings.{one_spelling}
+use Rattle.sms_pdu.proofs.Writings.{encoded}
 use Rattle.sms_session.specs.declared.session.State.{State}
 use Rattle.sms_session.specs.Session.{opening}
 use Rattle.sms_bind.specs.declared.binding.BindFault.{BindFault}
 use Rattle.sms_bind.specs.declared.binding.BindFault.TheVariants as fault
 use Rattle.sms_session.specs.declared.session.OpenFault.{OpenFault}
 use Rattle.sms_session.specs.declared.session.OpenFault.TheVariants.{Refused, NotBind}
-use Rattle.sms_pdu.specs.Frame.{Division, octets_of}
+use Rattle.sms_pdu.specs.Frame.{Division}
 use Rattle.sms_pdu.specs.Header.{header_at_front}
 use Rattle.sms_pdu.specs.Streams.{SomeAppended}
-use Rattle.sms_pdu.specs.declared.frame.Frame.{Frame}
 use Rattle.sms_bind.specs.Answers.{FoundNone, Refuses, fault_of}
+use Rattle.sms_bind.specs.Binds.{Setting, bind_pdu}
+
+-- a bind that has a length has a spelling
+pub bind_lawful : (s : Setting) (n : ℕ) → size_of (bind_pdu s 0) ≡ Ok n → IsLawful (bind_pdu s 0)
+bind_lawful s n e = (spelling_of n (bind_pdu s 0), encoded (bind_pdu s 0) n e tt (omega arith) (omega arith))
 
 pub same_text : (p : Pdu) (a b : List ℕ) → Spells p a → Spells p b → a ≡ b
 same_text p a b s t = let o = one_spelling p (a, s) in o.2 a s ∙ sym (o.2 b t)
@@ -57,6 +63,6 @@ first_refuses mode o got first others rest (Refused status) d e = (first, others
 first_refuses mode o got first others rest NotBind d e = inl (first, others, rest, d, by_tests _ _ _ mode o _ _ NotBind e)
 
 -- the first of a list of frames that isn't empty, and the others
-pub first_of_frames : (fs : List Frame) (f : Frame) → 0 < length fs → f ≡ get_or fs 0 f → octets_of fs ≡ f.octets ∷ octets_of (remove fs 0)
+pub first_of_frames : (fs : List (List ℕ)) (f : List ℕ) → 0 < length fs → f ≡ get_or fs 0 f → fs ≡ f ∷ remove fs 0
 first_of_frames [] f low is = absurd (omega arith)
-first_of_frames (x ∷ fs) f low is = ap (λ (y : Frame). y.octets ∷ octets_of fs) (sym is)
+first_of_frames (x ∷ fs) f low is = ap (λ (y : List ℕ). y ∷ fs) (sym is)

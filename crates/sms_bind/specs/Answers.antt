@@ -1,9 +1,8 @@
 -- What the octets that were read say to a bind.
 use Rattle.std.specs.Prelude.{◌≡◌, ℕ, List, [], ◌∷◌, Bool, true, false, Result, Ok, Err, ◌⊎◌}
 use Rattle.sms_pdu.specs.declared.command.Mode.{Mode}
-use Rattle.sms_pdu.specs.declared.frame.Frame.{Frame}
 use Rattle.sms_pdu.specs.Header.{header_at_front}
-use Rattle.sms_pdu.specs.Frame.{octets_of, Division, IsBad}
+use Rattle.sms_pdu.specs.Frame.{Division, IsBad}
 use Rattle.sms_session.specs.declared.session.State.{State}
 use Rattle.sms_session.specs.declared.session.OpenFault.{OpenFault}
 use Rattle.sms_session.specs.declared.session.OpenFault.TheVariants.{Refused, NotBind}
@@ -26,8 +25,8 @@ is_sent (Ok b) = true
 is_sent (Err e) = sent_at e
 
 -- the first frame bound the session; the further frames and the rest are kept
-abbrev pub Bounds : Mode → List ℕ → State → List Frame → List ℕ → Type 0
-Bounds mode got state frames rest = (first : List ℕ) × Division got (first ∷ octets_of frames) rest × (opening mode (header_at_front first) ≡ Ok state)
+abbrev pub Bounds : Mode → List ℕ → State → List (List ℕ) → List ℕ → Type 0
+Bounds mode got state frames rest = (first : List ℕ) × Division got (first ∷ frames) rest × (opening mode (header_at_front first) ≡ Ok state)
 
 -- the first frame didn't bind it
 abbrev pub FirstSays : Mode → List ℕ → OpenFault → Type 0

@@ -3,7 +3,7 @@
 ghost use Rattle.std.specs.Prelude.{◌≡◌, ℕ, ◌++◌, ◌∷◌, ◌⊎◌, [], List, true, ◌≢◌, ◌<◌, ◌^◌, length, false, Ok, Err, IfOk, IfErr, OnOk};
 ghost use Rattle.std.specs.Io.KnownBytes.{Appends, Consumes, IsAtEnd};
 ghost use Rattle.sms_pdu.specs.Grammar.{Spells};
-ghost use Rattle.sms_pdu.specs.Frame.{octets_of, Division};
+ghost use Rattle.sms_pdu.specs.Frame.{Division};
 ghost use Rattle.sms_pdu.specs.Streams.{SomeAppended};
 ghost use Rattle.sms_bind.specs.Devices.{device, faults_of, writer, write_faults, is_broken};
 ghost use Rattle.sms_bind.specs.Faults.{IsCounted};
@@ -15,7 +15,7 @@ use crate::bound::Bound;
 use crate::settings::Settings;
 use crate::tap::{Tap, gave_nothing};
 use crate::wire::Wire;
-use sms_pdu::{Fed, Frame, Framer, Frames, Mode, Octets, encode, frame_header};
+use sms_pdu::{Fed, Frame, Framer, Frames, Mode, encode_into};
 use sms_session::{OpenFault, Opened};
 use std::alloc::{AllocError, Global};
 use std::io::{Read, Write};
@@ -91,16 +91,11 @@ fn write_bind<W: Write>(
     ensures fault { result ≡ Err WriteFault → (is_broken wire.old ≡ true) ⊎ IsCounted (write_faults wire.old) (write_faults wire.new) }
     ensures which { IfErr result (λ e. (sent_at e ≡ false) × (e ≢ ReadFault) × (e ≢ Closed)) }
 {
-    let Ok(pdu) = settings.pdu(alloc, number) else {
+    let mut octets = Vec::new(alloc);
+    let Ok(_size) = encode_into(&mut octets, &settings.pdu(number)) else {
         return Err(BindFault::OutOfMemory);
     };
-    let Ok(octets) = encode(alloc, &pdu) else {
-        return Err(BindFault::OutOfMemory);
-    };
-    let frame = Frame {
-        octets: Octets::new(octets),
-    };
-    match wire.send(frame) {
+    match wire.send(Frame::new(octets)) {
         Ok(_receipt) => Ok(()),
         Err(_fault) => Err(BindFault::Write),
     }
@@ -117,7 +112,7 @@ fn read_answer<R: Read>(alloc: Global, reader: &mut Tap<R>, mode: Mode) -> Resul
         Ok(read) => read,
         Err(fault) => return Err(fault),
     };
-    let header = frame_header(first.octets.as_slice());
+    let header = first.header();
     match Opened::new(mode).bound(&header) {
         Ok(session) => Ok(Bound {
             session,
@@ -143,7 +138,7 @@ fn read_first<R: Read>(
     alloc: Global,
     reader: &mut Tap<R>,
 ) -> Result<(Frame, Framer, Frames), BindFault>
-    ensures answer { (got : List ℕ) × Consumes (R.remaining (device reader.old)) (R.remaining (device reader.new)) got × IfOk result (λ r. Division got (r.0.octets ∷ octets_of r.2) r.1) × IfErr result (FoundNone got) }
+    ensures answer { (got : List ℕ) × Consumes (R.remaining (device reader.old)) (R.remaining (device reader.new)) got × IfOk result (λ r. Division got (r.0 ∷ r.2) r.1) × IfErr result (FoundNone got) }
     ensures few { IfOk result (λ r. length r.2 < 2 ^ 63) }
     ensures end { result ≡ Err Closed → IsAtEnd (R.remaining (device reader.new)) }
     ensures fault { result ≡ Err ReadFault → IsCounted (faults_of reader.old) (faults_of reader.new) }

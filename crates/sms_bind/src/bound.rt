@@ -3,7 +3,7 @@
 ghost use Rattle.std.specs.Prelude.{◌<◌, ◌^◌, length};
 ghost use Rattle.std.specs.List.{AllByRecursion, AllByRecursion-prop};
 ghost use Rattle.std.proofs.Props.{props};
-ghost use Rattle.sms_pdu.specs.Frame.{IsFrame, octets_of};
+ghost use Rattle.sms_pdu.specs.Frame.{IsFrame};
 ghost use Rattle.sms_session.specs.Session.{IsBound};
 
 use sms_pdu::{Framer, Frames};
@@ -18,6 +18,6 @@ pub struct Bound {
     /// The whole frames that were read after the answer.
     pub frames: Frames,
     ghost bound: { IsBound session },
-    ghost each: { AllByRecursion IsFrame (octets_of frames) } by { AllByRecursion-prop IsFrame (λ f. Prim.hlevel props) (octets_of frames) },
+    ghost each: { AllByRecursion IsFrame frames } by { AllByRecursion-prop IsFrame (λ f. Prim.hlevel props) frames },
     ghost few: { length frames < 2 ^ 63 },
 }

@@ -1,8 +1,8 @@
 //! A wire, and a bind over devices in memory.
 use crate::{BindFault, Bound, Settings, Tap, Wire, WireFault, bind};
-use sms_pdu::{Field, Frame, Mode, Octets, PduError};
+use sms_pdu::{Field, Frame, Mode, Octets, PduError, is_frame};
 use sms_session::State;
-use std::alloc::{AllocError, Global};
+use std::alloc::Global;
 use std::io;
 use std::io::{Error, ErrorKind, Read, Write};
 use std::process::Abort;
@@ -75,13 +75,7 @@ fn settings_of(
     else {
         panic!(rt; "no memory")
     };
-    Settings::new(
-        alloc,
-        mode,
-        system_id,
-        password,
-        Octets::new(Vec::new(alloc)),
-    )
+    Settings::new(mode, system_id, password, Octets::new(Vec::new(alloc)))
 }
 
 fn source_of(idle: u32, octets: &[u8], fails: bool) -> Tap<Source<'_>> {
@@ -105,10 +99,11 @@ fn bound_by(
     bind(alloc, &mut reader, &mut wire, &settings, 1)
 }
 
-fn frame(alloc: Global, octets: &[u8]) -> Result<Frame, AllocError> {
-    Ok(Frame {
-        octets: Octets::copy(alloc, octets)?,
-    })
+fn frame(alloc: Global, octets: &[u8]) -> Result<Frame, Fail> {
+    if !is_frame(octets) {
+        return Err("no frame".into());
+    }
+    Ok(Frame::new(Vec::from_slice(alloc, octets)?))
 }
 
 #[test]

@@ -24,7 +24,7 @@ impl Model for Receipt {
 
     ghost Value = { List ℕ };
 
-    ghost view = { λ r. r.frame.octets };
+    ghost view = { λ r. r.frame };
 }
 
 /// Why a frame wasn't sent whole.
@@ -71,10 +71,10 @@ impl<W: Write> Wire<W> {
     /// Writes a frame whole, in as few writes as the writer takes. Once a write has failed nothing is
     /// written any more.
     pub fn send(&mut self, frame: Frame) -> Result<Receipt, WireFault>
-        ensures receipt { IfOk result (λ r. r ≡ frame.octets) }
-        ensures failed_receipt { (r : List ℕ) → result ≡ Err (WriteFault r) → r ≡ frame.octets }
-        ensures whole { OnOk result (Appends (W.contents (writer self.old)) (W.contents (writer self.new)) frame.octets) }
-        ensures part { OnErr result (SomeAppended (W.contents (writer self.old)) (W.contents (writer self.new)) frame.octets) }
+        ensures receipt { IfOk result (λ r. r ≡ frame) }
+        ensures failed_receipt { (r : List ℕ) → result ≡ Err (WriteFault r) → r ≡ frame }
+        ensures whole { OnOk result (Appends (W.contents (writer self.old)) (W.contents (writer self.new)) frame) }
+        ensures part { OnErr result (SomeAppended (W.contents (writer self.old)) (W.contents (writer self.new)) frame) }
         ensures broken { (result ≡ Err Broken) ↔ (is_broken self.old ≡ true) }
         ensures kept { is_broken self.old ≡ true → self.new ≡ self.old }
         ensures after { MatchResult result (λ _. is_broken self.new ≡ false) (λ _. is_broken self.new ≡ true) }
@@ -85,7 +85,7 @@ impl<W: Write> Wire<W> {
         if self.broken {
             return Err(WireFault::Broken);
         }
-        match self.tap.put(frame.octets.as_slice()) {
+        match self.tap.put(frame.as_slice()) {
             Ok(()) => Ok(Receipt { frame }),
             Err(_) => {
                 self.broken = true;

@@ -67,19 +67,22 @@ front_cases s =
       ]
     ]
 
+-- a frame before a stream that is divided
+pub frame_before : (f s : List ℕ) (fs : List (List ℕ)) (rest : List ℕ) → IsFrame f → Division s fs rest → Division (f ++ s) (f ∷ fs) rest
+frame_before f s fs rest h d =
+    record {
+      whole = ap (λ (x : List ℕ). f ++ x) d.whole ∙ sym (append_assoc f (concat fs) rest);
+      each = (h, d.each);
+      ended = d.ended;
+    }
+
 abbrev Divided : List ℕ → Type 0
 Divided s = (frames : List (List ℕ)) × (rest : List ℕ) × Division s frames rest
 
 divided_more : (s : List ℕ) (k : ℕ) → FoundWhole s k → Divided (drop k s) → Divided s
-divided_more s k w d = (
-  take k s ∷ d.0,
-  d.1,
-  record {
-    whole = sym (take-append-drop k s) ∙ ap (λ (x : List ℕ). take k s ++ x) d.2.whole ∙ sym (append_assoc (take k s) (concat d.0) d.1);
-    each = (whole_is_frame s k w, d.2.each);
-    ended = d.2.ended;
-  },
-)
+divided_more s k w d =
+    let more = frame_before (take k s) (drop k s) d.0 d.1 (whole_is_frame s k w) d.2 in
+    (take k s ∷ d.0, d.1, subst (λ (x : List ℕ). Division x (take k s ∷ d.0) d.1) (take-append-drop k s) more)
 
 divided : (n : ℕ) (s : List ℕ) → length s ≤ n → Divided s
 divided zero s le = ([], s, record { whole = refl; each = tt; ended = inl (omega arith) })

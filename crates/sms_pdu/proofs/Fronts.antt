@@ -1,13 +1,13 @@
 -- What stands at the front of a stream, and one more frame taken off it.
-use Rattle.std.proofs.Common.{◌≡◌, ℕ, ◌≤◌, ◌⊎◌, Bool, true, false, cond, ltb, List, [], ◌∷◌, ◌++◌, length, take, drop, refl, sym, ap, ◌∙◌, append_assoc, arith, inl, inr}
-use Rattle.std.specs.List.{concat, AllByRecursion}
+use Rattle.std.proofs.Common.{◌≡◌, ℕ, ◌+◌, ◌-◌, ◌<◌, ◌≤◌, ◌⊎◌, Bool, true, false, cond, ltb, List, [], ◌∷◌, ◌++◌, length, take, drop, refl, sym, ap, subst, ◌∙◌, arith, inl, inr}
+use Rattle.std.specs.List.{AllByRecursion}
 use Rattle.std.specs.Int.{w32, from_be_bytes}
-use Rattle.std.proofs.lemmas.Bool.{cases_lt, ltb-false, ltb-true}
-use Rattle.std.proofs.lemmas.List.{append-nil, take-append-drop, take-append-le, length-take-le}
-use Rattle.std.proofs.lemmas.List.Folds.{concat-append}
-use Rattle.sms_pdu.specs.declared.framer.Front.{Front}
-use Rattle.sms_pdu.specs.declared.framer.Front.TheVariants.{Short, Bad, Cut, Whole}
-use Rattle.sms_pdu.specs.Frame.{announced, IsFrame, IsShort, IsCut, IsBad, IsRest, IsPending, front_at, Continues}
+use Rattle.std.proofs.lemmas.Bool.{cases_lt, ltb-false, ltb-true, lt-ltb, le-ltb}
+use Rattle.std.proofs.lemmas.List.{take-append-drop, take-append-le, length-take-le}
+use Rattle.std.proofs.Math.Seq.{take-append-add}
+use Rattle.sms_pdu.specs.declared.front.Front.{Front}
+use Rattle.sms_pdu.specs.declared.front.Front.TheVariants.{Short, Bad, Cut, Whole}
+use Rattle.sms_pdu.specs.Frame.{announced, IsFrame, IsShort, IsCut, IsBad, IsRest, front_at}
 
 -- the first four octets of a longer stream are those of its front
 pub announced-append : (s t : List ℕ) → 4 ≤ length s → announced (s ++ t) ≡ announced s
@@ -19,8 +19,8 @@ announced-take n s le long =
 
 -- ---- the cases of the front
 
-abbrev front_by : Bool → Bool → Bool → Bool → ℕ → Front
-front_by a b c d n = cond a Short (cond b Bad (cond c Bad (cond d (Cut n) (Whole n))))
+abbrev front_if : Bool → Bool → Bool → Bool → ℕ → Front
+front_if a b c d n = cond a Short (cond b Bad (cond c Bad (cond d (Cut n) (Whole n))))
 
 pub record FoundWhole (s : List ℕ) (n : ℕ) : Type 0 where
   pub is : n ≡ announced s
@@ -29,7 +29,7 @@ pub record FoundWhole (s : List ℕ) (n : ℕ) : Type 0 where
   pub most : n ≤ 70000
   pub there : n ≤ length s
 
-whole_by : (a b c d : Bool) (m n : ℕ) → Whole n ≡ front_by a b c d m → (a ≡ false) × (b ≡ false) × (c ≡ false) × (d ≡ false) × (n ≡ m)
+whole_by : (a b c d : Bool) (m n : ℕ) → Whole n ≡ front_if a b c d m → (a ≡ false) × (b ≡ false) × (c ≡ false) × (d ≡ false) × (n ≡ m)
 whole_by true b c d m n e = absurd cc
 whole_by false true c d m n e = absurd cc
 whole_by false false true d m n e = absurd cc
@@ -45,7 +45,7 @@ found_whole s n e =
     let h3 : announced s ≤ length s = ltb-false _ _ w.3 in
     record { is = w.4; begun = h0; least = omega (arith, w.4); most = omega (arith, w.4); there = omega (arith, w.4) }
 
-short_by : (a b c d : Bool) (m : ℕ) → Short ≡ front_by a b c d m → a ≡ true
+short_by : (a b c d : Bool) (m : ℕ) → Short ≡ front_if a b c d m → a ≡ true
 short_by true b c d m e = refl
 short_by false true c d m e = absurd cc
 short_by false false true d m e = absurd cc
@@ -55,7 +55,7 @@ short_by false false false false m e = absurd cc
 pub found_short : (s : List ℕ) → Short ≡ front_at s → IsShort s
 found_short s e = ltb-true _ _ (short_by (ltb (length s) 4) (ltb (announced s) 16) (ltb 70000 (announced s)) (ltb (length s) (announced s)) (announced s) e)
 
-bad_by : (a b c d : Bool) (m : ℕ) → Bad ≡ front_by a b c d m → (a ≡ false) × ((b ≡ true) ⊎ (c ≡ true))
+bad_by : (a b c d : Bool) (m : ℕ) → Bad ≡ front_if a b c d m → (a ≡ false) × ((b ≡ true) ⊎ (c ≡ true))
 bad_by true b c d m e = absurd cc
 bad_by false true c d m e = (refl, inl refl)
 bad_by false false true d m e = (refl, inr refl)
@@ -67,7 +67,7 @@ found_bad s e =
     let w = bad_by (ltb (length s) 4) (ltb (announced s) 16) (ltb 70000 (announced s)) (ltb (length s) (announced s)) (announced s) e in
     record { begun = ltb-false _ _ w.0; bad = elim w.1 [ inl h ↦ inl (ltb-true _ _ h) | inr h ↦ inr (ltb-true _ _ h) ] }
 
-cut_by : (a b c d : Bool) (m n : ℕ) → Cut n ≡ front_by a b c d m → (a ≡ false) × (b ≡ false) × (c ≡ false) × (d ≡ true) × (n ≡ m)
+cut_by : (a b c d : Bool) (m n : ℕ) → Cut n ≡ front_if a b c d m → (a ≡ false) × (b ≡ false) × (c ≡ false) × (d ≡ true) × (n ≡ m)
 cut_by true b c d m n e = absurd cc
 cut_by false true c d m n e = absurd cc
 cut_by false false true d m n e = absurd cc
@@ -79,26 +79,26 @@ found_cut s n e =
     let w = cut_by (ltb (length s) 4) (ltb (announced s) 16) (ltb 70000 (announced s)) (ltb (length s) (announced s)) (announced s) n e in
     (record { begun = ltb-false _ _ w.0; good = record { least = ltb-false _ _ w.1; most = ltb-false _ _ w.2 }; cut = ltb-true _ _ w.3 }, w.4)
 
+bad_if : (a b c d : Bool) (n : ℕ) → a ≡ false → (b ≡ true) ⊎ (c ≡ true) → front_if a b c d n ≡ Bad
+bad_if true b c d n e h = absurd cc
+bad_if false true c d n e h = refl
+bad_if false false true d n e h = refl
+bad_if false false false d n e (inl h) = absurd cc
+bad_if false false false d n e (inr h) = absurd cc
+
+-- and a stream with a bad length is found so
+pub bad_found : (s : List ℕ) → IsBad s → front_at s ≡ Bad
+bad_found s h =
+    let below : (ltb (announced s) 16 ≡ true) ⊎ (ltb 70000 (announced s) ≡ true) = elim h.bad [ inl k ↦ inl (lt-ltb _ _ k) | inr k ↦ inr (lt-ltb _ _ k) ] in
+    bad_if (ltb (length s) 4) (ltb (announced s) 16) (ltb 70000 (announced s)) (ltb (length s) (announced s)) (announced s) (le-ltb _ _ h.begun) below
+
 -- ---- rests
 
--- a rest is what has no whole frame at its front
-pub rest_pends : (r : List ℕ) → IsRest r → IsPending r
-rest_pends r (inl h) = λ a b c. absurd (omega arith)
-rest_pends r (inr (inl h)) = λ a b c. h.cut
-rest_pends r (inr (inr h)) = λ a b c. elim h.bad [ inl k ↦ absurd (omega arith) | inr k ↦ absurd (omega arith) ]
-
-pub pending_rests : (r : List ℕ) → IsPending r → IsRest r
-pending_rests r h =
-    elim (cases_lt (length r) 4) [
-      | inl short ↦ inl short
-      | inr begun ↦ elim (cases_lt (announced r) 16) [
-        | inl below ↦ inr (inr (record { begun = begun; bad = inl below }))
-        | inr least ↦ elim (cases_lt 70000 (announced r)) [
-          | inl above ↦ inr (inr (record { begun = begun; bad = inr above }))
-          | inr most ↦ inr (inl (record { begun = begun; good = record { least = least; most = most }; cut = h begun least most }))
-        ]
-      ]
-    ]
+-- a rest with a good length is shorter than it
+pub rest_pends : (r : List ℕ) → IsRest r → 4 ≤ length r → 16 ≤ announced r → announced r ≤ 70000 → length r < announced r
+rest_pends r (inl h) a b c = absurd (omega arith)
+rest_pends r (inr (inl h)) a b c = h.cut
+rest_pends r (inr (inr h)) a b c = elim h.bad [ inl k ↦ absurd (omega arith) | inr k ↦ absurd (omega arith) ]
 
 -- ---- frames taken off the front
 
@@ -112,8 +112,24 @@ whole_is_frame s n w =
     let says : announced (take n s) ≡ announced s = announced-take n s (omega (arith, w.least)) w.there in
     record { good = record { least = omega (arith, len, w.least); most = omega (arith, len, w.most) }; announces = says ∙ sym w.is ∙ sym len }
 
-pub Continues-more : (old new : List (List ℕ)) (s left : List ℕ) (n : ℕ) → FoundWhole left n → Continues old new s left → Continues old (new ++ take n left ∷ []) s (drop n left)
-Continues-more old new s left n w h =
-    let joins : concat (new ++ take n left ∷ []) ++ drop n left ≡ concat new ++ left =
-    rw (concat-append, append-nil, append_assoc) (ap (λ (x : List ℕ). concat new ++ x) (take-append-drop n left)) in
-    record { whole = h.whole ∙ sym joins; each = λ o. AllByRecursion-append IsFrame new (take n left ∷ []) (h.each o) (whole_is_frame left n w, tt) }
+-- ---- a rest that is completed
+
+-- a rest is no longer than the frame that it begins
+rest_fits : (r p : List ℕ) (n : ℕ) → IsRest r → FoundWhole (r ++ p) n → length r ≤ n
+rest_fits r p n rest w =
+    elim (cases_lt (length r) 4) [
+      | inl short ↦ omega (arith, w.least)
+      | inr begun ↦
+          let says : announced (r ++ p) ≡ announced r = announced-append r p begun in
+          let lt = rest_pends r rest begun (omega (arith, says, w.is, w.least)) (omega (arith, says, w.is, w.most)) in
+          omega (arith, says, w.is, lt)
+    ]
+
+-- with what the piece still has of it, it is that frame
+pub whole_joined : (r p last : List ℕ) (n : ℕ) → IsRest r → Whole n ≡ front_at (r ++ p) → last ≡ take (n - length r) p → IsFrame (r ++ last)
+whole_joined r p last n rest found is =
+    let w = found_whole (r ++ p) n found in
+    let le = rest_fits r p n rest w in
+    let split : n ≡ length r + (n - length r) = omega (arith, le) in
+    let same : take n (r ++ p) ≡ r ++ last = ap (λ k. take k (r ++ p)) split ∙ take-append-add r p (n - length r) ∙ ap (λ l. r ++ l) (sym is) in
+    subst IsFrame same (whole_is_frame (r ++ p) n w)

@@ -1,6 +1,7 @@
 pub mod Copying
 pub mod Fronts
 pub mod Divisions
+pub mod Told
 pub mod Parameters
 pub mod Values
 pub mod ParameterTexts

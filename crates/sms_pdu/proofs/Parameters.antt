@@ -1,11 +1,10 @@
 -- Reading parameters one after the other, as a loop does.
 use Rattle.std.proofs.Common.{◌≡◌, ℕ, zero, suc, ◌+◌, ◌-◌, ◌<◌, ◌≤◌, Bool, true, false, cond, ltb, eqb, List, [], ◌∷◌, ◌++◌, length, Result, Ok, Err, refl, sym, ap, ◌∙◌, append_assoc, arith}
 use Rattle.std.proofs.lemmas.Bool.{eqb-true}
-use Rattle.std.proofs.lemmas.List.{append-nil, length-drop}
+use Rattle.std.proofs.lemmas.List.{append-nil, length-append, length-drop}
 use Rattle.sms_pdu.specs.declared.error.PduError.{PduError}
-use Rattle.sms_pdu.specs.declared.error.PduError.TheVariants as errors
 use Rattle.sms_pdu.specs.declared.parameter.Parameter.{Parameter}
-use Rattle.sms_pdu.specs.Reading.{◌>>=◌, Fails, parameter_at, parameters_within}
+use Rattle.sms_pdu.specs.Reading.{◌>>=◌, parameter_at, parameters_within, parameters_at, parameter_count}
 
 -- the value of a step that did not fail
 pub bind_ok : {A B : Type 0} (r : Result A PduError) (f : A → Result B PduError) (y : B) → (r >>= f) ≡ Ok y → (x : A) × (r ≡ Ok x) × (f x ≡ Ok y)
@@ -62,20 +61,11 @@ unfolding parameters_within
 failed_with front n [] e lt h = absurd (omega arith)
 failed_with front n (x ∷ xs) e lt h = rw h refl
 
-fails_so : (e : PduError) (front : List Parameter) (size : ℕ) (octets : List ℕ) (total : Result (List Parameter) PduError) → 0 < length octets → length front + length octets ≤ size → parameter_at octets ≡ Err e
+pub ends : (e : PduError) (front : List Parameter) (size : ℕ) (octets : List ℕ) (total : Result (List Parameter) PduError) → 0 < length octets → length front + length octets ≤ size → parameter_at octets ≡ Err e
     → with_front front (parameters_within (size - length front) octets) ≡ total → total ≡ Err e
-fails_so e front size octets total lt le h so_far =
+ends e front size octets total lt le h so_far =
     let k : size - length front ≡ suc (size - (length front + 1)) = omega arith in
     sym so_far ∙ ap (λ (j : ℕ). with_front front (parameters_within j octets)) k ∙ failed_with front (size - (length front + 1)) octets e lt h
-
-pub ends : (e : PduError) (front : List Parameter) (size : ℕ) (octets : List ℕ) (total : Result (List Parameter) PduError) → 0 < length octets → length front + length octets ≤ size → Fails e (parameter_at octets)
-    → with_front front (parameters_within (size - length front) octets) ≡ total → Fails e total
-ends errors.OutOfMemory front size octets total lt le h so_far = tt
-ends errors.Short front size octets total lt le h so_far = fails_so errors.Short front size octets total lt le h so_far
-ends errors.BadLength front size octets total lt le h so_far = fails_so errors.BadLength front size octets total lt le h so_far
-ends errors.UnknownCommand front size octets total lt le h so_far = fails_so errors.UnknownCommand front size octets total lt le h so_far
-ends (errors.Malformed field) front size octets total lt le h so_far = fails_so (errors.Malformed field) front size octets total lt le h so_far
-ends (errors.TooLong field) front size octets total lt le h so_far = fails_so (errors.TooLong field) front size octets total lt le h so_far
 
 pub is_done : (front : List Parameter) (n : ℕ) (octets : List ℕ) (total : Result (List Parameter) PduError) → length octets ≤ 0 → with_front front (parameters_within n octets) ≡ total → total ≡ Ok front
 unfolding parameters_within
@@ -89,3 +79,46 @@ is_some_length b (suc n) e f = omega arith
 
 pub is_no_length : (b : Bool) (n : ℕ) → b ≡ eqb n 0 → b ≡ true → n ≤ 0
 is_no_length b n e f = omega (arith, eqb-true n 0 (sym e ∙ f))
+
+-- ---- parameters that are counted
+
+-- so many were read, and the others follow
+pub record Counted (octets : List ℕ) (n : ℕ) (rest : List ℕ) : Type 0 where
+  pub front : List Parameter
+  pub count : length front ≡ n
+  pub room : n + length rest ≤ length octets
+  pub so_far : with_front front (parameters_within (length octets - length front) rest) ≡ parameters_at octets
+
+unchanged : (read : Result (List Parameter) PduError) → with_front [] read ≡ read
+unchanged (Ok xs) = refl
+unchanged (Err e) = refl
+
+pub counted_none : (octets : List ℕ) → Counted octets 0 octets
+counted_none octets =
+    let all : length octets - 0 ≡ length octets = omega arith in
+    record { front = []; count = refl; room = omega arith; so_far = rw all (unchanged (parameters_at octets)) }
+
+pub counted_more : (octets rest : List ℕ) (n : ℕ) (p : Parameter) (after : List ℕ) → 0 < length rest → parameter_at rest ≡ Ok (p, after) → Counted octets n rest → Counted octets (n + 1) after
+counted_more octets rest n p after some h c =
+    let shorter = parameter-shorter rest p after some h in
+    let len : length (c.front ++ p ∷ []) ≡ length c.front + 1 = length-append c.front (p ∷ []) in
+    let room : length c.front + length rest ≤ length octets = omega (arith, c.count, c.room) in
+    let on = goes_on c.front (length octets) rest p after (parameters_at octets) some room h c.so_far in
+    record { front = c.front ++ p ∷ []; count = omega (arith, len, c.count); room = omega (arith, c.room, shorter); so_far = rw len on }
+
+pub counted_ends : (octets rest : List ℕ) (n : ℕ) (e : PduError) → 0 < length rest → parameter_at rest ≡ Err e → Counted octets n rest → parameter_count octets ≡ Err e
+counted_ends octets rest n e some h c =
+    let room : length c.front + length rest ≤ length octets = omega (arith, c.count, c.room) in
+    rw (ends e c.front (length octets) rest (parameters_at octets) some room h c.so_far) refl
+
+pub counted_done : (octets rest : List ℕ) (n : ℕ) → length rest ≤ 0 → Counted octets n rest → parameter_count octets ≡ Ok n
+counted_done octets rest n none c =
+    rw (is_done c.front _ rest (parameters_at octets) none c.so_far) (ap (λ (k : ℕ). done k) c.count)
+
+err_is : (read : Result (List Parameter) PduError) (e : PduError) → (read >>= λ xs. Ok (length xs)) ≡ Err e → read ≡ Err e
+err_is (Ok xs) e h = absurd cc
+err_is (Err d) e h = cc
+
+-- what fails to be counted isn't read
+pub uncounted : (octets : List ℕ) (e : PduError) → parameter_count octets ≡ Err e → parameters_at octets ≡ Err e
+uncounted octets e h = err_is (parameters_at octets) e h

@@ -1,13 +1,14 @@
 -- Streams that are worked frame by frame, and read piece by piece.
-use Rattle.std.proofs.Common.{◌≡◌, ℕ, ◌+◌, ◌-◌, ◌<◌, List, [], ◌∷◌, ◌++◌, inl, inr, length, drop, Option, refl, sym, ap, ◌∙◌, subst, arith, append_assoc, append-nil, length-append}
+use Rattle.std.proofs.Common.{◌≡◌, ℕ, ◌+◌, ◌-◌, ◌<◌, List, [], ◌∷◌, ◌++◌, inl, inr, length, take, drop, Option, refl, sym, ap, ◌∙◌, subst, arith, append_assoc, append-nil, length-append, take-append-drop}
 use Rattle.std.specs.List.{concat, AllByRecursion}
 use Rattle.std.specs.Io.KnownBytes.{Consumes, Keeps}
 use Rattle.std.proofs.KnownBytes.{Consumes-nil, Consumes-trans, Consumes-kept}
 use Rattle.std.proofs.lemmas.List.{drop_at}
 use Rattle.std.proofs.lemmas.List.Folds.{concat-append}
-use Rattle.sms_pdu.specs.Frame.{IsFrame, IsRest, IsBad, Division}
+use Rattle.sms_pdu.specs.declared.front.Front.TheVariants.{Whole}
+use Rattle.sms_pdu.specs.Frame.{IsFrame, IsRest, IsBad, Division, front_at}
 use Rattle.sms_pdu.specs.Streams.{Went, Stretch, going, Leaves, Reads}
-use Rattle.sms_pdu.proofs.Fronts.{AllByRecursion-append}
+use Rattle.sms_pdu.proofs.Fronts.{found_whole, whole_is_frame, AllByRecursion-append}
 use Rattle.sms_pdu.proofs.Divisions.{one_division}
 
 pub went_none : (P : List (List ℕ) → Type 0) (stream : List ℕ) → P [] → Went P stream stream
@@ -46,6 +47,24 @@ went_dropped P stream left w =
     let k : length (concat w.frames) ≡ length stream - length left = omega (arith, n) in
     let same : drop (length stream - length left) stream ≡ left = ap (drop (length stream - length left)) w.whole ∙ drop_at (concat w.frames) left (length stream - length left) k in
     subst (λ l. Went P stream l) (sym same) w
+
+-- the frame that was found at the front was put to the others
+pub went_whole : (stream left : List ℕ) (fs gs : List (List ℕ)) (n : ℕ) (f after : List ℕ) → Went (λ hs. hs ≡ fs) stream left → Whole n ≡ front_at left
+    → f ≡ take n left → after ≡ drop n left → gs ≡ fs ++ f ∷ [] → Went (λ hs. hs ≡ gs) stream after
+went_whole stream left fs gs n f after w found front back put =
+    let same : left ≡ f ++ after = sym (take-append-drop n left) ∙ ap (λ l. l ++ drop n left) (sym front) ∙ ap (λ l. f ++ l) (sym back) in
+    let frame : IsFrame f = subst IsFrame (sym front) (whole_is_frame left n (found_whole left n found)) in
+    went_frame (λ hs. hs ≡ fs) (λ hs. hs ≡ gs) stream left f after w same frame (λ hs e. ap (λ (l : List (List ℕ)). l ++ f ∷ []) e ∙ sym put)
+
+-- frames at the front, and a rest behind them
+pub went_divides : (stream left rest : List ℕ) (fs gs : List (List ℕ)) → Went (λ hs. hs ≡ fs) stream left → gs ≡ fs → rest ≡ left → IsRest left → Division stream gs rest
+went_divides stream left rest fs gs w same kept h =
+    let all : w.frames ≡ gs = w.done ∙ sym same in
+    record {
+      whole = w.whole ∙ ap (λ hs. concat hs ++ left) all ∙ ap (λ l. concat gs ++ l) (sym kept);
+      each = subst (AllByRecursion IsFrame) all w.each;
+      ended = subst IsRest (sym kept) h;
+    }
 
 -- a rest that isn't bad is no longer than a frame
 pub short_rest : (r : List ℕ) → IsRest r → ¬ IsBad r → length r < 70000

@@ -14,7 +14,7 @@ use Rattle.sms_pdu.specs.declared.body.Body.{Body}
 use Rattle.sms_pdu.specs.Header.{number_at}
 use Rattle.sms_pdu.specs.Command.{id_of, commands, command_of}
 use Rattle.sms_pdu.specs.Grammar.{command_in, body_spelling, spelling_of, Spells}
-use Rattle.sms_pdu.specs.Reading.{◌>>=◌, Gives, body_at, body_by, reading}
+use Rattle.sms_pdu.specs.Reading.{◌>>=◌, GivesBut, HasStrings, body_at, body_by, reading}
 use Rattle.sms_pdu.proofs.Parameters.{bind_ok, guard_then, ok_is}
 use Rattle.sms_pdu.proofs.ParameterTexts.{IsOctets, IsOctets-drop, IsOctets-take}
 use Rattle.sms_pdu.proofs.Bodies.{both_true, absent_cases, body_take, body_again}
@@ -195,6 +195,6 @@ reading_again p octets s =
     ∙ body_again p.status p.body s.fits in
     reading_by octets p (le-ltb _ _ h.long) (both_tests (number_at 0 octets) (length octets) h.len s.most) h.status h.number read
 
-pub is_found : (octets : List ℕ) (r : Result Pdu PduError) → IsOctets octets → Gives (λ p. p) r (reading octets) → IfOk r (λ p. Spells p octets)
+pub is_found : (octets : List ℕ) (r : Result Pdu PduError) → IsOctets octets → GivesBut (λ (p : Pdu). HasStrings p.body) (λ (p : Pdu). p) r (reading octets) → IfOk r (λ p. Spells p octets)
 is_found octets (Ok p) fits given = reading_take octets p fits given
 is_found octets (Err e) fits given = tt

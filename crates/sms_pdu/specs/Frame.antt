@@ -1,9 +1,8 @@
 -- Frames and the one division of a stream into them (SMPP 3.4 3.2).
-use Rattle.std.specs.Prelude.{◌≡◌, ℕ, ◌<◌, ◌≤◌, ◌⊎◌, List, ◌++◌, length, map, nat_lt, if◌then◌else◌}
+use Rattle.std.specs.Prelude.{◌≡◌, ℕ, ◌<◌, ◌≤◌, ◌⊎◌, List, ◌++◌, length, nat_lt, if◌then◌else◌}
 use Rattle.std.specs.List.{concat, AllByRecursion}
-use Rattle.sms_pdu.specs.declared.frame.Frame.{Frame}
-use Rattle.sms_pdu.specs.declared.framer.Front.{Front}
-use Rattle.sms_pdu.specs.declared.framer.Front.TheVariants.{Short, Bad, Cut, Whole}
+use Rattle.sms_pdu.specs.declared.front.Front.{Front}
+use Rattle.sms_pdu.specs.declared.front.Front.TheVariants.{Short, Bad, Cut, Whole}
 use Rattle.sms_pdu.specs.Header.{number_at}
 
 -- the length that the first four octets give
@@ -44,23 +43,13 @@ pub record Division (stream : List ℕ) (frames : List (List ℕ)) (rest : List 
   pub each : AllByRecursion IsFrame frames
   pub ended : IsRest rest
 
--- the octets of each frame
-abbrev pub octets_of : List Frame → List (List ℕ)
-octets_of frames = map (λ f. f.octets) frames
-
--- no whole frame stands at the front
-abbrev pub IsPending : List ℕ → Type 0
-IsPending rest = 4 ≤ length rest → 16 ≤ announced rest → announced rest ≤ 70000 → length rest < announced rest
+-- what stands where this length was announced, and so many octets are there
+abbrev pub front_by : ℕ → ℕ → Front
+front_by says there =
+    if nat_lt says 16 then Bad
+    else (if nat_lt 70000 says then Bad
+    else (if nat_lt there says then Cut says else Whole says))
 
 -- what stands at the front of the stream
 abbrev pub front_at : List ℕ → Front
-front_at stream =
-    if nat_lt (length stream) 4 then Short
-    else (if nat_lt (announced stream) 16 then Bad
-    else (if nat_lt 70000 (announced stream) then Bad
-    else (if nat_lt (length stream) (announced stream) then Cut (announced stream) else Whole (announced stream))))
-
--- more frames were taken off the front of the stream
-pub record Continues (old new : List (List ℕ)) (stream left : List ℕ) : Type 0 where
-  pub whole : concat old ++ stream ≡ concat new ++ left
-  pub each : AllByRecursion IsFrame old → AllByRecursion IsFrame new
+front_at stream = if nat_lt (length stream) 4 then Short else front_by (announced stream) (length stream)

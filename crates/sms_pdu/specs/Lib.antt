@@ -4,6 +4,7 @@ pub mod Reply
 pub mod Frame
 pub mod Layout
 pub mod Grammar
+pub mod Borrowed
 pub mod Reading
 pub mod Size
 pub mod Writing

@@ -1,5 +1,5 @@
 -- Reading from left to right, with the first fault that is met.
-use Rattle.std.specs.Prelude.{◌≡◌, ℕ, zero, suc, ◌+◌, List, [], ◌∷◌, length, slice_index, take, drop, position, Bool, Option, Some, None, Result, Ok, Err, nat_lt, nat_le, ◌==◌, ◌&&◌, ◌||◌, if◌then◌else◌}
+use Rattle.std.specs.Prelude.{◌≡◌, ◌≢◌, IsSome, ℕ, zero, suc, ◌+◌, List, [], ◌∷◌, length, slice_index, take, drop, position, Bool, Option, Some, None, Result, Ok, Err, nat_lt, nat_le, ◌==◌, ◌&&◌, ◌||◌, if◌then◌else◌}
 use Rattle.std.specs.Int.{w16, from_be_bytes}
 use Rattle.sms_pdu.specs.declared.field.Field.{Field}
 use Rattle.sms_pdu.specs.declared.field.Field.TheVariants as fields
@@ -23,18 +23,20 @@ abbrev pub ◌>>=◌ : {A B : Type 0} → Result A PduError → (A → Result B 
 (Ok x) >>= f = f x
 (Err e) >>= f = Err e
 
--- What a function returned, seen by view, is what reading gives, unless memory ran out.
-abbrev pub Fails : {Y : Type 0} → PduError → Result Y PduError → Type 0
-Fails errors.OutOfMemory read = Unit {0}
-Fails errors.Short read = read ≡ Err errors.Short
-Fails errors.BadLength read = read ≡ Err errors.BadLength
-Fails errors.UnknownCommand read = read ≡ Err errors.UnknownCommand
-Fails (errors.Malformed field) read = read ≡ Err (errors.Malformed field)
-Fails (errors.TooLong field) read = read ≡ Err (errors.TooLong field)
+-- What a function returned, seen by view, is what was told.
+abbrev pub Says : {X Y : Type 0} → (X → Y) → Result X PduError → Result Y PduError → Type 0
+Says view (Ok x) told = told ≡ Ok (view x)
+Says view (Err e) told = told ≡ Err e
 
+-- What a function returned, seen by view, is what was told; a value of which `takes` holds may be missing for want of memory.
+abbrev pub GivesBut : {X Y : Type 0} → (Y → Type 0) → (X → Y) → Result X PduError → Result Y PduError → Type 0
+GivesBut takes view (Ok x) told = told ≡ Ok (view x)
+GivesBut takes view (Err e) (Ok y) = (e ≡ errors.OutOfMemory) × takes y
+GivesBut takes view (Err e) (Err f) = e ≡ f
+
+-- The same, where each value takes memory.
 abbrev pub Gives : {X Y : Type 0} → (X → Y) → Result X PduError → Result Y PduError → Type 0
-Gives view (Ok x) read = read ≡ Ok (view x)
-Gives view (Err e) read = Fails e read
+Gives view result told = GivesBut (λ y. Unit {0}) view result told
 
 -- A field is a value and the octets after it.
 unfoldable pub number_octet_at : Field → List ℕ → Result (ℕ × List ℕ) PduError
@@ -90,6 +92,10 @@ parameters_within (suc n) (octet ∷ octets) = parameter_at (octet ∷ octets) >
 -- each parameter takes four octets and more, so there are no more of them than octets
 abbrev pub parameters_at : List ℕ → Result (List Parameter) PduError
 parameters_at octets = parameters_within (length octets) octets
+
+-- how many they are
+abbrev pub parameter_count : List ℕ → Result ℕ PduError
+parameter_count octets = parameters_at octets >>= λ params. Ok (length params)
 
 -- ---- bodies
 
@@ -164,6 +170,27 @@ body_at command.UnbindResp status octets = bare_at body.UnbindResp octets
 body_at command.EnquireLink status octets = bare_at body.EnquireLink octets
 body_at command.EnquireLinkResp status octets = bare_at body.EnquireLinkResp octets
 body_at command.GenericNack status octets = bare_at body.GenericNack octets
+
+-- ---- what takes memory
+
+-- a string that is there, and not empty
+abbrev pub IsFilled : Option (List ℕ) → Type 0
+IsFilled None = ⊥
+IsFilled (Some text) = text ≢ []
+
+-- the bodies with strings
+abbrev pub HasStrings : Body → Type 0
+HasStrings (body.Bind mode system_id password system_type interface_version addr_ton addr_npi address_range) = Unit {0}
+HasStrings (body.BindResp mode system_id params) = IsSome system_id
+HasStrings (body.Submit sm) = Unit {0}
+HasStrings (body.Deliver sm) = Unit {0}
+HasStrings (body.SubmitResp message_id) = IsFilled message_id
+HasStrings (body.DeliverResp message_id) = IsFilled message_id
+HasStrings body.Unbind = ⊥
+HasStrings body.UnbindResp = ⊥
+HasStrings body.EnquireLink = ⊥
+HasStrings body.EnquireLinkResp = ⊥
+HasStrings body.GenericNack = ⊥
 
 -- ---- the whole
 

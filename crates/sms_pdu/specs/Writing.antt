@@ -1,48 +1,19 @@
--- Values written one after the other at the end of what is there.
-use Rattle.std.specs.Prelude.{◌≡◌, List, [], ◌∷◌, ◌++◌, ℕ, ◌≤◌, length, true, Option, Some, None}
-use Rattle.std.specs.Int.{w32, to_be_bytes}
+-- What is known of a PDU that is written.
+use Rattle.std.specs.Prelude.{◌≡◌, List, ◌++◌, ℕ, ◌≤◌, length, true, Option, Some, None}
 use Rattle.sms_pdu.specs.declared.body.Pdu.{Pdu}
 use Rattle.sms_pdu.specs.declared.body.Sm.{Sm}
 use Rattle.sms_pdu.specs.declared.body.Body.{Body}
 use Rattle.sms_pdu.specs.declared.body.Body.TheVariants.{Bind, BindResp, Submit, Deliver, SubmitResp, DeliverResp, Unbind, UnbindResp, EnquireLink, EnquireLinkResp, GenericNack}
 use Rattle.sms_pdu.specs.declared.parameter.Parameter.{Parameter}
-use Rattle.sms_pdu.specs.Command.{id_of}
-use Rattle.sms_pdu.specs.Layout.{Row, Values, spelling, bind_fields, sm_fields, parameters_spelling, ParametersFit}
-use Rattle.sms_pdu.specs.Grammar.{sm_values, command_in}
+use Rattle.sms_pdu.specs.Layout.{ParametersFit}
+use Rattle.sms_pdu.specs.Grammar.{Spells}
 use Rattle.sms_pdu.specs.Size.{parameters_fit}
 
-abbrev pub written : (rows : List Row) → Values rows → List ℕ → List ℕ
-written [] values out = out
-written (row ∷ rows) values out = written rows values.1 (out ++ spelling row.kind values.0)
-
-abbrev pub sm_written : Sm → List ℕ → List ℕ
-sm_written sm out = written sm_fields (sm_values sm) out ++ parameters_spelling sm.params
-
-abbrev pub bind_resp_written : Option (List ℕ) → List Parameter → List ℕ → List ℕ
-bind_resp_written None params out = out
-bind_resp_written (Some id) params out = (out ++ (id ++ 0 ∷ [])) ++ parameters_spelling params
-
-abbrev pub sm_resp_written : Option (List ℕ) → List ℕ → List ℕ
-sm_resp_written None out = out
-sm_resp_written (Some id) out = out ++ (id ++ 0 ∷ [])
-
-abbrev pub body_written : Body → List ℕ → List ℕ
-body_written (Bind mode system_id password system_type interface_version addr_ton addr_npi address_range) out =
-    written bind_fields (system_id, (password, (system_type, (interface_version, (addr_ton, (addr_npi, (address_range, tt))))))) out
-body_written (BindResp mode system_id params) out = bind_resp_written system_id params out
-body_written (Submit sm) out = sm_written sm out
-body_written (Deliver sm) out = sm_written sm out
-body_written (SubmitResp message_id) out = sm_resp_written message_id out
-body_written (DeliverResp message_id) out = sm_resp_written message_id out
-body_written Unbind out = out
-body_written UnbindResp out = out
-body_written EnquireLink out = out
-body_written EnquireLinkResp out = out
-body_written GenericNack out = out
-
--- the header, and then the body
-abbrev pub pdu_written : ℕ → Pdu → List ℕ → List ℕ
-pdu_written len p out = body_written p.body ((((out ++ to_be_bytes w32 len) ++ to_be_bytes w32 (id_of (command_in p.body))) ++ to_be_bytes w32 p.status) ++ to_be_bytes w32 p.number)
+-- octets that spell the PDU were added behind what was there
+pub record Adds (p : Pdu) (old new : List ℕ) : Type 0 where
+  pub octets : List ℕ
+  pub spelled : Spells p octets
+  pub behind : new ≡ old ++ octets
 
 -- what has to be known before a body is written
 abbrev pub SmWritable : Sm → Type 0

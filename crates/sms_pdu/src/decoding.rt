@@ -1,11 +1,14 @@
-//! Octets read as a PDU.
+//! Octets read as a PDU: first its fields, which takes no memory, and then copies of its strings.
 
 ghost use Rattle.std.specs.Prelude.{◌≡◌, ◌≤◌, ℕ, List, [], ◌∷◌, length, Option, Result, Ok, IfOk};
 ghost use Rattle.sms_pdu.specs.declared.body.Pdu.{Pdu};
-ghost use Rattle.sms_pdu.specs.Grammar.{Spells};
-ghost use Rattle.sms_pdu.specs.Reading.{Gives, bind_at, sm_at, bind_resp_at, message_id_at, bare_at, body_at, reading};
+ghost use Rattle.sms_pdu.specs.Layout.{sm_fields};
+ghost use Rattle.sms_pdu.specs.Grammar.{sm_values, Spells};
+ghost use Rattle.sms_pdu.specs.Borrowed.{owned_bind, owned_sm};
+ghost use Rattle.sms_pdu.specs.Reading.{Says, Gives, GivesBut, IsFilled, HasStrings, values_at, bind_at, sm_at, bind_resp_at, message_id_at, bare_at, body_at, reading};
 
 use crate::body::{Body, Pdu, Sm};
+use crate::borrowed::{BindRef, SmRef};
 use crate::command::{Command, Mode};
 use crate::error::PduError;
 use crate::field::Field;
@@ -18,44 +21,56 @@ use std::alloc::Global;
 
 /// A row's field, read from `$octets`: its value, and the octets after it.
 macro_rules! read_field {
-    (($alloc:ident, $octets:ident) $name:ident: $field:ident is number,) => {
+    (($octets:ident) $name:ident: $field:ident is number,) => {
         number(Field::$field, $octets)?
     };
-    (($alloc:ident, $octets:ident) $name:ident: $field:ident is text($maximum:literal),) => {
-        text($alloc, Field::$field, $maximum, $octets)?
+    (($octets:ident) $name:ident: $field:ident is text($maximum:literal),) => {
+        text(Field::$field, $maximum, $octets)?
     };
-    (($alloc:ident, $octets:ident) $name:ident: $field:ident is time,) => {
-        time($alloc, Field::$field, $octets)?
+    (($octets:ident) $name:ident: $field:ident is time,) => {
+        time(Field::$field, $octets)?
     };
-    (($alloc:ident, $octets:ident) $name:ident: $field:ident is message,) => {
-        message($alloc, $octets)?
+    (($octets:ident) $name:ident: $field:ident is message,) => {
+        message($octets)?
     };
 }
 
-/// The fields of a table, read from `$octets` from left to right; then `$then`, with the octets after
-/// them as `$rest`; and then the struct or variant of these fields and of those in the braces.
+/// The fields of a table, read from `$octets` from left to right: the struct of them and of those in
+/// the braces, and the octets after them.
 macro_rules! read_fields {
     (
-        ($alloc:ident, $octets:ident => $rest:ident; $then:stmt;
-            $($of:ident)::+ { $($other:ident,)* .. })
+        ($octets:ident => $made:ident { $($other:ident: $given:expr,)* .. })
         $($name:ident: $field:ident is $kind:ident $(($maximum:literal))?,)*
     ) => {{
-        let $rest = $octets;
-        $(let ($name, $rest) =
-            read_field!(($alloc, $rest) $name: $field is $kind $(($maximum))?,);)*
-        $then;
-        $($of)::+ { $($other,)* $($name,)* }
+        let rest = $octets;
+        $(let ($name, rest) = read_field!((rest) $name: $field is $kind $(($maximum))?,);)*
+        ($made { $($other: $given,)* $($name,)* }, rest)
     }};
 }
 
-/// The body of a bind.
+/// The fields of a bind.
 #[tactic(auto, unfolding(crate::specs::Reading::bind_at))]
-fn bind(alloc: Global, mode: Mode, octets: &[u8]) -> Result<Body, PduError>
-    ensures { Gives (λ body. body) result (bind_at mode octets.now) }
+fn bind_parts(mode: Mode, octets: &[u8]) -> Result<BindRef<'_>, PduError>
+    ensures { Says owned_bind result (bind_at mode octets.now) }
 {
-    Ok(bind_fields!(read_fields!(
-        alloc, octets => rest; end(rest)?; Body::Bind { mode, .. }
-    )))
+    let (parts, rest) = bind_fields!(read_fields!(octets => BindRef { mode: mode, .. }));
+    end(rest)?;
+    Ok(parts)
+}
+
+/// The body of a bind.
+fn bind(alloc: Global, mode: Mode, octets: &[u8]) -> Result<Body, PduError>
+    ensures { GivesBut HasStrings (λ body. body) result (bind_at mode octets.now) }
+{
+    let parts = bind_parts(mode, octets)?;
+    Ok(parts.copied(alloc)?)
+}
+
+/// The fields of a message before its parameters, and the octets after them.
+fn sm_parts(octets: &[u8]) -> Result<(SmRef<'_>, &[u8]), PduError>
+    ensures { Says (λ x. (sm_values (owned_sm x.0), x.1.now)) result (values_at sm_fields octets.now) }
+{
+    Ok(sm_fields!(read_fields!(octets => SmRef { params: &[], .. })))
 }
 
 /// A message.
@@ -63,15 +78,15 @@ fn bind(alloc: Global, mode: Mode, octets: &[u8]) -> Result<Body, PduError>
 fn sm(alloc: Global, octets: &[u8]) -> Result<Sm, PduError>
     ensures { Gives (λ sm. sm) result (sm_at octets.now) }
 {
-    Ok(sm_fields!(read_fields!(
-        alloc, octets => rest; let params = parameters(alloc, rest)?; Sm { params, .. }
-    )))
+    let (parts, rest) = sm_parts(octets)?;
+    let params = parameters(alloc, rest)?;
+    Ok(parts.copied(alloc, params)?)
 }
 
 /// The body of a bind's response.
 #[tactic(auto, unfolding(crate::specs::Reading::bind_resp_at))]
 fn bind_resp(alloc: Global, mode: Mode, status: u32, octets: &[u8]) -> Result<Body, PduError>
-    ensures { Gives (λ body. body) result (bind_resp_at mode status octets.now) }
+    ensures { GivesBut HasStrings (λ body. body) result (bind_resp_at mode status octets.now) }
 {
     if octets.is_empty() && status > 0 {
         return Ok(Body::BindResp {
@@ -80,11 +95,11 @@ fn bind_resp(alloc: Global, mode: Mode, status: u32, octets: &[u8]) -> Result<Bo
             params: Params::none(alloc),
         });
     }
-    let (system_id, rest) = bind_resp_fields!(read_field!(alloc, octets));
+    let (system_id, rest) = bind_resp_fields!(read_field!(octets));
     let params = parameters(alloc, rest)?;
     Ok(Body::BindResp {
         mode,
-        system_id: Some(system_id),
+        system_id: Some(Octets::copy(alloc, system_id)?),
         params,
     })
 }
@@ -92,19 +107,19 @@ fn bind_resp(alloc: Global, mode: Mode, status: u32, octets: &[u8]) -> Result<Bo
 /// The message_id that is the body of a response to a message.
 #[tactic(auto, unfolding(crate::specs::Reading::message_id_at))]
 fn message_id(alloc: Global, status: u32, octets: &[u8]) -> Result<Option<Octets>, PduError>
-    ensures { Gives (λ id. id) result (message_id_at status octets.now) }
+    ensures { GivesBut IsFilled (λ id. id) result (message_id_at status octets.now) }
 {
     if octets.is_empty() && status > 0 {
         return Ok(None);
     }
-    let (message_id, rest) = sm_resp_fields!(read_field!(alloc, octets));
+    let (message_id, rest) = sm_resp_fields!(read_field!(octets));
     end(rest)?;
-    Ok(Some(message_id))
+    Ok(Some(Octets::copy(alloc, message_id)?))
 }
 
 /// The body of a command.
 fn body(alloc: Global, command: Command, status: u32, octets: &[u8]) -> Result<Body, PduError>
-    ensures { Gives (λ body. body) result (body_at command status octets.now) }
+    ensures { GivesBut HasStrings (λ body. body) result (body_at command status octets.now) }
 {
     match command {
         Command::BindTransmitter => bind(alloc, Mode::Transmitter, octets),
@@ -129,7 +144,7 @@ fn body(alloc: Global, command: Command, status: u32, octets: &[u8]) -> Result<B
 
 /// A body without fields.
 fn bare(body: Body, octets: &[u8]) -> Result<Body, PduError>
-    ensures { Gives (λ body. body) result (bare_at body octets.now) }
+    ensures { result ≡ bare_at body octets.now }
 {
     end(octets)?;
     Ok(body)
@@ -137,13 +152,14 @@ fn bare(body: Body, octets: &[u8]) -> Result<Body, PduError>
 
 /// The PDU that the octets spell. What no PDU spells is refused, for the first fault in this order:
 /// fewer than 16 octets, the command_length, the command_id, then the fields from left to right.
+/// Memory is asked for only where a PDU is spelled, and that PDU has strings.
 pub fn decode(alloc: Global, octets: &[u8]) -> Result<Pdu, PduError>
     // What is read is spelled so.
     ensures found { IfOk result (λ p. Spells p octets.now) }
-    // What is spelled so is read, unless memory runs out.
-    ensures only { (p : Pdu) → Spells p octets.now → Gives (λ q. q) result (Ok p) }
-    // Which fault it is.
-    ensures exact { Gives (λ q. q) result (reading octets.now) }
+    // What is spelled so is read, unless it has strings and memory runs out.
+    ensures only { (p : Pdu) → Spells p octets.now → GivesBut (λ q. HasStrings q.body) (λ q. q) result (Ok p) }
+    // Which PDU or fault it is; a fault is told whether or not there is memory.
+    ensures exact { GivesBut (λ q. HasStrings q.body) (λ q. q) result (reading octets.now) }
 {
     read(alloc, octets)
 }
@@ -151,7 +167,7 @@ pub fn decode(alloc: Global, octets: &[u8]) -> Result<Pdu, PduError>
 /// The PDU that the octets spell, or the first fault.
 #[tactic(auto, unfolding(crate::specs::Reading::reading))]
 fn read(alloc: Global, octets: &[u8]) -> Result<Pdu, PduError>
-    ensures { Gives (λ p. p) result (reading octets.now) }
+    ensures { GivesBut (λ p. HasStrings p.body) (λ p. p) result (reading octets.now) }
 {
     let Some(header) = header_of(octets) else {
         return Err(PduError::Short);

@@ -1,243 +1,265 @@
 //! A PDU written as its octets.
 
-ghost use Rattle.std.specs.Prelude.{◌≡◌, ℕ, ◌++◌, ◌∷◌, [], ◌^◌, ◌<◌, ◌≤◌, List, length, true, Ok, IfOk, OnOk};
+ghost use Rattle.std.specs.Prelude.{◌≡◌, ℕ, ◌+◌, ◌++◌, ◌∷◌, [], ◌^◌, ◌<◌, ◌≤◌, List, length, true, Ok, IfOk, OnErr, vec_len, vec_capacity, option_copied};
 ghost use Rattle.std.specs.Int.{w32, to_be_bytes};
-ghost use Rattle.sms_pdu.specs.Layout.{sm_fields, parameter_spelling, parameters_spelling, ParametersFit};
-ghost use Rattle.sms_pdu.specs.Grammar.{sm_values, command_in, Spells};
+ghost use Rattle.sms_pdu.specs.Layout.{bind_fields, sm_fields, spellings, parameter_spelling, parameters_spelling, ParametersFit};
+ghost use Rattle.sms_pdu.specs.Grammar.{sm_values, command_in, sm_spelling, bind_resp_spelling, sm_resp_spelling, body_spelling, Spells};
+ghost use Rattle.sms_pdu.specs.Borrowed.{bind_values, owned_sm, owned_body, owned_pdu};
 ghost use Rattle.sms_pdu.specs.Reading.{Gives};
 ghost use Rattle.sms_pdu.specs.Size.{parameters_fit, size_of};
-ghost use Rattle.sms_pdu.specs.Writing.{written, sm_written, bind_resp_written, sm_resp_written, body_written, pdu_written, SmWritable, RespWritable, Writable, RespFit, TagsFit};
+ghost use Rattle.sms_pdu.specs.Writing.{SmWritable, RespWritable, Writable, RespFit, TagsFit, Adds};
 
-use crate::body::{Body, Pdu, Sm};
+use crate::body::Pdu;
+use crate::borrowed::{BindRef, BodyRef, PduRef, SmRef};
 use crate::command::{Command, Mode};
 use crate::error::PduError;
 use crate::layout::{bind_fields, bind_resp_fields, sm_fields, sm_resp_fields};
-use crate::octets::Octets;
-use crate::parameter::{Parameter, Params};
-use crate::sizes::body_length;
-use std::alloc::{AllocError, Global};
+use crate::parameter::Parameter;
+use crate::sizes::encoded_length;
+use std::alloc::Global;
 
-/// A number of four octets, high octet first.
-fn put_number(out: &mut Vec<u8>, number: u32) -> Result<(), AllocError>
-    ensures put { OnOk result (out.new.items ≡ out.old.items ++ to_be_bytes w32 number) }
-    ensures small { number < 2 ^ 32 }
+/// These octets behind what is there, where there is room for them.
+#[inline(always)]
+fn put(out: &mut Vec<u8>, octets: &[u8])
+    requires { vec_len out.old + length octets.now ≤ vec_capacity out.old }
+    ensures put { out.new.items ≡ out.old.items ++ octets.now }
+    ensures len { vec_len out.new ≡ vec_len out.old + length octets.now }
+    ensures room { vec_capacity out.old ≤ vec_capacity out.new }
 {
-    out.extend_from_slice(&number.to_be_bytes())
-}
-
-/// A C-Octet String and its 0.
-fn put_text(out: &mut Vec<u8>, text: &Octets) -> Result<(), AllocError>
-    ensures { OnOk result (out.new.items ≡ out.old.items ++ (text.now ++ 0 ∷ [])) }
-{
-    out.extend_from_slice(text.as_slice())?;
-    out.push(0)?;
-    Ok(())
-}
-
-/// A short_message behind its sm_length.
-fn put_message(out: &mut Vec<u8>, message: &Octets) -> Result<(), AllocError>
-    requires { length message.now ≤ 254 }
-    ensures { OnOk result (out.new.items ≡ out.old.items ++ (length message.now ∷ message.now)) }
-{
-    out.push(message.len() as u8)?;
-    out.extend_from_slice(message.as_slice())
+    out.extend_from_slice(octets).unwrap();
 }
 
 /// An optional parameter.
-fn put_parameter(out: &mut Vec<u8>, p: &Parameter) -> Result<(), AllocError>
-    requires { length p.now.value < 2 ^ 16 }
-    ensures put { OnOk result (out.new.items ≡ out.old.items ++ parameter_spelling p.now) }
+fn put_parameter(out: &mut Vec<u8>, p: &Parameter)
+    requires value { length p.now.value < 2 ^ 16 }
+    requires room { vec_len out.old + (4 + length p.now.value) ≤ vec_capacity out.old }
+    ensures put { out.new.items ≡ out.old.items ++ parameter_spelling p.now }
+    ensures len { vec_len out.new ≡ vec_len out.old + (4 + length p.now.value) }
+    ensures room { vec_capacity out.old ≤ vec_capacity out.new }
     ensures tag { p.now.tag < 2 ^ 16 }
 {
-    out.extend_from_slice(&p.tag.to_be_bytes())?;
-    out.extend_from_slice(&(p.value.len() as u16).to_be_bytes())?;
-    out.extend_from_slice(p.value.as_slice())
+    let value = p.value.as_slice();
+    let [tag_high, tag_low] = p.tag.to_be_bytes();
+    let [length_high, length_low] = (value.len() as u16).to_be_bytes();
+    put(out, &[tag_high, tag_low, length_high, length_low]);
+    put(out, value);
 }
 
-/// A row's field of this value, written.
-macro_rules! write_field {
-    (($out:ident, $value:expr) $name:ident: $field:ident is number,) => {
-        $out.push(*$value)?
+/// Rows of a table, written from left to right. What has to be written in one octet each is kept in
+/// the brackets, and written as one where a string follows, or the end.
+macro_rules! write_rows {
+    (($out:ident, $of:ident) []) => {};
+    (($out:ident, $of:ident) [$($octet:expr,)+]) => {
+        put($out, &[$($octet,)+]);
     };
-    (($out:ident, $value:expr) $name:ident: $field:ident is text($maximum:literal),) => {
-        put_text($out, $value)?
+    (
+        ($out:ident, $of:ident) [$($octet:expr,)*]
+        $name:ident: $field:ident is number, $($rows:tt)*
+    ) => {
+        write_rows!(($out, $of) [$($octet,)* $of.$name,] $($rows)*);
     };
-    (($out:ident, $value:expr) $name:ident: $field:ident is time,) => {
-        put_text($out, $value)?
+    (
+        ($out:ident, $of:ident) [$($octet:expr,)*]
+        $name:ident: $field:ident is text($maximum:literal), $($rows:tt)*
+    ) => {
+        write_rows!(($out, $of) [$($octet,)*]);
+        put($out, $of.$name);
+        write_rows!(($out, $of) [0,] $($rows)*);
     };
-    (($out:ident, $value:expr) $name:ident: $field:ident is message,) => {
-        put_message($out, $value)?
+    (
+        ($out:ident, $of:ident) [$($octet:expr,)*]
+        $name:ident: $field:ident is time, $($rows:tt)*
+    ) => {
+        write_rows!(($out, $of) [$($octet,)*]);
+        put($out, $of.$name);
+        write_rows!(($out, $of) [0,] $($rows)*);
+    };
+    (
+        ($out:ident, $of:ident) [$($octet:expr,)*]
+        $name:ident: $field:ident is message, $($rows:tt)*
+    ) => {
+        write_rows!(($out, $of) [$($octet,)* $of.$name.len() as u8,]);
+        put($out, $of.$name);
+        write_rows!(($out, $of) [] $($rows)*);
     };
 }
 
-/// The fields of a table, written from left to right: those of a struct, or those of the variant
-/// that is the first arm of a match, where `$then` follows.
+/// The fields of a table, written.
 macro_rules! write_fields {
-    (
-        ($out:ident, $of:ident)
-        $($name:ident: $field:ident is $kind:ident $(($maximum:literal))?,)*
-    ) => {
-        $(write_field!(($out, &$of.$name) $name: $field is $kind $(($maximum))?,);)*
-    };
-    (
-        ($out:ident, match $of:ident {
-            $($variant:ident)::+ { $other:ident: _, .. } => $then:expr, $($arms:tt)*
-        })
-        $($name:ident: $field:ident is $kind:ident $(($maximum:literal))?,)*
-    ) => {
-        match $of {
-            $($variant)::+ { $other: _, $($name,)* } => {
-                $(write_field!(($out, $name) $name: $field is $kind $(($maximum))?,);)*
-                $then
-            }
-            $($arms)*
-        }
+    (($out:ident, $of:ident) $($rows:tt)*) => {
+        write_rows!(($out, $of) [] $($rows)*)
     };
 }
 
-/// A message before its parameters.
-fn put_fields(out: &mut Vec<u8>, sm: &Sm) -> Result<(), AllocError>
-    requires { length sm.now.short_message ≤ 254 }
-    ensures { OnOk result (out.new.items ≡ written sm_fields (sm_values sm.now) out.old.items) }
-{
-    sm_fields!(write_fields!(out, sm));
-    Ok(())
+/// The string of a table that has one row, of a text.
+macro_rules! write_text {
+    (($out:ident, $value:expr) $name:ident: $field:ident is text($maximum:literal),) => {
+        put($out, $value);
+        put($out, &[0]);
+    };
 }
 
 /// The optional parameters.
-fn put_parameters(out: &mut Vec<u8>, params: &[Parameter]) -> Result<(), AllocError>
-    requires { parameters_fit params.now ≡ true }
-    ensures put { OnOk result (out.new.items ≡ out.old.items ++ parameters_spelling params.now) }
-    ensures fit { OnOk result (ParametersFit params.now) }
+fn put_parameters(out: &mut Vec<u8>, params: &[Parameter])
+    requires fit { parameters_fit params.now ≡ true }
+    requires room { vec_len out.old + length (parameters_spelling params.now) ≤ vec_capacity out.old }
+    ensures put { out.new.items ≡ out.old.items ++ parameters_spelling params.now }
+    ensures fit { ParametersFit params.now }
 {
     for p in params {
-        put_parameter(out, p)?;
+        put_parameter(out, p);
     }
-    Ok(())
+}
+
+/// A bind.
+fn put_bind(out: &mut Vec<u8>, bind: &BindRef<'_>)
+    requires { vec_len out.old + length (spellings bind_fields (bind_values bind.now)) ≤ vec_capacity out.old }
+    ensures { out.new.items ≡ out.old.items ++ spellings bind_fields (bind_values bind.now) }
+{
+    bind_fields!(write_fields!(out, bind));
 }
 
 /// A message.
-fn put_sm(out: &mut Vec<u8>, sm: &Sm) -> Result<(), AllocError>
-    requires { SmWritable sm.now }
-    ensures put { OnOk result (out.new.items ≡ sm_written sm.now out.old.items) }
-    ensures fit { OnOk result (ParametersFit sm.now.params) }
+fn put_sm(out: &mut Vec<u8>, sm: &SmRef<'_>)
+    requires writable { SmWritable (owned_sm sm.now) }
+    requires room { vec_len out.old + length (sm_spelling (owned_sm sm.now)) ≤ vec_capacity out.old }
+    ensures put { out.new.items ≡ out.old.items ++ sm_spelling (owned_sm sm.now) }
+    ensures fit { ParametersFit sm.now.params.now }
 {
-    put_fields(out, sm)?;
-    put_parameters(out, sm.params.as_slice())
+    sm_fields!(write_fields!(out, sm));
+    put_parameters(out, sm.params);
 }
 
 /// The body of a bind's response.
-fn put_bind_resp(
-    out: &mut Vec<u8>,
-    system_id: &Option<Octets>,
-    params: &Params,
-) -> Result<(), AllocError>
-    requires { RespWritable system_id.now params.now }
-    ensures put { OnOk result (out.new.items ≡ bind_resp_written system_id.now params.now out.old.items) }
-    ensures fit { OnOk result (RespFit system_id.now params.now) }
+fn put_bind_resp(out: &mut Vec<u8>, system_id: Option<&[u8]>, params: &[Parameter])
+    requires writable { RespWritable (option_copied system_id) params.now }
+    requires room { vec_len out.old + length (bind_resp_spelling (option_copied system_id) params.now) ≤ vec_capacity out.old }
+    ensures put { out.new.items ≡ out.old.items ++ bind_resp_spelling (option_copied system_id.entry) params.now }
+    ensures fit { RespFit (option_copied system_id.entry) params.now }
 {
-    match system_id {
-        None => Ok(()),
-        Some(system_id) => {
-            bind_resp_fields!(write_field!(out, system_id));
-            put_parameters(out, params.as_slice())
-        }
+    if let Some(system_id) = system_id {
+        bind_resp_fields!(write_text!(out, system_id));
+        put_parameters(out, params);
     }
 }
 
 /// The body of a response to a message.
-fn put_message_id(out: &mut Vec<u8>, message_id: &Option<Octets>) -> Result<(), AllocError>
-    ensures { OnOk result (out.new.items ≡ sm_resp_written message_id.now out.old.items) }
+fn put_message_id(out: &mut Vec<u8>, message_id: Option<&[u8]>)
+    requires { vec_len out.old + length (sm_resp_spelling (option_copied message_id)) ≤ vec_capacity out.old }
+    ensures { out.new.items ≡ out.old.items ++ sm_resp_spelling (option_copied message_id.entry) }
 {
-    match message_id {
-        None => Ok(()),
-        Some(message_id) => {
-            sm_resp_fields!(write_field!(out, message_id));
-            Ok(())
-        }
+    if let Some(message_id) = message_id {
+        sm_resp_fields!(write_text!(out, message_id));
     }
 }
 
 /// A body.
-fn put_body(out: &mut Vec<u8>, body: &Body) -> Result<(), AllocError>
-    requires { Writable body.now }
-    ensures put { OnOk result (out.new.items ≡ body_written body.now out.old.items) }
-    ensures fit { OnOk result (TagsFit body.now) }
-{
-    bind_fields!(write_fields!(
-        out,
-        match body {
-            Body::Bind { mode: _, .. } => Ok(()),
-            Body::BindResp {
-                mode: _,
-                system_id,
-                params
-            } => put_bind_resp(out, system_id, params),
-            Body::Submit(sm) => put_sm(out, sm),
-            Body::Deliver(sm) => put_sm(out, sm),
-            Body::SubmitResp { message_id } => put_message_id(out, message_id),
-            Body::DeliverResp { message_id } => put_message_id(out, message_id),
-            Body::Unbind => Ok(()),
-            Body::UnbindResp => Ok(()),
-            Body::EnquireLink => Ok(()),
-            Body::EnquireLinkResp => Ok(()),
-            Body::GenericNack => Ok(()),
-        }
-    ))
-}
-
-/// The command of a body.
-fn command_of(body: &Body) -> Command
-    ensures { result ≡ command_in body.now }
+fn put_body(out: &mut Vec<u8>, body: &BodyRef<'_>)
+    requires writable { Writable (owned_body body.now) }
+    requires room { vec_len out.old + length (body_spelling (owned_body body.now)) ≤ vec_capacity out.old }
+    ensures put { out.new.items ≡ out.old.items ++ body_spelling (owned_body body.now) }
+    ensures fit { TagsFit (owned_body body.now) }
 {
     match body {
-        Body::Bind { mode, .. } => match mode {
-            Mode::Transmitter => Command::BindTransmitter,
-            Mode::Transceiver => Command::BindTransceiver,
-        },
-        Body::BindResp { mode, .. } => match mode {
-            Mode::Transmitter => Command::BindTransmitterResp,
-            Mode::Transceiver => Command::BindTransceiverResp,
-        },
-        Body::Submit(_) => Command::SubmitSm,
-        Body::Deliver(_) => Command::DeliverSm,
-        Body::SubmitResp { .. } => Command::SubmitSmResp,
-        Body::DeliverResp { .. } => Command::DeliverSmResp,
-        Body::Unbind => Command::Unbind,
-        Body::UnbindResp => Command::UnbindResp,
-        Body::EnquireLink => Command::EnquireLink,
-        Body::EnquireLinkResp => Command::EnquireLinkResp,
-        Body::GenericNack => Command::GenericNack,
+        BodyRef::Bind(fields) => put_bind(out, fields),
+        BodyRef::BindResp {
+            mode: _,
+            system_id,
+            params,
+        } => put_bind_resp(out, *system_id, params),
+        BodyRef::Submit(sm) => put_sm(out, sm),
+        BodyRef::Deliver(sm) => put_sm(out, sm),
+        BodyRef::SubmitResp { message_id } => put_message_id(out, *message_id),
+        BodyRef::DeliverResp { message_id } => put_message_id(out, *message_id),
+        BodyRef::Unbind => (),
+        BodyRef::UnbindResp => (),
+        BodyRef::EnquireLink => (),
+        BodyRef::EnquireLinkResp => (),
+        BodyRef::GenericNack => (),
     }
 }
 
-/// A PDU of this command_length.
-fn put_pdu(out: &mut Vec<u8>, length: u32, pdu: &Pdu) -> Result<(), AllocError>
-    requires { Writable pdu.now.body }
-    ensures put { OnOk result (out.new.items ≡ pdu_written length pdu.now out.old.items) }
-    ensures fit { OnOk result (TagsFit pdu.now.body) }
-    ensures status { OnOk result (pdu.now.status < 2 ^ 32) }
-    ensures number { OnOk result (pdu.now.number < 2 ^ 32) }
+/// The command of a body.
+fn command_of(body: &BodyRef<'_>) -> Command
+    ensures { result ≡ command_in (owned_body body.now) }
 {
-    put_number(out, length)?;
-    put_number(out, command_of(&pdu.body).id())?;
-    put_number(out, pdu.status)?;
-    put_number(out, pdu.number)?;
-    put_body(out, &pdu.body)
+    match body {
+        BodyRef::Bind(fields) => match fields.mode {
+            Mode::Transmitter => Command::BindTransmitter,
+            Mode::Transceiver => Command::BindTransceiver,
+        },
+        BodyRef::BindResp { mode, .. } => match mode {
+            Mode::Transmitter => Command::BindTransmitterResp,
+            Mode::Transceiver => Command::BindTransceiverResp,
+        },
+        BodyRef::Submit(_) => Command::SubmitSm,
+        BodyRef::Deliver(_) => Command::DeliverSm,
+        BodyRef::SubmitResp { .. } => Command::SubmitSmResp,
+        BodyRef::DeliverResp { .. } => Command::DeliverSmResp,
+        BodyRef::Unbind => Command::Unbind,
+        BodyRef::UnbindResp => Command::UnbindResp,
+        BodyRef::EnquireLink => Command::EnquireLink,
+        BodyRef::EnquireLinkResp => Command::EnquireLinkResp,
+        BodyRef::GenericNack => Command::GenericNack,
+    }
+}
+
+/// The four numbers of a header, each high octet first (SMPP 3.4 3.2).
+fn header(size: u32, command: u32, status: u32, number: u32) -> [u8; 16]
+    ensures status { status < 2 ^ 32 }
+    ensures number { number < 2 ^ 32 }
+    ensures octets { result ≡ to_be_bytes w32 size ++ to_be_bytes w32 command ++ to_be_bytes w32 status ++ to_be_bytes w32 number }
+{
+    let [l0, l1, l2, l3] = size.to_be_bytes();
+    let [c0, c1, c2, c3] = command.to_be_bytes();
+    let [s0, s1, s2, s3] = status.to_be_bytes();
+    let [n0, n1, n2, n3] = number.to_be_bytes();
+    [
+        l0, l1, l2, l3, c0, c1, c2, c3, s0, s1, s2, s3, n0, n1, n2, n3,
+    ]
+}
+
+/// A PDU, of so many octets.
+fn put_pdu(out: &mut Vec<u8>, size: usize, pdu: &PduRef<'_>)
+    requires measured { size_of (owned_pdu pdu.now) ≡ Ok size }
+    requires room { vec_len out.old + size ≤ vec_capacity out.old }
+    ensures { Adds (owned_pdu pdu.now) out.old.items out.new.items }
+{
+    let command = command_of(&pdu.body).id();
+    let header = header(size as u32, command, pdu.status, pdu.number);
+    put(out, &header);
+    put_body(out, &pdu.body);
 }
 
 /// The one spelling of the PDU, in one allocation of its size. A PDU that has none is refused, for
-/// the first fault: the fields from left to right, then the length of the whole.
+/// the first fault: the fields from left to right, then the length of the whole. A refusal asks for
+/// no memory.
 pub fn encode(alloc: Global, pdu: &Pdu) -> Result<Vec<u8>, PduError>
     // What is written spells the PDU.
     ensures spelled { IfOk result (λ v. Spells pdu.now v.items) }
     // What spells it is written, unless memory runs out.
     ensures only { (octets : List ℕ) → Spells pdu.now octets → Gives (λ v. v.items) result (Ok octets) }
-    // Its length, or which fault it is.
+    // Its length, or which fault it is; a fault is told whether or not there is memory.
     ensures exact { Gives (λ v. length v.items) result (size_of pdu.now) }
 {
-    let size = body_length(pdu.status, &pdu.body)?;
+    let pdu = pdu.as_ref();
+    let size = encoded_length(&pdu)?;
     let mut out = Vec::with_capacity(alloc, size)?;
-    put_pdu(&mut out, size as u32, pdu)?;
+    put_pdu(&mut out, size, &pdu);
     Ok(out)
+}
+
+/// Writes the one spelling of the PDU behind what is there, and gives its length. A PDU that has
+/// none is refused as [`encode`] refuses it. An `Err` changes nothing.
+pub fn encode_into(out: &mut Vec<u8>, pdu: &PduRef<'_>) -> Result<usize, PduError>
+    // What is written spells the PDU.
+    ensures spelled { IfOk result (λ n. Adds (owned_pdu pdu.now) out.old.items out.new.items) }
+    // Its length, or which fault it is; a fault is told whether or not there is memory.
+    ensures exact { Gives (λ n. n) result (size_of (owned_pdu pdu.now)) }
+    ensures err { OnErr result (out.new.items ≡ out.old.items) }
+{
+    let size = encoded_length(pdu)?;
+    out.reserve(size)?;
+    put_pdu(out, size, pdu);
+    Ok(size)
 }

@@ -1,29 +1,74 @@
 //! Frames, and what a piece of a stream gives.
 
-ghost use Rattle.std.specs.Prelude.{◌≡◌, List, []};
+ghost use Rattle.std.specs.Prelude.{◌≡◌, ◌↔◌, List, [], ◌∷◌, length, IfSome, IfNone, IsTrue};
+ghost use Rattle.sms_pdu.specs.Frame.{IsFrame};
+ghost use Rattle.sms_pdu.specs.Header.{header_at_front};
 
-use crate::octets::Octets;
+use crate::header::{Header, frame_header};
 use std::alloc::Global;
 use std::marker::Model;
 
-/// A whole PDU as it came, read no further than its command_length.
+/// A whole PDU as it came or goes, read no further than its command_length: 16 to 70,000 octets, of
+/// which the first four give their number. Contracts see its octets.
 #[derive(Debug, Drop)]
 pub struct Frame {
-    /// Its 16 to 70,000 octets.
-    pub octets: Octets,
+    octets: Vec<u8>,
 }
 
-/// Frames in the order in which they came. Contracts see the list.
+impl Model for Frame {
+    ghost use Rattle.std.specs.Prelude.{List, ℕ};
+    ghost use Rattle.sms_pdu.specs.Frame.{IsFrame};
+
+    ghost Value = { List ℕ };
+
+    ghost view = { λ f. f.octets.items };
+
+    ghost invariant = { λ f. IsFrame f.octets.items };
+}
+
+impl Frame {
+    /// The frame of these octets, which [`crate::is_frame`] tells from others. Takes no memory.
+    pub fn new(octets: Vec<u8>) -> Frame
+        requires { IsFrame octets.items }
+        ensures { result ≡ octets.items }
+    {
+        Frame { octets }
+    }
+
+    /// Its header.
+    pub fn header(&self) -> Header
+        ensures { result ≡ header_at_front self.now }
+    {
+        frame_header(self.octets.as_slice())
+    }
+
+    /// Its octets.
+    pub fn as_slice(&self) -> &[u8]
+        ensures same { result.now ≡ self.now }
+        ensures whole { IsFrame result.now }
+    {
+        self.octets.as_slice()
+    }
+
+    /// Its octets, as the caller's own. Takes no memory.
+    pub fn into_vec(self) -> Vec<u8>
+        ensures same { result.items ≡ self }
+        ensures whole { IsFrame result.items }
+    {
+        self.octets
+    }
+}
+
+/// Frames in the order in which they came. Contracts see the list of their octets.
 #[derive(Debug, Drop)]
 pub struct Frames {
     frames: Vec<Frame>,
 }
 
 impl Model for Frames {
-    ghost use Rattle.std.specs.Prelude.{List};
-    ghost use Rattle.sms_pdu.specs.declared.frame.Frame.{Frame};
+    ghost use Rattle.std.specs.Prelude.{List, ℕ};
 
-    ghost Value = { List Frame };
+    ghost Value = { List (List ℕ) };
 
     ghost view = { λ f. f.frames.items };
 }
@@ -45,11 +90,36 @@ impl Frames {
         }
     }
 
+    /// How many frames there are.
+    pub fn len(&self) -> usize
+        ensures { result ≡ length self.now }
+    {
+        self.frames.len()
+    }
+
+    /// Whether there are no frames.
+    pub fn is_empty(&self) -> bool
+        ensures { IsTrue result ↔ (self.now ≡ []) }
+    {
+        self.frames.is_empty()
+    }
+
     /// The frames.
     pub fn as_slice(&self) -> &[Frame]
         ensures { result.now ≡ self.now }
     {
         self.frames.as_slice()
+    }
+
+    /// Takes the first frame out, if there is one.
+    pub fn take_first(&mut self) -> Option<Frame>
+        ensures first { IfSome result (λ frame. self.old ≡ frame ∷ self.new) }
+        ensures none { IfNone result ((self.old ≡ []) × (self.new ≡ [])) }
+    {
+        if self.frames.is_empty() {
+            return None;
+        }
+        Some(self.frames.remove(0))
     }
 
     /// The frames again. Takes no memory.

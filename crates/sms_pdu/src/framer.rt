@@ -1,14 +1,15 @@
 //! Frames from a stream that comes in pieces.
 
-ghost use Rattle.std.specs.Prelude.{◌≡◌, ◌+◌, ◌++◌, ◌^◌, ◌<◌, ◌≤◌, List, ℕ, [], length, map, slice_index, IfOk, OnErr, IsSome, ◌↔◌};
-ghost use Rattle.std.specs.List.{concat, AllByRecursion};
-ghost use Rattle.sms_pdu.specs.Frame.{IsFrame, IsRest, IsBad, IsPending, Division, octets_of, front_at, announced, Continues};
+ghost use Rattle.std.specs.Prelude.{◌≡◌, ◌<◌, ◌++◌, ◌∷◌, List, ℕ, [], IfOk, OnErr, IsSome, ◌↔◌, vec_len};
+ghost use Rattle.std.specs.Vec.{vec_capacity};
+ghost use Rattle.sms_pdu.specs.declared.front.Front.TheVariants.{Bad};
+ghost use Rattle.sms_pdu.specs.Frame.{IsFrame, IsRest, IsBad, Division};
 
 use crate::frame::{Fed, Frame, FrameFault, Frames};
-use crate::header::{HEADER_LENGTH, MOST_LENGTH};
-use crate::octets::Octets;
+use crate::front::{Front, front_of, front_of_both};
 use std::alloc::{AllocError, Global};
 use std::marker::Model;
+use std::mem;
 
 /// Cuts a stream into frames, in whatever pieces it comes. Contracts see its rest.
 #[derive(Drop)]
@@ -22,20 +23,7 @@ impl Model for Framer {
 
     ghost view = { λ f. f.rest.items };
 
-    ghost invariant = { λ f. IsPending f.rest.items };
-}
-
-/// What stands at the front of a stream.
-#[derive(Clone, Copy)]
-pub(crate) enum Front {
-    /// Fewer than the four octets of a command_length.
-    Short,
-    /// A command_length that no PDU has.
-    Bad,
-    /// A good command_length, and fewer octets than it says.
-    Cut(usize),
-    /// A frame of so many octets.
-    Whole(usize),
+    ghost invariant = { λ f. IsRest f.rest.items };
 }
 
 impl Framer {
@@ -51,7 +39,8 @@ impl Framer {
 
     /// What has come since the last whole frame.
     pub fn rest(&self) -> &[u8]
-        ensures { result.now ≡ self.now }
+        ensures same { result.now ≡ self.now }
+        ensures ended { IsRest result.now }
     {
         self.rest.as_slice()
     }
@@ -59,9 +48,17 @@ impl Framer {
     /// What has come since the last whole frame, as the caller's own. Takes no memory.
     pub fn into_rest(self) -> Vec<u8>
         ensures same { result.items ≡ self }
-        ensures rest { IsRest result.items }
+        ensures ended { IsRest result.items }
     {
         self.rest
+    }
+
+    /// The fault at which the stream has ended, if there is one: a bad command_length at the front
+    /// of the rest.
+    pub fn fault(&self) -> Option<FrameFault>
+        ensures { IsSome result ↔ IsBad self.now }
+    {
+        fault_of(front_of(self.rest.as_slice()))
     }
 
     /// Takes the next piece of the stream and gives the frames that are whole now. Once a
@@ -69,44 +66,38 @@ impl Framer {
     /// nothing.
     pub fn feed(&mut self, piece: &[u8]) -> Result<Fed, AllocError>
         // The frames and the new rest are those of the rest followed by the piece.
-        ensures divided { IfOk result (λ fed. ¬ IsBad self.old → Division (self.old ++ piece.now) (octets_of fed.frames) self.new) }
+        ensures divided { IfOk result (λ fed. ¬ IsBad self.old → Division (self.old ++ piece.now) fed.frames self.new) }
         ensures over { IfOk result (λ fed. IsBad self.old → (fed.frames ≡ []) × (self.new ≡ self.old)) }
         ensures fault { IfOk result (λ fed. IsSome fed.fault ↔ IsBad self.new) }
+        ensures ended { IsRest self.new }
         ensures err { OnErr result (self.new ≡ self.old) }
     {
-        if let Front::Bad = front_of(self.rest.as_slice(), &[]) {
+        if self.rest.is_empty() {
+            let divided = divide(self.alloc, piece)?;
+            self.rest = divided.rest;
             return Ok(Fed {
-                frames: Frames::none(self.alloc),
-                fault: Some(FrameFault::BadLength),
+                frames: Frames::new(divided.frames),
+                fault: divided.fault,
             });
         }
-        match front_of(self.rest.as_slice(), piece) {
-            Front::Short => {
-                self.rest.extend_from_slice(piece)?;
-                Ok(fed_nothing(self.alloc, None))
-            }
+        match front_of_both(self.rest.as_slice(), piece) {
+            Front::Short => self.rest.extend_from_slice(piece)?,
             Front::Bad => {
-                self.rest.extend_from_slice(piece)?;
-                Ok(fed_nothing(self.alloc, Some(FrameFault::BadLength)))
+                if self.rest.len() < 4 {
+                    self.rest.extend_from_slice(piece)?;
+                }
+                return Ok(fed_nothing(self.alloc, Some(FrameFault::BadLength)));
             }
             Front::Cut(length) => {
                 self.rest.reserve_exact(length - self.rest.len())?;
                 self.rest.extend_from_slice(piece)?;
-                Ok(fed_nothing(self.alloc, None))
             }
             Front::Whole(length) => {
                 let (last, after) = piece.split_at(length - self.rest.len());
-                let first = joined(self.alloc, self.rest.as_slice(), last)?;
-                let mut frames = Vec::new(self.alloc);
-                frames.push(first)?;
-                let left = take_frames(self.alloc, &mut frames, after)?;
-                self.rest = kept(self.alloc, left)?;
-                Ok(Fed {
-                    frames: Frames::new(frames),
-                    fault: fault_of(left),
-                })
+                return finish(self.alloc, &mut self.rest, last, after);
             }
         }
+        Ok(fed_nothing(self.alloc, None))
     }
 }
 
@@ -122,100 +113,98 @@ fn fed_nothing(alloc: Global, fault: Option<FrameFault>) -> Fed
 }
 
 /// The fault of a stream that begins so.
-fn fault_of(left: &[u8]) -> Option<FrameFault>
-    ensures { IsSome result ↔ IsBad left.now }
+fn fault_of(front: Front) -> Option<FrameFault>
+    ensures { IsSome result ↔ (front ≡ Bad) }
 {
-    match front_of(&[], left) {
+    match front {
         Front::Bad => Some(FrameFault::BadLength),
-        _ => None,
+        Front::Short => None,
+        Front::Cut(_) => None,
+        Front::Whole(_) => None,
     }
 }
 
-/// What stands at the front of a stream of which this is held and this piece follows.
-pub(crate) fn front_of(held: &[u8], piece: &[u8]) -> Front
-    ensures { result ≡ front_at (held.now ++ piece.now) }
+/// The rest is a frame with what stands last in it, and is given as one, without a copy; the frames
+/// after it follow, and the new rest takes its place. An `Err` changes nothing.
+fn finish(alloc: Global, rest: &mut Vec<u8>, last: &[u8], after: &[u8]) -> Result<Fed, AllocError>
+    requires { IsFrame (rest.old.items ++ last.now) }
+    ensures divided { IfOk result (λ fed. Division ((rest.old.items ++ last.now) ++ after.now) fed.frames rest.new.items) }
+    ensures fault { IfOk result (λ fed. IsSome fed.fault ↔ IsBad rest.new.items) }
+    ensures err { OnErr result (rest.new.items ≡ rest.old.items) }
 {
-    let there = held.len() + piece.len();
-    if there < 4 {
-        return Front::Short;
-    }
-    let length = announced_by(held, piece) as usize;
-    if length < HEADER_LENGTH {
-        Front::Bad
-    } else if length > MOST_LENGTH {
-        Front::Bad
-    } else if there < length {
-        Front::Cut(length)
-    } else {
-        Front::Whole(length)
-    }
-}
-
-/// The number of the first four octets.
-fn announced_by(held: &[u8], piece: &[u8]) -> u32
-    requires { 4 ≤ length held.now + length piece.now }
-    ensures { result ≡ announced (held.now ++ piece.now) }
-{
-    u32::from_be_bytes([
-        octet_at(held, piece, 0),
-        octet_at(held, piece, 1),
-        octet_at(held, piece, 2),
-        octet_at(held, piece, 3),
-    ])
-}
-
-/// One octet of the two slices joined.
-fn octet_at(held: &[u8], piece: &[u8], at: usize) -> u8
-    requires { at < length held.now + length piece.now }
-    ensures { result ≡ slice_index (held.now ++ piece.now) at }
-{
-    if at < held.len() {
-        held[at]
-    } else {
-        piece[at - held.len()]
-    }
-}
-
-/// A frame of these octets, in one allocation.
-fn joined(alloc: Global, held: &[u8], last: &[u8]) -> Result<Frame, AllocError>
-    requires { length held.now + length last.now < 2 ^ 32 }
-    ensures { IfOk result (λ frame. frame.octets ≡ held.now ++ last.now) }
-{
-    let mut octets = Vec::with_capacity(alloc, held.len() + last.len())?;
-    octets.extend_from_slice(held)?;
-    octets.extend_from_slice(last)?;
-    Ok(Frame {
-        octets: Octets::new(octets),
+    let Divided {
+        mut frames,
+        rest: next,
+        fault,
+    } = divide(alloc, after)?;
+    frames.reserve(1)?;
+    rest.extend_from_slice(last)?;
+    let first = mem::replace(rest, next);
+    put_first(&mut frames, Frame::new(first));
+    Ok(Fed {
+        frames: Frames::new(frames),
+        fault,
     })
 }
 
-/// Adds the frames that stand whole at the front, and gives what is left.
-fn take_frames<'a>(
-    alloc: Global,
-    frames: &mut Vec<Frame>,
-    stream: &'a [u8],
-) -> Result<&'a [u8], AllocError>
-    ensures taken { IfOk result (λ left. Continues (octets_of frames.old.items) (octets_of frames.new.items) stream.now left.now) }
-    ensures pending { IfOk result (λ left. IsPending left.now) }
+/// Puts a frame before the others, for which there is room.
+fn put_first(frames: &mut Vec<Frame>, first: Frame)
+    requires { vec_len frames.old < vec_capacity frames.old }
+    ensures { frames.new.items ≡ first ∷ frames.old.items }
 {
-    let mut left = stream;
-    while let Front::Whole(length) = front_of(&[], left) {
-        let (frame, after) = left.split_at(length);
-        frames.push(joined(alloc, frame, &[])?)?;
-        left = after;
+    match frames.insert(0, first) {
+        Ok(()) => {}
+        Err(_) => unreachable!(),
     }
-    Ok(left)
 }
 
-/// A copy of what is left, with room for the frame that it begins.
-fn kept(alloc: Global, left: &[u8]) -> Result<Vec<u8>, AllocError>
-    ensures { IfOk result (λ rest. rest.items ≡ left.now) }
+/// A stream's frames, and its rest with its fault.
+#[derive(Drop)]
+struct Divided {
+    frames: Vec<Frame>,
+    rest: Vec<u8>,
+    fault: Option<FrameFault>,
+}
+
+/// The frames and the rest of a stream, each copied once.
+fn divide(alloc: Global, stream: &[u8]) -> Result<Divided, AllocError>
+    ensures divided { IfOk result (λ d. Division stream.now d.frames.items d.rest.items) }
+    ensures fault { IfOk result (λ d. IsSome d.fault ↔ IsBad d.rest.items) }
 {
-    let room = match front_of(&[], left) {
-        Front::Cut(length) => length,
-        _ => left.len(),
-    };
+    let mut frames = Vec::new(alloc);
+    let mut left = stream;
+    'taking: loop {
+        match front_of(left) {
+            Front::Short => return with_rest(alloc, frames, left, left.len(), None),
+            Front::Bad => {
+                let fault = Some(FrameFault::BadLength);
+                return with_rest(alloc, frames, left, left.len(), fault);
+            }
+            Front::Cut(length) => return with_rest(alloc, frames, left, length, None),
+            Front::Whole(length) => {
+                let (frame, after) = left.split_at(length);
+                frames.push(Frame::new(Vec::from_slice(alloc, frame)?))?;
+                left = after;
+            }
+        }
+    }
+}
+
+/// These frames, and a copy of what is left, in room for so many octets.
+fn with_rest(
+    alloc: Global,
+    frames: Vec<Frame>,
+    left: &[u8],
+    room: usize,
+    fault: Option<FrameFault>,
+) -> Result<Divided, AllocError>
+    ensures { IfOk result (λ d. (d.frames.items ≡ frames.items) × (d.rest.items ≡ left.now) × (d.fault ≡ fault)) }
+{
     let mut rest = Vec::with_capacity(alloc, room)?;
     rest.extend_from_slice(left)?;
-    Ok(rest)
+    Ok(Divided {
+        frames,
+        rest,
+        fault,
+    })
 }

@@ -1,7 +1,13 @@
 //! Laws about streams and PDUs, each of every case: the contract of a function whose body is empty,
 //! or only makes the calls that the law is about.
 
-ghost use Rattle.std.specs.Prelude.{◌≡◌, IfOk};
+ghost use Rattle.std.specs.Prelude.{◌≡◌, IfOk, IfErr, Err};
+ghost use Rattle.sms_pdu.specs.declared.body.Pdu.{Pdu};
+ghost use Rattle.sms_pdu.specs.declared.error.PduError.{PduError};
+ghost use Rattle.sms_pdu.specs.declared.error.PduError.TheVariants.{OutOfMemory};
+ghost use Rattle.sms_pdu.specs.Grammar.{Spells, IsLawful};
+ghost use Rattle.sms_pdu.specs.Reading.{reading};
+ghost use Rattle.sms_pdu.specs.Size.{size_of};
 ghost use Rattle.sms_pdu.specs.Laws.{OneDivision, EachDivided, PiecesJoin, BadStays, LaterAdds, OthersFollow, AnswersJoin, OneListOfAnswers, AnswersGrow, OneSpelling, OneReading, NoPrefix, SpellingIsFrame};
 
 use crate::body::Pdu;
@@ -69,17 +75,23 @@ pub fn spelling_is_frame()
     ensures { SpellingIsFrame }
 {}
 
-/// What was encoded is decoded again as it was.
+/// What was encoded is decoded again as it was; a PDU that has no spelling is refused as `encode`
+/// refuses it, and nothing but want of memory stops any other.
 pub fn decode_of_encode(alloc: Global, pdu: &Pdu) -> Result<Pdu, PduError>
-    ensures { IfOk result (λ p. p ≡ pdu.now) }
+    ensures same { IfOk result (λ p. p ≡ pdu.now) }
+    ensures memory { IsLawful pdu.now → IfErr result (λ e. e ≡ OutOfMemory) }
+    ensures refused { (e : PduError) → size_of pdu.now ≡ Err e → result ≡ Err e }
 {
     let octets = encode(alloc, pdu)?;
     decode(alloc, octets.as_slice())
 }
 
-/// What was decoded is encoded again as it was.
+/// What was decoded is encoded again as it was; octets that spell no PDU are refused as `decode`
+/// refuses them, and nothing but want of memory stops any other.
 pub fn encode_of_decode(alloc: Global, octets: &[u8]) -> Result<Vec<u8>, PduError>
-    ensures { IfOk result (λ v. v.items ≡ octets.now) }
+    ensures same { IfOk result (λ v. v.items ≡ octets.now) }
+    ensures memory { (p : Pdu) → Spells p octets.now → IfErr result (λ e. e ≡ OutOfMemory) }
+    ensures refused { (e : PduError) → reading octets.now ≡ Err e → result ≡ Err e }
 {
     let pdu = decode(alloc, octets)?;
     encode(alloc, &pdu)

@@ -2,14 +2,15 @@
 #![tactic(auto)]
 
 mod body;
+mod borrowed;
 mod command;
 mod decoding;
 mod encoding;
 mod error;
 mod field;
-mod first;
 mod frame;
 mod framer;
+mod front;
 mod header;
 pub mod laws;
 mod layout;
@@ -21,22 +22,24 @@ mod sizes;
 mod writing;
 
 pub use body::{Body, Pdu, Sm};
+pub use borrowed::{BindRef, BodyRef, PduRef, SmRef};
 pub use command::{
     BIND_TRANSCEIVER, BIND_TRANSCEIVER_RESP, BIND_TRANSMITTER, BIND_TRANSMITTER_RESP, Command,
     DELIVER_SM, DELIVER_SM_RESP, ENQUIRE_LINK, ENQUIRE_LINK_RESP, GENERIC_NACK, Mode, SUBMIT_SM,
     SUBMIT_SM_RESP, UNBIND, UNBIND_RESP,
 };
 pub use decoding::decode;
-pub use encoding::encode;
+pub use encoding::{encode, encode_into};
 pub use error::PduError;
 pub use field::Field;
-pub use first::{first_frame, is_bad};
 pub use frame::{Fed, Frame, FrameFault, Frames};
 pub use framer::Framer;
+pub use front::{first_frame, is_bad, is_frame};
 pub use header::{Header, frame_header, header_of};
 pub use octets::Octets;
 pub use parameter::{Parameter, Params};
 pub use reply::{MessageId, Reply, reply_of};
+pub use sizes::encoded_length;
 pub use writing::write_octets;
 
 #[cfg(test)]

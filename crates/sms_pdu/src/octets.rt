@@ -1,6 +1,6 @@
 //! Octets: the strings of a PDU, and small readings of a slice.
 
-ghost use Rattle.std.specs.Prelude.{List, ℕ, ◌≡◌, ◌==◌, ◌<◌, ◌≤◌, take, length, position, IfSome, IfOk};
+ghost use Rattle.std.specs.Prelude.{List, ℕ, [], ◌≡◌, ◌==◌, ◌<◌, ◌≤◌, take, length, position, IfSome, IfOk, IsOk};
 
 use std::alloc::{AllocError, Global};
 use std::marker::Model;
@@ -27,11 +27,12 @@ impl Octets {
 
     /// A copy of these octets, in one allocation, or in none where there are no octets.
     pub fn copy(alloc: Global, octets: &[u8]) -> Result<Octets, AllocError>
-        ensures { IfOk result (λ copy. copy ≡ octets.now) }
+        ensures same { IfOk result (λ copy. copy ≡ octets.now) }
+        ensures none { octets.now ≡ [] → IsOk result }
     {
-        Ok(Octets {
-            octets: Vec::from_slice(alloc, octets)?,
-        })
+        let mut copy = Vec::with_capacity(alloc, octets.len())?;
+        copy.extend_from_slice(octets)?;
+        Ok(Octets { octets: copy })
     }
 
     /// How many octets there are.

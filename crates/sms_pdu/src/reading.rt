@@ -1,7 +1,7 @@
-//! The values of a PDU's fields, read from left to right.
+//! The values of a PDU's fields, read from left to right. Only the list of parameters takes memory.
 
 ghost use Rattle.std.specs.Prelude.{◌≡◌, length};
-ghost use Rattle.sms_pdu.specs.Reading.{Gives, number_octet_at, text_at, time_at, message_at, parameter_at, parameters_at, ended};
+ghost use Rattle.sms_pdu.specs.Reading.{Says, Gives, number_octet_at, text_at, time_at, message_at, parameter_at, parameters_at, parameter_count, ended};
 
 use crate::error::PduError;
 use crate::field::Field;
@@ -13,7 +13,7 @@ use std::alloc::Global;
 /// The next octet.
 #[tactic(auto, unfolding(crate::specs::Reading::number_octet_at))]
 pub(crate) fn number(field: Field, octets: &[u8]) -> Result<(u8, &[u8]), PduError>
-    ensures { Gives (λ x. (x.0, x.1.now)) result (number_octet_at field octets.now) }
+    ensures { Says (λ x. (x.0, x.1.now)) result (number_octet_at field octets.now) }
 {
     if octets.is_empty() {
         return Err(PduError::Malformed { field });
@@ -24,13 +24,8 @@ pub(crate) fn number(field: Field, octets: &[u8]) -> Result<(u8, &[u8]), PduErro
 
 /// A C-Octet String (SMPP 3.4 3.1) whose maximum counts its 0.
 #[tactic(auto, unfolding(crate::specs::Reading::text_at))]
-pub(crate) fn text<'a>(
-    alloc: Global,
-    field: Field,
-    maximum: usize,
-    octets: &'a [u8],
-) -> Result<(Octets, &'a [u8]), PduError>
-    ensures { Gives (λ x. (x.0, x.1.now)) result (text_at field maximum octets.now) }
+pub(crate) fn text(field: Field, maximum: usize, octets: &[u8]) -> Result<(&[u8], &[u8]), PduError>
+    ensures { Says (λ x. (x.0.now, x.1.now)) result (text_at field maximum octets.now) }
 {
     let Some(len) = first_zero(front(octets, maximum)) else {
         if maximum <= octets.len() {
@@ -40,15 +35,15 @@ pub(crate) fn text<'a>(
     };
     let (text, _) = octets.split_at(len);
     let (_, rest) = octets.split_at(len + 1);
-    Ok((Octets::copy(alloc, text)?, rest))
+    Ok((text, rest))
 }
 
 /// A time: a C-Octet String of 0 or 16 octets before its 0 (SMPP 3.4 7.1.1).
 #[tactic(auto, unfolding(crate::specs::Reading::time_at))]
-pub(crate) fn time(alloc: Global, field: Field, octets: &[u8]) -> Result<(Octets, &[u8]), PduError>
-    ensures { Gives (λ x. (x.0, x.1.now)) result (time_at field octets.now) }
+pub(crate) fn time(field: Field, octets: &[u8]) -> Result<(&[u8], &[u8]), PduError>
+    ensures { Says (λ x. (x.0.now, x.1.now)) result (time_at field octets.now) }
 {
-    let (time, rest) = text(alloc, field, TIME_LENGTH as usize + 1, octets)?;
+    let (time, rest) = text(field, TIME_LENGTH as usize + 1, octets)?;
     let len = time.len();
     if len == 0 || len == TIME_LENGTH as usize {
         Ok((time, rest))
@@ -59,8 +54,8 @@ pub(crate) fn time(alloc: Global, field: Field, octets: &[u8]) -> Result<(Octets
 
 /// The short_message behind its sm_length.
 #[tactic(auto, unfolding(crate::specs::Reading::message_at))]
-pub(crate) fn message(alloc: Global, octets: &[u8]) -> Result<(Octets, &[u8]), PduError>
-    ensures { Gives (λ x. (x.0, x.1.now)) result (message_at octets.now) }
+pub(crate) fn message(octets: &[u8]) -> Result<(&[u8], &[u8]), PduError>
+    ensures { Says (λ x. (x.0.now, x.1.now)) result (message_at octets.now) }
 {
     let (len, rest) = number(Field::SmLength, octets)?;
     let len = len as usize;
@@ -74,14 +69,13 @@ pub(crate) fn message(alloc: Global, octets: &[u8]) -> Result<(Octets, &[u8]), P
             field: Field::ShortMessage,
         });
     }
-    let (message, rest) = rest.split_at(len);
-    Ok((Octets::copy(alloc, message)?, rest))
+    Ok(rest.split_at(len))
 }
 
-/// An optional parameter (SMPP 3.4 5.3.1).
+/// An optional parameter (SMPP 3.4 5.3.1): its tag, its value, and the octets after it.
 #[tactic(auto, unfolding(crate::specs::Reading::parameter_at))]
-pub(crate) fn parameter(alloc: Global, octets: &[u8]) -> Result<(Parameter, &[u8]), PduError>
-    ensures { Gives (λ x. (x.0, x.1.now)) result (parameter_at octets.now) }
+fn parameter(octets: &[u8]) -> Result<(u16, &[u8], &[u8]), PduError>
+    ensures { Says (λ x. (record { tag = x.0; value = x.1.now }, x.2.now)) result (parameter_at octets.now) }
 {
     if octets.len() < 4 {
         return Err(PduError::Malformed {
@@ -97,19 +91,34 @@ pub(crate) fn parameter(alloc: Global, octets: &[u8]) -> Result<(Parameter, &[u8
         });
     }
     let (value, rest) = rest.split_at(len);
-    let value = Octets::copy(alloc, value)?;
-    Ok((Parameter { tag, value }, rest))
+    Ok((tag, value, rest))
 }
 
-/// The optional parameters to the end of the octets.
+/// How many optional parameters there are to the end of the octets.
+fn count_parameters(octets: &[u8]) -> Result<usize, PduError>
+    ensures { result ≡ parameter_count octets.now }
+{
+    let mut count = 0;
+    let mut rest = octets;
+    while !rest.is_empty() {
+        let (_, _, after) = parameter(rest)?;
+        count += 1;
+        rest = after;
+    }
+    Ok(count)
+}
+
+/// The optional parameters to the end of the octets. They are all looked at before memory is asked
+/// for.
 pub(crate) fn parameters(alloc: Global, octets: &[u8]) -> Result<Params, PduError>
     ensures { Gives (λ params. params) result (parameters_at octets.now) }
 {
-    let mut list = Vec::new(alloc);
+    let mut list = Vec::with_capacity(alloc, count_parameters(octets)?)?;
     let mut rest = octets;
     while !rest.is_empty() {
-        let (first, after) = parameter(alloc, rest)?;
-        list.push(first)?;
+        let (tag, value, after) = parameter(rest)?;
+        let value = Octets::copy(alloc, value)?;
+        list.push(Parameter { tag, value })?;
         rest = after;
     }
     Ok(Params::new(list))
@@ -117,7 +126,7 @@ pub(crate) fn parameters(alloc: Global, octets: &[u8]) -> Result<Params, PduErro
 
 /// Nothing is left.
 pub(crate) fn end(octets: &[u8]) -> Result<(), PduError>
-    ensures { Gives (λ done. done) result (ended octets.now) }
+    ensures { result ≡ ended octets.now }
 {
     if octets.is_empty() {
         Ok(())

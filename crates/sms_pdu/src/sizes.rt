@@ -1,30 +1,30 @@
 //! The length of a PDU's spelling, or its first fault, before anything is written.
 
-ghost use Rattle.std.specs.Prelude.{◌≡◌, ℕ, ◌+◌, ◌^◌, ◌<◌, ◌≤◌, length};
+ghost use Rattle.std.specs.Prelude.{◌≡◌, ℕ, List, ◌+◌, ◌^◌, ◌<◌, ◌≤◌, length, Ok, option_copied};
 ghost use Rattle.sms_pdu.specs.Layout.{sm_fields, bind_fields};
-ghost use Rattle.sms_pdu.specs.Grammar.{sm_values};
-ghost use Rattle.sms_pdu.specs.Reading.{Gives};
-ghost use Rattle.sms_pdu.specs.Size.{text_size, time_size, message_size, values_size, parameters_fit, parameters_checked, whole_size, tail_size, sm_size, absent_size, bind_resp_size, message_id_size, bind_size, body_size};
+ghost use Rattle.sms_pdu.specs.Grammar.{sm_values, Spells};
+ghost use Rattle.sms_pdu.specs.Borrowed.{bind_values, owned_sm, owned_body, owned_pdu};
+ghost use Rattle.sms_pdu.specs.Size.{size_of, text_size, time_size, message_size, values_size, parameters_fit, parameters_checked, whole_size, tail_size, sm_size, absent_size, bind_resp_size, message_id_size, bind_size, body_size};
 
-use crate::body::{Body, Sm};
+use crate::borrowed::{BindRef, BodyRef, PduRef, SmRef};
 use crate::error::PduError;
 use crate::field::Field;
 use crate::header::{HEADER_LENGTH, MOST_LENGTH};
 use crate::layout::{
     MESSAGE_MAXIMUM, TIME_LENGTH, bind_fields, bind_resp_fields, sm_fields, sm_resp_fields,
 };
-use crate::octets::{Octets, first_zero};
-use crate::parameter::{Parameter, Params};
+use crate::octets::first_zero;
+use crate::parameter::Parameter;
 
 /// The length of a C-Octet String with its 0.
 #[tactic(auto, unfolding(crate::specs::Size::text_size))]
-fn text(field: Field, maximum: u8, text: &Octets) -> Result<u8, PduError>
-    ensures { Gives (λ size. size) result (text_size field maximum text.now) }
+fn text(field: Field, maximum: u8, text: &[u8]) -> Result<u8, PduError>
+    ensures { result ≡ text_size field maximum text.now }
 {
     if text.len() >= maximum as usize {
         return Err(PduError::TooLong { field });
     }
-    match first_zero(text.as_slice()) {
+    match first_zero(text) {
         None => Ok(text.len() as u8 + 1),
         Some(_) => Err(PduError::Malformed { field }),
     }
@@ -32,8 +32,8 @@ fn text(field: Field, maximum: u8, text: &Octets) -> Result<u8, PduError>
 
 /// The length of a time with its 0.
 #[tactic(auto, unfolding(crate::specs::Size::time_size))]
-fn time(field: Field, time: &Octets) -> Result<u8, PduError>
-    ensures { Gives (λ size. size) result (time_size field time.now) }
+fn time(field: Field, time: &[u8]) -> Result<u8, PduError>
+    ensures { result ≡ time_size field time.now }
 {
     let size = text(field, TIME_LENGTH + 1, time)?;
     if size == 1 || size == TIME_LENGTH + 1 {
@@ -45,8 +45,8 @@ fn time(field: Field, time: &Octets) -> Result<u8, PduError>
 
 /// The length of a short_message with its sm_length.
 #[tactic(auto, unfolding(crate::specs::Size::message_size))]
-fn message(message: &Octets) -> Result<u8, PduError>
-    ensures { Gives (λ size. size) result (message_size message.now) }
+fn message(message: &[u8]) -> Result<u8, PduError>
+    ensures { result ≡ message_size message.now }
 {
     if message.len() > MESSAGE_MAXIMUM {
         return Err(PduError::TooLong {
@@ -59,7 +59,7 @@ fn message(message: &Octets) -> Result<u8, PduError>
 /// No value of a parameter is too long.
 #[tactic(auto, unfolding(crate::specs::Size::parameters_checked))]
 fn check_parameters(params: &[Parameter]) -> Result<(), PduError>
-    ensures { Gives (λ done. done) result (parameters_checked params.now) }
+    ensures { result ≡ parameters_checked params.now }
 {
     if values_fit(params) {
         Ok(())
@@ -80,7 +80,7 @@ fn values_fit(params: &[Parameter]) -> bool
 /// The length of the whole: what stands before the parameters, and they.
 fn whole(before: usize, params: &[Parameter]) -> Result<usize, PduError>
     requires { before ≤ 70000 }
-    ensures { Gives (λ size. size) result (whole_size before params.now) }
+    ensures { result ≡ whole_size before params.now }
 {
     let mut size = before;
     for p in params {
@@ -97,12 +97,12 @@ fn whole(before: usize, params: &[Parameter]) -> Result<usize, PduError>
 
 /// The length of the whole with its parameters.
 #[tactic(auto, unfolding(crate::specs::Size::tail_size))]
-fn tail(before: usize, params: &Params) -> Result<usize, PduError>
+fn tail(before: usize, params: &[Parameter]) -> Result<usize, PduError>
     requires { before ≤ 70000 }
-    ensures { Gives (λ size. size) result (tail_size before params.now) }
+    ensures { result ≡ tail_size before params.now }
 {
-    check_parameters(params.as_slice())?;
-    whole(before, params.as_slice())
+    check_parameters(params)?;
+    whole(before, params)
 }
 
 /// The length of a row's field of this value, or its fault.
@@ -122,8 +122,7 @@ macro_rules! measure_field {
 }
 
 /// The length of the fields of a table behind `$before` octets, or the first fault from left to
-/// right: of those of a struct, or of those of the variant that is the first arm of a match, where
-/// `$then` follows with that length as `$size`.
+/// right.
 macro_rules! measure_fields {
     (
         ($before:ident, $of:ident)
@@ -131,40 +130,32 @@ macro_rules! measure_fields {
     ) => {{
         let size: usize = $before;
         $(let size = size
-            + measure_field!((&$of.$name) $name: $field is $kind $(($maximum))?,) as usize;)*
+            + measure_field!(($of.$name) $name: $field is $kind $(($maximum))?,) as usize;)*
         size
     }};
-    (
-        ($before:ident => $size:ident, match $of:ident {
-            $($variant:ident)::+ { $other:ident: _, .. } => $then:expr, $($arms:tt)*
-        })
-        $($name:ident: $field:ident is $kind:ident $(($maximum:literal))?,)*
-    ) => {
-        match $of {
-            $($variant)::+ { $other: _, $($name,)* } => {
-                let $size: usize = $before;
-                $(let $size = $size
-                    + measure_field!(($name) $name: $field is $kind $(($maximum))?,) as usize;)*
-                $then
-            }
-            $($arms)*
-        }
-    };
+}
+
+/// The length of a bind.
+#[tactic(auto, unfolding(crate::specs::Size::bind_size))]
+fn bind(bind: &BindRef<'_>) -> Result<usize, PduError>
+    ensures { result ≡ bind_size (bind_values bind.now) }
+{
+    Ok(bind_fields!(measure_fields!(HEADER_LENGTH, bind)))
 }
 
 /// The length of a PDU with a message.
 #[tactic(auto, unfolding(crate::specs::Size::sm_size))]
-fn sm(sm: &Sm) -> Result<usize, PduError>
-    ensures { Gives (λ size. size) result (sm_size sm.now) }
+fn sm(sm: &SmRef<'_>) -> Result<usize, PduError>
+    ensures { result ≡ sm_size (owned_sm sm.now) }
 {
     let size = sm_fields!(measure_fields!(HEADER_LENGTH, sm));
-    tail(size, &sm.params)
+    tail(size, sm.params)
 }
 
 /// The length of a bind's response.
 #[tactic(auto, unfolding(crate::specs::Size::bind_resp_size))]
-fn bind_resp(status: u32, system_id: &Option<Octets>, params: &Params) -> Result<usize, PduError>
-    ensures { Gives (λ size. size) result (bind_resp_size status system_id.now params.now) }
+fn bind_resp(status: u32, system_id: Option<&[u8]>, params: &[Parameter]) -> Result<usize, PduError>
+    ensures { result ≡ bind_resp_size status (option_copied system_id.entry) params.now }
 {
     match system_id {
         None => {
@@ -173,8 +164,8 @@ fn bind_resp(status: u32, system_id: &Option<Octets>, params: &Params) -> Result
                     field: Field::SystemId,
                 });
             }
-            check_parameters(params.as_slice())?;
-            absent(params.as_slice())
+            check_parameters(params)?;
+            absent(params)
         }
         Some(system_id) => {
             let size = bind_resp_fields!(measure_field!(system_id));
@@ -185,7 +176,7 @@ fn bind_resp(status: u32, system_id: &Option<Octets>, params: &Params) -> Result
 
 /// The length of a response without a body.
 fn absent(params: &[Parameter]) -> Result<usize, PduError>
-    ensures { Gives (λ size. size) result (absent_size params.now) }
+    ensures { result ≡ absent_size params.now }
 {
     match params {
         [] => Ok(HEADER_LENGTH),
@@ -197,8 +188,8 @@ fn absent(params: &[Parameter]) -> Result<usize, PduError>
 
 /// The length of a response to a message.
 #[tactic(auto, unfolding(crate::specs::Size::message_id_size))]
-fn message_id(status: u32, message_id: &Option<Octets>) -> Result<usize, PduError>
-    ensures { Gives (λ size. size) result (message_id_size status message_id.now) }
+fn message_id(status: u32, message_id: Option<&[u8]>) -> Result<usize, PduError>
+    ensures { result ≡ message_id_size status (option_copied message_id.entry) }
 {
     match message_id {
         None => {
@@ -218,21 +209,35 @@ fn message_id(status: u32, message_id: &Option<Octets>) -> Result<usize, PduErro
 }
 
 /// The length of a PDU with this body.
-#[tactic(auto, unfolding(crate::specs::Size::bind_size))]
-pub(crate) fn body_length(status: u32, body: &Body) -> Result<usize, PduError>
-    ensures { Gives (λ size. size) result (body_size status body.now) }
+pub(crate) fn body_length(status: u32, body: &BodyRef<'_>) -> Result<usize, PduError>
+    ensures { result ≡ body_size status (owned_body body.now) }
 {
-    bind_fields!(measure_fields!(HEADER_LENGTH => size, match body {
-        Body::Bind { mode: _, .. } => Ok(size),
-        Body::BindResp { mode: _, system_id, params } => bind_resp(status, system_id, params),
-        Body::Submit(message) => sm(message),
-        Body::Deliver(message) => sm(message),
-        Body::SubmitResp { message_id: id } => message_id(status, id),
-        Body::DeliverResp { message_id: id } => message_id(status, id),
-        Body::Unbind
-        | Body::UnbindResp
-        | Body::EnquireLink
-        | Body::EnquireLinkResp
-        | Body::GenericNack => Ok(HEADER_LENGTH),
-    }))
+    match body {
+        BodyRef::Bind(fields) => bind(fields),
+        BodyRef::BindResp {
+            mode: _,
+            system_id,
+            params,
+        } => bind_resp(status, *system_id, params),
+        BodyRef::Submit(fields) => sm(fields),
+        BodyRef::Deliver(fields) => sm(fields),
+        BodyRef::SubmitResp { message_id: id } => message_id(status, *id),
+        BodyRef::DeliverResp { message_id: id } => message_id(status, *id),
+        BodyRef::Unbind
+        | BodyRef::UnbindResp
+        | BodyRef::EnquireLink
+        | BodyRef::EnquireLinkResp
+        | BodyRef::GenericNack => Ok(HEADER_LENGTH),
+    }
+}
+
+/// How many octets spell the PDU, or why none do: the first fault of its fields from left to right,
+/// and then of the length of the whole. Takes no memory.
+pub fn encoded_length(pdu: &PduRef<'_>) -> Result<usize, PduError>
+    // The length, or which fault it is.
+    ensures exact { result ≡ size_of (owned_pdu pdu.now) }
+    // What spells the PDU has this length.
+    ensures only { (octets : List ℕ) → Spells (owned_pdu pdu.now) octets → result ≡ Ok (length octets) }
+{
+    body_length(pdu.status, &pdu.body)
 }

@@ -1,8 +1,7 @@
 use Rattle.std.proofs.Common.{◌≡◌, ◌+◌, ◌-◌, ◌<◌, ◌++◌, ◌∷◌, [], List, ℕ, length, take, sym, ap, ◌∙◌, subst, rules, arith}
 use Rattle.std.proofs.KnownBytes.{Consumes-trans}
 use Rattle.std.proofs.lemmas.List.{nil_from_length}
-use Rattle.sms_pdu.specs.declared.frame.Frame.{Frame}
-use Rattle.sms_pdu.specs.Frame.{octets_of, Division, IsBad}
+use Rattle.sms_pdu.specs.Frame.{Division, IsBad}
 use Rattle.sms_pdu.proofs.Divisions.{pieces_join}
 use Rattle.sms_pdu.proofs.Streams.{short_rest}
 use Rattle.sms_bind.proofs.Binds.{shorter_to_go, first_of_frames}
@@ -26,10 +25,10 @@ returns-then-not-is_empty-clause-answer g c =
     let p = take c.in-Ok.n c.read.new.buf in
     let items = c.into_vec-frames.result.items in
     let first = c.remove-first.result in
-    let d = pieces_join i.0 p [] (octets_of c.in-Ok-feed.fed.frames) c.loop-empty.framer c.feed.new.self i.2 (c.in-Ok-feed.ensures.divided c.loop-empty.invariant.good) in
+    let d = pieces_join i.0 p [] c.in-Ok-feed.fed.frames c.loop-empty.framer c.feed.new.self i.2 (c.in-Ok-feed.ensures.divided c.loop-empty.invariant.good) in
     let low : 0 < length items = search rules in
-    let cut : octets_of c.in-Ok-feed.fed.frames ≡ first.octets ∷ octets_of c.new.result =
-    ap octets_of (sym c.into_vec-frames.ensures) ∙ first_of_frames items first low c.remove-first.ensures.value ∙ ap (λ (l : List Frame). first.octets ∷ octets_of l) (sym (c.new.ensures ∙ c.remove-first.ensures.items)) in
+    let cut : c.in-Ok-feed.fed.frames ≡ first ∷ c.new.result =
+    sym c.into_vec-frames.ensures ∙ first_of_frames items first low c.remove-first.ensures.value ∙ ap (λ (l : List (List ℕ)). first ∷ l) (sym (c.new.ensures ∙ c.remove-first.ensures.items)) in
     (i.0 ++ p, Consumes-trans r t u i.0 p i.1 c.in-Ok.ensures.bytes.0, subst (λ (l : List (List ℕ)). Division (i.0 ++ p) l c.feed.new.self) cut d, tt)
 
 pub returns-then-is_some-clause-answer : goal.returns-then-is_some-clause-answer
@@ -40,9 +39,9 @@ returns-then-is_some-clause-answer g c =
     let i = c.loop-empty.invariant.read in
     let p = take c.in-Ok.n c.read.new.buf in
     let items = c.into_vec-frames.result.items in
-    let d = pieces_join i.0 p [] (octets_of c.in-Ok-feed.fed.frames) c.loop-empty.framer c.feed.new.self i.2 (c.in-Ok-feed.ensures.divided c.loop-empty.invariant.good) in
+    let d = pieces_join i.0 p [] c.in-Ok-feed.fed.frames c.loop-empty.framer c.feed.new.self i.2 (c.in-Ok-feed.ensures.divided c.loop-empty.invariant.good) in
     let zero : length items ≡ 0 = search rules in
-    let none : octets_of c.in-Ok-feed.fed.frames ≡ [] = ap octets_of (sym c.into_vec-frames.ensures ∙ nil_from_length items zero) in
+    let none : c.in-Ok-feed.fed.frames ≡ [] = sym c.into_vec-frames.ensures ∙ nil_from_length items zero in
     let bad : IsBad c.feed.new.self = search rules in
     (i.0 ++ p, Consumes-trans r t u i.0 p i.1 c.in-Ok.ensures.bytes.0, tt, (c.feed.new.self, subst (λ (l : List (List ℕ)). Division (i.0 ++ p) l c.feed.new.self) none d, bad))
 
@@ -51,7 +50,7 @@ loop-empty-smaller-in-Ok g c =
     let p = take c.in-Ok.n c.read.new.buf in
     let items = c.into_vec-frames.result.items in
     let zero : length items ≡ 0 = search rules in
-    let none : octets_of c.in-Ok-feed.fed.frames ≡ [] = ap octets_of (sym c.into_vec-frames.ensures ∙ nil_from_length items zero) in
+    let none : c.in-Ok-feed.fed.frames ≡ [] = sym c.into_vec-frames.ensures ∙ nil_from_length items zero in
     let d = subst (λ (l : List (List ℕ)). Division (c.loop-empty.framer ++ p) l c.feed.new.self) none (c.in-Ok-feed.ensures.divided c.loop-empty.invariant.good) in
     let good : IsBad c.feed.new.self → ⊥ = search rules in
     let long : length p ≡ c.in-Ok.n = sym c.in-Ok.ensures.bound.1 in
@@ -68,9 +67,9 @@ loop-empty-preserved-in-Ok g c =
     let i = c.loop-empty.invariant.read in
     let p = take c.in-Ok.n c.read.new.buf in
     let items = c.into_vec-frames.result.items in
-    let d = pieces_join i.0 p [] (octets_of c.in-Ok-feed.fed.frames) c.loop-empty.framer c.feed.new.self i.2 (c.in-Ok-feed.ensures.divided c.loop-empty.invariant.good) in
+    let d = pieces_join i.0 p [] c.in-Ok-feed.fed.frames c.loop-empty.framer c.feed.new.self i.2 (c.in-Ok-feed.ensures.divided c.loop-empty.invariant.good) in
     let zero : length items ≡ 0 = search rules in
-    let none : octets_of c.in-Ok-feed.fed.frames ≡ [] = ap octets_of (sym c.into_vec-frames.ensures ∙ nil_from_length items zero) in
+    let none : c.in-Ok-feed.fed.frames ≡ [] = sym c.into_vec-frames.ensures ∙ nil_from_length items zero in
     record {
       read = (i.0 ++ p, Consumes-trans r t u i.0 p i.1 c.in-Ok.ensures.bytes.0, subst (λ (l : List (List ℕ)). Division (i.0 ++ p) l c.feed.new.self) none d);
       good = search rules;

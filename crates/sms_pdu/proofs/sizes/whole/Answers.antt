@@ -1,4 +1,4 @@
-use Rattle.std.proofs.Common.{◌+◌, ◌<◌, arith}
+use Rattle.std.proofs.Common.{◌+◌, ◌<◌, arith, sym}
 use Rattle.sms_pdu.proofs.Lengths.{sized-take-more, sized-take-le, sized-take-all, whole_fits, whole_too_long}
 use Rattle.sms_pdu.proofs.sizes.whole.Goals as goal
 use Rattle.sms_pdu.proofs.sizes.whole.Goals.{then-len-gt-MOST_LENGTH-via-then-len-gt-MOST_LENGTH, then-len-gt-MOST_LENGTH-via-else-len-gt-MOST_LENGTH+then-size-len-gt-MOST_LENGTH}
@@ -10,7 +10,7 @@ returns-then-len-gt-MOST_LENGTH c =
     let more = sized-take-more ps i c.p-item.result c.loop-p-test.true c.p-item.is in
     let le = sized-take-le ps (i + 1) in
     let over : 70000 < c.loop-p.size + 4 + c.len-len.result = elim c.then-len-gt-MOST_LENGTH.branch [ then-len-gt-MOST_LENGTH-via-then-len-gt-MOST_LENGTH w ↦ omega (arith, w.if-len-gt-MOST_LENGTH.true) | then-len-gt-MOST_LENGTH-via-else-len-gt-MOST_LENGTH+then-size-len-gt-MOST_LENGTH w ↦ omega (arith, w.if-size-len-gt-MOST_LENGTH.true) ] in
-    whole_too_long c.args.before ps (omega (arith, more, le, over, c.len-len.ensures, c.loop-p.invariant.so_far))
+    sym (whole_too_long c.args.before ps (omega (arith, more, le, over, c.len-len.ensures, c.loop-p.invariant.so_far)))
 
 pub loop-p-preserved : goal.loop-p-preserved
 loop-p-preserved c =
@@ -20,4 +20,4 @@ loop-p-preserved c =
 pub returns : goal.returns
 returns c =
     let all = sized-take-all c.args.params.now c.loop-p.p-index c.loop-p-test.false in
-    whole_fits c.args.before c.args.params.now c.loop-p.size (omega (arith, all, c.loop-p.invariant.so_far)) c.loop-p.invariant.small
+    sym (whole_fits c.args.before c.args.params.now c.loop-p.size (omega (arith, all, c.loop-p.invariant.so_far)) c.loop-p.invariant.small)

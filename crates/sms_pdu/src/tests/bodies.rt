@@ -1,0 +1,184 @@
+//! Each kind of body, as chapter 4 of SMPP 3.4 lays it out, made of its fields and read as them.
+
+use super::super::*;
+use super::{ESME, HI, NUMBER, esme, hi, one_parameter, pdu, with_header};
+use std::alloc::Global;
+use std::process::Abort;
+use std::test::*;
+
+// These octets are read as these fields.
+fn read_as(
+    rt: &impl Abort,
+    alloc: Global,
+    octets: &[u8],
+    fields: &PduRef<'_>,
+) -> Result<Pdu, Fail> {
+    let read = decode(alloc, octets)?;
+    let found = format!(in alloc; "{:?}", read.as_ref())?;
+    let text = format!(in alloc; "{fields:?}")?;
+    assert_eq!(rt; found.as_str(), text.as_str());
+    Ok(read)
+}
+
+// These fields are written as these octets, behind what is there.
+fn written_as(
+    rt: &impl Abort,
+    alloc: Global,
+    octets: &[u8],
+    fields: &PduRef<'_>,
+) -> Result<(), Fail> {
+    let mut out = Vec::from_slice(alloc, b"before")?;
+    assert_eq!(rt; encoded_length(fields)?, octets.len());
+    assert_eq!(rt; encode_into(&mut out, fields)?, octets.len());
+    assert!(rt; out.as_slice().starts_with(b"before"));
+    assert_eq!(rt; out.get(6..), Some(octets));
+    Ok(())
+}
+
+// A body and its fields: each is made of the other.
+fn both_ways(
+    rt: &impl Abort,
+    alloc: Global,
+    command: u32,
+    status: u32,
+    body: &[u8],
+    fields: BodyRef<'_>,
+) -> Result<(), Fail> {
+    let octets = with_header(alloc, command, status, body)?;
+    let fields = pdu(status, fields);
+    written_as(rt, alloc, octets.as_slice(), &fields)?;
+    let read = read_as(rt, alloc, octets.as_slice(), &fields)?;
+    let written = encode(alloc, &read)?;
+    assert_eq!(rt; written.as_slice(), octets.as_slice());
+    Ok(())
+}
+
+#[test]
+fn bind_transmitter(rt: HostRuntime) -> Result<(), Fail> {
+    both_ways(&rt, rt.alloc(), 0x02, 0, ESME, BodyRef::Bind(esme()))
+}
+
+#[test]
+fn bind_transceiver(rt: HostRuntime) -> Result<(), Fail> {
+    let bind = BindRef {
+        mode: Mode::Transceiver,
+        system_id: b"a",
+        password: b"b",
+        system_type: b"c",
+        interface_version: 1,
+        addr_ton: 2,
+        addr_npi: 3,
+        address_range: b"d",
+    };
+    let octets = b"a\x00b\x00c\x00\x01\x02\x03d\x00";
+    both_ways(&rt, rt.alloc(), 0x09, 0, octets, BodyRef::Bind(bind))
+}
+
+#[test]
+fn bind_transceiver_resp(rt: HostRuntime) -> Result<(), Fail> {
+    let params = one_parameter(rt.alloc(), 0x0210, 1)?;
+    let resp = BodyRef::BindResp {
+        mode: Mode::Transceiver,
+        system_id: Some(b"TEST"),
+        params: params.as_slice(),
+    };
+    let octets = b"TEST\x00\x02\x10\x00\x01\x34";
+    both_ways(&rt, rt.alloc(), 0x8000_0009, 0, octets, resp)
+}
+
+#[test]
+fn bind_transmitter_resp(rt: HostRuntime) -> Result<(), Fail> {
+    let refused = BodyRef::BindResp {
+        mode: Mode::Transmitter,
+        system_id: None,
+        params: &[],
+    };
+    both_ways(&rt, rt.alloc(), 0x8000_0002, 0x0E, b"", refused)
+}
+
+#[test]
+fn submit_sm(rt: HostRuntime) -> Result<(), Fail> {
+    both_ways(&rt, rt.alloc(), 0x04, 0, HI, BodyRef::Submit(hi()))
+}
+
+// A field that is a number has a number of its own.
+#[test]
+fn deliver_sm(rt: HostRuntime) -> Result<(), Fail> {
+    let params = one_parameter(rt.alloc(), 0x0210, 1)?;
+    let receipt = SmRef {
+        service_type: b"CMT",
+        source_ton: 2,
+        source_npi: 3,
+        source_addr: b"12345",
+        dest_ton: 4,
+        dest_npi: 5,
+        dest_addr: b"447700900123",
+        esm_class: 6,
+        protocol_id: 7,
+        priority: 8,
+        schedule: b"090102030405006+",
+        validity: b"000000000100000R",
+        registered: 9,
+        replace: 10,
+        data_coding: 11,
+        default_msg: 12,
+        short_message: b"Hi",
+        params: params.as_slice(),
+    };
+    let octets =
+        b"CMT\x00\x02\x0312345\x00\x04\x05447700900123\x00\x06\x07\x08090102030405006+\x00000000000100000R\x00\x09\x0A\x0B\x0C\x02Hi\x02\x10\x00\x01\x34";
+    both_ways(&rt, rt.alloc(), 0x05, 0, octets, BodyRef::Deliver(receipt))
+}
+
+#[test]
+fn submit_sm_resp(rt: HostRuntime) -> Result<(), Fail> {
+    let message_id: Option<&[u8]> = Some(b"m1");
+    let resp = BodyRef::SubmitResp { message_id };
+    both_ways(&rt, rt.alloc(), 0x8000_0004, 0, b"m1\x00", resp)?;
+    let refused = BodyRef::SubmitResp { message_id: None };
+    both_ways(&rt, rt.alloc(), 0x8000_0004, 0x58, b"", refused)
+}
+
+#[test]
+fn deliver_sm_resp(rt: HostRuntime) -> Result<(), Fail> {
+    let message_id: Option<&[u8]> = Some(b"");
+    let resp = BodyRef::DeliverResp { message_id };
+    both_ways(&rt, rt.alloc(), 0x8000_0005, 0, b"\x00", resp)
+}
+
+#[test]
+fn without_a_body(rt: HostRuntime) -> Result<(), Fail> {
+    let alloc = rt.alloc();
+    both_ways(&rt, alloc, 0x0000_0006, 0, b"", BodyRef::Unbind)?;
+    both_ways(&rt, alloc, 0x8000_0006, 0, b"", BodyRef::UnbindResp)?;
+    both_ways(&rt, alloc, 0x0000_0015, 0, b"", BodyRef::EnquireLink)?;
+    both_ways(&rt, alloc, 0x8000_0015, 0, b"", BodyRef::EnquireLinkResp)?;
+    both_ways(&rt, alloc, 0x8000_0000, 3, b"", BodyRef::GenericNack)
+}
+
+// A PDU that owns its strings.
+#[test]
+fn an_owned_pdu(rt: HostRuntime) -> Result<(), Fail> {
+    let resp = Pdu {
+        status: 0x58,
+        number: NUMBER,
+        body: Body::DeliverResp {
+            message_id: Some(Octets::copy(rt.alloc(), b"m1")?),
+        },
+    };
+    let octets = b"\x00\x00\x00\x13\x80\x00\x00\x05\x00\x00\x00\x58\x01\x02\x03\x04m1\x00";
+    let written = encode(rt.alloc(), &resp)?;
+    assert_eq!(rt; written.as_slice(), octets.as_slice());
+    Ok(())
+}
+
+#[test]
+fn debug_hides_the_password(rt: HostRuntime) -> Result<(), Fail> {
+    let octets = with_header(rt.alloc(), 2, 0, ESME)?;
+    let pdu = decode(rt.alloc(), octets.as_slice())?;
+    let text = format!(in rt.alloc(); "{pdu:?}")?;
+    assert!(rt; text.as_str().contains("system_id: [101, 115, 109, 101]"));
+    assert!(rt; !text.as_str().contains("password"));
+    assert!(rt; !text.as_str().contains("[112, 119]"));
+    Ok(())
+}

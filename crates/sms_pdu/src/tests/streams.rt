@@ -1,0 +1,181 @@
+//! Headers, replies, frames and what is written, from octets written by hand.
+
+ghost use Rattle.std.specs.Prelude.{None};
+ghost use Rattle.std.specs.Io.{WritesAtMost};
+ghost use Rattle.std.specs.Io.KnownBytes.{Keeps, WriteAppends};
+
+use super::{ENQUIRE_LINK, SUBMIT};
+use crate::*;
+use std::io::{self, Error, ErrorKind, Write};
+use std::test::*;
+
+#[test]
+fn headers(rt: HostRuntime) -> Result<(), Fail> {
+    assert!(rt; header_of(&ENQUIRE_LINK[..15]).is_none());
+    let octets = b"\x00\x00\x00\x10\x00\x00\x01\x03\x00\x00\x00\x07\x01\x02\x03\x04";
+    let header = header_of(octets).ok_or("16 octets are a header")?;
+    assert_eq!(rt;
+        (header.length, header.command, header.status, header.number),
+        (16, 0x103, 7, 0x0102_0304)
+    );
+    assert_eq!(rt; Command::of(header.command), None);
+    assert_eq!(rt;
+        Command::of(0x8000_0009),
+        Some(Command::BindTransceiverResp)
+    );
+    assert_eq!(rt; Command::EnquireLink.id(), 0x15);
+    Ok(())
+}
+
+// What is read of an answer: number, status, whether it is a generic_nack, message_id.
+#[test]
+fn replies(rt: HostRuntime) -> Result<(), Fail> {
+    let bare = [0, 0, 0, 16, 0x80, 0, 0, 4, 0, 0, 0, 0, 0, 0, 0, 3];
+    let named = b"\x00\x00\x00\x13\x80\x00\x00\x04\x00\x00\x00\x00\x00\x00\x00\x02m1\x00";
+    let nack = [0, 0, 0, 16, 0x80, 0, 0, 0, 0, 0, 0, 3, 0, 0, 0, 9];
+    let table: [(&[u8], (u32, u32, bool), &[u8]); 3] = [
+        (&bare, (3, 0, false), b""),
+        (named, (2, 0, false), b"m1"),
+        (&nack, (9, 3, true), b""),
+    ];
+    for (octets, numbers, id) in table {
+        let reply = reply_of(octets).ok_or("an answer")?;
+        assert_eq!(rt; (reply.number, reply.status, reply.nack), numbers);
+        assert_eq!(rt; usize::from(reply.id.len), id.len());
+        assert!(rt; reply.id.octets.as_slice().starts_with(id));
+    }
+    assert!(rt; reply_of(&ENQUIRE_LINK).is_none());
+    Ok(())
+}
+
+// A whole frame and most of another, in pieces of each length.
+#[test]
+fn pieces_of_each_length(rt: HostRuntime) -> Result<(), Fail> {
+    let mut stream = Vec::from_slice(rt.alloc(), SUBMIT)?;
+    stream.extend_from_slice(&ENQUIRE_LINK[..15])?;
+    for length in 1..68usize {
+        let mut framer = Framer::new(rt.alloc());
+        let mut count = 0usize;
+        for piece in stream.as_slice().chunks(length) {
+            let fed = framer.feed(piece)?;
+            assert!(rt; fed.fault.is_none());
+            for frame in fed.frames.as_slice() {
+                assert_eq!(rt; frame.as_slice(), SUBMIT.as_slice());
+                count = count.saturating_add(1);
+            }
+        }
+        assert_eq!(rt; count, 1, "pieces of {length}");
+        assert!(rt; framer.fault().is_none());
+        assert_eq!(rt; framer.rest(), &ENQUIRE_LINK[..15]);
+        let rest = framer.into_rest();
+        assert_eq!(rt; rest.as_slice(), &ENQUIRE_LINK[..15]);
+    }
+    Ok(())
+}
+
+#[test]
+fn a_bad_length_ends_the_stream(rt: HostRuntime) -> Result<(), Fail> {
+    let mut piece = Vec::from_slice(rt.alloc(), &ENQUIRE_LINK)?;
+    piece.extend_from_slice(&[0, 0, 0, 15])?;
+    let mut framer = Framer::new(rt.alloc());
+    let fed = framer.feed(&piece)?;
+    assert_eq!(rt; fed.frames.len(), 1);
+    assert_eq!(rt; fed.fault, Some(FrameFault::BadLength));
+    let fed = framer.feed(&ENQUIRE_LINK)?;
+    assert!(rt; fed.frames.is_empty());
+    assert_eq!(rt; fed.fault, Some(FrameFault::BadLength));
+    assert_eq!(rt; framer.fault(), Some(FrameFault::BadLength));
+    Ok(())
+}
+
+// 70,000 octets are a frame, whole and in pieces; 70,001 are none.
+#[test]
+fn the_longest_frame(rt: HostRuntime) -> Result<(), Fail> {
+    let mut octets = Vec::from_slice(rt.alloc(), &[0x00, 0x01, 0x11, 0x70])?;
+    octets.resize(70_000, 0)?;
+    assert!(rt; is_frame(&octets));
+    for length in [3usize, 69_999, 70_000] {
+        let mut framer = Framer::new(rt.alloc());
+        let mut count = 0usize;
+        for piece in octets.as_slice().chunks(length.max(1)) {
+            let fed = framer.feed(piece)?;
+            assert!(rt; fed.fault.is_none());
+            count = count.saturating_add(fed.frames.len());
+        }
+        assert_eq!(rt; count, 1, "pieces of {length}");
+    }
+    let mut longer = Vec::from_slice(rt.alloc(), &[0x00, 0x01, 0x11, 0x71])?;
+    longer.resize(70_001, 0)?;
+    assert!(rt; is_bad(&longer));
+    assert!(rt; !is_frame(&longer));
+    let fed = Framer::new(rt.alloc()).feed(&longer)?;
+    assert!(rt; fed.frames.is_empty());
+    assert_eq!(rt; fed.fault, Some(FrameFault::BadLength));
+    Ok(())
+}
+
+#[test]
+fn frames_in_order(rt: HostRuntime) -> Result<(), Fail> {
+    let mut stream = Vec::from_slice(rt.alloc(), SUBMIT)?;
+    stream.extend_from_slice(&ENQUIRE_LINK)?;
+    assert_eq!(rt; first_frame(&stream), Some(SUBMIT.len()));
+    assert_eq!(rt; first_frame(&SUBMIT[..51]), None);
+    assert!(rt; !is_bad(&stream));
+    let fed = Framer::new(rt.alloc()).feed(&stream)?;
+    let mut frames = Frames::new(fed.frames.into_vec());
+    let first = frames.take_first().ok_or("a first frame")?;
+    assert_eq!(rt; first.header().number, 2);
+    assert_eq!(rt; first.as_slice(), SUBMIT.as_slice());
+    assert_eq!(rt; frames.len(), 1);
+    let second = frames.take_first().ok_or("a second frame")?;
+    let octets = second.into_vec();
+    assert!(rt; is_frame(&octets));
+    assert_eq!(rt; octets.as_slice(), ENQUIRE_LINK.as_slice());
+    assert!(rt; frames.take_first().is_none());
+    Ok(())
+}
+
+// A writer that takes three octets at a time, and fails after so many writes.
+#[derive(Drop)]
+struct Slow {
+    written: Vec<u8>,
+    writes: u32,
+}
+
+impl Write for Slow {
+    ghost contents = { λ _. None };
+
+    fn write(&mut self, buf: &[u8]) -> io::Result<usize>
+        ensures bound { WritesAtMost result buf.now }
+        ensures bytes { WriteAppends None None result buf.now }
+    {
+        if self.writes == 0 {
+            return Err(Error::from(ErrorKind::Other));
+        }
+        self.writes -= 1;
+        let most = buf.len().min(3);
+        match self.written.extend_from_slice(&buf[..most]) {
+            Ok(()) => Ok(most),
+            Err(_) => Err(Error::from(ErrorKind::OutOfMemory)),
+        }
+    }
+
+    fn flush(&mut self) -> io::Result<()>
+        ensures bytes { Keeps None None }
+    {
+        Ok(())
+    }
+}
+
+#[test]
+fn written_whole_or_in_part(rt: HostRuntime) -> Result<(), Fail> {
+    let mut writer = Slow {
+        written: Vec::new(rt.alloc()),
+        writes: 8,
+    };
+    assert!(rt; write_octets(&mut writer, &ENQUIRE_LINK).is_ok());
+    assert_eq!(rt; writer.written.as_slice(), ENQUIRE_LINK.as_slice());
+    assert!(rt; write_octets(&mut writer, &ENQUIRE_LINK).is_err());
+    assert_eq!(rt; writer.written.len(), 22);
+    Ok(())
+}
