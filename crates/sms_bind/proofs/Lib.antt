@@ -1,1 +1,5 @@
 pub mod Binds
+pub mod Tables
+pub mod Logs
+pub mod Works
+pub mod Hands

@@ -2,3 +2,8 @@ pub mod Faults
 pub mod Binds
 pub mod Answers
 pub mod Devices
+pub mod Held
+pub mod Follows
+pub mod Deeds
+pub mod Desks
+pub mod Ends

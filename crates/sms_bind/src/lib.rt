@@ -1,16 +1,30 @@
-//! One bind: its wire, and how its session is bound (SMPP 3.4 chapter 2, 4.1).
+//! One bind: its wire, how its session is bound, and the reader of what comes in on it (SMPP 3.4
+//! chapter 2, 4.1).
 #![tactic(auto)]
 
 mod binding;
 mod bound;
+mod counts;
+mod deed;
+mod desk;
+mod ending;
+mod follower;
+mod line;
+mod reader;
+mod replying;
 mod settings;
+mod stream;
 mod tap;
 #[cfg(test)]
 mod tests;
+mod turns;
 mod wire;
 
 pub use binding::{BindFault, bind};
 pub use bound::Bound;
+pub use ending::{Cause, ReaderEnd};
+pub use line::Line;
+pub use reader::read_loop;
 pub use settings::Settings;
 pub use tap::Tap;
 pub use wire::{Receipt, Wire, WireFault};

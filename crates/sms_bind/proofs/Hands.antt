@@ -1,0 +1,122 @@
+-- What was worked of a stream, as the reader promises it.
+use Rattle.std.proofs.Common.{◌≡◌, ◌≢◌, ℕ, List, [], ◌++◌, inr, map, Option, Some, refl, sym, ap, ◌∙◌, subst, arith}
+use Rattle.std.proofs.KnownBytes.{Consumes-nil}
+use Rattle.rtrb.specs.Ring.{sent}
+use Rattle.sms_pdu.specs.declared.reply.Reply.{Reply}
+use Rattle.sms_pdu.specs.Frame.{IsRest, IsBad, Division}
+use Rattle.sms_pdu.specs.Reply.{answers}
+use Rattle.sms_pdu.specs.Streams.{Stretch, Reads, Leaves, going, complete, lost, early}
+use Rattle.sms_pdu.proofs.Divisions.{each_divided, answers_join}
+use Rattle.sms_pdu.proofs.Streams.{rest_divided, division_after}
+use Rattle.sms_session.specs.declared.session.State.{State}
+use Rattle.sms_session.specs.Session.{IsBound}
+use Rattle.sms_bind.specs.declared.desk.Desk.{Desk}
+use Rattle.sms_bind.specs.declared.deed.Deed.{Deed}
+use Rattle.sms_bind.specs.declared.counts.Counts.{Counts}
+use Rattle.sms_bind.specs.declared.ending.Cause.{Cause}
+use Rattle.sms_bind.specs.declared.ending.Cause.TheVariants.{Lost, OutOfMemory}
+use Rattle.sms_bind.specs.declared.ending.ReaderEnd.{ReaderEnd}
+use Rattle.sms_bind.specs.Held.{Held}
+use Rattle.sms_bind.specs.Deeds.{Reaches, stretch_of, broken_at, no_counts, tallies}
+use Rattle.sms_bind.specs.Desks.{Worked}
+use Rattle.sms_bind.specs.Ends.{HandsOn, Tells}
+use Rattle.sms_bind.proofs.Logs.{log_answers, tallies_add}
+
+-- all whole frames were worked, unless the reading ended early
+rest_left : (s : Stretch) (left held : List ℕ) → s ≢ early → Leaves s left held → IsRest left
+rest_left going left held late h = h.0
+rest_left complete left held late h = h
+rest_left lost left held late h = inr (inr h)
+rest_left early left held late h = absurd (late refl)
+
+-- the counts that began at nothing
+tells : (ds : List Deed) (c : Counts) (end : ReaderEnd) → c ≡ tallies no_counts ds
+    → end.answered ≡ c.answered → end.unknown ≡ c.unknown → end.overrun ≡ c.overrun → end.delivered ≡ c.delivered → end.noted ≡ c.noted → end.nacked ≡ c.nacked → end.unreplied ≡ c.unreplied
+    → Tells ds end
+tells ds c end is e1 e2 e3 e4 e5 e6 e7 =
+    let t = tallies_add no_counts ds in
+    let k1 = ap (λ (x : Counts). x.answered) is in
+    let k2 = ap (λ (x : Counts). x.unknown) is in
+    let k3 = ap (λ (x : Counts). x.overrun) is in
+    let k4 = ap (λ (x : Counts). x.delivered) is in
+    let k5 = ap (λ (x : Counts). x.noted) is in
+    let k6 = ap (λ (x : Counts). x.nacked) is in
+    let k7 = ap (λ (x : Counts). x.unreplied) is in
+    record {
+      answered = omega (arith, t.answered, e1, k1);
+      unknown = omega (arith, t.unknown, e2, k2);
+      overrun = omega (arith, t.overrun, e3, k3);
+      all = omega (arith, t.all, e1, e2, e3, k1, k2, k3);
+      delivered = omega (arith, t.delivered, e4, k4);
+      noted = omega (arith, t.noted, e5, k5);
+      nacked = omega (arith, t.nacked, e6, k6);
+      unreplied = omega (arith, t.unreplied, e7, k7);
+    }
+
+-- the end that is put together of what the desk holds
+abbrev pub end_of : Desk → Cause → ReaderEnd
+end_of d cause = record { answered = d.counts.answered; unknown = d.counts.unknown; overrun = d.counts.overrun; delivered = d.counts.delivered; noted = d.counts.noted; nacked = d.counts.nacked; unreplied = d.counts.unreplied; cause = cause; producers = d.producers; seat = d.follower.now }
+
+pub hands_on : (s : State) (a b : Desk) (begun kept : List ℕ) (r t : Option (List ℕ)) (cause : Cause) → IsBound s → a.counts ≡ no_counts
+    → Reads (Worked s (Some cause) a b) begun r t (stretch_of (Some cause)) kept
+    → HandsOn s begun r t (map sent a.producers.items) (map sent b.producers.items) a.follower (end_of b cause)
+hands_on s a b begun kept r t cause up none p =
+    let w = p.went in
+    let d = each_divided p.left in
+    let ds = w.done.deeds in
+    let same = log_answers s w.frames ds up w.each w.done.each in
+    record {
+      got = p.got;
+      consumed = p.consumed;
+      worked = w.frames;
+      others = d.0;
+      rest = d.1;
+      divided = division_after (begun ++ p.got) p.left w.frames d.0 d.1 w.whole w.each d.2;
+      whole = λ late. (rest_divided p.left d.0 d.1 (rest_left (stretch_of (Some cause)) p.left kept late p.leaves) d.2).0;
+      lost = λ e. bad p.left d.0 d.1 (subst (λ x. Leaves (stretch_of (Some x)) p.left kept) e p.leaves) d.2;
+      deeds = ds;
+      each = w.done.each;
+      reaches = w.done.reaches;
+      breaks = w.done.breaks;
+      are = same;
+      prefix = (answers d.0, ap (λ l. l ++ answers d.0) same ∙ sym (answers_join w.frames d.0));
+      hands = w.done.sends;
+      counts = tells ds b.counts (end_of b cause) (w.done.counts ∙ ap (λ (k : Counts). tallies k ds) none) refl refl refl refl refl refl refl;
+      last = b.follower;
+      follows = w.done.follows;
+      seat = refl;
+    }
+  where
+    bad : (left : List ℕ) (gs : List (List ℕ)) (rest : List ℕ) → IsBad left → Division left gs rest → IsBad rest
+    bad left gs rest h d = subst IsBad (sym (rest_divided left gs rest (inr (inr h)) d).1) h
+
+-- nothing was read and nothing worked
+pub hands_none : (s : State) (begun : List ℕ) (r : Option (List ℕ)) (rings : List (List Reply)) (held : Held) (end : ReaderEnd) → end.cause ≡ OutOfMemory
+    → end.answered ≡ 0 → end.unknown ≡ 0 → end.overrun ≡ 0 → end.delivered ≡ 0 → end.noted ≡ 0 → end.nacked ≡ 0 → end.unreplied ≡ 0 → end.seat ≡ held.now
+    → HandsOn s begun r r rings rings held end
+hands_none s begun r rings held end is e1 e2 e3 e4 e5 e6 e7 seat =
+    let d = each_divided (begun ++ []) in
+    record {
+      got = [];
+      consumed = Consumes-nil r;
+      worked = [];
+      others = d.0;
+      rest = d.1;
+      divided = d.2;
+      whole = λ late. absurd (late (ap (λ x. stretch_of (Some x)) is));
+      lost = λ e. absurd (no_lost (sym is ∙ e));
+      deeds = [];
+      each = tt;
+      reaches = subst (λ x. Reaches (Some x) s s) (sym is) refl;
+      breaks = sym (ap (λ x. broken_at (Some x)) is);
+      are = refl;
+      prefix = (answers d.0, refl);
+      hands = refl;
+      counts = tells [] no_counts end refl e1 e2 e3 e4 e5 e6 e7;
+      last = held;
+      follows = refl;
+      seat = seat;
+    }
+  where
+    no_lost : OutOfMemory ≡ Lost → ⊥
+    no_lost e = absurd cc

@@ -1,0 +1,151 @@
+-- Deeds: their log, their counts, and what follows them.
+use Rattle.std.proofs.Common.{◌≡◌, ◌≢◌, ◌⊎◌, inl, inr, ℕ, ◌+◌, ◌≤◌, Bool, List, [], ◌∷◌, ◌++◌, length, map, Option, None, refl, sym, ap, ◌∙◌, subst, arith, append_assoc, append-nil, length-append}
+use Rattle.std.specs.List.{AllByRecursion, AllZip, cons_option}
+use Rattle.std.proofs.lemmas.List.{map-append}
+use Rattle.sms_pdu.specs.declared.reply.Reply.{Reply}
+use Rattle.sms_pdu.specs.Frame.{IsFrame}
+use Rattle.sms_pdu.specs.Header.{header_at_front}
+use Rattle.sms_pdu.specs.Reply.{reply_in, answers}
+use Rattle.sms_session.specs.declared.session.Action.{Action}
+use Rattle.sms_session.specs.declared.session.Action.TheVariants as action
+use Rattle.sms_session.specs.declared.session.State.{State}
+use Rattle.sms_session.specs.declared.session.State.TheVariants.{BoundTx, BoundTrx, Closed as StateClosed}
+use Rattle.sms_session.specs.Session.{on_table, IsBound}
+use Rattle.sms_slot.specs.declared.row.Search.TheVariants.{Found, Overrun, Unknown}
+use Rattle.sms_slot.specs.Rings.{count_handed}
+use Rattle.sms_slot.proofs.Rings.{count_handed-append}
+use Rattle.sms_bind.specs.declared.deed.Deed.{Deed}
+use Rattle.sms_bind.specs.declared.deed.Deed.TheVariants.{Brought, Replied, Noted, Closed}
+use Rattle.sms_bind.specs.declared.deed.Written.TheVariants.{Sent, NoMemory, Broken}
+use Rattle.sms_bind.specs.declared.counts.Counts.{Counts}
+use Rattle.sms_bind.specs.Held.{Held}
+use Rattle.sms_bind.specs.Deeds.{Does, Suits, FollowAll, Reaches, cause_after, state_after, broken_at, entry, log, tally, tallies, counted, of_answer, of_response, is_note, overruns, misses, delivers, nacks, is_silent, is_broken}
+use Rattle.sms_bind.proofs.Tables.{no_reply}
+
+abbrev first : Reply × Option ℕ → Reply
+first e = e.0
+
+-- ---- one list of deeds after another
+
+pub log-append : (ds es : List Deed) → log (ds ++ es) ≡ log ds ++ log es
+log-append [] es = refl
+log-append (d ∷ ds) es = ap (λ l. entry d ++ l) (log-append ds es) ∙ sym (append_assoc (entry d) (log ds) (log es))
+
+pub tallies-append : (c : Counts) (ds es : List Deed) → tallies c (ds ++ es) ≡ tallies (tallies c ds) es
+tallies-append c [] es = refl
+tallies-append c (d ∷ ds) es = tallies-append (tally c d) ds es
+
+pub counted-append : (p : Deed → Bool) (ds es : List Deed) → counted p (ds ++ es) ≡ counted p ds + counted p es
+counted-append p [] es = omega arith
+counted-append p (d ∷ ds) es = omega (arith, counted-append p ds es)
+
+pub follow-append : (ds es : List Deed) (a b c : Held) → FollowAll ds a b → FollowAll es b c → FollowAll (ds ++ es) a c
+follow-append [] es a b c p q = subst (λ (h : Held). FollowAll es h c) p q
+follow-append (d ∷ ds) es a b c p q = (p.0, p.1, follow-append ds es p.0 b c p.2 q)
+
+pub state-append : (s : State) (fs gs : List (List ℕ)) → state_after s (fs ++ gs) ≡ state_after (state_after s fs) gs
+state-append s [] gs = refl
+state-append s (f ∷ fs) gs = state-append (on_table s (header_at_front f)).1 fs gs
+
+pub AllZip-append : {A B : Type 0} (R : A → B → Type 0) (xs us : List A) (ys vs : List B) → AllZip R xs ys → AllZip R us vs → AllZip R (xs ++ us) (ys ++ vs)
+AllZip-append R [] us [] vs p q = q
+AllZip-append R [] us (y ∷ ys) vs p q = absurd p
+AllZip-append R (x ∷ xs) us [] vs p q = absurd p
+AllZip-append R (x ∷ xs) us (y ∷ ys) vs p q = (p.0, AllZip-append R xs us ys vs p.1 q)
+
+-- ---- the end that a deed brings
+
+ends_by : (s t : State) → (t ≡ s) ⊎ (t ≡ StateClosed) → (d : Deed) → cause_after d t ≡ cause_after Noted t → Reaches (cause_after d t) s t × (broken_at (cause_after d t) ≡ 0)
+ends_by s BoundTx (inl e) d k = rw k (e, refl)
+ends_by s BoundTx (inr e) d k = absurd cc
+ends_by s BoundTrx (inl e) d k = rw k (e, refl)
+ends_by s BoundTrx (inr e) d k = absurd cc
+ends_by s StateClosed h d k = rw k (refl, refl)
+
+breaks : Deed → Bool
+breaks d = of_response (λ response written. is_broken written) d
+
+-- the next state is the same, or closed; what the reader ends with says so
+pub reached : (s t : State) (d : Deed) → (t ≡ s) ⊎ (t ≡ StateClosed) → Reaches (cause_after d t) s t
+reached s t (Brought reply search) h = (ends_by s t h (Brought reply search) refl).0
+reached s t (Replied response Sent) h = (ends_by s t h (Replied response Sent) refl).0
+reached s t (Replied response NoMemory) h = (ends_by s t h (Replied response NoMemory) refl).0
+reached s t (Replied response Broken) h = tt
+reached s t Noted h = (ends_by s t h Noted refl).0
+reached s t Closed h = (ends_by s t h Closed refl).0
+
+pub broke : (s t : State) (d : Deed) → (t ≡ s) ⊎ (t ≡ StateClosed) → counted (of_response (λ response written. is_broken written)) (d ∷ []) ≡ broken_at (cause_after d t)
+broke s t (Brought reply search) h = sym (ends_by s t h (Brought reply search) refl).1
+broke s t (Replied response Sent) h = sym (ends_by s t h (Replied response Sent) refl).1
+broke s t (Replied response NoMemory) h = sym (ends_by s t h (Replied response NoMemory) refl).1
+broke s t (Replied response Broken) h = refl
+broke s t Noted h = sym (ends_by s t h Noted refl).1
+broke s t Closed h = sym (ends_by s t h Closed refl).1
+
+-- ---- the log has the frames' answers
+
+entry_by : (a : Action) (f : List ℕ) (d : Deed) (rest : List Reply) → (a ≢ action.Answer → reply_in f ≡ None) → Does a f d → map first (entry d) ++ rest ≡ cons_option (reply_in f) rest
+entry_by action.Answer f d rest other does = rw (does.3, does.2) refl
+entry_by (action.Reply response) f d rest other does = rw (does.1, other (λ e. absurd cc)) refl
+entry_by (action.ReplyClose response) f d rest other does = rw (does.1, other (λ e. absurd cc)) refl
+entry_by action.Note f d rest other does = rw (does, other (λ e. absurd cc)) refl
+entry_by action.Close f d rest other does = rw (does, other (λ e. absurd cc)) refl
+entry_by action.Drop f d rest other does = rw (does, other (λ e. absurd cc)) refl
+
+pub log_answers : (s : State) (fs : List (List ℕ)) (ds : List Deed) → IsBound s → AllByRecursion IsFrame fs → AllZip (Suits s) fs ds → map first (log ds) ≡ answers fs
+log_answers s [] [] up each zip = refl
+log_answers s [] (d ∷ ds) up each zip = absurd zip
+log_answers s (f ∷ fs) [] up each zip = absurd zip
+log_answers s (f ∷ fs) (d ∷ ds) up each zip =
+    let long : 16 ≤ length f = each.0.good.least in
+    map-append first (entry d) (log ds)
+    ∙ ap (λ l. map first (entry d) ++ l) (log_answers s fs ds up each.1 zip.1)
+    ∙ entry_by (on_table s (header_at_front f)).0 f d (answers fs) (no_reply s f up long) zip.0
+
+-- ---- the counts
+
+-- what so many deeds add to each count
+pub record Adds (ds : List Deed) (old new : Counts) : Type 0 where
+  pub answered : new.answered ≡ old.answered + count_handed (log ds)
+  pub unknown : new.unknown ≡ old.unknown + counted (of_answer misses) ds
+  pub overrun : new.overrun ≡ old.overrun + counted (of_answer overruns) ds
+  pub all : new.answered + new.unknown + new.overrun ≡ old.answered + old.unknown + old.overrun + length (log ds)
+  pub delivered : new.delivered ≡ old.delivered + counted (of_response (λ response written. delivers response)) ds
+  pub noted : new.noted ≡ old.noted + counted is_note ds
+  pub nacked : new.nacked ≡ old.nacked + counted (of_response nacks) ds
+  pub unreplied : new.unreplied ≡ old.unreplied + counted (of_response (λ response written. is_silent written)) ds
+
+none_added : (c : Counts) → Adds [] c c
+none_added c = record { answered = omega arith; unknown = omega arith; overrun = omega arith; all = omega arith; delivered = omega arith; noted = omega arith; nacked = omega arith; unreplied = omega arith }
+
+one_added : (c : Counts) (d : Deed) → Adds (d ∷ []) c (tally c d)
+one_added c (Brought reply (Found slot worker)) = record { answered = omega arith; unknown = omega arith; overrun = omega arith; all = omega arith; delivered = omega arith; noted = omega arith; nacked = omega arith; unreplied = omega arith }
+one_added c (Brought reply (Overrun slot worker)) = record { answered = omega arith; unknown = omega arith; overrun = omega arith; all = omega arith; delivered = omega arith; noted = omega arith; nacked = omega arith; unreplied = omega arith }
+one_added c (Brought reply Unknown) = record { answered = omega arith; unknown = omega arith; overrun = omega arith; all = omega arith; delivered = omega arith; noted = omega arith; nacked = omega arith; unreplied = omega arith }
+one_added c (Replied response Sent) = record { answered = omega arith; unknown = omega arith; overrun = omega arith; all = omega arith; delivered = omega arith; noted = omega arith; nacked = omega arith; unreplied = omega arith }
+one_added c (Replied response NoMemory) = record { answered = omega arith; unknown = omega arith; overrun = omega arith; all = omega arith; delivered = omega arith; noted = omega arith; nacked = omega arith; unreplied = omega arith }
+one_added c (Replied response Broken) = record { answered = omega arith; unknown = omega arith; overrun = omega arith; all = omega arith; delivered = omega arith; noted = omega arith; nacked = omega arith; unreplied = omega arith }
+one_added c Noted = record { answered = omega arith; unknown = omega arith; overrun = omega arith; all = omega arith; delivered = omega arith; noted = omega arith; nacked = omega arith; unreplied = omega arith }
+one_added c Closed = record { answered = omega arith; unknown = omega arith; overrun = omega arith; all = omega arith; delivered = omega arith; noted = omega arith; nacked = omega arith; unreplied = omega arith }
+
+pub tallies_add : (c : Counts) (ds : List Deed) → Adds ds c (tallies c ds)
+tallies_add c [] = none_added c
+tallies_add c (d ∷ ds) =
+    let one = one_added c d in
+    let more = tallies_add (tally c d) ds in
+    let joins : (p : Deed → Bool) → counted p (d ∷ ds) ≡ counted p (d ∷ []) + counted p ds = λ p. counted-append p (d ∷ []) ds in
+    let entries : entry d ++ [] ≡ entry d = append-nil (entry d) in
+    let single : length (log (d ∷ [])) ≡ length (entry d) = ap length entries in
+    let taken : count_handed (log (d ∷ [])) ≡ count_handed (entry d) = ap count_handed entries in
+    let both : length (log (d ∷ ds)) ≡ length (entry d) + length (log ds) = length-append (entry d) (log ds) in
+    let handed : count_handed (log (d ∷ ds)) ≡ count_handed (entry d) + count_handed (log ds) = count_handed-append (entry d) (log ds) in
+    record {
+      answered = omega (arith, one.answered, more.answered, handed, taken);
+      unknown = omega (arith, one.unknown, more.unknown, joins (of_answer misses));
+      overrun = omega (arith, one.overrun, more.overrun, joins (of_answer overruns));
+      all = omega (arith, one.all, more.all, both, single);
+      delivered = omega (arith, one.delivered, more.delivered, joins (of_response (λ response written. delivers response)));
+      noted = omega (arith, one.noted, more.noted, joins is_note);
+      nacked = omega (arith, one.nacked, more.nacked, joins (of_response nacks));
+      unreplied = omega (arith, one.unreplied, more.unreplied, joins (of_response (λ response written. is_silent written)));
+    }

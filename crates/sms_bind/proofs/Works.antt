@@ -1,0 +1,116 @@
+-- Frames that were worked one after another.
+use Rattle.std.proofs.Common.{◌≡◌, ℕ, ◌+◌, ◌<◌, ◌≤◌, List, [], ◌∷◌, ◌++◌, inl, inr, get_or, length, map, drop, Option, Some, None, refl, sym, ap, ◌∙◌, subst, arith, append-nil}
+use Rattle.std.specs.List.{concat}
+use Rattle.std.proofs.lemmas.Bool.{cases_lt}
+use Rattle.std.proofs.lemmas.List.{drop_more}
+use Rattle.rtrb.specs.Ring.{sent, SameProducer}
+use Rattle.sms_session.specs.declared.session.State.{State}
+use Rattle.sms_slot.specs.Rings.{handed}
+use Rattle.sms_slot.proofs.Rings.{AllZip-trans, same_rings, handed-append}
+use Rattle.sms_bind.specs.declared.desk.Desk.{Desk}
+use Rattle.std.proofs.KnownBytes.{Consumes-nil}
+use Rattle.sms_pdu.specs.Frame.{IsRest}
+use Rattle.sms_pdu.specs.Streams.{Stretch, Went, Leaves, Reads, going, early}
+use Rattle.sms_pdu.proofs.Streams.{went_none, went_more}
+use Rattle.sms_bind.specs.declared.ending.Cause.{Cause}
+use Rattle.sms_bind.specs.declared.ending.Cause.TheVariants as cause
+use Rattle.sms_bind.specs.Deeds.{Suits, Reaches, state_after, stretch_of, broken_at, log, tallies, of_response, is_broken}
+use Rattle.sms_bind.specs.Faults.{IsCounted}
+use Rattle.sms_bind.specs.Held.{Held}
+use Rattle.sms_bind.specs.Follows.{Follows}
+use Rattle.sms_bind.specs.Desks.{Worked}
+use Rattle.sms_bind.proofs.Logs.{log-append, tallies-append, counted-append, follow-append, state-append, AllZip-append}
+
+pub worked_none : (s : State) (a : Desk) → Worked s None a a []
+worked_none s a = record { deeds = []; each = tt; reaches = refl; breaks = refl; rings = same_rings a.producers.items; sends = refl; counts = refl; follows = refl }
+
+-- nothing was worked, and the reader ends
+pub worked_nothing : (s : State) (end : Option Cause) (a : Desk) → Reaches end s s → broken_at end ≡ 0 → Worked s end a a []
+worked_nothing s end a reaches quiet = record { deeds = []; each = tt; reaches = reaches; breaks = sym quiet; rings = same_rings a.producers.items; sends = refl; counts = refl; follows = refl }
+
+pub worked_more : (s : State) (end : Option Cause) (a b c : Desk) (fs gs : List (List ℕ)) → Worked s None a b fs → Worked s end b c gs → Worked s end a c (fs ++ gs)
+worked_more s end a b c fs gs p q =
+    let same : state_after s (fs ++ gs) ≡ state_after s gs = state-append s fs gs ∙ ap (λ (t : State). state_after t gs) p.reaches in
+    let breaks = counted-append (of_response (λ response written. is_broken written)) p.deeds q.deeds in
+    record {
+      deeds = p.deeds ++ q.deeds;
+      each = AllZip-append (Suits s) fs gs p.deeds q.deeds p.each q.each;
+      reaches = subst (Reaches end s) (sym same) q.reaches;
+      breaks = omega (arith, breaks, p.breaks, q.breaks);
+      rings = AllZip-trans SameProducer (λ x y z u v. ((v.0.0 ∙ u.0.0, v.0.1 ∙ u.0.1, v.0.2 ∙ u.0.2, v.0.3 ∙ u.0.3), v.1 ∙ u.1)) a.producers.items b.producers.items c.producers.items p.rings q.rings;
+      sends = q.sends ∙ ap (λ ls. handed ls (log q.deeds)) p.sends ∙ sym (handed-append (map sent a.producers.items) (log p.deeds) (log q.deeds)) ∙ ap (handed (map sent a.producers.items)) (sym (log-append p.deeds q.deeds));
+      counts = q.counts ∙ ap (λ k. tallies k q.deeds) p.counts ∙ sym (tallies-append a.counts p.deeds q.deeds);
+      follows = follow-append p.deeds q.deeds a.follower b.follower c.follower p.follows q.follows;
+    }
+
+-- the reader ends after it
+pub worked_ends : (s : State) (end : Option Cause) (a b : Desk) (fs : List (List ℕ)) → Reaches end s s → broken_at end ≡ 0 → Worked s None a b fs → Worked s end a b fs
+worked_ends s end a b fs reaches quiet p =
+    record {
+      deeds = p.deeds;
+      each = p.each;
+      reaches = subst (Reaches end s) (sym p.reaches) reaches;
+      breaks = p.breaks ∙ sym quiet;
+      rings = p.rings;
+      sends = p.sends;
+      counts = p.counts;
+      follows = p.follows;
+    }
+
+-- ---- a list of frames
+
+-- the frames from a place on
+pub frames_from : (fs : List (List ℕ)) (i : ℕ) (f : List ℕ) → i < length fs → f ≡ get_or fs i f → concat (drop i fs) ≡ f ++ concat (drop (i + 1) fs)
+frames_from fs i f low is = ap concat (drop_more fs i f low ∙ ap (λ (x : List ℕ). x ∷ drop (i + 1) fs) (sym is))
+
+-- ---- the count of errors, and the seat
+
+-- a count that grew later grew
+pub counted_later : (a b c : ℕ) → a ≤ b → b ≤ c → IsCounted b c → IsCounted a c
+counted_later a b c low up (inl h) = inl (omega arith)
+counted_later a b c low up (inr h) = elim (cases_lt a c) [ inl more ↦ inl more | inr same ↦ inr (omega arith) ]
+
+pub follows_same : (h : Held) → Follows h h
+follows_same h = record { window = refl; began = refl; most = refl }
+
+pub follows_on : (a b c : Held) → Follows a b → Follows b c → Follows a c
+follows_on a b c p q = record { window = q.window ∙ p.window; began = q.began ∙ p.began; most = q.most ∙ p.most }
+
+-- what is left where the reader ended doesn't hang on what is held
+pub leaves_end : (end : Cause) (left held kept : List ℕ) → Leaves (stretch_of (Some end)) left held → Leaves (stretch_of (Some end)) left kept
+leaves_end cause.Ended left held kept h = h
+leaves_end cause.Unbound left held kept h = h
+leaves_end cause.Lost left held kept h = h
+leaves_end cause.ReadFault left held kept h = h
+leaves_end cause.WriteFault left held kept h = h
+leaves_end cause.Stopped left held kept h = h
+leaves_end cause.Turns left held kept h = h
+leaves_end cause.OutOfMemory left held kept h = h
+
+-- what was not looked at stands beside it
+went_beside : (P : List (List ℕ) → Type 0) (stream left more : List ℕ) → Went P stream left → Went P (stream ++ more) (left ++ more)
+went_beside P stream left more w =
+    let same : (fs gs : List (List ℕ)) → P fs → gs ≡ [] → P (fs ++ gs) = λ fs gs p e. subst (λ l. P (fs ++ l)) (sym e) (subst P (sym (append-nil fs)) p) in
+    went_more P (λ gs. gs ≡ []) P stream left more (left ++ more) w (went_none (λ gs. gs ≡ []) (left ++ more) refl) same
+
+-- the reader ended while it worked what was there before
+pub reads_early : (P : List (List ℕ) → Type 0) (begun left more kept : List ℕ) (r : Option (List ℕ)) (s : Stretch) → Went P begun left → s ≡ early → Reads P (begun ++ more) r r s kept
+reads_early P begun left more kept r s w is =
+    record {
+      got = [];
+      consumed = Consumes-nil r;
+      left = left ++ more;
+      went = subst (λ l. Went P l (left ++ more)) (sym (append-nil (begun ++ more))) (went_beside P begun left more w);
+      leaves = subst (λ x. Leaves x (left ++ more) kept) (sym is) tt;
+    }
+
+-- or it worked all of it
+pub reads_begun : (P : List (List ℕ) → Type 0) (begun left more : List ℕ) (r : Option (List ℕ)) → Went P begun left → left ≡ [] → IsRest more → Reads P (begun ++ more) r r going more
+reads_begun P begun left more r w none rest =
+    record {
+      got = [];
+      consumed = Consumes-nil r;
+      left = more;
+      went = subst (λ l. Went P l more) (sym (append-nil (begun ++ more))) (subst (λ l. Went P (begun ++ more) (l ++ more)) none (went_beside P begun left more w));
+      leaves = (rest, refl);
+    }

@@ -1,0 +1,42 @@
+use Rattle.std.proofs.Common.{◌≡◌, ◌++◌, ℕ, take, None, Some, refl, subst, arith}
+use Rattle.std.specs.Io.KnownBytes.{Consumes}
+use Rattle.sms_pdu.specs.Streams.{going, complete, early}
+use Rattle.sms_pdu.proofs.Streams.{reads_none, reads_once, went_none, consumes_nothing}
+use Rattle.sms_bind.specs.declared.ending.Cause.TheVariants.{Ended, ReadFault, OutOfMemory}
+use Rattle.sms_bind.specs.Desks.{Worked}
+use Rattle.sms_bind.proofs.Works.{worked_nothing}
+use Rattle.sms_bind.proofs.desk.Desk.turn.Goals as goal
+
+pub returns-then-is_err-clause-reads : goal.returns-then-is_err-clause-reads
+returns-then-is_err-clause-reads g c =
+    let a = c.args.self.now in
+    let s = a.session in
+    let held = c.args.held.now.items in
+    let piece = take c.in-Ok.n c.read.new.buf in
+    let P = Worked s (Some OutOfMemory) a a in
+    reads_once P held piece (held ++ piece) c.extend_from_slice.new.self.items _ _ early c.in-Ok.ensures.bytes.0 (went_none P (held ++ piece) (worked_nothing s (Some OutOfMemory) a refl refl)) tt
+
+pub returns-in-Ok-eq0-clause-reads : goal.returns-in-Ok-eq0-clause-reads
+returns-in-Ok-eq0-clause-reads g c =
+    let a = c.args.self.now in
+    let s = a.session in
+    let held = c.args.held.now.items in
+    let r = g.R.Read.remaining c.args.reader.now.inner in
+    let t = g.R.Read.remaining c.read.new.self.inner in
+    let zero : c.in-Ok-eq0.field-0 ≡ 0 = omega (arith, c.in-Ok-eq0.field-0-is) in
+    let none : Consumes r t (take 0 c.read.new.buf) = subst (λ (n : ℕ). Consumes r t (take n c.read.new.buf)) zero c.in-Ok-eq0.ensures.bytes.0 in
+    reads_none (Worked s (Some Ended) a a) held held r t complete (worked_nothing s (Some Ended) a refl refl) none c.requires.rest
+
+pub returns-then-gave_nothing-clause-reads : goal.returns-then-gave_nothing-clause-reads
+returns-then-gave_nothing-clause-reads g c =
+    let a = c.args.self.now in
+    let s = a.session in
+    let held = c.args.held.now.items in
+    reads_none (Worked s None a a) held held _ _ going (worked_nothing s None a refl refl) (consumes_nothing _ _ c.in-Err.ensures.bytes) (c.requires.rest, refl)
+
+pub returns-else-gave_nothing-clause-reads : goal.returns-else-gave_nothing-clause-reads
+returns-else-gave_nothing-clause-reads g c =
+    let a = c.args.self.now in
+    let s = a.session in
+    let held = c.args.held.now.items in
+    reads_none (Worked s (Some ReadFault) a a) held held _ _ complete (worked_nothing s (Some ReadFault) a refl refl) (consumes_nothing _ _ c.in-Err.ensures.bytes) c.requires.rest

@@ -1,0 +1,55 @@
+use Rattle.std.proofs.Common.{◌≡◌, ◌++◌, List, ℕ, map, sym, ap, ◌∙◌, subst, rules}
+use Rattle.std.specs.List.{concat, AllZip}
+use Rattle.rtrb.specs.Ring.{sent, SameProducer}
+use Rattle.sms_slot.proofs.Rings.{same_rings}
+use Rattle.sms_bind.specs.declared.ending.ReaderEnd.{ReaderEnd}
+use Rattle.sms_bind.specs.declared.counts.Counts.{Counts}
+use Rattle.sms_bind.specs.declared.desk.Desk.{Desk}
+use Rattle.sms_bind.specs.Ends.{HandsOn}
+use Rattle.sms_bind.specs.Held.{Held}
+use Rattle.sms_bind.specs.Follows.{held_none, most_held}
+use Rattle.sms_bind.proofs.Hands.{hands_on, hands_none, end_of}
+use Rattle.sms_bind.proofs.reader.read_loop.Goals as goal
+
+pub returns-in-Err-clause-rings : goal.returns-in-Err-clause-rings
+returns-in-Err-clause-rings g c =
+    subst (λ (e : ReaderEnd). AllZip SameProducer c.args.producers.items e.producers.items) (sym c.ended.ensures) (same_rings c.args.producers.items)
+
+pub returns-in-Err-clause-answers : goal.returns-in-Err-clause-answers
+returns-in-Err-clause-answers g c =
+    let r = g.R.Read.remaining c.args.reader.now.inner in
+    let begun = concat c.args.bound.frames ++ c.args.bound.framer in
+    let rings = map sent c.args.producers.items in
+    let s = c.args.bound.session in
+    let held : Held = held_none c.args.seat (most_held c.args.follow) in
+    let e = c.ended.ensures in
+    let k = c.new-in-Err.ensures in
+    let seat = c.in-Err.ensures.err in
+    let none : HandsOn s begun r r rings rings held c.ended.result = hands_none s begun r rings held c.ended.result (ap (λ (x : ReaderEnd). x.cause) e)
+    (ap (λ (x : ReaderEnd). x.answered) e ∙ ap (λ (x : Counts). x.answered) k)
+    (ap (λ (x : ReaderEnd). x.unknown) e ∙ ap (λ (x : Counts). x.unknown) k)
+    (ap (λ (x : ReaderEnd). x.overrun) e ∙ ap (λ (x : Counts). x.overrun) k)
+    (ap (λ (x : ReaderEnd). x.delivered) e ∙ ap (λ (x : Counts). x.delivered) k)
+    (ap (λ (x : ReaderEnd). x.noted) e ∙ ap (λ (x : Counts). x.noted) k)
+    (ap (λ (x : ReaderEnd). x.nacked) e ∙ ap (λ (x : Counts). x.nacked) k)
+    (ap (λ (x : ReaderEnd). x.unreplied) e ∙ ap (λ (x : Counts). x.unreplied) k)
+    (ap (λ (x : ReaderEnd). x.seat) e ∙ seat) in
+    subst (λ (x : ReaderEnd). HandsOn s begun r r rings (map sent x.producers.items) held c.ended.result) (sym e) none
+
+pub returns-clause-answers : goal.returns-clause-answers
+returns-clause-answers g c =
+    let b = c.read-cause.new.self in
+    let r = g.R.Read.remaining c.args.reader.now.inner in
+    let t = g.R.Read.remaining c.read-cause.new.reader.inner in
+    let s = c.args.bound.session in
+    let rings = map sent c.args.producers.items in
+    let begun : concat c.as_slice.result.now ++ c.into_rest-rest.result.items ≡ concat c.args.bound.frames ++ c.args.bound.framer =
+    ap (λ fs. concat fs ++ c.into_rest-rest.result.items) c.as_slice.ensures ∙ ap (λ (l : List ℕ). concat c.args.bound.frames ++ l) c.into_rest-rest.ensures.same in
+    let a : Desk = record { session = s; producers = c.args.producers; counts = c.new-2.result; follower = c.in-Ok.follower } in
+    let held : Held = held_none c.args.seat (most_held c.args.follow) in
+    let first : c.in-Ok.follower ≡ held = c.in-Ok.ensures.ok ∙ ap (λ (n : ℕ). held_none c.args.seat n) c.most_of.ensures in
+    let all = hands_on s a b _ _ r t c.read-cause.result c.args.bound.bound c.new-2.ensures c.read-cause.ensures.reads in
+    let seat = ap (λ (x : ReaderEnd). x.seat) c.ended-2.ensures ∙ c.into_seat.ensures.seat in
+    let is : c.ended-2.result ≡ end_of b c.read-cause.result = search rules in
+    let P : List ℕ → Held → ReaderEnd → Type 0 = λ l h e. HandsOn s l r t rings (map sent e.producers.items) h e in
+    subst (λ l. P l held c.ended-2.result) begun (subst (λ h. P (concat c.as_slice.result.now ++ c.into_rest-rest.result.items) h c.ended-2.result) first (subst (λ e. P (concat c.as_slice.result.now ++ c.into_rest-rest.result.items) a.follower e) (sym is) all))

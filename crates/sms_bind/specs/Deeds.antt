@@ -1,0 +1,241 @@
+-- What is done with a frame, and what is counted.
+use Rattle.std.specs.Prelude.{◌≡◌, ℕ, ◌+◌, ◌≤◌, List, [], ◌∷◌, ◌++◌, Option, Some, None, Bool, true, false, ◌==◌, if◌then◌else◌}
+use Rattle.sms_pdu.specs.declared.body.Pdu.{Pdu}
+use Rattle.sms_pdu.specs.declared.body.Body.{Body}
+use Rattle.sms_pdu.specs.declared.body.Body.TheVariants as body
+use Rattle.sms_pdu.specs.declared.reply.Reply.{Reply}
+use Rattle.sms_pdu.specs.declared.command.Command.TheVariants as command
+use Rattle.sms_pdu.specs.Command.{id_of}
+use Rattle.sms_pdu.specs.Header.{header_at_front}
+use Rattle.sms_pdu.specs.Reply.{reply_in}
+use Rattle.sms_pdu.specs.Streams.{Stretch, going, complete, lost, early}
+use Rattle.sms_session.specs.declared.session.Action.{Action}
+use Rattle.sms_session.specs.declared.session.Action.TheVariants as action
+use Rattle.sms_session.specs.declared.session.Response.{Response}
+use Rattle.sms_session.specs.declared.session.State.{State}
+use Rattle.sms_session.specs.declared.session.State.TheVariants.{BoundTx, BoundTrx, Closed as StateClosed}
+use Rattle.sms_session.specs.Session.{on_table}
+use Rattle.sms_slot.specs.declared.row.Search.{Search}
+use Rattle.sms_slot.specs.declared.row.Search.TheVariants.{Found, Overrun, Unknown}
+use Rattle.sms_slot.specs.Rings.{place_of, answer_of}
+use Rattle.sms_bind.specs.declared.deed.Deed.{Deed}
+use Rattle.sms_bind.specs.declared.deed.Deed.TheVariants.{Brought, Replied, Noted, Closed}
+use Rattle.sms_bind.specs.declared.deed.Written.{Written}
+use Rattle.sms_bind.specs.declared.deed.Written.TheVariants.{Sent, NoMemory, Broken}
+use Rattle.sms_bind.specs.declared.ending.Cause.{Cause}
+use Rattle.sms_bind.specs.declared.ending.Cause.TheVariants as cause
+use Rattle.sms_bind.specs.declared.counts.Counts.{Counts}
+use Rattle.sms_bind.specs.Held.{Held}
+use Rattle.sms_bind.specs.Follows.{Notes}
+
+-- ---- what is written
+
+-- the body of a response with this command; a deliver_sm_resp has an empty message_id (SMPP 3.4 4.6.2)
+abbrev pub body_for : ℕ → Body
+body_for id =
+    if id == id_of command.DeliverSmResp then body.DeliverResp (Some [])
+    else (if id == id_of command.EnquireLinkResp then body.EnquireLinkResp
+    else (if id == id_of command.UnbindResp then body.UnbindResp else body.GenericNack))
+
+abbrev pub pdu_for : Response → Pdu
+pdu_for r = record { status = r.status; number = r.number; body = body_for r.command }
+
+-- ---- what is done with one frame
+
+-- the response was tried
+abbrev pub Responded : Response → Deed → Type 0
+Responded response deed = (written : Written) × (deed ≡ Replied response written)
+
+-- what an action asks for is done with the frame
+abbrev pub Does : Action → List ℕ → Deed → Type 0
+Does action.Answer frame deed = (reply : Reply) × (search : Search) × (reply_in frame ≡ Some reply) × (deed ≡ Brought reply search)
+Does (action.Reply response) frame deed = Responded response deed
+Does (action.ReplyClose response) frame deed = Responded response deed
+Does action.Note frame deed = deed ≡ Noted
+Does action.Close frame deed = deed ≡ Closed
+Does action.Drop frame deed = deed ≡ Closed
+
+-- the deed is the one that the session's table asks for
+abbrev pub Suits : State → List ℕ → Deed → Type 0
+Suits state frame deed = Does (on_table state (header_at_front frame)).0 frame deed
+
+-- the state that the table leads to, frame by frame
+abbrev pub state_after : State → List (List ℕ) → State
+state_after state [] = state
+state_after state (frame ∷ frames) = state_after (on_table state (header_at_front frame)).1 frames
+
+-- the answer that was brought, with the place of the ring that took it
+abbrev pub entry : Deed → List (Reply × Option ℕ)
+entry (Brought reply search) = (reply, place_of (answer_of search)) ∷ []
+entry (Replied response written) = []
+entry Noted = []
+entry Closed = []
+
+abbrev pub log : List Deed → List (Reply × Option ℕ)
+log [] = []
+log (deed ∷ deeds) = entry deed ++ log deeds
+
+-- the reader's seat takes note of the answers that were handed on
+abbrev pub Follow : Deed → Held → Held → Type 0
+Follow (Brought reply (Found slot worker)) old new = Notes reply old new
+Follow (Brought reply (Overrun slot worker)) old new = new ≡ old
+Follow (Brought reply Unknown) old new = new ≡ old
+Follow (Replied response written) old new = new ≡ old
+Follow Noted old new = new ≡ old
+Follow Closed old new = new ≡ old
+
+abbrev pub FollowAll : List Deed → Held → Held → Type 0
+FollowAll [] old new = new ≡ old
+FollowAll (deed ∷ deeds) old new = (next : Held) × Follow deed old next × FollowAll deeds next new
+
+-- ---- why the reader ends
+
+abbrev pub cause_by : State → Option Cause
+cause_by BoundTx = None
+cause_by BoundTrx = None
+cause_by StateClosed = Some cause.Unbound
+
+-- why the reader ends after a deed that left the session in this state
+abbrev pub cause_after : Deed → State → Option Cause
+cause_after (Brought reply search) state = cause_by state
+cause_after (Replied response Sent) state = cause_by state
+cause_after (Replied response NoMemory) state = cause_by state
+cause_after (Replied response Broken) state = Some cause.WriteFault
+cause_after Noted state = cause_by state
+cause_after Closed state = cause_by state
+
+-- how the reading stands then: all whole frames were worked, unless the session closed, the wire broke or memory was refused
+abbrev pub stretch_of : Option Cause → Stretch
+stretch_of None = going
+stretch_of (Some cause.Ended) = complete
+stretch_of (Some cause.Unbound) = early
+stretch_of (Some cause.Lost) = lost
+stretch_of (Some cause.ReadFault) = complete
+stretch_of (Some cause.WriteFault) = early
+stretch_of (Some cause.Stopped) = complete
+stretch_of (Some cause.Turns) = complete
+stretch_of (Some cause.OutOfMemory) = early
+
+-- the state that the worked frames led to: the session closed exactly where that ends the reader; where the wire broke
+-- it may have
+abbrev pub Reaches : Option Cause → State → State → Type 0
+Reaches None state reached = reached ≡ state
+Reaches (Some cause.Ended) state reached = reached ≡ state
+Reaches (Some cause.Unbound) state reached = reached ≡ StateClosed
+Reaches (Some cause.Lost) state reached = reached ≡ state
+Reaches (Some cause.ReadFault) state reached = reached ≡ state
+Reaches (Some cause.WriteFault) state reached = Unit {0}
+Reaches (Some cause.Stopped) state reached = reached ≡ state
+Reaches (Some cause.Turns) state reached = reached ≡ state
+Reaches (Some cause.OutOfMemory) state reached = reached ≡ state
+
+-- how many responses the wire refused
+abbrev pub broken_at : Option Cause → ℕ
+broken_at None = 0
+broken_at (Some cause.Ended) = 0
+broken_at (Some cause.Unbound) = 0
+broken_at (Some cause.Lost) = 0
+broken_at (Some cause.ReadFault) = 0
+broken_at (Some cause.WriteFault) = 1
+broken_at (Some cause.Stopped) = 0
+broken_at (Some cause.Turns) = 0
+broken_at (Some cause.OutOfMemory) = 0
+
+-- ---- how many deeds there are of each kind
+
+abbrev pub one_if : Bool → ℕ
+one_if true = 1
+one_if false = 0
+
+abbrev pub counted : (Deed → Bool) → List Deed → ℕ
+counted p [] = 0
+counted p (deed ∷ deeds) = one_if (p deed) + counted p deeds
+
+abbrev pub finds : Search → Bool
+finds (Found slot worker) = true
+finds (Overrun slot worker) = false
+finds Unknown = false
+
+abbrev pub overruns : Search → Bool
+overruns (Found slot worker) = false
+overruns (Overrun slot worker) = true
+overruns Unknown = false
+
+abbrev pub misses : Search → Bool
+misses (Found slot worker) = false
+misses (Overrun slot worker) = false
+misses Unknown = true
+
+-- a request that has a deliver_sm_resp is a deliver_sm
+abbrev pub delivers : Response → Bool
+delivers response = response.command == id_of command.DeliverSmResp
+
+abbrev pub nacks : Response → Written → Bool
+nacks response Sent = response.command == id_of command.GenericNack
+nacks response NoMemory = false
+nacks response Broken = false
+
+abbrev pub is_silent : Written → Bool
+is_silent Sent = false
+is_silent NoMemory = true
+is_silent Broken = false
+
+abbrev pub is_broken : Written → Bool
+is_broken Sent = false
+is_broken NoMemory = false
+is_broken Broken = true
+
+-- of the deeds that bring an answer, those of which p is true; and of those that respond
+abbrev pub of_answer : (Search → Bool) → Deed → Bool
+of_answer p (Brought reply search) = p search
+of_answer p (Replied response written) = false
+of_answer p Noted = false
+of_answer p Closed = false
+
+abbrev pub of_response : (Response → Written → Bool) → Deed → Bool
+of_response p (Brought reply search) = false
+of_response p (Replied response written) = p response written
+of_response p Noted = false
+of_response p Closed = false
+
+abbrev pub is_note : Deed → Bool
+is_note (Brought reply search) = false
+is_note (Replied response written) = false
+is_note Noted = true
+is_note Closed = false
+
+-- ---- the same, as the reader counts
+
+abbrev pub no_counts : Counts
+no_counts = record { frames = 0; answered = 0; unknown = 0; overrun = 0; delivered = 0; noted = 0; nacked = 0; unreplied = 0 }
+
+abbrev pub with_answer : Counts → Search → Counts
+with_answer c (Found slot worker) = record c { answered = c.answered + 1 }
+with_answer c (Overrun slot worker) = record c { overrun = c.overrun + 1 }
+with_answer c Unknown = record c { unknown = c.unknown + 1 }
+
+abbrev pub with_reply : Counts → Response → Written → Counts
+with_reply c response written =
+    record c { delivered = c.delivered + one_if (delivers response); nacked = c.nacked + one_if (nacks response written); unreplied = c.unreplied + one_if (is_silent written) }
+
+abbrev pub with_frame : Counts → Counts
+with_frame c = record c { frames = c.frames + 1 }
+
+-- one frame more, and what was done with it
+abbrev pub tally : Counts → Deed → Counts
+tally c (Brought reply search) = with_answer (with_frame c) search
+tally c (Replied response written) = with_reply (with_frame c) response written
+tally c Noted = record c { frames = c.frames + 1; noted = c.noted + 1 }
+tally c Closed = with_frame c
+
+abbrev pub tallies : Counts → List Deed → Counts
+tallies c [] = c
+tallies c (deed ∷ deeds) = tallies (tally c deed) deeds
+
+-- no count is more than the frames
+pub record IsWithin (c : Counts) : Type 0 where
+  pub answers : c.answered + c.unknown + c.overrun ≤ c.frames
+  pub delivers : c.delivered ≤ c.frames
+  pub notes : c.noted ≤ c.frames
+  pub nacks : c.nacked ≤ c.frames
+  pub silent : c.unreplied ≤ c.frames

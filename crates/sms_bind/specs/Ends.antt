@@ -1,0 +1,54 @@
+-- What a reader promises of what it read.
+use Rattle.std.specs.Prelude.{◌≡◌, ◌≢◌, ℕ, ◌+◌, List, [], ◌++◌, length, map, Option, Some}
+use Rattle.std.specs.List.{AllZip}
+use mathlib.Core.List.{IsPrefix}
+use Rattle.std.specs.Io.KnownBytes.{Consumes}
+use Rattle.sms_pdu.specs.declared.reply.Reply.{Reply}
+use Rattle.sms_pdu.specs.Frame.{Division, IsBad}
+use Rattle.sms_pdu.specs.Reply.{answers}
+use Rattle.sms_pdu.specs.Streams.{early}
+use Rattle.sms_session.specs.declared.session.State.{State}
+use Rattle.sms_slot.specs.Rings.{handed, count_handed}
+use Rattle.sms_bind.specs.declared.ending.Cause.TheVariants.{Lost}
+use Rattle.sms_bind.specs.declared.ending.ReaderEnd.{ReaderEnd}
+use Rattle.sms_bind.specs.declared.deed.Deed.{Deed}
+use Rattle.sms_bind.specs.Held.{Held}
+use Rattle.sms_bind.specs.Deeds.{Suits, FollowAll, Reaches, state_after, stretch_of, log, counted, of_answer, of_response, is_note, overruns, misses, delivers, nacks, is_silent, is_broken, broken_at}
+
+-- the counts are those of what was done with the frames
+pub record Tells (deeds : List Deed) (end : ReaderEnd) : Type 0 where
+  pub answered : end.answered ≡ count_handed (log deeds)
+  pub unknown : end.unknown ≡ counted (of_answer misses) deeds
+  pub overrun : end.overrun ≡ counted (of_answer overruns) deeds
+  pub all : end.answered + end.unknown + end.overrun ≡ length (log deeds)
+  pub delivered : end.delivered ≡ counted (of_response (λ response written. delivers response)) deeds
+  pub noted : end.noted ≡ counted is_note deeds
+  pub nacked : end.nacked ≡ counted (of_response nacks) deeds
+  pub unreplied : end.unreplied ≡ counted (of_response (λ response written. is_silent written)) deeds
+
+-- The session was bound in the state, `begun` was read before, and the reader gave more; `old` and `new` are what went
+-- into each ring.
+pub record HandsOn (state : State) (begun : List ℕ) (before after : Option (List ℕ)) (old new : List (List Reply)) (held : Held) (end : ReaderEnd) : Type 0 where
+  -- what was read: the frames that were worked, those that were not, and the rest
+  pub got : List ℕ
+  pub consumed : Consumes before after got
+  pub worked : List (List ℕ)
+  pub others : List (List ℕ)
+  pub rest : List ℕ
+  pub divided : Division (begun ++ got) (worked ++ others) rest
+  pub whole : stretch_of (Some end.cause) ≢ early → others ≡ []
+  pub lost : end.cause ≡ Lost → IsBad rest
+  -- what was done with each frame, and where that led
+  pub deeds : List Deed
+  pub each : AllZip (Suits state) worked deeds
+  pub reaches : Reaches (Some end.cause) state (state_after state worked)
+  pub breaks : counted (of_response (λ response written. is_broken written)) deeds ≡ broken_at (Some end.cause)
+  -- the answers that were worked are the first of the stream's, each with the place of the ring that took it
+  pub are : map (λ e. e.0) (log deeds) ≡ answers worked
+  pub prefix : IsPrefix (map (λ e. e.0) (log deeds)) (answers (worked ++ others))
+  pub hands : new ≡ handed old (log deeds)
+  pub counts : Tells deeds end
+  -- what following did to the seat
+  pub last : Held
+  pub follows : FollowAll deeds held last
+  pub seat : end.seat ≡ last.now

@@ -1,0 +1,36 @@
+//! What the reader and the workers of a bind share.
+
+ghost use Rattle.std.specs.Prelude.{◌≡◌};
+
+use crate::wire::Wire;
+use sms_slot::SlotRow;
+use std::sync::Mutex;
+use std::sync::atomic::AtomicBool;
+
+/// What the reader and the workers of a bind share. What stands behind the wire's lock and in the two
+/// flags is whatever was left there last, so no clause tells it.
+#[derive(Drop)]
+pub struct Line<W> {
+    /// The requests that wait for their answers.
+    pub slots: SlotRow,
+    /// The wire, which writes one frame in each holding of its lock.
+    pub wire: Mutex<Wire<W>>,
+    /// No answer comes any more.
+    pub down: AtomicBool,
+    /// The reader is to end.
+    pub stop: AtomicBool,
+}
+
+impl<W> Line<W> {
+    /// A line that is neither down nor stopped.
+    pub fn new(slots: SlotRow, wire: Wire<W>) -> Line<W>
+        ensures slots { result.slots ≡ slots }
+    {
+        Line {
+            slots,
+            wire: Mutex::new(wire),
+            down: AtomicBool::new(false),
+            stop: AtomicBool::new(false),
+        }
+    }
+}

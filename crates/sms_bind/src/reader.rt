@@ -1,0 +1,126 @@
+//! The reader of a bind.
+
+ghost use Rattle.std.specs.Prelude.{◌≡◌, ◌≤◌, ◌^◌, ◌++◌, map, IfSome};
+ghost use Rattle.std.specs.List.{concat, AllZip};
+ghost use Rattle.std.specs.Io.KnownBytes.{IsAtEnd};
+ghost use Rattle.rtrb.specs.Ring.{sent, SameProducer};
+ghost use Rattle.sms_core.specs.Limits.{most_slots};
+ghost use Rattle.sms_bind.specs.Devices.{device, faults_of};
+ghost use Rattle.sms_bind.specs.Faults.{IsCounted};
+ghost use Rattle.sms_bind.specs.Follows.{HoldsBack, most_held, held_none};
+ghost use Rattle.sms_bind.specs.Ends.{HandsOn};
+ghost use Rattle.sms_bind.specs.declared.ending.Cause.TheVariants.{Ended, ReadFault};
+
+use crate::bound::Bound;
+use crate::counts::Counts;
+use crate::desk::Desk;
+use crate::ending::{Cause, ReaderEnd};
+use crate::follower::Follower;
+use crate::line::Line;
+use crate::tap::Tap;
+use rtrb::Producer;
+use sms_pdu::Reply;
+use sms_window::{Window, WindowSeat};
+use std::alloc::Global;
+use std::io::{Read, Write};
+use std::sync::Wait;
+use std::sync::atomic::Ordering;
+
+/// Reads what comes in on a bind for so many turns, works each frame by the session's table, and
+/// hands the answers to the rings of the workers whose requests wait for them. One turn reads at most
+/// 65,536 octets. At its end the line is down. Where `follow` is the window's limit, fewer requests
+/// are let through while the message centre throttles.
+pub fn read_loop<R: Read, W: Write, S: Wait>(
+    rt: &S,
+    alloc: Global,
+    reader: &mut Tap<R>,
+    bound: Bound,
+    producers: Vec<Producer<Reply>>,
+    line: &Line<W>,
+    window: &Window,
+    seat: WindowSeat,
+    follow: Option<u32>,
+    turns: u64,
+) -> ReaderEnd
+    requires turns { turns ≤ 2 ^ 40 }
+    requires own { seat.window ≡ window.now }
+    requires limit { IfSome follow (λ limit. (1 ≤ limit) × (limit ≤ most_slots)) }
+    ensures answers { HandsOn bound.session (concat bound.frames ++ bound.framer) (R.remaining (device reader.old)) (R.remaining (device reader.new)) (map sent producers.items) (map sent result.producers.items) (held_none seat (most_held follow)) result }
+    ensures rings { AllZip SameProducer producers.items result.producers.items }
+    ensures seat { HoldsBack (most_held follow) seat.view result.seat.view }
+    ensures window { result.seat.window ≡ seat.window }
+    ensures end { result.cause ≡ Ended → IsAtEnd (R.remaining (device reader.new)) }
+    ensures fault { result.cause ≡ ReadFault → IsCounted (faults_of reader.old) (faults_of reader.new) }
+{
+    let follower = match Follower::new(alloc, seat, most_of(follow)) {
+        Ok(follower) => follower,
+        Err((_e, seat)) => {
+            line.down.store(true, Ordering::SeqCst);
+            return ended(producers, seat, Counts::new(), Cause::OutOfMemory);
+        }
+    };
+    let Bound {
+        session,
+        framer,
+        frames,
+    } = bound;
+    let mut desk = Desk {
+        session,
+        producers,
+        counts: Counts::new(),
+        follower,
+    };
+    let rest = framer.into_rest();
+    let cause = desk.read(
+        rt,
+        alloc,
+        reader,
+        frames.as_slice(),
+        rest,
+        line,
+        window,
+        turns,
+    );
+    line.down.store(true, Ordering::SeqCst);
+    let Desk {
+        session: _,
+        producers,
+        counts,
+        follower,
+    } = desk;
+    ended(producers, follower.into_seat(), counts, cause)
+}
+
+/// The most slots that are held back: one stays for the workers.
+fn most_of(follow: Option<u32>) -> u32
+    requires { IfSome follow (λ limit. (1 ≤ limit) × (limit ≤ most_slots)) }
+    ensures { result ≡ most_held follow }
+{
+    match follow {
+        Some(limit) => limit - 1,
+        None => 0,
+    }
+}
+
+/// What a reader leaves, put together.
+fn ended(
+    producers: Vec<Producer<Reply>>,
+    seat: WindowSeat,
+    counts: Counts,
+    cause: Cause,
+) -> ReaderEnd
+    ensures { result ≡ record { answered = counts.answered; unknown = counts.unknown; overrun = counts.overrun; delivered = counts.delivered; noted = counts.noted; nacked = counts.nacked; unreplied = counts.unreplied; cause = cause; producers = producers; seat = seat } }
+{
+    ReaderEnd {
+        answered: counts.answered,
+        unknown: counts.unknown,
+        overrun: counts.overrun,
+        delivered: counts.delivered,
+        noted: counts.noted,
+        nacked: counts.nacked,
+        unreplied: counts.unreplied,
+        cause,
+        producers,
+        seat,
+    }
+}

@@ -1,0 +1,86 @@
+//! Responses on the wire.
+
+ghost use Rattle.std.specs.Prelude.{◌≡◌, ◌≢◌, true, IfOk};
+ghost use Rattle.std.specs.Io.KnownBytes.{Appends};
+ghost use Rattle.sms_pdu.specs.Grammar.{Spells};
+ghost use Rattle.sms_bind.specs.Devices.{writer, is_broken};
+ghost use Rattle.sms_bind.specs.Deeds.{pdu_for};
+ghost use Rattle.sms_bind.specs.declared.deed.Written.TheVariants.{Sent, Broken};
+
+use crate::deed::Written;
+use crate::line::Line;
+use crate::wire::Wire;
+use sms_core::ESME_RINVCMDLEN;
+use sms_pdu::{
+    Body, DELIVER_SM_RESP, ENQUIRE_LINK_RESP, Frame, GENERIC_NACK, Octets, Pdu, PduError,
+    UNBIND_RESP, encode,
+};
+use sms_session::Response;
+use std::alloc::Global;
+use std::io::Write;
+use std::sync::Wait;
+
+/// Writes a response, in one holding of the wire's lock.
+pub(crate) fn reply<W: Write, S: Wait>(
+    rt: &S,
+    alloc: Global,
+    line: &Line<W>,
+    response: &Response,
+) -> Written {
+    let Ok(frame) = frame_of(alloc, response) else {
+        return Written::NoMemory;
+    };
+    let mut wire = line.wire.lock(rt);
+    write_frame(&mut wire, frame)
+}
+
+/// Tells the other side that a command_length was bad (SMPP 3.4 4.3). That it was told is not waited
+/// for.
+pub(crate) fn refuse_length<W: Write, S: Wait>(rt: &S, alloc: Global, line: &Line<W>) {
+    let response = Response {
+        command: GENERIC_NACK,
+        status: ESME_RINVCMDLEN,
+        number: 0,
+    };
+    let _written = reply(rt, alloc, line, &response);
+}
+
+/// The frame of a response.
+fn frame_of(alloc: Global, response: &Response) -> Result<Frame, PduError>
+    ensures { IfOk result (λ frame. Spells (pdu_for response.now) frame) }
+{
+    match encode(alloc, &pdu_of(alloc, response)) {
+        Ok(octets) => Ok(Frame::new(octets)),
+        Err(e) => Err(e),
+    }
+}
+
+/// The PDU of a response. A deliver_sm_resp has an empty message_id (SMPP 3.4 4.6.2).
+fn pdu_of(alloc: Global, response: &Response) -> Pdu
+    ensures { result ≡ pdu_for response.now }
+{
+    let body = match response.command {
+        DELIVER_SM_RESP => Body::DeliverResp {
+            message_id: Some(Octets::new(Vec::new(alloc))),
+        },
+        ENQUIRE_LINK_RESP => Body::EnquireLinkResp,
+        UNBIND_RESP => Body::UnbindResp,
+        _ => Body::GenericNack,
+    };
+    Pdu {
+        status: response.status,
+        number: response.number,
+        body,
+    }
+}
+
+/// Writes a response's frame.
+fn write_frame<W: Write>(wire: &mut Wire<W>, frame: Frame) -> Written
+    ensures sent { result ≡ Sent → Appends (W.contents (writer wire.old)) (W.contents (writer wire.new)) frame }
+    ensures broken { result ≢ Sent → (result ≡ Broken) × (is_broken wire.new ≡ true) }
+{
+    match wire.send(frame) {
+        Ok(_receipt) => Written::Sent,
+        Err(_fault) => Written::Broken,
+    }
+}

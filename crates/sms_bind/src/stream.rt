@@ -1,0 +1,127 @@
+//! The whole frames of a stream, worked where they stand.
+
+ghost use Rattle.std.specs.Prelude.{◌≡◌, ◌≢◌, ℕ, ◌+◌, ◌<◌, ◌≤◌, ◌^◌, [], List, length, drop, None, Some, IfSome};
+ghost use Rattle.std.specs.List.{concat};
+ghost use Rattle.sms_pdu.specs.Frame.{IsRest};
+ghost use Rattle.sms_pdu.specs.Streams.{Went, Leaves, early};
+ghost use Rattle.sms_session.specs.Session.{IsBound};
+ghost use Rattle.sms_bind.specs.Deeds.{stretch_of, IsWithin};
+ghost use Rattle.sms_bind.specs.Follows.{Follows};
+ghost use Rattle.sms_bind.specs.Desks.{Worked};
+ghost use Rattle.sms_bind.specs.declared.ending.Cause.TheVariants.{Ended, ReadFault};
+
+use crate::desk::Desk;
+use crate::ending::Cause;
+use crate::line::Line;
+use crate::replying::refuse_length;
+use sms_pdu::{Frame, first_frame, is_bad};
+use sms_window::Window;
+use std::alloc::Global;
+use std::io::Write;
+use std::sync::Wait;
+
+impl Desk {
+    /// Works frames that were cut before.
+    pub fn work_all<W: Write, S: Wait>(
+        &mut self,
+        rt: &S,
+        alloc: Global,
+        line: &Line<W>,
+        window: &Window,
+        frames: &[Frame],
+    ) -> Option<Cause>
+        requires bound { IsBound self.old.session }
+        requires own { self.old.follower.now.window ≡ window.now }
+        requires within { IsWithin self.old.counts }
+        requires room { self.old.counts.frames + length frames.now < 2 ^ 64 }
+        ensures follows { Follows self.old.follower self.new.follower }
+        ensures went { (left : List ℕ) × Went (Worked self.old.session result self.old self.new) (concat frames.now) left × (result ≡ None → left ≡ []) }
+        ensures within { IsWithin self.new.counts }
+        ensures room { self.new.counts.frames ≤ self.old.counts.frames + length frames.now }
+        ensures going { result ≡ None → self.new.session ≡ self.old.session }
+        ensures early { IfSome result (λ c. stretch_of (Some c) ≡ early) }
+    {
+        for frame in frames {
+            if let Some(cause) = self.go(rt, alloc, line, window, frame.as_slice()) {
+                return Some(cause);
+            }
+        }
+        None
+    }
+
+    /// Works the frames at the front of what is held, and keeps what is left.
+    pub fn work_held<W: Write, S: Wait>(
+        &mut self,
+        rt: &S,
+        alloc: Global,
+        line: &Line<W>,
+        window: &Window,
+        held: &mut Vec<u8>,
+    ) -> Option<Cause>
+        requires bound { IsBound self.old.session }
+        requires own { self.old.follower.now.window ≡ window.now }
+        requires within { IsWithin self.old.counts }
+        requires room { self.old.counts.frames + length held.old.items < 2 ^ 64 }
+        ensures follows { Follows self.old.follower self.new.follower }
+        ensures went { Went (Worked self.old.session result self.old self.new) held.old.items held.new.items }
+        ensures leaves { Leaves (stretch_of result) held.new.items held.new.items }
+        ensures within { IsWithin self.new.counts }
+        ensures room { self.new.counts.frames + length held.new.items ≤ self.old.counts.frames + length held.old.items }
+        ensures short { result ≡ None → length held.new.items < 70000 }
+        ensures going { result ≡ None → self.new.session ≡ self.old.session }
+        ensures cause { (result ≢ Some Ended) × (result ≢ Some ReadFault) }
+    {
+        let (used, ended) = self.work_stream(rt, alloc, line, window, held.as_slice());
+        drop_front(held, used);
+        if let Some(cause) = ended {
+            return Some(cause);
+        }
+        if is_bad(held.as_slice()) {
+            refuse_length(rt, alloc, line);
+            return Some(Cause::Lost);
+        }
+        None
+    }
+
+    /// Works the frames at the front of a stream. Gives how many octets they have, and why the reader
+    /// ends, if it does.
+    fn work_stream<W: Write, S: Wait>(
+        &mut self,
+        rt: &S,
+        alloc: Global,
+        line: &Line<W>,
+        window: &Window,
+        stream: &[u8],
+    ) -> (usize, Option<Cause>)
+        requires bound { IsBound self.old.session }
+        requires own { self.old.follower.now.window ≡ window.now }
+        requires within { IsWithin self.old.counts }
+        requires room { self.old.counts.frames + length stream.now < 2 ^ 64 }
+        ensures follows { Follows self.old.follower self.new.follower }
+        ensures used { result.0 ≤ length stream.now }
+        ensures went { Went (Worked self.old.session result.1 self.old self.new) stream.now (drop result.0 stream.now) }
+        ensures within { IsWithin self.new.counts }
+        ensures room { self.new.counts.frames ≤ self.old.counts.frames + result.0 }
+        ensures rest { result.1 ≡ None → IsRest (drop result.0 stream.now) }
+        ensures going { result.1 ≡ None → self.new.session ≡ self.old.session }
+        ensures early { IfSome result.1 (λ c. stretch_of (Some c) ≡ early) }
+    {
+        let mut left = stream;
+        while let Some(length) = first_frame(left) {
+            let (frame, after) = left.split_at(length);
+            left = after;
+            if let Some(cause) = self.go(rt, alloc, line, window, frame) {
+                return (stream.len() - left.len(), Some(cause));
+            }
+        }
+        (stream.len() - left.len(), None)
+    }
+}
+
+/// Takes octets off the front.
+fn drop_front(octets: &mut Vec<u8>, used: usize)
+    requires { used ≤ length octets.old.items }
+    ensures { octets.new.items ≡ drop used octets.old.items }
+{
+    octets.drain(..used);
+}

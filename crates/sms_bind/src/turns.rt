@@ -1,0 +1,150 @@
+//! Reading in turns.
+
+ghost use Rattle.std.specs.Prelude.{◌≡◌, ◌+◌, ◌<◌, ◌≤◌, ◌^◌, ◌++◌, [], length, None, Some};
+ghost use Rattle.std.specs.List.{concat};
+ghost use Rattle.std.specs.Io.KnownBytes.{IsAtEnd};
+ghost use Rattle.sms_pdu.specs.Frame.{IsRest};
+ghost use Rattle.sms_pdu.specs.Streams.{Reads};
+ghost use Rattle.sms_session.specs.Session.{IsBound};
+ghost use Rattle.sms_bind.specs.Deeds.{stretch_of, IsWithin};
+ghost use Rattle.sms_bind.specs.Devices.{device, faults_of};
+ghost use Rattle.sms_bind.specs.Faults.{IsCounted};
+ghost use Rattle.sms_bind.specs.Follows.{Follows};
+ghost use Rattle.sms_bind.specs.Desks.{Worked};
+ghost use Rattle.sms_bind.specs.declared.ending.Cause.TheVariants.{Ended, ReadFault};
+
+use crate::desk::Desk;
+use crate::ending::Cause;
+use crate::line::Line;
+use crate::replying::refuse_length;
+use crate::tap::{Tap, gave_nothing};
+use sms_pdu::{Frame, is_bad};
+use sms_window::Window;
+use std::alloc::Global;
+use std::io::{Read, Write};
+use std::sync::Wait;
+use std::sync::atomic::Ordering;
+
+/// The octets that one turn reads at most.
+const PIECE: usize = 65_536;
+
+impl Desk {
+    /// Works the frames that were read before, then reads in turns.
+    pub fn read<R: Read, W: Write, S: Wait>(
+        &mut self,
+        rt: &S,
+        alloc: Global,
+        reader: &mut Tap<R>,
+        frames: &[Frame],
+        rest: Vec<u8>,
+        line: &Line<W>,
+        window: &Window,
+        turns: u64,
+    ) -> Cause
+        requires turns { turns ≤ 2 ^ 40 }
+        requires bound { IsBound self.old.session }
+        requires own { self.old.follower.now.window ≡ window.now }
+        requires few { length frames.now < 2 ^ 63 }
+        requires rest { IsRest rest.items }
+        requires within { IsWithin self.old.counts }
+        requires fresh { self.old.counts.frames ≡ 0 }
+        ensures follows { Follows self.old.follower self.new.follower }
+        ensures reads { Reads (Worked self.old.session (Some result) self.old self.new) (concat frames.now ++ rest.items) (R.remaining (device reader.old)) (R.remaining (device reader.new)) (stretch_of (Some result)) [] }
+        ensures end { result ≡ Ended → IsAtEnd (R.remaining (device reader.new)) }
+        ensures fault { result ≡ ReadFault → IsCounted (faults_of reader.old) (faults_of reader.new) }
+    {
+        if let Some(cause) = self.work_all(rt, alloc, line, window, frames) {
+            return cause;
+        }
+        if is_bad(rest.as_slice()) {
+            refuse_length(rt, alloc, line);
+            return Cause::Lost;
+        }
+        self.read_turns(rt, alloc, reader, line, window, rest, turns)
+    }
+
+    /// Reads in turns, behind what is held.
+    fn read_turns<R: Read, W: Write, S: Wait>(
+        &mut self,
+        rt: &S,
+        alloc: Global,
+        reader: &mut Tap<R>,
+        line: &Line<W>,
+        window: &Window,
+        held: Vec<u8>,
+        turns: u64,
+    ) -> Cause
+        requires turns { turns ≤ 2 ^ 40 }
+        requires bound { IsBound self.old.session }
+        requires own { self.old.follower.now.window ≡ window.now }
+        requires rest { IsRest held.items }
+        requires short { length held.items < 70000 }
+        requires within { IsWithin self.old.counts }
+        requires room { self.old.counts.frames < 2 ^ 63 }
+        ensures follows { Follows self.old.follower self.new.follower }
+        ensures reads { Reads (Worked self.old.session (Some result) self.old self.new) held.items (R.remaining (device reader.old)) (R.remaining (device reader.new)) (stretch_of (Some result)) [] }
+        ensures end { result ≡ Ended → IsAtEnd (R.remaining (device reader.new)) }
+        ensures fault { result ≡ ReadFault → IsCounted (faults_of reader.old) (faults_of reader.new) }
+    {
+        let Ok(mut piece) = Vec::from_elem(alloc, 0u8, PIECE) else {
+            return Cause::OutOfMemory;
+        };
+        let mut held = held;
+        for _turn in 0..turns {
+            if line.stop.load(Ordering::SeqCst) {
+                return Cause::Stopped;
+            }
+            if let Some(cause) = self.turn(rt, alloc, reader, line, window, &mut piece, &mut held) {
+                return cause;
+            }
+        }
+        Cause::Turns
+    }
+
+    /// One turn: what one read gave, behind what is held, is worked.
+    fn turn<R: Read, W: Write, S: Wait>(
+        &mut self,
+        rt: &S,
+        alloc: Global,
+        reader: &mut Tap<R>,
+        line: &Line<W>,
+        window: &Window,
+        piece: &mut Vec<u8>,
+        held: &mut Vec<u8>,
+    ) -> Option<Cause>
+        requires bound { IsBound self.old.session }
+        requires own { self.old.follower.now.window ≡ window.now }
+        requires within { IsWithin self.old.counts }
+        requires piece { length piece.old.items ≡ 65536 }
+        requires rest { IsRest held.old.items }
+        requires short { length held.old.items < 70000 }
+        requires room { self.old.counts.frames + length held.old.items + 65536 < 2 ^ 64 }
+        ensures follows { Follows self.old.follower self.new.follower }
+        ensures reads { Reads (Worked self.old.session result self.old self.new) held.old.items (R.remaining (device reader.old)) (R.remaining (device reader.new)) (stretch_of result) held.new.items }
+        ensures within { IsWithin self.new.counts }
+        ensures piece { length piece.new.items ≡ 65536 }
+        ensures short { result ≡ None → length held.new.items < 70000 }
+        ensures room { result ≡ None → self.new.counts.frames + length held.new.items ≤ self.old.counts.frames + length held.old.items + 65536 }
+        ensures going { result ≡ None → self.new.session ≡ self.old.session }
+        ensures end { result ≡ Some Ended → IsAtEnd (R.remaining (device reader.new)) }
+        ensures fault { result ≡ Some ReadFault → IsCounted (faults_of reader.old) (faults_of reader.new) }
+        ensures faults { faults_of reader.old ≤ faults_of reader.new }
+    {
+        match reader.read(piece.as_mut_slice()) {
+            Ok(0) => Some(Cause::Ended),
+            Ok(n) => {
+                if held.extend_from_slice(&piece[..n]).is_err() {
+                    return Some(Cause::OutOfMemory);
+                }
+                self.work_held(rt, alloc, line, window, held)
+            }
+            Err(e) => {
+                if gave_nothing(&e) {
+                    None
+                } else {
+                    Some(Cause::ReadFault)
+                }
+            }
+        }
+    }
+}
