@@ -1,6 +1,7 @@
 pub mod Left
 pub mod ReadErrors
-pub mod Events
+pub mod Runs
+pub mod Files
 pub mod Lines
 pub mod Jobs
 pub mod Below

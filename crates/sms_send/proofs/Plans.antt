@@ -1,16 +1,17 @@
 -- The plan of a file's records, and of the texts that their messages have.
-use Rattle.std.proofs.Common.{◌≡◌, ◌≤◌, ◌<◌, ◌∙◌, sym, refl, ap, ℕ, ◌+◌, List, [], ◌∷◌, ◌++◌, length, map, Option, IfSome, codes, subst, Result, Ok, Err}
-use Rattle.std.specs.Prelude.{string_bytes, OnOk, is_ok, if◌then◌else◌}
+use Rattle.std.proofs.Common.{◌≡◌, ◌≤◌, ◌<◌, ◌∙◌, sym, refl, ap, ap₂, ℕ, ◌+◌, List, [], ◌∷◌, ◌++◌, length, map, Option, IfSome, codes, subst, Result, Ok, Err}
+use Rattle.std.specs.List.{AllZip}
+use Rattle.std.specs.Prelude.{OnOk, is_ok, if◌then◌else◌}
 use Rattle.std.proofs.lemmas.Bool.{le-leb, lt-leb}
 use Rattle.sms_alphabet.specs.declared.coded.Coded.{Coded}
 use Rattle.sms_segment.specs.declared.part.Part.{Part}
 use Rattle.sms_segment.specs.declared.place.Reference.{Reference}
 use Rattle.sms_segment.specs.Message.{parts_of}
 use Rattle.sms_send.specs.Fields.{Record, records_of}
-use Rattle.sms_send.specs.Messages.{AreMessages, record_of}
-use Rattle.sms_send.specs.PlanText.{counted_text, cutting_text, message_lines, message_plan, plan_of, plan_text, text_line, text_lines, text_of}
-use Rattle.sms_send.specs.declared.messages.Message.{Message}
-use Rattle.sms_send.proofs.Events.{if_known, at_known}
+use Rattle.sms_send.specs.Messages.{AreTexts, HasText, text_of}
+use Rattle.sms_send.specs.PlanText.{counted_text, cutting_text, message_lines, message_plan, plan_of, text_line, text_lines}
+use Rattle.sms_send.specs.declared.messages.MessageText.{MessageText}
+use Rattle.sms_send.proofs.Runs.{if_known, at_known}
 
 -- what was pushed, if it was
 pub pushed : {T E : Type 0} (r : Result T E) (new old s t : List ℕ) → new ≡ (if is_ok r then (old ++ s) else old) → s ≡ t → OnOk r (new ≡ old ++ t)
@@ -30,17 +31,19 @@ pub cut-long : (reference : Reference) (coded : Coded) → 255 < length (parts_o
 cut-long reference coded long = rw (lt-leb _ _ long) refl
 
 -- the texts of the records are those of the messages
-lines-are : (reference : Reference) (index : ℕ) (ms : List Message) → text_lines reference index (map text_of (map record_of ms)) ≡ message_lines reference index ms
-lines-are reference index [] = refl
-lines-are reference index (m ∷ ms) = ap (λ (more : List ℕ). text_line reference index (string_bytes m.text) ++ more) (lines-are reference (index + 1) ms)
+lines-are : (reference : Reference) (index : ℕ) (rs : List Record) (ms : List MessageText) → AllZip HasText rs ms → text_lines reference index (map text_of rs) ≡ message_lines reference index ms
+lines-are reference index [] [] h = refl
+lines-are reference index [] (m ∷ ms) h = absurd h
+lines-are reference index (r ∷ rs) [] h = absurd h
+lines-are reference index (r ∷ rs) (m ∷ ms) h =
+    ap₂ (λ (text : List ℕ) (more : List ℕ). text_line reference index text ++ more) (sym h.0) (lines-are reference (index + 1) rs ms h.1)
 
-plan-is : (reference : Reference) (rs : List Record) (ms : List Message) → AreMessages rs ms → plan_of reference rs ≡ message_plan reference ms
+plan-is : (reference : Reference) (rs : List Record) (ms : List MessageText) → AreTexts rs ms → plan_of reference rs ≡ message_plan reference ms
 plan-is reference [] ms h = absurd h
-plan-is reference (r ∷ rs) ms h =
-    ap (λ (more : List Record). plan_text reference (map text_of more)) (sym h.1) ∙ ap (λ (lines : List ℕ). codes "message,coding,units,parts,sizes\n" ++ lines) (lines-are reference 0 ms)
+plan-is reference (r ∷ rs) ms h = ap (λ (lines : List ℕ). codes "message,coding,units,parts,sizes\n" ++ lines) (lines-are reference 0 rs ms h.1)
 
 -- what holds of the plan of the messages holds of that of the records
-pub plan-written : (P : List ℕ → Type 0) (reference : Reference) (o : Option (List ℕ)) (ms : List Message) (text : List ℕ) → IfSome o (λ bytes. AreMessages (records_of bytes) ms) → text ≡ message_plan reference ms
+pub plan-written : (P : List ℕ → Type 0) (reference : Reference) (o : Option (List ℕ)) (ms : List MessageText) (text : List ℕ) → IfSome o (λ bytes. AreTexts (records_of bytes) ms) → text ≡ message_plan reference ms
     → P text → IfSome o (λ bytes. P (plan_of reference (records_of bytes)))
 plan-written P reference o ms text are e h = if_known o (λ bytes. P (plan_of reference (records_of bytes))) (λ bytes known.
-    subst P (e ∙ sym (plan-is reference (records_of bytes) ms (at_known o (λ b. AreMessages (records_of b) ms) bytes are known))) h)
+    subst P (e ∙ sym (plan-is reference (records_of bytes) ms (at_known o (λ b. AreTexts (records_of b) ms) bytes are known))) h)

@@ -1,15 +1,16 @@
--- A schedule, from its first record and the records after it.
-use Rattle.std.proofs.Common.{◌≡◌, ◌∙◌, refl, ap, ℕ, ◌≤◌, inl, inr, Bool, true, false, List, ◌∷◌, length, Option, Some, None, IfSome, arith}
+-- The worlds and events that the records of a schedule stand for.
+use Rattle.std.proofs.Common.{◌≡◌, sym, refl, ℕ, ◌≤◌, inl, inr, Bool, true, false, List, Option, Some, None, IfSome, arith}
 use Rattle.std.specs.Prelude.{◌&&◌, nat_le, option_map}
 use Rattle.std.proofs.lemmas.Bool.Decides.{nat_tests}
 use Rattle.sms_core.specs.declared.event.Event.{Event}
 use Rattle.sms_core.specs.State.{State, AreLimits, new_world}
 use Rattle.sms_send.specs.Fields.{Record, records_of}
-use Rattle.sms_send.specs.Records.{GivesFirst}
-use Rattle.sms_send.specs.Schedule.{AreEvents, AreSchedule, TellsEvents, TellsSchedule, TellsWorld, are_limits, event_fault, limits_of, most_events, schedule_fault, world_of}
+use Rattle.sms_send.specs.Records.{GivesFirst, IsReadAs, TellsRecords}
+use Rattle.sms_send.specs.Schedule.{Spells, TellsWorld, are_limits, event_of, is_event, is_world, limits_of, most_events, schedule_fault, world_of}
 use Rattle.sms_send.specs.declared.fault.Fault.{Fault}
-use Rattle.sms_send.specs.declared.fault.Fault.TheVariants.{ScheduleRecord}
-use Rattle.sms_send.proofs.Events.{first-found, none-found}
+use Rattle.sms_send.specs.declared.fault.Source.TheVariants.{Schedule}
+use Rattle.sms_send.proofs.Files.{bad-first}
+use Rattle.sms_send.proofs.Runs.{if_known}
 
 both : (a b : Bool) → (a && b) ≡ true → (a ≡ true) × (b ≡ true)
 both true b h = (refl, h)
@@ -47,53 +48,24 @@ world-made r a l t w e h m = let good = limits-good a l t h in rw (e, good, m) r
 pub world-refused : (r : Record) (a l t : ℕ) → limits_of r ≡ Some (a, l, t) → ¬ AreLimits a l t → world_of r ≡ None
 world-refused r a l t e h = let bad = limits-bad a l t h in rw (e, bad) refl
 
--- the whole input, from what was read
+-- a world stands in the first record, or none
+pub sets-up : (r : Record) (w : State) → world_of r ≡ Some w → is_world r ≡ true
+sets-up r w e = rw e refl
 
-pub no-record : (o : Option (List ℕ)) (left : Option (List Record)) (found : Bool) (r : Record) (after : Option (List Record))
-    → left ≡ option_map records_of o → IfSome left (λ rs. GivesFirst rs found r after) → found ≡ false
-    → IfSome o (λ bytes. TellsSchedule (records_of bytes) (ScheduleRecord 1))
-no-record None left found r after whole h e = tt
-no-record (Some bytes) left found r after whole h e =
-    inr (1, refl, ap schedule_fault (none-found (records_of bytes) found r after (rw whole at h) e))
+pub sets-none : (r : Record) → world_of r ≡ None → is_world r ≡ false
+sets-none r e = rw e refl
 
+-- a fault of the first record is one of the schedule
 pub bad-world : (o : Option (List ℕ)) (left : Option (List Record)) (found : Bool) (r : Record) (after : Option (List Record)) (f : Fault)
     → left ≡ option_map records_of o → IfSome left (λ rs. GivesFirst rs found r after) → found ≡ true → TellsWorld r f
-    → IfSome o (λ bytes. TellsSchedule (records_of bytes) f)
-bad-world None left found r after f whole h e tells = tt
-bad-world (Some bytes) left found r after f whole h e (inl memory) = inl (inr memory)
-bad-world (Some bytes) left found r after f whole h e (inr bad) =
-    let first = first-found (records_of bytes) found r after (rw whole at h) e in
-    let none : world_of r ≡ None = bad.1 in
-    let faulty : schedule_fault (r ∷ first.0) ≡ Some 1 = rw none refl in
-    inr (1, bad.0, ap schedule_fault first.1 ∙ faulty)
+    → IfSome o (λ bytes. TellsRecords Schedule (schedule_fault (records_of bytes)) f)
+bad-world o left found r after f whole h e (inl memory) =
+    if_known o (λ bytes. TellsRecords Schedule (schedule_fault (records_of bytes)) f) (λ bytes known. inl (inr memory))
+bad-world o left found r after f whole h e (inr bad) =
+    let named = bad-first Schedule is_world is_event most_events o left found r after whole h e (sets-none r bad.1) in
+    rw bad.0 named
 
-go-on : (r : Record) (rs : List Record) (w : State) → world_of r ≡ Some w → schedule_fault (r ∷ rs) ≡ event_fault 1 rs
-go-on r rs w e = rw e refl
-
-pub bad-events : (o : Option (List ℕ)) (left : Option (List Record)) (found : Bool) (r : Record) (after : Option (List Record)) (f : Fault) (w : State)
-    → left ≡ option_map records_of o → IfSome left (λ rs. GivesFirst rs found r after) → found ≡ true → world_of r ≡ Some w
-    → IfSome after (λ rs. TellsEvents rs f) → IfSome o (λ bytes. TellsSchedule (records_of bytes) f)
-bad-events None left found r after f w whole h e made tells = tt
-bad-events (Some bytes) left found r after f w whole h e made tells =
-    let first = first-found (records_of bytes) found r after (rw whole at h) e in
-    elim (rw first.2 at tells) [
-      | inl device ↦ inl device
-      | inr bad ↦ inr (bad.0, bad.1, ap schedule_fault first.1 ∙ go-on r first.0 w made ∙ bad.2)
-    ]
-
--- the records after the first are events, and no more than there may be
-abbrev pub AreRest : List Event → List Record → Type 0
-AreRest events rs = AreEvents rs events × (length events ≤ most_events) × (event_fault 1 rs ≡ None)
-
-abbrev pub IsWhole : State → List Event → List Record → Type 0
-IsWhole w events rs = AreSchedule rs w events × (schedule_fault rs ≡ None)
-
-pub whole-schedule : (o : Option (List ℕ)) (left : Option (List Record)) (found : Bool) (r : Record) (after : Option (List Record)) (w : State) (events : List Event)
-    → left ≡ option_map records_of o → IfSome left (λ rs. GivesFirst rs found r after) → found ≡ true → world_of r ≡ Some w
-    → IfSome after (AreRest events) → IfSome o (λ bytes. IsWhole w events (records_of bytes))
-whole-schedule None left found r after w events whole h e made rest = tt
-whole-schedule (Some bytes) left found r after w events whole h e made rest =
-    let first = first-found (records_of bytes) found r after (rw whole at h) e in
-    let good = rw first.2 at rest in
-    let split : IsWhole w events (r ∷ first.0) = ((made, good.0, good.1), go-on r first.0 w made ∙ good.2) in
-    rw first.1 split
+-- an event that a record spells, or none
+pub event-read : (r : Record) (o : Option Event) → o ≡ event_of r → IsReadAs is_event Spells r o
+event-read r None e = rw (← e) refl
+event-read r (Some event) e = (rw (← e) refl, sym e)

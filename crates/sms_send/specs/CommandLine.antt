@@ -7,7 +7,7 @@ use Rattle.clap.specs.declared.builder.action.ArgAction.TheVariants.{SetTrue}
 use Rattle.clap.specs.declared.error.kind.ErrorKind.{ErrorKind}
 use Rattle.clap.specs.declared.error.kind.ErrorKind.TheVariants as kind
 use Rattle.sms_send.specs.declared.fault.Fault.{Fault}
-use Rattle.sms_send.specs.declared.fault.Fault.TheVariants.{Words, Help, OutOfMemory}
+use Rattle.sms_send.specs.declared.fault.Fault.TheVariants.{Words, Help, Version, OutOfMemory}
 use Rattle.sms_send.specs.declared.job.Job.{Job}
 use Rattle.sms_send.specs.declared.job.Job.TheVariants.{Plan, Replay}
 
@@ -25,12 +25,15 @@ long_rule = record (new_rule (codes "long")) { long = Some (codes "long"); actio
 abbrev pub plan_line : App
 plan_line = with_rule (with_rule (new_app (codes "plan")) messages_rule) long_rule
 
--- no word, or a subcommand; the program's own name is not among the words
-abbrev pub command_line : App
-command_line =
+-- the program before its subcommands: it has a version, and its own name is not among the words
+abbrev pub program_line : App
+program_line =
     let plain = new_app (codes "sms-send") in
-    let top = record plain { top = record plain.top { no_binary_name = true } } in
-    with_subcommand (with_subcommand top replay_line.top) plan_line.top
+    record plain { top = record plain.top { no_binary_name = true; has_version = true } }
+
+-- no word, or a subcommand
+abbrev pub command_line : App
+command_line = with_subcommand (with_subcommand program_line replay_line.top) plan_line.top
 
 -- the subcommand and its matches that the parser reads from the words
 abbrev pub subcommand_in : List Text → Option (Text × List Row)
@@ -88,10 +91,11 @@ TellsName found Words = LacksName found
 TellsName found OutOfMemory = Unit {0}
 TellsName found _ = ⊥
 
--- what a fault says of the words that the parser refuses: help was asked for, or not
+-- what a fault says of the words that the parser refuses: help or the version was asked for, or neither
 abbrev pub TellsRefusal : Kinds → Fault → Type 0
 TellsRefusal kinds (Help text) = IsAmong kind.DisplayHelp kinds
-TellsRefusal kinds Words = (k : ErrorKind) × (k ≢ kind.DisplayHelp) × IsAmong k kinds
+TellsRefusal kinds (Version text) = IsAmong kind.DisplayVersion kinds
+TellsRefusal kinds Words = (k : ErrorKind) × (k ≢ kind.DisplayHelp) × (k ≢ kind.DisplayVersion) × IsAmong k kinds
 TellsRefusal kinds OutOfMemory = Unit {0}
 TellsRefusal kinds _ = ⊥
 

@@ -1,13 +1,12 @@
 -- A messages file: a header, and a record for each message with its account, source, destination and text.
-use Rattle.std.specs.Prelude.{◌≡◌, ◌⊎◌, ℕ, ◌+◌, ◌==◌, ◌&&◌, nat_le, Bool, false, true, List, [], ◌∷◌, length, map, Option, Some, None, option_and_then, if◌then◌else◌, codes, string_bytes}
+use Rattle.std.specs.Prelude.{◌≡◌, ℕ, ◌==◌, ◌&&◌, Bool, false, true, List, [], ◌∷◌, length, Option, Some, None, option_and_then, if◌then◌else◌, codes, string_bytes}
+use Rattle.std.specs.List.{AllZip}
 use Rattle.std.specs.Str.{bytes_eq, is_utf8}
 use Rattle.csv.specs.Records.{field_at}
 use Rattle.sms_send.specs.Fields.{Field, Record}
-use Rattle.sms_send.specs.Faults.{IsDevice}
-use Rattle.sms_send.specs.declared.fault.Fault.{Fault}
-use Rattle.sms_send.specs.declared.fault.Fault.TheVariants.{MessagesRecord}
-use Rattle.sms_send.specs.declared.fault.Source.TheVariants.{Messages}
-use Rattle.sms_send.specs.declared.messages.Message.{Message}
+use Rattle.sms_send.specs.Records.{file_fault}
+use Rattle.sms_send.specs.declared.messages.MessageRecord.{MessageRecord}
+use Rattle.sms_send.specs.declared.messages.MessageText.{MessageText}
 
 -- how many messages a file has at the most
 abbrev pub most_messages : ℕ
@@ -43,34 +42,28 @@ are_texts (field ∷ fields) = is_utf8 field && are_texts fields
 abbrev pub is_message : Record → Bool
 is_message r = length r == 4 && are_texts r
 
--- the record of a message
-abbrev pub record_of : Message → Record
-record_of m = string_bytes m.account ∷ (string_bytes m.source ∷ (string_bytes m.destination ∷ (string_bytes m.text ∷ [])))
-
--- the number, from 1, of the first record that is no message or is one too many, where so many records stand before
-abbrev pub message_fault : ℕ → List Record → Option ℕ
-message_fault before [] = None
-message_fault before (r ∷ rs) = if nat_le before most_messages && is_message r then message_fault (before + 1) rs else Some (before + 1)
-
--- the number, from 1, of the first record that may not stand where it stands; a messages file has a header
+-- the number, from 1, of the first record that may not stand where it stands
 abbrev pub messages_fault : List Record → Option ℕ
-messages_fault [] = Some 1
-messages_fault (r ∷ rs) = if is_header r then message_fault 1 rs else Some 1
+messages_fault = file_fault is_header is_message most_messages
+
+-- the record of a message
+abbrev pub record_of : MessageRecord → Record
+record_of m = m.account.now ∷ (m.source.now ∷ (m.destination.now ∷ (m.text.now ∷ [])))
 
 -- the record is one of a message, which this is; or it is none
-abbrev pub IsMessage : Record → Option Message → Type 0
+abbrev pub IsMessage : Record → Option MessageRecord → Type 0
 IsMessage r None = is_message r ≡ false
 IsMessage r (Some m) = (is_message r ≡ true) × (record_of m ≡ r)
 
--- the records are a messages file of these messages
-abbrev pub AreMessages : List Record → List Message → Type 0
-AreMessages [] ms = ⊥
-AreMessages (r ∷ rs) ms = (messages_fault (r ∷ rs) ≡ None) × (map record_of ms ≡ rs)
+-- the text of a message's record
+abbrev pub text_of : Record → Field
+text_of (account ∷ (source ∷ (destination ∷ (text ∷ more)))) = text
+text_of fields = []
 
--- what a fault says of the records after the header: the record that it names is the first faulty one
-abbrev pub TellsRest : List Record → Fault → Type 0
-TellsRest rs f = IsDevice Messages f ⊎ ((place : ℕ) × (f ≡ MessagesRecord place) × (message_fault 1 rs ≡ Some place))
+abbrev pub HasText : Record → MessageText → Type 0
+HasText r m = string_bytes m.text ≡ text_of r
 
--- the same of all records
-abbrev pub TellsMessages : List Record → Fault → Type 0
-TellsMessages rs f = IsDevice Messages f ⊎ ((place : ℕ) × (f ≡ MessagesRecord place) × (messages_fault rs ≡ Some place))
+-- the records are a messages file of these texts
+abbrev pub AreTexts : List Record → List MessageText → Type 0
+AreTexts [] ms = ⊥
+AreTexts (r ∷ rs) ms = (messages_fault (r ∷ rs) ≡ None) × AllZip HasText rs ms

@@ -1,5 +1,5 @@
 -- What plan prints: how the text of each message is coded and cut.
-use Rattle.std.specs.Prelude.{◌≡◌, ◌⊎◌, Bool, true, false, ℕ, ◌+◌, nat_le, List, [], ◌∷◌, ◌++◌, length, map, None, if◌then◌else◌, codes, decimal, flat_map, string_bytes}
+use Rattle.std.specs.Prelude.{Bool, true, false, ℕ, ◌+◌, nat_le, List, [], ◌∷◌, ◌++◌, length, map, if◌then◌else◌, codes, decimal, flat_map, string_bytes}
 use Rattle.std.specs.Str.{chars}
 use Rattle.sms_alphabet.specs.declared.coded.Coded.{Coded}
 use Rattle.sms_alphabet.specs.declared.coded.Coding.{Coding}
@@ -9,11 +9,12 @@ use Rattle.sms_segment.specs.declared.part.Part.{Part}
 use Rattle.sms_segment.specs.declared.place.Reference.{Reference}
 use Rattle.sms_segment.specs.declared.place.Reference.TheVariants.{Short, Long}
 use Rattle.sms_segment.specs.Message.{parts_of}
+use Rattle.sms_send.specs.Fields.{Record}
+use Rattle.sms_send.specs.Messages.{messages_fault, text_of}
+use Rattle.sms_send.specs.Records.{TellsFile}
 use Rattle.sms_send.specs.declared.fault.Fault.{Fault}
-use Rattle.sms_send.specs.declared.fault.Fault.TheVariants.{Output}
-use Rattle.sms_send.specs.declared.messages.Message.{Message}
-use Rattle.sms_send.specs.Fields.{Field, Record}
-use Rattle.sms_send.specs.Messages.{TellsMessages, messages_fault}
+use Rattle.sms_send.specs.declared.fault.Source.TheVariants.{Messages}
+use Rattle.sms_send.specs.declared.messages.MessageText.{MessageText}
 
 -- the most parts that a header can count
 abbrev pub most_parts : ℕ
@@ -67,17 +68,12 @@ abbrev pub plan_text : Reference → List (List ℕ) → List ℕ
 plan_text reference texts = codes "message,coding,units,parts,sizes\n" ++ text_lines reference 0 texts
 
 -- the same of messages
-abbrev pub message_lines : Reference → ℕ → List Message → List ℕ
+abbrev pub message_lines : Reference → ℕ → List MessageText → List ℕ
 message_lines reference index [] = []
 message_lines reference index (m ∷ ms) = text_line reference index (string_bytes m.text) ++ message_lines reference (index + 1) ms
 
-abbrev pub message_plan : Reference → List Message → List ℕ
+abbrev pub message_plan : Reference → List MessageText → List ℕ
 message_plan reference ms = codes "message,coding,units,parts,sizes\n" ++ message_lines reference 0 ms
-
--- the text of a message's record
-abbrev pub text_of : Record → Field
-text_of (account ∷ (source ∷ (destination ∷ (text ∷ more)))) = text
-text_of fields = []
 
 -- what plan prints of a file's records, of which the first is the header
 abbrev pub plan_of : Reference → List Record → List ℕ
@@ -86,4 +82,4 @@ plan_of reference (header ∷ rs) = plan_text reference (map text_of rs)
 
 -- the record that a fault names is the first faulty one; where the output failed, none was
 abbrev pub TellsPlan : List Record → Fault → Type 0
-TellsPlan rs f = TellsMessages rs f ⊎ ((f ≡ Output) × (messages_fault rs ≡ None))
+TellsPlan rs = TellsFile Messages (messages_fault rs)

@@ -1,5 +1,5 @@
 -- What a replay is: the world's steps over the events of the schedule that the input's bytes spell, printed.
-use Rattle.std.specs.Prelude.{◌≡◌, ℕ, List, Option, Some, None}
+use Rattle.std.specs.Prelude.{ℕ, List, Option}
 use Rattle.std.specs.Io.KnownBytes.{Appends}
 use Rattle.sms_core.specs.declared.event.Event.{Event}
 use Rattle.sms_core.specs.declared.event.Step.{Step}
@@ -7,10 +7,10 @@ use Rattle.sms_core.specs.Histories.{Runs}
 use Rattle.sms_core.specs.State.{State}
 use Rattle.sms_send.specs.Fields.{Record, records_of}
 use Rattle.sms_send.specs.Output.{WritesFront}
+use Rattle.sms_send.specs.Records.{TellsFile}
 use Rattle.sms_send.specs.Schedule.{AreSchedule, schedule_fault}
 use Rattle.sms_send.specs.Text.{replay_text}
 use Rattle.sms_send.specs.declared.fault.Fault.{Fault}
-use Rattle.sms_send.specs.declared.fault.Fault.TheVariants.{Unreadable, ScheduleRecord, Output, OutOfMemory}
 use Rattle.sms_send.specs.declared.fault.Source.TheVariants.{Schedule}
 
 -- the input spells a schedule, and this holds of the text of its events' answers and of the world after them
@@ -30,8 +30,4 @@ ReplaysFront bytes old new = OfReplay (WritesFront old new) bytes
 -- what a fault of a replay says of the input: a record that it names is the first that may not stand where it stands, and only the
 -- output of a schedule can fail
 abbrev pub TellsReplay : List Record → Fault → Type 0
-TellsReplay rs (ScheduleRecord place) = schedule_fault rs ≡ Some place
-TellsReplay rs Output = schedule_fault rs ≡ None
-TellsReplay rs (Unreadable source) = source ≡ Schedule
-TellsReplay rs OutOfMemory = Unit {0}
-TellsReplay rs _ = ⊥
+TellsReplay rs = TellsFile Schedule (schedule_fault rs)

@@ -1,5 +1,6 @@
 -- A schedule: a first record that sets a world up, and a record for each event.
-use Rattle.std.specs.Prelude.{◌≡◌, ◌≤◌, ◌⊎◌, ℕ, ◌+◌, ◌==◌, ◌&&◌, map, nat_le, Bool, List, [], ◌∷◌, length, Option, Some, None, is_some, option_map, option_and_then, if◌then◌else◌, codes}
+use Rattle.std.specs.Prelude.{◌≡◌, ◌≤◌, ◌⊎◌, ℕ, ◌==◌, ◌&&◌, nat_le, Bool, List, [], ◌∷◌, length, Option, Some, None, is_some, option_map, option_and_then, if◌then◌else◌, codes}
+use Rattle.std.specs.List.{AllZip}
 use Rattle.std.specs.Str.{bytes_eq}
 use Rattle.csv.specs.Records.{field_at}
 use Rattle.sms_core.specs.declared.event.Event.{Event}
@@ -7,9 +8,9 @@ use Rattle.sms_core.specs.declared.event.Event.TheVariants.{TopUp, Reserve, Clai
 use Rattle.sms_core.specs.Limits.{most_accounts, most_slots, most_attempts}
 use Rattle.sms_core.specs.State.{State, new_world}
 use Rattle.sms_send.specs.Fields.{Record, number_at}
-use Rattle.sms_send.specs.Faults.{IsDevice}
+use Rattle.sms_send.specs.Records.{file_fault}
 use Rattle.sms_send.specs.declared.fault.Fault.{Fault}
-use Rattle.sms_send.specs.declared.fault.Fault.TheVariants.{OutOfMemory, ScheduleRecord}
+use Rattle.sms_send.specs.declared.fault.Fault.TheVariants.{BadRecord, OutOfMemory}
 use Rattle.sms_send.specs.declared.fault.Source.TheVariants.{Schedule}
 
 -- the greatest numbers of a field's type; a flag is 0 or 1
@@ -55,19 +56,28 @@ two event most r = option_map (λ n. event n.0 n.1) (two_numbers most r)
 abbrev pub three : (ℕ → ℕ → ℕ → Event) → ℕ → Form
 three event most r = option_map (λ n. event n.0 n.1 n.2) (three_numbers most r)
 
--- the forms of the events, by the record's first field
+-- an answer, of which the last number says whether it is a generic_nack
+abbrev pub respond_form : Form
+respond_form = three (λ number status nack. Respond number status (nack == 1)) most_flag
+
+-- the forms of the events of a worker at a slot, by the record's first field
+abbrev pub slot_forms : List (List ℕ × Form)
+slot_forms =
+    (codes "claim", two Claim most_u32)
+    ∷ (codes "settle", two Settle most_u32)
+    ∷ (codes "expire", two Expire most_u32)
+    ∷ (codes "release", two Release most_u32)
+    ∷ []
+
+-- the forms of all events
 abbrev pub forms : List (List ℕ × Form)
 forms =
     (codes "topup", two TopUp most_u64)
     ∷ (codes "reserve", three Reserve most_u32)
-    ∷ (codes "claim", two Claim most_u32)
     ∷ (codes "post", three Post most_u32)
-    ∷ (codes "respond", three (λ number status nack. Respond number status (nack == 1)) most_flag)
-    ∷ (codes "settle", two Settle most_u32)
-    ∷ (codes "expire", two Expire most_u32)
+    ∷ (codes "respond", respond_form)
     ∷ (codes "discard", one Discard)
-    ∷ (codes "release", two Release most_u32)
-    ∷ []
+    ∷ slot_forms
 
 -- what the first form of that word makes of a record
 abbrev pub made_by : List (List ℕ × Form) → List ℕ → Record → Option Event
@@ -90,33 +100,26 @@ limits_of r = option_and_then (λ word. if bytes_eq word (codes "world") then th
 abbrev pub world_of : Record → Option State
 world_of r = option_and_then (λ n. if are_limits n then Some (new_world n.0 n.1 n.2) else None) (limits_of r)
 
--- the number, from 1, of the first record that is no event or is one too many, where so many records stand before
-abbrev pub event_fault : ℕ → List Record → Option ℕ
-event_fault before [] = None
-event_fault before (r ∷ rs) = if nat_le before most_events && is_some (event_of r) then event_fault (before + 1) rs else Some (before + 1)
+-- the record spells an event; and this one
+abbrev pub is_event : Record → Bool
+is_event r = is_some (event_of r)
 
--- the number, from 1, of the first record that may not stand where it stands; a schedule has a first record
+abbrev pub Spells : Record → Event → Type 0
+Spells r event = event_of r ≡ Some event
+
+-- the record sets a world up
+abbrev pub is_world : Record → Bool
+is_world r = is_some (world_of r)
+
+-- the number, from 1, of the first record that may not stand where it stands
 abbrev pub schedule_fault : List Record → Option ℕ
-schedule_fault [] = Some 1
-schedule_fault (r ∷ rs) = if is_some (world_of r) then event_fault 1 rs else Some 1
+schedule_fault = file_fault is_world is_event most_events
 
--- the records spell these events, one each
-abbrev pub AreEvents : List Record → List Event → Type 0
-AreEvents rs events = map event_of rs ≡ map Some events
-
--- the records are a schedule of this world and these events
+-- the records are a schedule of this world and these events, one of each record after the first
 abbrev pub AreSchedule : List Record → State → List Event → Type 0
 AreSchedule [] w events = ⊥
-AreSchedule (r ∷ rs) w events = (world_of r ≡ Some w) × AreEvents rs events × (length events ≤ most_events)
-
--- what a fault says of the records after the first: the record that it names is the first faulty one
-abbrev pub TellsEvents : List Record → Fault → Type 0
-TellsEvents rs f = IsDevice Schedule f ⊎ ((place : ℕ) × (f ≡ ScheduleRecord place) × (event_fault 1 rs ≡ Some place))
+AreSchedule (r ∷ rs) w events = (world_of r ≡ Some w) × AllZip Spells rs events × (length events ≤ most_events)
 
 -- what a fault says of the first record
 abbrev pub TellsWorld : Record → Fault → Type 0
-TellsWorld r f = (f ≡ OutOfMemory) ⊎ ((f ≡ ScheduleRecord 1) × (world_of r ≡ None))
-
--- what a fault says of a schedule's records: the record that it names is the first faulty one
-abbrev pub TellsSchedule : List Record → Fault → Type 0
-TellsSchedule rs f = IsDevice Schedule f ⊎ ((place : ℕ) × (f ≡ ScheduleRecord place) × (schedule_fault rs ≡ Some place))
+TellsWorld r f = (f ≡ OutOfMemory) ⊎ ((f ≡ BadRecord Schedule 1) × (world_of r ≡ None))

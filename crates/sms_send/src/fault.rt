@@ -37,14 +37,14 @@ pub enum Fault {
     Words,
     /// Help was asked for, and this is the parser's text.
     Help(String),
+    /// The version was asked for, and this is the parser's text.
+    Version(String),
     /// The file of this name can't be opened.
     File(String),
     /// What was opened can't be read.
     Unreadable(Source),
-    /// The record of the schedule, counted from 1, isn't one that may stand there.
-    ScheduleRecord(usize),
-    /// The record of the messages file, counted from 1, isn't one that may stand there.
-    MessagesRecord(usize),
+    /// The record of a file, counted from 1, isn't one that may stand there.
+    BadRecord(Source, usize),
     /// What is to be printed can't be written.
     Output,
     /// Memory was refused.
@@ -61,10 +61,10 @@ impl fmt::Display for Fault {
         match self {
             Fault::Words => write!(f, "fault: words"),
             Fault::Help(text) => write!(f, "{text}"),
+            Fault::Version(text) => write!(f, "{text}"),
             Fault::File(name) => write!(f, "fault: file {name}"),
             Fault::Unreadable(source) => write!(f, "fault: file {source}"),
-            Fault::ScheduleRecord(place) => write!(f, "fault: schedule record {place}"),
-            Fault::MessagesRecord(place) => write!(f, "fault: messages record {place}"),
+            Fault::BadRecord(source, place) => write!(f, "fault: {source} record {place}"),
             Fault::Output => write!(f, "fault: output"),
             Fault::OutOfMemory => write!(f, "fault: out of memory"),
         }
@@ -80,7 +80,7 @@ impl Fault {
     {
         match self {
             Fault::Words => 2,
-            Fault::Help(_) => 0,
+            Fault::Help(_) | Fault::Version(_) => 0,
             _ => 1,
         }
     }

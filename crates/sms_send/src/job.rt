@@ -3,13 +3,19 @@
 ghost use Rattle.std.specs.Prelude.{◌≡◌, ◌≢◌, ◌↔◌, [], false, IfErr, IfOk, OnOk, map, string_bytes};
 ghost use Rattle.clap.specs.Words.{HasKind, Kinds, app_of, first_of, found_of, kind_of, rows_of, subcommand_rows_of};
 ghost use Rattle.clap.specs.declared.builder.Command.TheViews.{out-Command as fields_of};
-ghost use Rattle.sms_send.specs.CommandLine.{IsJob, TellsName, TellsRefusal, TellsWords, bytes_of, file_named, command_line as words_allowed, is_set, plan_line, refusals_of, subcommand_in};
+ghost use Rattle.sms_send.specs.CommandLine.{IsJob, TellsName, TellsRefusal, TellsWords, bytes_of, file_named, command_line as words_allowed, is_set, plan_line, program_line, refusals_of, subcommand_in};
 ghost use Rattle.sms_send.specs.declared.fault.Fault.TheVariants.{OutOfMemory, Words};
 
 use crate::fault::Fault;
 use clap::error::ErrorKind;
 use clap::{Arg, ArgAction, ArgMatches, Command, Error};
 use std::alloc::{AllocError, Global};
+
+/// The program's name, as its help and version have it.
+const NAME: &str = "sms-send";
+
+/// The program's version.
+const VERSION: &str = "0.1.0";
 
 /// What the program is asked to do.
 #[derive(Debug, Drop)]
@@ -42,14 +48,22 @@ fn command_line<'a>(alloc: Global) -> Result<Command<'a>, AllocError>
     let replay = Command::new(alloc, "replay")
         .about("Replays a schedule of events and prints what became of each")
         .arg(file)?;
-    let top = Command::new(alloc, "sms-send")
+    let top = program_command(alloc)?.subcommand(replay)?;
+    let plan = plan_command(alloc)?;
+    top.subcommand(plan)
+}
+
+/// What the parser is told of the program before its subcommands.
+fn program_command<'a>(alloc: Global) -> Result<Command<'a>, AllocError>
+    ensures { IfOk result (λ command. app_of command ≡ program_line) }
+{
+    Command::new(alloc, NAME)
         .about(
             "Sends prepaid short messages over SMPP 3.4; with no words it replays the schedule on standard input",
         )
+        .version(VERSION)
         .no_binary_name(true)
-        .subcommand(replay)?;
-    let plan = plan_command(alloc)?;
-    top.subcommand(plan)
+        .bin_name(NAME)
 }
 
 /// What the parser is told of `plan`.
@@ -122,12 +136,16 @@ fn file_of(alloc: Global, name: &str) -> Result<Option<String>, AllocError>
 fn fault_of(alloc: Global, error: &Error) -> Fault
     ensures refused { (kinds : Kinds) → HasKind kinds error.now → TellsRefusal kinds result }
     ensures memory { kind_of error.now ≡ ErrorKind.OutOfMemory → result ≡ OutOfMemory }
-    ensures words { (result ≡ Words) ↔ ((kind_of error.now ≢ ErrorKind.OutOfMemory) × (kind_of error.now ≢ ErrorKind.DisplayHelp)) }
+    ensures words { (result ≡ Words) ↔ ((kind_of error.now ≢ ErrorKind.OutOfMemory) × (kind_of error.now ≢ ErrorKind.DisplayHelp) × (kind_of error.now ≢ ErrorKind.DisplayVersion)) }
 {
     match error.kind() {
         ErrorKind::OutOfMemory => Fault::OutOfMemory,
         ErrorKind::DisplayHelp => match error.to_string(alloc) {
             Ok(text) => Fault::Help(text),
+            Err(_) => Fault::OutOfMemory,
+        },
+        ErrorKind::DisplayVersion => match error.to_string(alloc) {
+            Ok(text) => Fault::Version(text),
             Err(_) => Fault::OutOfMemory,
         },
         _ => Fault::Words,

@@ -92,10 +92,10 @@ fn open<R: Files>(rt: &R, name: String) -> Result<R::File, Fault>
     }
 }
 
-/// Tells a fault in one line on standard error, and help on standard output.
+/// Tells a fault in one line on standard error, and help or the version on standard output.
 fn tell<R: Eprint + Print>(rt: &R, fault: &Fault) -> io::Result<()> {
     match fault {
-        Fault::Help(text) => print!(rt; "{text}"),
+        Fault::Help(text) | Fault::Version(text) => print!(rt; "{text}"),
         _ => eprintln!(rt; "{fault}"),
     }
 }

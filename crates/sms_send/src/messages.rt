@@ -1,14 +1,14 @@
 //! Messages files: a header, and a record for each message.
 
-ghost use Rattle.std.specs.Prelude.{◌≡◌, ◌≤◌, None, IfErr, IfOk, IfSome, length, map, option_map, string_bytes};
+ghost use Rattle.std.specs.Prelude.{◌≡◌, ◌≤◌, None, IfErr, IfOk, IfSome, length, option_map};
 ghost use Rattle.csv.specs.Records.{fields_of};
 ghost use Rattle.sms_send.specs.Fields.{records_of};
-ghost use Rattle.sms_send.specs.Messages.{AreMessages, IsMessage, TellsMessages, TellsRest, field_is, is_header as header_is, message_fault, most_messages, record_of, text_in};
-ghost use Rattle.sms_send.specs.Records.{ReadsAll, records_left};
+ghost use Rattle.sms_send.specs.Messages.{AreTexts, HasText, IsMessage, field_is, is_header as header_is, is_message, messages_fault, most_messages, text_in};
+ghost use Rattle.sms_send.specs.Records.{TellsRecords};
 
 use crate::fault::{Fault, Source};
-use crate::records::{next_record, read_all};
-use csv::{ByteRecord, Reader};
+use crate::records::{FromRecord, next_record, read_all, read_records};
+use csv::ByteRecord;
 use std::alloc::{AllocError, Global};
 use std::io::Read;
 use std::str;
@@ -19,62 +19,64 @@ pub const MOST_MESSAGES: usize = 100_000;
 /// How many fields each record of the file has.
 const FIELDS: usize = 4;
 
-/// A message as its record gives it.
-#[derive(Debug, Drop)]
-pub struct Message {
+/// The fields of a message's record, as they stand in the file.
+#[derive(Clone, Copy, Debug)]
+pub struct MessageRecord<'a> {
     /// The name of the account that pays for it.
-    pub account: String,
+    pub account: &'a str,
     /// The address that it comes from.
-    pub source: String,
+    pub source: &'a str,
     /// The address that it goes to.
-    pub destination: String,
+    pub destination: &'a str,
     /// What it says.
+    pub text: &'a str,
+}
+
+/// The text of a message, which is all that is kept of its record where nothing is sent.
+#[derive(Debug, Drop)]
+pub struct MessageText {
+    /// What the message says.
     pub text: String,
 }
 
-/// The messages of a file. Reading stops at the first faulty record, and one record past the limit.
-pub fn read_messages<R: Read + Drop>(alloc: Global, input: R) -> Result<Vec<Message>, Fault>
-    ensures messages { IfOk result (λ messages. IfSome (R.remaining input) (λ bytes. AreMessages (records_of bytes) messages.items)) }
-    ensures limit { IfOk result (λ messages. length messages.items ≤ most_messages) }
-    ensures faulty { IfErr result (λ fault. IfSome (R.remaining input) (λ bytes. TellsMessages (records_of bytes) fault)) }
+impl FromRecord for MessageText {
+    ghost is_good = { is_message };
+
+    ghost Says = { HasText };
+
+    fn from_record(alloc: Global, row: &ByteRecord) -> Result<Option<MessageText>, AllocError> {
+        match message_of(row) {
+            None => Ok(None),
+            Some(message) => {
+                let text = String::from_str(alloc, message.text)?;
+                Ok(Some(MessageText { text }))
+            }
+        }
+    }
+}
+
+/// The texts of a file's messages. Reading stops at the first faulty record, and one record past
+/// the limit.
+pub fn read_texts<R: Read + Drop>(alloc: Global, input: R) -> Result<Vec<MessageText>, Fault>
+    ensures texts { IfOk result (λ texts. IfSome (R.remaining input) (λ bytes. AreTexts (records_of bytes) texts.items)) }
+    ensures limit { IfOk result (λ texts. length texts.items ≤ most_messages) }
+    ensures faulty { IfErr result (λ fault. IfSome (R.remaining input) (λ bytes. TellsRecords Source.Messages (messages_fault (records_of bytes)) fault)) }
 {
     let mut reader = read_all(alloc, input);
     let mut row = ByteRecord::new(alloc);
     if !next_record(&mut reader, &mut row, Source::Messages)? {
-        return Err(Fault::MessagesRecord(1));
+        return Err(Fault::BadRecord(Source::Messages, 1));
     }
     if !is_header(&row) {
-        return Err(Fault::MessagesRecord(1));
+        return Err(Fault::BadRecord(Source::Messages, 1));
     }
-    read_rest(alloc, &mut reader, &mut row)
-}
-
-/// The messages of the records that the reader has left, which come after the header.
-fn read_rest<R: Read + Drop>(
-    alloc: Global,
-    reader: &mut Reader<R>,
-    row: &mut ByteRecord,
-) -> Result<Vec<Message>, Fault>
-    requires { ReadsAll reader.old }
-    ensures messages { IfOk result (λ messages. IfSome (records_left R.remaining reader.old) (λ left.
-        (map record_of messages.items ≡ left) × (message_fault 1 left ≡ None))) }
-    ensures limit { IfOk result (λ messages. length messages.items ≤ most_messages) }
-    ensures faulty { IfErr result (λ fault. IfSome (records_left R.remaining reader.old) (λ left. TellsRest left fault)) }
-{
-    let mut messages = Vec::new(alloc);
-    for before in 1..MOST_MESSAGES + 1 {
-        if !next_record(reader, row, Source::Messages)? {
-            return Ok(messages);
-        }
-        match message_of(alloc, row)? {
-            Some(message) => messages.push(message)?,
-            None => return Err(Fault::MessagesRecord(before + 1)),
-        }
-    }
-    if next_record(reader, row, Source::Messages)? {
-        return Err(Fault::MessagesRecord(MOST_MESSAGES + 2));
-    }
-    Ok(messages)
+    read_records(
+        alloc,
+        &mut reader,
+        &mut row,
+        Source::Messages,
+        MOST_MESSAGES,
+    )
 }
 
 /// Whether the record is the header.
@@ -99,44 +101,31 @@ fn is_field(row: &ByteRecord, place: usize, name: &[u8]) -> bool
 }
 
 /// The message that a record is, where it has four fields of text.
-fn message_of(alloc: Global, row: &ByteRecord) -> Result<Option<Message>, AllocError>
-    ensures { IfOk result (λ message. IsMessage (fields_of row.now) message) }
+fn message_of<'a>(row: &'a ByteRecord) -> Option<MessageRecord<'a>>
+    ensures { IsMessage (fields_of row.now) result }
 {
     if row.len() != FIELDS {
-        return Ok(None);
+        return None;
     }
-    let Some(account) = text_at(alloc, row, 0)? else {
-        return Ok(None);
-    };
-    let Some(source) = text_at(alloc, row, 1)? else {
-        return Ok(None);
-    };
-    let Some(destination) = text_at(alloc, row, 2)? else {
-        return Ok(None);
-    };
-    let Some(text) = text_at(alloc, row, 3)? else {
-        return Ok(None);
-    };
-    Ok(Some(Message {
+    let account = text_at(row, 0)?;
+    let source = text_at(row, 1)?;
+    let destination = text_at(row, 2)?;
+    let text = text_at(row, 3)?;
+    Some(MessageRecord {
         account,
         source,
         destination,
         text,
-    }))
+    })
 }
 
 /// The text in the record's field at a place.
-fn text_at(alloc: Global, row: &ByteRecord, place: usize) -> Result<Option<String>, AllocError>
-    ensures { IfOk result (λ text. option_map string_bytes text ≡ text_in (fields_of row.now) place) }
+fn text_at<'a>(row: &'a ByteRecord, place: usize) -> Option<&'a str>
+    ensures { option_map (λ text. text.now) result ≡ text_in (fields_of row.now) place }
 {
-    let Some(field) = row.get(place) else {
-        return Ok(None);
-    };
+    let field = row.get(place)?;
     match str::from_utf8(field) {
-        Ok(text) => {
-            let text = String::from_str(alloc, text)?;
-            Ok(Some(text))
-        }
-        Err(_) => Ok(None),
+        Ok(text) => Some(text),
+        Err(_) => None,
     }
 }

@@ -9,7 +9,7 @@ ghost use Rattle.sms_send.specs.PlanText.{TellsPlan, kind_of, plan_of};
 ghost use Rattle.sms_send.specs.declared.fault.Fault.TheVariants.{Output};
 
 use crate::fault::Fault;
-use crate::messages::read_messages;
+use crate::messages::read_texts;
 use crate::output::write_out;
 use crate::plan_text::plan_text;
 use sms_segment::Reference;
@@ -40,8 +40,8 @@ pub fn run_plan<R: Read + Drop, W: Write>(
     // Nothing was written, save where writing itself failed.
     ensures quiet { IfErr result (λ fault. fault ≢ Output → output.new ≡ output.old) }
 {
-    let messages = read_messages(alloc, input)?;
-    let text = plan_text(alloc, reference_of(long), &messages)?;
+    let texts = read_texts(alloc, input)?;
+    let text = plan_text(alloc, reference_of(long), &texts)?;
     write_out(output, text.as_bytes())?;
     Ok(0)
 }

@@ -1,3 +1,5 @@
+//! The plans of files, worked out by hand, and the faults.
+
 use crate::broken::{FailingInput, FailingOutput};
 use crate::fault::{Fault, Source};
 use crate::plan::run_plan;
@@ -107,7 +109,8 @@ fn names_the_first_faulty_record(rt: HostRuntime) -> Result<(), Fail> {
     Ok(())
 }
 
-// A file may have 100,000 messages behind its header.
+// A file may have 100,000 messages behind its header; behind one more nothing is read, since the
+// device fails there.
 #[test]
 fn names_the_record_past_the_limit(rt: HostRuntime) -> Result<(), Fail> {
     let alloc = rt.alloc();
@@ -115,11 +118,19 @@ fn names_the_record_past_the_limit(rt: HostRuntime) -> Result<(), Fail> {
     for _ in 0..100_001 {
         input.push_str("main,1,2,a\n")?;
     }
-    let output = planned(&rt, alloc, input.as_bytes(), false)?;
-    assert_eq!(rt;
-        output.as_slice(),
-        b"fault: messages record 100002".as_slice()
-    );
+    let whole = input.as_bytes();
+    for (left, expected) in [
+        (whole, "fault: messages record 100002"),
+        (
+            &whole[..whole.len().saturating_sub(11)],
+            "fault: file messages",
+        ),
+    ] {
+        let fault = run_plan(alloc, FailingInput { left }, false, &mut Vec::new(alloc))
+            .err()
+            .ok_or("no fault")?;
+        assert_eq!(rt; fault.to_string(alloc)?.as_str(), expected);
+    }
     Ok(())
 }
 

@@ -3,7 +3,7 @@
 ghost use Rattle.std.specs.Prelude.{◌≡◌, ◌++◌, IfOk, OnOk, string_bytes};
 ghost use Rattle.sms_send.specs.PlanText.{coded_line, coding_name as name_of_coding, counted_text, cutting_text, message_lines, message_plan, size_texts, text_line};
 
-use crate::messages::Message;
+use crate::messages::MessageText;
 use sms_alphabet::{Coded, Coding, choose};
 use sms_segment::laws::the_parts_tell_what_is_too_long;
 use sms_segment::{CutError, Part, Reference, cut};
@@ -83,7 +83,7 @@ fn write_line(
     text: &mut String,
     reference: Reference,
     index: usize,
-    message: &Message,
+    message: &MessageText,
 ) -> Result<(), AllocError>
     ensures { OnOk result (string_bytes text.new ≡ string_bytes text.old ++ text_line reference index (string_bytes message.now.text)) }
 {
@@ -96,7 +96,7 @@ fn write_lines(
     alloc: Global,
     text: &mut String,
     reference: Reference,
-    messages: &[Message],
+    messages: &[MessageText],
 ) -> Result<(), AllocError>
     ensures { OnOk result (string_bytes text.new ≡ string_bytes text.old ++ message_lines reference 0 messages.now) }
 {
@@ -110,7 +110,7 @@ fn write_lines(
 pub fn plan_text(
     alloc: Global,
     reference: Reference,
-    messages: &[Message],
+    messages: &[MessageText],
 ) -> Result<String, AllocError>
     ensures { IfOk result (λ text. string_bytes text ≡ message_plan reference messages.now) }
 {

@@ -1,17 +1,64 @@
-//! The records of a CSV file, one at a time.
+//! The records of a CSV file, one at a time, and those after the first as values of one kind.
 
-ghost use Rattle.std.specs.Prelude.{◌≡◌, false, true, IfErr, IfOk, IfSome, OnOk, option_map};
+ghost use Rattle.std.specs.Prelude.{◌≡◌, ◌≤◌, ◌+◌, None, Bool, List, ℕ, false, true, IfErr, IfOk, IfSome, OnOk, length, option_map};
+ghost use Rattle.std.specs.List.{AllZip};
 ghost use Rattle.csv.specs.Reading.{error_kind, is_io};
 ghost use Rattle.csv.specs.Records.{fields_of};
 ghost use Rattle.sms_send.specs.Faults.{IsDevice};
 ghost use Rattle.sms_send.specs.Fields.{records_of};
-ghost use Rattle.sms_send.specs.Records.{GivesFirst, IsDeviceError, ReadsAll, records_left};
+ghost use Rattle.sms_send.specs.Records.{GivesFirst, IsDeviceError, IsReadAs, ReadsAll, TellsRecords, record_fault, records_left};
 ghost use Rattle.sms_send.specs.declared.fault.Fault.TheVariants.{OutOfMemory, Unreadable};
 
 use crate::fault::{Fault, Source};
 use csv::{ByteRecord, Error, Reader, ReaderBuilder};
-use std::alloc::Global;
+use std::alloc::{AllocError, Global};
 use std::io::Read;
+
+/// What a record of a file is read as, where it stands after the file's first.
+pub trait FromRecord: Drop {
+    /// The records that may stand there.
+    ghost is_good: { List (List ℕ) → Bool };
+
+    /// What such a record says.
+    ghost Says: { List (List ℕ) → Self → Type 0 };
+
+    /// What the record says, where it may stand there.
+    fn from_record(alloc: Global, row: &ByteRecord) -> Result<Option<Self>, AllocError>
+        ensures { IfOk result (IsReadAs is_good Says (fields_of row.now)) };
+}
+
+/// Reads the records that the reader has left, which come after the file's first, to their end, to
+/// the first faulty one, or to one past the most that there may be.
+pub fn read_records<T: FromRecord, R: Read>(
+    alloc: Global,
+    reader: &mut Reader<R>,
+    row: &mut ByteRecord,
+    source: Source,
+    most: usize,
+) -> Result<Vec<T>, Fault>
+    requires reads { ReadsAll reader.old }
+    requires countable { most + 2 ≤ usize.MAX }
+    ensures records { IfOk result (λ records. IfSome (records_left R.remaining reader.old) (λ left.
+        AllZip T.Says left records.items × (record_fault T.is_good most 1 left ≡ None))) }
+    ensures limit { IfOk result (λ records. length records.items ≤ most) }
+    ensures faulty { IfErr result (λ fault. IfSome (records_left R.remaining reader.old) (λ left.
+        TellsRecords source (record_fault T.is_good most 1 left) fault)) }
+{
+    let mut records = Vec::new(alloc);
+    for before in 1..most + 1 {
+        if !next_record(reader, row, source)? {
+            return Ok(records);
+        }
+        match T::from_record(alloc, row)? {
+            Some(record) => records.push(record)?,
+            None => return Err(Fault::BadRecord(source, before + 1)),
+        }
+    }
+    if next_record(reader, row, source)? {
+        return Err(Fault::BadRecord(source, most + 2));
+    }
+    Ok(records)
+}
 
 /// A reader of all records of a file, of whatever lengths, a header row among them.
 pub fn read_all<R: Read>(alloc: Global, input: R) -> Reader<R>

@@ -1,17 +1,17 @@
 //! Schedules: a world's limits and the events on it, as the records of a file.
 
-ghost use Rattle.std.specs.Prelude.{◌≡◌, ◌≤◌, None, Some, IfErr, IfOk, IfSome, length};
+ghost use Rattle.std.specs.Prelude.{◌≡◌, None, Some, IfErr, IfOk, IfSome};
 ghost use Rattle.csv.specs.Records.{fields_of};
-ghost use Rattle.sms_send.specs.Schedule.{one_number as one_spelled, two_numbers as two_spelled, three_numbers as three_spelled, event_of as event_spelled, limits_of as limits_spelled, world_of as world_spelled, AreEvents, AreSchedule, TellsEvents, TellsSchedule, TellsWorld, event_fault, most_events, schedule_fault};
 ghost use Rattle.sms_send.specs.Fields.{records_of};
-ghost use Rattle.sms_send.specs.Records.{ReadsAll, records_left};
+ghost use Rattle.sms_send.specs.Records.{TellsRecords};
+ghost use Rattle.sms_send.specs.Schedule.{one_number as one_spelled, two_numbers as two_spelled, three_numbers as three_spelled, event_of as event_spelled, limits_of as limits_spelled, world_of as world_spelled, AreSchedule, Spells, TellsWorld, is_event, made_by, respond_form, schedule_fault, slot_forms};
 
 use crate::fault::{Fault, Source};
 use crate::field::{number_at, u32_at};
-use crate::records::{next_record, read_all};
-use csv::{ByteRecord, Reader};
+use crate::records::{FromRecord, next_record, read_all, read_records};
+use csv::ByteRecord;
 use sms_core::{CoreError, Event, World};
-use std::alloc::Global;
+use std::alloc::{AllocError, Global};
 use std::io::Read;
 
 /// How many events a schedule has at the most.
@@ -80,10 +80,6 @@ pub fn event_of(row: &ByteRecord) -> Option<Event>
             cost,
         });
     }
-    if word == b"claim".as_slice() {
-        let (worker, slot) = worker_and_slot(row)?;
-        return Some(Event::Claim { worker, slot });
-    }
     if word == b"post".as_slice() {
         let (worker, slot, request) = three_numbers(row, u32::MAX)?;
         return Some(Event::Post {
@@ -93,12 +89,34 @@ pub fn event_of(row: &ByteRecord) -> Option<Event>
         });
     }
     if word == b"respond".as_slice() {
-        let (number, status, nack) = three_numbers(row, MOST_FLAG)?;
-        return Some(Event::Respond {
-            number,
-            status,
-            nack: nack == 1,
-        });
+        return respond_of(row);
+    }
+    if word == b"discard".as_slice() {
+        let request = one_number(row)?;
+        return Some(Event::Discard { request });
+    }
+    slot_event_of(word, row)
+}
+
+/// The answer that a record spells after its word.
+fn respond_of(row: &ByteRecord) -> Option<Event>
+    ensures { result ≡ respond_form (fields_of row.now) }
+{
+    let (number, status, nack) = three_numbers(row, MOST_FLAG)?;
+    Some(Event::Respond {
+        number,
+        status,
+        nack: nack == 1,
+    })
+}
+
+/// The event of a worker at a slot that a record with this word spells.
+fn slot_event_of(word: &[u8], row: &ByteRecord) -> Option<Event>
+    ensures { result ≡ made_by slot_forms word.now (fields_of row.now) }
+{
+    if word == b"claim".as_slice() {
+        let (worker, slot) = worker_and_slot(row)?;
+        return Some(Event::Claim { worker, slot });
     }
     if word == b"settle".as_slice() {
         let (worker, slot) = worker_and_slot(row)?;
@@ -108,10 +126,6 @@ pub fn event_of(row: &ByteRecord) -> Option<Event>
         let (worker, slot) = worker_and_slot(row)?;
         return Some(Event::Expire { worker, slot });
     }
-    if word == b"discard".as_slice() {
-        let request = one_number(row)?;
-        return Some(Event::Discard { request });
-    }
     if word == b"release".as_slice() {
         let (worker, slot) = worker_and_slot(row)?;
         return Some(Event::Release { worker, slot });
@@ -119,31 +133,14 @@ pub fn event_of(row: &ByteRecord) -> Option<Event>
     None
 }
 
-/// The events of the records that the reader has left, which come after `1` record of the schedule.
-fn read_events<R: Read>(
-    alloc: Global,
-    reader: &mut Reader<R>,
-    row: &mut ByteRecord,
-) -> Result<Vec<Event>, Fault>
-    requires { ReadsAll reader.old }
-    ensures events { IfOk result (λ events. IfSome (records_left R.remaining reader.old) (λ left.
-        AreEvents left events.items × (length events.items ≤ most_events) × (event_fault 1 left ≡ None))) }
-    ensures faulty { IfErr result (λ fault. IfSome (records_left R.remaining reader.old) (λ left. TellsEvents left fault)) }
-{
-    let mut events = Vec::new(alloc);
-    for before in 1..MOST_EVENTS + 1 {
-        if !next_record(reader, row, Source::Schedule)? {
-            return Ok(events);
-        }
-        match event_of(row) {
-            Some(event) => events.push(event)?,
-            None => return Err(Fault::ScheduleRecord(before + 1)),
-        }
+impl FromRecord for Event {
+    ghost is_good = { is_event };
+
+    ghost Says = { Spells };
+
+    fn from_record(_alloc: Global, row: &ByteRecord) -> Result<Option<Event>, AllocError> {
+        Ok(event_of(row))
     }
-    if next_record(reader, row, Source::Schedule)? {
-        return Err(Fault::ScheduleRecord(MOST_EVENTS + 2));
-    }
-    Ok(events)
 }
 
 /// The three numbers of the record that sets a world up.
@@ -163,11 +160,11 @@ fn world_of(alloc: Global, row: &ByteRecord) -> Result<World, Fault>
     ensures faulty { IfErr result (λ fault. TellsWorld (fields_of row.now) fault) }
 {
     let Some((accounts, limit, attempts)) = limits_of(row) else {
-        return Err(Fault::ScheduleRecord(1));
+        return Err(Fault::BadRecord(Source::Schedule, 1));
     };
     match World::new(alloc, accounts, limit, attempts) {
         Ok(world) => Ok(world),
-        Err(CoreError::BadLimit) => Err(Fault::ScheduleRecord(1)),
+        Err(CoreError::BadLimit) => Err(Fault::BadRecord(Source::Schedule, 1)),
         Err(CoreError::OutOfMemory) => Err(Fault::OutOfMemory),
     }
 }
@@ -183,15 +180,15 @@ pub struct Schedule {
 pub fn read_schedule<R: Read + Drop>(alloc: Global, input: R) -> Result<Schedule, Fault>
     ensures schedule { IfOk result (λ schedule. IfSome (R.remaining input) (λ bytes.
         AreSchedule (records_of bytes) schedule.world schedule.events.items × (schedule_fault (records_of bytes) ≡ None))) }
-    ensures faulty { IfErr result (λ fault. IfSome (R.remaining input) (λ bytes. TellsSchedule (records_of bytes) fault)) }
+    ensures faulty { IfErr result (λ fault. IfSome (R.remaining input) (λ bytes. TellsRecords Source.Schedule (schedule_fault (records_of bytes)) fault)) }
 {
     let mut reader = read_all(alloc, input);
     let mut row = ByteRecord::new(alloc);
     if !next_record(&mut reader, &mut row, Source::Schedule)? {
-        return Err(Fault::ScheduleRecord(1));
+        return Err(Fault::BadRecord(Source::Schedule, 1));
     }
     let world = world_of(alloc, &row)?;
-    match read_events(alloc, &mut reader, &mut row) {
+    match read_records(alloc, &mut reader, &mut row, Source::Schedule, MOST_EVENTS) {
         Ok(events) => Ok(Schedule { world, events }),
         Err(fault) => Err(fault),
     }

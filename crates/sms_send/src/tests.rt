@@ -5,6 +5,7 @@ use crate::do_job;
 use crate::fault::Fault;
 use crate::job::{Job, job_of};
 use crate::replay::run_replay;
+use std::alloc::Global;
 use std::process::Abort;
 use std::test::Fail;
 
@@ -185,7 +186,7 @@ fn reads_the_words(rt: HostRuntime) -> Result<(), Fail> {
         ("plan --messages x y", "fault: words"),
         ("replay a b", "fault: words"),
         ("frob", "fault: words"),
-        ("--version", "fault: words"),
+        ("plan --version", "fault: words"),
     ];
     for (line, expected) in cases {
         let mut words = Vec::new(rt.alloc());
@@ -204,12 +205,54 @@ fn reads_the_words(rt: HostRuntime) -> Result<(), Fail> {
     Ok(())
 }
 
+/// The fault that these words are answered with.
+fn answer_to(alloc: Global, words: &str) -> Result<Fault, Fail> {
+    let mut given = Vec::new(alloc);
+    for word in words.split_whitespace() {
+        given.push(String::from_str(alloc, word)?)?;
+    }
+    Ok(job_of(alloc, given.as_slice()).err().ok_or("a job")?)
+}
+
 #[test]
-fn gives_help(rt: HostRuntime) -> Result<(), Fail> {
-    let mut words = Vec::new(rt.alloc());
-    words.push(String::from_str(rt.alloc(), "--help")?)?;
-    let fault = job_of(rt.alloc(), words.as_slice()).err().ok_or("no help")?;
-    assert_eq!(rt; fault.exit_status(), 0);
-    assert!(rt; matches!(&fault, Fault::Help(text) if text.as_str().contains("replay")));
+fn gives_help_and_version(rt: HostRuntime) -> Result<(), Fail> {
+    for (words, usage) in [
+        ("--help", "Usage: sms-send [COMMAND]"),
+        ("plan --help", "Usage: sms-send plan"),
+        ("help replay", "Usage: sms-send replay"),
+    ] {
+        let fault = answer_to(rt.alloc(), words)?;
+        assert!(rt; matches!(&fault, Fault::Help(text) if text.as_str().contains(usage)));
+    }
+    let fault = answer_to(rt.alloc(), "--version")?;
+    assert!(rt; matches!(&fault, Fault::Version(text) if text.as_str().starts_with("sms-send ")));
+    Ok(())
+}
+
+/// Behind a faulty record, and behind one past the limit, nothing more is read: the device fails
+/// there.
+#[test]
+fn reads_no_further(rt: HostRuntime) -> Result<(), Fail> {
+    let alloc = rt.alloc();
+    let mut input = String::from_str(alloc, "world,1,1,1\n")?;
+    for _ in 0..1_000_001 {
+        input.push_str("discard,1\n")?;
+    }
+    let whole = input.as_bytes();
+    let cases: [(&[u8], &str); 3] = [
+        (b"world,1,1,1\nclaim,1\n", "fault: schedule record 2"),
+        (whole, "fault: schedule record 1000002"),
+        (
+            &whole[..whole.len().saturating_sub(10)],
+            "fault: file schedule",
+        ),
+    ];
+    for (left, expected) in cases {
+        let mut output = Vec::new(alloc);
+        let fault = run_replay(alloc, FailingInput { left }, &mut output)
+            .err()
+            .ok_or("no fault")?;
+        assert_eq!(rt; fault.to_string(alloc)?.as_str(), expected);
+    }
     Ok(())
 }

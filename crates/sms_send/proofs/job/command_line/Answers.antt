@@ -4,7 +4,7 @@ use Rattle.std.proofs.lemmas.Result.{IfOk-weaker}
 use Rattle.clap.specs.Words.{App, app_of, new_app, new_rule, rule_of, with_rule, with_subcommand}
 use Rattle.clap.specs.Simple.{app_of_fields}
 use Rattle.clap.specs.declared.builder.Command.TheViews.{out-Command as fields_of}
-use Rattle.sms_send.specs.CommandLine.{replay_line}
+use Rattle.sms_send.specs.CommandLine.{program_line, replay_line}
 use Rattle.sms_send.proofs.job.command_line.Goals as goal
 
 pub returns : goal.returns
@@ -13,11 +13,8 @@ returns c =
     let about_is : app_of c.about.result ≡ new_app (codes "replay") = ap app_of_fields c.about.ensures ∙ c.new-2.ensures.app in
     let local : c.help-file.result.global ≡ false = search rules in
     let replay_is : app_of c.in_ok-replay.replay ≡ replay_line = c.in_ok-replay.ensures.shape local ∙ ap₂ with_rule about_is file_is in
-    let top_about : app_of c.about-2.result ≡ new_app (codes "sms-send") = ap app_of_fields c.about-2.ensures ∙ c.new-3.ensures.app in
-    let top_is : app_of c.no_binary_name.result ≡ record (new_app (codes "sms-send")) { top = record (new_app (codes "sms-send")).top { no_binary_name = true } } =
-    ap app_of_fields c.no_binary_name.ensures ∙ ap (λ (a : App). record a { top = record a.top { no_binary_name = true } }) top_about in
     let about_local : (fields_of c.about.result).has_globals ≡ false = ap (λ f. f.has_globals) c.about.ensures ∙ c.new-2.ensures.local in
     let replay_local : (fields_of c.in_ok-replay.replay).has_globals ≡ false = c.in_ok-replay.ensures.globals ∙ ap₂ (λ a b. a || b) about_local local in
-    let with_replay : app_of c.in_ok-top.top ≡ with_subcommand (record (new_app (codes "sms-send")) { top = record (new_app (codes "sms-send")).top { no_binary_name = true } }) replay_line.top =
-    c.in_ok-top.ensures.shape replay_local ∙ ap₂ with_subcommand top_is (ap (λ (a : App). a.top) replay_is) in
+    let with_replay : app_of c.in_ok-top.top ≡ with_subcommand program_line replay_line.top =
+    c.in_ok-top.ensures.shape replay_local ∙ ap₂ with_subcommand c.in_ok-program_command.ensures (ap (λ (a : App). a.top) replay_is) in
     IfOk-weaker c.subcommand-2.result _ _ (λ m h. h.shape c.in_ok-plan.ensures.local ∙ ap₂ with_subcommand with_replay (ap (λ (a : App). a.top) c.in_ok-plan.ensures.line)) c.subcommand-2.ensures

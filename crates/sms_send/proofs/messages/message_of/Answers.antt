@@ -1,35 +1,34 @@
-use Rattle.std.proofs.Common.{arith, length, ◌≡◌}
-use Rattle.std.specs.Prelude.{string_bytes}
+use Rattle.std.proofs.Common.{arith, rules, length, ◌≡◌}
 use Rattle.csv.specs.Records.{fields_of}
 use Rattle.sms_send.specs.Messages.{text_in}
-use Rattle.sms_send.proofs.MessageRecords.{four-texts, missing, no-message, present}
+use Rattle.sms_send.proofs.MessageRecords.{four-texts, none-there, present}
 use Rattle.sms_send.proofs.messages.message_of.Goals as goal
 
-pub returns-in_default : goal.returns-in_default
-returns-in_default c =
+pub returns-in_err-account : goal.returns-in_err-account
+returns-in_err-account c =
     let four : length (fields_of c.args.row.now) ≡ 4 = omega (arith, c.len.ensures, c.if-len-ne-FIELDS.false) in
-    no-message (fields_of c.args.row.now) 0 four (omega arith) (missing c.in_ok-account.field-0 (text_in (fields_of c.args.row.now) 0) c.in_ok-account.ensures c.in_default.is)
+    none-there (fields_of c.args.row.now) 0 c.text_at.result c.from_residual.result four (omega arith) c.text_at.ensures (search rules) (search rules)
 
-pub returns-in_default-2 : goal.returns-in_default-2
-returns-in_default-2 c =
+pub returns-in_err-source : goal.returns-in_err-source
+returns-in_err-source c =
     let four : length (fields_of c.args.row.now) ≡ 4 = omega (arith, c.len.ensures, c.if-len-ne-FIELDS.false) in
-    no-message (fields_of c.args.row.now) 1 four (omega arith) (missing c.in_ok-source.field-0 (text_in (fields_of c.args.row.now) 1) c.in_ok-source.ensures c.in_default-2.is)
+    none-there (fields_of c.args.row.now) 1 c.text_at-2.result c.from_residual-in_err-source.result four (omega arith) c.text_at-2.ensures (search rules) (search rules)
 
-pub returns-in_default-3 : goal.returns-in_default-3
-returns-in_default-3 c =
+pub returns-in_err-destination : goal.returns-in_err-destination
+returns-in_err-destination c =
     let four : length (fields_of c.args.row.now) ≡ 4 = omega (arith, c.len.ensures, c.if-len-ne-FIELDS.false) in
-    no-message (fields_of c.args.row.now) 2 four (omega arith) (missing c.in_ok-destination.field-0 (text_in (fields_of c.args.row.now) 2) c.in_ok-destination.ensures c.in_default-3.is)
+    none-there (fields_of c.args.row.now) 2 c.text_at-3.result c.from_residual-in_err-destination.result four (omega arith) c.text_at-3.ensures (search rules) (search rules)
 
-pub returns-in_default-4 : goal.returns-in_default-4
-returns-in_default-4 c =
+pub returns-in_err-text : goal.returns-in_err-text
+returns-in_err-text c =
     let four : length (fields_of c.args.row.now) ≡ 4 = omega (arith, c.len.ensures, c.if-len-ne-FIELDS.false) in
-    no-message (fields_of c.args.row.now) 3 four (omega arith) (missing c.in_ok-text.field-0 (text_in (fields_of c.args.row.now) 3) c.in_ok-text.ensures c.in_default-4.is)
+    none-there (fields_of c.args.row.now) 3 c.text_at-4.result c.from_residual-in_err-text.result four (omega arith) c.text_at-4.ensures (search rules) (search rules)
 
 pub returns : goal.returns
 returns c =
     let four : length (fields_of c.args.row.now) ≡ 4 = omega (arith, c.len.ensures, c.if-len-ne-FIELDS.false) in
-    four-texts (fields_of c.args.row.now) (string_bytes c.in-Some.account) (string_bytes c.in-Some-2.source) (string_bytes c.in-Some-3.destination) (string_bytes c.in-Some-4.text) four
-    (present c.in_ok-account.field-0 (text_in (fields_of c.args.row.now) 0) c.in-Some.account c.in_ok-account.ensures c.in-Some.is)
-    (present c.in_ok-source.field-0 (text_in (fields_of c.args.row.now) 1) c.in-Some-2.source c.in_ok-source.ensures c.in-Some-2.is)
-    (present c.in_ok-destination.field-0 (text_in (fields_of c.args.row.now) 2) c.in-Some-3.destination c.in_ok-destination.ensures c.in-Some-3.is)
-    (present c.in_ok-text.field-0 (text_in (fields_of c.args.row.now) 3) c.in-Some-4.text c.in_ok-text.ensures c.in-Some-4.is)
+    four-texts (fields_of c.args.row.now) c.in_ok-account.account.now c.in_ok-source.source.now c.in_ok-destination.destination.now c.in_ok-text.text.now four
+    (present c.text_at.result (text_in (fields_of c.args.row.now) 0) c.in_ok-account.account c.text_at.ensures (search rules))
+    (present c.text_at-2.result (text_in (fields_of c.args.row.now) 1) c.in_ok-source.source c.text_at-2.ensures (search rules))
+    (present c.text_at-3.result (text_in (fields_of c.args.row.now) 2) c.in_ok-destination.destination c.text_at-3.ensures (search rules))
+    (present c.text_at-4.result (text_in (fields_of c.args.row.now) 3) c.in_ok-text.text c.text_at-4.ensures (search rules))

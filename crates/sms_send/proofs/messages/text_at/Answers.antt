@@ -3,10 +3,10 @@ use Rattle.csv.specs.Records.{field_at, fields_of}
 use Rattle.sms_send.proofs.MessageRecords.{no-text, some-text}
 use Rattle.sms_send.proofs.messages.text_at.Goals as goal
 
-pub returns-in_ok-text-in-Ok : goal.returns-in_ok-text-in-Ok
-returns-in_ok-text-in-Ok c =
-    ap Some (c.in_ok-text-in-Ok.ensures.ok ∙ c.in-Ok.ensures.cases.0)
-    ∙ sym (some-text (field_at (fields_of c.args.row.now) c.args.place) c.in-Some.field.now (sym c.in-Some.ensures.value) c.in-Ok.ensures.cases.1)
+pub returns-in-Ok : goal.returns-in-Ok
+returns-in-Ok c =
+    ap Some c.in-Ok.ensures.cases.0
+    ∙ sym (some-text (field_at (fields_of c.args.row.now) c.args.place) c.in_ok-field.field.now (sym c.in_ok-field.ensures.value) c.in-Ok.ensures.cases.1)
 
 pub returns-in-Err : goal.returns-in-Err
-returns-in-Err c = sym (no-text (field_at (fields_of c.args.row.now) c.args.place) c.in-Some.field.now (sym c.in-Some.ensures.value) c.in-Err.ensures.cases.0)
+returns-in-Err c = sym (no-text (field_at (fields_of c.args.row.now) c.args.place) c.in_ok-field.field.now (sym c.in_ok-field.ensures.value) c.in-Err.ensures.cases.0)

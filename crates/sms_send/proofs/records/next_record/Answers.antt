@@ -5,9 +5,9 @@ use Rattle.sms_send.proofs.records.next_record.Goals as goal
 
 pub fault_of-requires : goal.fault_of-requires
 fault_of-requires g c =
-    only-device g.R.Read.remaining c.args.reader.now c.read_byte_record.new.self c.in-Err.error.kind c.requires.3 (c.in-Err.ensures.why c.requires.2)
+    only-device g.R.Read.remaining c.args.reader.now c.read_byte_record.new.self c.in-Err.error.kind c.requires.flexible (c.in-Err.ensures.why c.requires.ready)
 
 pub returns-in-Ok-clause-first : goal.returns-in-Ok-clause-first
 returns-in-Ok-clause-first g c =
-    first-left g.R.Read.remaining c.args.reader.now c.read_byte_record.new.self c.in-Ok.found (fields_of c.read_byte_record.new.row) c.requires.0
-    (c.in-Ok.ensures.reads c.requires.1 c.requires.2)
+    first-left g.R.Read.remaining c.args.reader.now c.read_byte_record.new.self c.in-Ok.found (fields_of c.read_byte_record.new.row) c.requires.config
+    (c.in-Ok.ensures.reads c.requires.untrimmed c.requires.ready)

@@ -1,0 +1,58 @@
+-- A file, from its first record and those after it.
+use Rattle.std.proofs.Common.{◌≡◌, ◌∙◌, refl, ap, ℕ, inl, inr, Bool, true, false, List, ◌∷◌, Option, Some, None, IfSome}
+use Rattle.std.specs.Prelude.{option_map}
+use Rattle.sms_send.specs.Fields.{Record, records_of}
+use Rattle.sms_send.specs.Records.{GivesFirst, TellsRecords, file_fault, record_fault}
+use Rattle.sms_send.specs.declared.fault.Fault.{Fault}
+use Rattle.sms_send.specs.declared.fault.Fault.TheVariants.{BadRecord}
+use Rattle.sms_send.specs.declared.fault.Source.{Source}
+use Rattle.sms_send.proofs.Runs.{first-found, none-found}
+
+-- there is no first record
+pub no-record : (source : Source) (is_first is_good : Record → Bool) (most : ℕ) (o : Option (List ℕ)) (left : Option (List Record)) (found : Bool) (r : Record) (after : Option (List Record))
+    → left ≡ option_map records_of o → IfSome left (λ rs. GivesFirst rs found r after) → found ≡ false
+    → IfSome o (λ bytes. TellsRecords source (file_fault is_first is_good most (records_of bytes)) (BadRecord source 1))
+no-record source is_first is_good most None left found r after whole h e = tt
+no-record source is_first is_good most (Some bytes) left found r after whole h e =
+    inr (1, refl, ap (file_fault is_first is_good most) (none-found (records_of bytes) found r after (rw whole at h) e))
+
+stops : (is_first is_good : Record → Bool) (most : ℕ) (r : Record) (rs : List Record) → is_first r ≡ false → file_fault is_first is_good most (r ∷ rs) ≡ Some 1
+stops is_first is_good most r rs e = rw e refl
+
+goes-on : (is_first is_good : Record → Bool) (most : ℕ) (r : Record) (rs : List Record) → is_first r ≡ true → file_fault is_first is_good most (r ∷ rs) ≡ record_fault is_good most 1 rs
+goes-on is_first is_good most r rs e = rw e refl
+
+-- the first record is another
+pub bad-first : (source : Source) (is_first is_good : Record → Bool) (most : ℕ) (o : Option (List ℕ)) (left : Option (List Record)) (found : Bool) (r : Record) (after : Option (List Record))
+    → left ≡ option_map records_of o → IfSome left (λ rs. GivesFirst rs found r after) → found ≡ true → is_first r ≡ false
+    → IfSome o (λ bytes. TellsRecords source (file_fault is_first is_good most (records_of bytes)) (BadRecord source 1))
+bad-first source is_first is_good most None left found r after whole h e bad = tt
+bad-first source is_first is_good most (Some bytes) left found r after whole h e bad =
+    let first = first-found (records_of bytes) found r after (rw whole at h) e in
+    inr (1, refl, ap (file_fault is_first is_good most) first.1 ∙ stops is_first is_good most r first.0 bad)
+
+-- what is told of the records after the first is told of the file
+pub bad-rest : (source : Source) (is_first is_good : Record → Bool) (most : ℕ) (o : Option (List ℕ)) (left : Option (List Record)) (found : Bool) (r : Record) (after : Option (List Record)) (f : Fault)
+    → left ≡ option_map records_of o → IfSome left (λ rs. GivesFirst rs found r after) → found ≡ true → is_first r ≡ true
+    → IfSome after (λ rs. TellsRecords source (record_fault is_good most 1 rs) f)
+    → IfSome o (λ bytes. TellsRecords source (file_fault is_first is_good most (records_of bytes)) f)
+bad-rest source is_first is_good most None left found r after f whole h e good tells = tt
+bad-rest source is_first is_good most (Some bytes) left found r after f whole h e good tells =
+    let first = first-found (records_of bytes) found r after (rw whole at h) e in
+    elim (rw first.2 at tells) [
+      | inl device ↦ inl device
+      | inr bad ↦ inr (bad.0, bad.1, ap (file_fault is_first is_good most) first.1 ∙ goes-on is_first is_good most r first.0 good ∙ bad.2)
+    ]
+
+-- what follows of a first record and of those after it holds of the file
+pub whole-file : (is_first is_good : Record → Bool) (most : ℕ) (P Q : List Record → Type 0) (o : Option (List ℕ)) (left : Option (List Record)) (found : Bool) (r : Record) (after : Option (List Record))
+    → left ≡ option_map records_of o → IfSome left (λ rs. GivesFirst rs found r after) → found ≡ true → is_first r ≡ true
+    → IfSome after (λ rs. P rs × (record_fault is_good most 1 rs ≡ None))
+    → ((rs : List Record) → P rs → file_fault is_first is_good most (r ∷ rs) ≡ None → Q (r ∷ rs))
+    → IfSome o (λ bytes. Q (records_of bytes))
+whole-file is_first is_good most P Q None left found r after whole h e good rest make = tt
+whole-file is_first is_good most P Q (Some bytes) left found r after whole h e good rest make =
+    let first = first-found (records_of bytes) found r after (rw whole at h) e in
+    let known = rw first.2 at rest in
+    let made = make first.0 known.0 (goes-on is_first is_good most r first.0 good ∙ known.1) in
+    rw first.1 made

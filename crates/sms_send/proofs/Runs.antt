@@ -1,0 +1,123 @@
+-- How the records of a file after its first are told from faulty ones, one at a time.
+use Rattle.std.proofs.Common.{◌≡◌, ◌∙◌, sym, refl, ap, ℕ, ◌+◌, ◌<◌, ◌≤◌, inl, Bool, true, false, List, [], ◌∷◌, ◌++◌, Option, Some, None, IfSome, arith, append_assoc, Result, Ok, Err, IfErr}
+use Rattle.std.specs.List.{AllZip}
+use Rattle.std.specs.Prelude.{nat_le}
+use Rattle.std.specs.Result.{IsErrAnd}
+use Rattle.std.proofs.lemmas.Bool.Decides.{nat_tests}
+use Rattle.std.proofs.lemmas.List.{append-nil}
+use Rattle.sms_send.specs.Faults.{IsDevice}
+use Rattle.sms_send.specs.Fields.{Record}
+use Rattle.sms_send.specs.Records.{GivesFirst, IsReadAs, TellsRecords, record_fault}
+use Rattle.sms_send.specs.declared.fault.Fault.{Fault}
+use Rattle.sms_send.specs.declared.fault.Fault.TheVariants.{OutOfMemory}
+use Rattle.sms_send.specs.declared.fault.Source.{Source}
+
+-- what holds of a told value, whichever it is
+pub if_known : {A : Type 0} (o : Option A) (P : A → Type 0) → ((x : A) → o ≡ Some x → P x) → IfSome o P
+if_known None P h = tt
+if_known (Some x) P h = h x refl
+
+pub at_known : {A : Type 0} (o : Option A) (P : A → Type 0) (x : A) → IfSome o P → o ≡ Some x → P x
+at_known o P x h e = rw e at h
+
+pub first-found : (left : List Record) (found : Bool) (r : Record) (after : Option (List Record)) → GivesFirst left found r after → found ≡ true
+    → (rest : List Record) × (left ≡ r ∷ rest) × (after ≡ Some rest)
+first-found [] found r after h e = cc
+first-found (first ∷ rest) found r after h e = (rest, ap (λ (x : Record). x ∷ rest) (sym h.1), h.2)
+
+pub none-found : (left : List Record) (found : Bool) (r : Record) (after : Option (List Record)) → GivesFirst left found r after → found ≡ false → left ≡ []
+none-found [] found r after h e = refl
+none-found (first ∷ rest) found r after h e = let bad : true ≡ false = cc in cc
+
+-- a read that found a record, at records that are told
+pub next-found : (o : Option (List Record)) (left : List Record) (found : Bool) (r : Record) (after : Option (List Record)) → o ≡ Some left
+    → IfSome o (λ rs. GivesFirst rs found r after) → found ≡ true → (rest : List Record) × (left ≡ r ∷ rest) × (after ≡ Some rest)
+next-found o left found r after known h e = first-found left found r after (rw known at h) e
+
+-- the first faulty record, by the one that stands next
+
+pub fault-bad : (is_good : Record → Bool) (most before : ℕ) (r : Record) (rs : List Record) → is_good r ≡ false → record_fault is_good most before (r ∷ rs) ≡ Some (before + 1)
+fault-bad is_good most before r rs e = by (nat_le before most) refl
+  where
+    by : (b : Bool) → nat_le before most ≡ b → record_fault is_good most before (r ∷ rs) ≡ Some (before + 1)
+    by true h = rw (h, e) refl
+    by false h = rw h refl
+
+pub fault-good : (is_good : Record → Bool) (most before : ℕ) (r : Record) (rs : List Record) → before ≤ most → is_good r ≡ true
+    → record_fault is_good most before (r ∷ rs) ≡ record_fault is_good most (before + 1) rs
+fault-good is_good most before r rs low e = let h : nat_le before most ≡ true = grind (arith, nat_tests) in rw (h, e) refl
+
+pub fault-many : (is_good : Record → Bool) (most before : ℕ) (r : Record) (rs : List Record) → most < before → record_fault is_good most before (r ∷ rs) ≡ Some (before + 1)
+fault-many is_good most before r rs high = let h : nat_le before most ≡ false = grind (arith, nat_tests) in rw h refl
+
+-- one more of each of two lists
+zip-push : {A B : Type 0} (R : A → B → Type 0) (xs : List A) (ys : List B) (x : A) (y : B) → AllZip R xs ys → R x y → AllZip R (xs ++ x ∷ []) (ys ++ y ∷ [])
+zip-push R [] [] x y h p = (p, tt)
+zip-push R [] (b ∷ bs) x y h p = absurd h
+zip-push R (a ∷ more) [] x y h p = absurd h
+zip-push R (a ∷ more) (b ∷ bs) x y h p = (h.0, zip-push R more bs x y h.1 p)
+
+-- of the records that were left, some were read as these items, and others are left now
+pub record ReadSo {T : Type 0} (is_good : Record → Bool) (Says : Record → T → Type 0) (most before : ℕ) (left : List Record) (items : List T) (now : Option (List Record)) : Type 0 where
+  pub front : List Record
+  pub after : List Record
+  pub known : now ≡ Some after
+  pub whole : left ≡ front ++ after
+  pub says : AllZip Says front items
+  pub faulty : record_fault is_good most 1 left ≡ record_fault is_good most before after
+
+-- the next record was read too
+pub one-more : {T : Type 0} (is_good : Record → Bool) (Says : Record → T → Type 0) (most before : ℕ) (left : List Record) (items pushed : List T) (x : T) (now after : Option (List Record)) (found : Bool) (r : Record)
+    → ReadSo is_good Says most before left items now → IfSome now (λ rs. GivesFirst rs found r after) → found ≡ true → before ≤ most → is_good r ≡ true → Says r x
+    → pushed ≡ items ++ x ∷ [] → ReadSo is_good Says most (before + 1) left pushed after
+one-more is_good Says most before left items pushed x now after found r so h e low good says p =
+    let f = next-found now so.after found r after so.known h e in
+    record {
+      front = so.front ++ r ∷ [];
+      after = f.0;
+      known = f.2;
+      whole = so.whole ∙ ap (λ (l : List Record). so.front ++ l) f.1 ∙ sym (append_assoc so.front (r ∷ []) f.0);
+      says = rw p (zip-push Says so.front items r x so.says says);
+      faulty = so.faulty ∙ ap (record_fault is_good most before) f.1 ∙ fault-good is_good most before r f.0 low good;
+    }
+
+-- no record is left
+pub no-more : {T : Type 0} (is_good : Record → Bool) (Says : Record → T → Type 0) (most before : ℕ) (left : List Record) (items : List T) (now after : Option (List Record)) (found : Bool) (r : Record)
+    → ReadSo is_good Says most before left items now → IfSome now (λ rs. GivesFirst rs found r after) → found ≡ false
+    → AllZip Says left items × (record_fault is_good most 1 left ≡ None)
+no-more is_good Says most before left items now after found r so h e =
+    let none = none-found so.after found r after (at_known now (λ rs. GivesFirst rs found r after) so.after h so.known) e in
+    let all : left ≡ so.front = so.whole ∙ ap (λ (l : List Record). so.front ++ l) none ∙ append-nil so.front in
+    (rw all so.says, so.faulty ∙ ap (record_fault is_good most before) none)
+
+-- the next record isn't good
+pub bad-next : {T : Type 0} (is_good : Record → Bool) (Says : Record → T → Type 0) (most before : ℕ) (left : List Record) (items : List T) (now after : Option (List Record)) (found : Bool) (r : Record)
+    → ReadSo is_good Says most before left items now → IfSome now (λ rs. GivesFirst rs found r after) → found ≡ true → is_good r ≡ false
+    → record_fault is_good most 1 left ≡ Some (before + 1)
+bad-next is_good Says most before left items now after found r so h e bad =
+    let f = next-found now so.after found r after so.known h e in
+    so.faulty ∙ ap (record_fault is_good most before) f.1 ∙ fault-bad is_good most before r f.0 bad
+
+-- the next record is one too many
+pub many-next : {T : Type 0} (is_good : Record → Bool) (Says : Record → T → Type 0) (most before : ℕ) (left : List Record) (items : List T) (now after : Option (List Record)) (found : Bool) (r : Record)
+    → ReadSo is_good Says most before left items now → IfSome now (λ rs. GivesFirst rs found r after) → found ≡ true → most < before
+    → record_fault is_good most 1 left ≡ Some (before + 1)
+many-next is_good Says most before left items now after found r so h e high =
+    let f = next-found now so.after found r after so.known h e in
+    so.faulty ∙ ap (record_fault is_good most before) f.1 ∙ fault-many is_good most before r f.0 high
+
+-- a fault of the device tells nothing of the records
+pub device-tells : (source : Source) (o : Option (List Record)) (faulty : List Record → Option ℕ) (f : Fault) → IsDevice source f → IfSome o (λ left. TellsRecords source (faulty left) f)
+device-tells source o faulty f h = if_known o (λ left. TellsRecords source (faulty left) f) (λ left known. inl h)
+
+-- memory that was refused
+pub refused : {T : Type 0} (r : Result T Fault) (P : Fault → Type 0) → IsErrAnd r (λ f. f ≡ OutOfMemory) → P OutOfMemory → IfErr r P
+refused (Ok x) P h p = tt
+refused (Err f) P h p = rw h p
+
+-- what was read of a record, by cases
+pub not-read : {T : Type 0} (is_good : Record → Bool) (Says : Record → T → Type 0) (r : Record) (o : Option T) → IsReadAs is_good Says r o → o ≡ None → is_good r ≡ false
+not-read is_good Says r o h e = rw e at h
+
+pub was-read : {T : Type 0} (is_good : Record → Bool) (Says : Record → T → Type 0) (r : Record) (o : Option T) (x : T) → IsReadAs is_good Says r o → o ≡ Some x → (is_good r ≡ true) × Says r x
+was-read is_good Says r o x h e = rw e at h
