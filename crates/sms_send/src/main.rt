@@ -92,10 +92,18 @@ fn open<R: Files>(rt: &R, name: String) -> Result<R::File, Fault>
     }
 }
 
-/// Tells a fault in one line on standard error, and help or the version on standard output.
+/// Tells a fault in one line on standard error, and help or the version on standard output. That
+/// they can't be printed is a fault of the output, which is told in its turn.
 fn tell<R: Eprint + Print>(rt: &R, fault: &Fault) -> io::Result<()> {
     match fault {
-        Fault::Help(text) | Fault::Version(text) => print!(rt; "{text}"),
+        Fault::Help(text) | Fault::Version(text) => {
+            let printed = print!(rt; "{text}");
+            if printed.is_err() {
+                let unprinted = Fault::Output;
+                eprintln!(rt; "{unprinted}")?;
+            }
+            printed
+        }
         _ => eprintln!(rt; "{fault}"),
     }
 }
