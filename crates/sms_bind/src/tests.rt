@@ -8,6 +8,8 @@ use std::io::{Error, ErrorKind, Read, Write};
 use std::process::Abort;
 use std::test::Fail;
 
+mod reader;
+
 // bind_transmitter number 1 of `esme` with the password `pw` and no system_type.
 const BIND: &[u8; 29] =
     b"\x00\x00\x00\x1d\x00\x00\x00\x02\x00\x00\x00\x00\x00\x00\x00\x01esme\x00pw\x00\x00\x34\x00\x00\x00";

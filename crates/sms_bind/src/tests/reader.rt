@@ -1,0 +1,377 @@
+//! The reader of a bind over devices in memory.
+ghost use Rattle.std.specs.Prelude.{◌≡◌, ◌≤◌};
+ghost use Rattle.sms_core.specs.Limits.{most_slots};
+
+use super::{ACCEPTED, ENQUIRE_LINK, Sink, Source, settings_of, source_of};
+use crate::{Bound, Cause, Line, ReaderEnd, Tap, Wire, bind, read_loop};
+use rtrb::{Consumer, Producer, RingBuffer};
+use sms_pdu::{BIND_TRANSCEIVER_RESP, BIND_TRANSMITTER_RESP, Framer, Frames, Header, Mode, Reply};
+use sms_session::Opened;
+use sms_slot::SlotRow;
+use sms_window::{Claim, Window, WindowSeat};
+use std::alloc::Global;
+use std::process::Abort;
+use std::sync::Wait;
+use std::sync::atomic::Ordering;
+use std::test::Fail;
+
+const ENQUIRE_LINK_RESP: &[u8; 16] =
+    b"\x00\x00\x00\x10\x80\x00\x00\x15\x00\x00\x00\x00\x00\x00\x00\x02";
+
+// A session that was just bound, and nothing read beyond the answer.
+fn bound_as(rt: &impl Abort, alloc: Global, mode: Mode) -> Bound {
+    let command = match mode {
+        Mode::Transmitter => BIND_TRANSMITTER_RESP,
+        Mode::Transceiver => BIND_TRANSCEIVER_RESP,
+    };
+    let header = Header {
+        length: 16,
+        command,
+        status: 0,
+        number: 1,
+    };
+    let Ok(session) = Opened::new(mode).bound(&header) else {
+        panic!(rt; "not bound")
+    };
+    Bound {
+        session,
+        framer: Framer::new(alloc),
+        frames: Frames::none(alloc),
+    }
+}
+
+// A wire that takes so many octets, and as many slots that wait for the answers from 1 on.
+fn line_of<S: Abort + Wait>(
+    rt: &S,
+    alloc: Global,
+    room: usize,
+    waiting: u32,
+) -> Result<Line<Sink>, Fail>
+    requires { waiting ≤ most_slots }
+{
+    let slots = SlotRow::new(alloc)?;
+    for slot in 0..waiting {
+        assert_eq!(rt; slots.post(rt, slot, 0, slot + 1), Ok(()));
+    }
+    let sink = Sink {
+        room,
+        octets: Vec::new(alloc),
+        fails: true,
+    };
+    Ok(Line::new(slots, Wire::new(Tap::new(sink))))
+}
+
+// A ring of this room, for the one worker.
+fn ring_of(alloc: Global, room: usize) -> Result<(Vec<Producer<Reply>>, Consumer<Reply>), Fail> {
+    let (producer, consumer) = RingBuffer::new(alloc, room)?;
+    let mut producers = Vec::new(alloc);
+    producers.push(producer)?;
+    Ok((producers, consumer))
+}
+
+// Reads in 10 turns, and follows nothing.
+fn read_from<S: Abort + Wait>(
+    rt: &S,
+    alloc: Global,
+    source: Tap<Source<'_>>,
+    bound: Bound,
+    producers: Vec<Producer<Reply>>,
+    line: &Line<Sink>,
+) -> ReaderEnd {
+    let mut reader = source;
+    let Ok((window, seat)) = Window::make(alloc, 4) else {
+        panic!(rt; "no window")
+    };
+    read_loop(
+        rt,
+        alloc,
+        &mut reader,
+        bound,
+        producers,
+        line,
+        &window,
+        seat,
+        None,
+        10,
+    )
+}
+
+fn counts(end: &ReaderEnd) -> [u64; 7] {
+    [
+        end.answered,
+        end.unknown,
+        end.overrun,
+        end.delivered,
+        end.noted,
+        end.nacked,
+        end.unreplied,
+    ]
+}
+
+// What stands in the line at the end: it is down, and these octets were written.
+fn want_written(rt: &impl Abort, line: Line<Sink>, wanted: &[u8]) {
+    assert!(rt; line.down.load(Ordering::SeqCst));
+    let Line {
+        slots: _,
+        wire,
+        down: _,
+        stop: _,
+    } = line;
+    let sink = wire.into_inner().into_tap().into_inner();
+    assert_eq!(rt; sink.octets.as_slice(), wanted);
+}
+
+// Streams and what comes of them: the cause, the counts, and what is written.
+#[test]
+fn streams_that_are_read(rt: HostRuntime) -> Result<(), Fail> {
+    let cases = [
+        // A deliver_sm, an alert_notification, and a command_id that no PDU has.
+        (
+            b"\x00\x00\x00\x10\x00\x00\x00\x05\x00\x00\x00\x00\x00\x00\x00\x07\x00\x00\x00\x10\x00\x00\x01\x02\x00\x00\x00\x00\x00\x00\x00\x08\x00\x00\x00\x10\x00\x00\x01\x03\x00\x00\x00\x00\x00\x00\x00\x09".as_slice(),
+            Cause::Ended,
+            [0, 0, 0, 1, 1, 1, 0],
+            b"\x00\x00\x00\x11\x80\x00\x00\x05\x00\x00\x00\x00\x00\x00\x00\x07\x00\x00\x00\x00\x10\x80\x00\x00\x00\x00\x00\x00\x03\x00\x00\x00\x09".as_slice(),
+        ),
+        // An enquire_link, and a command_length of 15.
+        (
+            b"\x00\x00\x00\x10\x00\x00\x00\x15\x00\x00\x00\x00\x00\x00\x00\x02\x00\x00\x00\x0f".as_slice(),
+            Cause::Lost,
+            [0, 0, 0, 0, 0, 0, 0],
+            b"\x00\x00\x00\x10\x80\x00\x00\x15\x00\x00\x00\x00\x00\x00\x00\x02\x00\x00\x00\x10\x80\x00\x00\x00\x00\x00\x00\x02\x00\x00\x00\x00".as_slice(),
+        ),
+        // An unbind, and an alert_notification that comes too late.
+        (
+            b"\x00\x00\x00\x10\x00\x00\x00\x06\x00\x00\x00\x00\x00\x00\x00\x03\x00\x00\x00\x10\x00\x00\x01\x02\x00\x00\x00\x00\x00\x00\x00\x08".as_slice(),
+            Cause::Unbound,
+            [0, 0, 0, 0, 0, 0, 0],
+            b"\x00\x00\x00\x10\x80\x00\x00\x06\x00\x00\x00\x00\x00\x00\x00\x03".as_slice(),
+        ),
+        // The response to an unbind.
+        (
+            b"\x00\x00\x00\x10\x80\x00\x00\x06\x00\x00\x00\x00\x00\x00\x00\x03".as_slice(),
+            Cause::Unbound,
+            [0, 0, 0, 0, 0, 0, 0],
+            b"".as_slice(),
+        ),
+        // The same answer twice, and generic_nacks of requests that weren't sent; a frame that is cut.
+        (
+            b"\x00\x00\x00\x10\x80\x00\x00\x04\x00\x00\x00\x00\x00\x00\x00\x01\x00\x00\x00\x10\x80\x00\x00\x04\x00\x00\x00\x00\x00\x00\x00\x01\x00\x00\x00\x10\x80\x00\x00\x00\x00\x00\x00\x03\x00\x00\x00\x00\x00\x00\x00\x10\x80\x00\x00\x00\x00\x00\x00\x03\x00\x00\x00\x4d\x00\x00\x00\x10".as_slice(),
+            Cause::Ended,
+            [1, 3, 0, 0, 0, 0, 0],
+            b"".as_slice(),
+        ),
+    ];
+    for (octets, cause, wanted, written) in cases {
+        let alloc = rt.alloc();
+        let line = line_of(&rt, alloc, 1000, 1)?;
+        let (producers, mut consumer) = ring_of(alloc, 64)?;
+        let bound = bound_as(&rt, alloc, Mode::Transceiver);
+        let end = read_from(
+            &rt,
+            alloc,
+            source_of(0, octets, false),
+            bound,
+            producers,
+            &line,
+        );
+        assert_eq!(rt; end.cause, cause);
+        assert_eq!(rt; counts(&end), wanted);
+        assert_eq!(rt; consumer.pop().is_ok(), end.answered == 1);
+        assert!(rt; consumer.pop().is_err());
+        want_written(&rt, line, written);
+    }
+    Ok(())
+}
+
+// What was read with the bind's answer is worked first; a transmitter is sent no deliver_sm.
+#[test]
+fn what_came_with_the_answer(rt: HostRuntime) -> Result<(), Fail> {
+    let alloc = rt.alloc();
+    let Ok(settings) = settings_of(&rt, alloc, Mode::Transmitter, b"esme") else {
+        panic!(rt; "no settings")
+    };
+    let mut stream = Vec::from_slice(alloc, ACCEPTED)?;
+    stream.extend_from_slice(ENQUIRE_LINK)?;
+    stream.extend_from_slice(b"\x00\x00\x00\x10\x00\x00\x00\x05\x00")?;
+    let mut reader = source_of(0, stream.as_slice(), false);
+    let mut wire = Wire::new(Tap::new(Vec::<u8>::new(alloc)));
+    let Ok(bound) = bind(alloc, &mut reader, &mut wire, &settings, 1) else {
+        panic!(rt; "not bound")
+    };
+    let line = line_of(&rt, alloc, 1000, 0)?;
+    let later = source_of(3, b"\x00\x00\x00\x00\x00\x00\x09", false);
+    let end = read_from(&rt, alloc, later, bound, Vec::new(alloc), &line);
+    assert_eq!(rt; end.cause, Cause::Ended);
+    assert_eq!(rt; counts(&end), [0, 0, 0, 1, 0, 0, 0]);
+    let mut wanted = Vec::from_slice(alloc, ENQUIRE_LINK_RESP)?;
+    wanted.extend_from_slice(
+        b"\x00\x00\x00\x11\x80\x00\x00\x05\x00\x00\x00\x04\x00\x00\x00\x09\x00",
+    )?;
+    want_written(&rt, line, wanted.as_slice());
+    Ok(())
+}
+
+// An answer whose worker has no ring, or one without room.
+#[test]
+fn answers_that_overrun(rt: HostRuntime) -> Result<(), Fail> {
+    let octets =
+        b"\x00\x00\x00\x10\x80\x00\x00\x04\x00\x00\x00\x00\x00\x00\x00\x01\x00\x00\x00\x10\x80\x00\x00\x04\x00\x00\x00\x00\x00\x00\x00\x02";
+    let alloc = rt.alloc();
+    let line = line_of(&rt, alloc, 0, 2)?;
+    let bound = bound_as(&rt, alloc, Mode::Transceiver);
+    let end = read_from(
+        &rt,
+        alloc,
+        source_of(0, octets, false),
+        bound,
+        Vec::new(alloc),
+        &line,
+    );
+    assert_eq!(rt; counts(&end), [0, 0, 2, 0, 0, 0, 0]);
+    let bound = bound_as(&rt, alloc, Mode::Transceiver);
+    let (producers, _consumer) = ring_of(alloc, 1)?;
+    let end = read_from(
+        &rt,
+        alloc,
+        source_of(0, octets, false),
+        bound,
+        producers,
+        &line,
+    );
+    assert_eq!(rt; counts(&end), [1, 0, 1, 0, 0, 0, 0]);
+    Ok(())
+}
+
+// A wire that breaks, a reader that fails, a line that is stopped, and turns that are used up.
+#[test]
+fn readers_that_end_early(rt: HostRuntime) -> Result<(), Fail> {
+    let cases = [
+        (10, 0, false, Cause::WriteFault),
+        (1000, 3, false, Cause::ReadFault),
+        (1000, 10, false, Cause::Turns),
+        (1000, 0, true, Cause::Stopped),
+    ];
+    for (room, idle, stop, cause) in cases {
+        let alloc = rt.alloc();
+        let line = line_of(&rt, alloc, room, 0)?;
+        line.stop.store(stop, Ordering::SeqCst);
+        let bound = bound_as(&rt, alloc, Mode::Transmitter);
+        let source = source_of(idle, ENQUIRE_LINK, true);
+        let end = read_from(&rt, alloc, source, bound, Vec::new(alloc), &line);
+        assert_eq!(rt; end.cause, cause);
+        let written: &[u8] = match cause {
+            Cause::WriteFault => &ENQUIRE_LINK_RESP[..10],
+            Cause::ReadFault => ENQUIRE_LINK_RESP.as_slice(),
+            _ => b"",
+        };
+        want_written(&rt, line, written);
+    }
+    Ok(())
+}
+
+// Answers from 1 on with ESME_RTHROTTLED, and then with ESME_ROK.
+fn answers(alloc: Global, throttled: u8, good: u8) -> Result<Vec<u8>, Fail> {
+    let mut octets = Vec::new(alloc);
+    for i in 0..throttled {
+        let number = 1u8.wrapping_add(i);
+        octets.extend_from_slice(&[0, 0, 0, 16, 0x80, 0, 0, 4, 0, 0, 0, 0x58, 0, 0, 0, number])?;
+    }
+    for i in 0..good {
+        let number = 1u8.wrapping_add(throttled).wrapping_add(i);
+        octets.extend_from_slice(&[0, 0, 0, 16, 0x80, 0, 0, 4, 0, 0, 0, 0, 0, 0, 0, number])?;
+    }
+    Ok(octets)
+}
+
+// Throttled answers make the reader hold slots back, but for one; sixteen good ones in a row give one
+// back.
+#[test]
+fn throttling_is_followed(rt: HostRuntime) -> Result<(), Fail> {
+    let cases = [
+        (2, 2, 15, 0xFFFF_FFFF_FFFF_FFFD),
+        (2, 2, 16, 0xFFFF_FFFF_FFFF_FFFC),
+        (1, 1, 0, 0xFFFF_FFFF_FFFF_FFFE),
+    ];
+    for (limit, throttled, good, held) in cases {
+        let alloc = rt.alloc();
+        let octets = answers(alloc, throttled, good)?;
+        let line = line_of(&rt, alloc, 0, 18)?;
+        let (producers, _consumer) = ring_of(alloc, 64)?;
+        let Ok((window, seat)) = Window::make(alloc, limit) else {
+            panic!(rt; "no window")
+        };
+        let bound = bound_as(&rt, alloc, Mode::Transmitter);
+        let mut reader = source_of(0, octets.as_slice(), false);
+        let end = read_loop(
+            &rt,
+            alloc,
+            &mut reader,
+            bound,
+            producers,
+            &line,
+            &window,
+            seat,
+            Some(limit),
+            10,
+        );
+        assert_eq!(rt; end.answered, u64::from(throttled) + u64::from(good));
+        assert_eq!(rt; window.close(end.seat).held, held);
+    }
+    Ok(())
+}
+
+// The seat gets this slot.
+fn claim(rt: &impl Abort, window: &Window, seat: &mut WindowSeat, slot: u32)
+    requires own { seat.old.window ≡ window.now }
+    ensures own { seat.new.window ≡ seat.old.window }
+{
+    assert_eq!(rt; window.try_claim(seat), Claim::Got(slot));
+}
+
+// The seat holds this slot, and releases it.
+fn release(rt: &impl Abort, window: &Window, seat: &mut WindowSeat, slot: u32)
+    requires own { seat.old.window ≡ window.now }
+    ensures own { seat.new.window ≡ seat.old.window }
+{
+    assert!(rt; seat.holds(slot));
+    window.release(seat, slot);
+}
+
+// Beside a worker that holds three of four slots, one is left to hold back.
+#[test]
+fn throttling_beside_a_worker(rt: HostRuntime) -> Result<(), Fail> {
+    let alloc = rt.alloc();
+    let octets = answers(alloc, 3, 0)?;
+    let line = line_of(&rt, alloc, 0, 3)?;
+    let (producers, _consumer) = ring_of(alloc, 64)?;
+    let Ok((window, mut seat)) = Window::make(alloc, 4) else {
+        panic!(rt; "no window")
+    };
+    assert!(rt; seat.can_split());
+    let mut worker = window.split(&mut seat);
+    claim(&rt, &window, &mut worker, 0);
+    claim(&rt, &window, &mut worker, 1);
+    claim(&rt, &window, &mut worker, 2);
+    let bound = bound_as(&rt, alloc, Mode::Transmitter);
+    let mut reader = source_of(0, octets.as_slice(), false);
+    let end = read_loop(
+        &rt,
+        alloc,
+        &mut reader,
+        bound,
+        producers,
+        &line,
+        &window,
+        seat,
+        Some(4),
+        10,
+    );
+    let mut seat = end.seat;
+    assert!(rt; seat.holds(3));
+    release(&rt, &window, &mut worker, 0);
+    release(&rt, &window, &mut worker, 1);
+    release(&rt, &window, &mut worker, 2);
+    window.join(&mut seat, worker);
+    assert_eq!(rt; window.close(seat).held, 0xFFFF_FFFF_FFFF_FFF8);
+    Ok(())
+}
