@@ -36,6 +36,11 @@ fn with_header(alloc: Global, command: u32, status: u32, body: &[u8]) -> Result<
     Ok(octets)
 }
 
+// Why these octets spell no PDU, if they spell none.
+fn decode_error(alloc: Global, octets: &[u8]) -> Option<PduError> {
+    decode(alloc, octets).err()
+}
+
 // The fields of the submit_sm of `Hi`.
 fn hi<'a>() -> SmRef<'a> {
     SmRef {

@@ -6,18 +6,22 @@ use std::alloc::Global;
 use std::process::Abort;
 use std::test::*;
 
-// These octets are read as these fields.
-fn read_as(
-    rt: &impl Abort,
-    alloc: Global,
-    octets: &[u8],
-    fields: &PduRef<'_>,
-) -> Result<Pdu, Fail> {
+fn text_of(alloc: Global, fields: &PduRef<'_>) -> Result<String, Fail> {
+    Ok(format!(in alloc; "{fields:?}")?)
+}
+
+// The fields that these octets spell.
+fn read_text(alloc: Global, octets: &[u8]) -> Result<String, Fail> {
     let read = decode(alloc, octets)?;
-    let found = format!(in alloc; "{:?}", read.as_ref())?;
-    let text = format!(in alloc; "{fields:?}")?;
+    text_of(alloc, &read.as_ref())
+}
+
+// These octets are read as these fields.
+fn read_as(rt: &impl Abort, alloc: Global, octets: &[u8], fields: &PduRef<'_>) -> Result<(), Fail> {
+    let found = read_text(alloc, octets)?;
+    let text = text_of(alloc, fields)?;
     assert_eq!(rt; found.as_str(), text.as_str());
-    Ok(read)
+    Ok(())
 }
 
 // These fields are written as these octets, behind what is there.
@@ -47,9 +51,9 @@ fn both_ways(
     let octets = with_header(alloc, command, status, body)?;
     let fields = pdu(status, fields);
     written_as(rt, alloc, octets.as_slice(), &fields)?;
-    let read = read_as(rt, alloc, octets.as_slice(), &fields)?;
-    let written = encode(alloc, &read)?;
-    assert_eq!(rt; written.as_slice(), octets.as_slice());
+    read_as(rt, alloc, octets.as_slice(), &fields)?;
+    let again = laws::encode_of_decode(alloc, octets.as_slice())?;
+    assert_eq!(rt; again.as_slice(), octets.as_slice());
     Ok(())
 }
 
@@ -156,27 +160,39 @@ fn without_a_body(rt: HostRuntime) -> Result<(), Fail> {
     both_ways(&rt, alloc, 0x8000_0000, 3, b"", BodyRef::GenericNack)
 }
 
-// A PDU that owns its strings.
-#[test]
-fn an_owned_pdu(rt: HostRuntime) -> Result<(), Fail> {
+// A deliver_sm_resp that owns its message_id.
+fn owned_resp(alloc: Global, message_id: Octets) -> Result<Vec<u8>, PduError> {
+    let message_id = Some(message_id);
     let resp = Pdu {
         status: 0x58,
         number: NUMBER,
-        body: Body::DeliverResp {
-            message_id: Some(Octets::copy(rt.alloc(), b"m1")?),
-        },
+        body: Body::DeliverResp { message_id },
     };
+    encode(alloc, &resp)
+}
+
+#[test]
+fn an_owned_pdu(rt: HostRuntime) -> Result<(), Fail> {
+    let message_id = Octets::copy(rt.alloc(), b"m1")?;
+    let written = owned_resp(rt.alloc(), message_id)?;
     let octets = b"\x00\x00\x00\x13\x80\x00\x00\x05\x00\x00\x00\x58\x01\x02\x03\x04m1\x00";
-    let written = encode(rt.alloc(), &resp)?;
     assert_eq!(rt; written.as_slice(), octets.as_slice());
     Ok(())
+}
+
+fn owned_text(alloc: Global, pdu: &Pdu) -> Result<String, Fail> {
+    Ok(format!(in alloc; "{pdu:?}")?)
+}
+
+fn decoded_text(alloc: Global, octets: &[u8]) -> Result<String, Fail> {
+    let pdu = decode(alloc, octets)?;
+    owned_text(alloc, &pdu)
 }
 
 #[test]
 fn debug_hides_the_password(rt: HostRuntime) -> Result<(), Fail> {
     let octets = with_header(rt.alloc(), 2, 0, ESME)?;
-    let pdu = decode(rt.alloc(), octets.as_slice())?;
-    let text = format!(in rt.alloc(); "{pdu:?}")?;
+    let text = decoded_text(rt.alloc(), octets.as_slice())?;
     assert!(rt; text.as_str().contains("system_id: [101, 115, 109, 101]"));
     assert!(rt; !text.as_str().contains("password"));
     assert!(rt; !text.as_str().contains("[112, 119]"));

@@ -1,12 +1,12 @@
 //! PDUs of 70,000 octets, and of one more.
 
 use super::super::*;
-use super::NUMBER;
+use super::{decode_error, pdu};
 use std::alloc::Global;
 use std::test::*;
 
-// A bind's response with two parameters, of 60,000 octets and of this many: 25 octets more than both.
-fn long_pdu(alloc: Global, second: usize) -> Result<Pdu, Fail> {
+// Two parameters, of 60,000 octets and of this many.
+fn two_parameters(alloc: Global, second: usize) -> Result<Params, Fail> {
     let first = Octets::new(vec![in alloc; 0; 60_000]?);
     let second = Octets::new(vec![in alloc; 0; second]?);
     let mut params = Vec::new(alloc);
@@ -18,35 +18,38 @@ fn long_pdu(alloc: Global, second: usize) -> Result<Pdu, Fail> {
         tag: 0x0424,
         value: second,
     })?;
-    Ok(Pdu {
-        status: 0,
-        number: NUMBER,
-        body: Body::BindResp {
-            mode: Mode::Transmitter,
-            system_id: Some(Octets::copy(alloc, b"")?),
-            params: Params::new(params),
-        },
-    })
+    Ok(Params::new(params))
+}
+
+// A bind's response with them: 25 octets more than both.
+fn resp(params: &Params) -> PduRef<'_> {
+    let body = BodyRef::BindResp {
+        mode: Mode::Transmitter,
+        system_id: Some(b""),
+        params: params.as_slice(),
+    };
+    pdu(0, body)
 }
 
 #[test]
 fn the_longest_pdu(rt: HostRuntime) -> Result<(), Fail> {
-    let pdu = long_pdu(rt.alloc(), 9_975)?;
-    let octets = encode(rt.alloc(), &pdu)?;
-    assert_eq!(rt; octets.len(), 70_000);
-    assert!(rt; decode(rt.alloc(), octets.as_slice()).is_ok());
+    let params = two_parameters(rt.alloc(), 9_975)?;
+    let mut octets = Vec::new(rt.alloc());
+    assert_eq!(rt; encode_into(&mut octets, &resp(&params))?, 70_000);
+    let again = laws::encode_of_decode(rt.alloc(), octets.as_slice())?;
+    assert_eq!(rt; again.as_slice(), octets.as_slice());
     Ok(())
 }
 
 #[test]
 fn one_octet_more(rt: HostRuntime) -> Result<(), Fail> {
-    let pdu = long_pdu(rt.alloc(), 9_976)?;
+    let params = two_parameters(rt.alloc(), 9_976)?;
     let field = Field::Whole;
-    let error = encode(rt.alloc(), &pdu).err();
+    let error = encoded_length(&resp(&params)).err();
     assert_eq!(rt; error, Some(PduError::TooLong { field }));
     let mut octets = Vec::from_slice(rt.alloc(), &[0x00, 0x01, 0x11, 0x71])?;
     octets.resize(70_001, 0)?;
-    let error = decode(rt.alloc(), octets.as_slice()).err();
+    let error = decode_error(rt.alloc(), octets.as_slice());
     assert_eq!(rt; error, Some(PduError::BadLength));
     Ok(())
 }

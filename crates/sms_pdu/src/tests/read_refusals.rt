@@ -1,7 +1,7 @@
 //! Octets that spell no PDU: each field that ends too early, is too long or isn't what it has to be.
 
 use super::super::*;
-use super::{ESME, HI, with_header};
+use super::{ESME, HI, decode_error, with_header};
 use std::alloc::Global;
 use std::process::Abort;
 use std::test::*;
@@ -9,7 +9,7 @@ use std::test::*;
 // The error of octets with this command and body.
 fn error_of(alloc: Global, command: u32, body: &[u8]) -> Result<Option<PduError>, Fail> {
     let octets = with_header(alloc, command, 0, body)?;
-    Ok(decode(alloc, octets.as_slice()).err())
+    Ok(decode_error(alloc, octets.as_slice()))
 }
 
 fn malformed(field: Field) -> Option<PduError> {
@@ -183,10 +183,10 @@ fn parameters(rt: HostRuntime) -> Result<(), Fail> {
 fn headers(rt: HostRuntime) -> Result<(), Fail> {
     let mut octets = with_header(rt.alloc(), 4, 0, HI)?;
     octets.truncate(51);
-    let cut = decode(rt.alloc(), octets.as_slice()).err();
+    let cut = decode_error(rt.alloc(), octets.as_slice());
     assert_eq!(rt; cut, Some(PduError::BadLength));
     octets.truncate(15);
-    let short = decode(rt.alloc(), octets.as_slice()).err();
+    let short = decode_error(rt.alloc(), octets.as_slice());
     assert_eq!(rt; short, Some(PduError::Short));
     let unknown = Some(PduError::UnknownCommand);
     assert_eq!(rt; error_of(rt.alloc(), 0x103, b"")?, unknown);
