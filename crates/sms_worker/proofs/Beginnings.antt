@@ -1,0 +1,166 @@
+-- Segments of a message that is begun.
+use Rattle.std.proofs.Common.{◌≡◌, ℕ, zero, suc, ◌+◌, ◌*◌, ◌<◌, List, [], ◌∷◌, ◌++◌, length, Some, None, inl, inr, refl, ap, ◌∙◌, sym, subst, arith, add-one, zero-mul, suc-mul, length-append, eq-eqb, ne_eqb}
+use Rattle.sms_book.specs.Tariffs.{cost_of}
+use Rattle.std.specs.Prelude.{string_bytes, Option, ◌⊎◌, slice_get, slice_set}
+use mathlib.Core.Logic.{dite}
+use native.Mathlib.Decide.{ℕ_discrete}
+use Rattle.sms_core.specs.Rows.{reserved_of, charged_of, returned_of}
+use Rattle.sms_pdu.specs.declared.reply.Reply.{Reply}
+use Rattle.sms_segment.specs.declared.part.Part.{Part}
+use Rattle.sms_window.specs.SeatState.{SeatState}
+use Rattle.sms_book.specs.declared.amounts.Amounts.{Amounts}
+use Rattle.sms_book.specs.Money.{reserved_more}
+use Rattle.sms_book.specs.Portions.{amounts_at}
+use Rattle.sms_book.specs.Shares.{Share, changed}
+use Rattle.sms_worker.specs.declared.message.Message.{Message}
+use Rattle.sms_worker.specs.declared.open.Open.{Open}
+use Rattle.sms_worker.specs.declared.ends.SegmentEnd.{SegmentEnd}
+use Rattle.sms_worker.specs.declared.ends.MessageEnd.{MessageEnd}
+use Rattle.sms_worker.specs.Begins.{fresh, ready, Begins}
+use Rattle.sms_worker.specs.Ends.{total_in, credit, uses}
+use Rattle.sms_worker.specs.Start.{Start}
+use Rattle.sms_worker.specs.Submits.{HasAddresses}
+use Rattle.sms_worker.specs.declared.rules.Rules.{Rules}
+use Rattle.sms_worker.specs.declared.ends.MessageRefusal.{MessageRefusal}
+use Rattle.sms_worker.specs.declared.ends.MessageRefusal.TheVariants.{NoAccount, NoCredit, TooLong, BadAddress, BindClosed, OutOfMemory}
+use Rattle.sms_worker.specs.Told.{IsTold, IsResultOf, IsRefusalOf, IsNotCut, IsKnown, AreParts}
+use Rattle.sms_worker.specs.Keeps.{Keeps}
+use Rattle.sms_worker.proofs.EndLemmas.{total_append, got_of_more, got_of_append}
+use Rattle.sms_worker.proofs.Changes.{amounts_there, amounts_other}
+
+-- why a text isn't cut is why its message is refused
+pub not_cut : (rules : Rules) (accounts : ℕ) (m : Message) (e : MessageRefusal) → IsKnown accounts m.account → HasAddresses m → IsNotCut rules m e → IsRefusalOf rules accounts m e
+not_cut rules accounts m TooLong known good is = (known, good, is)
+not_cut rules accounts m OutOfMemory known good is = tt
+not_cut rules accounts m NoAccount known good is = absurd is
+not_cut rules accounts m BadAddress known good is = absurd is
+not_cut rules accounts m NoCredit known good is = absurd is
+not_cut rules accounts m BindClosed known good is = absurd is
+
+ready_snoc : (cost n : ℕ) → ready cost n ++ fresh cost ∷ [] ≡ ready cost (suc n)
+ready_snoc cost zero = refl
+ready_snoc cost (suc n) = ap (λ l. fresh cost ∷ l) (ready_snoc cost n)
+
+pub ready_more : (cost n : ℕ) → ready cost n ++ fresh cost ∷ [] ≡ ready cost (n + 1)
+ready_more cost n = ready_snoc cost n ∙ ap (ready cost) (sym (add-one n))
+
+got_ready : (cost n q : ℕ) (z : SegmentEnd) → slice_get (ready cost n) q ≡ Some z → z ≡ fresh cost
+got_ready cost zero q z e = absurd (cc)
+got_ready cost (suc n) zero z e = cc
+got_ready cost (suc n) (suc q) z e = got_ready cost n q z e
+
+some_ready : (cost n q : ℕ) (z : SegmentEnd) → slice_get (ready cost n) q ≡ Some z → 0 < n
+some_ready cost zero q z e = absurd (cc)
+some_ready cost (suc n) q z e = omega arith
+
+pub length-ready : (cost n : ℕ) → length (ready cost n) ≡ n
+length-ready cost zero = refl
+length-ready cost (suc n) = ap suc (length-ready cost n)
+
+-- no attempt of a fresh segment has a number
+total_uses : (x cost n : ℕ) → total_in (λ s. uses x s) (ready cost n) ≡ 0
+total_uses x cost zero = refl
+total_uses x cost (suc n) = let h = total_uses x cost n in let z : uses x (fresh cost) ≡ 0 = refl in omega arith
+
+total_nothing : (f : SegmentEnd → ℕ) (cost n : ℕ) → f (fresh cost) ≡ 0 → total_in f (ready cost n) ≡ 0
+total_nothing f cost zero z = refl
+total_nothing f cost (suc n) z = let h = total_nothing f cost n z in omega arith
+
+settled_none : (i : ℕ) (acc : Option ℕ) (cost : ℕ) → (credit charged_of i acc (fresh cost) ≡ 0) × (credit returned_of i acc (fresh cost) ≡ 0)
+settled_none i None cost = (refl, refl)
+settled_none i (Some a) cost = dite (ℕ_discrete a i) (λ e. (rw (eq-eqb a i e) refl, rw (eq-eqb a i e) refl)) (λ ne. (rw (ne_eqb a i ne) refl, rw (ne_eqb a i ne) refl))
+
+-- what so many of one cost come to
+many : ℕ → ℕ → ℕ
+many zero cost = 0
+many (suc n) cost = cost + many n cost
+
+many_is : (n cost : ℕ) → many n cost ≡ n * cost
+unfolding many
+many_is zero cost = sym (zero-mul cost)
+many_is (suc n) cost = let h = many_is n cost in let m = suc-mul n cost in omega arith
+
+total_reserved : (i a cost n : ℕ) → a ≡ i → total_in (λ s. credit reserved_of i (Some a) s) (ready cost n) ≡ many n cost
+unfolding many
+total_reserved i a cost zero e = refl
+total_reserved i a cost (suc n) e = let h = total_reserved i a cost n e in let c : credit reserved_of i (Some a) (fresh cost) ≡ cost = rw (eq-eqb a i e) refl in omega arith
+
+-- the share reserved for them
+pub reserved_ready : (old : Share) (a cost n i : ℕ) → a < length old.amounts
+    → (amounts_at (changed old a (reserved_more (n * cost))).amounts i).reserved ≡ (amounts_at old.amounts i).reserved + total_in (λ s. credit reserved_of i (Some a) s) (ready cost n)
+reserved_ready old a cost n i low = dite (ℕ_discrete a i)
+    (λ e. let y = subst (λ j. amounts_at (slice_set old.amounts a (reserved_more (n * cost) (amounts_at old.amounts a))) j ≡ reserved_more (n * cost) (amounts_at old.amounts a)) e (amounts_there old.amounts a (reserved_more (n * cost) (amounts_at old.amounts a)) low) in
+    let yr = ap (λ (z : Amounts). z.reserved) y in
+    let x = ap (λ j. (amounts_at old.amounts j).reserved) e in
+    let t = total_reserved i a cost n e in
+    let m = many_is n cost in
+    omega arith)
+    (λ ne. let y = ap (λ (z : Amounts). z.reserved) (amounts_other old.amounts a i (reserved_more (n * cost) (amounts_at old.amounts a)) ne) in
+    let t = total_nothing (λ s. credit reserved_of i (Some a) s) cost n (rw (ne_eqb a i ne) refl) in
+    omega arith)
+
+pub other_ready : (old : Share) (a more i : ℕ) → a < length old.amounts → ((amounts_at (changed old a (reserved_more more)).amounts i).charged ≡ (amounts_at old.amounts i).charged) × ((amounts_at (changed old a (reserved_more more)).amounts i).returned ≡ (amounts_at old.amounts i).returned)
+other_ready old a more i low = dite (ℕ_discrete a i)
+    (λ e. let y = subst (λ j. amounts_at (slice_set old.amounts a (reserved_more more (amounts_at old.amounts a))) j ≡ reserved_more more (amounts_at old.amounts a)) e (amounts_there old.amounts a (reserved_more more (amounts_at old.amounts a)) low) in
+    let xc = ap (λ j. (amounts_at old.amounts j).charged) e in
+    let xr = ap (λ j. (amounts_at old.amounts j).returned) e in
+    (ap (λ (z : Amounts). z.charged) y ∙ xc, ap (λ (z : Amounts). z.returned) y ∙ xr))
+    (λ ne. let y = amounts_other old.amounts a i (reserved_more more (amounts_at old.amounts a)) ne in (ap (λ (z : Amounts). z.charged) y, ap (λ (z : Amounts). z.returned) y))
+
+-- a message was begun
+pub keeps_begun : (start : Start) (ms : List Message) (es : List MessageEnd) (texts : List (List Part)) (os : List Open) (seat : SeatState) (share share' : Share) (heard : List Reply) (m : Message) (ps : List Part) (e : MessageEnd)
+    → Keeps start ms es texts os seat share heard → slice_get ms (length es) ≡ Some m → length es < length ms → Begins start.rules m share share' ps e
+    → Keeps start ms (es ++ e ∷ []) (texts ++ ps ∷ []) os seat share' heard
+keeps_begun start ms es texts os seat share share' heard m ps e keeps there low b = record {
+  messages = keeps.messages;
+  window = keeps.window;
+  number = b.number ∙ keeps.number;
+  accounts = b.accounts ∙ keeps.accounts;
+  heard_more = keeps.heard_more;
+  slots = keeps.slots;
+  numbers = record {
+    drawn = keeps.numbers.drawn;
+    has = keeps.numbers.has;
+    used = λ x. let t = total_append (λ m s. uses x s) start.messages es e m there' in let z = ap (total_in (λ s. uses x s)) b.segments ∙ total_uses x _ b.count in let u = keeps.numbers.used x in omega arith;
+  };
+  shape = record {
+    within = let l = length-append es (e ∷ []) in let n = ap length keeps.messages in omega arith;
+    each = λ k m' e' at got. elim (got_of_append es e k e' got) [
+      | inl h ↦ keeps.shape.each k m' e' at h
+      | inr h ↦ (let at' : slice_get start.messages (length es) ≡ Some m' = ap (slice_get start.messages) (sym h.0) ∙ at in
+          let same : m ≡ m' = cc in
+          subst (λ (x : MessageEnd). (x.index ≡ m'.index) × IsResultOf start.rules (length start.share.amounts) m' x.result) (sym h.1)
+          (subst (λ (y : Message). (e.index ≡ y.index) × IsResultOf start.rules (length start.share.amounts) y e.result) same (b.index, subst (λ n. IsResultOf start.rules n m e.result) keeps.accounts b.result)))
+    ];
+  };
+  told = λ k p m' s at got. elim (got_of_more es e k p s got) [
+    | inl h ↦ keeps.told k p m' s at h
+    | inr h ↦ (let at' : slice_get start.messages (length es) ≡ Some m' = ap (slice_get start.messages) (sym h.0) ∙ at in
+        let same : m ≡ m' = cc in
+        let is = got_ready _ b.count p s (ap (λ l. slice_get l p) (sym b.segments) ∙ h.1) in
+        subst (λ (x : SegmentEnd). IsTold start.rules (length start.received) heard m' p x) (sym is) (subst (λ (y : Message). IsTold start.rules (length start.received) heard y p (fresh (cost_of start.rules.tariff (string_bytes m.dest)))) same
+        (record { cost = refl; some = b.some (some_ready _ b.count p s (ap (λ l. slice_get l p) (sym b.segments) ∙ h.1)); sent = tt; answered = tt; state = inr (record { outcome = refl; retried = tt; fewer = start.rules.policy.lawful.some_attempt }) })))
+  ];
+  money = λ i.
+      let g = keeps.money i in
+      let tr = total_append (λ m s. credit reserved_of i m.account s) start.messages es e m there' in
+      let tc = total_append (λ m s. credit charged_of i m.account s) start.messages es e m there' in
+      let tt' = total_append (λ m s. credit returned_of i m.account s) start.messages es e m there' in
+      let unmoved = settled_none i m.account _ in
+      let zc = ap (total_in (λ s. credit charged_of i m.account s)) b.segments ∙ total_nothing (λ s. credit charged_of i m.account s) _ b.count unmoved.0 in
+      let zr = ap (total_in (λ s. credit returned_of i m.account s)) b.segments ∙ total_nothing (λ s. credit returned_of i m.account s) _ b.count unmoved.1 in
+      let r = b.reserved i in
+      let c = b.charged i in
+      let t = b.returned i in
+      (omega arith, omega arith, omega arith);
+  parts = λ k m' ps' at got. elim (got_of_append texts ps k ps' got) [
+    | inl h ↦ keeps.parts k m' ps' at h
+    | inr h ↦ (let at' : slice_get start.messages (length es) ≡ Some m' = ap (slice_get start.messages) (sym (h.0 ∙ keeps.parts_long)) ∙ at in
+        let same : m ≡ m' = cc in
+        subst (λ x. (x ≡ []) ⊎ AreParts start.rules m' x) (sym h.1) (subst (λ (y : Message). (ps ≡ []) ⊎ AreParts start.rules y ps) same b.texts_kept))
+  ];
+  parts_long = let a = length-append texts (ps ∷ []) in let b' = length-append es (e ∷ []) in let l = keeps.parts_long in omega arith;
+}
+  where
+    there' : slice_get start.messages (length es) ≡ Some m
+    there' = ap (λ l. slice_get l (length es)) (sym keeps.messages) ∙ there

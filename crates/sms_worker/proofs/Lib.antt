@@ -1,0 +1,10 @@
+pub mod Apartness
+pub mod Beginnings
+pub mod Changes
+pub mod Charges
+pub mod EndLemmas
+pub mod EndsOf
+pub mod Keeping
+pub mod Submits
+pub mod Sweeping
+pub mod Tries

@@ -1,0 +1,22 @@
+use Rattle.std.proofs.Common.{◌≡◌, ◌∙◌, Err, subst, rules}
+use Rattle.sms_alphabet.specs.declared.coded.Coded.{Coded}
+use Rattle.sms_segment.specs.Message.{IsTooLong, parts_of}
+use Rattle.sms_segment.proofs.SizeLemmas.{parts_have_septets}
+use Rattle.sms_segment.specs.declared.place.Reference.{Reference}
+use Rattle.sms_segment.specs.declared.cutting.CutError.TheVariants.{TooLong}
+use Rattle.sms_worker.specs.Submits.{coded_text}
+use Rattle.sms_worker.proofs.begin.parts_for.Goals as goal
+
+pub returns-in-Err-TooLong-clause-refused : goal.returns-in-Err-TooLong-clause-refused
+returns-in-Err-TooLong-clause-refused c =
+    let is : c.cut.result ≡ Err TooLong = cc in
+    let text : c.in-Ok.text ≡ coded_text c.args.message.now = search rules in
+    subst (λ (r : Reference). IsTooLong (coded_text c.args.message.now) r) c.reference_for.ensures
+    (subst (λ (t : Coded). IsTooLong t c.reference_for.result) text (c.cut.ensures.too_long.0 is))
+
+pub returns-in-Ok-cut-clause-parts : goal.returns-in-Ok-cut-clause-parts
+returns-in-Ok-cut-clause-parts c =
+    let text : c.in-Ok.text ≡ coded_text c.args.message.now = search rules in (
+      c.in-Ok-cut.ensures.exact ∙ (λ i. parts_of (text i) (c.reference_for.ensures i)),
+      parts_have_septets c.in-Ok.text c.reference_for.result c.in-Ok-cut.parts.items c.in-Ok.ensures.lawful c.in-Ok-cut.ensures.full,
+    )

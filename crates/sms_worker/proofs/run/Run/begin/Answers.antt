@@ -1,0 +1,19 @@
+use Rattle.std.proofs.Common.{◌≡◌, ◌<◌, length, Some, sym, ap, ◌∙◌, subst, rules, arith}
+use Rattle.std.specs.Prelude.{slice_get}
+use Rattle.std.proofs.lemmas.Option.{slice_get-get_or}
+use Rattle.sms_worker.specs.declared.rules.Rules.{Rules}
+use Rattle.sms_worker.specs.Begins.{Begins}
+use Rattle.sms_worker.proofs.Beginnings.{keeps_begun}
+use Rattle.sms_worker.proofs.run.Run.begin.Goals as goal
+
+pub invariant_of-self : goal.invariant_of-self
+invariant_of-self g c =
+    let i = c.self.invariant in
+    let n = c.len-place.result in
+    let low : length c.self.inside.ends.items < length c.self.inside.messages.items = search rules in
+    let at : n ≡ length c.self.inside.ends.items = search rules in
+    let low' : n < length c.self.inside.messages.items = search rules in
+    let there = ap (slice_get c.self.inside.messages.items) (sym at) ∙ slice_get-get_or c.self.inside.messages.items n c.index-message.result.now low' ∙ ap Some (sym c.index-message.ensures) in
+    let b = subst (λ (x : Rules). Begins x c.index-message.result.now c.self.inside.shares c.begun-texts.new.shares c.begun-texts.result.0 c.begun-texts.result.1) c.requires.rules c.begun-texts.ensures in
+    let done = keeps_begun _ _ _ _ _ _ _ _ _ c.index-message.result.now c.begun-texts.result.0 c.begun-texts.result.1 i.0 there low b in
+    (rw (c.push_reserved.ensures.items, c.push_reserved-2.ensures.items) done, (let r = i.1 in let e = c.push_reserved-2.ensures.capacity in omega arith), (let r = i.2 in let e = c.push_reserved.ensures.capacity in omega arith))

@@ -1,0 +1,16 @@
+use Rattle.std.proofs.Common.{◌++◌, ◌∷◌, [], sym, ap, ◌∙◌}
+use Rattle.sms_worker.specs.RunState.{RunState}
+use Rattle.sms_worker.proofs.Keeping.{keeps_heard, heard_now}
+use Rattle.sms_worker.proofs.run.Run.note.Goals as goal
+
+pub invariant_of-self : goal.invariant_of-self
+invariant_of-self g c =
+    let i = c.self.invariant in
+    let r = c.requires.more.0 in
+    let e = c.requires.more.1 ∙ ap (λ (x : RunState). x.heard ++ r ∷ []) (sym c.self.view_is) in
+    (rw c.of.ensures (keeps_heard _ _ _ _ _ _ _ _ _ r i.0 e), i.1, i.2)
+
+pub returns-clause-since : goal.returns-clause-since
+returns-clause-since g c r is =
+    let i = c.self.invariant in
+    rw c.of.ensures (heard_now _ _ _ _ _ _ _ _ _ r i.0 (is ∙ ap (λ (x : RunState). x.heard ++ r ∷ []) (sym c.self.view_is)))

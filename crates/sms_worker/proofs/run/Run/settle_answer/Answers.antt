@@ -1,0 +1,72 @@
+use Rattle.std.proofs.Common.{◌≡◌, ◌<◌, ◌⊎◌, length, Some, sym, ap, ◌∙◌, subst, rules, arith}
+use Rattle.std.specs.Prelude.{slice_get}
+use Rattle.std.proofs.lemmas.Option.{slice_get-get_or}
+use Rattle.sms_worker.specs.declared.rules.Rules.{Rules}
+use Rattle.sms_worker.specs.declared.ends.SegmentEnd.{SegmentEnd}
+use Rattle.sms_worker.specs.Steps.{settled_to, outcome_after, Answers}
+use Rattle.sms_worker.specs.Told.{IsSettled, IsWaiting, HeardSince}
+use Rattle.sms_worker.specs.RunState.{RunState}
+use Rattle.sms_worker.specs.Ends.{put}
+use Rattle.sms_worker.proofs.EndLemmas.{back_there, given_same, given_other}
+use Rattle.sms_worker.proofs.Keeping.{keeps_same, keeps_answered, told_there, fits_there}
+use Rattle.sms_worker.proofs.run.Run.settle_answer.Goals as goal
+
+pub answer-segment-requires : goal.answer-segment-requires
+answer-segment-requires g c =
+    let i = c.self.invariant in
+    let low : c.args.place.message < length c.self.inside.messages.items = search rules in
+    let there : slice_get c.self.inside.messages.items c.args.place.message ≡ Some c.index-message.result.now = slice_get-get_or c.self.inside.messages.items c.args.place.message c.index-message.result.now low ∙ ap Some (sym c.index-message.ensures) in
+    let told = told_there _ _ _ _ _ _ _ _ _ _ c.index-message.result.now c.in-Some.segment i.0 there c.in-Some.ensures.out.0 in
+    record { state = subst (λ (x : Rules). IsSettled x.policy.attempts c.in-Some.segment ⊎ IsWaiting x.policy.attempts c.in-Some.segment) (sym c.requires.rules) told.state }
+
+pub give-requires : goal.give-requires
+give-requires g c = record { there = back_there c.self.inside.ends.items c.take.new.ends.items c.args.place.message c.args.place.part c.in-Some.segment c.in-Some.ensures.out }
+
+pub invariant_of-self-in-None : goal.invariant_of-self-in-None
+invariant_of-self-in-None g c =
+    let i = c.self.invariant in
+    let same = given_same c.self.inside.ends.items c.take.new.ends.items c.give.new.ends.items c.args.place.message c.args.place.part c.in-Some.segment c.in-Some.ensures.out (c.give.ensures.now ∙ ap (put c.take.new.ends.items c.args.place.message c.args.place.part) (let e : c.answer-segment.result.0 ≡ c.in-Some.segment = search rules in e)) in
+    let room = c.give.ensures.room in
+    let room' = c.take.ensures.room in
+    (keeps_same _ _ _ _ _ _ _ _ _ i.0 same, (let r = i.1 in omega arith), i.2)
+
+pub settle-outcome-requires : goal.settle-outcome-requires
+settle-outcome-requires g c a acc =
+    let i = c.self.invariant in
+    let low : c.args.place.message < length c.self.inside.messages.items = search rules in
+    let there : slice_get c.self.inside.messages.items c.args.place.message ≡ Some c.index-message.result.now = slice_get-get_or c.self.inside.messages.items c.args.place.message c.index-message.result.now low ∙ ap Some (sym c.index-message.ensures) in
+    let s = c.in-Some.segment in
+    let at = c.in-Some.ensures.out.0 in
+    let r = c.answer-segment.result.0 in
+    let d = c.in-Some-decision.decision in
+    let found : Answers c.args.desk.now.rules.now.policy.attempts s c.args.reply d r = search rules in
+    let answered = subst (λ (x : Rules). Answers x.policy.attempts s c.args.reply d r) c.requires.rules found in
+    let fits = fits_there _ _ _ _ _ _ _ _ _ _ c.index-message.result.now s i.0 there at answered.hears.open_yet a acc in
+    let cost = ap (λ (x : SegmentEnd). x.cost) answered.hears.after in
+    let some = fits.0 in
+    let most = fits.1 in
+    (omega arith, omega arith)
+
+pub give-requires-2 : goal.give-requires-2
+give-requires-2 g c = record { there = back_there c.self.inside.ends.items c.take.new.ends.items c.args.place.message c.args.place.part c.in-Some.segment c.in-Some.ensures.out }
+
+pub invariant_of-self-2 : goal.invariant_of-self-2
+invariant_of-self-2 g c =
+    let i = c.self.invariant in
+    let low : c.args.place.message < length c.self.inside.messages.items = search rules in
+    let there : slice_get c.self.inside.messages.items c.args.place.message ≡ Some c.index-message.result.now = slice_get-get_or c.self.inside.messages.items c.args.place.message c.index-message.result.now low ∙ ap Some (sym c.index-message.ensures) in
+    let s = c.in-Some.segment in
+    let at = c.in-Some.ensures.out.0 in
+    let r = c.answer-segment.result.0 in
+    let d = c.in-Some-decision.decision in
+    let found : Answers c.args.desk.now.rules.now.policy.attempts s c.args.reply d r = search rules in
+    let answered = subst (λ (x : Rules). Answers x.policy.attempts s c.args.reply d r) c.requires.rules found in
+    let s' : SegmentEnd = record { cost = r.cost; attempts = r.attempts; outcome = c.settle-outcome.result } in
+    let made : s' ≡ record r { outcome = outcome_after d } = ap (λ o. record r { outcome = o }) c.settle-outcome.ensures.outcome in
+    let is = given_other c.self.inside.ends.items c.take.new.ends.items c.give-2.new.ends.items c.args.place.message c.args.place.part s s' c.in-Some.ensures.out c.give-2.ensures.now in
+    let room = c.give-2.ensures.room in
+    let room' = c.take.ensures.room in
+    let long : length c.give-2.new.ends.items ≡ length c.self.inside.ends.items = search rules in
+    let moved = c.settle-outcome.ensures.shares ∙ ap (λ n. settled_to (outcome_after d) c.index-message.result.now.account n c.self.inside.shares) (ap (λ (x : SegmentEnd). x.cost) answered.hears.after) in
+    let heard = subst (λ (x : RunState). HeardSince (length g.C.Call.start.received) x.heard c.args.reply) (sym c.self.view_is) c.requires.heard in
+    (keeps_answered _ _ _ _ _ _ _ _ _ _ _ _ c.index-message.result.now s r s' c.args.reply d i.0 there at heard answered made moved is long, (let q = i.1 in omega arith), i.2)

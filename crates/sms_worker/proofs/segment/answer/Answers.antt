@@ -1,0 +1,30 @@
+use Rattle.std.proofs.Common.{◌≡◌, ◌∷◌, ◌++◌, [], length, None, rules, arith, refl}
+use Rattle.sms_worker.proofs.Tries.{silent_last, decided_state}
+use Rattle.sms_worker.proofs.segment.answer.Goals as goal
+
+pub overflow_cast-count : goal.overflow_cast-count
+overflow_cast-count c =
+    let before : c.args.segment.attempts ≡ c.pop.new.self.items ++ c.in-Some.last ∷ [] = search rules in
+    let silent : c.in-Some.last.reply ≡ None = c.is_answered.ensures.no (search rules) in
+    let l = silent_last c.args.policy.now.attempts c.args.segment c.pop.new.self.items c.in-Some.last before silent c.requires.state in
+    let few = l.0 in
+    let long : c.len-count.result ≡ length c.pop.new.self.items = search rules in
+    omega arith
+
+pub returns-clause-answered : goal.returns-clause-answered
+returns-clause-answered c =
+    let before : c.args.segment.attempts ≡ c.pop.new.self.items ++ c.in-Some.last ∷ [] = search rules in
+    let silent : c.in-Some.last.reply ≡ None = c.is_answered.ensures.no (search rules) in
+    let l = silent_last c.args.policy.now.attempts c.args.segment c.pop.new.self.items c.in-Some.last before silent c.requires.state in
+    record {
+      hears = record {
+        front = c.pop.new.self.items;
+        last = c.in-Some.last;
+        before = before;
+        number = search rules;
+        silent = silent;
+        open_yet = l.2;
+        after = search rules;
+      };
+      state = decided_state c.args.policy.now.attempts c.args.policy.now.base_ms c.pop.new.self.items (record { number = c.in-Some.last.number; sent = c.in-Some.last.sent; reply = _ }) c.args.reply c.decide-decision.result (record { cost = c.args.segment.cost; attempts = c.new-attempts-2.result; outcome = c.args.segment.outcome }) l.0 l.1 refl (search rules) (search rules);
+    }

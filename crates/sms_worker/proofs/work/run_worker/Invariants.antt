@@ -1,0 +1,13 @@
+use Rattle.rtrb.specs.Ring.{received}
+use Rattle.sms_worker.proofs.work.run_worker.Given as goal
+
+abbrev pub ghosts-work : goal.ghosts-work
+ghosts-work g a = record {
+  start = record {
+    rules = a.desk.now.rules.now;
+    messages = a.messages.items;
+    seat = a.worker.seat;
+    share = a.worker.shares;
+    received = received a.worker.consumer;
+  };
+}

@@ -1,0 +1,37 @@
+-- A message that is begun.
+use Rattle.std.specs.Prelude.{◌≡◌, ℕ, zero, suc, ◌+◌, ◌<◌, ◌⊎◌, List, [], ◌∷◌, length, string_bytes}
+use Rattle.sms_core.specs.Rows.{reserved_of}
+use Rattle.sms_segment.specs.declared.part.Part.{Part}
+use Rattle.sms_book.specs.Portions.{amounts_at}
+use Rattle.sms_book.specs.Shares.{Share}
+use Rattle.sms_book.specs.Tariffs.{cost_of}
+use Rattle.sms_worker.specs.declared.message.Message.{Message}
+use Rattle.sms_worker.specs.declared.rules.Rules.{Rules}
+use Rattle.sms_worker.specs.declared.ends.MessageEnd.{MessageEnd}
+use Rattle.sms_worker.specs.Ends.{segments_in, total_in, credit}
+use Rattle.sms_worker.specs.Told.{AreParts, IsResultOf}
+use Rattle.sms_worker.specs.declared.ends.Outcome.TheVariants.{Unanswered}
+use Rattle.sms_worker.specs.declared.ends.SegmentEnd.{SegmentEnd}
+
+-- a segment that waits for its first attempt
+abbrev pub fresh : ℕ → SegmentEnd
+fresh cost = record { cost = cost; attempts = []; outcome = Unanswered }
+
+-- so many of them
+abbrev pub ready : ℕ → ℕ → List SegmentEnd
+ready cost zero = []
+ready cost (suc n) = fresh cost ∷ ready cost n
+
+-- a message was begun: its end, the parts that are kept of it, and what its share reserved for it
+pub record Begins (rules : Rules) (m : Message) (old new : Share) (texts : List Part) (e : MessageEnd) : Type 0 where
+  pub index : e.index ≡ m.index
+  pub result : IsResultOf rules (length old.amounts) m e.result
+  pub texts_kept : (texts ≡ []) ⊎ AreParts rules m texts
+  pub count : ℕ
+  pub some : 0 < count → 0 < cost_of rules.tariff (string_bytes m.dest)
+  pub segments : segments_in e.result ≡ ready (cost_of rules.tariff (string_bytes m.dest)) count
+  pub number : new.number ≡ old.number
+  pub accounts : length new.amounts ≡ length old.amounts
+  pub reserved : (i : ℕ) → (amounts_at new.amounts i).reserved ≡ (amounts_at old.amounts i).reserved + total_in (credit reserved_of i m.account) (segments_in e.result)
+  pub charged : (i : ℕ) → (amounts_at new.amounts i).charged ≡ (amounts_at old.amounts i).charged
+  pub returned : (i : ℕ) → (amounts_at new.amounts i).returned ≡ (amounts_at old.amounts i).returned

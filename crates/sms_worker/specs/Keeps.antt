@@ -1,0 +1,34 @@
+-- What a run keeps, from its start to its end.
+use Rattle.std.specs.Prelude.{◌≡◌, ℕ, List, ◌++◌, length, map}
+use Rattle.sms_pdu.specs.declared.reply.Reply.{Reply}
+use Rattle.sms_segment.specs.declared.part.Part.{Part}
+use Rattle.sms_window.specs.OpenSlots.{IsOpen}
+use Rattle.sms_window.specs.SeatState.{SeatState}
+use Rattle.sms_book.specs.Shares.{Share}
+use Rattle.sms_worker.specs.declared.message.Message.{Message}
+use Rattle.sms_worker.specs.declared.ends.MessageEnd.{MessageEnd}
+use Rattle.sms_worker.specs.declared.open.Open.{Open}
+use Rattle.sms_worker.specs.Start.{Start}
+use Rattle.sms_worker.specs.Told.{AllTold, AreEnds, AreTexts, Drew, Grew}
+
+-- the slots of the open requests
+abbrev pub slots_of : List Open → List ℕ
+slots_of opened = map (λ o. o.slot) opened
+
+pub record Keeps (start : Start) (ms : List Message) (es : List MessageEnd) (texts : List (List Part)) (opened : List Open) (seat : SeatState) (share : Share) (heard : List Reply) : Type 0 where
+  -- what it was given
+  pub messages : ms ≡ start.messages
+  pub window : seat.window ≡ start.seat.window
+  pub number : share.number ≡ start.share.number
+  pub accounts : length share.amounts ≡ length start.share.amounts
+  pub heard_more : (rest : List Reply) × (heard ≡ start.received ++ rest)
+  -- the seat
+  pub slots : IsOpen start.seat.view.slots (slots_of opened) seat.view.slots
+  pub numbers : Drew start.seat.view seat.view start.messages es
+  -- the ends
+  pub shape : AreEnds start.rules (length start.share.amounts) start.messages es
+  pub told : AllTold start.rules (length start.received) heard start.messages es
+  pub money : Grew start.share.amounts share.amounts start.messages es
+  -- the parts of the messages that were begun
+  pub parts : AreTexts start.rules start.messages texts
+  pub parts_long : length texts ≡ length es

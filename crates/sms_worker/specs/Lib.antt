@@ -1,0 +1,14 @@
+pub mod Addresses
+pub mod Apart
+pub mod Begins
+pub mod EndOf
+pub mod Ends
+pub mod Keeps
+pub mod Laws
+pub mod Limits
+pub mod RunState
+pub mod Start
+pub mod Steps
+pub mod Submits
+pub mod Sweeps
+pub mod Told

@@ -1,0 +1,39 @@
+-- What a worker had when its call began.
+use Rattle.std.specs.Prelude.{List, [], false}
+use Rattle.std.proofs.Common.{arith}
+use Rattle.atomic_table.specs.Seated.{TableId}
+use Rattle.sms_book.specs.Shares.{Share}
+use Rattle.sms_pdu.specs.declared.reply.Reply.{Reply}
+use Rattle.sms_window.specs.SeatState.{SeatState}
+use Rattle.sms_window.specs.Seats.{nobody}
+use Rattle.sms_worker.specs.declared.message.Message.{Message}
+use Rattle.sms_worker.specs.declared.rules.Rules.{Rules}
+
+pub record Start : Type 0 where
+  pub rules : Rules
+  pub messages : List Message
+  pub seat : SeatState
+  pub share : Share
+  -- what its consumer had received
+  pub received : List Reply
+
+abbrev pub no_table : TableId
+no_table = record { words = 0; slots = 0; views_name = 0; atom = 0; block = 0; offset = 0; slot_names = [] }
+
+abbrev pub no_start : Start
+no_start = record {
+  rules = record {
+    policy = record { attempts = 1; base_ms = 0; lawful = record { some_attempt = omega arith; few_attempts = omega arith; short_wait = omega arith } };
+    depth = 1;
+    answer_ms = 0;
+    turns = 0;
+    receipts = false;
+    tariff = [];
+    long_reference = false;
+    bounded = omega arith;
+  };
+  messages = [];
+  seat = record { window = no_table; view = nobody };
+  share = record { number = 0; amounts = [] };
+  received = [];
+}

@@ -1,0 +1,92 @@
+-- What the steps on one segment end do.
+use Rattle.std.specs.Prelude.{◌≡◌, ℕ, ◌⊎◌, List, [], ◌∷◌, ◌++◌, Option, Some, None}
+use Rattle.sms_pdu.specs.declared.reply.Reply.{Reply}
+use Rattle.sms_segment.specs.declared.part.Part.{Part}
+use Rattle.sms_session.specs.declared.policy.Decision.{Decision}
+use Rattle.sms_session.specs.declared.policy.Decision.TheVariants.{Charge, RetryAfter, Refuse}
+use Rattle.sms_window.specs.declared.view.View.{View}
+use Rattle.sms_window.specs.Drawing.{HasDrawn}
+use Rattle.sms_book.specs.Shares.{Share, changed}
+use Rattle.sms_book.specs.Money.{charged_more, returned_more}
+use Rattle.sms_worker.specs.declared.message.Message.{Message}
+use Rattle.sms_worker.specs.declared.rules.Rules.{Rules}
+use Rattle.sms_worker.specs.declared.ends.Outcome.{Outcome}
+use Rattle.sms_worker.specs.declared.ends.Outcome.TheVariants.{Charged, Refused, Unanswered, Unsent}
+use Rattle.sms_worker.specs.declared.ends.Attempt.{Attempt}
+use Rattle.sms_worker.specs.declared.ends.SegmentEnd.{SegmentEnd}
+use Rattle.sms_worker.specs.declared.attempt.Tried.{Tried}
+use Rattle.sms_worker.specs.declared.attempt.Tried.TheVariants.{Sent, Later, Never}
+use Rattle.sms_worker.specs.declared.attempt.Number.{Number}
+use Rattle.sms_worker.specs.declared.attempt.Number.TheVariants.{Drawn, UsedUp, Contended}
+use Rattle.sms_worker.specs.Submits.{SpellsSubmit}
+use Rattle.sms_worker.specs.declared.ends.MessageEnd.{MessageEnd}
+use Rattle.sms_worker.specs.Ends.{segment_at, put}
+use Rattle.sms_worker.specs.Told.{IsSettled, IsWaiting}
+
+-- the last attempt had no answer and gets this one
+pub record Hears (old : SegmentEnd) (reply : Reply) (new : SegmentEnd) : Type 0 where
+  pub front : List Attempt
+  pub last : Attempt
+  pub before : old.attempts ≡ front ++ last ∷ []
+  pub number : reply.number ≡ last.number
+  pub silent : last.reply ≡ None
+  pub open_yet : old.outcome ≡ Unanswered
+  pub after : new ≡ record old { attempts = front ++ record last { reply = Some reply } ∷ [] }
+
+-- what the segment's outcome then has to be
+abbrev pub outcome_after : Decision → Outcome
+outcome_after Charge = Charged
+outcome_after Refuse = Refused
+outcome_after (RetryAfter ms) = Unanswered
+
+abbrev pub with_outcome : Outcome → SegmentEnd → SegmentEnd
+with_outcome outcome s = record s { outcome = outcome }
+
+pub record Answers (most : ℕ) (old : SegmentEnd) (reply : Reply) (decision : Decision) (new : SegmentEnd) : Type 0 where
+  pub hears : Hears old reply new
+  -- with that outcome it is settled, or waits to be sent again
+  pub state : IsSettled most (with_outcome (outcome_after decision) new) ⊎ IsWaiting most (with_outcome (outcome_after decision) new)
+
+-- what draws did to the seat
+abbrev pub Draws : View → Number → View → Type 0
+Draws v (Drawn n) w = HasDrawn v (n ∷ []) w
+Draws v UsedUp w = HasDrawn v [] w
+Draws v Contended w = HasDrawn v [] w
+
+-- what a try to send does to the seat and to the list of attempts
+abbrev pub Tries : Rules → Message → Part → View → List Attempt → Tried → View → List Attempt → Type 0
+Tries rules m part v old (Sent n) w new =
+    HasDrawn v (n ∷ []) w × ((octets : List ℕ) × (new ≡ old ++ record { number = n; sent = octets; reply = None } ∷ []) × SpellsSubmit rules m part n octets)
+Tries rules m part v old Later w new = HasDrawn v [] w × (new ≡ old)
+Tries rules m part v old Never w new = (HasDrawn v [] w ⊎ ((n : ℕ) × HasDrawn v (n ∷ []) w)) × (new ≡ old)
+
+-- the share after the credits of a segment moved; nothing moves where there is no account
+abbrev pub charged_to : Option ℕ → ℕ → Share → Share
+charged_to None cost s = s
+charged_to (Some account) cost s = changed s account (charged_more cost)
+
+abbrev pub given_back_to : Option ℕ → ℕ → Share → Share
+given_back_to None cost s = s
+given_back_to (Some account) cost s = changed s account (returned_more cost)
+
+abbrev pub settled_to : Outcome → Option ℕ → ℕ → Share → Share
+settled_to Charged account cost s = charged_to account cost s
+settled_to Refused account cost s = given_back_to account cost s
+settled_to Unsent account cost s = given_back_to account cost s
+settled_to Unanswered account cost s = s
+
+-- a segment end is out of its place, where some other stands meanwhile
+abbrev pub Takes : List MessageEnd → ℕ → ℕ → SegmentEnd → List MessageEnd → Type 0
+Takes old k p s new = (segment_at old k p ≡ Some s) × ((b : SegmentEnd) × (new ≡ put old k p b))
+
+-- a segment that is given up was never sent, or was refused for now by its last answer
+abbrev pub given_outcome : List Attempt → Outcome
+given_outcome [] = Unsent
+given_outcome (a ∷ attempts) = Refused
+
+-- a waiting segment is given up
+pub record GivesUp (old new : SegmentEnd) : Type 0 where
+  pub cost : new.cost ≡ old.cost
+  pub attempts : new.attempts ≡ old.attempts
+  pub outcome : new.outcome ≡ given_outcome old.attempts
+  pub state : (most : ℕ) → IsWaiting most old → IsSettled most new

@@ -1,0 +1,88 @@
+//! How the addresses of a message are sent (SMPP 3.4 5.2.5 to 5.2.9).
+ghost use Rattle.std.specs.Prelude.{◌≡◌, ◌↔◌, IfSome, IsNone, IsTrue};
+ghost use Rattle.sms_book.specs.Tariffs.{digits_of};
+ghost use Rattle.sms_worker.specs.Addresses.{Address, IsNumber, IsName, IsSource, IsDestination, as_number, owned};
+
+/// An address as it is sent.
+#[derive(Clone, Copy, Debug)]
+pub struct AddressRef<'a> {
+    /// The type of number.
+    pub ton: u8,
+    /// The numbering plan.
+    pub npi: u8,
+    pub octets: &'a [u8],
+}
+
+/// The digits of an address, without its leading `+`.
+fn without_plus(text: &[u8]) -> &[u8]
+    ensures { result.now ≡ digits_of text.now }
+{
+    match text.split_first() {
+        Some((first, rest)) if *first == b'+' => rest,
+        _ => text,
+    }
+}
+
+/// Whether it is a number: 1 to 20 digits, and maybe a `+` before them.
+fn is_number(text: &[u8]) -> bool
+    ensures { IsTrue result ↔ IsNumber text.now }
+{
+    let digits = without_plus(text);
+    1 <= digits.len() && digits.len() <= 20 && digits.iter().all(|octet| octet.is_ascii_digit())
+}
+
+/// Whether it is a name: 1 to 11 characters that are printed.
+fn is_name(text: &[u8]) -> bool
+    ensures { IsTrue result ↔ IsName text.now }
+{
+    1 <= text.len() && text.len() <= 11 && text.iter().all(|octet| 0x20 <= *octet && *octet <= 0x7E)
+}
+
+/// A number: international, of the telephone network.
+fn number(text: &[u8]) -> AddressRef<'_>
+    ensures { owned result ≡ as_number text.now }
+{
+    AddressRef {
+        ton: 1,
+        npi: 1,
+        octets: without_plus(text),
+    }
+}
+
+/// The destination, where it is good.
+pub(crate) fn destination(text: &str) -> Option<AddressRef<'_>>
+    ensures good { IfSome result (λ a. IsDestination text.now (owned a)) }
+    ensures bad { IsNone result → ¬ IsNumber text.now }
+{
+    let text = text.as_bytes();
+    if is_number(text) {
+        return Some(number(text));
+    }
+    None
+}
+
+/// The source, where it is good.
+pub(crate) fn source(text: &str) -> Option<AddressRef<'_>>
+    ensures good { IfSome result (λ a. IsSource text.now (owned a)) }
+    ensures bad { IsNone result → (a : Address) → ¬ IsSource text.now a }
+{
+    let text = text.as_bytes();
+    if is_number(text) {
+        return Some(number(text));
+    }
+    if text.is_empty() {
+        return Some(AddressRef {
+            ton: 0,
+            npi: 0,
+            octets: text,
+        });
+    }
+    if is_name(text) {
+        return Some(AddressRef {
+            ton: 5,
+            npi: 0,
+            octets: text,
+        });
+    }
+    None
+}

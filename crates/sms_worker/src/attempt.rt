@@ -1,0 +1,231 @@
+//! One attempt: a slot, a number, a frame, the gate, and the wire.
+ghost use Rattle.std.specs.Prelude.{◌≡◌, ℕ, ◌+◌, ◌<◌, ◌≤◌, ◌⊎◌, vec_len, vec_capacity, IfSome, IfOk, IsTrue};
+ghost use Rattle.sms_core.specs.Limits.{most_slots};
+ghost use Rattle.sms_segment.specs.Part.{HasSeptets};
+ghost use Rattle.sms_window.specs.OpenSlots.{IsOpen};
+ghost use Rattle.sms_worker.specs.Keeps.{slots_of};
+ghost use Rattle.sms_worker.specs.Submits.{SpellsSubmit};
+ghost use Rattle.sms_worker.specs.Steps.{Tries, Draws};
+
+use crate::address::{destination, source};
+use crate::desk::{Clock, Desk, Gate};
+use crate::ends::Attempt;
+use crate::message::Message;
+use crate::open::{Open, Place};
+use crate::rules::Rules;
+use sms_bind::{Receipt, WireFault};
+use sms_book::BookName;
+use sms_pdu::{BodyRef, Frame, PduRef, SmRef, encode_into};
+use sms_segment::Part;
+use sms_window::{Claim, Draw, Window, WindowSeat};
+use std::alloc::Global;
+use std::io::Write;
+use std::sync::Wait;
+use std::sync::atomic::Ordering;
+
+/// What came of a try to send a segment.
+#[derive(Clone, Copy, Debug, PartialEq, Eq)]
+pub enum Tried {
+    /// It was sent with this number.
+    Sent(u32),
+    /// It may be tried in the next turn.
+    Later,
+    /// It has to be given up.
+    Never,
+}
+
+/// What came of draws.
+#[derive(Clone, Copy, Debug, PartialEq, Eq)]
+pub enum Number {
+    Drawn(u32),
+    UsedUp,
+    Contended,
+}
+
+/// Draws a number, in at most 1,000 tries.
+fn draw(window: &Window, seat: &mut WindowSeat) -> Number
+    requires own { seat.old.window ≡ window.now }
+    ensures window { seat.new.window ≡ seat.old.window }
+    ensures slots { seat.new.view.slots ≡ seat.old.view.slots }
+    ensures drawn { Draws seat.old.view result seat.new.view }
+{
+    for _ in 0u32..1000 {
+        match window.try_draw(seat) {
+            Draw::Number(number) => return Number::Drawn(number),
+            Draw::UsedUp => return Number::UsedUp,
+            Draw::Contended(_) => {}
+        }
+    }
+    Number::Contended
+}
+
+/// The frame of the submit_sm with this number; none where memory runs out.
+fn frame_for(
+    alloc: Global,
+    rules: &Rules,
+    message: &Message,
+    part: &Part,
+    number: u32,
+) -> Option<Frame>
+    requires { HasSeptets part.now }
+    ensures { IfSome result (λ frame. SpellsSubmit rules.now message.now part.now number frame) }
+{
+    let Some(from) = source(message.source.as_str()) else {
+        return None;
+    };
+    let Some(to) = destination(message.dest.as_str()) else {
+        return None;
+    };
+    let Ok(short_message) = part.short_message(alloc) else {
+        return None;
+    };
+    let sm = SmRef {
+        service_type: &[],
+        source_ton: from.ton,
+        source_npi: from.npi,
+        source_addr: from.octets,
+        dest_ton: to.ton,
+        dest_npi: to.npi,
+        dest_addr: to.octets,
+        esm_class: part.esm_class(),
+        protocol_id: 0,
+        priority: 0,
+        schedule: &[],
+        validity: &[],
+        registered: u8::from(rules.receipts),
+        replace: 0,
+        data_coding: part.data_coding(),
+        default_msg: 0,
+        short_message: short_message.as_slice(),
+        params: &[],
+    };
+    let pdu = PduRef {
+        status: 0,
+        number,
+        body: BodyRef::Submit(sm),
+    };
+    let mut octets = Vec::new(alloc);
+    match encode_into(&mut octets, &pdu) {
+        Ok(_) => Some(Frame::new(octets)),
+        Err(_) => None,
+    }
+}
+
+/// Posts the number in the slot and sends the frame, in one holding of the wire's lock. None where
+/// nothing was sent.
+fn post_and_send<N: BookName, W: Write, G: Gate, K: Clock, R: Wait>(
+    desk: &Desk<N, W, G, K, R>,
+    slot: u32,
+    number: u32,
+    frame: Frame,
+) -> Option<Receipt>
+    requires slot { slot < most_slots }
+    ensures { IfSome result (λ r. r ≡ frame) }
+{
+    let mut wire = desk.line.wire.lock(desk.rt);
+    if wire.broken() {
+        return None;
+    }
+    if desk
+        .line
+        .slots
+        .post(desk.rt, slot, desk.place, number)
+        .is_err()
+    {
+        return None;
+    }
+    match wire.send(frame) {
+        Ok(receipt) => Some(receipt),
+        Err(WireFault::Write(receipt)) => {
+            desk.line.down.store(true, Ordering::SeqCst);
+            Some(receipt)
+        }
+        Err(WireFault::Broken) => None,
+    }
+}
+
+/// Sends a part through a slot that is claimed, and lists the attempt.
+fn try_send<N: BookName, W: Write, G: Gate, K: Clock, R: Wait>(
+    desk: &Desk<N, W, G, K, R>,
+    seat: &mut WindowSeat,
+    slot: u32,
+    message: &Message,
+    part: &Part,
+    attempts: &mut Vec<Attempt>,
+) -> Tried
+    requires own { seat.old.window ≡ desk.now.window.now }
+    requires slot { slot < most_slots }
+    requires septets { HasSeptets part.now }
+    ensures window { seat.new.window ≡ seat.old.window }
+    ensures slots { seat.new.view.slots ≡ seat.old.view.slots }
+    ensures tried { Tries desk.now.rules.now message.now part.now seat.old.view attempts.old.items result seat.new.view attempts.new.items }
+{
+    let number = match draw(desk.window, seat) {
+        Number::Drawn(number) => number,
+        Number::UsedUp => return Tried::Never,
+        Number::Contended => return Tried::Later,
+    };
+    let Some(frame) = frame_for(desk.alloc, desk.rules, message, part, number) else {
+        return Tried::Never;
+    };
+    if attempts.reserve(1).is_err() {
+        return Tried::Never;
+    }
+    if !desk.gate.pass(desk.worker, number) {
+        return Tried::Never;
+    }
+    let Some(sent) = post_and_send(desk, slot, number, frame) else {
+        return Tried::Never;
+    };
+    attempts.push_reserved(Attempt {
+        number,
+        sent,
+        reply: None,
+    });
+    Tried::Sent(number)
+}
+
+/// Claims a slot and sends a part through it. The slot is open then, or released.
+pub(crate) fn start<N: BookName, W: Write, G: Gate, K: Clock, R: Wait>(
+    desk: &Desk<N, W, G, K, R>,
+    seat: &mut WindowSeat,
+    open: &mut Vec<Open>,
+    place: Place,
+    message: &Message,
+    part: &Part,
+    attempts: &mut Vec<Attempt>,
+) -> Tried
+    requires own { seat.old.window ≡ desk.now.window.now }
+    requires room { vec_len open.old < vec_capacity open.old }
+    requires septets { HasSeptets part.now }
+    ensures window { seat.new.window ≡ seat.old.window }
+    ensures open { (base : ℕ) → IsOpen base (slots_of open.old.items) seat.old.view.slots → IsOpen base (slots_of open.new.items) seat.new.view.slots }
+    ensures tried { Tries desk.now.rules.now message.now part.now seat.old.view attempts.old.items result seat.new.view attempts.new.items }
+{
+    let slot = match desk.window.try_claim(seat) {
+        Claim::Got(slot) => slot,
+        Claim::Full => return Tried::Later,
+        Claim::Contended(_) => return Tried::Later,
+    };
+    let tried = try_send(desk, seat, slot, message, part, attempts);
+    match tried {
+        Tried::Sent(number) => {
+            let since_ms = desk.clock.now_ms();
+            open.push_reserved(Open {
+                number,
+                slot,
+                place,
+                since_ms,
+            });
+            tried
+        }
+        Tried::Later => {
+            desk.window.release(seat, slot);
+            tried
+        }
+        Tried::Never => {
+            desk.window.release(seat, slot);
+            tried
+        }
+    }
+}

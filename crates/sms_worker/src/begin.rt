@@ -1,0 +1,187 @@
+//! Beginning a message: its parts, its credits, and its end so far.
+ghost use Rattle.std.specs.Prelude.{◌≡◌, ℕ, ◌<◌, ◌≤◌, ◌↔◌, IsTrue, IfOk, IfErr, OnOk, length, vec_len};
+ghost use Rattle.sms_worker.specs.Begins.{ready, Begins};
+ghost use Rattle.sms_book.specs.Tariffs.{cost_of};
+ghost use Rattle.sms_segment.specs.Message.{IsTooLong};
+ghost use Rattle.sms_worker.specs.Submits.{HasAddresses, coded_text, message_parts, reference_of};
+ghost use Rattle.sms_worker.specs.Told.{AreParts, IsKnown, IsNotCut, IsRefusalOf, IsResultOf};
+ghost use Rattle.std.specs.Prelude.{string_bytes};
+
+use crate::address::{destination, source};
+use crate::ends::{
+    Attempts, MessageEnd, MessageRefusal, MessageResult, Outcome, SegmentEnd, Segments,
+};
+use crate::message::Message;
+use crate::rules::Rules;
+use crate::texts::{Link, Texts};
+use sms_alphabet::choose;
+use sms_book::{Book, BookName, Shares};
+use sms_segment::{CutError, Part, Reference, cut};
+use std::alloc::{AllocError, Global};
+use std::sync::{Mutex, Wait};
+
+/// Whether both addresses are good.
+fn has_addresses(message: &Message) -> bool
+    ensures { IsTrue result ↔ HasAddresses message.now }
+{
+    let Some(_from) = source(message.source.as_str()) else {
+        return false;
+    };
+    let Some(_to) = destination(message.dest.as_str()) else {
+        return false;
+    };
+    true
+}
+
+fn is_known(account: Option<usize>, accounts: usize) -> bool
+    ensures { IsTrue result ↔ IsKnown accounts account }
+{
+    match account {
+        Some(account) => account < accounts,
+        None => false,
+    }
+}
+
+/// The reference that a message's parts have in common.
+fn reference_for(rules: &Rules, message: &Message) -> Reference
+    ensures { result ≡ reference_of rules.now message.now }
+{
+    if rules.long_reference {
+        Reference::Long((message.index % 65536) as u16)
+    } else {
+        Reference::Short((message.index % 256) as u8)
+    }
+}
+
+/// The parts of a message.
+fn parts_for(alloc: Global, rules: &Rules, message: &Message) -> Result<Vec<Part>, MessageRefusal>
+    ensures parts { IfOk result (λ parts. AreParts rules.now message.now parts.items) }
+    ensures refused { IfErr result (λ e. IsNotCut rules.now message.now e) }
+{
+    let Ok(text) = choose(alloc, message.text.as_str()) else {
+        return Err(MessageRefusal::OutOfMemory);
+    };
+    match cut(alloc, &text, reference_for(rules, message)) {
+        Ok(parts) => Ok(parts),
+        Err(CutError::TooLong) => Err(MessageRefusal::TooLong),
+        Err(CutError::OutOfMemory) => Err(MessageRefusal::OutOfMemory),
+    }
+}
+
+/// So many segment ends that wait to be sent.
+fn waiting_ends(alloc: Global, count: usize, cost: u32) -> Result<Vec<SegmentEnd>, AllocError>
+    ensures { IfOk result (λ ends. ends.items ≡ ready cost count) }
+{
+    let mut ends = Vec::with_capacity(alloc, count)?;
+    for _ in 0..count {
+        ends.push_reserved(SegmentEnd {
+            cost,
+            attempts: Attempts::new(Vec::new(alloc)),
+            outcome: Outcome::Unanswered,
+        });
+    }
+    Ok(ends)
+}
+
+/// A link for each of so many parts.
+fn links_for(alloc: Global, count: usize) -> Result<Vec<Link>, AllocError> {
+    let mut links = Vec::with_capacity(alloc, count)?;
+    for _ in 0..count {
+        links.push(Link {
+            due_ms: 0,
+            next: None,
+        })?;
+    }
+    Ok(links)
+}
+
+/// What a message is sent as, where nothing but its credits stands against it.
+fn prepare(
+    alloc: Global,
+    rules: &Rules,
+    accounts: usize,
+    down: bool,
+    message: &Message,
+) -> Result<(Texts, Vec<SegmentEnd>), MessageRefusal>
+    ensures known { IfOk result (λ r. IsKnown accounts message.now.account × HasAddresses message.now) }
+    ensures parts { IfOk result (λ r. AreParts rules.now message.now r.0) }
+    ensures ends { IfOk result (λ r. r.1.items ≡ ready (cost_of rules.now.tariff (string_bytes message.now.dest)) (length (message_parts rules.now message.now))) }
+    ensures refused { IfErr result (λ e. IsRefusalOf rules.now accounts message.now e) }
+{
+    if down {
+        return Err(MessageRefusal::BindClosed);
+    }
+    if !is_known(message.account, accounts) {
+        return Err(MessageRefusal::NoAccount);
+    }
+    if !has_addresses(message) {
+        return Err(MessageRefusal::BadAddress);
+    }
+    let parts = match parts_for(alloc, rules, message) {
+        Ok(parts) => parts,
+        Err(refusal) => return Err(refusal),
+    };
+    let Ok(links) = links_for(alloc, parts.len()) else {
+        return Err(MessageRefusal::OutOfMemory);
+    };
+    let cost = rules.tariff.cost(message.dest.as_str());
+    match waiting_ends(alloc, parts.len(), cost) {
+        Ok(ends) => Ok((Texts::new(parts, links), ends)),
+        Err(_) => Err(MessageRefusal::OutOfMemory),
+    }
+}
+
+/// The end of a message that is refused.
+fn refused<N: BookName>(
+    alloc: Global,
+    shares: &Shares<N>,
+    rules: &Rules,
+    message: &Message,
+    refusal: MessageRefusal,
+) -> (Texts, MessageEnd)
+    requires { IsRefusalOf rules.now (length shares.now.amounts) message.now refusal }
+    ensures { Begins rules.now message.now shares.now shares.now result.0 result.1 }
+{
+    let texts = Texts::none(alloc);
+    let end = MessageEnd {
+        index: message.index,
+        result: MessageResult::Refused(refusal),
+    };
+    (texts, end)
+}
+
+/// Reserves the credits of a message, and makes its end so far.
+pub(crate) fn begun<N: BookName, R: Wait>(
+    rt: &R,
+    alloc: Global,
+    book: &Mutex<Book<N>>,
+    rules: &Rules,
+    shares: &mut Shares<N>,
+    down: bool,
+    message: &Message,
+) -> (Texts, MessageEnd)
+    ensures { Begins rules.now message.now shares.old shares.new result.0 result.1 }
+{
+    let accounts = shares.accounts();
+    let (texts, ends) = match prepare(alloc, rules, accounts, down, message) {
+        Ok(prepared) => prepared,
+        Err(refusal) => return refused(alloc, shares, rules, message, refusal),
+    };
+    let Some(account) = message.account else {
+        return refused(alloc, shares, rules, message, MessageRefusal::NoCredit);
+    };
+    let cost = u64::from(rules.tariff.cost(message.dest.as_str()));
+    let Some(credits) = (ends.len() as u64).checked_mul(cost) else {
+        return refused(alloc, shares, rules, message, MessageRefusal::NoCredit);
+    };
+    match book.lock(rt).reserve(shares, account, credits) {
+        Ok(()) => {
+            let end = MessageEnd {
+                index: message.index,
+                result: MessageResult::Sent(Segments::new(ends)),
+            };
+            (texts, end)
+        }
+        Err(_) => refused(alloc, shares, rules, message, MessageRefusal::NoCredit),
+    }
+}

@@ -1,0 +1,135 @@
+//! Taking the answers that the ring shows, and giving up those that wait too long.
+ghost use Rattle.std.specs.Prelude.{◌≡◌, ℕ, ◌∷◌, ◌++◌, [], List, length};
+ghost use Rattle.rtrb.specs.Ring.{received, SameConsumer};
+ghost use Rattle.sms_pdu.specs.declared.reply.Reply.{Reply};
+ghost use Rattle.sms_worker.specs.Told.{HeardSince};
+
+use crate::call::Call;
+use crate::desk::{Clock, Desk};
+use crate::open::Open;
+use crate::run::Run;
+use rtrb::Consumer;
+use sms_book::BookName;
+use sms_pdu::Reply;
+use sms_slot::{Expired, Taken};
+use std::snapshot::Snapshot;
+use std::sync::Wait;
+
+/// Where the open request with this number is. They stand in the order of their numbers, since a
+/// seat's numbers rise.
+fn find(open: &[Open], number: u32) -> Option<usize> {
+    let mut low = 0;
+    let mut high = open.len();
+    while low < high {
+        let middle = low + (high - low) / 2;
+        let found = open[middle].number;
+        if found == number {
+            return Some(middle);
+        }
+        if found < number {
+            low = middle + 1;
+        } else {
+            high = middle;
+        }
+    }
+    None
+}
+
+impl<N: BookName, C: Call> Run<N, C> {
+    /// Notes what the consumer has received after one more pop.
+    fn note(&mut self, consumer: &Consumer<Reply>)
+        requires more { (reply : Reply) × (received consumer.now ≡ self.old.heard ++ reply ∷ []) }
+        ensures heard { self.new.heard ≡ received consumer.now }
+        ensures since { (reply : Reply) → received consumer.now ≡ self.old.heard ++ reply ∷ [] → HeardSince (length C.start.received) self.new.heard reply }
+    {
+        self.heard = Snapshot::of(consumer);
+    }
+
+    /// Takes the reply for the open request with its number; one that none has is dropped. Its slot is
+    /// answered then, since the answer went into the ring while the slot was locked.
+    fn bring<W, G, K: Clock, R: Wait>(&mut self, desk: &Desk<N, W, G, K, R>, reply: Reply)
+        requires window { desk.now.window.now ≡ C.start.seat.window }
+        requires rules { desk.now.rules.now ≡ C.start.rules }
+        requires heard { HeardSince (length C.start.received) self.old.heard reply }
+        ensures heard { self.new.heard ≡ self.old.heard }
+    {
+        let Some(i) = find(self.open.as_slice(), reply.number) else {
+            return;
+        };
+        if i >= self.open.len() {
+            return;
+        }
+        let open = self.open[i];
+        if desk.line.slots.take(desk.rt, open.slot, open.number) != Taken::Got {
+            return;
+        }
+        self.close(desk, i);
+        match self.settle_answer(desk, open.place, reply) {
+            Some((attempts, decision)) => {
+                self.follow(desk.alloc, desk.clock, open.place, attempts, decision)
+            }
+            None => {}
+        }
+    }
+
+    /// Takes the replies that the ring shows, at most as many as it has room for.
+    pub(crate) fn hear<W, G, K: Clock, R: Wait>(
+        &mut self,
+        desk: &Desk<N, W, G, K, R>,
+        consumer: &mut Consumer<Reply>,
+    ) -> bool
+        requires window { desk.now.window.now ≡ C.start.seat.window }
+        requires rules { desk.now.rules.now ≡ C.start.rules }
+        requires heard { self.old.heard ≡ received consumer.old }
+        ensures ring { SameConsumer consumer.old consumer.new }
+        ensures heard { self.new.heard ≡ received consumer.new }
+    {
+        let mut any = false;
+        for _ in 0u32..64 {
+            let Ok(reply) = consumer.pop() else {
+                return any;
+            };
+            any = true;
+            self.take_reply(desk, consumer, reply);
+        }
+        any
+    }
+
+    /// Notes a reply that was popped, and brings it to its request.
+    fn take_reply<W, G, K: Clock, R: Wait>(
+        &mut self,
+        desk: &Desk<N, W, G, K, R>,
+        consumer: &Consumer<Reply>,
+        reply: Reply,
+    )
+        requires window { desk.now.window.now ≡ C.start.seat.window }
+        requires rules { desk.now.rules.now ≡ C.start.rules }
+        requires heard { received consumer.now ≡ self.old.heard ++ reply ∷ [] }
+        ensures heard { self.new.heard ≡ received consumer.now }
+    {
+        self.note(consumer);
+        self.bring(desk, reply);
+    }
+
+    /// Expires an open request, where it isn't answered. One that is answered is left: its answer
+    /// stands in the ring.
+    pub(crate) fn expire_at<W, G, K: Clock, R: Wait>(
+        &mut self,
+        desk: &Desk<N, W, G, K, R>,
+        i: usize,
+    ) -> bool
+        requires window { desk.now.window.now ≡ C.start.seat.window }
+        ensures heard { self.new.heard ≡ self.old.heard }
+    {
+        if i >= self.open.len() {
+            return false;
+        }
+        let open = self.open[i];
+        if desk.line.slots.expire(desk.rt, open.slot, open.number) == Expired::Answered {
+            return false;
+        }
+        self.close(desk, i);
+        self.forget(desk.alloc, open.place);
+        true
+    }
+}

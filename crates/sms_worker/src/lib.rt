@@ -1,0 +1,33 @@
+//! One worker of a bind: it cuts its messages into segments, reserves their credits, sends them
+//! through slots of the window, and settles each by its answer.
+#![tactic(auto)]
+
+mod address;
+mod attempt;
+mod begin;
+mod call;
+mod desk;
+mod ends;
+mod hear;
+pub mod laws;
+mod message;
+mod open;
+mod places;
+mod queue;
+mod rules;
+mod run;
+mod segment;
+mod settling;
+#[cfg(test)]
+mod tests;
+mod texts;
+mod turns;
+mod work;
+
+pub use desk::{Clock, Gate, Pause};
+pub use ends::{
+    Attempt, Attempts, MessageEnd, MessageRefusal, MessageResult, Outcome, SegmentEnd, Segments,
+};
+pub use message::Message;
+pub use rules::Rules;
+pub use work::{Worker, WorkerEnd, run_worker};

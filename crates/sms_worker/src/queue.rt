@@ -1,0 +1,121 @@
+//! The segments that wait to be sent again, in the order in which their times come.
+ghost use Rattle.std.specs.Prelude.{◌≡◌, vec_len, vec_capacity};
+
+use crate::open::Place;
+use crate::texts::{Link, Texts};
+
+/// The segments with one count of attempts. Their wait is one number, so that the one that came
+/// first is due first. Each is linked to the next.
+#[derive(Clone, Copy, Debug, PartialEq, Eq)]
+struct Queue {
+    first: Option<Place>,
+    last: Option<Place>,
+}
+
+/// A queue for each count of attempts. That takes no memory, so no segment is lost.
+#[derive(Clone, Copy, Debug, PartialEq, Eq)]
+pub struct Queues {
+    all: [Queue; 10],
+}
+
+/// The link of the segment at a place.
+fn link_at(texts: &[Texts], place: Place) -> Link {
+    if place.message < texts.len() {
+        return texts[place.message].link(place.part);
+    }
+    Link {
+        due_ms: 0,
+        next: None,
+    }
+}
+
+/// Gives the segment at a place another link.
+fn set_link_at(texts: &mut Vec<Texts>, place: Place, link: Link)
+    ensures same { texts.new.items ≡ texts.old.items }
+    ensures room { (vec_len texts.new ≡ vec_len texts.old) × (vec_capacity texts.new ≡ vec_capacity texts.old) }
+{
+    if place.message >= texts.len() {
+        return;
+    }
+    let kept = &mut texts[place.message];
+    kept.set_link(place.part, link);
+}
+
+impl Queues {
+    /// No segment waits.
+    pub fn none() -> Queues {
+        let none = Queue {
+            first: None,
+            last: None,
+        };
+        Queues { all: [none; 10] }
+    }
+
+    /// Whether no segment waits.
+    pub fn is_empty(&self) -> bool {
+        self.all.iter().all(|queue| queue.first.is_none())
+    }
+
+    /// Lets a segment with so many attempts wait until its time.
+    pub fn push(&mut self, texts: &mut Vec<Texts>, attempts: usize, place: Place, due_ms: u64)
+        ensures same { texts.new.items ≡ texts.old.items }
+        ensures room { (vec_len texts.new ≡ vec_len texts.old) × (vec_capacity texts.new ≡ vec_capacity texts.old) }
+    {
+        if attempts < 1 || attempts > 10 {
+            return;
+        }
+        let queue = &mut self.all[attempts - 1];
+        let link = Link { due_ms, next: None };
+        set_link_at(texts, place, link);
+        match queue.last {
+            Some(last) => {
+                let before = link_at(texts.as_slice(), last);
+                let link = Link {
+                    due_ms: before.due_ms,
+                    next: Some(place),
+                };
+                set_link_at(texts, last, link);
+            }
+            None => queue.first = Some(place),
+        }
+        queue.last = Some(place);
+    }
+
+    /// The queue whose first segment is due before those of the others, if its time has come.
+    pub fn due(&self, texts: &[Texts], now_ms: u64) -> Option<usize> {
+        let mut best = None;
+        let mut best_ms = now_ms;
+        for i in 0..10 {
+            if let Some(first) = self.all[i].first {
+                let due_ms = link_at(texts, first).due_ms;
+                if due_ms < best_ms || (best.is_none() && due_ms == best_ms) {
+                    best = Some(i);
+                    best_ms = due_ms;
+                }
+            }
+        }
+        best
+    }
+
+    /// The first segment of a queue.
+    pub fn first(&self, queue: usize) -> Option<Place> {
+        if queue < 10 {
+            return self.all[queue].first;
+        }
+        None
+    }
+
+    /// Takes the first segment of a queue out.
+    pub fn pop(&mut self, texts: &[Texts], queue: usize) {
+        if queue >= 10 {
+            return;
+        }
+        let queue = &mut self.all[queue];
+        if let Some(first) = queue.first {
+            queue.first = link_at(texts, first).next;
+            if queue.first.is_none() {
+                queue.last = None;
+            }
+        }
+    }
+}

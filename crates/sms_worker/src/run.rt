@@ -1,0 +1,48 @@
+//! The state of one call of `run_worker`.
+
+use crate::call::Call;
+use crate::ends::MessageEnd;
+use crate::message::Message;
+use crate::open::Open;
+use crate::queue::Queues;
+use crate::texts::Texts;
+use rtrb::Consumer;
+use sms_book::{BookName, Shares};
+use sms_pdu::Reply;
+use sms_window::WindowSeat;
+use std::marker::{Model, PhantomData};
+use std::snapshot::Snapshot;
+
+/// What a worker has: its messages and what became of those that it began, and what it sends with.
+/// `open`, `queues` and `next` say where to look; what they say is checked against the ends.
+/// Contracts see the replies that it has heard.
+#[derive(Drop)]
+pub struct Run<N: BookName, C: Call> {
+    pub messages: Vec<Message>,
+    pub ends: Vec<MessageEnd>,
+    pub texts: Vec<Texts>,
+    pub open: Vec<Open>,
+    /// The segments that are to be sent again.
+    pub queues: Queues,
+    /// The part of the last message begun that is sent next.
+    pub next: usize,
+    pub seat: WindowSeat,
+    pub shares: Shares<N>,
+    /// The consumer as it was after the last pop.
+    pub heard: Snapshot<Consumer<Reply>>,
+    pub of: PhantomData<C>,
+}
+
+impl<N: BookName, C: Call> Model for Run<N, C> {
+    ghost use Rattle.std.specs.Prelude.{◌≤◌, vec_len, vec_capacity};
+    ghost use Rattle.rtrb.specs.Ring.{received};
+    ghost use Rattle.sms_worker.specs.RunState.{RunState};
+    ghost use Rattle.sms_worker.specs.Keeps.{Keeps};
+
+    ghost Value = { RunState };
+
+    ghost view = { λ r. record { heard = received r.heard.value; ends = r.ends.items } };
+
+    ghost invariant = { λ r. Keeps C.start r.messages.items r.ends.items r.texts.items r.open.items r.seat r.shares (received r.heard.value)
+        × (vec_len r.messages ≤ vec_capacity r.ends) × (vec_len r.messages ≤ vec_capacity r.texts) };
+}

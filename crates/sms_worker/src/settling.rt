@@ -1,0 +1,289 @@
+//! Steps on one segment of a run: an answer, an attempt, the end.
+ghost use Rattle.std.specs.Prelude.{◌≡◌, ℕ, ◌+◌, ◌≤◌, ◌<◌, ◌⊎◌, true, false, Some, None, length};
+ghost use Rattle.sms_book.specs.Portions.{amounts_at};
+ghost use Rattle.sms_worker.specs.declared.ends.SegmentEnd.{SegmentEnd};
+ghost use Rattle.sms_worker.specs.Ends.{segment_at};
+ghost use Rattle.sms_worker.specs.Steps.{charged_to, given_back_to, settled_to, outcome_after};
+ghost use Rattle.sms_worker.specs.Sweeps.{SweptAt, InPlace};
+ghost use Rattle.sms_worker.specs.Told.{HeardSince, IsSettled};
+
+use crate::attempt::{Tried, start};
+use crate::begin::begun;
+use crate::call::Call;
+use crate::desk::{Clock, Desk, Gate};
+use crate::ends::{Attempts, Outcome, SegmentEnd};
+use crate::open::Place;
+use crate::places::{give, take};
+use crate::run::Run;
+use crate::segment::{answer, given_up, is_waiting};
+use crate::texts::settle_text;
+use sms_book::{Book, BookName, Shares};
+use sms_pdu::Reply;
+use sms_session::Decision;
+use std::alloc::Global;
+use std::io::Write;
+use std::sync::{Mutex, Wait};
+
+/// Charges a segment's credits to its account, if it has one.
+fn charge<N: BookName, R: Wait>(
+    rt: &R,
+    book: &Mutex<Book<N>>,
+    shares: &mut Shares<N>,
+    account: Option<usize>,
+    cost: u32,
+)
+    requires { (a : ℕ) → account ≡ Some a → (0 < cost) × (cost ≤ (amounts_at shares.old.amounts a).reserved) }
+    ensures { shares.new ≡ charged_to account cost shares.old }
+{
+    if let Some(account) = account {
+        book.lock(rt).charge(shares, account, u64::from(cost));
+    }
+}
+
+/// Gives a segment's credits back to its account, if it has one.
+fn give_back<N: BookName, R: Wait>(
+    rt: &R,
+    book: &Mutex<Book<N>>,
+    shares: &mut Shares<N>,
+    account: Option<usize>,
+    cost: u32,
+)
+    requires { (a : ℕ) → account ≡ Some a → (0 < cost) × (cost ≤ (amounts_at shares.old.amounts a).reserved) }
+    ensures { shares.new ≡ given_back_to account cost shares.old }
+{
+    if let Some(account) = account {
+        book.lock(rt).give_back(shares, account, u64::from(cost));
+    }
+}
+
+/// Moves a segment's credits as was decided, and says its outcome.
+fn settle<N: BookName, R: Wait>(
+    rt: &R,
+    book: &Mutex<Book<N>>,
+    shares: &mut Shares<N>,
+    account: Option<usize>,
+    cost: u32,
+    decision: Decision,
+) -> Outcome
+    requires { (a : ℕ) → account ≡ Some a → (0 < cost) × (cost ≤ (amounts_at shares.old.amounts a).reserved) }
+    ensures outcome { result ≡ outcome_after decision }
+    ensures shares { shares.new ≡ settled_to (outcome_after decision) account cost shares.old }
+{
+    match decision {
+        Decision::Charge => {
+            charge(rt, book, shares, account, cost);
+            Outcome::Charged
+        }
+        Decision::Refuse => {
+            give_back(rt, book, shares, account, cost);
+            Outcome::Refused
+        }
+        Decision::RetryAfter(_) => Outcome::Unanswered,
+    }
+}
+
+impl<N: BookName, C: Call> Run<N, C> {
+    /// Gives up the segment at the place, if it waits. Its part isn't needed then.
+    pub(crate) fn give_up<W, G, K, R: Wait>(&mut self, desk: &Desk<N, W, G, K, R>, place: Place)
+        ensures heard { self.new.heard ≡ self.old.heard }
+        ensures swept { SweptAt C.start.rules.policy.attempts place.message place.part self.old.ends self.new.ends }
+        ensures in_place { InPlace self.old.ends self.new.ends }
+        ensures long { length self.new.ends ≡ length self.old.ends }
+    {
+        if self.end_waiting(desk, place) {
+            self.forget(desk.alloc, place);
+        }
+    }
+
+    /// A segment of the message is settled, and needs its part no more.
+    pub(crate) fn forget(&mut self, alloc: Global, place: Place)
+        ensures { self.new ≡ self.old }
+    {
+        settle_text(alloc, &mut self.texts, place);
+    }
+
+    /// What follows an answer: the segment waits for its next attempt, or it is settled.
+    pub(crate) fn follow<K: Clock>(
+        &mut self,
+        alloc: Global,
+        clock: &K,
+        place: Place,
+        attempts: usize,
+        decision: Decision,
+    )
+        ensures { self.new ≡ self.old }
+    {
+        match decision {
+            Decision::RetryAfter(ms) => {
+                let due_ms = clock.now_ms().saturating_add(u64::from(ms));
+                self.queues.push(&mut self.texts, attempts, place, due_ms);
+            }
+            Decision::Charge => self.forget(alloc, place),
+            Decision::Refuse => self.forget(alloc, place),
+        }
+    }
+
+    /// Gives up the segment at the place, if it waits. Whether it did.
+    fn end_waiting<W, G, K, R: Wait>(&mut self, desk: &Desk<N, W, G, K, R>, place: Place) -> bool
+        ensures heard { self.new.heard ≡ self.old.heard }
+        ensures swept { SweptAt C.start.rules.policy.attempts place.message place.part self.old.ends self.new.ends }
+        ensures in_place { InPlace self.old.ends self.new.ends }
+        ensures long { length self.new.ends ≡ length self.old.ends }
+    {
+        if place.message >= self.messages.len() {
+            return false;
+        }
+        let message = &self.messages[place.message];
+        let account = message.account;
+        let Some(segment) = take(desk.alloc, &mut self.ends, place) else {
+            return false;
+        };
+        if !is_waiting(&segment) {
+            give(&mut self.ends, place, segment);
+            return false;
+        }
+        let segment = given_up(segment);
+        give_back(desk.rt, desk.book, &mut self.shares, account, segment.cost);
+        give(&mut self.ends, place, segment);
+        true
+    }
+
+    /// Records an answer at the place, and moves the credits as it says. How many attempts the segment
+    /// has then, and what was decided.
+    pub(crate) fn settle_answer<W, G, K: Clock, R: Wait>(
+        &mut self,
+        desk: &Desk<N, W, G, K, R>,
+        place: Place,
+        reply: Reply,
+    ) -> Option<(usize, Decision)>
+        requires rules { desk.now.rules.now ≡ C.start.rules }
+        requires heard { HeardSince (length C.start.received) self.old.heard reply }
+        ensures heard { self.new.heard ≡ self.old.heard }
+    {
+        if place.message >= self.messages.len() {
+            return None;
+        }
+        let message = &self.messages[place.message];
+        let account = message.account;
+        let Some(segment) = take(desk.alloc, &mut self.ends, place) else {
+            return None;
+        };
+        let (segment, decision) = answer(segment, reply, &desk.rules.policy);
+        let decision = match decision {
+            Some(decision) => decision,
+            None => {
+                give(&mut self.ends, place, segment);
+                return None;
+            }
+        };
+        let SegmentEnd { cost, attempts, .. } = segment;
+        let count = attempts.as_slice().len();
+        let outcome = settle(
+            desk.rt,
+            desk.book,
+            &mut self.shares,
+            account,
+            cost,
+            decision,
+        );
+        let segment = SegmentEnd {
+            cost,
+            attempts,
+            outcome,
+        };
+        give(&mut self.ends, place, segment);
+        Some((count, decision))
+    }
+
+    /// Tries to send the segment at the place, if it waits.
+    pub(crate) fn attempt<W: Write, G: Gate, K: Clock, R: Wait>(
+        &mut self,
+        desk: &Desk<N, W, G, K, R>,
+        place: Place,
+    ) -> Tried
+        requires window { desk.now.window.now ≡ C.start.seat.window }
+        requires rules { desk.now.rules.now ≡ C.start.rules }
+        ensures heard { self.new.heard ≡ self.old.heard }
+    {
+        if place.message >= self.messages.len() || place.message >= self.texts.len() {
+            return Tried::Never;
+        }
+        let message = &self.messages[place.message];
+        let parts = self.texts[place.message].as_slice();
+        if place.part >= parts.len() {
+            return Tried::Never;
+        }
+        let part = &parts[place.part];
+        if self.open.len() >= self.open.capacity() {
+            return Tried::Later;
+        }
+        let Some(segment) = take(desk.alloc, &mut self.ends, place) else {
+            return Tried::Never;
+        };
+        if !is_waiting(&segment) {
+            give(&mut self.ends, place, segment);
+            return Tried::Never;
+        }
+        let SegmentEnd {
+            cost,
+            attempts,
+            outcome,
+        } = segment;
+        let mut attempts = attempts.into_vec();
+        let tried = start(
+            desk,
+            &mut self.seat,
+            &mut self.open,
+            place,
+            message,
+            part,
+            &mut attempts,
+        );
+        let segment = SegmentEnd {
+            cost,
+            attempts: Attempts::new(attempts),
+            outcome,
+        };
+        give(&mut self.ends, place, segment);
+        tried
+    }
+
+    /// Releases the slot of an open request, which is open no more.
+    pub(crate) fn close<W, G, K, R>(&mut self, desk: &Desk<N, W, G, K, R>, i: usize)
+        requires window { desk.now.window.now ≡ C.start.seat.window }
+        ensures heard { self.new.heard ≡ self.old.heard }
+    {
+        if i >= self.open.len() {
+            return;
+        }
+        let open = self.open.remove(i);
+        desk.window.release(&mut self.seat, open.slot);
+    }
+
+    /// Begins the next message, if there is one.
+    pub(crate) fn begin<W, G, K, R: Wait>(&mut self, desk: &Desk<N, W, G, K, R>, down: bool) -> bool
+        requires rules { desk.now.rules.now ≡ C.start.rules }
+        ensures heard { self.new.heard ≡ self.old.heard }
+        ensures all { result ≡ false → length self.new.ends ≡ length C.start.messages }
+        ensures more { result ≡ true → (length self.new.ends ≡ length self.old.ends + 1) × (length self.new.ends ≤ length C.start.messages) }
+    {
+        let place = self.ends.len();
+        if place >= self.messages.len() {
+            return false;
+        }
+        let message = &self.messages[place];
+        let (texts, end) = begun(
+            desk.rt,
+            desk.alloc,
+            desk.book,
+            desk.rules,
+            &mut self.shares,
+            down,
+            message,
+        );
+        self.texts.push_reserved(texts);
+        self.ends.push_reserved(end);
+        self.next = 0;
+        true
+    }
+}

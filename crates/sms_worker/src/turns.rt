@@ -1,0 +1,301 @@
+//! The turns of a call, and its end.
+ghost use Rattle.std.specs.Prelude.{◌≡◌, ℕ, ◌+◌, ◌<◌, ◌≤◌, Some, false, length};
+ghost use Rattle.rtrb.specs.Ring.{received, SameConsumer};
+ghost use Rattle.sms_worker.specs.declared.ends.SegmentEnd.{SegmentEnd};
+ghost use Rattle.sms_worker.specs.Ends.{segment_at};
+ghost use Rattle.sms_worker.specs.Sweeps.{SettledTo};
+
+use crate::attempt::Tried;
+use crate::call::Call;
+use crate::desk::{Clock, Desk, Gate, Pause};
+use crate::ends::MessageResult;
+use crate::open::Place;
+use crate::run::Run;
+use rtrb::Consumer;
+use sms_book::BookName;
+use sms_pdu::Reply;
+use std::io::Write;
+use std::sync::Wait;
+use std::sync::atomic::Ordering;
+
+/// How many starts a turn makes at the most. What is left then is for the next turn, which comes at
+/// once.
+const MOST_STARTS: u32 = 65_536;
+
+/// What a step of starting did.
+#[derive(Clone, Copy, Debug, PartialEq, Eq)]
+enum Started {
+    One,
+    Nothing,
+}
+
+/// Where a segment to send was found.
+#[derive(Clone, Copy, Debug, PartialEq, Eq)]
+enum Source {
+    /// It is the first of this queue.
+    Queue(usize),
+    /// It is the next of the last message.
+    Next,
+}
+
+impl<N: BookName, C: Call> Run<N, C> {
+    // How many segments a message has.
+    fn count(&self, message: usize) -> usize
+        ensures { (q : ℕ) (s : SegmentEnd) → segment_at self.now.ends message q ≡ Some s → q < result }
+    {
+        if message >= self.ends.len() {
+            return 0;
+        }
+        let end = &self.ends[message];
+        match &end.result {
+            MessageResult::Sent(segments) => segments.len(),
+            MessageResult::Refused(_) => 0,
+        }
+    }
+
+    // The segment of the last message that is to be sent next.
+    fn next_part(&self) -> Option<Place> {
+        let begun = self.ends.len();
+        if begun == 0 || self.next >= self.count(begun - 1) {
+            return None;
+        }
+        Some(Place {
+            message: begun - 1,
+            part: self.next,
+        })
+    }
+
+    // Where to look for a segment to send: a retry that is due, else the next of the last message.
+    fn next_place(&self, now_ms: u64) -> Option<(Place, Source)> {
+        let texts = self.texts.as_slice();
+        if let Some(queue) = self.queues.due(texts, now_ms) {
+            if let Some(place) = self.queues.first(queue) {
+                return Some((place, Source::Queue(queue)));
+            }
+        }
+        match self.next_part() {
+            Some(place) => Some((place, Source::Next)),
+            None => None,
+        }
+    }
+
+    // The segment that was found there was tried.
+    fn advance(&mut self, source: Source)
+        ensures { self.new ≡ self.old }
+    {
+        match source {
+            Source::Queue(queue) => self.queues.pop(self.texts.as_slice(), queue),
+            Source::Next => self.next = self.next.saturating_add(1),
+        }
+    }
+
+    // Starts an attempt, or begins a message.
+    fn start_one<W: Write, G: Gate, K: Clock, R: Wait>(
+        &mut self,
+        desk: &Desk<N, W, G, K, R>,
+        now_ms: u64,
+    ) -> Started
+        requires window { desk.now.window.now ≡ C.start.seat.window }
+        requires rules { desk.now.rules.now ≡ C.start.rules }
+        ensures heard { self.new.heard ≡ self.old.heard }
+    {
+        let Some((place, source)) = self.next_place(now_ms) else {
+            if self.begin(desk, false) {
+                return Started::One;
+            }
+            return Started::Nothing;
+        };
+        match self.attempt(desk, place) {
+            Tried::Sent(_) => {
+                self.advance(source);
+                Started::One
+            }
+            Tried::Later => Started::Nothing,
+            Tried::Never => {
+                self.advance(source);
+                self.give_up(desk, place);
+                Started::One
+            }
+        }
+    }
+
+    // Starts attempts while fewer than `depth` are open.
+    fn start_all<W: Write, G: Gate, K: Clock, R: Wait>(
+        &mut self,
+        desk: &Desk<N, W, G, K, R>,
+    ) -> bool
+        requires window { desk.now.window.now ≡ C.start.seat.window }
+        requires rules { desk.now.rules.now ≡ C.start.rules }
+        ensures heard { self.new.heard ≡ self.old.heard }
+    {
+        let now_ms = desk.clock.now_ms();
+        let depth = desk.rules.depth as usize;
+        let mut any = false;
+        for _ in 0..MOST_STARTS {
+            if self.open.len() >= depth {
+                return any;
+            }
+            match self.start_one(desk, now_ms) {
+                Started::One => any = true,
+                Started::Nothing => return any,
+            }
+        }
+        any
+    }
+
+    // Expires what is open for too long, or all of it where the line is down.
+    fn expire<W, G, K: Clock, R: Wait>(&mut self, desk: &Desk<N, W, G, K, R>, down: bool) -> bool
+        requires window { desk.now.window.now ≡ C.start.seat.window }
+        ensures heard { self.new.heard ≡ self.old.heard }
+    {
+        let now_ms = desk.clock.now_ms();
+        let limit = u64::from(desk.rules.answer_ms);
+        let mut i = 0;
+        let mut any = false;
+        for _ in 0u32..64 {
+            if i >= self.open.len() {
+                return any;
+            }
+            let open = self.open[i];
+            if !down && now_ms.saturating_sub(open.since_ms) < limit {
+                return any;
+            }
+            if self.expire_at(desk, i) {
+                any = true;
+            } else {
+                i += 1;
+            }
+        }
+        any
+    }
+
+    // Whether nothing is left to do.
+    fn is_done(&self, down: bool) -> bool {
+        if !self.open.is_empty() {
+            return false;
+        }
+        if down {
+            return true;
+        }
+        self.queues.is_empty()
+            && self.next_part().is_none()
+            && self.ends.len() >= self.messages.len()
+    }
+
+    // One turn. Whether another is to follow.
+    fn turn<W: Write, G: Gate, K: Clock, P: Pause, R: Wait>(
+        &mut self,
+        desk: &Desk<N, W, G, K, R>,
+        pause: &P,
+        consumer: &mut Consumer<Reply>,
+    ) -> bool
+        requires window { desk.now.window.now ≡ C.start.seat.window }
+        requires rules { desk.now.rules.now ≡ C.start.rules }
+        requires heard { self.old.heard ≡ received consumer.old }
+        ensures ring { SameConsumer consumer.old consumer.new }
+        ensures heard { self.new.heard ≡ received consumer.new }
+    {
+        let heard = self.hear(desk, consumer);
+        let down = desk.line.down.load(Ordering::SeqCst);
+        let expired = self.expire(desk, down);
+        let started = self.start_or_sweep(desk, down);
+        if heard || expired || started {
+            return true;
+        }
+        if self.is_done(down) {
+            return false;
+        }
+        pause.pause(1);
+        true
+    }
+
+    // Takes turns until nothing is left to do, at most as many as the rules say.
+    pub(crate) fn take_turns<W: Write, G: Gate, K: Clock, P: Pause, R: Wait>(
+        &mut self,
+        desk: &Desk<N, W, G, K, R>,
+        pause: &P,
+        consumer: &mut Consumer<Reply>,
+    )
+        requires window { desk.now.window.now ≡ C.start.seat.window }
+        requires rules { desk.now.rules.now ≡ C.start.rules }
+        requires heard { self.old.heard ≡ received consumer.old }
+        ensures ring { SameConsumer consumer.old consumer.new }
+        ensures heard { self.new.heard ≡ received consumer.new }
+    {
+        for _ in 0..desk.rules.turns {
+            if !self.turn(desk, pause, consumer) {
+                return;
+            }
+        }
+    }
+
+    // Starts attempts, or gives up all that wait where the line is down.
+    fn start_or_sweep<W: Write, G: Gate, K: Clock, R: Wait>(
+        &mut self,
+        desk: &Desk<N, W, G, K, R>,
+        down: bool,
+    ) -> bool
+        requires window { desk.now.window.now ≡ C.start.seat.window }
+        requires rules { desk.now.rules.now ≡ C.start.rules }
+        ensures heard { self.new.heard ≡ self.old.heard }
+    {
+        if down {
+            self.sweep(desk);
+            return false;
+        }
+        self.start_all(desk)
+    }
+
+    // Gives up all segments of a message that wait.
+    fn sweep_message<W, G, K, R: Wait>(&mut self, desk: &Desk<N, W, G, K, R>, message: usize)
+        requires before { SettledTo C.start.rules.policy.attempts message 0 self.old.ends }
+        ensures heard { self.new.heard ≡ self.old.heard }
+        ensures long { length self.new.ends ≡ length self.old.ends }
+        ensures after { SettledTo C.start.rules.policy.attempts (message + 1) 0 self.new.ends }
+    {
+        let count = self.count(message);
+        for part in 0..count {
+            self.give_up(desk, Place { message, part });
+        }
+    }
+
+    // Ends the call as where the line is down: what is open expires or, where it is answered, is
+    // taken; what is left is refused, and what waits is given up.
+    pub(crate) fn finish<W, G, K: Clock, R: Wait>(
+        &mut self,
+        desk: &Desk<N, W, G, K, R>,
+        consumer: &mut Consumer<Reply>,
+    )
+        requires window { desk.now.window.now ≡ C.start.seat.window }
+        requires rules { desk.now.rules.now ≡ C.start.rules }
+        requires heard { self.old.heard ≡ received consumer.old }
+        ensures ring { SameConsumer consumer.old consumer.new }
+        ensures heard { self.new.heard ≡ received consumer.new }
+        ensures all { length self.new.ends ≡ length C.start.messages }
+        ensures settled { SettledTo C.start.rules.policy.attempts (length C.start.messages) 0 self.new.ends }
+    {
+        self.expire(desk, true);
+        self.hear(desk, consumer);
+        self.refuse_rest(desk);
+        self.sweep(desk);
+    }
+
+    fn refuse_rest<W, G, K, R: Wait>(&mut self, desk: &Desk<N, W, G, K, R>)
+        requires rules { desk.now.rules.now ≡ C.start.rules }
+        ensures heard { self.new.heard ≡ self.old.heard }
+        ensures all { length self.new.ends ≡ length C.start.messages }
+    {
+        while self.begin(desk, true) {}
+    }
+
+    fn sweep<W, G, K, R: Wait>(&mut self, desk: &Desk<N, W, G, K, R>)
+        ensures heard { self.new.heard ≡ self.old.heard }
+        ensures long { length self.new.ends ≡ length self.old.ends }
+        ensures settled { SettledTo C.start.rules.policy.attempts (length self.old.ends) 0 self.new.ends }
+    {
+        let begun = self.ends.len();
+        for message in 0..begun {
+            self.sweep_message(desk, message);
+        }
+    }
+}

@@ -1,0 +1,217 @@
+//! One call of a worker.
+ghost use Rattle.std.specs.Prelude.{◌≡◌, ℕ, ◌+◌, ◌<◌, ◌≤◌, ◌++◌, List, [], Some, false, length, vec_len, vec_capacity, IfOk, IfErr};
+ghost use Rattle.rtrb.specs.Ring.{received, SameConsumer};
+ghost use Rattle.sms_window.specs.OpenSlots.{IsOpen};
+ghost use Rattle.sms_window.specs.Drawing.{HasDrawn};
+ghost use Rattle.sms_worker.specs.Keeps.{slots_of};
+ghost use Rattle.std.specs.List.{AllZip};
+ghost use Rattle.sms_worker.specs.EndOf.{IsEndOf};
+ghost use Rattle.sms_worker.specs.Apart.{NumbersApart, PlacesApart};
+ghost use Rattle.sms_worker.specs.Told.{AllTold, AreEnds, Drew, Grew};
+ghost use Rattle.sms_pdu.specs.declared.reply.Reply.{Reply};
+
+use crate::call::Call;
+use crate::desk::{Clock, Desk, Gate, Pause};
+use crate::ends::MessageEnd;
+use crate::message::Message;
+use crate::open::Open;
+use crate::queue::Queues;
+use crate::rules::Rules;
+use crate::run::Run;
+use crate::texts::Texts;
+use rtrb::Consumer;
+use sms_bind::Line;
+use sms_book::{Book, BookName, Shares};
+use sms_pdu::Reply;
+use sms_window::{Window, WindowSeat};
+use std::alloc::{AllocError, Global};
+use std::io::Write;
+use std::marker::{Brand, PhantomData};
+use std::snapshot::Snapshot;
+use std::sync::{Mutex, Wait};
+
+/// What a worker is given.
+#[derive(Drop)]
+pub struct Worker<N: BookName> {
+    /// Its index among all workers, and its place among those of its bind.
+    pub index: usize,
+    pub place: usize,
+    pub seat: WindowSeat,
+    pub shares: Shares<N>,
+    pub consumer: Consumer<Reply>,
+}
+
+/// What a worker gives back.
+#[derive(Drop)]
+pub struct WorkerEnd<N: BookName> {
+    pub seat: WindowSeat,
+    pub shares: Shares<N>,
+    pub consumer: Consumer<Reply>,
+    pub ends: Vec<MessageEnd>,
+}
+
+// Gives back whatever slots are open still.
+fn release_all(window: &Window, seat: &mut WindowSeat, mut open: Vec<Open>)
+    requires own { seat.old.window ≡ window.now }
+    requires open { (base : ℕ) × IsOpen base (slots_of open.items) seat.old.view.slots }
+    ensures window { seat.new.window ≡ seat.old.window }
+    ensures slots { (base : ℕ) → IsOpen base (slots_of open.items) seat.old.view.slots → seat.new.view.slots ≡ base }
+    ensures numbers { HasDrawn seat.old.view [] seat.new.view }
+{
+    while let Some(last) = open.pop() {
+        window.release(seat, last.slot);
+    }
+}
+
+// Ends a run.
+fn into_end<N: BookName, W, G, K, R, C: Call>(
+    desk: &Desk<N, W, G, K, R>,
+    run: Run<N, C>,
+    consumer: Consumer<Reply>,
+) -> WorkerEnd<N>
+    requires window { desk.now.window.now ≡ C.start.seat.window }
+    ensures ends { result.ends.items ≡ run.ends }
+    ensures consumer { result.consumer ≡ consumer }
+    ensures shape { AreEnds C.start.rules (length C.start.share.amounts) C.start.messages run.ends }
+    ensures told { AllTold C.start.rules (length C.start.received) run.heard C.start.messages run.ends }
+    ensures numbers { Drew C.start.seat.view result.seat.view C.start.messages run.ends }
+    ensures credits { Grew C.start.share.amounts result.shares.amounts C.start.messages run.ends }
+    ensures slots { (result.seat.view.slots ≡ C.start.seat.view.slots) × (result.seat.window ≡ C.start.seat.window) }
+    ensures number { result.shares.number ≡ C.start.share.number }
+    ensures heard { (rest : List Reply) × (run.heard ≡ C.start.received ++ rest) }
+{
+    let Run {
+        ends,
+        mut seat,
+        shares,
+        open,
+        ..
+    } = run;
+    release_all(desk.window, &mut seat, open);
+    WorkerEnd {
+        seat,
+        shares,
+        consumer,
+        ends,
+    }
+}
+
+/// The lists of a call, which are grown first.
+#[derive(Drop)]
+struct Lists {
+    ends: Vec<MessageEnd>,
+    texts: Vec<Texts>,
+    open: Vec<Open>,
+}
+
+fn grow(alloc: Global, messages: usize, depth: usize) -> Result<Lists, AllocError>
+    ensures empty { IfOk result (λ l. (l.ends.items ≡ []) × (l.texts.items ≡ []) × (l.open.items ≡ [])) }
+    ensures room { IfOk result (λ l. (messages ≤ vec_capacity l.ends) × (messages ≤ vec_capacity l.texts)) }
+{
+    let ends = Vec::with_capacity(alloc, messages)?;
+    let texts = Vec::with_capacity(alloc, messages)?;
+    let open = Vec::with_capacity(alloc, depth)?;
+    Ok(Lists { ends, texts, open })
+}
+
+fn work<N: BookName, W: Write, G: Gate, K: Clock, P: Pause, R: Wait, C: Call>(
+    desk: &Desk<N, W, G, K, R>,
+    pause: &P,
+    worker: Worker<N>,
+    messages: Vec<Message>,
+    lists: Lists,
+) -> WorkerEnd<N>
+    requires window { desk.now.window.now ≡ C.start.seat.window }
+    requires rules { desk.now.rules.now ≡ C.start.rules }
+    requires messages { messages.items ≡ C.start.messages }
+    requires seat { worker.seat ≡ C.start.seat }
+    requires share { worker.shares ≡ C.start.share }
+    requires received { received worker.consumer ≡ C.start.received }
+    requires empty { (lists.ends.items ≡ []) × (lists.texts.items ≡ []) × (lists.open.items ≡ []) }
+    requires room { (vec_len messages ≤ vec_capacity lists.ends) × (vec_len messages ≤ vec_capacity lists.texts) }
+    ensures each { AllZip (IsEndOf C.start.rules (length C.start.share.amounts)) C.start.messages result.ends.items }
+    ensures told { AllTold C.start.rules (length C.start.received) (received result.consumer) C.start.messages result.ends.items }
+    ensures numbers { Drew C.start.seat.view result.seat.view C.start.messages result.ends.items }
+    ensures apart { NumbersApart result.ends.items }
+    ensures places { PlacesApart (received result.consumer) result.ends.items }
+    ensures credits { Grew C.start.share.amounts result.shares.amounts C.start.messages result.ends.items }
+    ensures slots { (result.seat.view.slots ≡ C.start.seat.view.slots) × (result.seat.window ≡ C.start.seat.window) }
+    ensures number { result.shares.number ≡ C.start.share.number }
+    ensures ring { SameConsumer worker.consumer result.consumer }
+    ensures heard { (rest : List Reply) × (received result.consumer ≡ C.start.received ++ rest) }
+{
+    let Worker {
+        seat,
+        shares,
+        consumer,
+        ..
+    } = worker;
+    let Lists { ends, texts, open } = lists;
+    let heard = Snapshot::of(&consumer);
+    let mut consumer = consumer;
+    let mut run: Run<N, C> = Run {
+        messages,
+        ends,
+        texts,
+        open,
+        queues: Queues::none(),
+        next: 0,
+        seat,
+        shares,
+        heard,
+        of: PhantomData,
+    };
+    run.take_turns(desk, pause, &mut consumer);
+    run.finish(desk, &mut consumer);
+    into_end(desk, run, consumer)
+}
+
+/// Sends the messages in order, in at most so many turns. Each message has one end, in order; each
+/// segment was settled by the last of its attempts; the share grew by the sums over the ends; the
+/// seat holds what it held. Where memory is refused before the first step, all is handed back.
+pub fn run_worker<N: BookName, W: Write, G: Gate, K: Clock, P: Pause, R: Wait>(
+    rt: &R,
+    alloc: Global,
+    worker: Worker<N>,
+    messages: Vec<Message>,
+    line: &Line<W>,
+    window: &Window,
+    book: &Mutex<Book<N>>,
+    rules: &Rules,
+    gate: &G,
+    clock: &K,
+    pause: &P,
+) -> Result<WorkerEnd<N>, (AllocError, Worker<N>, Vec<Message>)>
+    requires own { worker.seat.window ≡ window.now }
+    // Each message has its end, in order: its result, and of each of its parts the cost, the receipts and the outcome.
+    ensures each { IfOk result (λ d. AllZip (IsEndOf rules.now (length worker.shares.amounts)) messages.items d.ends.items) }
+    // Each answer was received in this call.
+    ensures answers { IfOk result (λ d. AllTold rules.now (length (received worker.consumer)) (received d.consumer) messages.items d.ends.items) }
+    ensures numbers { IfOk result (λ d. Drew worker.seat.view d.seat.view messages.items d.ends.items) }
+    ensures apart { IfOk result (λ d. NumbersApart d.ends.items) }
+    ensures places { IfOk result (λ d. PlacesApart (received d.consumer) d.ends.items) }
+    ensures credits { IfOk result (λ d. Grew worker.shares.amounts d.shares.amounts messages.items d.ends.items) }
+    ensures slots { IfOk result (λ d. (d.seat.view.slots ≡ worker.seat.view.slots) × (d.seat.window ≡ worker.seat.window)) }
+    ensures number { IfOk result (λ d. d.shares.number ≡ worker.shares.number) }
+    ensures ring { IfOk result (λ d. SameConsumer worker.consumer d.consumer) }
+    ensures heard { IfOk result (λ d. (rest : List Reply) × (received d.consumer ≡ received worker.consumer ++ rest)) }
+    ensures refused { IfErr result (λ e. (e.1 ≡ worker) × (e.2.items ≡ messages.items)) }
+{
+    let grown = match grow(alloc, messages.len(), rules.depth as usize) {
+        Ok(grown) => grown,
+        Err(error) => return Err((error, worker, messages)),
+    };
+    let desk = Desk {
+        rt,
+        alloc,
+        line,
+        window,
+        book,
+        rules,
+        gate,
+        clock,
+        worker: worker.index,
+        place: worker.place,
+    };
+    Ok(work::<N, W, G, K, P, R, Brand>(&desk, pause, worker, messages, grown))
+}
