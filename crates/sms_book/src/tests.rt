@@ -228,22 +228,37 @@ fn a_blank_comes_back(rt: HostRuntime) -> Result<(), Fail> {
     opens::<Brand>(&rt, alloc, blank)
 }
 
-// The numbers of a refusal stand in their places in what it says.
+// What each refusal says, with its numbers in their places.
 #[test]
 fn refusals_say_their_numbers(rt: HostRuntime) -> Result<(), Fail> {
     let alloc = rt.alloc();
-    let credit = BookError::NoCredit { free: 1, needed: 2 };
-    let double = BookError::Duplicate {
-        first: 3,
-        second: 4,
-    };
+    let rows = [
+        (
+            BookError::BadCount,
+            "a book has 1 to 64 accounts and 1 to 32 workers",
+        ),
+        (
+            BookError::Duplicate {
+                first: 3,
+                second: 4,
+            },
+            "accounts 3 and 4 have the same name",
+        ),
+        (BookError::AmountTooLarge, "the amount is too large"),
+        (
+            BookError::NoCredit { free: 1, needed: 2 },
+            "1 credits are free, and 2 are needed",
+        ),
+        (BookError::NoAccount, "there is no such account"),
+        (BookError::OutOfMemory, "out of memory"),
+    ];
+    for (fault, text) in rows.as_slice() {
+        assert_eq!(rt; format!(in alloc; "{fault}")?.as_str(), *text);
+    }
+    let missing = GatherFault::MissingShare;
     assert_eq!(rt;
-        format!(in alloc; "{credit}")?.as_str(),
-        "1 credits are free, and 2 are needed"
-    );
-    assert_eq!(rt;
-        format!(in alloc; "{double}")?.as_str(),
-        "accounts 3 and 4 have the same name"
+        format!(in alloc; "{missing}")?.as_str(),
+        "a worker's share is missing"
     );
     Ok(())
 }
