@@ -1,0 +1,188 @@
+-- What is said to frames that come one after another, and what of it is written.
+use Rattle.std.proofs.Common.{◌≡◌, ℕ, ◌+◌, inl, inr, List, [], ◌∷◌, ◌++◌, length, take, Bool, true, false, Option, Some, None, refl, sym, ap, ◌∙◌, subst, arith, append_assoc, append-nil, length-append, true≢false}
+use lib.Seq.{take-append-add, take_all}
+use Rattle.std.specs.List.{AllZip, concat}
+use Rattle.std.proofs.lemmas.List.Folds.{concat-append}
+use Rattle.std.specs.Io.KnownBytes.{Appends, IsAtEnd}
+use Rattle.std.proofs.KnownBytes.{Appends-nil, Appends-trans, Consumes-nil}
+use Rattle.sms_pdu.specs.Header.{header_at_front}
+use Rattle.sms_pdu.specs.Frame.{Division, IsBad}
+use Rattle.sms_pdu.specs.Streams.{SomeAppended, Leaves, Reads, early}
+use Rattle.sms_pdu.proofs.Divisions.{each_divided}
+use Rattle.sms_pdu.proofs.Streams.{rest_divided, division_after, reads_none}
+use Rattle.sms_centre.specs.declared.serving.Stop.{Stop}
+use Rattle.sms_centre.specs.declared.serving.Stop.TheVariants as stop
+use Rattle.sms_centre.specs.declared.said.Said.{Said}
+use Rattle.sms_centre.specs.declared.serving.Cause.{Cause}
+use Rattle.sms_centre.specs.declared.serving.Cause.TheVariants as cause
+use Rattle.sms_centre.specs.Says.{IsSaid, Progress, said_to, after_frame, PutsAll}
+use Rattle.sms_centre.specs.Serving.{Talk, talking, talk, conversation, hears, tells, end_at, is_early, Writes, Brings, Serves}
+use Rattle.sms_centre.specs.Stops.{talk_at, brought, ends_early, stretch_of, cause_of, Answered, Written}
+use Rattle.sms_centre.proofs.Putting.{AllZip-append}
+
+talk-append : (t : Talk) (fs gs : List (List ℕ)) → talk t (fs ++ gs) ≡ talk (talk t fs) gs
+talk-append t [] gs = refl
+talk-append t (f ∷ fs) gs = talk-append (hears t.over t.now (header_at_front f)) fs gs
+
+conversation-append : (t : Talk) (fs gs : List (List ℕ)) → conversation t (fs ++ gs) ≡ conversation t fs ++ conversation (talk t fs) gs
+conversation-append t [] gs = refl
+conversation-append t (f ∷ fs) gs =
+    let h = header_at_front f in
+    ap (λ l. tells t.over t.now h ++ l) (conversation-append (hears t.over t.now h) fs gs) ∙ sym (append_assoc (tells t.over t.now h) (conversation (hears t.over t.now h) fs) (conversation (talk (hears t.over t.now h) fs) gs))
+
+-- nothing is said and nothing changes after the end
+over_says : (p : Progress) (s : Cause) (fs : List (List ℕ)) → conversation (record { now = p; over = Some s }) fs ≡ []
+over_says p s [] = refl
+over_says p s (f ∷ fs) = over_says p s fs
+
+over_stays : (p : Progress) (s : Cause) (fs : List (List ℕ)) → talk (record { now = p; over = Some s }) fs ≡ record { now = p; over = Some s }
+over_stays p s [] = refl
+over_stays p s (f ∷ fs) = over_stays p s fs
+
+-- ---- into a buffer
+
+pub answered_none : (p : Progress) (out : List ℕ) → Answered p p None out out []
+answered_none p out = record { pieces = []; each = tt; grown = sym (append-nil out); heard = refl }
+
+pub answered_one : (p q : Progress) (end : Option Stop) (old new f : List ℕ) → brought end ≡ end_at p (header_at_front f) → q ≡ after_frame p (header_at_front f) → PutsAll (said_to p (header_at_front f)) old new → Answered p q end old new (f ∷ [])
+answered_one p q end old new f e h a =
+    record {
+      pieces = a.0;
+      each = subst (λ (l : List Said). AllZip IsSaid l a.0) (sym (append-nil (said_to p (header_at_front f)))) a.2;
+      grown = a.1;
+      heard = ap (λ (x : Option Cause). let t : Talk = record { now = q; over = x } in t) e ∙ ap (λ (x : Progress). let t : Talk = record { now = x; over = end_at p (header_at_front f) } in t) h;
+    }
+
+pub answered_more : (p q r : Progress) (end : Option Stop) (a b c : List ℕ) (fs gs : List (List ℕ)) → Answered p q None a b fs → Answered q r end b c gs → Answered p r end a c (fs ++ gs)
+answered_more p q r end a b c fs gs x y =
+    record {
+      pieces = x.pieces ++ y.pieces;
+      each = subst (λ (l : List Said). AllZip IsSaid l (x.pieces ++ y.pieces)) (sym (conversation-append (talking p) fs gs))
+          (AllZip-append IsSaid (conversation (talking p) fs) (conversation (talk (talking p) fs) gs) x.pieces y.pieces x.each (subst (λ (t : Talk). AllZip IsSaid (conversation t gs) y.pieces) x.heard y.each));
+      grown = y.grown ∙ ap (λ l. l ++ concat y.pieces) x.grown ∙ append_assoc a (concat x.pieces) (concat y.pieces) ∙ ap (λ l. a ++ l) (sym (concat-append x.pieces y.pieces));
+      heard = y.heard ∙ ap (λ (t : Talk). talk t gs) x.heard ∙ sym (talk-append (talking p) fs gs);
+    }
+
+-- ---- into a writer
+
+writes_all : (early : Bool) (a b : Option (List ℕ)) (xs : List ℕ) → Appends a b xs → Writes early a b xs
+writes_all false a b xs w = w
+writes_all true a b xs w = (length xs, omega arith, subst (λ l. Appends a b l) (sym (take_all (length xs) xs (omega arith))) w)
+
+writes_more : (early : Bool) (a b c : Option (List ℕ)) (xs ys : List ℕ) → Appends a b xs → Writes early b c ys → Writes early a c (xs ++ ys)
+writes_more false a b c xs ys w v = Appends-trans a b c xs ys w v
+writes_more true a b c xs ys w v =
+    (length xs + v.0, (let n = length-append xs ys in let m = v.1 in omega (arith, n, m)), subst (λ l. Appends a c l) (sym (take-append-add xs ys v.0)) (Appends-trans a b c xs (take v.0 ys) w v.2))
+
+pub written_none : (p : Progress) (end : Option Stop) (a : Option (List ℕ)) → brought end ≡ None → Written p p end a a []
+written_none p end a none =
+    record { pieces = []; each = tt; writes = writes_all (ends_early end) a a [] (Appends-nil a); at = refl; heard = λ e. ap (λ (x : Option Cause). let t : Talk = record { now = p; over = x } in t) none }
+
+-- what was gathered is written
+pub written_all : (p q : Progress) (end why : Option Stop) (a b : Option (List ℕ)) (out : List ℕ) (fs : List (List ℕ)) → brought why ≡ brought end → Answered p q end [] out fs → Appends a b out → Written p q why a b fs
+written_all p q end why a b out fs same x w =
+    record {
+      pieces = x.pieces;
+      each = x.each;
+      writes = writes_all (ends_early why) a b (concat x.pieces) (subst (λ l. Appends a b l) x.grown w);
+      at = ap (λ (t : Talk). t.now) x.heard;
+      heard = λ e. ap (λ (o : Option Cause). let t : Talk = record { now = q; over = o } in t) same ∙ x.heard;
+    }
+
+-- or some first octets of it
+pub written_some : (p q : Progress) (end : Option Stop) (a b : Option (List ℕ)) (out : List ℕ) (fs : List (List ℕ)) → Answered p q end [] out fs → SomeAppended a b out → Written p q (Some stop.WriteFault) a b fs
+written_some p q end a b out fs x w =
+    record { pieces = x.pieces; each = x.each; writes = subst (λ l. SomeAppended a b l) x.grown w; at = ap (λ (t : Talk). t.now) x.heard; heard = λ e. absurd (true≢false e) }
+
+pub written_more : (p q r : Progress) (end : Option Stop) (a b c : Option (List ℕ)) (fs gs : List (List ℕ)) → Written p q None a b fs → Written q r end b c gs → Written p r end a c (fs ++ gs)
+written_more p q r end a b c fs gs x y =
+    record {
+      pieces = x.pieces ++ y.pieces;
+      each = subst (λ (l : List Said). AllZip IsSaid l (x.pieces ++ y.pieces)) (sym (conversation-append (talking p) fs gs))
+          (AllZip-append IsSaid (conversation (talking p) fs) (conversation (talk (talking p) fs) gs) x.pieces y.pieces x.each (subst (λ (t : Talk). AllZip IsSaid (conversation t gs) y.pieces) (x.heard refl) y.each));
+      writes = subst (λ l. Writes (ends_early end) a c l) (sym (concat-append x.pieces y.pieces)) (writes_more (ends_early end) a b c (concat x.pieces) (concat y.pieces) x.writes y.writes);
+      at = y.at ∙ ap (λ (t : Talk). (talk t gs).now) (x.heard refl) ∙ sym (ap (λ (t : Talk). t.now) (talk-append (talking p) fs gs));
+      heard = λ e. y.heard e ∙ ap (λ (t : Talk). talk t gs) (x.heard refl) ∙ sym (talk-append (talking p) fs gs);
+    }
+
+-- it ends without a frame
+pub written_ends : (p q : Progress) (why : Option Stop) (a b : Option (List ℕ)) (fs : List (List ℕ)) → ends_early why ≡ false → brought why ≡ None → Written p q None a b fs → Written p q why a b fs
+written_ends p q why a b fs whole none x =
+    record {
+      pieces = x.pieces;
+      each = x.each;
+      writes = subst (λ (e : Bool). Writes e a b (concat x.pieces)) (sym whole) x.writes;
+      at = x.at;
+      heard = λ e. ap (λ (o : Option Cause). let t : Talk = record { now = q; over = o } in t) none ∙ x.heard refl;
+    }
+
+-- ---- at the end
+
+-- what comes after the frames that were answered is no frame, or is said nothing
+quiet : (p : Progress) (why : Stop) (left : List ℕ) (gs : List (List ℕ)) (rest : List ℕ) → is_early (cause_of why) ≡ false → Leaves (stretch_of (Some why)) left [] → Division left gs rest
+    → (conversation (talk_at p (Some why)) gs ≡ []) × (talk (talk_at p (Some why)) gs ≡ talk_at p (Some why))
+quiet p stop.Ended left gs rest e r d = let gone = (rest_divided left gs rest r d).0 in (ap (conversation (talking p)) gone, ap (talk (talking p)) gone)
+quiet p stop.HungUp left gs rest e r d = (over_says p cause.Ended gs, over_stays p cause.Ended gs)
+quiet p stop.Unbound left gs rest e r d = (over_says p cause.Unbound gs, over_stays p cause.Unbound gs)
+quiet p stop.Lost left gs rest e r d = let gone = (rest_divided left gs rest (inr (inr r)) d).0 in (ap (conversation (talking p)) gone, ap (talk (talking p)) gone)
+quiet p stop.ReadFault left gs rest e r d = let gone = (rest_divided left gs rest r d).0 in (ap (conversation (talking p)) gone, ap (talk (talking p)) gone)
+quiet p stop.WriteFault left gs rest e r d = absurd (true≢false e)
+quiet p stop.Turns left gs rest e r d = let gone = (rest_divided left gs rest r d).0 in (ap (conversation (talking p)) gone, ap (talk (talking p)) gone)
+quiet p stop.OutOfMemory left gs rest e r d = absurd (true≢false e)
+
+-- what the cause tells
+brings : (why : Stop) (over : Option Cause) (left : List ℕ) (gs : List (List ℕ)) (rest : List ℕ) (after : Option (List ℕ)) → (is_early (cause_of why) ≡ false → over ≡ brought (Some why))
+    → Leaves (stretch_of (Some why)) left [] → Division left gs rest → (why ≡ stop.Ended → IsAtEnd after) → Brings (cause_of why) over rest after
+brings stop.Ended over left gs rest after h r d end = inr (h refl, end refl)
+brings stop.HungUp over left gs rest after h r d end = inl (h refl)
+brings stop.Unbound over left gs rest after h r d end = h refl
+brings stop.Lost over left gs rest after h r d end = (h refl, subst IsBad (sym (rest_divided left gs rest (inr (inr r)) d).1) r)
+brings stop.ReadFault over left gs rest after h r d end = h refl
+brings stop.WriteFault over left gs rest after h r d end = tt
+brings stop.Turns over left gs rest after h r d end = h refl
+brings stop.OutOfMemory over left gs rest after h r d end = tt
+
+pub serves : (p q : Progress) (why : Stop) (r t a b : Option (List ℕ)) → Reads (Written p q (Some why) a b) [] r t (stretch_of (Some why)) [] → (why ≡ stop.Ended → IsAtEnd t) → Serves p r t a b (cause_of why) q.submits
+serves p q why r t a b x end =
+    let w = x.went in
+    let d = each_divided x.left in
+    let joined = conversation-append (talking p) w.frames d.0 in
+    record {
+      got = x.got;
+      consumed = x.consumed;
+      frames = w.frames ++ d.0;
+      rest = d.1;
+      divided = division_after x.got x.left w.frames d.0 d.1 w.whole w.each d.2;
+      answered = w.frames;
+      first = (d.0, refl);
+      pieces = w.done.pieces;
+      each = w.done.each;
+      writes = w.done.writes;
+      counted = ap (λ (k : Progress). k.submits) w.done.at;
+      whole = λ e.
+          joined ∙ ap (λ (k : Talk). conversation (talking p) w.frames ++ conversation k d.0) (sym (w.done.heard e)) ∙ ap (λ (l : List Said). conversation (talking p) w.frames ++ l) (quiet q why x.left d.0 d.1 e x.leaves d.2).0 ∙ append-nil (conversation (talking p) w.frames);
+      why = brings why (talk (talking p) (w.frames ++ d.0)).over x.left d.0 d.1 t (λ e. ap (λ (k : Talk). k.over) (talk-append (talking p) w.frames d.0 ∙ ap (λ (k : Talk). talk k d.0) (sym (w.done.heard e)) ∙ (quiet q why x.left d.0 d.1 e x.leaves d.2).1)) x.leaves d.2 end;
+    }
+
+-- no memory, and so nothing was read
+pub serves_none : (p : Progress) (r a : Option (List ℕ)) → Serves p r r a a cause.OutOfMemory p.submits
+serves_none p r a =
+    serves p p stop.OutOfMemory r r a a (reads_none (Written p p (Some stop.OutOfMemory) a a) [] [] r r early (written_none p (Some stop.OutOfMemory) a refl) (Consumes-nil r) tt) (λ e. absurd (other e))
+  where
+    other : stop.OutOfMemory ≡ stop.Ended → ⊥
+    other e = cc
+
+-- memory ran out behind these frames
+pub answered_full : (p q : Progress) (a b : List ℕ) (fs : List (List ℕ)) → Answered p q None a b fs → Answered p q (Some stop.OutOfMemory) a b fs
+answered_full p q a b fs x = record { pieces = x.pieces; each = x.each; grown = x.grown; heard = x.heard }
+
+-- what is left doesn't rest on what is held, once it ended
+pub leaves_end : (s : Stop) (left held : List ℕ) → Leaves (stretch_of (Some s)) left held → Leaves (stretch_of (Some s)) left []
+leaves_end stop.Ended left held h = h
+leaves_end stop.HungUp left held h = h
+leaves_end stop.Unbound left held h = h
+leaves_end stop.Lost left held h = h
+leaves_end stop.ReadFault left held h = h
+leaves_end stop.WriteFault left held h = h
+leaves_end stop.Turns left held h = h
+leaves_end stop.OutOfMemory left held h = h

@@ -1,0 +1,26 @@
+//! A test centre, which answers by a script well or badly, and devices in memory to reach it and to
+//! make it fail.
+#![tactic(auto)]
+
+mod centre;
+mod fuse;
+mod kept;
+mod keys;
+mod pipe;
+mod ring;
+mod said;
+mod saying;
+mod script;
+mod serving;
+#[cfg(test)]
+mod tests;
+mod text;
+mod treatment;
+
+pub use centre::Centre;
+pub use fuse::Fuse;
+pub use pipe::{Pipe, PipeEnd};
+pub use said::Said;
+pub use script::{Script, ScriptError};
+pub use serving::{Cause, ServeEnd, serve};
+pub use treatment::Treatment;

@@ -1,0 +1,322 @@
+//! The centre serves a connection.
+
+ghost use Rattle.std.specs.Prelude.{◌≡◌, ◌≢◌, ℕ, ◌≤◌, ◌∷◌, [], List, length, drop, Some, None, IfOk, IfSome, OnErr};
+ghost use Rattle.std.specs.Io.KnownBytes.{IsAtEnd};
+ghost use Rattle.sms_pdu.specs.Frame.{IsFrame, IsRest};
+ghost use Rattle.sms_pdu.specs.Streams.{Went, Reads, Leaves, early};
+ghost use Rattle.sms_centre.specs.Says.{begun};
+ghost use Rattle.sms_centre.specs.Serving.{Serves, end_at as brought_by, hangs_up as hung_up_by};
+ghost use Rattle.sms_centre.specs.Stops.{cause_of as cause_of_stop, brought, stretch_of, Answered, Written};
+ghost use Rattle.sms_centre.specs.declared.serving.Stop.TheVariants.{Ended};
+
+use crate::centre::Centre;
+use crate::said::Said;
+use crate::script::Script;
+use crate::treatment::Treatment;
+use sms_pdu::{Header, SUBMIT_SM, UNBIND, first_frame, frame_header, is_bad, write_octets};
+use std::alloc::{AllocError, Global};
+use std::io::{Error, ErrorKind, Read, Write};
+
+/// Why a connection ended.
+#[derive(Clone, Copy, Debug, PartialEq, Eq)]
+pub enum Cause {
+    /// The input ended, or the script hung up (`cut`, `huge`).
+    Ended,
+    /// An unbind came, and was answered.
+    Unbound,
+    /// A command_length was below 16 or above 70,000. Nothing is said to it.
+    Lost,
+    /// A read failed.
+    ReadFault,
+    /// A write failed, or took nothing.
+    WriteFault,
+    /// All turns were used.
+    Turns,
+    /// Memory was refused.
+    OutOfMemory,
+}
+
+/// The same, with the two ways of an end told apart.
+#[derive(Clone, Copy, Debug, PartialEq, Eq)]
+pub(crate) enum Stop {
+    /// The input ended.
+    Ended,
+    /// The script hung up.
+    HungUp,
+    Unbound,
+    Lost,
+    ReadFault,
+    WriteFault,
+    Turns,
+    OutOfMemory,
+}
+
+/// How serving a connection ended.
+#[derive(Clone, Copy, Debug, PartialEq, Eq)]
+pub struct ServeEnd {
+    /// How many submit_sm came.
+    pub submits: u64,
+    pub cause: Cause,
+}
+
+/// How many octets one turn reads at most.
+const PIECE: usize = 65_536;
+
+/// The buffers of a connection.
+#[derive(Drop)]
+struct Buffers {
+    /// What one read gives.
+    piece: Vec<u8>,
+    /// What was read and isn't answered yet.
+    held: Vec<u8>,
+    /// What is said to one frame.
+    said: Vec<Said>,
+    /// What is written in one turn.
+    out: Vec<u8>,
+}
+
+/// Serves a connection by a script for so many turns. One turn reads once, at most 65,536 octets,
+/// and writes what is said to their frames at once. Frames are read by their headers alone. A read
+/// that fails as WouldBlock, TimedOut or Interrupted is a turn that read nothing.
+pub fn serve<R: Read, W: Write>(
+    alloc: Global,
+    reader: &mut R,
+    writer: &mut W,
+    script: Script,
+    turns: u64,
+) -> ServeEnd
+    ensures { Serves (begun script) (R.remaining reader.old) (R.remaining reader.new) (W.contents writer.old) (W.contents writer.new) result.cause result.submits }
+{
+    match Centre::new(alloc, script) {
+        Ok(mut centre) => {
+            let stop = centre.serve_turns(alloc, reader, writer, turns);
+            ServeEnd {
+                submits: centre.submits(),
+                cause: cause_of(stop),
+            }
+        }
+        Err(_full) => ServeEnd {
+            submits: 0,
+            cause: Cause::OutOfMemory,
+        },
+    }
+}
+
+/// The cause by its name.
+fn cause_of(stop: Stop) -> Cause
+    ensures { result ≡ cause_of_stop stop }
+{
+    match stop {
+        Stop::Ended => Cause::Ended,
+        Stop::HungUp => Cause::Ended,
+        Stop::Unbound => Cause::Unbound,
+        Stop::Lost => Cause::Lost,
+        Stop::ReadFault => Cause::ReadFault,
+        Stop::WriteFault => Cause::WriteFault,
+        Stop::Turns => Cause::Turns,
+        Stop::OutOfMemory => Cause::OutOfMemory,
+    }
+}
+
+impl Buffers {
+    /// Room for one read, and nothing held.
+    fn new(alloc: Global) -> Result<Buffers, AllocError>
+        ensures piece { IfOk result (λ b. length b.piece.items ≡ 65536) }
+        ensures held { IfOk result (λ b. b.held.items ≡ []) }
+    {
+        match Vec::from_elem(alloc, 0u8, PIECE) {
+            Ok(piece) => Ok(Buffers {
+                piece,
+                held: Vec::new(alloc),
+                said: Vec::new(alloc),
+                out: Vec::new(alloc),
+            }),
+            Err(_full) => Err(AllocError),
+        }
+    }
+}
+
+impl Centre {
+    /// Reads and answers in turns.
+    fn serve_turns<R: Read, W: Write>(
+        &mut self,
+        alloc: Global,
+        reader: &mut R,
+        writer: &mut W,
+        turns: u64,
+    ) -> Stop
+        ensures reads { Reads (Written self.old self.new (Some result) (W.contents writer.old) (W.contents writer.new)) [] (R.remaining reader.old) (R.remaining reader.new) (stretch_of (Some result)) [] }
+        ensures end { result ≡ Ended → IsAtEnd (R.remaining reader.new) }
+    {
+        let Ok(mut buffers) = Buffers::new(alloc) else {
+            return Stop::OutOfMemory;
+        };
+        for _turn in 0..turns {
+            if let Some(stop) = self.serve_turn(alloc, reader, writer, &mut buffers) {
+                return stop;
+            }
+        }
+        Stop::Turns
+    }
+
+    /// One turn: what one read gave, behind what is held, is answered.
+    fn serve_turn<R: Read, W: Write>(
+        &mut self,
+        alloc: Global,
+        reader: &mut R,
+        writer: &mut W,
+        buffers: &mut Buffers,
+    ) -> Option<Stop>
+        requires piece { length buffers.old.piece.items ≡ 65536 }
+        requires rest { IsRest buffers.old.held.items }
+        ensures reads { Reads (Written self.old self.new result (W.contents writer.old) (W.contents writer.new)) buffers.old.held.items (R.remaining reader.old) (R.remaining reader.new) (stretch_of result) buffers.new.held.items }
+        ensures piece { length buffers.new.piece.items ≡ 65536 }
+        ensures end { result ≡ Some Ended → IsAtEnd (R.remaining reader.new) }
+    {
+        match reader.read(buffers.piece.as_mut_slice()) {
+            Ok(0) => Some(Stop::Ended),
+            Ok(n) => {
+                if buffers.held.extend_from_slice(&buffers.piece[..n]).is_err() {
+                    return Some(Stop::OutOfMemory);
+                }
+                self.answer_held(alloc, writer, buffers)
+            }
+            Err(e) => {
+                if gave_nothing(&e) {
+                    None
+                } else {
+                    Some(Stop::ReadFault)
+                }
+            }
+        }
+    }
+
+    /// Answers the frames of what is held, in one write where the writer takes it whole, and keeps
+    /// what is left.
+    fn answer_held<W: Write>(
+        &mut self,
+        alloc: Global,
+        writer: &mut W,
+        buffers: &mut Buffers,
+    ) -> Option<Stop>
+        ensures went { (left : List ℕ) × Went (Written self.old self.new result (W.contents writer.old) (W.contents writer.new)) buffers.old.held.items left × Leaves (stretch_of result) left buffers.new.held.items }
+        ensures piece { buffers.new.piece.items ≡ buffers.old.piece.items }
+        ensures cause { result ≢ Some Ended }
+    {
+        buffers.out.clear();
+        let (used, ended) = self.answer_stream(
+            alloc,
+            buffers.held.as_slice(),
+            &mut buffers.said,
+            &mut buffers.out,
+        );
+        drop_front(&mut buffers.held, used);
+        if write_octets(writer, buffers.out.as_slice()).is_err() {
+            return Some(Stop::WriteFault);
+        }
+        if let Some(stop) = ended {
+            return Some(stop);
+        }
+        if is_bad(buffers.held.as_slice()) {
+            return Some(Stop::Lost);
+        }
+        None
+    }
+
+    /// Answers the frames at the front of a stream. Gives how many octets they have, and why the
+    /// connection ends, if it does.
+    fn answer_stream(
+        &mut self,
+        alloc: Global,
+        stream: &[u8],
+        said: &mut Vec<Said>,
+        out: &mut Vec<u8>,
+    ) -> (usize, Option<Stop>)
+        ensures used { result.0 ≤ length stream.now }
+        ensures went { Went (Answered self.old self.new result.1 out.old.items out.new.items) stream.now (drop result.0 stream.now) }
+        ensures rest { result.1 ≡ None → IsRest (drop result.0 stream.now) }
+        ensures early { IfSome result.1 (λ s. stretch_of (Some s) ≡ early) }
+    {
+        let mut left = stream;
+        while let Some(length) = first_frame(left) {
+            let (frame, after) = left.split_at(length);
+            match self.answer_frame(alloc, frame, said, out) {
+                Ok(None) => left = after,
+                Ok(end) => return (stream.len() - after.len(), end),
+                Err(_full) => return (stream.len() - left.len(), Some(Stop::OutOfMemory)),
+            }
+        }
+        (stream.len() - left.len(), None)
+    }
+
+    /// Adds what is said to a frame. Gives why the connection ends, if it does.
+    fn answer_frame(
+        &mut self,
+        alloc: Global,
+        frame: &[u8],
+        said: &mut Vec<Said>,
+        out: &mut Vec<u8>,
+    ) -> Result<Option<Stop>, AllocError>
+        requires frame { IsFrame frame.now }
+        ensures answered { IfOk result (λ end. Answered self.old self.new end out.old.items out.new.items (frame.now ∷ [])) }
+        ensures early { IfOk result (λ end. IfSome end (λ s. stretch_of (Some s) ≡ early)) }
+        ensures same { OnErr result ((self.new ≡ self.old) × (out.new.items ≡ out.old.items)) }
+    {
+        let header = frame_header(frame);
+        let end = self.end_at(&header);
+        match self.answer_into(alloc, &header, said, out) {
+            Ok(()) => Ok(end),
+            Err(e) => Err(e),
+        }
+    }
+
+    /// Why the connection ends after a frame with this header, if it does.
+    fn end_at(&self, header: &Header) -> Option<Stop>
+        ensures at { brought result ≡ brought_by self.now header.now }
+        ensures early { IfSome result (λ s. stretch_of (Some s) ≡ early) }
+    {
+        match header.command {
+            SUBMIT_SM => hangs_up(self.next_treatment()),
+            UNBIND => Some(Stop::Unbound),
+            _ => None,
+        }
+    }
+}
+
+/// Whether a treatment ends the connection.
+fn hangs_up(treatment: Treatment) -> Option<Stop>
+    ensures up { brought result ≡ hung_up_by treatment }
+    ensures early { IfSome result (λ s. stretch_of (Some s) ≡ early) }
+{
+    match treatment {
+        Treatment::Cut => Some(Stop::HungUp),
+        Treatment::Huge => Some(Stop::HungUp),
+        Treatment::Status(_) => None,
+        Treatment::Nack(_) => None,
+        Treatment::Silent => None,
+        Treatment::Unbind => None,
+        Treatment::Twice(_) => None,
+        Treatment::Stray(_) => None,
+        Treatment::Late {
+            after: _,
+            status: _,
+        } => None,
+        Treatment::Deliver => None,
+    }
+}
+
+/// Whether a read that failed so is one that gave nothing.
+fn gave_nothing(e: &Error) -> bool {
+    matches!(
+        e.kind(),
+        ErrorKind::WouldBlock | ErrorKind::TimedOut | ErrorKind::Interrupted
+    )
+}
+
+/// Takes octets off the front.
+fn drop_front(octets: &mut Vec<u8>, used: usize)
+    requires { used ≤ length octets.old.items }
+    ensures { octets.new.items ≡ drop used octets.old.items }
+{
+    octets.drain(..used);
+}

@@ -1,0 +1,72 @@
+//! The centre and its devices, by values from outside.
+use crate::{Cause, Centre, Script, ScriptError, ServeEnd, serve};
+use sms_pdu::Frame;
+use std::alloc::Global;
+use std::test::Fail;
+
+mod devices;
+mod ends;
+mod texts;
+
+// submit_sm number 2 of `Hi` from 12345 to 447700900123.
+const SUBMIT: &[u8; 52] =
+    b"\x00\x00\x00\x34\x00\x00\x00\x04\x00\x00\x00\x00\x00\x00\x00\x02\x00\x01\x0112345\x00\x01\x01447700900123\x00\x00\x00\x00\x00\x00\x00\x00\x00\x00\x02Hi";
+
+// Its answer with the message_id `m1`.
+const ANSWER: &[u8; 19] = b"\x00\x00\x00\x13\x80\x00\x00\x04\x00\x00\x00\x00\x00\x00\x00\x02m1\x00";
+
+// A PDU without a body.
+fn bare(command: u32, status: u32, number: u32) -> [u8; 16] {
+    let c = command.to_be_bytes();
+    let s = status.to_be_bytes();
+    let n = number.to_be_bytes();
+    [
+        0, 0, 0, 16, c[0], c[1], c[2], c[3], s[0], s[1], s[2], s[3], n[0], n[1], n[2], n[3],
+    ]
+}
+
+// What the centre of a script writes to this input, and how it ends.
+fn served(alloc: Global, script: &str, input: &[u8]) -> Result<(Vec<u8>, ServeEnd), Fail> {
+    let script = Script::read(alloc, script).map_err(|_| Fail::from("no script"))?;
+    let mut reader = input;
+    let mut out = Vec::<u8>::new(alloc);
+    let end = serve(alloc, &mut reader, &mut out, script, 10);
+    Ok((out, end))
+}
+
+#[test]
+fn a_submit_and_its_answer(rt: HostRuntime) -> Result<(), Fail> {
+    let alloc = rt.alloc();
+    let script = Script::read(alloc, "answers = [\"status 0\"]\n").map_err(|_| Fail::from(
+        "script",
+    ))?;
+    let mut centre = Centre::new(alloc, script)?;
+    let mut octets = Vec::new(alloc);
+    octets.extend_from_slice(SUBMIT)?;
+    let pieces = centre.answer(alloc, &Frame::new(octets))?;
+    assert_eq!(rt; pieces.len(), 1);
+    assert_eq!(rt; pieces[0].as_slice(), ANSWER.as_slice());
+    assert_eq!(rt; centre.submits(), 1);
+    let mut answers = Vec::new(alloc);
+    answers.push(String::from_str(alloc, "status 0")?)?;
+    let script = Script::of(alloc, 0, answers.as_slice()).map_err(|_| Fail::from("script"))?;
+    let mut reader = SUBMIT.as_slice();
+    let mut out = Vec::<u8>::new(alloc);
+    let end = serve(alloc, &mut reader, &mut out, script, 10);
+    assert_eq!(rt;
+        end,
+        ServeEnd {
+            submits: 1,
+            cause: Cause::Ended
+        }
+    );
+    assert_eq!(rt; out.as_slice(), ANSWER.as_slice());
+    answers.clear();
+    assert!(rt;
+        matches!(
+            Script::of(alloc, 0, answers.as_slice()),
+            Err(ScriptError::BadKey)
+        )
+    );
+    Ok(())
+}

@@ -1,0 +1,72 @@
+//! The pipe, from both ends, and the fuse.
+use super::{ANSWER, SUBMIT};
+use crate::{Cause, Fuse, Pipe, Script, ServeEnd, serve};
+use std::io::{ErrorKind, Read, Write};
+use std::test::Fail;
+
+#[test]
+fn both_ends_of_a_pipe(rt: HostRuntime) -> Result<(), Fail> {
+    let alloc = rt.alloc();
+    let pipe = Pipe::new(alloc, 5)?;
+    let mut writer = pipe.end(&rt);
+    let mut reader = pipe.end(&rt);
+    let mut buf = [0u8; 8];
+    assert!(rt; matches!(reader.read(&mut buf), Err(e) if e.kind() == ErrorKind::WouldBlock));
+    for round in 0..4u8 {
+        let octets = [round, 10, 20, 30];
+        assert!(rt; matches!(writer.write(&octets), Ok(4)));
+        assert!(rt; matches!(writer.write(&octets), Ok(1)));
+        assert!(rt; writer.write(&octets).is_err());
+        assert!(rt; matches!(writer.write(&[]), Ok(0)));
+        assert!(rt; matches!(reader.read(&mut buf[..3]), Ok(3)));
+        assert_eq!(rt; &buf[..3], [round, 10, 20].as_slice());
+        assert!(rt; matches!(reader.read(&mut buf), Ok(2)));
+        assert_eq!(rt; &buf[..2], [30, round].as_slice());
+    }
+    assert!(rt; matches!(writer.write(&[7]), Ok(1)));
+    pipe.close(&rt);
+    assert!(rt; matches!(reader.read(&mut buf), Ok(1)));
+    assert_eq!(rt; buf[0], 7);
+    assert!(rt; matches!(reader.read(&mut buf), Ok(0)));
+    Ok(())
+}
+
+#[test]
+fn a_centre_behind_pipes(rt: HostRuntime) -> Result<(), Fail> {
+    let alloc = rt.alloc();
+    let script = Script::read(alloc, "answers = [\"status 0\"]").map_err(|_| Fail::from("script"))?;
+    let there = Pipe::new(alloc, 100)?;
+    let back = Pipe::new(alloc, 100)?;
+    assert!(rt; matches!(there.end(&rt).write(SUBMIT), Ok(52)));
+    there.close(&rt);
+    let end = serve(alloc, &mut there.end(&rt), &mut back.end(&rt), script, 10);
+    assert_eq!(rt;
+        end,
+        ServeEnd {
+            submits: 1,
+            cause: Cause::Ended
+        }
+    );
+    let mut buf = [0u8; 32];
+    assert!(rt; matches!(back.end(&rt).read(&mut buf), Ok(19)));
+    assert_eq!(rt; &buf[..19], ANSWER.as_slice());
+    Ok(())
+}
+
+#[test]
+fn a_fuse_passes_so_many_octets(rt: HostRuntime) -> Result<(), Fail> {
+    let alloc = rt.alloc();
+    let mut buf = [0u8; 4];
+    let mut fuse = Fuse::new(SUBMIT.as_slice(), 6);
+    assert!(rt; matches!(fuse.read(&mut buf), Ok(4)));
+    assert!(rt; matches!(fuse.read(&mut buf), Ok(2)));
+    assert!(rt; fuse.read(&mut buf).is_err());
+    let mut out = Vec::<u8>::new(alloc);
+    let mut fuse = Fuse::new(&mut out, 3);
+    assert!(rt; matches!(fuse.write(b"ab"), Ok(2)));
+    assert!(rt; matches!(fuse.write(b"cd"), Ok(1)));
+    assert!(rt; fuse.write(b"e").is_err());
+    assert!(rt; fuse.flush().is_ok());
+    assert_eq!(rt; out.as_slice(), b"abc".as_slice());
+    Ok(())
+}
