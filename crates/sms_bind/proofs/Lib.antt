@@ -3,3 +3,4 @@ pub mod Tables
 pub mod Logs
 pub mod Works
 pub mod Hands
+pub mod Turning

@@ -1,5 +1,6 @@
 -- What is done with a frame, and what is counted.
 use Rattle.std.specs.Prelude.{◌≡◌, ℕ, ◌+◌, ◌≤◌, List, [], ◌∷◌, ◌++◌, Option, Some, None, Bool, true, false, ◌==◌, if◌then◌else◌}
+use Rattle.sms_core.specs.Statuses.{bad_command_length}
 use Rattle.sms_pdu.specs.declared.body.Pdu.{Pdu}
 use Rattle.sms_pdu.specs.declared.body.Body.{Body}
 use Rattle.sms_pdu.specs.declared.body.Body.TheVariants as body
@@ -39,6 +40,10 @@ body_for id =
 
 abbrev pub pdu_for : Response → Pdu
 pdu_for r = record { status = r.status; number = r.number; body = body_for r.command }
+
+-- what tells the other side that a command_length was bad (SMPP 3.4 4.3)
+abbrev pub bad_length_response : Response
+bad_length_response = record { command = id_of command.GenericNack; status = bad_command_length; number = 0 }
 
 -- ---- what is done with one frame
 

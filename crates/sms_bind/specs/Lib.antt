@@ -7,3 +7,4 @@ pub mod Follows
 pub mod Deeds
 pub mod Desks
 pub mod Ends
+pub mod Turns

@@ -9,7 +9,8 @@ ghost use Rattle.sms_bind.specs.Devices.{device, faults_of};
 ghost use Rattle.sms_bind.specs.Faults.{IsCounted};
 ghost use Rattle.sms_bind.specs.Follows.{HoldsBack, most_held, held_none};
 ghost use Rattle.sms_bind.specs.Ends.{HandsOn};
-ghost use Rattle.sms_bind.specs.declared.ending.Cause.TheVariants.{Ended, ReadFault};
+ghost use Rattle.sms_bind.specs.Turns.{Turned};
+ghost use Rattle.sms_bind.specs.declared.ending.Cause.TheVariants.{Ended, ReadFault, Turns};
 
 use crate::bound::Bound;
 use crate::counts::Counts;
@@ -49,6 +50,7 @@ pub fn read_loop<R: Read, W: Write, S: Wait>(
     ensures rings { AllZip SameProducer producers.items result.producers.items }
     ensures seat { HoldsBack (most_held follow) seat.view result.seat.view }
     ensures window { result.seat.window ≡ seat.window }
+    ensures turned { Turned turns (result.cause ≡ Turns) (R.remaining (device reader.old)) (R.remaining (device reader.new)) (faults_of reader.old) (faults_of reader.new) }
     ensures end { result.cause ≡ Ended → IsAtEnd (R.remaining (device reader.new)) }
     ensures fault { result.cause ≡ ReadFault → IsCounted (faults_of reader.old) (faults_of reader.new) }
 {

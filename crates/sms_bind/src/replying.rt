@@ -4,7 +4,7 @@ ghost use Rattle.std.specs.Prelude.{◌≡◌, ◌≢◌, true, IfOk};
 ghost use Rattle.std.specs.Io.KnownBytes.{Appends};
 ghost use Rattle.sms_pdu.specs.Grammar.{Spells};
 ghost use Rattle.sms_bind.specs.Devices.{writer, is_broken};
-ghost use Rattle.sms_bind.specs.Deeds.{pdu_for};
+ghost use Rattle.sms_bind.specs.Deeds.{bad_length_response, pdu_for};
 ghost use Rattle.sms_bind.specs.declared.deed.Written.TheVariants.{Sent, Broken};
 
 use crate::deed::Written;
@@ -37,12 +37,19 @@ pub(crate) fn reply<W: Write, S: Wait>(
 /// Tells the other side that a command_length was bad (SMPP 3.4 4.3). That it was told is not waited
 /// for.
 pub(crate) fn refuse_length<W: Write, S: Wait>(rt: &S, alloc: Global, line: &Line<W>) {
-    let response = Response {
+    let _written = reply(rt, alloc, line, &bad_length());
+}
+
+/// The generic_nack of a stream that can't be divided any further. It answers no request, so its
+/// sequence_number is 0.
+fn bad_length() -> Response
+    ensures { result ≡ bad_length_response }
+{
+    Response {
         command: GENERIC_NACK,
         status: ESME_RINVCMDLEN,
         number: 0,
-    };
-    let _written = reply(rt, alloc, line, &response);
+    }
 }
 
 /// The frame of a response.

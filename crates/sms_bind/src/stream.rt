@@ -8,7 +8,7 @@ ghost use Rattle.sms_session.specs.Session.{IsBound};
 ghost use Rattle.sms_bind.specs.Deeds.{stretch_of, IsWithin};
 ghost use Rattle.sms_bind.specs.Follows.{Follows};
 ghost use Rattle.sms_bind.specs.Desks.{Worked};
-ghost use Rattle.sms_bind.specs.declared.ending.Cause.TheVariants.{Ended, ReadFault};
+ghost use Rattle.sms_bind.specs.declared.ending.Cause.TheVariants.{Ended, ReadFault, Turns};
 
 use crate::desk::Desk;
 use crate::ending::Cause;
@@ -69,7 +69,7 @@ impl Desk {
         ensures room { self.new.counts.frames + length held.new.items ≤ self.old.counts.frames + length held.old.items }
         ensures short { result ≡ None → length held.new.items < 70000 }
         ensures going { result ≡ None → self.new.session ≡ self.old.session }
-        ensures cause { (result ≢ Some Ended) × (result ≢ Some ReadFault) }
+        ensures cause { (result ≢ Some Ended) × (result ≢ Some ReadFault) × (result ≢ Some Turns) }
     {
         let (used, ended) = self.work_stream(rt, alloc, line, window, held.as_slice());
         drop_front(held, used);

@@ -1,6 +1,6 @@
 //! Reading in turns.
 
-ghost use Rattle.std.specs.Prelude.{◌≡◌, ◌+◌, ◌<◌, ◌≤◌, ◌^◌, ◌++◌, [], length, None, Some};
+ghost use Rattle.std.specs.Prelude.{◌≡◌, ◌≢◌, ◌+◌, ◌<◌, ◌≤◌, ◌^◌, ◌++◌, [], length, None, Some};
 ghost use Rattle.std.specs.List.{concat};
 ghost use Rattle.std.specs.Io.KnownBytes.{IsAtEnd};
 ghost use Rattle.sms_pdu.specs.Frame.{IsRest};
@@ -11,7 +11,8 @@ ghost use Rattle.sms_bind.specs.Devices.{device, faults_of};
 ghost use Rattle.sms_bind.specs.Faults.{IsCounted};
 ghost use Rattle.sms_bind.specs.Follows.{Follows};
 ghost use Rattle.sms_bind.specs.Desks.{Worked};
-ghost use Rattle.sms_bind.specs.declared.ending.Cause.TheVariants.{Ended, ReadFault};
+ghost use Rattle.sms_bind.specs.Turns.{Turned};
+ghost use Rattle.sms_bind.specs.declared.ending.Cause.TheVariants.{Ended, ReadFault, Turns};
 
 use crate::desk::Desk;
 use crate::ending::Cause;
@@ -50,6 +51,7 @@ impl Desk {
         requires fresh { self.old.counts.frames ≡ 0 }
         ensures follows { Follows self.old.follower self.new.follower }
         ensures reads { Reads (Worked self.old.session (Some result) self.old self.new) (concat frames.now ++ rest.items) (R.remaining (device reader.old)) (R.remaining (device reader.new)) (stretch_of (Some result)) [] }
+        ensures turned { Turned turns (result ≡ Turns) (R.remaining (device reader.old)) (R.remaining (device reader.new)) (faults_of reader.old) (faults_of reader.new) }
         ensures end { result ≡ Ended → IsAtEnd (R.remaining (device reader.new)) }
         ensures fault { result ≡ ReadFault → IsCounted (faults_of reader.old) (faults_of reader.new) }
     {
@@ -83,6 +85,7 @@ impl Desk {
         requires room { self.old.counts.frames < 2 ^ 63 }
         ensures follows { Follows self.old.follower self.new.follower }
         ensures reads { Reads (Worked self.old.session (Some result) self.old self.new) held.items (R.remaining (device reader.old)) (R.remaining (device reader.new)) (stretch_of (Some result)) [] }
+        ensures turned { Turned turns (result ≡ Turns) (R.remaining (device reader.old)) (R.remaining (device reader.new)) (faults_of reader.old) (faults_of reader.new) }
         ensures end { result ≡ Ended → IsAtEnd (R.remaining (device reader.new)) }
         ensures fault { result ≡ ReadFault → IsCounted (faults_of reader.old) (faults_of reader.new) }
     {
@@ -126,6 +129,8 @@ impl Desk {
         ensures short { result ≡ None → length held.new.items < 70000 }
         ensures room { result ≡ None → self.new.counts.frames + length held.new.items ≤ self.old.counts.frames + length held.old.items + 65536 }
         ensures going { result ≡ None → self.new.session ≡ self.old.session }
+        ensures turned { Turned 1 (result ≡ None) (R.remaining (device reader.old)) (R.remaining (device reader.new)) (faults_of reader.old) (faults_of reader.new) }
+        ensures cause { result ≢ Some Turns }
         ensures end { result ≡ Some Ended → IsAtEnd (R.remaining (device reader.new)) }
         ensures fault { result ≡ Some ReadFault → IsCounted (faults_of reader.old) (faults_of reader.new) }
         ensures faults { faults_of reader.old ≤ faults_of reader.new }

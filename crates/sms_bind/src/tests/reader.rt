@@ -183,31 +183,48 @@ fn streams_that_are_read(rt: HostRuntime) -> Result<(), Fail> {
     Ok(())
 }
 
-// What was read with the bind's answer is worked first; a transmitter is sent no deliver_sm.
-#[test]
-fn what_came_with_the_answer(rt: HostRuntime) -> Result<(), Fail> {
-    let alloc = rt.alloc();
-    let Ok(settings) = settings_of(&rt, alloc, Mode::Transmitter, b"esme") else {
+// Binds as a transmitter over the answer and these octets behind it.
+fn bound_with(rt: &impl Abort, alloc: Global, behind: &[u8]) -> Result<Bound, Fail> {
+    let Ok(settings) = settings_of(rt, alloc, Mode::Transmitter, b"esme") else {
         panic!(rt; "no settings")
     };
     let mut stream = Vec::from_slice(alloc, ACCEPTED)?;
-    stream.extend_from_slice(ENQUIRE_LINK)?;
-    stream.extend_from_slice(b"\x00\x00\x00\x10\x00\x00\x00\x05\x00")?;
+    stream.extend_from_slice(behind)?;
     let mut reader = source_of(0, stream.as_slice(), false);
     let mut wire = Wire::new(Tap::new(Vec::<u8>::new(alloc)));
     let Ok(bound) = bind(alloc, &mut reader, &mut wire, &settings, 1) else {
         panic!(rt; "not bound")
     };
-    let line = line_of(&rt, alloc, 1000, 0)?;
-    let later = source_of(3, b"\x00\x00\x00\x00\x00\x00\x09", false);
-    let end = read_from(&rt, alloc, later, bound, Vec::new(alloc), &line);
-    assert_eq!(rt; end.cause, Cause::Ended);
-    assert_eq!(rt; counts(&end), [0, 0, 0, 1, 0, 0, 0]);
-    let mut wanted = Vec::from_slice(alloc, ENQUIRE_LINK_RESP)?;
-    wanted.extend_from_slice(
-        b"\x00\x00\x00\x11\x80\x00\x00\x05\x00\x00\x00\x04\x00\x00\x00\x09\x00",
-    )?;
-    want_written(&rt, line, wanted.as_slice());
+    Ok(bound)
+}
+
+// What was read with the bind's answer is worked first; a transmitter is sent no deliver_sm.
+#[test]
+fn what_came_with_the_answer(rt: HostRuntime) -> Result<(), Fail> {
+    let cases = [
+        (
+            b"\x00\x00\x00\x10\x00\x00\x00\x15\x00\x00\x00\x00\x00\x00\x00\x02\x00\x00\x00\x10\x00\x00\x00\x05\x00".as_slice(),
+            Cause::Ended,
+            1,
+            b"\x00\x00\x00\x10\x80\x00\x00\x15\x00\x00\x00\x00\x00\x00\x00\x02\x00\x00\x00\x11\x80\x00\x00\x05\x00\x00\x00\x04\x00\x00\x00\x09\x00".as_slice(),
+        ),
+        (
+            b"\x00\x00\x00\x0f".as_slice(),
+            Cause::Lost,
+            0,
+            b"\x00\x00\x00\x10\x80\x00\x00\x00\x00\x00\x00\x02\x00\x00\x00\x00".as_slice(),
+        ),
+    ];
+    for (behind, cause, delivered, written) in cases {
+        let alloc = rt.alloc();
+        let bound = bound_with(&rt, alloc, behind)?;
+        let line = line_of(&rt, alloc, 1000, 0)?;
+        let later = source_of(3, b"\x00\x00\x00\x00\x00\x00\x09", false);
+        let end = read_from(&rt, alloc, later, bound, Vec::new(alloc), &line);
+        assert_eq!(rt; end.cause, cause);
+        assert_eq!(rt; counts(&end), [0, 0, 0, delivered, 0, 0, 0]);
+        want_written(&rt, line, written);
+    }
     Ok(())
 }
 

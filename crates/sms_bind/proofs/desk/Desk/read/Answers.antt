@@ -8,6 +8,7 @@ use Rattle.sms_bind.specs.Deeds.{stretch_of}
 use Rattle.sms_bind.specs.Desks.{Worked}
 use Rattle.sms_bind.proofs.Works.{worked_more, worked_ends, reads_early, reads_begun}
 use Rattle.sms_pdu.proofs.Streams.{reads_ends, reads_more}
+use Rattle.sms_bind.proofs.Turning.{turned_none, not_early}
 use Rattle.sms_bind.proofs.desk.Desk.read.Goals as goal
 
 pub returns-in-Some-clause-reads : goal.returns-in-Some-clause-reads
@@ -43,3 +44,10 @@ returns-clause-reads g c =
     let u = g.R.Read.remaining c.read_turns.new.reader.inner in
     let one = subst (λ x. Reads (Worked x end b d) rest r u (stretch_of end) []) (c.in_default.ensures.going refl) c.read_turns.ensures.reads in
     reads_more (Worked s None a b) (Worked s end b d) (Worked s end a d) (before ++ rest) rest [] r r u (stretch_of end) (reads_begun (Worked s None a b) before w.0 rest r w.1 (w.2 refl) c.requires.rest) one (λ fs gs p q. worked_more s end a b d fs gs p q)
+
+pub returns-in-Some-clause-turned : goal.returns-in-Some-clause-turned
+returns-in-Some-clause-turned g c =
+    turned_none _ _ _ _ (not_early c.in-Some.cause c.in-Some.ensures.early)
+
+pub returns-then-is_bad-clause-turned : goal.returns-then-is_bad-clause-turned
+returns-then-is_bad-clause-turned g c = turned_none _ _ _ _ (λ e. absurd cc)

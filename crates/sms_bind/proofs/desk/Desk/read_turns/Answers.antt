@@ -7,6 +7,7 @@ use Rattle.sms_bind.specs.declared.ending.Cause.TheVariants.{OutOfMemory, Stoppe
 use Rattle.sms_bind.specs.Deeds.{stretch_of}
 use Rattle.sms_bind.specs.Desks.{Worked}
 use Rattle.sms_bind.proofs.Works.{worked_none, worked_nothing, worked_more, worked_ends, leaves_end, follows_same, follows_on, counted_later}
+use Rattle.sms_bind.proofs.Turning.{turned_none, turned_begins, turned_more, turned_last, turned_stops, turned_all}
 use Rattle.sms_bind.proofs.desk.Desk.read_turns.Goals as goal
 
 pub returns-in_default-clause-reads : goal.returns-in_default-clause-reads
@@ -26,6 +27,7 @@ loop-turn-init g c =
       same = refl;
       within = c.requires.within;
       reads = reads_none (Worked a.session None a a) held held r r going (worked_none a.session a) (Consumes-nil r) (c.requires.rest, refl);
+      turned = turned_begins _ _;
       faults = omega arith;
       piece = search rules;
       short = c.requires.short;
@@ -101,8 +103,21 @@ loop-turn-preserved g c =
       same = c.in_default-turn.ensures.going refl ∙ i.same;
       within = c.turn.ensures.within;
       reads = reads_more (Worked s None a b) (Worked s None b d) (Worked s None a d) begun held kept r t u going i.reads one (λ fs gs p q. worked_more s None a b d fs gs p q);
+      turned = turned_more c.loop-turn._turn _ _ _ _ _ _ _ c.turn.ensures.faults i.turned c.in_default-turn.ensures.turned refl;
       faults = (let f = c.turn.ensures.faults in let h = i.faults in omega (arith, f, h));
       piece = c.turn.ensures.piece;
       short = c.in_default-turn.ensures.short refl;
       room = (let n = c.in_default-turn.ensures.room refl in let m = i.room in omega (arith, n, m));
     }
+
+pub returns-in_default-clause-turned : goal.returns-in_default-clause-turned
+returns-in_default-clause-turned g c = turned_none _ _ _ _ (λ e. absurd cc)
+
+pub returns-then-load-clause-turned : goal.returns-then-load-clause-turned
+returns-then-load-clause-turned g c = turned_stops c.loop-turn._turn _ _ _ _ _ _ (search rules) (λ e. absurd cc) c.loop-turn.invariant.turned
+
+pub returns-in-Some-clause-turned : goal.returns-in-Some-clause-turned
+returns-in-Some-clause-turned g c = turned_last c.loop-turn._turn _ _ _ _ _ _ _ _ _ (search rules) c.loop-turn.invariant.turned c.turn.ensures.turned (λ e. c.in-Some.ensures.cause (ap (λ x. Some x) e))
+
+pub returns-clause-turned : goal.returns-clause-turned
+returns-clause-turned g c = turned_all c.loop-turn._turn _ _ _ _ _ _ (search rules) c.loop-turn.invariant.turned

@@ -4,6 +4,7 @@ use Rattle.sms_bind.specs.Deeds.{IsWithin}
 use Rattle.sms_bind.specs.Devices.{device, faults_of}
 use Rattle.sms_bind.specs.Follows.{Follows}
 use Rattle.sms_bind.specs.Desks.{Worked}
+use Rattle.sms_bind.specs.Turns.{Turned}
 use Rattle.sms_bind.proofs.desk.Desk.read_turns.Given as goal
 
 abbrev pub invariant-loop-turn : goal.invariant-loop-turn
@@ -12,6 +13,7 @@ invariant-loop-turn g l = record {
   same : l.self.session ≡ l.fn.self.session;
   within : IsWithin l.self.counts;
   reads : Reads (Worked l.fn.self.session None l.fn.self l.self) l.fn.held.items (g.R.Read.remaining (device l.fn.reader)) (g.R.Read.remaining (device l.reader)) going l.held.items;
+  turned : Turned l._turn (Unit {0}) (g.R.Read.remaining (device l.fn.reader)) (g.R.Read.remaining (device l.reader)) (faults_of l.fn.reader) (faults_of l.reader);
   faults : faults_of l.fn.reader ≤ faults_of l.reader;
   piece : length l.piece.items ≡ 65536;
   short : length l.held.items < 70000;

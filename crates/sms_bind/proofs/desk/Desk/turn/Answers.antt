@@ -1,10 +1,11 @@
-use Rattle.std.proofs.Common.{◌≡◌, ◌++◌, ℕ, take, None, Some, refl, subst, arith}
+use Rattle.std.proofs.Common.{◌≡◌, ◌++◌, ℕ, take, None, Some, refl, subst, rules, arith}
 use Rattle.std.specs.Io.KnownBytes.{Consumes}
 use Rattle.sms_pdu.specs.Streams.{going, complete, early}
 use Rattle.sms_pdu.proofs.Streams.{reads_none, reads_once, went_none, consumes_nothing}
 use Rattle.sms_bind.specs.declared.ending.Cause.TheVariants.{Ended, ReadFault, OutOfMemory}
 use Rattle.sms_bind.specs.Desks.{Worked}
 use Rattle.sms_bind.proofs.Works.{worked_nothing}
+use Rattle.sms_bind.proofs.Turning.{turned_ends, turned_read, turned_fault}
 use Rattle.sms_bind.proofs.desk.Desk.turn.Goals as goal
 
 pub returns-then-is_err-clause-reads : goal.returns-then-is_err-clause-reads
@@ -40,3 +41,18 @@ returns-else-gave_nothing-clause-reads g c =
     let s = a.session in
     let held = c.args.held.now.items in
     reads_none (Worked s (Some ReadFault) a a) held held _ _ complete (worked_nothing s (Some ReadFault) a refl refl) (consumes_nothing _ _ c.in-Err.ensures.bytes) c.requires.rest
+
+pub returns-then-is_err-clause-turned : goal.returns-then-is_err-clause-turned
+returns-then-is_err-clause-turned g c = turned_ends _ _ _ (take c.in-Ok.n c.read.new.buf) _ _ (search rules) (λ e. absurd cc) c.in-Ok.ensures.bytes.0
+
+pub returns-else-is_err-clause-turned : goal.returns-else-is_err-clause-turned
+returns-else-is_err-clause-turned g c = turned_read _ _ _ (take c.in-Ok.n c.read.new.buf) _ _ (search rules) (search rules) (search rules) c.in-Ok.ensures.bytes.0
+
+pub returns-in-Ok-eq0-clause-turned : goal.returns-in-Ok-eq0-clause-turned
+returns-in-Ok-eq0-clause-turned g c = turned_ends _ _ _ (take c.in-Ok-eq0.field-0 c.read.new.buf) _ _ (search rules) (λ e. absurd cc) c.in-Ok-eq0.ensures.bytes.0
+
+pub returns-then-gave_nothing-clause-turned : goal.returns-then-gave_nothing-clause-turned
+returns-then-gave_nothing-clause-turned g c = turned_fault _ _ _ _ _ c.in-Err.ensures.counted c.read.ensures.grows c.in-Err.ensures.bytes
+
+pub returns-else-gave_nothing-clause-turned : goal.returns-else-gave_nothing-clause-turned
+returns-else-gave_nothing-clause-turned g c = turned_fault _ _ _ _ _ c.in-Err.ensures.counted c.read.ensures.grows c.in-Err.ensures.bytes
