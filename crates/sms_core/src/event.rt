@@ -1,3 +1,5 @@
+//! The events of the model, what each is answered, and the causes for which one is ignored.
+
 /// What may happen to accounts, requests, slots and numbers. Each value of each field has a
 /// meaning.
 #[derive(Clone, Copy, Debug, PartialEq, Eq)]

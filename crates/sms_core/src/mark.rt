@@ -1,3 +1,5 @@
+//! What a held slot is used for.
+
 /// What a slot that somebody holds is used for.
 #[derive(Clone, Copy, Debug, PartialEq, Eq)]
 pub enum Mark {

@@ -1,3 +1,5 @@
+//! Requests: what each is for, how often it was sent, and how far it has come.
+
 /// How far a request has come. The last four are final.
 #[derive(Clone, Copy, Debug, PartialEq, Eq)]
 pub enum Phase {

@@ -1,3 +1,5 @@
+//! The row of an account, and what the moves of a request's credits make of it.
+
 ghost use Rattle.std.specs.Prelude.{◌≡◌, ◌+◌, ◌^◌, ◌<◌, ◌≤◌};
 ghost use Rattle.sms_core.specs.RowMoves.{row_after};
 

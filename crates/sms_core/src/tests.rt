@@ -1,3 +1,5 @@
+//! A few schedules worked out by hand, and each call with memory at hand.
+
 use crate::*;
 use std::test::Fail;
 
