@@ -26,6 +26,10 @@ fn put(out: &mut Vec<u8>, octets: &[u8])
     ensures len { vec_len out.new ≡ vec_len out.old + length octets.now }
     ensures room { vec_capacity out.old ≤ vec_capacity out.new }
 {
+    // (Many strings of a message are empty.)
+    if octets.is_empty() {
+        return;
+    }
     out.extend_from_slice(octets).unwrap();
 }
 
@@ -120,6 +124,7 @@ fn put_bind(out: &mut Vec<u8>, bind: &BindRef<'_>)
 }
 
 /// A message.
+#[inline(always)]
 fn put_sm(out: &mut Vec<u8>, sm: &SmRef<'_>)
     requires writable { SmWritable (owned_sm sm.now) }
     requires room { vec_len out.old + length (sm_spelling (owned_sm sm.now)) ≤ vec_capacity out.old }
@@ -154,6 +159,7 @@ fn put_message_id(out: &mut Vec<u8>, message_id: Option<&[u8]>)
 }
 
 /// A body.
+#[inline(always)]
 fn put_body(out: &mut Vec<u8>, body: &BodyRef<'_>)
     requires writable { Writable (owned_body body.now) }
     requires room { vec_len out.old + length (body_spelling (owned_body body.now)) ≤ vec_capacity out.old }
@@ -180,6 +186,7 @@ fn put_body(out: &mut Vec<u8>, body: &BodyRef<'_>)
 }
 
 /// The command of a body.
+#[inline(always)]
 fn command_of(body: &BodyRef<'_>) -> Command
     ensures { result ≡ command_in (owned_body body.now) }
 {
@@ -220,6 +227,7 @@ fn header(size: u32, command: u32, status: u32, number: u32) -> [u8; 16]
 }
 
 /// A PDU, of so many octets.
+#[inline(always)]
 fn put_pdu(out: &mut Vec<u8>, size: usize, pdu: &PduRef<'_>)
     requires measured { size_of (owned_pdu pdu.now) ≡ Ok size }
     requires room { vec_len out.old + size ≤ vec_capacity out.old }

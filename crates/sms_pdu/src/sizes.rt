@@ -18,6 +18,7 @@ use crate::parameter::Parameter;
 
 /// The length of a C-Octet String with its 0.
 #[tactic(auto, unfolding(crate::specs::Size::text_size))]
+#[inline(always)]
 fn text(field: Field, maximum: u8, text: &[u8]) -> Result<u8, PduError>
     ensures { result ≡ text_size field maximum text.now }
 {
@@ -32,6 +33,7 @@ fn text(field: Field, maximum: u8, text: &[u8]) -> Result<u8, PduError>
 
 /// The length of a time with its 0.
 #[tactic(auto, unfolding(crate::specs::Size::time_size))]
+#[inline(always)]
 fn time(field: Field, time: &[u8]) -> Result<u8, PduError>
     ensures { result ≡ time_size field time.now }
 {
@@ -97,6 +99,7 @@ fn whole(before: usize, params: &[Parameter]) -> Result<usize, PduError>
 
 /// The length of the whole with its parameters.
 #[tactic(auto, unfolding(crate::specs::Size::tail_size))]
+#[inline(always)]
 fn tail(before: usize, params: &[Parameter]) -> Result<usize, PduError>
     requires { before ≤ 70000 }
     ensures { result ≡ tail_size before params.now }
@@ -145,6 +148,7 @@ fn bind(bind: &BindRef<'_>) -> Result<usize, PduError>
 
 /// The length of a PDU with a message.
 #[tactic(auto, unfolding(crate::specs::Size::sm_size))]
+#[inline(always)]
 fn sm(sm: &SmRef<'_>) -> Result<usize, PduError>
     ensures { result ≡ sm_size (owned_sm sm.now) }
 {
@@ -209,6 +213,7 @@ fn message_id(status: u32, message_id: Option<&[u8]>) -> Result<usize, PduError>
 }
 
 /// The length of a PDU with this body.
+#[inline(always)]
 pub(crate) fn body_length(status: u32, body: &BodyRef<'_>) -> Result<usize, PduError>
     ensures { result ≡ body_size status (owned_body body.now) }
 {
@@ -233,6 +238,7 @@ pub(crate) fn body_length(status: u32, body: &BodyRef<'_>) -> Result<usize, PduE
 
 /// How many octets spell the PDU, or why none do: the first fault of its fields from left to right,
 /// and then of the length of the whole. Takes no memory.
+#[inline(always)]
 pub fn encoded_length(pdu: &PduRef<'_>) -> Result<usize, PduError>
     // The length, or which fault it is.
     ensures exact { result ≡ size_of (owned_pdu pdu.now) }
