@@ -6,7 +6,8 @@ ghost use Rattle.sms_pdu.specs.Frame.{IsFrame, IsRest};
 ghost use Rattle.sms_pdu.specs.Streams.{Went, Reads, Leaves, early};
 ghost use Rattle.sms_centre.specs.Says.{begun};
 ghost use Rattle.sms_centre.specs.Serving.{Serves, end_at as brought_by, hangs_up as hung_up_by};
-ghost use Rattle.sms_centre.specs.Stops.{cause_of as cause_of_stop, brought, stretch_of, Answered, Written};
+ghost use Rattle.sms_centre.specs.Stops.{cause_of as cause_of_stop, brought, stretch_of, gives_nothing, Answered, Written};
+ghost use Rattle.std.specs.IoError.{error_kind};
 ghost use Rattle.sms_centre.specs.declared.serving.Stop.TheVariants.{Ended};
 
 use crate::centre::Centre;
@@ -306,7 +307,9 @@ fn hangs_up(treatment: Treatment) -> Option<Stop>
 }
 
 /// Whether a read that failed so is one that gave nothing.
-fn gave_nothing(e: &Error) -> bool {
+fn gave_nothing(e: &Error) -> bool
+    ensures { result ≡ gives_nothing (error_kind e.now) }
+{
     matches!(
         e.kind(),
         ErrorKind::WouldBlock | ErrorKind::TimedOut | ErrorKind::Interrupted
