@@ -39,5 +39,5 @@ pub use opening::{Opening, open_book};
 pub use rate::Rate;
 pub use share::Shares;
 pub use statement::Statement;
-pub use tariff::Tariff;
+pub use tariff::{Tariff, without_plus};
 pub use till::Till;

@@ -13,6 +13,7 @@ pub enum Move {
     GiveBack,
 }
 
+/// The account's row after the move.
 pub fn row_after(row: Row, what: Move, n: u64) -> Row
     requires { CanMove what n row }
     ensures { result ≡ moved_row what n row }
@@ -37,6 +38,7 @@ pub fn row_after(row: Row, what: Move, n: u64) -> Row
     }
 }
 
+/// What the share has of the account after the move.
 pub fn amounts_after(had: Amounts, what: Move, n: u64) -> Amounts
     requires { FitsMove what n had }
     ensures { result ≡ moved_amounts what n had }

@@ -68,13 +68,13 @@ impl Tariff {
     }
 }
 
-/// The digits of a destination, without its leading `+`.
-fn without_plus(destination: &[u8]) -> &[u8]
-    ensures { result.now ≡ digits_of destination.now }
+/// The digits of an address, without its leading `+`.
+pub fn without_plus(address: &[u8]) -> &[u8]
+    ensures { result.now ≡ digits_of address.now }
 {
-    match destination.split_first() {
+    match address.split_first() {
         Some((first, rest)) if *first == b'+' => rest,
-        _ => destination,
+        _ => address,
     }
 }
 

@@ -4,6 +4,7 @@ pub mod Changes
 pub mod Charges
 pub mod EndLemmas
 pub mod EndsOf
+pub mod Events
 pub mod Keeping
 pub mod Submits
 pub mod Sweeping

@@ -61,12 +61,12 @@ pub all_front : {X : Type 0} (P : X → Type 0) (xs : List X) (x : X) → AllByR
 all_front P [] x a = (tt, a.0)
 all_front P (y ∷ xs) x a = let h = all_front P xs x a.1 in ((a.0, h.0), h.1)
 
-length-snoc : {X : Type 0} (xs : List X) (x : X) → length (xs ++ x ∷ []) ≡ suc (length xs)
+pub length-snoc : {X : Type 0} (xs : List X) (x : X) → length (xs ++ x ∷ []) ≡ suc (length xs)
 length-snoc [] x = refl
 length-snoc (y ∷ xs) x = ap suc (length-snoc xs x)
 
 -- a charge or a refusal is no lack of an answer
-answered_phase : (b : Bool) → (if b then phases.Charged else phases.Refused) ≡ phases.Unanswered → ⊥
+pub answered_phase : (b : Bool) → (if b then phases.Charged else phases.Refused) ≡ phases.Unanswered → ⊥
 answered_phase true e = cc
 answered_phase false e = cc
 

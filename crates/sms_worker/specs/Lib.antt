@@ -3,6 +3,7 @@ pub mod Apart
 pub mod Begins
 pub mod EndOf
 pub mod Ends
+pub mod Events
 pub mod Keeps
 pub mod Laws
 pub mod Limits

@@ -1,7 +1,8 @@
 //! How the addresses of a message are sent (SMPP 3.4 5.2.5 to 5.2.9).
 ghost use Rattle.std.specs.Prelude.{◌≡◌, ◌↔◌, IfSome, IsNone, IsTrue};
-ghost use Rattle.sms_book.specs.Tariffs.{digits_of};
 ghost use Rattle.sms_worker.specs.Addresses.{Address, IsNumber, IsName, IsSource, IsDestination, as_number, owned};
+
+use sms_book::without_plus;
 
 /// An address as it is sent.
 #[derive(Clone, Copy, Debug)]
@@ -11,16 +12,6 @@ pub struct AddressRef<'a> {
     /// The numbering plan.
     pub npi: u8,
     pub octets: &'a [u8],
-}
-
-/// The digits of an address, without its leading `+`.
-fn without_plus(text: &[u8]) -> &[u8]
-    ensures { result.now ≡ digits_of text.now }
-{
-    match text.split_first() {
-        Some((first, rest)) if *first == b'+' => rest,
-        _ => text,
-    }
 }
 
 /// Whether it is a number: 1 to 20 digits, and maybe a `+` before them.

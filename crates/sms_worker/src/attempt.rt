@@ -140,7 +140,7 @@ fn post_and_send<N: BookName, W: Write, G: Gate, K: Clock, R: Wait>(
             desk.line.down.store(true, Ordering::SeqCst);
             Some(receipt)
         }
-        Err(WireFault::Broken) => None,
+        Err(WireFault::Broken) => unreachable!(),
     }
 }
 
@@ -189,17 +189,17 @@ fn try_send<N: BookName, W: Write, G: Gate, K: Clock, R: Wait>(
 pub(crate) fn start<N: BookName, W: Write, G: Gate, K: Clock, R: Wait>(
     desk: &Desk<N, W, G, K, R>,
     seat: &mut WindowSeat,
-    open: &mut Vec<Open>,
+    opened: &mut Vec<Open>,
     place: Place,
     message: &Message,
     part: &Part,
     attempts: &mut Vec<Attempt>,
 ) -> Tried
     requires own { seat.old.window ≡ desk.now.window.now }
-    requires room { vec_len open.old < vec_capacity open.old }
+    requires room { vec_len opened.old < vec_capacity opened.old }
     requires septets { HasSeptets part.now }
     ensures window { seat.new.window ≡ seat.old.window }
-    ensures open { (base : ℕ) → IsOpen base (slots_of open.old.items) seat.old.view.slots → IsOpen base (slots_of open.new.items) seat.new.view.slots }
+    ensures open { (base : ℕ) → IsOpen base (slots_of opened.old.items) seat.old.view.slots → IsOpen base (slots_of opened.new.items) seat.new.view.slots }
     ensures tried { Tries desk.now.rules.now message.now part.now seat.old.view attempts.old.items result seat.new.view attempts.new.items }
 {
     let slot = match desk.window.try_claim(seat) {
@@ -211,7 +211,7 @@ pub(crate) fn start<N: BookName, W: Write, G: Gate, K: Clock, R: Wait>(
     match tried {
         Tried::Sent(number) => {
             let since_ms = desk.clock.now_ms();
-            open.push_reserved(Open {
+            opened.push_reserved(Open {
                 number,
                 slot,
                 place,

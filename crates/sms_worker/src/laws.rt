@@ -3,6 +3,15 @@ ghost use Rattle.std.specs.Prelude.{◌≡◌};
 ghost use mathlib.Core.List.{IsPrefix};
 ghost use Rattle.rtrb.specs.Ring.{sent, received, IsPair};
 ghost use Rattle.sms_worker.specs.Laws.{ChargesAreAnswered};
+ghost use Rattle.sms_worker.specs.Events.{
+  ClaimIsEvent,
+  SendingIsEvent,
+  AnswerIsEvent,
+  DecisionIsEvent,
+  ExpiryIsEvent,
+  GivingUpIsEvent,
+  ReleaseIsEvent,
+};
 
 use rtrb::{Consumer, Producer};
 use sms_pdu::Reply;
@@ -22,3 +31,18 @@ pub fn received_is_prefix(producer: &mut Producer<Reply>, consumer: &mut Consume
 {
     let _seen = consumer.slots_beside(producer);
 }
+
+/// The changes of one attempt are the core's events: a claim of its slot is a Claim, its draw, its
+/// post and its place in the list are a Post, its answer is a Respond, what the answer decides is a
+/// Settle, an end of the wait an Expire, giving a segment up a Discard, and a release a Release. Each
+/// event is done, and what the worker has stands for the world after it, as it did for the world
+/// before. A segment whose slot is answered when the turns run out is left as unanswered, by no event.
+pub fn an_attempt_is_events()
+    ensures claims { ClaimIsEvent }
+    ensures sends { SendingIsEvent }
+    ensures answers { AnswerIsEvent }
+    ensures decides { DecisionIsEvent }
+    ensures expires { ExpiryIsEvent }
+    ensures gives_up { GivingUpIsEvent }
+    ensures releases { ReleaseIsEvent }
+{}

@@ -23,6 +23,8 @@ use std::sync::atomic::Ordering;
 use std::sync::{Mutex, Wait};
 use std::test::Fail;
 
+mod sums;
+
 /// A request that gets no answer.
 const SILENT: u32 = 0xFFFF_FFFF;
 
@@ -44,6 +46,7 @@ struct Case<'a> {
     down_at: u32,
     /// How many octets the writer takes.
     room: u64,
+    long_reference: bool,
     /// The statuses of the answers in turn, and then the last one again.
     answers: &'a [u32],
 }
@@ -57,6 +60,7 @@ const PLAIN: Case<'static> = Case {
     down: false,
     down_at: 0,
     room: 1 << 40,
+    long_reference: false,
     answers: &[OK],
 };
 
@@ -203,6 +207,29 @@ fn messages_of(alloc: Global, count: u64) -> Result<Vec<Message>, AllocError> {
     Ok(messages)
 }
 
+// How the worker works. A destination that begins with 46 costs 5 credits.
+fn rules_of(rt: &impl Abort, alloc: Global, case: Case<'_>) -> Result<Rules, Fail> {
+    let Ok(policy) = Policy::new(case.attempts, 100) else {
+        panic!(rt; "no policy")
+    };
+    let rates = [Rate {
+        prefix: String::from_str(alloc, "46")?,
+        credits: 5,
+    }];
+    let Ok(tariff) = Tariff::new(alloc, rates.as_slice()) else {
+        panic!(rt; "no tariff")
+    };
+    Ok(Rules {
+        policy,
+        depth: case.depth,
+        answer_ms: case.answer_ms,
+        turns: 1 << 40,
+        receipts: false,
+        tariff,
+        long_reference: case.long_reference,
+    })
+}
+
 fn works<N: BookName, R: Abort + Wait>(
     rt: &R,
     alloc: Global,
@@ -233,25 +260,7 @@ fn works<N: BookName, R: Abort + Wait>(
     if case.down {
         line.down.store(true, Ordering::SeqCst);
     }
-    let Ok(policy) = Policy::new(case.attempts, 100) else {
-        panic!(rt; "no policy")
-    };
-    let rates = [Rate {
-        prefix: String::from_str(alloc, "46")?,
-        credits: 5,
-    }];
-    let Ok(tariff) = Tariff::new(alloc, rates.as_slice()) else {
-        panic!(rt; "no tariff")
-    };
-    let rules = Rules {
-        policy,
-        depth: case.depth,
-        answer_ms: case.answer_ms,
-        turns: 1 << 40,
-        receipts: false,
-        tariff,
-        long_reference: false,
-    };
+    let rules = rules_of(rt, alloc, case)?;
     let beside = Beside {
         rt,
         line: &line,

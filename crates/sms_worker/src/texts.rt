@@ -54,6 +54,7 @@ impl Texts {
         Texts::new(Vec::new(alloc), Vec::new(alloc))
     }
 
+    /// The parts that are left.
     pub fn as_slice(&self) -> &[Part]
         ensures { result.now ≡ self.now }
     {

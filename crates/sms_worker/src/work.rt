@@ -51,14 +51,14 @@ pub struct WorkerEnd<N: BookName> {
 }
 
 // Gives back whatever slots are open still.
-fn release_all(window: &Window, seat: &mut WindowSeat, mut open: Vec<Open>)
+fn release_all(window: &Window, seat: &mut WindowSeat, mut opened: Vec<Open>)
     requires own { seat.old.window ≡ window.now }
-    requires open { (base : ℕ) × IsOpen base (slots_of open.items) seat.old.view.slots }
+    requires open { (base : ℕ) × IsOpen base (slots_of opened.items) seat.old.view.slots }
     ensures window { seat.new.window ≡ seat.old.window }
-    ensures slots { (base : ℕ) → IsOpen base (slots_of open.items) seat.old.view.slots → seat.new.view.slots ≡ base }
+    ensures slots { (base : ℕ) → IsOpen base (slots_of opened.items) seat.old.view.slots → seat.new.view.slots ≡ base }
     ensures numbers { HasDrawn seat.old.view [] seat.new.view }
 {
-    while let Some(last) = open.pop() {
+    while let Some(last) = opened.pop() {
         window.release(seat, last.slot);
     }
 }

@@ -19,7 +19,7 @@ pub loop-last-preserved : goal.loop-last-preserved
 loop-last-preserved c =
     let i = c.loop-last.invariant in
     let after = c.release.ensures.freed.after in
-    let moved = λ (base : ℕ) (o : IsOpen base (slots_of c.loop-last.open.items) c.loop-last.seat.view.slots).
+    let moved = λ (base : ℕ) (o : IsOpen base (slots_of c.loop-last.opened.items) c.loop-last.seat.view.slots).
     subst (IsOpen base (slots_of c.pop.new.self.items)) (sym (ap (λ (v : View). v.slots) after))
     (one_last base c.loop-last.seat.view.slots c.in-Some.last.slot (slots_of c.pop.new.self.items) (subst (λ (l : List ℕ). IsOpen base l c.loop-last.seat.view.slots) (ap slots_of c.in-Some.ensures.items ∙ slots-append c.pop.new.self.items c.in-Some.last) o)).2 in
     record {
@@ -32,5 +32,5 @@ loop-last-preserved c =
 pub returns-clause-slots : goal.returns-clause-slots
 returns-clause-slots c base o =
     let i = c.loop-last.invariant in
-    let nothing_left : c.loop-last.open.items ≡ [] = search rules in
+    let nothing_left : c.loop-last.opened.items ≡ [] = search rules in
     none_left base c.loop-last.seat.view.slots (subst (λ (l : List Open). IsOpen base (slots_of l) c.loop-last.seat.view.slots) nothing_left (i.all base o))

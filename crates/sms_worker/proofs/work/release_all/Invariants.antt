@@ -7,10 +7,10 @@ use Rattle.sms_worker.proofs.work.release_all.Given as goal
 abbrev pub invariant-loop-last : goal.invariant-loop-last
 invariant-loop-last l = record {
   own : l.seat.window ≡ l.initial.seat.window;
-  some : (base : ℕ) × IsOpen base (slots_of l.open.items) l.seat.view.slots;
-  all : (base : ℕ) → IsOpen base (slots_of l.initial.open.items) l.initial.seat.view.slots → IsOpen base (slots_of l.open.items) l.seat.view.slots;
+  some : (base : ℕ) × IsOpen base (slots_of l.opened.items) l.seat.view.slots;
+  all : (base : ℕ) → IsOpen base (slots_of l.initial.opened.items) l.initial.seat.view.slots → IsOpen base (slots_of l.opened.items) l.seat.view.slots;
   numbers : HasDrawn l.initial.seat.view [] l.seat.view;
 }
 
 abbrev pub decreases-loop-last : goal.decreases-loop-last
-decreases-loop-last l = vec_len l.open
+decreases-loop-last l = vec_len l.opened

@@ -55,4 +55,4 @@ invariant_of-self-2 g c =
     let room' = c.take.ensures.room in
     let long : length c.give-2.new.ends.items ≡ length c.self.inside.ends.items = search rules in
     let slots = c.start-tried.ensures.open g.C.Call.start.seat.view.slots i.0.slots in
-    (keeps_tried _ c.args.desk.now.rules.now _ _ _ _ _ c.start-tried.new.open.items _ c.start-tried.new.seat _ _ k p c.index-message.result.now c.index-parts-place.result s s' c.start-tried.result i.0 c.requires.rules there here at waits (search rules) refl refl c.start-tried.ensures.window slots is long, (let r = i.1 in omega arith), i.2)
+    (keeps_tried _ c.args.desk.now.rules.now _ _ _ _ _ c.start-tried.new.opened.items _ c.start-tried.new.seat _ _ k p c.index-message.result.now c.index-parts-place.result s s' c.start-tried.result i.0 c.requires.rules there here at waits (search rules) refl refl c.start-tried.ensures.window slots is long, (let r = i.1 in omega arith), i.2)

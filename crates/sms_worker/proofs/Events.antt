@@ -1,0 +1,445 @@
+-- The changes of one attempt are the core's events.
+use Rattle.std.proofs.Common.{◌≡◌, ℕ, zero, suc, ◌+◌, ◌<◌, ◌≤◌, ◌==◌, ◌&&◌, ◌||◌, not, nat_lt, Bool, true, false, List, [], ◌∷◌, ◌++◌, length, set, get_or, Option, Some, None, inl, inr, refl, sym, ap, ◌∙◌, subst, arith, eq-eqb, ne_eqb}
+use Rattle.std.specs.Prelude.{◌⊎◌, slice_get, if◌then◌else◌}
+use Rattle.std.proofs.lemmas.Bool.{eqb-true, le-ltb, true≢false}
+use Rattle.std.proofs.lemmas.List.{get_or-set_same}
+use Rattle.std.proofs.lemmas.Option.{slice_get-get_or}
+use Rattle.sms_core.specs.declared.event.Event.TheVariants.{Claim, Post, Respond, Settle, Expire, Discard, Release}
+use Rattle.sms_core.specs.declared.event.Cause.{Cause}
+use Rattle.sms_core.specs.declared.event.Step.TheVariants.{Done}
+use Rattle.sms_core.specs.declared.mark.Mark.{Mark}
+use Rattle.sms_core.specs.declared.mark.Mark.TheVariants.{Empty as MarkEmpty, Open as MarkOpen, Replied}
+use Rattle.sms_core.specs.declared.request.Phase.{Phase}
+use Rattle.sms_core.specs.declared.request.Phase.TheVariants as phases
+use Rattle.sms_core.specs.declared.request.RequestState.{RequestState}
+use Rattle.sms_core.specs.declared.row.Row.{Row}
+use Rattle.sms_core.specs.Limits.{top_number}
+use Rattle.sms_core.specs.Marks.{is_empty, is_open, waits_for, opened}
+use Rattle.sms_core.specs.Renaming.{without, AreWorkers}
+use Rattle.sms_core.specs.Replies.{outcome_of, is_charge, is_retry}
+use Rattle.sms_core.specs.RowMoves.{row_given_back, row_after}
+use Rattle.sms_core.specs.State.{State, rows, request_of, mark_of, is_pair, times_held, changed}
+use Rattle.sms_core.specs.Steps.{Steps, Settles, Expires as ExpiresMark, checks, first_cause, some_waits_for, is_ready_state, is_ready_phase, posted, answered, with_phase, phase_after, discarded}
+use Rattle.sms_core.proofs.Drawn.{post_draws}
+use Rattle.sms_core.proofs.Moved.{post_opens}
+use Rattle.sms_core.proofs.Named.{find_changed}
+use Rattle.sms_core.proofs.Passed.{AllPassed}
+use Rattle.sms_core.proofs.Renaming.{weigh-renamed, weigh-without, weigh-le, kept, claim_is_workers, release_is_workers}
+use Rattle.sms_core.proofs.RequestSteps.{requests_move}
+use Rattle.sms_core.proofs.RowSteps.{rows_move}
+use Rattle.sms_core.specs.StepLaws.{DrawsNumber, SameRows, SameRequests, RowStep, RequestStep}
+use Rattle.sms_pdu.specs.declared.reply.Reply.{Reply}
+use Rattle.sms_session.specs.declared.policy.Decision.TheVariants.{Charge, RetryAfter, Refuse}
+use Rattle.sms_session.specs.Decisions.{decided, delay}
+use Rattle.sms_slot.specs.declared.slot.Slot.{Slot}
+use Rattle.sms_slot.specs.declared.slot.Slot.TheVariants.{Empty, Answered}
+use Rattle.sms_book.specs.Portions.{of_worker, of_row}
+use Rattle.sms_book.specs.Sums.{MovesBy}
+use Rattle.sms_worker.specs.declared.ends.Outcome.{Outcome}
+use Rattle.sms_worker.specs.declared.ends.Outcome.TheVariants.{Charged, Refused, Unanswered, Unsent}
+use Rattle.sms_worker.specs.declared.ends.Attempt.{Attempt}
+use Rattle.sms_worker.specs.declared.ends.SegmentEnd.{SegmentEnd}
+use Rattle.sms_worker.specs.Ends.{phase_of}
+use Rattle.sms_worker.specs.Events.{Parts, HasMark, HasPhase, AreReserved, row_settled, amounts_settled, IsEvent, ClaimIsEvent, SendingIsEvent, AnswerIsEvent, DecisionIsEvent, ExpiryIsEvent, GivingUpIsEvent, ReleaseIsEvent}
+use Rattle.sms_worker.specs.Steps.{outcome_after, with_outcome, given_outcome}
+use Rattle.sms_worker.specs.Told.{IsSettled, IsWaiting, answers, read_reply}
+use Rattle.sms_worker.proofs.Tries.{answers_snoc, outcome_snoc, length-snoc, answered_phase, given_state, sent_state}
+
+-- checks
+
+none_of : (cs : List (Bool × Cause)) → AllPassed cs → first_cause cs ≡ None
+none_of [] a = refl
+none_of ((true, c) ∷ cs) a = absurd (true≢false a.0)
+none_of ((false, c) ∷ cs) a = none_of cs a.1
+
+kept_one : (o a b s : Bool) → (a ≡ true → (o ≡ false) × (b ≡ true)) → (if a && s then 1 else 0) ≤ (if o then 0 else (if b && s then 1 else 0))
+kept_one o false b s is = omega arith
+kept_one true true b s is = absurd (true≢false ((is refl).0))
+kept_one false true false s is = absurd (true≢false (sym (is refl).1))
+kept_one false true true true is = omega arith
+kept_one false true true false is = omega arith
+
+-- the worker that a seat is has the seat's slot
+held_named : (name : ℕ → ℕ) (is_out : ℕ → Bool) (h slot : ℕ) (ps : List (ℕ × ℕ)) (w : State) → AreWorkers name is_out ps w → is_out h ≡ false → 1 ≤ times_held h slot ps
+    → (times_held (name h) slot w.holds == 0) ≡ false
+held_named name is_out h slot ps w a stays held =
+    ne_eqb (times_held (name h) slot w.holds) 0 (λ none.
+    let same = a.same (is_pair (name h) slot) in
+    let one = weigh-renamed name (is_pair (name h) slot) (without is_out ps) in
+    let two = weigh-without is_out (λ p. is_pair (name h) slot (name p.0, p.1)) ps in
+    let le = weigh-le (is_pair h slot) (kept is_out (λ p. is_pair (name h) slot (name p.0, p.1)))
+    (λ p. kept_one (is_out p.0) (p.0 == h) (name p.0 == name h) (p.1 == slot) (λ e. let is = eqb-true p.0 h e in (ap is_out is ∙ stays, eq-eqb (name p.0) (name h) (ap name is)))) ps in
+    absurd (omega arith))
+
+-- marks
+
+empty_has : (request : ℕ) (slot : Slot) (answer : Option Reply) (mark : Mark) → slot ≡ Empty → HasMark request slot answer mark → mark ≡ MarkEmpty
+empty_has request slot answer mark e m = subst (λ (s : Slot). HasMark request s answer mark) e m
+
+has_empty : (request : ℕ) (slot : Slot) (answer : Option Reply) (mark : Mark) → slot ≡ Empty → mark ≡ MarkEmpty → HasMark request slot answer mark
+has_empty request slot answer mark e m = subst (λ (s : Slot). HasMark request s answer mark) (sym e) m
+
+set_empty : (ms : List Mark) (i : ℕ) → get_or (set ms i MarkEmpty) i MarkEmpty ≡ MarkEmpty
+set_empty [] i = refl
+set_empty (m ∷ ms) zero = refl
+set_empty (m ∷ ms) (suc i) = set_empty ms i
+
+marked_inside : (ms : List Mark) (slot request number : ℕ) → get_or ms slot MarkEmpty ≡ MarkOpen request number → slot < length ms
+marked_inside [] slot request number e = absurd (cc)
+marked_inside (m ∷ ms) zero request number e = omega arith
+marked_inside (m ∷ ms) (suc slot) request number e = let rest = marked_inside ms slot request number e in omega arith
+
+or_true : (a b : Bool) → b ≡ true → (a || b) ≡ true
+or_true true b e = refl
+or_true false b e = e
+
+some_waits : (ms : List Mark) (slot request number : ℕ) → get_or ms slot MarkEmpty ≡ MarkOpen request number → some_waits_for number ms ≡ true
+some_waits [] slot request number e = absurd (cc)
+some_waits (m ∷ ms) zero request number e =
+    let waits : waits_for number m ≡ true = ap (waits_for number) e ∙ eq-eqb number number refl in
+    ap (λ (b : Bool). b || some_waits_for number ms) waits
+some_waits (m ∷ ms) (suc slot) request number e = or_true (waits_for number m) (some_waits_for number ms) (some_waits ms slot request number e)
+
+-- what a mark tells
+abbrev request_in : Mark → ℕ
+request_in MarkEmpty = 0
+request_in (MarkOpen r n) = r
+request_in (Replied r n s k) = r
+
+abbrev status_in : Mark → ℕ
+status_in MarkEmpty = 0
+status_in (MarkOpen r n) = 0
+status_in (Replied r n s k) = s
+
+abbrev nack_in : Mark → Bool
+nack_in MarkEmpty = false
+nack_in (MarkOpen r n) = false
+nack_in (Replied r n s k) = k
+
+some_same : {X : Type 0} (x y : X) → Some x ≡ Some y → x ≡ y
+some_same x y e = cc
+
+-- phases
+
+given_is : (xs : List Attempt) → phase_of (given_outcome xs) ≡ phases.Unanswered → ⊥
+given_is [] e = cc
+given_is (x ∷ xs) e = cc
+
+-- a segment that waits isn't settled as one that was sent and not answered
+not_sent : (most : ℕ) (s : SegmentEnd) → IsWaiting most s → IsSettled most s → s.outcome ≡ Unanswered → ⊥
+not_sent most s w h e =
+    let given = given_state s (record { cost = s.cost; attempts = s.attempts; outcome = given_outcome s.attempts }) refl refl most w in
+    given_is s.attempts (sym given.outcome ∙ h.outcome ∙ ap phase_of e)
+
+is_ready : (most : ℕ) (s : SegmentEnd) (phase : Phase) → IsWaiting most s → HasPhase most s phase → phase ≡ phases.Ready
+is_ready most s phases.Ready w h = refl
+is_ready most s phases.Open w h = absurd (not_sent most s w h.0 h.1)
+is_ready most s phases.Charged w h = let both : Charged ≡ Unanswered = sym h.1 ∙ w.outcome in absurd (cc)
+is_ready most s phases.Refused w h = let both : Refused ≡ Unanswered = sym h.1 ∙ w.outcome in absurd (cc)
+is_ready most s phases.Unanswered w h = absurd (not_sent most s w h.0 h.1)
+is_ready most s phases.Unsent w h = let both : Unsent ≡ Unanswered = sym h.1 ∙ w.outcome in absurd (cc)
+
+is_not_unready : (w : State) (request : ℕ) (s : RequestState) → request_of w request ≡ Some s → s.phase ≡ phases.Ready → not (is_ready_state (request_of w request)) ≡ false
+is_not_unready w request s known ready = ap (λ (o : Option RequestState). not (is_ready_state o)) known ∙ ap (λ (p : Phase). not (is_ready_phase p)) ready
+
+-- the phase after an answer
+decided_phase : (b c : Bool) (ms most : ℕ) (front : List Attempt) (last : Attempt) (r : Reply) (s : SegmentEnd) → last.reply ≡ Some r → s.attempts ≡ front ++ last ∷ []
+    → IsSettled most (with_outcome (outcome_after (if b then Charge else (if c then RetryAfter ms else Refuse))) s) ⊎ IsWaiting most (with_outcome (outcome_after (if b then Charge else (if c then RetryAfter ms else Refuse))) s)
+    → HasPhase most (with_outcome (outcome_after (if b then Charge else (if c then RetryAfter ms else Refuse))) s) (if b then phases.Charged else (if c then phases.Ready else phases.Refused))
+decided_phase true c ms most front last r s is e state = elim state [
+  | inl h ↦ (h, refl)
+  | inr h ↦ (let both : Charged ≡ Unanswered = h.outcome in absurd (cc))
+]
+decided_phase false true ms most front last r s is e state = elim state [
+  | inl h ↦ (let all : answers s.attempts ≡ answers front ++ read_reply (Some r) ∷ [] = ap answers e ∙ answers_snoc front last ∙ ap (λ x. answers front ++ read_reply x ∷ []) is in
+      absurd (answered_phase (is_charge r.status r.nack) (sym (ap outcome_of all ∙ outcome_snoc (answers front) (read_reply (Some r))) ∙ h.outcome)))
+  | inr h ↦ h
+]
+decided_phase false false ms most front last r s is e state = elim state [
+  | inl h ↦ (h, refl)
+  | inr h ↦ (let both : Refused ≡ Unanswered = h.outcome in absurd (cc))
+]
+
+decided_row : (b c : Bool) (ms cost : ℕ) (row : Row)
+    → row_after (if b then phases.Charged else (if c then phases.Ready else phases.Refused)) cost row ≡ row_settled (outcome_after (if b then Charge else (if c then RetryAfter ms else Refuse))) cost row
+decided_row true c ms cost row = refl
+decided_row false true ms cost row = refl
+decided_row false false ms cost row = refl
+
+given_row : (xs : List Attempt) (cost : ℕ) (row : Row) → row_given_back cost row ≡ row_settled (given_outcome xs) cost row
+given_row [] cost row = refl
+given_row (x ∷ xs) cost row = refl
+
+given_phase : (most : ℕ) (xs : List Attempt) (s : SegmentEnd) → IsSettled most s → s.outcome ≡ given_outcome xs → HasPhase most s (if length xs == 0 then phases.Unsent else phases.Refused)
+given_phase most [] s h e = (h, e)
+given_phase most (x ∷ xs) s h e =
+    subst (λ (b : Bool). HasPhase most s (if b then phases.Unsent else phases.Refused)) (sym (ne_eqb (length (x ∷ xs)) 0 (λ z. omega (arith, z)))) (h, e)
+
+credits_move : (o : Outcome) (p : Parts) → AreReserved p
+    → MovesBy (of_worker p.amounts) (of_worker (amounts_settled o p.segment.cost p.amounts)) (of_row p.row) (of_row (row_settled o p.segment.cost p.row))
+credits_move Charged p a = let few = a.0 in let more = a.1 in record { topped = omega arith; reserved = omega arith; charged = omega arith; returned = omega arith }
+credits_move Refused p a = let few = a.0 in let more = a.1 in record { topped = omega arith; reserved = omega arith; charged = omega arith; returned = omega arith }
+credits_move Unanswered p a = record { topped = omega arith; reserved = omega arith; charged = omega arith; returned = omega arith }
+credits_move Unsent p a = let few = a.0 in let more = a.1 in record { topped = omega arith; reserved = omega arith; charged = omega arith; returned = omega arith }
+
+-- the events
+
+pub claim_is_event : ClaimIsEvent
+claim_is_event ms w x p q h st c =
+    let k = claim_is_workers x.name x.is_out p.pairs q.pairs x.seat x.slot w st.seats c.worker c.inside c.claims in
+    let event = Claim (x.name x.seat) x.slot in
+    let e = k.1.1.1 in
+    let rows_same : SameRows w k.0 = rows_move ms w k.0 event h k.1 in
+    let requests_same : SameRequests w k.0 = requests_move ms w k.0 event h k.1 in
+    let mark : mark_of k.0 x.slot ≡ MarkEmpty = ap (λ (s : State). mark_of s x.slot) e ∙ set_empty w.marks x.slot in
+    subst (λ (y : Parts). IsEvent x w event y) (sym c.rest) record {
+      after = k.0;
+      steps = k.1;
+      stand = record {
+        most = ap (λ (s : State). s.attempts) e ∙ st.most;
+        seats = k.2;
+        next = st.next ∙ sym (ap (λ (s : State). s.next) e);
+        mark = has_empty x.request p.slot p.answer (mark_of k.0 x.slot) c.empty mark;
+        row = rows_same x.account ∙ st.row;
+        state = st.state;
+        known = requests_same x.request ∙ st.known;
+        account = st.account;
+        cost = st.cost;
+        attempts = st.attempts;
+        phase = st.phase;
+      };
+    }
+
+pub sending_is_event : SendingIsEvent
+sending_is_event ms w x p q h st c =
+    let worker = x.name x.seat in
+    let event = Post worker x.slot x.request in
+    let held = held_named x.name x.is_out x.seat x.slot p.pairs w st.seats c.held.0 c.held.1 in
+    let empty = empty_has x.request p.slot p.answer (mark_of w x.slot) c.empty st.mark in
+    let ready = is_ready x.most p.segment st.state.phase c.waits st.phase in
+    let lawful = subst (λ (n : ℕ). n ≤ top_number) st.next c.lawful in
+    let after : State = record w { marks = set w.marks x.slot (MarkOpen x.request w.next); requests = changed x.request posted w.requests; next = w.next + 1 } in
+    let steps : Steps w event Done after = (
+      none_of (checks w event) (held, (ap (λ (m : Mark). not (is_empty m)) empty, (is_not_unready w x.request st.state st.known ready, (le-ltb top_number w.next lawful, tt)))),
+      refl,
+    ) in
+    let both : Some (MarkOpen x.request w.next) ≡ Some (mark_of after x.slot) = ap (opened x.request w.next) (sym empty) ∙ (post_opens ms w after worker x.slot x.request h steps).0 in
+    let mark : mark_of after x.slot ≡ MarkOpen x.request p.next = sym (some_same (MarkOpen x.request w.next) (mark_of after x.slot) both) ∙ ap (λ (n : ℕ). MarkOpen x.request n) (sym st.next) in
+    let attempt : Attempt = record { number = p.next; sent = c.sent; reply = None } in
+    let segment : SegmentEnd = record p.segment { attempts = p.segment.attempts ++ attempt ∷ [] } in
+    let rows_same : SameRows w after = rows_move ms w after event h steps in
+    let long = length-snoc p.segment.attempts attempt in
+    let was = st.attempts in
+    subst (λ (y : Parts). (e : IsEvent x w event y) × DrawsNumber ms w worker x.slot x.request e.after) (sym c.rest) (
+      record {
+        after = after;
+        steps = steps;
+        stand = record {
+          most = st.most;
+          seats = record { same = st.seats.same; beyond = st.seats.beyond };
+          next = c.draws.1 ∙ ap (λ (n : ℕ). n + 1) st.next;
+          mark = mark;
+          row = rows_same x.account ∙ st.row;
+          state = posted st.state;
+          known = find_changed x.request posted w.requests st.state st.known;
+          account = st.account;
+          cost = st.cost;
+          attempts = omega arith;
+          phase = (sent_state x.most p.segment segment attempt c.waits refl refl refl, c.waits.outcome);
+        };
+      },
+      post_draws ms w after worker x.slot x.request h steps,
+    )
+
+pub answer_is_event : AnswerIsEvent
+answer_is_event ms w x p q reply h st c =
+    let event = Respond reply.number reply.status reply.nack in
+    let mark : mark_of w x.slot ≡ MarkOpen x.request reply.number = subst (λ (s : Slot). HasMark x.request s p.answer (mark_of w x.slot)) c.answers.0 st.mark in
+    let inside = marked_inside w.marks x.slot x.request reply.number mark in
+    let there : slice_get w.marks x.slot ≡ Some (MarkOpen x.request reply.number) = slice_get-get_or w.marks x.slot MarkEmpty inside ∙ ap Some mark in
+    let new : Mark = Replied x.request reply.number reply.status reply.nack in
+    let after : State = record w { marks = set w.marks x.slot new } in
+    let steps : Steps w event Done after = (
+      none_of (checks w event) (ap not (some_waits w.marks x.slot x.request reply.number mark), tt),
+      (x.slot, x.request, there, refl),
+    ) in
+    let rows_same : SameRows w after = rows_move ms w after event h steps in
+    let requests_same : SameRequests w after = requests_move ms w after event h steps in
+    subst (λ (y : Parts). IsEvent x w event y) (sym c.rest) record {
+      after = after;
+      steps = steps;
+      stand = record {
+        most = st.most;
+        seats = record { same = st.seats.same; beyond = st.seats.beyond };
+        next = st.next;
+        mark = subst (λ (s : Slot). HasMark x.request s (Some reply) (mark_of after x.slot)) (sym c.answers.1) (reply, refl, refl, get_or-set_same w.marks x.slot new MarkEmpty inside);
+        row = rows_same x.account ∙ st.row;
+        state = st.state;
+        known = requests_same x.request ∙ st.known;
+        account = st.account;
+        cost = st.cost;
+        attempts = st.attempts;
+        phase = st.phase;
+      };
+    }
+
+pub decision_is_event : DecisionIsEvent
+decision_is_event ms w x p q h st c =
+    let worker = x.name x.seat in
+    let event = Settle worker x.slot in
+    let reply = c.reply in
+    let count = length p.segment.attempts in
+    let held = held_named x.name x.is_out x.seat x.slot p.pairs w st.seats c.held.0 c.held.1 in
+    let has : HasMark x.request (Answered c.takes.0.0 reply.number) p.answer (mark_of w x.slot) = subst (λ (s : Slot). HasMark x.request s p.answer (mark_of w x.slot)) c.takes.0.1 st.mark in
+    let came : has.0 ≡ reply = some_same has.0 reply (sym has.1 ∙ c.came) in
+    let mark : mark_of w x.slot ≡ Replied x.request reply.number reply.status reply.nack = has.3 ∙ ap (λ (y : Reply). Replied x.request reply.number y.status y.nack) came in
+    let after : State = record w { marks = set w.marks x.slot MarkEmpty; requests = changed x.request (answered w.attempts reply.status reply.nack) w.requests } in
+    let steps : Steps w event Done after = (
+      none_of (checks w event) (held, (ap is_empty mark, (ap is_open mark, tt))),
+      subst (λ (m : Mark). Settles w x.slot m after) (sym mark) refl,
+    ) in
+    let moves : RowStep w event after = rows_move ms w after event h steps in
+    let i = moves.0 in
+    let both : Replied i.request i.number i.status i.nack ≡ Replied x.request reply.number reply.status reply.nack = sym i.mark ∙ mark in
+    let request : i.request ≡ x.request = ap request_in both in
+    let status : i.status ≡ reply.status = ap status_in both in
+    let nack : i.nack ≡ reply.nack = ap nack_in both in
+    let state : i.state ≡ st.state = some_same i.state st.state (sym i.known ∙ ap (request_of w) request ∙ st.known) in
+    let account : i.state.account ≡ x.account = ap (λ (s : RequestState). s.account) state ∙ st.account in
+    let made : i.state.attempts ≡ count = ap (λ (s : RequestState). s.attempts) state ∙ st.attempts in
+    let cost : i.state.cost ≡ p.segment.cost = ap (λ (s : RequestState). s.cost) state ∙ st.cost in
+    let row : moves.1.row ≡ p.row = some_same moves.1.row p.row (sym moves.1.before ∙ ap (rows w) account ∙ st.row) in
+    let now : rows after x.account ≡ Some (row_after (phase_after x.most reply.status reply.nack count) p.segment.cost p.row) =
+    ap (rows after) (sym account) ∙ moves.1.after ∙ (λ j. Some (row_after (phase_after (st.most j) (status j) (nack j) (made j)) (cost j) (row j))) in
+    let charges = is_charge reply.status reply.nack in
+    let again = is_retry reply.status reply.nack && nat_lt count x.most in
+    let hears = c.answers.hears in
+    let silent = hears.last in
+    let last : Attempt = record silent { reply = Some reply } in
+    let told : c.told.attempts ≡ hears.front ++ last ∷ [] = ap (λ (s : SegmentEnd). s.attempts) hears.after in
+    let phase = decided_phase charges again (delay c.base count) x.most hears.front last reply c.told refl told c.answers.state in
+    let long = length-snoc hears.front last in
+    let long' = length-snoc hears.front hears.last in
+    let e = ap (λ (l : List Attempt). length l) told in
+    let e' = ap (λ (l : List Attempt). length l) hears.before in
+    let was = st.attempts in
+    let outcome = outcome_after (decided reply count x.most c.base) in
+    subst (λ (y : Parts). IsEvent x w event y × MovesBy (of_worker p.amounts) (of_worker y.amounts) (of_row p.row) (of_row y.row)) (sym c.rest) (
+      record {
+        after = after;
+        steps = steps;
+        stand = record {
+          most = st.most;
+          seats = record { same = st.seats.same; beyond = st.seats.beyond };
+          next = st.next;
+          mark = has_empty x.request q.slot None (mark_of after x.slot) c.takes.1 (set_empty w.marks x.slot);
+          row = now ∙ ap Some (decided_row charges again (delay c.base count) p.segment.cost p.row);
+          state = answered w.attempts reply.status reply.nack st.state;
+          known = find_changed x.request (answered w.attempts reply.status reply.nack) w.requests st.state st.known;
+          account = st.account;
+          cost = st.cost ∙ sym (ap (λ (s : SegmentEnd). s.cost) hears.after);
+          attempts = omega arith;
+          phase = subst (HasPhase x.most (with_outcome outcome c.told)) (λ j. phase_after (sym st.most j) reply.status reply.nack (sym st.attempts j)) phase;
+        };
+      },
+      credits_move outcome p c.reserved,
+    )
+
+pub expiry_is_event : ExpiryIsEvent
+expiry_is_event ms w x p q h st c =
+    let worker = x.name x.seat in
+    let event = Expire worker x.slot in
+    let held = held_named x.name x.is_out x.seat x.slot p.pairs w st.seats c.held.0 c.held.1 in
+    let mark : mark_of w x.slot ≡ MarkOpen x.request c.number = subst (λ (s : Slot). HasMark x.request s p.answer (mark_of w x.slot)) c.expires.0.1 st.mark in
+    let after : State = record w { marks = set w.marks x.slot MarkEmpty; requests = changed x.request (with_phase phases.Unanswered) w.requests } in
+    let steps : Steps w event Done after = (
+      none_of (checks w event) (held, (ap (λ (m : Mark). not (is_open m)) mark, tt)),
+      subst (λ (m : Mark). ExpiresMark w x.slot m after) (sym mark) refl,
+    ) in
+    let rows_same : SameRows w after = rows_move ms w after event h steps in
+    let both : RequestStep w event after = requests_move ms w after event h steps in
+    let i = both.0 in
+    let request : i.request ≡ x.request = ap request_in (sym i.mark ∙ mark) in
+    let state : i.state ≡ st.state = some_same i.state st.state (sym i.known ∙ ap (request_of w) request ∙ st.known) in
+    let was : st.state.phase ≡ phases.Open = sym (ap (λ (s : RequestState). s.phase) state) ∙ i.waits in
+    subst (λ (y : Parts). IsEvent x w event y) (sym c.rest) record {
+      after = after;
+      steps = steps;
+      stand = record {
+        most = st.most;
+        seats = record { same = st.seats.same; beyond = st.seats.beyond };
+        next = st.next;
+        mark = has_empty x.request q.slot p.answer (mark_of after x.slot) c.expires.1 (set_empty w.marks x.slot);
+        row = rows_same x.account ∙ st.row;
+        state = with_phase phases.Unanswered st.state;
+        known = find_changed x.request (with_phase phases.Unanswered) w.requests st.state st.known;
+        account = st.account;
+        cost = st.cost;
+        attempts = st.attempts;
+        phase = subst (HasPhase x.most p.segment) was st.phase;
+      };
+    }
+
+pub giving_up_is_event : GivingUpIsEvent
+giving_up_is_event ms w x p q h st c =
+    let event = Discard x.request in
+    let ready = is_ready x.most p.segment st.state.phase c.waits st.phase in
+    let after : State = record w { requests = changed x.request discarded w.requests } in
+    let steps : Steps w event Done after = (none_of (checks w event) (is_not_unready w x.request st.state st.known ready, tt), refl) in
+    let moves : RowStep w event after = rows_move ms w after event h steps in
+    let i = moves.0 in
+    let state : i.state ≡ st.state = some_same i.state st.state (sym i.known ∙ st.known) in
+    let account : i.state.account ≡ x.account = ap (λ (s : RequestState). s.account) state ∙ st.account in
+    let cost : i.state.cost ≡ p.segment.cost = ap (λ (s : RequestState). s.cost) state ∙ st.cost in
+    let row : moves.1.row ≡ p.row = some_same moves.1.row p.row (sym moves.1.before ∙ ap (rows w) account ∙ st.row) in
+    let outcome = c.given.outcome in
+    let now : rows after x.account ≡ Some (row_settled q.segment.outcome p.segment.cost p.row) =
+    ap (rows after) (sym account) ∙ moves.1.after ∙ (λ j. Some (row_given_back (cost j) (row j))) ∙ ap Some (given_row p.segment.attempts p.segment.cost p.row)
+    ∙ ap (λ (o : Outcome). Some (row_settled o p.segment.cost p.row)) (sym outcome) in
+    subst (λ (y : Parts). IsEvent x w event y × MovesBy (of_worker p.amounts) (of_worker y.amounts) (of_row p.row) (of_row y.row)) (sym c.rest) (
+      record {
+        after = after;
+        steps = steps;
+        stand = record {
+          most = st.most;
+          seats = record { same = st.seats.same; beyond = st.seats.beyond };
+          next = st.next;
+          mark = st.mark;
+          row = now;
+          state = discarded st.state;
+          known = find_changed x.request discarded w.requests st.state st.known;
+          account = st.account;
+          cost = st.cost ∙ sym c.given.cost;
+          attempts = st.attempts ∙ ap (λ (l : List Attempt). length l) (sym c.given.attempts);
+          phase = subst (λ (n : ℕ). HasPhase x.most q.segment (if n == 0 then phases.Unsent else phases.Refused)) (sym st.attempts)
+              (given_phase x.most p.segment.attempts q.segment (c.given.state x.most c.waits) outcome);
+        };
+      },
+      credits_move q.segment.outcome p c.reserved,
+    )
+
+pub release_is_event : ReleaseIsEvent
+release_is_event ms w x p q h st c =
+    let event = Release (x.name x.seat) x.slot in
+    let empty = empty_has x.request p.slot p.answer (mark_of w x.slot) c.empty st.mark in
+    let k = release_is_workers x.name x.is_out p.pairs q.pairs x.seat x.slot w st.seats c.worker empty c.releases in
+    let e = k.1.1.1 in
+    let rows_same : SameRows w k.0 = rows_move ms w k.0 event h k.1 in
+    let requests_same : SameRequests w k.0 = requests_move ms w k.0 event h k.1 in
+    subst (λ (y : Parts). IsEvent x w event y) (sym c.rest) record {
+      after = k.0;
+      steps = k.1;
+      stand = record {
+        most = ap (λ (s : State). s.attempts) e ∙ st.most;
+        seats = k.2;
+        next = st.next ∙ sym (ap (λ (s : State). s.next) e);
+        mark = subst (HasMark x.request p.slot p.answer) (sym (ap (λ (s : State). mark_of s x.slot) e)) st.mark;
+        row = rows_same x.account ∙ st.row;
+        state = st.state;
+        known = requests_same x.request ∙ st.known;
+        account = st.account;
+        cost = st.cost;
+        attempts = st.attempts;
+        phase = st.phase;
+      };
+    }
