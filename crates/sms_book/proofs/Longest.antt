@@ -83,7 +83,11 @@ name_at prices k low = get_or-map (λ (p : Price). p.prefix) prices k no_price [
 
 pub apart : (prices : List Price) (a b : ℕ) → IsTariff prices → a < b → b < length prices → (price_at prices a).prefix ≡ (price_at prices b).prefix → ⊥
 apart prices a b t low there same =
-    (t.good b there).apart a (low, (let l = length-map prices (λ (p : Price). p.prefix) in omega arith), name_at prices a (omega arith) ∙ same ∙ sym (name_at prices b there))
+    (t.good b there).apart a record {
+      before = low;
+      there = let l = length-map prices (λ (p : Price). p.prefix) in omega arith;
+      same = name_at prices a (omega arith) ∙ same ∙ sym (name_at prices b there);
+    }
 
 one_place : (prices : List Price) (a b : ℕ) → IsTariff prices → a < length prices → b < length prices → (price_at prices a).prefix ≡ (price_at prices b).prefix → a ≡ b
 one_place prices a b t low-a low-b same = dite (ℕ_discrete a b)

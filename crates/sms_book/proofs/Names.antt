@@ -12,10 +12,10 @@ module _ {A : Type 0} (name : A → List ℕ) (items : List A) where
 
   pub one_name : (first second : ℕ) (x y : A) → first < second → second < length items → x ≡ slice_index_or items first x → y ≡ slice_index_or items second y → name x ≡ name y → HaveOneName (map name items) first second
   one_name first second x y below low is-x is-y same =
-      (below, (let l = length-map items name in omega arith), name_at first x (omega arith) is-x ∙ same ∙ sym (name_at second y low is-y))
+      record { before = below; there = let l = length-map items name in omega arith; same = name_at first x (omega arith) is-x ∙ same ∙ sym (name_at second y low is-y) }
 
   pub other_names : (first second : ℕ) (x y : A) → first < second → second < length items → x ≡ slice_index_or items first x → y ≡ slice_index_or items second y → (name x ≡ name y → ⊥)
       → ((k : ℕ) → k < first → ¬ (HaveOneName (map name items) k second)) → (k : ℕ) → k < first + 1 → ¬ (HaveOneName (map name items) k second)
   other_names first second x y below low is-x is-y differ before k low-k have = dite (ℕ_discrete k first)
-      (λ e. differ (sym (name_at first x (omega arith) is-x) ∙ subst (λ (j : ℕ). slice_index_or (map name items) j [] ≡ slice_index_or (map name items) second []) e have.2 ∙ name_at second y low is-y))
-      (λ ne. before k (omega arith) have)
+      (λ e. differ (sym (name_at first x (omega arith) is-x) ∙ subst (λ (j : ℕ). slice_index_or (map name items) j [] ≡ slice_index_or (map name items) second []) e have.same ∙ name_at second y low is-y))
+      (λ ne. before k (let h = have.before in omega arith) have)

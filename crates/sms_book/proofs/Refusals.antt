@@ -9,7 +9,7 @@ use Rattle.sms_book.specs.declared.error.TariffError.{TariffError}
 use Rattle.sms_book.specs.declared.error.TariffError.TheVariants.{TooMany, BadPrefix, BadCredits, Duplicate, OutOfMemory}
 use Rattle.sms_book.specs.Limits.{most_rates}
 use Rattle.sms_book.specs.Openings.{HaveOneName}
-use Rattle.sms_book.specs.Tariffs.{Price, price_of, prices_of, no_price, price_at, prefixes, IsPrefix, IsCredits, IsGoodAt, IsTariff, IsReached, IsFault, Refuses}
+use Rattle.sms_book.specs.Tariffs.{Price, price_of, prices_of, no_price, price_at, prefixes, IsPrefix, IsCredits, IsGoodAt, IsTariff, IsReached, HasBadCredits, IsDuplicate, IsFault, Refuses}
 
 pub price_read : (rates : List Rate) (place : ℕ) (r : Rate) → place < length rates → price_at (prices_of rates) place ≡ price_of (slice_index_or rates place r)
 price_read rates place r low = get_or-map price_of rates place r no_price low
@@ -28,18 +28,18 @@ first_fault prices place OutOfMemory few there before f = absurd f
 first_fault prices place (BadPrefix at) few there before f =
     subst (λ (j : ℕ). IsReached prices j × ((at ≡ j) × ¬ (IsPrefix (price_at prices j).prefix)) → Refuses prices (BadPrefix at)) f.0 (λ x. (x.0, x.1)) (record { few = few; there = there; before = before }, f)
 first_fault prices place (BadCredits at) few there before f =
-    subst (λ (j : ℕ). IsReached prices j × ((at ≡ j) × IsPrefix (price_at prices j).prefix × ¬ (IsCredits (price_at prices j).credits)) → Refuses prices (BadCredits at)) f.0 (λ x. (x.0, x.1)) (record { few = few; there = there; before = before }, f)
+    subst (λ (j : ℕ). IsReached prices j × HasBadCredits prices j at → Refuses prices (BadCredits at)) f.is (λ x. (x.0, x.1)) (record { few = few; there = there; before = before }, f)
 first_fault prices place (Duplicate first second) few there before f =
-    subst (λ (j : ℕ). IsReached prices j × ((second ≡ j) × IsPrefix (price_at prices j).prefix × IsCredits (price_at prices j).credits × HaveOneName (prefixes prices) first j) → Refuses prices (Duplicate first second))
-    f.0 (λ x. (x.0, x.1)) (record { few = few; there = there; before = before }, f)
+    subst (λ (j : ℕ). IsReached prices j × IsDuplicate prices j first second → Refuses prices (Duplicate first second))
+    f.is (λ x. (x.0, x.1)) (record { few = few; there = there; before = before }, f)
 
 -- a rate with a fault isn't good
 not_good : (prices : List Price) (place : ℕ) (e : TariffError) → IsFault prices place e → ¬ (IsGoodAt prices place)
 not_good prices place TooMany f g = f
 not_good prices place OutOfMemory f g = f
 not_good prices place (BadPrefix at) f g = f.1 g.prefix
-not_good prices place (BadCredits at) f g = f.2 g.credits
-not_good prices place (Duplicate first second) f g = g.apart first f.3
+not_good prices place (BadCredits at) f g = f.credits g.credits
+not_good prices place (Duplicate first second) f g = g.apart first f.double
 
 -- a tariff is refused for nothing
 pub tariff_stands : (prices : List Price) (e : TariffError) → IsTariff prices → ¬ (Refuses prices e)
@@ -62,27 +62,27 @@ one_fault prices place OutOfMemory f r a b = absurd a
 one_fault prices place (BadPrefix at) TooMany r a b = absurd b
 one_fault prices place (BadPrefix at) OutOfMemory r a b = absurd b
 one_fault prices place (BadPrefix at) (BadPrefix bt) r a b = ap BadPrefix (a.0 ∙ sym b.0)
-one_fault prices place (BadPrefix at) (BadCredits bt) r a b = absurd (a.1 b.1)
-one_fault prices place (BadPrefix at) (Duplicate first second) r a b = absurd (a.1 b.1)
+one_fault prices place (BadPrefix at) (BadCredits bt) r a b = absurd (a.1 b.prefix)
+one_fault prices place (BadPrefix at) (Duplicate first second) r a b = absurd (a.1 b.prefix)
 one_fault prices place (BadCredits at) TooMany r a b = absurd b
 one_fault prices place (BadCredits at) OutOfMemory r a b = absurd b
-one_fault prices place (BadCredits at) (BadPrefix bt) r a b = absurd (b.1 a.1)
-one_fault prices place (BadCredits at) (BadCredits bt) r a b = ap BadCredits (a.0 ∙ sym b.0)
-one_fault prices place (BadCredits at) (Duplicate first second) r a b = absurd (a.2 b.2)
+one_fault prices place (BadCredits at) (BadPrefix bt) r a b = absurd (b.1 a.prefix)
+one_fault prices place (BadCredits at) (BadCredits bt) r a b = ap BadCredits (a.is ∙ sym b.is)
+one_fault prices place (BadCredits at) (Duplicate first second) r a b = absurd (a.credits b.credits)
 one_fault prices place (Duplicate first second) TooMany r a b = absurd b
 one_fault prices place (Duplicate first second) OutOfMemory r a b = absurd b
-one_fault prices place (Duplicate first second) (BadPrefix bt) r a b = absurd (b.1 a.1)
-one_fault prices place (Duplicate first second) (BadCredits bt) r a b = absurd (b.2 a.2)
-one_fault prices place (Duplicate first second) (Duplicate other third) r a b = (λ i. Duplicate (firsts i) ((a.0 ∙ sym b.0) i))
+one_fault prices place (Duplicate first second) (BadPrefix bt) r a b = absurd (b.1 a.prefix)
+one_fault prices place (Duplicate first second) (BadCredits bt) r a b = absurd (b.credits a.credits)
+one_fault prices place (Duplicate first second) (Duplicate other third) r a b = (λ i. Duplicate (firsts i) ((a.is ∙ sym b.is) i))
   where
     firsts : first ≡ other
-    firsts = one first other a.3 b.3 (ℕ_discrete first other)
+    firsts = one first other a.double b.double (ℕ_discrete first other)
       where
         one : (x y : ℕ) → HaveOneName (prefixes prices) x place → HaveOneName (prefixes prices) y place → Dec (x ≡ y) → x ≡ y
         one x y p q (yes is) = is
         one x y p q (no ne) = dite (dec_lt x y)
-            (λ low. absurd ((r.before y q.0).apart x (low, (let l = p.1 in let m = q.0 in omega arith), p.2 ∙ sym q.2)))
-            (λ no'. absurd ((r.before x p.0).apart y ((omega arith), (let l = p.1 in let m = p.0 in omega arith), q.2 ∙ sym p.2)))
+            (λ low. absurd ((r.before y q.before).apart x record { before = low; there = let l = p.there in let m = q.before in omega arith; same = p.same ∙ sym q.same }))
+            (λ no'. absurd ((r.before x p.before).apart y record { before = omega arith; there = let l = p.there in let m = p.before in omega arith; same = q.same ∙ sym p.same }))
 
 from_place : (prices : List Price) (place : ℕ) (e f : TariffError) → IsReached prices place → IsFault prices place e → Refuses prices f → e ≡ f
 from_place prices place e TooMany r a b = let few = r.few in absurd (omega arith)

@@ -26,12 +26,17 @@ record Turns (kind : List Portion → Entry) (before after : List Entry → List
   was : v ≡ before entries totals number portions
   is : w ≡ after entries totals number portions
 
+-- the number that was lent goes out again
+record GoesOut (s : Shared) (id : ℕ) (new totals : List Portion) (v w : View) : Type 0 where
+  turn : Turns away Lent (λ es ts k ps. Book (set es k (away new)) totals) v w
+  there : IsThere s id (Lent turn.entries turn.totals turn.number turn.portions)
+  moves : MoveBy turn.portions new turn.totals totals
+
 -- the book's view before each kind of step, and after it
 abbrev BookSteps : Shared → TableStep → View → View → Type 0
 BookSteps s (takes_in id other) v w = Turns away (λ es ts k ps. Book es ts) Lent v w
 BookSteps s (looks id) v w = w ≡ v
-BookSteps s (gives_back id new totals) v w = (m : Turns away Lent (λ es ts k ps. Book (set es k (away new)) totals) v w)
-    × IsThere s id (Lent m.entries m.totals m.number m.portions) × MoveBy m.portions new m.totals totals
+BookSteps s (gives_back id new totals) v w = GoesOut s id new totals v w
 BookSteps s (deals id q) v w = Turns at_home (λ es ts k ps. Book es ts) (λ es ts k ps. Book (set es k (away ps)) ts) v w
 BookSteps s (keeps id) v w = Turns away Lent (λ es ts k ps. Book (set es k (at_home ps)) ts) v w
 
@@ -86,11 +91,11 @@ book_turn accounts workers s (gives_back id new totals) t h m =
       after = w;
       there = at_first s id v zero m.book;
       then = ap (λ (u : Shared). get_elem? u.views 0) m.after ∙ at_longer (set s.views id w) (Holder m.number new ∷ []) 0 w (set_at_book s.views id v w zero m.book);
-      how = (
-        record { entries = m.entries; totals = m.had; number = m.number; portions = m.portions; entry = (h.fits id v m.book).1; was = refl; is = refl },
-        m.book,
-        m.moves,
-      );
+      how = record {
+        turn = record { entries = m.entries; totals = m.had; number = m.number; portions = m.portions; entry = (h.fits id v m.book).1; was = refl; is = refl };
+        there = m.book;
+        moves = m.moves;
+      };
     }
 book_turn accounts workers s (deals id k) t h m =
     let v = Book m.entries m.totals in
@@ -149,14 +154,14 @@ sums_step s (takes_in id other) v w es fs f i b has has' =
     ap (total f i) (sym new) ∙ total_home f i b.entries b.number b.portions b.entry ∙ ap (total f i) old
 sums_step s (looks id) v w es fs f i b has has' = same_sum f i v es fs has (subst (λ (u : View). HasEntries u fs) b has')
 sums_step s (gives_back id new totals) v w es fs f i b has has' =
-    let m = b.0 in
+    let m = b.turn in
     let old : set m.entries m.number (at_home m.portions) ≡ es = subst (λ (u : View). HasEntries u es) m.was has in
     let next : set m.entries m.number (away new) ≡ fs = subst (λ (u : View). HasEntries u fs) m.is has' in
     let o : total f i (set m.entries m.number (at_home m.portions)) ≡ total f i es = ap (total f i) old in
     let n : total f i (set m.entries m.number (away new)) ≡ total f i fs = ap (total f i) next in
     let c = total_home f i m.entries m.number m.portions m.entry in
     let d = total_set f i m.entries m.number m.portions new m.entry in
-    (m.entries, m.totals, m.number, m.portions, b.1, omega arith)
+    record { entries = m.entries; totals = m.totals; number = m.number; had = m.portions; there = b.there; moves = omega arith }
 sums_step s (deals id q) v w es fs f i b has has' =
     let old : b.entries ≡ es = subst (λ (u : View). HasEntries u es) b.was has in
     let new : set b.entries b.number (away b.portions) ≡ fs = subst (λ (u : View). HasEntries u fs) b.is has' in
@@ -175,12 +180,12 @@ totals_step : (s : Shared) (step : TableStep) (v w : View) (ts us : List Portion
 totals_step s (takes_in id other) v w ts us b has has' = same_list (Book b.entries b.totals) ts us (subst (λ (u : View). HasTotals u ts) b.was has) (subst (λ (u : View). HasTotals u us) b.is has')
 totals_step s (looks id) v w ts us b has has' = same_list v ts us has (subst (λ (u : View). HasTotals u us) b has')
 totals_step s (gives_back id new totals) v w ts us b has has' =
-    let m = b.0 in
+    let m = b.turn in
     let old : m.totals ≡ ts = subst (λ (u : View). HasTotals u ts) m.was has in
     let next : totals ≡ us = subst (λ (u : View). HasTotals u us) m.is has' in
-    let there = subst (λ (l : List Portion). IsThere s id (Lent m.entries l m.number m.portions)) old b.1 in
-    let moves = subst (λ (x : List Portion × List Portion). MoveBy m.portions new x.0 x.1) (λ j. (old j, next j)) b.2 in
-    (sym next, (m.entries, m.number, m.portions, there, moves))
+    let there = subst (λ (l : List Portion). IsThere s id (Lent m.entries l m.number m.portions)) old b.there in
+    let moves = subst (λ (x : List Portion × List Portion). MoveBy m.portions new x.0 x.1) (λ j. (old j, next j)) b.moves in
+    record { is = sym next; entries = m.entries; number = m.number; had = m.portions; there = there; moves = moves }
 totals_step s (deals id q) v w ts us b has has' = same_list (Book b.entries b.totals) ts us (subst (λ (u : View). HasTotals u ts) b.was has) (subst (λ (u : View). HasTotals u us) b.is has')
 totals_step s (keeps id) v w ts us b has has' = same_list (Book b.entries b.totals) ts us (subst (λ (u : View). HasTotals u ts) b.was has) (subst (λ (u : View). HasTotals u us) b.is has')
 

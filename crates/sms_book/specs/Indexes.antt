@@ -19,6 +19,13 @@ pub record IsIndex (prices : List Price) (order : List ℕ) (n : ℕ) : Type 0 w
   pub rising : (i j : ℕ) → i < j → j < length order → Before (prefix_in prices order i) (prefix_in prices order j)
   pub all : (place : ℕ) → place < n → (i : ℕ) × (i < length order) × (slice_index order i ≡ place)
 
+-- the rate at this place is among those in order, and has this prefix
+pub record IsFound (prices : List Price) (order : List ℕ) (prefix : List ℕ) (place : ℕ) : Type 0 where
+  pub at : ℕ
+  pub within : at < length order
+  pub is : slice_index order at ≡ place
+  pub same : (price_at prices place).prefix ≡ prefix
+
 -- a prefix that isn't there belongs at this place
 pub record IsRoom (prices : List Price) (order : List ℕ) (prefix : List ℕ) (at : ℕ) : Type 0 where
   pub within : at ≤ length order

@@ -52,13 +52,21 @@ StepKeepsRule = (accounts workers : ℕ) (s : Shared) (step : TableStep) (t : Sh
 abbrev pub RunIsOrderly : Type 0
 RunIsOrderly = (credits : List ℕ) (workers : ℕ) (steps : List TableStep) (t : Shared) → Runs (new_table credits workers) steps t → IsOrderly (length credits) workers t
 
+-- the number that the book was lent goes out again, and one amount of an account changes by as much as its holder's
+pub record MovesTotal (f : Portion → ℕ) (i : ℕ) (s : Shared) (id : ℕ) (new : List Portion) (es fs : List Entry) : Type 0 where
+  pub entries : List Entry
+  pub totals : List Portion
+  pub number : ℕ
+  pub had : List Portion
+  pub there : IsThere s id (Lent entries totals number had)
+  pub moves : total f i fs + f (portion_at had i) ≡ total f i es + f (portion_at new i)
+
 -- One amount of an account, summed over all entries, before and after a step: it changes only where a number goes out
 -- again, and by as much as what its holder has of the account changes
 abbrev pub TotalSteps : (Portion → ℕ) → ℕ → Shared → TableStep → List Entry → List Entry → Type 0
 TotalSteps f i s (takes_in id other) es fs = total f i fs ≡ total f i es
 TotalSteps f i s (looks id) es fs = total f i fs ≡ total f i es
-TotalSteps f i s (gives_back id new totals) es fs = (xs : List Entry) × (ts : List Portion) × (k : ℕ) × (had : List Portion) × IsThere s id (Lent xs ts k had)
-    × (total f i fs + f (portion_at had i) ≡ total f i es + f (portion_at new i))
+TotalSteps f i s (gives_back id new totals) es fs = MovesTotal f i s id new es fs
 TotalSteps f i s (deals id k) es fs = total f i fs ≡ total f i es
 TotalSteps f i s (keeps id) es fs = total f i fs ≡ total f i es
 
@@ -66,12 +74,21 @@ abbrev pub StepMovesTotals : Type 0
 StepMovesTotals = (accounts workers : ℕ) (s : Shared) (step : TableStep) (t : Shared) (es fs : List Entry) (ts us : List Portion) (f : Portion → ℕ) (i : ℕ) → Kept accounts workers s → Steps s step t
     → BookHas s es ts → BookHas t fs us → TotalSteps f i s step es fs
 
+-- and the book's totals, from ts to us, by as much as what its holder has
+pub record MovesBookTotals (s : Shared) (id : ℕ) (new totals ts us : List Portion) : Type 0 where
+  pub is : us ≡ totals
+  pub entries : List Entry
+  pub number : ℕ
+  pub had : List Portion
+  pub there : IsThere s id (Lent entries ts number had)
+  pub moves : MoveBy had new ts us
+
 -- The book's totals before and after a step: they change only where a number goes out again, each by as much as what its
 -- holder has of the account changes
 abbrev pub BookTotalsMove : Shared → TableStep → List Portion → List Portion → Type 0
 BookTotalsMove s (takes_in id other) ts us = us ≡ ts
 BookTotalsMove s (looks id) ts us = us ≡ ts
-BookTotalsMove s (gives_back id new totals) ts us = (us ≡ totals) × ((xs : List Entry) × (k : ℕ) × (had : List Portion) × IsThere s id (Lent xs ts k had) × MoveBy had new ts us)
+BookTotalsMove s (gives_back id new totals) ts us = MovesBookTotals s id new totals ts us
 BookTotalsMove s (deals id k) ts us = us ≡ ts
 BookTotalsMove s (keeps id) ts us = us ≡ ts
 

@@ -18,8 +18,10 @@ abbrev pub GoodCount : List Opening → ℕ → Type 0
 GoodCount openings workers = (0 < length openings) × (length openings ≤ most_accounts) × (0 < workers) × (workers ≤ most_workers)
 
 -- two places, in order, have one name
-abbrev pub HaveOneName : List (List ℕ) → ℕ → ℕ → Type 0
-HaveOneName names first second = (first < second) × (second < length names) × (slice_index_or names first [] ≡ slice_index_or names second [])
+pub record HaveOneName (names : List (List ℕ)) (first second : ℕ) : Type 0 where
+  pub before : first < second
+  pub there : second < length names
+  pub same : slice_index_or names first [] ≡ slice_index_or names second []
 
 -- of all such pairs it has the least second place, and then the least first
 abbrev pub IsFirstDouble : List (List ℕ) → ℕ → ℕ → Type 0

@@ -75,6 +75,23 @@ Steps s (gives_back id new totals) t = GivesBack s id new totals t
 Steps s (deals id k) t = Deals s id k t
 Steps s (keeps id) t = Keeps s id t
 
+-- the book's seat was lent a number, which can go out again with new portions where the totals move by as much
+pub record CanGiveBack (views : List View) (new totals : List Portion) : Type 0 where
+  pub entries : List Entry
+  pub had : List Portion
+  pub number : ℕ
+  pub portions : List Portion
+  pub is : views ≡ Lent entries had number portions ∷ []
+  pub moves : MoveBy portions new had totals
+
+-- it has the number, which can go out for the first time
+pub record CanDeal (views : List View) (number : ℕ) : Type 0 where
+  pub entries : List Entry
+  pub totals : List Portion
+  pub portions : List Portion
+  pub is : views ≡ Book entries totals ∷ []
+  pub entry : slice_get entries number ≡ Some (at_home portions)
+
 abbrev pub Runs : Shared → List TableStep → Shared → Type 0
 Runs s [] t = t ≡ s
 Runs s (step ∷ steps) t = (mid : Shared) × Steps s step mid × Runs mid steps t

@@ -53,11 +53,24 @@ pub record IsReached (prices : List Price) (place : ℕ) : Type 0 where
   pub there : place < length prices
   pub before : (k : ℕ) → k < place → IsGoodAt prices k
 
+-- its prefix is one, but its credits are not
+pub record HasBadCredits (prices : List Price) (place at : ℕ) : Type 0 where
+  pub is : at ≡ place
+  pub prefix : IsPrefix (price_at prices place).prefix
+  pub credits : ¬ (IsCredits (price_at prices place).credits)
+
+-- both are good, but an earlier rate has its prefix
+pub record IsDuplicate (prices : List Price) (place first second : ℕ) : Type 0 where
+  pub is : second ≡ place
+  pub prefix : IsPrefix (price_at prices place).prefix
+  pub credits : IsCredits (price_at prices place).credits
+  pub double : HaveOneName (prefixes prices) first place
+
 -- what is wrong with the rate at this place: its prefix first, then its credits, then that an earlier one has its prefix
 abbrev pub IsFault : List Price → ℕ → TariffError → Type 0
 IsFault prices place (BadPrefix at) = (at ≡ place) × ¬ (IsPrefix (price_at prices place).prefix)
-IsFault prices place (BadCredits at) = (at ≡ place) × IsPrefix (price_at prices place).prefix × ¬ (IsCredits (price_at prices place).credits)
-IsFault prices place (Duplicate first second) = (second ≡ place) × IsPrefix (price_at prices place).prefix × IsCredits (price_at prices place).credits × HaveOneName (prefixes prices) first place
+IsFault prices place (BadCredits at) = HasBadCredits prices place at
+IsFault prices place (Duplicate first second) = IsDuplicate prices place first second
 IsFault prices place TooMany = ⊥
 IsFault prices place OutOfMemory = ⊥
 

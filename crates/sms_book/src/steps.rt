@@ -8,8 +8,9 @@ ghost use Rattle.sms_book.specs.declared.rule.Portion.{Portion};
 ghost use Rattle.sms_book.specs.declared.rule.View.{View};
 ghost use Rattle.sms_book.specs.declared.rule.View.TheVariants.{Book, Lent, Holder};
 ghost use Rattle.sms_book.specs.Portions.{of_row};
-ghost use Rattle.sms_book.specs.Sums.{AddUp, MoveBy};
+ghost use Rattle.sms_book.specs.Sums.{AddUp};
 ghost use Rattle.sms_book.specs.Rule.{at_home, away, Kept};
+ghost use Rattle.sms_book.specs.TableSteps.{CanGiveBack, CanDeal};
 
 use crate::rule::{
     BookRule, Change, Deals, GivesBack, Hand, Holding, Keeps, Opened, TakesIn, Tells, View,
@@ -89,7 +90,7 @@ pub fn part<H: Holding, C: Change>(
 ) -> Badge<View>
     requires picked { (map H.portion new.now ≡ C.portions) × (map of_row rows.now ≡ C.totals) }
     requires table { (book.old.table_id ≡ table.now.table_id) × (0 < table.now.table_id.words) }
-    requires book { (es : List Entry) × (ts : List Portion) × (k : ℕ) × (ps : List Portion) × (book.old.views ≡ Lent es ts k ps ∷ []) × MoveBy ps (map H.portion new.now) ts (map of_row rows.now) }
+    requires book { CanGiveBack book.old.views (map H.portion new.now) (map of_row rows.now) }
     ensures table { (book.new.table_id ≡ book.old.table_id) × (result.table_id ≡ book.old.table_id) }
     ensures book { (es : List Entry) (ts : List Portion) (k : ℕ) (ps : List Portion) → book.old.views ≡ Lent es ts k ps ∷ [] → book.new.views ≡ Book (slice_set es k (away (map H.portion new.now))) (map of_row rows.now) ∷ [] }
     ensures holder { (es : List Entry) (ts : List Portion) (k : ℕ) (ps : List Portion) → book.old.views ≡ Lent es ts k ps ∷ [] → result.views ≡ Holder k (map H.portion new.now) ∷ [] }
@@ -101,7 +102,7 @@ pub fn part<H: Holding, C: Change>(
 pub fn deal<H: Hand>(table: &BookTable, book: &mut Badge<View>, number: usize) -> Badge<View>
     requires picked { number ≡ H.number }
     requires table { (book.old.table_id ≡ table.now.table_id) × (0 < table.now.table_id.words) }
-    requires here { (es : List Entry) × (ts : List Portion) × (ps : List Portion) × (book.old.views ≡ Book es ts ∷ []) × (slice_get es number ≡ Some (at_home ps)) }
+    requires here { CanDeal book.old.views number }
     ensures table { (book.new.table_id ≡ book.old.table_id) × (result.table_id ≡ book.old.table_id) }
     ensures book { (es : List Entry) (ts : List Portion) (ps : List Portion) → book.old.views ≡ Book es ts ∷ [] → slice_get es number ≡ Some (at_home ps) → book.new.views ≡ Book (slice_set es number (away ps)) ts ∷ [] }
     ensures holder { (es : List Entry) (ts : List Portion) (ps : List Portion) → book.old.views ≡ Book es ts ∷ [] → slice_get es number ≡ Some (at_home ps) → result.views ≡ Holder number ps ∷ [] }

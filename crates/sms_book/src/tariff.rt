@@ -4,7 +4,7 @@ ghost use Rattle.sms_core.specs.Limits.{largest_cost};
 ghost use Rattle.sms_book.specs.Limits.{most_rates};
 ghost use Rattle.sms_book.specs.Openings.{HaveOneName};
 ghost use Rattle.sms_book.specs.Tariffs.{prices_of, price_at, prefixes, digits_of, cost_of, IsPrefix, IsCredits, IsTariff, IsReached, IsLongest, Begins};
-ghost use Rattle.sms_book.specs.Indexes.{IsIndex, IsRoom, TariffStands};
+ghost use Rattle.sms_book.specs.Indexes.{IsIndex, IsFound, IsRoom, TariffStands};
 ghost use Rattle.sms_book.specs.declared.error.TariffError.TheVariants.{TooMany, BadPrefix, BadCredits, Duplicate};
 
 use crate::error::TariffError;
@@ -97,7 +97,7 @@ fn longest_rate(rates: &[Rate], order: &[usize], digits: &[u8]) -> Option<usize>
 /// among the places in order.
 fn seek(rates: &[Rate], order: &[usize], prefix: &[u8]) -> Result<usize, usize>
     requires { (n : ℕ) × (n ≤ length rates.now) × IsIndex (prices_of rates.now) order.now n }
-    ensures found { IfOk result (λ place. (i : ℕ) × (i < length order.now) × (slice_index order.now i ≡ place) × ((price_at (prices_of rates.now) place).prefix ≡ prefix.now)) }
+    ensures found { IfOk result (λ place. IsFound (prices_of rates.now) order.now prefix.now place) }
     ensures room { IfErr result (λ at. IsRoom (prices_of rates.now) order.now prefix.now at) }
 {
     let mut low = 0;

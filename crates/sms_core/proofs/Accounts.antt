@@ -52,7 +52,7 @@ accounted_step (Reserve request account cost) Done old new s i a =
     added_accounts old new request _ (ap (λ (w : State). length w.topped) s.1) (leb-false (length old.topped) account check.0) (request_step (Reserve request account cost) old new i s) a
 accounted_step (Claim worker slot) Done old new s i a = same_accounts old new (ap (λ (w : State). length w.topped) s.1.1) (request_step (Claim worker slot) old new i s) a
 accounted_step (Post worker slot request) Done old new s i a = moved_accounts old new request _ (ap (λ (w : State). length w.topped) s.1) (λ r. refl) (request_step (Post worker slot request) old new i s).1 a
-accounted_step (Respond number status nack) Done old new s i a = same_accounts old new (ap (λ (w : State). length w.topped) s.1.3) (request_step (Respond number status nack) old new i s) a
+accounted_step (Respond number status nack) Done old new s i a = same_accounts old new (ap (λ (w : State). length w.topped) s.1.after) (request_step (Respond number status nack) old new i s) a
 accounted_step (Settle worker slot) Done old new s i a =
     let t = settled (mark_of old slot) old new slot refl s.1 i in
     let m = request_step (Settle worker slot) old new i s in
@@ -69,5 +69,5 @@ Both w = IsSound w × IsAccounted w
 
 pub accounted : (ms : List Moment) (w : State) → FromStart ms w → IsAccounted w
 accounted ms w h =
-    let start : Both (new_world h.0 h.1 h.2) = (sound_start h.0 h.1 h.2 h.3, λ id s known. absurd (cc)) in
-    (kept_by_runs Both (λ event answer old new s b. (sound_step event answer old new s b.0, accounted_step event answer old new s b.0 b.1)) ms (new_world h.0 h.1 h.2) w h.4 start).1
+    let start : Both (new_world h.accounts h.limit h.attempts) = (sound_start h.accounts h.limit h.attempts h.limits, λ id s known. absurd (cc)) in
+    (kept_by_runs Both (λ event answer old new s b. (sound_step event answer old new s b.0, accounted_step event answer old new s b.0 b.1)) ms (new_world h.accounts h.limit h.attempts) w h.history start).1

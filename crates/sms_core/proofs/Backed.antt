@@ -18,7 +18,7 @@ use Rattle.sms_core.specs.declared.request.RequestState.{RequestState}
 use Rattle.sms_core.specs.Replies.{is_charge, is_retry}
 use Rattle.sms_core.specs.State.{State, new_world, find_request, request_of, changed, mark_of}
 use Rattle.sms_core.specs.Steps.{Settles, Expires, reserved_request, posted, with_phase, answered, discarded}
-use Rattle.sms_core.specs.Histories.{Moment, PostedAt, RestsOn}
+use Rattle.sms_core.specs.Histories.{Moment, PostedAt, AcceptedAt, RestsOn}
 use Rattle.sms_core.proofs.Named.{find_changed, find_unchanged, find_beside, find_after, find_head}
 use Rattle.sms_core.proofs.Sound.{IsSound, mark_waits}
 use Rattle.sms_core.proofs.Spoken.{speaks, this_name}
@@ -40,16 +40,39 @@ abbrev pub Rests : List Moment → ℕ → Type 0
 Rests past request = (place : ℕ) × RestsOn past request place
 
 posted_before : (past more : List Moment) (place request number : ℕ) → PostedAt past place request number → PostedAt (past ++ more) place request number
-posted_before past more place request number p = (p.0, p.1, p.2, at_before past more place p.0 p.3, p.4, p.5, p.6)
+posted_before past more place request number p = record {
+  moment = p.moment;
+  worker = p.worker;
+  slot = p.slot;
+  there = at_before past more place p.moment p.there;
+  event = p.event;
+  done = p.done;
+  mark = p.mark;
+}
+
+accepted_before : (past more : List Moment) (place number : ℕ) → AcceptedAt past place number → AcceptedAt (past ++ more) place number
+accepted_before past more place number a = record {
+  moment = a.moment;
+  there = at_before past more place a.moment a.there;
+  event = a.event;
+  done = a.done;
+}
 
 posted_later : (past more : List Moment) (request number : ℕ) → Posted past request number → Posted (past ++ more) request number
 posted_later past more request number p = (p.0, posted_before past more p.0 request number p.1)
 
 rests_later : (past more : List Moment) (request : ℕ) → Rests past request → Rests (past ++ more) request
 rests_later past more request r =
-    let on = r.1 in
-    let accepted = on.4 in
-    (r.0, (on.0, on.1, on.2, posted_before past more on.0 request on.1 on.3, (accepted.0, at_before past more r.0 accepted.0 accepted.1, accepted.2, accepted.3)))
+    let on = r.1 in (
+      r.0,
+      record {
+        earlier = on.earlier;
+        number = on.number;
+        before = on.before;
+        posted = posted_before past more on.earlier request on.number on.posted;
+        accepted = accepted_before past more r.0 on.number on.accepted;
+      },
+    )
 
 -- each open mark was posted, each accepting answer in a mark and each charge has its answer
 pub record IsBacked (past : List Moment) (w : State) : Type 0 where
@@ -144,7 +167,7 @@ backed_post past before old worker slot request s inside known b =
     let m : Moment = moment before (Post worker slot request) Done new in
     let later = backed_later past (m ∷ []) old b in
     let here : PostedAt (past ++ m ∷ []) (length past) request old.next =
-    (m, worker, slot, at_last past m, refl, refl, get_or-set_same old.marks slot (Open request old.next) Empty inside) in
+    record { moment = m; worker = worker; slot = slot; there = at_last past m; event = refl; done = refl; mark = get_or-set_same old.marks slot (Open request old.next) Empty inside } in
     record {
       posts = λ k other number e. ⊎_elim
           (λ (h : Open request old.next ≡ Open other number).
@@ -175,8 +198,16 @@ backed_respond past before old slot request number status nack there b =
     let post = b.posts slot request number (get_or_from_slice_get old.marks slot (Open request number) Empty there) in
     let rests : is_charge status nack ≡ true → Rests (past ++ m ∷ []) request = λ accepts.
     let is = charge_means status nack accepts in
-    let event : Respond number status nack ≡ Respond number 0 false = λ i. Respond number (is.0 i) (is.1 i) in
-    (length past, (post.0, number, slice_get_within past post.0 post.1.0 post.1.3, posted_before past (m ∷ []) post.0 request number post.1, (m, at_last past m, event, refl))) in
+    let event : Respond number status nack ≡ Respond number 0 false = λ i. Respond number (is.0 i) (is.1 i) in (
+      length past,
+      record {
+        earlier = post.0;
+        number = number;
+        before = slice_get_within past post.0 post.1.moment post.1.there;
+        posted = posted_before past (m ∷ []) post.0 request number post.1;
+        accepted = record { moment = m; there = at_last past m; event = event; done = refl };
+      },
+    ) in
     record {
       posts = λ k other n e. ⊎_elim
           (λ (h : Replied request number status nack ≡ Open other n). absurd (cc))

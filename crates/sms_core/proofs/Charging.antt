@@ -36,8 +36,8 @@ backed_step past before (Post worker slot request) Done old new s i b =
     subst (λ (w : State). IsBacked (past ++ moment before (Post worker slot request) Done w ∷ []) w) (sym s.1)
     (backed_post past before old worker slot request r.0 (held_inside old worker slot i (some_held _ check.0)) r.1 b)
 backed_step past before (Respond number status nack) Done old new s i b =
-    subst (λ (w : State). IsBacked (past ++ moment before (Respond number status nack) Done w ∷ []) w) (sym s.1.3)
-    (backed_respond past before old s.1.0 s.1.1 number status nack s.1.2 b)
+    subst (λ (w : State). IsBacked (past ++ moment before (Respond number status nack) Done w ∷ []) w) (sym s.1.after)
+    (backed_respond past before old s.1.slot s.1.request number status nack s.1.waits b)
 backed_step past before (Settle worker slot) Done old new s i b = backed_later past _ new (backed_settle (mark_of old slot) past old new slot refl s.1 i b)
 backed_step past before (Expire worker slot) Done old new s i b = backed_later past _ new (backed_expire (mark_of old slot) past old new slot refl s.1 i b)
 backed_step past before (Discard request) Done old new s i b =
@@ -56,7 +56,7 @@ backed_run past (m ∷ ms) old new h i b =
     (backed_run (past ++ m ∷ []) ms m.after new h.2 (sound_step m.event m.answer old m.after s i) after)
 
 pub backed : (ms : List Moment) (w : State) → FromStart ms w → IsBacked ms w
-backed ms w h = backed_run [] ms (new_world h.0 h.1 h.2) w h.4 (sound_start h.0 h.1 h.2 h.3) (backed_start h.0 h.1 h.2)
+backed ms w h = backed_run [] ms (new_world h.accounts h.limit h.attempts) w h.history (sound_start h.accounts h.limit h.attempts h.limits) (backed_start h.accounts h.limit h.attempts)
 
 pub charge_has_answer : ChargeHasAnswer
 charge_has_answer ms w request r h known charged = (backed ms w h).charges request r known charged
@@ -70,55 +70,67 @@ post_gives x m worker slot request number is event answer mark =
     let c : times number (number ∷ []) ≡ 1 = rw (eq-eqb number number refl) refl in
     ap (times number) (a ∙ b ∙ ap number_in mark) ∙ c
 
+-- a Post behind the first moment is one of the rest
+behind : (x : Moment) (ms : List Moment) (place request number : ℕ) → PostedAt (x ∷ ms) (suc place) request number → PostedAt ms place request number
+behind x ms place request number p = record {
+  moment = p.moment;
+  worker = p.worker;
+  slot = p.slot;
+  there = p.there;
+  event = p.event;
+  done = p.done;
+  mark = p.mark;
+}
+
 given_at : (ms : List Moment) (place request number : ℕ) → PostedAt ms place request number → 1 ≤ times number (numbers_given ms)
-given_at [] place request number p = let e = p.3 in absurd (cc)
+given_at [] place request number p = let e = p.there in absurd (cc)
 given_at (x ∷ ms) zero request number p =
-    let e = p.3 in
-    let is : x ≡ p.0 = cc in
-    let one = post_gives x p.0 p.1 p.2 request number is p.4 p.5 p.6 in
+    let e = p.there in
+    let is : x ≡ p.moment = cc in
+    let one = post_gives x p.moment p.worker p.slot request number is p.event p.done p.mark in
     let all = times_append number (given_by x.event x.answer x.after) (numbers_given ms) in
     omega arith
 given_at (x ∷ ms) (suc place) request number p =
-    let rest = given_at ms place request number p in
+    let rest = given_at ms place request number (behind x ms place request number p) in
     let all = times_append number (given_by x.event x.answer x.after) (numbers_given ms) in
     omega arith
 
 given_twice : (ms : List Moment) (here there one other number : ℕ) → here ≢ there → PostedAt ms here one number → PostedAt ms there other number → 2 ≤ times number (numbers_given ms)
-given_twice [] here there one other number ne p q = let e = p.3 in absurd (cc)
+given_twice [] here there one other number ne p q = let e = p.there in absurd (cc)
 given_twice (x ∷ ms) zero zero one other number ne p q = absurd (ne refl)
 given_twice (x ∷ ms) zero (suc there) one other number ne p q =
-    let e = p.3 in
-    let is : x ≡ p.0 = cc in
-    let first = post_gives x p.0 p.1 p.2 one number is p.4 p.5 p.6 in
-    let rest = given_at ms there other number q in
+    let e = p.there in
+    let is : x ≡ p.moment = cc in
+    let first = post_gives x p.moment p.worker p.slot one number is p.event p.done p.mark in
+    let rest = given_at ms there other number (behind x ms there other number q) in
     let all = times_append number (given_by x.event x.answer x.after) (numbers_given ms) in
     omega arith
 given_twice (x ∷ ms) (suc here) zero one other number ne p q =
-    let e = q.3 in
-    let is : x ≡ q.0 = cc in
-    let first = post_gives x q.0 q.1 q.2 other number is q.4 q.5 q.6 in
-    let rest = given_at ms here one number p in
+    let e = q.there in
+    let is : x ≡ q.moment = cc in
+    let first = post_gives x q.moment q.worker q.slot other number is q.event q.done q.mark in
+    let rest = given_at ms here one number (behind x ms here one number p) in
     let all = times_append number (given_by x.event x.answer x.after) (numbers_given ms) in
     omega arith
 given_twice (x ∷ ms) (suc here) (suc there) one other number ne p q =
-    let rest = given_twice ms here there one other number (λ e. ne (ap suc e)) p q in
+    let rest = given_twice ms here there one other number (λ e. ne (ap suc e)) (behind x ms here one number p) (behind x ms there other number q) in
     let all = times_append number (given_by x.event x.answer x.after) (numbers_given ms) in
     omega arith
 
 -- one answer has one number
 one_number : (ms : List Moment) (place one other : ℕ) → AcceptedAt ms place one → AcceptedAt ms place other → one ≡ other
 one_number ms place one other a b =
-    let both : Some a.0 ≡ Some b.0 = sym a.1 ∙ b.1 in
-    let same : a.0 ≡ b.0 = cc in
-    let event : Respond one 0 false ≡ Respond other 0 false = sym a.2 ∙ ap (λ (m : Moment). m.event) same ∙ b.2 in
+    let both : Some a.moment ≡ Some b.moment = sym a.there ∙ b.there in
+    let same : a.moment ≡ b.moment = cc in
+    let event : Respond one 0 false ≡ Respond other 0 false = sym a.event ∙ ap (λ (m : Moment). m.event) same ∙ b.event in
     cc
 
 -- one Post has one request
 one_request : (ms : List Moment) (place one other number : ℕ) → PostedAt ms place one number → PostedAt ms place other number → one ≡ other
 one_request ms place one other number p q =
-    let both : Some p.0 ≡ Some q.0 = sym p.3 ∙ q.3 in
-    let same : p.0 ≡ q.0 = cc in
-    let event : Post p.1 p.2 one ≡ Post q.1 q.2 other = sym p.4 ∙ ap (λ (m : Moment). m.event) same ∙ q.4 in
+    let both : Some p.moment ≡ Some q.moment = sym p.there ∙ q.there in
+    let same : p.moment ≡ q.moment = cc in
+    let event : Post p.worker p.slot one ≡ Post q.worker q.slot other = sym p.event ∙ ap (λ (m : Moment). m.event) same ∙ q.event in
     cc
 
 once_below_most : (n top : ℕ) → once_below n top ≤ 1
@@ -136,5 +148,5 @@ one_post ms w here there one other number h p q = dite (ℕ_discrete here there)
 
 pub answer_is_of_one : AnswerIsOfOne
 answer_is_of_one ms w one other place h a b =
-    let number = one_number ms place a.1 b.1 a.4 b.4 in
-    one_post ms w a.0 b.0 one other a.1 h a.3 (subst (λ (n : ℕ). PostedAt ms b.0 other n) (sym number) b.3)
+    let number = one_number ms place a.number b.number a.accepted b.accepted in
+    one_post ms w a.earlier b.earlier one other a.number h a.posted (subst (λ (n : ℕ). PostedAt ms b.earlier other n) (sym number) b.posted)

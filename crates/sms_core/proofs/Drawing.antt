@@ -62,7 +62,7 @@ drawn_step n (Post worker slot request) Done old new s i =
     let next : once_below n new.next ≡ once_below n (old.next + 1) = ap (λ (w : State). once_below n w.next) s.1 in
     let t = times_next n old.next in
     omega arith
-drawn_step n (Respond number status nack) Done old new s i = gives_none n old new [] refl (ap (λ (w : State). w.next) s.1.3)
+drawn_step n (Respond number status nack) Done old new s i = gives_none n old new [] refl (ap (λ (w : State). w.next) s.1.after)
 drawn_step n (Settle worker slot) Done old new s i = gives_none n old new [] refl (settle_next (mark_of old slot) old new slot s.1)
 drawn_step n (Expire worker slot) Done old new s i = gives_none n old new [] refl (expire_next (mark_of old slot) old new slot s.1)
 drawn_step n (Discard request) Done old new s i = gives_none n old new [] refl (ap (λ (w : State). w.next) s.1)
@@ -78,4 +78,4 @@ drawn_run n (m ∷ ms) old new h i =
     omega arith
 
 pub numbers_given_once : NumbersGivenOnce
-numbers_given_once ms w h n = drawn_run n ms (new_world h.0 h.1 h.2) w h.4 (sound_start h.0 h.1 h.2 h.3)
+numbers_given_once ms w h n = drawn_run n ms (new_world h.accounts h.limit h.attempts) w h.history (sound_start h.accounts h.limit h.attempts h.limits)

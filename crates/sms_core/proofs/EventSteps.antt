@@ -86,7 +86,7 @@ effect old (Post worker slot request) e = (_, refl)
 effect old (Respond number status nack) e =
     let check = all_passed (checks old (Respond number status nack)) e in
     let w = waits_somewhere number old.marks (not-false _ check.0) in
-    (_, (w.0, w.1, w.2, refl))
+    (_, record { slot = w.0; request = w.1; waits = w.2; after = refl })
 effect old (Settle worker slot) e =
     let check = all_passed (checks old (Settle worker slot)) e in
     settle_effect (mark_of old slot) old slot check.1.0 check.1.1.0

@@ -73,7 +73,7 @@ final_step request r (Post worker slot id) Done old new s i = λ known final.
     let check = all_passed (checks old (Post worker slot id)) s.0 in
     let t = ready_request (request_of old id) check.1.1.0 in
     ap (λ (w : State). request_of w request) s.1 ∙ beside_change old.requests id request posted t.0 r t.1 (not_ready t.0.phase t.2) known final
-final_step request r (Respond number status nack) Done old new s i = same_requests old new _ request r s.1.3 refl
+final_step request r (Respond number status nack) Done old new s i = same_requests old new _ request r s.1.after refl
 final_step request r (Settle worker slot) Done old new s i = settle_keeps (mark_of old slot) old new slot request r refl s.1 i
 final_step request r (Expire worker slot) Done old new s i = expire_keeps (mark_of old slot) old new slot request r refl s.1 i
 final_step request r (Discard id) Done old new s i = λ known final.

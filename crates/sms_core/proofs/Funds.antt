@@ -62,7 +62,7 @@ topped_step account (TopUp other amount) Done old new s =
 topped_step account (Reserve request other cost) Done old new s = same_topped account old new _ s.1 refl
 topped_step account (Claim worker slot) Done old new s = same_topped account old new _ s.1.1 refl
 topped_step account (Post worker slot request) Done old new s = same_topped account old new _ s.1 refl
-topped_step account (Respond number status nack) Done old new s = same_topped account old new _ s.1.3 refl
+topped_step account (Respond number status nack) Done old new s = same_topped account old new _ s.1.after refl
 topped_step account (Settle worker slot) Done old new s = settle_topped account (mark_of old slot) old new slot s.1
 topped_step account (Expire worker slot) Done old new s = expire_topped account (mark_of old slot) old new slot s.1
 topped_step account (Discard request) Done old new s = same_topped account old new _ s.1 refl
@@ -82,8 +82,8 @@ nothing (suc account) (suc n) = nothing account n
 
 pub topped_is_sum : ToppedIsSum
 topped_is_sum ms w account h =
-    let run = topped_run account ms (new_world h.0 h.1 h.2) w h.4 in
-    let start : topped_of (new_world h.0 h.1 h.2) account ≡ 0 = nothing account h.0 in
+    let run = topped_run account ms (new_world h.accounts h.limit h.attempts) w h.history in
+    let start : topped_of (new_world h.accounts h.limit h.attempts) account ≡ 0 = nothing account h.accounts in
     omega arith
 
 pub rows_balance : RowsBalance

@@ -19,13 +19,13 @@ pub lawful_step : (event : Event) (answer : Step) (old new : State) → Steps ol
 lawful_step event answer old new s law = ⊎_elim
     (λ (same : new.holds ≡ old.holds). subst IsLawful (sym same) law)
     (λ (other : Takes old new.holds ⊎ Frees event answer old new.holds). ⊎_elim
-    (λ (t : Takes old new.holds). lawful_claims old.holds t.0 t.1 new.holds t.3 law)
-    (λ (f : Frees event answer old new.holds). lawful_releases old.holds f.0 f.1 new.holds f.5 law)
+    (λ (t : Takes old new.holds). lawful_claims old.holds t.worker t.slot new.holds t.claims law)
+    (λ (f : Frees event answer old new.holds). lawful_releases old.holds f.worker f.slot new.holds f.releases law)
     other)
     (turn_of_holds event answer old new s)
 
 pub holds_are_lawful : HoldsAreLawful
-holds_are_lawful ms w h = kept_by_runs (λ (v : State). IsLawful v.holds) lawful_step ms (new_world h.0 h.1 h.2) w h.4 (λ slot. omega arith)
+holds_are_lawful ms w h = kept_by_runs (λ (v : State). IsLawful v.holds) lawful_step ms (new_world h.accounts h.limit h.attempts) w h.history (λ slot. omega arith)
 
 taken : (worker slot : ℕ) (old new : List (ℕ × ℕ)) → Claims old worker slot new → (times_held worker slot new ≡ 1) × (holders_of slot new ≡ 1)
 taken worker slot old new c =
@@ -73,9 +73,9 @@ own_step : (worker slot : ℕ) (event : Event) (answer : Step) (old new : State)
 own_step worker slot event answer old new never s own = ⊎_elim
     (λ (same : new.holds ≡ old.holds). subst (IsOwn worker slot) (sym same) own)
     (λ (other : Takes old new.holds ⊎ Frees event answer old new.holds). ⊎_elim
-    (λ (t : Takes old new.holds). own_beside_claim worker slot t.0 t.1 old.holds new.holds t.3 own)
+    (λ (t : Takes old new.holds). own_beside_claim worker slot t.worker t.slot old.holds new.holds t.claims own)
     (λ (f : Frees event answer old new.holds).
-    own_beside_release worker slot f.0 f.1 old.holds new.holds (λ e. never (f.2 ∙ (λ i. Release (sym e.0 i) (sym e.1 i))) f.3) f.4 f.5 own)
+    own_beside_release worker slot f.worker f.slot old.holds new.holds (λ e. never (f.is ∙ (λ i. Release (sym e.0 i) (sym e.1 i))) f.done) f.held f.releases own)
     other)
     (turn_of_holds event answer old new s)
 

@@ -33,12 +33,12 @@ post_opens ms old new worker slot request h s =
 
 pub respond_replies : RespondReplies
 respond_replies old new number status nack s =
-    let slot : ℕ = s.1.0 in
-    let request : ℕ = s.1.1 in
-    let there : mark_of old slot ≡ Open request number = get_or_from_slice_get old.marks slot (Open request number) Empty s.1.2 in
+    let slot : ℕ = s.1.slot in
+    let request : ℕ = s.1.request in
+    let there : mark_of old slot ≡ Open request number = get_or_from_slice_get old.marks slot (Open request number) Empty s.1.waits in
     let told : replied number status nack (Open request number) ≡ Some (Replied request number status nack) = rw (eq-eqb number number refl) refl in (
       slot,
-      sets_mark old new slot (Replied request number status nack) (replied number status nack) (slice_get_within old.marks slot (Open request number) s.1.2) (ap (λ (w : State). w.marks) s.1.3)
+      sets_mark old new slot (Replied request number status nack) (replied number status nack) (slice_get_within old.marks slot (Open request number) s.1.waits) (ap (λ (w : State). w.marks) s.1.after)
           (ap (replied number status nack) there ∙ told),
     )
 

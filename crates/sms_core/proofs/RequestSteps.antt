@@ -78,7 +78,7 @@ request_step (Post worker slot request) old new i s =
     let check = all_passed (checks old (Post worker slot request)) s.0 in
     let r = is_ready old request check.1.1.0 in
     (r, moves_request old new _ request posted r.state s.1 refl r.known)
-request_step (Respond number status nack) old new i s = same_requests old new _ s.1.3 refl
+request_step (Respond number status nack) old new i s = same_requests old new _ s.1.after refl
 request_step (Settle worker slot) old new i s =
     let t = settled (mark_of old slot) old new slot refl s.1 i in
     (t.0, moves_request old new new t.0.request (answered old.attempts t.0.status t.0.nack) t.0.state refl t.2 t.0.known)

@@ -186,7 +186,7 @@ row_step (Post worker slot request) old new i a s =
     let r = is_ready old request check.1.1.0 in
     still_reserved old new r.state.account
     (row_moves old new request posted r.state (r.state.attempts + 1) Open i a r.known (set_aside_ready r.state.phase r.state.cost r.ready) refl (ap (λ (w : State). w.topped) s.1) (ap (λ (w : State). w.requests) s.1))
-row_step (Respond number status nack) old new i a s = all_same old new (ap (λ (w : State). w.topped) s.1.3) (ap (λ (w : State). w.requests) s.1.3)
+row_step (Respond number status nack) old new i a s = all_same old new (ap (λ (w : State). w.topped) s.1.after) (ap (λ (w : State). w.requests) s.1.after)
 row_step (Settle worker slot) old new i a s =
     let t = settled (mark_of old slot) old new slot refl s.1 i in
     let r = t.0 in (

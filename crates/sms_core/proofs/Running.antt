@@ -15,9 +15,10 @@ history_more old (m ∷ ms) w event answer new is step = (is.0, is.1, history_mo
 pub runs_more : (old : State) (events : List Event) (answers : List Step) (w : State) (event : Event) (answer : Step) (new : State) → Runs old events answers w → Steps w event answer new →
     Runs old (events ++ event ∷ []) (answers ++ answer ∷ []) new
 runs_more old events answers w event answer new runs step =
-    let m : Moment = record { before = w; event = event; answer = answer; after = new } in (
-      runs.0 ++ m ∷ [],
-      history_more old runs.0 w event answer new runs.1 step,
-      map-append (λ (x : Moment). x.event) runs.0 (m ∷ []) ∙ ap (λ (es : List Event). es ++ event ∷ []) runs.2,
-      map-append (λ (x : Moment). x.answer) runs.0 (m ∷ []) ∙ ap (λ (steps : List Step). steps ++ answer ∷ []) runs.3,
-    )
+    let m : Moment = record { before = w; event = event; answer = answer; after = new } in
+    record {
+      moments = runs.moments ++ m ∷ [];
+      history = history_more old runs.moments w event answer new runs.history step;
+      asked = map-append (λ (x : Moment). x.event) runs.moments (m ∷ []) ∙ ap (λ (es : List Event). es ++ event ∷ []) runs.asked;
+      told = map-append (λ (x : Moment). x.answer) runs.moments (m ∷ []) ∙ ap (λ (steps : List Step). steps ++ answer ∷ []) runs.told;
+    }

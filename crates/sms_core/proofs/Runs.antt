@@ -23,13 +23,20 @@ kept_by_runs P step [] old new h p = subst P (sym h) p
 kept_by_runs P step (m ∷ ms) old new h p = kept_by_runs P step ms m.after new h.2 (step m.event m.answer old m.after (first_step m ms old new h) p)
 
 -- a claim of a free slot of the window
-abbrev pub Takes : State → List (ℕ × ℕ) → Type 0
-Takes old holds = (worker : ℕ) × (slot : ℕ) × (slot < old.limit) × Claims old.holds worker slot holds
+pub record Takes (old : State) (holds : List (ℕ × ℕ)) : Type 0 where
+  pub worker : ℕ
+  pub slot : ℕ
+  pub inside : slot < old.limit
+  pub claims : Claims old.holds worker slot holds
 
 -- a release by the worker that has the slot
-abbrev pub Frees : Event → Step → State → List (ℕ × ℕ) → Type 0
-Frees event answer old holds =
-    (worker : ℕ) × (slot : ℕ) × (event ≡ Release worker slot) × (answer ≡ Done) × (1 ≤ times_held worker slot old.holds) × Releases old.holds worker slot holds
+pub record Frees (event : Event) (answer : Step) (old : State) (holds : List (ℕ × ℕ)) : Type 0 where
+  pub worker : ℕ
+  pub slot : ℕ
+  pub is : event ≡ Release worker slot
+  pub done : answer ≡ Done
+  pub held : 1 ≤ times_held worker slot old.holds
+  pub releases : Releases old.holds worker slot holds
 
 abbrev pub Turns : Event → Step → State → List (ℕ × ℕ) → Type 0
 Turns event answer old holds = (holds ≡ old.holds) ⊎ (Takes old holds ⊎ Frees event answer old holds)
@@ -52,12 +59,12 @@ turn_of_holds (Reserve request account cost) Done old new s = inl (ap (λ (w : S
 turn_of_holds (Claim worker slot) Done old new s =
     let check = all_passed (checks old (Claim worker slot)) s.0 in
     let inside = both_false _ _ check.0 in
-    inr (inl (worker, slot, leb-false old.limit slot inside.0, s.1.0))
+    inr (inl record { worker = worker; slot = slot; inside = leb-false old.limit slot inside.0; claims = s.1.0 })
 turn_of_holds (Post worker slot request) Done old new s = inl (ap (λ (w : State). w.holds) s.1)
-turn_of_holds (Respond number status nack) Done old new s = inl (ap (λ (w : State). w.holds) s.1.3)
+turn_of_holds (Respond number status nack) Done old new s = inl (ap (λ (w : State). w.holds) s.1.after)
 turn_of_holds (Settle worker slot) Done old new s = settles_holds (mark_of old slot) (Settle worker slot) Done old new slot s.1
 turn_of_holds (Expire worker slot) Done old new s = expires_holds (mark_of old slot) (Expire worker slot) Done old new slot s.1
 turn_of_holds (Discard request) Done old new s = inl (ap (λ (w : State). w.holds) s.1)
 turn_of_holds (Release worker slot) Done old new s =
     let check = all_passed (checks old (Release worker slot)) s.0 in
-    inr (inr (worker, slot, refl, refl, some_held (times_held worker slot old.holds) check.0, s.1.0))
+    inr (inr record { worker = worker; slot = slot; is = refl; done = refl; held = some_held (times_held worker slot old.holds) check.0; releases = s.1.0 })

@@ -43,7 +43,7 @@ pub record IsSound (w : State) : Type 0 where
 
 pub sound_start : (accounts limit attempts : ℕ) → AreLimits accounts limit attempts → IsSound (new_world accounts limit attempts)
 sound_start accounts limit attempts l = record {
-  small = l.1.1;
+  small = l.few_slots;
   wide = length-replicate 64 Empty;
   within = λ slot beyond. refl;
   idle = λ slot free. none_set slot 64;
@@ -312,7 +312,7 @@ sound_step (Post worker slot request) Done old new s i =
     let check = all_passed (checks old (Post worker slot request)) s.0 in
     let r = ready_request (request_of old request) check.1.1.0 in
     subst IsSound (sym s.1) (sound_post old worker slot request r.0 (some_held _ check.0) (empty_mark (mark_of old slot) check.1.0) r.1 r.2 i)
-sound_step (Respond number status nack) Done old new s i = subst IsSound (sym s.1.3) (sound_respond old s.1.0 s.1.1 number status nack s.1.2 i)
+sound_step (Respond number status nack) Done old new s i = subst IsSound (sym s.1.after) (sound_respond old s.1.slot s.1.request number status nack s.1.waits i)
 sound_step (Settle worker slot) Done old new s i = sound_settle (mark_of old slot) old new slot refl s.1 i
 sound_step (Expire worker slot) Done old new s i = sound_expire (mark_of old slot) old new slot refl s.1 i
 sound_step (Discard request) Done old new s i =
@@ -324,4 +324,4 @@ sound_step (Release worker slot) Done old new s i =
     subst IsSound (sym s.1.1) (sound_release old worker slot new.holds s.1.0 (empty_mark (mark_of old slot) check.1.0) i)
 
 pub sound : (ms : List Moment) (w : State) → FromStart ms w → IsSound w
-sound ms w h = kept_by_runs IsSound sound_step ms (new_world h.0 h.1 h.2) w h.4 (sound_start h.0 h.1 h.2 h.3)
+sound ms w h = kept_by_runs IsSound sound_step ms (new_world h.accounts h.limit h.attempts) w h.history (sound_start h.accounts h.limit h.attempts h.limits)

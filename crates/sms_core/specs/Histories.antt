@@ -20,13 +20,19 @@ IsHistory old [] new = new ≡ old
 IsHistory old (m ∷ ms) new = (m.before ≡ old) × Steps m.before m.event m.answer m.after × IsHistory m.after ms new
 
 -- these events, one after another, give these answers and leave this world
-abbrev pub Runs : State → List Event → List Step → State → Type 0
-Runs old events answers new =
-    (ms : List Moment) × IsHistory old ms new × (map (λ m. m.event) ms ≡ events) × (map (λ m. m.answer) ms ≡ answers)
+pub record Runs (old : State) (events : List Event) (answers : List Step) (new : State) : Type 0 where
+  pub moments : List Moment
+  pub history : IsHistory old moments new
+  pub asked : map (λ m. m.event) moments ≡ events
+  pub told : map (λ m. m.answer) moments ≡ answers
 
 -- a history from the start of some world
-abbrev pub FromStart : List Moment → State → Type 0
-FromStart ms w = (accounts : ℕ) × (limit : ℕ) × (attempts : ℕ) × AreLimits accounts limit attempts × IsHistory (new_world accounts limit attempts) ms w
+pub record FromStart (ms : List Moment) (w : State) : Type 0 where
+  pub accounts : ℕ
+  pub limit : ℕ
+  pub attempts : ℕ
+  pub limits : AreLimits accounts limit attempts
+  pub history : IsHistory (new_world accounts limit attempts) ms w
 
 -- the number with which a slot waits
 abbrev pub number_in : Mark → List ℕ
@@ -70,16 +76,26 @@ NeverReleased worker slot [] = Unit {0}
 NeverReleased worker slot (m ∷ ms) = ((m.event ≡ Release worker slot) → (m.answer ≡ Done) → ⊥) × NeverReleased worker slot ms
 
 -- the moment at the place is a done Post of the request, which gave it the number
-abbrev pub PostedAt : List Moment → ℕ → ℕ → ℕ → Type 0
-PostedAt ms place request number =
-    (m : Moment) × (worker : ℕ) × (slot : ℕ) × (slice_get ms place ≡ Some m) × (m.event ≡ Post worker slot request) × (m.answer ≡ Done)
-    × (mark_of m.after slot ≡ Open request number)
+pub record PostedAt (ms : List Moment) (place request number : ℕ) : Type 0 where
+  pub moment : Moment
+  pub worker : ℕ
+  pub slot : ℕ
+  pub there : slice_get ms place ≡ Some moment
+  pub event : moment.event ≡ Post worker slot request
+  pub done : moment.answer ≡ Done
+  pub mark : mark_of moment.after slot ≡ Open request number
 
 -- the moment at the place is a done Respond with the number, status 0 and no generic_nack
-abbrev pub AcceptedAt : List Moment → ℕ → ℕ → Type 0
-AcceptedAt ms place number = (m : Moment) × (slice_get ms place ≡ Some m) × (m.event ≡ Respond number 0 false) × (m.answer ≡ Done)
+pub record AcceptedAt (ms : List Moment) (place number : ℕ) : Type 0 where
+  pub moment : Moment
+  pub there : slice_get ms place ≡ Some moment
+  pub event : moment.event ≡ Respond number 0 false
+  pub done : moment.answer ≡ Done
 
 -- the charge of a request rests on the answer at a place: the answer has the number of an earlier Post of that request
-abbrev pub RestsOn : List Moment → ℕ → ℕ → Type 0
-RestsOn ms request place =
-    (earlier : ℕ) × (number : ℕ) × (earlier < place) × PostedAt ms earlier request number × AcceptedAt ms place number
+pub record RestsOn (ms : List Moment) (request place : ℕ) : Type 0 where
+  pub earlier : ℕ
+  pub number : ℕ
+  pub before : earlier < place
+  pub posted : PostedAt ms earlier request number
+  pub accepted : AcceptedAt ms place number

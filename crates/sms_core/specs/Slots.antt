@@ -32,7 +32,8 @@ is_of worker Free = false
 is_of worker (Held holder mark) = holder == worker
 
 -- a slot that waits for this number has its answer
-abbrev pub Answers : Table → ℕ → ℕ → Bool → Table → Type 0
-Answers old number status nack new =
-    (slot : ℕ) × (request : ℕ) × (slice_get old.marks slot ≡ Some (Open request number))
-    × (new ≡ record old { marks = slice_set old.marks slot (Replied request number status nack) })
+pub record Answers (old : Table) (number status : ℕ) (nack : Bool) (new : Table) : Type 0 where
+  pub slot : ℕ
+  pub request : ℕ
+  pub waits : slice_get old.marks slot ≡ Some (Open request number)
+  pub after : new ≡ record old { marks = slice_set old.marks slot (Replied request number status nack) }

@@ -25,9 +25,13 @@ pub record State : Type 0 where
   pub next : ℕ
 
 -- the limits of a world: accounts, slots, attempts
-abbrev pub AreLimits : ℕ → ℕ → ℕ → Type 0
-AreLimits accounts limit attempts =
-    ((1 ≤ accounts) × (accounts ≤ most_accounts)) × ((1 ≤ limit) × (limit ≤ most_slots)) × ((1 ≤ attempts) × (attempts ≤ most_attempts))
+pub record AreLimits (accounts limit attempts : ℕ) : Type 0 where
+  pub an_account : 1 ≤ accounts
+  pub few_accounts : accounts ≤ most_accounts
+  pub a_slot : 1 ≤ limit
+  pub few_slots : limit ≤ most_slots
+  pub an_attempt : 1 ≤ attempts
+  pub few_attempts : attempts ≤ most_attempts
 
 -- the world before any event
 abbrev pub new_world : ℕ → ℕ → ℕ → State

@@ -116,10 +116,11 @@ discarded r = with_phase (if r.attempts == 0 then Unsent else Refused) r
 -- the effect of each event that isn't ignored
 
 -- the answer's status and kind are kept with the slot that waits for its number
-abbrev pub Responds : State → ℕ → ℕ → Bool → State → Type 0
-Responds old number status nack new =
-    (slot : ℕ) × (request : ℕ) × (slice_get old.marks slot ≡ Some (Open request number))
-    × (new ≡ record old { marks = slice_set old.marks slot (Replied request number status nack) })
+pub record Responds (old : State) (number status : ℕ) (nack : Bool) (new : State) : Type 0 where
+  pub slot : ℕ
+  pub request : ℕ
+  pub waits : slice_get old.marks slot ≡ Some (Open request number)
+  pub after : new ≡ record old { marks = slice_set old.marks slot (Replied request number status nack) }
 
 -- the slot's answer is taken and decides what its request becomes
 abbrev pub Settles : State → ℕ → Mark → State → Type 0

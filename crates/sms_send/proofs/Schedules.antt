@@ -24,7 +24,7 @@ le-to a b h = grind (arith, nat_tests)
 
 pub limits-good : (a l t : ℕ) → AreLimits a l t → are_limits (a, l, t) ≡ true
 limits-good a l t h =
-    rw (le-to 1 a h.0.0, le-to a 64 h.0.1, le-to 1 l h.1.0, le-to l 64 h.1.1, le-to 1 t h.2.0, le-to t 10 h.2.1) refl
+    rw (le-to 1 a h.an_account, le-to a 64 h.few_accounts, le-to 1 l h.a_slot, le-to l 64 h.few_slots, le-to 1 t h.an_attempt, le-to t 10 h.few_attempts) refl
 
 limits-hold : (a l t : ℕ) → are_limits (a, l, t) ≡ true → AreLimits a l t
 limits-hold a l t h =
@@ -33,7 +33,14 @@ limits-hold a l t h =
     let x = both (nat_le 1 a) (nat_le a 64) p.0 in
     let y = both (nat_le 1 l) (nat_le l 64) q.0 in
     let z = both (nat_le 1 t) (nat_le t 10) q.1 in
-    ((le-from 1 a x.0, le-from a 64 x.1), (le-from 1 l y.0, le-from l 64 y.1), (le-from 1 t z.0, le-from t 10 z.1))
+    record {
+      an_account = le-from 1 a x.0;
+      few_accounts = le-from a 64 x.1;
+      a_slot = le-from 1 l y.0;
+      few_slots = le-from l 64 y.1;
+      an_attempt = le-from 1 t z.0;
+      few_attempts = le-from t 10 z.1;
+    }
 
 limits-bad : (a l t : ℕ) → ¬ AreLimits a l t → are_limits (a, l, t) ≡ false
 limits-bad a l t bad = by (are_limits (a, l, t)) refl bad (limits-hold a l t)

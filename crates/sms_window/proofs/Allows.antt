@@ -51,8 +51,8 @@ module _ {S : Type 0} (o : Opening) where
         w,
         keeps,
         tt,
-        subst (λ b. IsWindow o (stepped s 0 (either b new found) id me.1 w keeps)) (sym hit) d.0,
-        (record { on = refl; slot = k; inside = inside; clear = clear; more = is; hit = λ _. (refl, d.1); miss = λ ne. absurd (ne e) }, refl),
+        subst (λ b. IsWindow o (stepped s 0 (either b new found) id me.1 w keeps)) (sym hit) d.rule,
+        (record { on = refl; slot = k; inside = inside; clear = clear; more = is; hit = λ _. (refl, d.claim); miss = λ ne. absurd (ne e) }, refl),
       ))
       (λ ne.
       let found = slice_index s.words 0 in (
@@ -73,7 +73,7 @@ module _ {S : Type 0} (o : Opening) where
       let mine : bit_and found (2 ^ 64 - 1 - 2 ^ k) + 2 ^ k ≡ found = clear_bit found k held.0 small (slot_in_word o s r id v k at held.0 held.1) in
       let masked : bit_and found mask ≡ bit_and found (2 ^ 64 - 1 - 2 ^ k) = ap (bit_and found) is in
       let d = released o s r id me.1 v k found left at held.0 held.1 refl (omega arith) live in
-      (w, keeps, tt, d.0, (record { on = refl; slot = k; held = held; less = is; after = refl; release = d.1 }, refl))
+      (w, keeps, tt, d.rule, (record { on = refl; slot = k; held = held; less = is; after = refl; release = d.release }, refl))
 
   pub load_number_allows : (slots id : ℕ) (me : Me S View) → Allows (IsWindow o) slots id me 1 (λ n. n) (load_number (step slots 1 0 0 none) me)
   load_number_allows slots id me s r len at small =

@@ -54,7 +54,7 @@ gives_greatest o s id v r at some_name =
       λ can.
           let n = name_apart v small own_name.0 own_name.1 can in
           let top = top_bit (other_names v) can (omega arith) in
-          record { there = n.there; other = n.other; greatest = λ k has ne. not_above k (name_to_give v) (λ lt. let z = top.2 k lt in let o = others k ne in omega arith) },
+          record { there = n.there; other = n.other; greatest = λ k has ne. not_above k (name_to_give v) (λ lt. let z = top.none_above k lt in let o = others k ne in omega arith) },
     )
   where
     live_word : (w k : ℕ) → bit_at w k ≡ 1 → 0 < w

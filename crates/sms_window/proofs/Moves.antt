@@ -183,9 +183,21 @@ module _ {S : Type 0} (o : Opening) where
       (λ x. ap (λ (l : List ℕ). times x l + once_below x (slice_index s.words 1)) numbers ∙ ap (λ (m : ℕ). times x v.numbers + once_below x m) (sym same1))
       (omega arith) (let b = r.next.1 in omega arith) (subst (λ (m : ℕ). IsSeat o.first m w) (sym same1) mine)
 
+  -- a claim of a slot keeps the rule, and is one of the seat's and of the hold set's
+  pub record IsKeptClaim (s : State S View) (id : ℕ) (c : List (ℕ × S)) (v : View) (k old new : ℕ) (w : View) : Type 0 where
+    pub rule : IsWindow o (stepped s 0 new id c w keeps)
+    pub claim : IsClaim v k old w
+    pub pairs : Claims (pairs_of s.views) v.name k (pairs_of (set s.views id w))
+
+  -- and so is a release
+  pub record IsKeptRelease (s : State S View) (id : ℕ) (c : List (ℕ × S)) (v : View) (k old new : ℕ) (w : View) : Type 0 where
+    pub rule : IsWindow o (stepped s 0 new id c w keeps)
+    pub release : IsRelease v k old w
+    pub pairs : Releases (pairs_of s.views) v.name k (pairs_of (set s.views id w))
+
   -- a claim of a slot that is clear
   pub claimed : (s : State S View) → IsWindow o s → (id : ℕ) (c : List (ℕ × S)) (v : View) (k old new : ℕ) → get_elem? s.views id ≡ some v → k < 64 → old < 2 ^ 64 → slice_index s.words 0 ≡ old → bit_at old k ≡ 0 → new ≡ old + 2 ^ k → 0 < v.family
-      → let w : View = with_slots v (v.slots + 2 ^ k) new in IsWindow o (stepped s 0 new id c w keeps) × IsClaim v k old w × Claims (pairs_of s.views) v.name k (pairs_of (set s.views id w))
+      → IsKeptClaim s id c v k old new (with_slots v (v.slots + 2 ^ k) new)
   claimed s r id c v k old new at inside fits e clear is live =
       let w = with_slots v (v.slots + 2 ^ k) new in
       let two = r.two in
@@ -203,11 +215,15 @@ module _ {S : Type 0} (o : Opening) where
       (subst (λ (m : ℕ). IsSeat o.first m w) (sym w1) (slots_seat o.first (slice_index s.words 1) v _ new room (λ z. absurd (omega arith)) seat)) in
       let before : IsHoldSet v old (pairs_of s.views) = subst (λ (n : ℕ). IsHoldSet v n (pairs_of s.views)) e (hold_set s r id v at) in
       let after : IsHoldSet w new (pairs_of (set s.views id w)) = subst (λ (n : ℕ). IsHoldSet w n (pairs_of (set s.views id w))) w0 (hold_set _ rule id w (set_at s.views id v w at)) in
-      (rule, record { old = pairs_of s.views; new = pairs_of (set s.views id w); before = before; after = after; claims = d.1; free = d.0 }, d.1)
+      record {
+        rule = rule;
+        claim = record { old = pairs_of s.views; new = pairs_of (set s.views id w); before = before; after = after; claims = d.1; free = d.0 };
+        pairs = d.1;
+      }
 
   -- a release of a slot that the seat holds
   pub released : (s : State S View) → IsWindow o s → (id : ℕ) (c : List (ℕ × S)) (v : View) (k old new : ℕ) → get_elem? s.views id ≡ some v → k < 64 → bit_at v.slots k ≡ 1 → slice_index s.words 0 ≡ old → old ≡ new + 2 ^ k → 0 < v.family
-      → let w : View = with_slots v (v.slots - 2 ^ k) new in IsWindow o (stepped s 0 new id c w keeps) × IsRelease v k old w × Releases (pairs_of s.views) v.name k (pairs_of (set s.views id w))
+      → IsKeptRelease s id c v k old new (with_slots v (v.slots - 2 ^ k) new)
   released s r id c v k old new at inside has e is live =
       let w = with_slots v (v.slots - 2 ^ k) new in
       let two = r.two in
@@ -223,7 +239,11 @@ module _ {S : Type 0} (o : Opening) where
       (subst (λ (m : ℕ). IsSeat o.first m w) (sym w1) (slots_seat o.first (slice_index s.words 1) v _ new (omega arith) (λ z. absurd (omega arith)) seat)) in
       let before : IsHoldSet v old (pairs_of s.views) = subst (λ (n : ℕ). IsHoldSet v n (pairs_of s.views)) e (hold_set s r id v at) in
       let after : IsHoldSet w new (pairs_of (set s.views id w)) = subst (λ (n : ℕ). IsHoldSet w n (pairs_of (set s.views id w))) w0 (hold_set _ rule id w (set_at s.views id v w at)) in
-      (rule, record { old = pairs_of s.views; new = pairs_of (set s.views id w); before = before; after = after; releases = d.1 }, d.1)
+      record {
+        rule = rule;
+        release = record { old = pairs_of s.views; new = pairs_of (set s.views id w); before = before; after = after; releases = d.1 };
+        pairs = d.1;
+      }
 
   -- a draw of the next number
   pub drew : (s : State S View) → IsWindow o s → (id : ℕ) (c : List (ℕ × S)) (v : View) (n new : ℕ) → get_elem? s.views id ≡ some v → slice_index s.words 1 ≡ n → new ≡ n + 1 → n ≤ top_number → 0 < v.family

@@ -46,8 +46,8 @@ word_back o s r id k v at h =
 pub move_keeps_rule : MoveKeepsRule
 move_keeps_rule o s (looks id) t r h =
     subst (IsWindow o) (sym h.after) (looked o s r 0 (window_word s) id [] h.view _ h.seated.0 (omega arith) refl refl refl refl refl (met_seat o.first (number_word s) h.view _ (r.seats id h.view h.seated.0)))
-move_keeps_rule o s (claims id slot) t r h = subst (IsWindow o) (sym h.after) (claimed o s r id [] h.view slot (window_word s) (window_word s + 2 ^ slot) h.seated.0 h.inside (word_small o s r) refl h.free refl h.seated.1).0
-move_keeps_rule o s (releases id slot) t r h = subst (IsWindow o) (sym h.after) (released o s r id [] h.view slot (window_word s) (window_word s - 2 ^ slot) h.seated.0 h.held.0 h.held.1 refl (word_back o s r id slot h.view h.seated.0 h.held) h.seated.1).0
+move_keeps_rule o s (claims id slot) t r h = subst (IsWindow o) (sym h.after) (claimed o s r id [] h.view slot (window_word s) (window_word s + 2 ^ slot) h.seated.0 h.inside (word_small o s r) refl h.free refl h.seated.1).rule
+move_keeps_rule o s (releases id slot) t r h = subst (IsWindow o) (sym h.after) (released o s r id [] h.view slot (window_word s) (window_word s - 2 ^ slot) h.seated.0 h.held.0 h.held.1 refl (word_back o s r id slot h.view h.seated.0 h.held) h.seated.1).rule
 move_keeps_rule o s (splits id) t r h = subst (IsWindow o) (sym h.after) (splits_keeps o id h.view h.seated.1 h.can s r h.seated.0)
 move_keeps_rule o s (joins id other) t r h =
     subst (IsWindow o) (sym h.after) (joins_keeps o id h.view other h.theirs h.seated.1 h.there.1 s r h.seated.0 h.apart (set_else s.views id other (joined h.view h.theirs) h.apart ∙ h.there.0))
@@ -60,12 +60,12 @@ move_keeps_rule o s (draws id) t r h = subst (IsWindow o) (sym h.after) (drew o 
 pub hold_step : (o : Opening) (s : Shared) (m : Move) (t : Shared) → IsWindow o s → Moves s m t → HoldStep s m t
 hold_step o s (looks id) t r h = subst (λ (u : Shared). SamePairs (pairs_of s.views) (pairs_of u.views)) (sym h.after) (same_pairs s.views id h.view _ h.seated.0 refl refl)
 hold_step o s (claims id slot) t r h =
-    (h.view, h.seated.0, subst (λ (u : Shared). Claims (pairs_of s.views) h.view.name slot (pairs_of u.views)) (sym h.after) (claimed o s r id [] h.view slot (window_word s) (window_word s + 2 ^ slot) h.seated.0 h.inside (word_small o s r) refl h.free refl h.seated.1).2)
+    record { view = h.view; there = h.seated.0; claim = subst (λ (u : Shared). Claims (pairs_of s.views) h.view.name slot (pairs_of u.views)) (sym h.after) (claimed o s r id [] h.view slot (window_word s) (window_word s + 2 ^ slot) h.seated.0 h.inside (word_small o s r) refl h.free refl h.seated.1).pairs }
 hold_step o s (releases id slot) t r h =
-    (h.view, h.seated.0, subst (λ (u : Shared). Releases (pairs_of s.views) h.view.name slot (pairs_of u.views)) (sym h.after) (released o s r id [] h.view slot (window_word s) (window_word s - 2 ^ slot) h.seated.0 h.held.0 h.held.1 refl (word_back o s r id slot h.view h.seated.0 h.held) h.seated.1).2)
+    record { view = h.view; there = h.seated.0; release = subst (λ (u : Shared). Releases (pairs_of s.views) h.view.name slot (pairs_of u.views)) (sym h.after) (released o s r id [] h.view slot (window_word s) (window_word s - 2 ^ slot) h.seated.0 h.held.0 h.held.1 refl (word_back o s r id slot h.view h.seated.0 h.held) h.seated.1).pairs }
 hold_step o s (splits id) t r h = subst (λ (u : Shared). SamePairs (pairs_of s.views) (pairs_of u.views)) (sym h.after) (split_pairs s.views id h.view (giver h.view) (given h.view) h.seated.0 refl refl refl)
 hold_step o s (joins id other) t r h =
-    (h.view, h.theirs, h.seated.0, h.there.0, subst (λ (u : Shared). Passes (pairs_of s.views) (λ name. name == h.theirs.name) h.view.name (pairs_of u.views)) (sym h.after) (passes o s r id other h.view h.theirs h.seated.1 h.there.1 h.apart h.seated.0 h.there.0))
+    record { view = h.view; theirs = h.theirs; there = h.seated.0; theirs_there = h.there.0; pass = subst (λ (u : Shared). Passes (pairs_of s.views) (λ name. name == h.theirs.name) h.view.name (pairs_of u.views)) (sym h.after) (passes o s r id other h.view h.theirs h.seated.1 h.there.1 h.apart h.seated.0 h.there.0) }
 hold_step o s (looks_at_number id) t r h = subst (λ (u : Shared). SamePairs (pairs_of s.views) (pairs_of u.views)) (sym h.after) (same_pairs s.views id h.view _ h.seated.0 refl refl)
 hold_step o s (draws id) t r h = subst (λ (u : Shared). SamePairs (pairs_of s.views) (pairs_of u.views)) (sym h.after) (same_pairs s.views id h.view _ h.seated.0 refl refl)
 

@@ -20,14 +20,19 @@ use Rattle.sms_window.specs.SeatState.{IsSound}
 use Rattle.sms_window.specs.Seats.{other_names, CanSplit, name_to_give, giver, given}
 use Rattle.sms_window.proofs.Views.{total_set, total_snoc, own, weigh-pairs_of, times-numbers_of}
 
--- the highest bit of a word
-pub top_bit : (w : ℕ) → 0 < w → w < 2 ^ 64 → (63 - leading_zeros w64 w < 64) × (bit_at w (63 - leading_zeros w64 w) ≡ 1) × ((i : ℕ) → 63 - leading_zeros w64 w < i → bit_at w i ≡ 0)
+-- the highest bit that is set in a word
+pub record IsTopBit (w top : ℕ) : Type 0 where
+  pub inside : top < 64
+  pub set_there : bit_at w top ≡ 1
+  pub none_above : (i : ℕ) → top < i → bit_at w i ≡ 0
+
+pub top_bit : (w : ℕ) → 0 < w → w < 2 ^ 64 → IsTopBit w (63 - leading_zeros w64 w)
 top_bit w pos small =
     let t = leading_top 64 w pos small in
     let j : ℕ = t.0 in
     let e : 63 - leading_zeros w64 w ≡ j = omega arith in
     let one : bit_at w j ≡ 1 = top_is_one w j t.2 t.3 in
-    (omega arith, ap (bit_at w) e ∙ one, λ i lt. bit_at_above w (suc j) i t.3 (omega arith))
+    record { inside = omega arith; set_there = ap (bit_at w) e ∙ one; none_above = λ i lt. bit_at_above w (suc j) i t.3 (omega arith) }
   where
     top_is_one : (w j : ℕ) → 2 ^ j ≤ w → w < 2 ^ suc j → bit_at w j ≡ 1
     top_is_one w j low high =
@@ -54,14 +59,14 @@ name_apart v small in_range has can =
     let is : other_names v ≡ y = omega arith in
     let t = top_bit (other_names v) can (omega arith) in
     let j : ℕ = name_to_give v in
-    let set_there : bit_at (other_names v) j ≡ 1 = t.1 in
+    let set_there : bit_at (other_names v) j ≡ 1 = t.set_there in
     let there : bit_at y j ≡ 1 = ap (λ (w : ℕ). bit_at w j) (sym is) ∙ set_there in
     let ne : j ≢ v.name = λ e. let a : bit_at y v.name ≡ 1 = ap (bit_at y) (sym e) ∙ there in let b = less.2 in omega arith in
     let more = bit_at_more y v.name less.2 j in
     let c : bit_at v.family j ≡ bit_at (y + 2 ^ v.name) j = ap (λ (w : ℕ). bit_at w j) sum in
     let d = bit_at-pow_other v.name j ne in
     let here : bit_at v.family j ≡ 1 = omega arith in
-    let less' = bit_at_less v.family j t.0 small here in
+    let less' = bit_at_less v.family j t.inside small here in
     let z : ℕ = less'.0 in
     let sum' : v.family ≡ z + 2 ^ j = less'.1 in
     let rest : v.family - 2 ^ j ≡ z = omega arith in
@@ -69,7 +74,7 @@ name_apart v small in_range has can =
     let e : bit_at v.family v.name ≡ bit_at (z + 2 ^ j) v.name = ap (λ (w : ℕ). bit_at w v.name) sum' in
     let f = bit_at-pow_other j v.name (λ e. ne (sym e)) in
     let g : bit_at (v.family - 2 ^ j) v.name ≡ bit_at z v.name = ap (λ (w : ℕ). bit_at w v.name) rest in
-    record { inside = t.0; there = here; other = ne; fits = omega arith; stays = omega arith }
+    record { inside = t.inside; there = here; other = ne; fits = omega arith; stays = omega arith }
 
 -- the name as `split` computes it, and its bit
 pub name_given : (v : View) (family name : ℕ) → family ≡ v.family → name ≡ v.name → name < 64 → 63 - leading_zeros w64 (family - 1 * 2 ^ name % 2 ^ 64) ≡ name_to_give v

@@ -16,13 +16,33 @@ pub record Turns (P : View → View → Type 0) (s : Shared) (id : ℕ) (t : Sha
   pub after : IsThere t id new
   pub is : P old new
 
+-- the seat `id` takes the slot, under its name
+pub record ClaimsSlot (s : Shared) (id slot : ℕ) (t : Shared) : Type 0 where
+  pub view : View
+  pub there : IsThere s id view
+  pub claim : Claims (pairs_of s.views) view.name slot (pairs_of t.views)
+
+-- and gives it back
+pub record ReleasesSlot (s : Shared) (id slot : ℕ) (t : Shared) : Type 0 where
+  pub view : View
+  pub there : IsThere s id view
+  pub release : Releases (pairs_of s.views) view.name slot (pairs_of t.views)
+
+-- what the seat `other` had under its name goes to that of the seat `id`
+pub record PassesSlots (s : Shared) (id other : ℕ) (t : Shared) : Type 0 where
+  pub view : View
+  pub theirs : View
+  pub there : IsThere s id view
+  pub theirs_there : IsThere s other theirs
+  pub pass : Passes (pairs_of s.views) (λ name. name == theirs.name) view.name (pairs_of t.views)
+
 -- which step on hold sets each kind is
 abbrev pub HoldStep : Shared → Move → Shared → Type 0
 HoldStep s (looks id) t = SamePairs (pairs_of s.views) (pairs_of t.views)
-HoldStep s (claims id slot) t = (v : View) × IsThere s id v × Claims (pairs_of s.views) v.name slot (pairs_of t.views)
-HoldStep s (releases id slot) t = (v : View) × IsThere s id v × Releases (pairs_of s.views) v.name slot (pairs_of t.views)
+HoldStep s (claims id slot) t = ClaimsSlot s id slot t
+HoldStep s (releases id slot) t = ReleasesSlot s id slot t
 HoldStep s (splits id) t = SamePairs (pairs_of s.views) (pairs_of t.views)
-HoldStep s (joins id other) t = (v : View) × (w : View) × IsThere s id v × IsThere s other w × Passes (pairs_of s.views) (λ name. name == w.name) v.name (pairs_of t.views)
+HoldStep s (joins id other) t = PassesSlots s id other t
 HoldStep s (looks_at_number id) t = SamePairs (pairs_of s.views) (pairs_of t.views)
 HoldStep s (draws id) t = SamePairs (pairs_of s.views) (pairs_of t.views)
 

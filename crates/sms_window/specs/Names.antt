@@ -19,9 +19,15 @@ gave (suc k) v = gave k (giver v)
 abbrev pub KeeperHasAll : Type 0
 KeeperHasAll = (o : Opening) → HasNames most_names (keeper o)
 
--- while it has two or more it can split, and gives the greatest
+-- it can split, gives the greatest of its n names, and keeps the rest
+pub record GivesGreatestOf (n : ℕ) (v : View) : Type 0 where
+  pub can : CanSplit v
+  pub greatest : (given v).name ≡ n - 1
+  pub rest : HasNames (n - 1) (giver v)
+
+-- so it does while it has two or more
 abbrev pub GivesInTurn : Type 0
-GivesInTurn = (n : ℕ) (v : View) → 2 ≤ n → n ≤ most_names → HasNames n v → CanSplit v × ((given v).name ≡ n - 1) × HasNames (n - 1) (giver v)
+GivesInTurn = (n : ℕ) (v : View) → 2 ≤ n → n ≤ most_names → HasNames n v → GivesGreatestOf n v
 
 -- so with n names it can split n - 1 times, and after k of these it has n - k
 abbrev pub GivesAll : Type 0

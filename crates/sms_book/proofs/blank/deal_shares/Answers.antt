@@ -32,7 +32,7 @@ deal-requires-clause-here g c =
     let w = g.N.BookName.book.workers in
     let ps = replicate g.N.BookName.book.accounts nothing in
     let mid = next_equal n w _ _ _ _ i.rest (ap (map (λ a. a.items)) c.in-Some.ensures.steps.0) in
-    (b.0 ∷ dealt n (replicate w (at_home ps)), b.1, ps, i.seat b.0 b.1 b.2, next_home b.0 n w ps mid.1)
+    record { entries = b.0 ∷ dealt n (replicate w (at_home ps)); totals = b.1; portions = ps; is = i.seat b.0 b.1 b.2; entry = next_home b.0 n w ps mid.1 }
 
 pub invariant_of-push_reserved : goal.invariant_of-push_reserved
 invariant_of-push_reserved g c =

@@ -10,12 +10,13 @@ returns-in-Some-clause-refused c =
     let rate = c.index-rates-place.result in
     let price = price_there c.args.rates.now c.args.place rate c.requires c.index-rates-place.is in
     let prefix : IsPrefix (string_bytes rate.prefix) = subst IsPrefix c.as_bytes.ensures.value (search rules) in
-    let credits : IsCredits rate.credits = search rules in (
-      refl,
-      subst (λ (p : Price). IsPrefix p.prefix) (sym price) prefix,
-      subst (λ (p : Price). IsCredits p.credits) (sym price) credits,
-      subst (λ (l : List (List ℕ)). HaveOneName l c.in-Some.first c.args.place) (prefixes_are c.args.rates.now) c.in-Some.ensures.found.0,
-    )
+    let credits : IsCredits rate.credits = search rules in
+    record {
+      is = refl;
+      prefix = subst (λ (p : Price). IsPrefix p.prefix) (sym price) prefix;
+      credits = subst (λ (p : Price). IsCredits p.credits) (sym price) credits;
+      double = subst (λ (l : List (List ℕ)). HaveOneName l c.in-Some.first c.args.place) (prefixes_are c.args.rates.now) c.in-Some.ensures.found.0;
+    }
 
 pub returns-in-None-clause-good : goal.returns-in-None-clause-good
 returns-in-None-clause-good c =

@@ -9,8 +9,8 @@ use Rattle.sms_book.proofs.steps.deal.Goals as goal
 pub split_off-requires-clause-allowed : goal.split_off-requires-clause-allowed
 split_off-requires-clause-allowed g c =
     let l = c.requires.here in
-    let here = subst (λ (k : ℕ). slice_get l.0 k ≡ Some (at_home l.2)) c.requires.picked l.4 in
-    (Book l.0 l.1, l.3, deals _ _ _ _ l.0 l.1 l.2 (Book l.0 l.1) refl here)
+    let here = subst (λ (k : ℕ). slice_get l.entries k ≡ Some (at_home l.portions)) c.requires.picked l.entry in
+    (Book l.entries l.totals, l.is, deals _ _ _ _ l.entries l.totals l.portions (Book l.entries l.totals) refl here)
 
 pub returns-clause-book : goal.returns-clause-book
 returns-clause-book g c es ts ps is here =

@@ -11,8 +11,8 @@ pub split_off-requires-clause-allowed : goal.split_off-requires-clause-allowed
 split_off-requires-clause-allowed g c =
     let l = c.requires.book in
     let p = c.requires.picked in
-    let by = subst (λ (x : List Portion × List Portion). MoveBy l.3 x.0 l.1 x.1) (λ i. (p.0 i, p.1 i)) l.5 in
-    (Lent l.0 l.1 l.2 l.3, l.4, splits _ _ _ l.2 l.0 l.1 _ l.3 _ by)
+    let by = subst (λ (x : List Portion × List Portion). MoveBy l.portions x.0 l.had x.1) (λ i. (p.0 i, p.1 i)) l.moves in
+    (Lent l.entries l.had l.number l.portions, l.is, splits _ _ _ l.number l.entries l.had _ l.portions _ by)
 
 pub returns-clause-book : goal.returns-clause-book
 returns-clause-book g c es ts k ps is =

@@ -13,13 +13,13 @@ unreachable-requires c =
     let rates = c.args.rates.now in
     let found = c.in-Ok.ensures.found in
     let items = c.as_slice.ensures.value in
-    let there = subst (λ (l : List ℕ). found.0 < length l) items found.1 in
-    let is = ap (λ (l : List ℕ). slice_index l found.0) (sym items) ∙ found.2 in
-    let below = c.loop-place.invariant.places found.0 there in
+    let there = subst (λ (l : List ℕ). found.at < length l) items found.within in
+    let is = ap (λ (l : List ℕ). slice_index l found.at) (sym items) ∙ found.is in
+    let below = c.loop-place.invariant.places found.at there in
     let low : c.in-Ok.field-0 < c.loop-place.place = omega arith in
     let price = price_read rates c.loop-place.place c.index-rates-place.result c.loop-place-test.true in
     apart (prices_of rates) c.in-Ok.field-0 c.loop-place.place c.requires low (let l = length-map rates price_of in let t = c.loop-place-test.true in omega arith)
-    (found.3 ∙ c.as_bytes.ensures.value ∙ sym (ap (λ (p : Price). p.prefix) price))
+    (found.same ∙ c.as_bytes.ensures.value ∙ sym (ap (λ (p : Price). p.prefix) price))
 
 pub loop-place-preserved : goal.loop-place-preserved
 loop-place-preserved c =

@@ -64,4 +64,9 @@ returns-in-Equal-clause-found c =
     let there = c.requires.2.places middle low in
     let few = c.requires.1 in
     let price = price_read c.args.rates.now (slice_index c.args.order.now middle) c.index-rates-order.result (omega arith) in
-    (middle, low, (λ _. slice_index c.args.order.now middle), ap (λ (p : Price). p.prefix) price ∙ sym c.as_bytes.ensures.value ∙ exact_bytes _ _ (sym c.cmp.ensures ∙ c.in-Equal.is))
+    record {
+      at = middle;
+      within = low;
+      is = λ _. slice_index c.args.order.now middle;
+      same = ap (λ (p : Price). p.prefix) price ∙ sym c.as_bytes.ensures.value ∙ exact_bytes _ _ (sym c.cmp.ensures ∙ c.in-Equal.is);
+    }

@@ -13,7 +13,13 @@ use Rattle.sms_book.proofs.blank.Blank.deal_out.Goals as goal
 pub deal-requires-clause-here : goal.deal-requires-clause-here
 deal-requires-clause-here g c =
     let s = c.self.inside in
-    (opening_entries s.credits.items s.workers, map of_till s.credits.items, map of_till s.credits.items, c.self.invariant.view, refl)
+    record {
+      entries = opening_entries s.credits.items s.workers;
+      totals = map of_till s.credits.items;
+      portions = map of_till s.credits.items;
+      is = c.self.invariant.view;
+      entry = refl;
+    }
 
 -- the workers' entries, by the book's name
 pub deal_shares-shares-requires-clause-book : goal.deal_shares-shares-requires-clause-book

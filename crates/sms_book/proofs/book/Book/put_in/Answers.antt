@@ -25,7 +25,7 @@ part-requires-clause-book g c =
     let entry = c.meet.ensures.entry i.entries _ 0 _ i.view s.view in
     let sums = c.meet.ensures.sums i.entries _ i.view in
     let t = topped i s c.args.account c.args.n c.index-row.result.now c.index-had.result.now entry sums (rw c.self.view_is c.requires.there) c.index-row.ensures c.index-had.ensures (rw c.self.view_is c.requires.small) in
-    (i.entries, map of_row c.self.inside.rows.items, 0, map of_till c.till.inside.topped.items, lent, rw (c.as_slice.ensures.value, c.as_slice-2.ensures.value) t.moves)
+    record { entries = i.entries; had = map of_row c.self.inside.rows.items; number = 0; portions = map of_till c.till.inside.topped.items; is = lent; moves = rw (c.as_slice.ensures.value, c.as_slice-2.ensures.value) t.moves }
 
 pub invariant_of-self : goal.invariant_of-self
 invariant_of-self g c =

@@ -16,7 +16,7 @@ part-requires-clause-book g c =
     let ts = map of_row c.self.inside.rows.items in
     let a = map of_worker c.share.inside.amounts.items in
     let lent = c.meet.ensures.book i.entries _ s.number _ i.view s.view in
-    (i.entries, ts, s.number, a, lent, rw (c.as_slice.ensures.value, c.as_slice-2.ensures.value) (still a ts))
+    record { entries = i.entries; had = ts; number = s.number; portions = a; is = lent; moves = rw (c.as_slice.ensures.value, c.as_slice-2.ensures.value) (still a ts) }
 
 pub invariant_of-self : goal.invariant_of-self
 invariant_of-self g c =

@@ -44,7 +44,14 @@ part-requires-clause-book g c =
     let sums = c.meet.ensures.sums i.entries _ i.view in
     let holds = held c.args.what c.args.account c.args.n _ _ c.share.view_is c.requires.share in
     let t = settled i s c.args.account c.args.what c.args.n c.index-row.result.now c.index-had.result.now entry sums (rw c.self.view_is c.requires.there) c.index-row.ensures c.index-had.ensures (rw c.self.view_is c.requires.row) holds in
-    (i.entries, map of_row c.self.inside.rows.items, s.number, map of_worker c.share.inside.amounts.items, lent, rw (c.as_slice.ensures.value, c.as_slice-2.ensures.value, c.row_after.ensures, c.amounts_after.ensures) t.moves)
+    record {
+      entries = i.entries;
+      had = map of_row c.self.inside.rows.items;
+      number = s.number;
+      portions = map of_worker c.share.inside.amounts.items;
+      is = lent;
+      moves = rw (c.as_slice.ensures.value, c.as_slice-2.ensures.value, c.row_after.ensures, c.amounts_after.ensures) t.moves;
+    }
 
 pub invariant_of-self : goal.invariant_of-self
 invariant_of-self g c =

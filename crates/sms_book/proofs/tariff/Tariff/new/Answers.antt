@@ -1,8 +1,18 @@
 use Rattle.std.proofs.Common.{◌≡◌, Err, refl, ap}
-use Rattle.sms_book.specs.declared.error.TariffError.TheVariants.{Duplicate}
+use Rattle.sms_book.specs.declared.error.TariffError.TheVariants.{BadCredits, Duplicate}
 use Rattle.sms_book.specs.Tariffs.{prices_of}
 use Rattle.sms_book.proofs.Refusals.{told}
 use Rattle.sms_book.proofs.tariff.Tariff.new.Goals as goal
+
+pub returns-in-Err-clause-credits : goal.returns-in-Err-clause-credits
+returns-in-Err-clause-credits c place =
+    let t = told (prices_of c.args.rates.now) c.in-Err.fault (BadCredits place) c.in-Err.ensures.refused in (
+      λ is.
+          let same : c.in-Err.fault ≡ BadCredits place = cc in
+          let r = t.0 same in
+          (r.0, r.1.prefix, r.1.credits),
+      λ p. ap Err (t.1 (p.0, record { is = refl; prefix = p.1; credits = p.2 })),
+    )
 
 pub returns-in-Err-clause-double : goal.returns-in-Err-clause-double
 returns-in-Err-clause-double c first second =
@@ -10,6 +20,6 @@ returns-in-Err-clause-double c first second =
       λ is.
           let same : c.in-Err.fault ≡ Duplicate first second = cc in
           let r = t.0 same in
-          (r.0, r.1.1, r.1.2, r.1.3),
-      λ p. ap Err (t.1 (p.0, (refl, p.1, p.2, p.3))),
+          (r.0, r.1.prefix, r.1.credits, r.1.double),
+      λ p. ap Err (t.1 (p.0, record { is = refl; prefix = p.1; credits = p.2; double = p.3 })),
     )

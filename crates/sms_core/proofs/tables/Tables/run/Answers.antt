@@ -14,7 +14,12 @@ loop-event-preserved c =
     let event : Event = get_or events i (TopUp 0 0) in
     let more = runs_more (state_of c.args.self.now) (take i events) old.answers.items (state_of old.self) event c.in-Ok.answer (state_of c.step.new.self) old.invariant.runs c.in-Ok.ensures.step in
     record {
-      runs = (more.0, more.1, more.2 ∙ sym (take_more events i (TopUp 0 0) below), more.3 ∙ sym c.in-Ok-push.ensures.items);
+      runs = record {
+        moments = more.moments;
+        history = more.history;
+        asked = more.asked ∙ sym (take_more events i (TopUp 0 0) below);
+        told = more.told ∙ sym c.in-Ok-push.ensures.items;
+      };
       sound = c.in-Ok.ensures.sound;
       len = search rules;
       answers_fit = search rules;
