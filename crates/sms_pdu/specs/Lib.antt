@@ -1,5 +1,6 @@
 pub mod Header
 pub mod Command
+pub mod MessageId
 pub mod Reply
 pub mod Frame
 pub mod Layout

@@ -1,16 +1,11 @@
 -- The answers of a stream: submit_sm_resp and generic_nack (SMPP 3.4 4.3.1, 4.4.2).
-use Rattle.std.specs.Prelude.{◌≡◌, ℕ, List, [], ◌++◌, ◌-◌, length, take, drop, replicate, position, Bool, true, false, Option, Some, None, nat_lt, ◌==◌, if◌then◌else◌}
+use Rattle.std.specs.Prelude.{◌≡◌, ℕ, List, [], length, take, drop, position, Bool, true, false, Option, Some, None, nat_lt, ◌==◌, if◌then◌else◌}
 use Rattle.std.specs.List.{filter_map}
 use Rattle.sms_pdu.specs.declared.reply.Reply.{Reply}
-use Rattle.sms_pdu.specs.declared.reply.MessageId.{MessageId}
 use Rattle.sms_pdu.specs.declared.command.Command.TheVariants.{SubmitSmResp, GenericNack}
 use Rattle.sms_pdu.specs.Command.{id_of}
 use Rattle.sms_pdu.specs.Header.{number_at}
 use Rattle.sms_pdu.specs.Frame.{Division}
-
--- the octets, and zeros up to 64
-abbrev pub message_id_of : List ℕ → MessageId
-message_id_of text = record { len = length text; octets = text ++ replicate (64 - length text) 0 }
 
 abbrev pub before : List ℕ → Option ℕ → List ℕ
 before octets None = []
@@ -25,7 +20,7 @@ abbrev pub id_text : List ℕ → List ℕ
 id_text body = before_zero (take 65 body)
 
 abbrev pub reply_with : Bool → List ℕ → List ℕ → Reply
-reply_with nack id octets = record { number = number_at 12 octets; status = number_at 8 octets; nack = nack; id = message_id_of id }
+reply_with nack id octets = record { number = number_at 12 octets; status = number_at 8 octets; nack = nack; id = id }
 
 -- the answer that a frame with this command is
 abbrev pub reply_by : ℕ → List ℕ → Option Reply

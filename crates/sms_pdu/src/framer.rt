@@ -11,6 +11,10 @@ use std::alloc::{AllocError, Global};
 use std::marker::Model;
 use std::mem;
 
+/// In so many octets of a piece one frame is awaited: room for those is made in the list at once,
+/// and where there are more of them, it grows. To grow from nothing costs more than a frame's copy.
+const USUAL_LENGTH: usize = 128;
+
 /// Cuts a stream into frames, in whatever pieces it comes. Contracts see its rest.
 #[derive(Drop)]
 pub struct Framer {
@@ -171,7 +175,7 @@ fn divide(alloc: Global, stream: &[u8]) -> Result<Divided, AllocError>
     ensures divided { IfOk result (λ d. Division stream.now d.frames.items d.rest.items) }
     ensures fault { IfOk result (λ d. IsSome d.fault ↔ IsBad d.rest.items) }
 {
-    let mut frames = Vec::new(alloc);
+    let mut frames = Vec::with_capacity(alloc, stream.len() / USUAL_LENGTH)?;
     let mut left = stream;
     'taking: loop {
         match front_of(left) {

@@ -30,6 +30,12 @@ impl Octets {
         ensures same { IfOk result (λ copy. copy ≡ octets.now) }
         ensures none { octets.now ≡ [] → IsOk result }
     {
+        // (Many strings of a message are empty.)
+        if octets.is_empty() {
+            return Ok(Octets {
+                octets: Vec::new(alloc),
+            });
+        }
         let mut copy = Vec::with_capacity(alloc, octets.len())?;
         copy.extend_from_slice(octets)?;
         Ok(Octets { octets: copy })

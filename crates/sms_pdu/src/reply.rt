@@ -1,21 +1,13 @@
 //! The answers that a sender waits for, read from a frame without memory.
 
-ghost use Rattle.std.specs.Prelude.{◌≡◌, ◌≤◌, ◌<◌, length, take};
-ghost use Rattle.sms_pdu.specs.Reply.{reply_in, id_text, message_id_of};
+ghost use Rattle.std.specs.Prelude.{◌≡◌};
+ghost use Rattle.sms_pdu.specs.Reply.{reply_in, id_text};
 
 use crate::command::{GENERIC_NACK, SUBMIT_SM_RESP};
 use crate::header::{body_of, header_of};
 use crate::layout::{maximum_of, sm_resp_fields};
+use crate::message_id::MessageId;
 use crate::octets::{first_zero, front};
-
-/// A message_id of a submit_sm_resp: at most 64 octets (SMPP 3.4 5.2.23).
-#[derive(Clone, Copy, Debug, PartialEq, Eq)]
-pub struct MessageId {
-    /// How many octets there are.
-    pub len: u8,
-    /// The octets, and 0 in each place past them.
-    pub octets: [u8; 64],
-}
 
 /// An answer to a submit_sm: a submit_sm_resp, or a generic_nack (SMPP 3.4 4.3.1, 4.4.2).
 #[derive(Clone, Copy, Debug, PartialEq, Eq)]
@@ -51,7 +43,7 @@ pub fn reply_of(octets: &[u8]) -> Option<Reply>
             number: header.number,
             status: header.status,
             nack: true,
-            id: message_id(&[]),
+            id: MessageId::empty(),
         }),
         _ => None,
     }
@@ -59,26 +51,11 @@ pub fn reply_of(octets: &[u8]) -> Option<Reply>
 
 /// The octets before the first 0, where a 0 stands among the first 65; else none.
 fn id_in(body: &[u8]) -> MessageId
-    ensures { result ≡ message_id_of (id_text body.now) }
+    ensures { result ≡ id_text body.now }
 {
     let front = front(body, ID_MAXIMUM);
     match first_zero(front) {
-        None => message_id(&[]),
-        Some(len) => message_id(&front[..len]),
-    }
-}
-
-/// A message_id of these octets.
-fn message_id(text: &[u8]) -> MessageId
-    requires { length text.now ≤ 64 }
-    ensures { result ≡ message_id_of text.now }
-{
-    let mut octets = [0; 64];
-    for (i, octet) in text.iter().enumerate() {
-        octets[i] = *octet;
-    }
-    MessageId {
-        len: text.len() as u8,
-        octets,
+        None => MessageId::empty(),
+        Some(len) => MessageId::of(&front[..len]),
     }
 }

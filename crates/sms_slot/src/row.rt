@@ -86,7 +86,9 @@ impl SlotRow {
     {
         for slot in 0..MOST_SLOTS {
             let mut kept = self.slots[slot as usize].lock(rt);
-            match kept.answer(reply, producers) {
+            // Each turn has a copy of its own, or the borrow checker takes the reply for moved.
+            let this = reply;
+            match kept.answer(this, producers) {
                 Answer::Matched { worker } => return Search::Found { slot, worker },
                 Answer::Overrun { worker } => return Search::Overrun { slot, worker },
                 Answer::Unknown => {}

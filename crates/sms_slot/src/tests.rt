@@ -103,19 +103,21 @@ fn an_overrun_leaves_the_request_waiting(rt: HostRuntime) -> Result<(), Fail> {
 fn one_slot_of_a_row(rt: HostRuntime) -> Result<(), Fail> {
     let row = SlotRow::new(rt.alloc())?;
     let (mut producers, mut consumers) = rings(rt.alloc(), 2)?;
-    let reply = reply_to(&rt, 5);
     assert_eq!(rt; row.post(&rt, 3, 1, 5), Ok(()));
     assert_eq!(rt; row.post(&rt, 3, 0, 6), Err(SlotError::Busy));
     assert_eq!(rt; row.take(&rt, 3, 5), Taken::NotYet);
     assert_eq!(rt;
-        row.answer(&rt, reply, &mut producers),
+        row.answer(&rt, reply_to(&rt, 5), &mut producers),
         Search::Found { slot: 3, worker: 1 }
     );
-    assert_eq!(rt; row.answer(&rt, reply, &mut producers), Search::Unknown);
+    assert_eq!(rt;
+        row.answer(&rt, reply_to(&rt, 5), &mut producers),
+        Search::Unknown
+    );
     assert_eq!(rt; row.expire(&rt, 3, 5), Expired::Answered);
     assert_eq!(rt; row.take(&rt, 3, 5), Taken::Got);
     want_in_ring(&rt, &mut consumers, 0, &[]);
-    want_in_ring(&rt, &mut consumers, 1, &[reply]);
+    want_in_ring(&rt, &mut consumers, 1, &[reply_to(&rt, 5)]);
     Ok(())
 }
 
@@ -124,15 +126,17 @@ fn one_slot_of_a_row(rt: HostRuntime) -> Result<(), Fail> {
 fn other_numbers_of_a_row(rt: HostRuntime) -> Result<(), Fail> {
     let row = SlotRow::new(rt.alloc())?;
     let (mut producers, mut consumers) = rings(rt.alloc(), 3)?;
-    let reply = reply_to(&rt, 5);
     assert_eq!(rt; row.take(&rt, 0, 5), Taken::Unknown);
     assert_eq!(rt; row.expire(&rt, 0, 5), Expired::Unknown);
-    assert_eq!(rt; row.answer(&rt, reply, &mut producers), Search::Unknown);
+    assert_eq!(rt;
+        row.answer(&rt, reply_to(&rt, 5), &mut producers),
+        Search::Unknown
+    );
     assert_eq!(rt; row.post(&rt, 0, 2, 5), Ok(()));
     assert_eq!(rt; row.take(&rt, 0, 6), Taken::Unknown);
     assert_eq!(rt; row.expire(&rt, 0, 6), Expired::Unknown);
     assert_eq!(rt; row.take(&rt, 1, 5), Taken::Unknown);
-    let found = row.answer(&rt, reply, &mut producers);
+    let found = row.answer(&rt, reply_to(&rt, 5), &mut producers);
     assert_eq!(rt; found, Search::Found { slot: 0, worker: 2 });
     assert_eq!(rt; row.take(&rt, 0, 6), Taken::Unknown);
     assert_eq!(rt; row.expire(&rt, 0, 6), Expired::Unknown);
@@ -142,7 +146,7 @@ fn other_numbers_of_a_row(rt: HostRuntime) -> Result<(), Fail> {
     assert_eq!(rt; overrun, Search::Overrun { slot: 0, worker: 3 });
     assert_eq!(rt; row.expire(&rt, 0, 6), Expired::Done);
     assert_eq!(rt; row.post(&rt, 0, 3, 7), Ok(()));
-    want_in_ring(&rt, &mut consumers, 2, &[reply]);
+    want_in_ring(&rt, &mut consumers, 2, &[reply_to(&rt, 5)]);
     Ok(())
 }
 

@@ -41,8 +41,7 @@ fn replies(rt: HostRuntime) -> Result<(), Fail> {
     for (octets, numbers, id) in table {
         let reply = reply_of(octets).ok_or("an answer")?;
         assert_eq!(rt; (reply.number, reply.status, reply.nack), numbers);
-        assert_eq!(rt; usize::from(reply.id.len), id.len());
-        assert!(rt; reply.id.octets.as_slice().starts_with(id));
+        assert_eq!(rt; reply.id.as_slice(), id);
     }
     assert!(rt; reply_of(&ENQUIRE_LINK).is_none());
     Ok(())
