@@ -261,7 +261,7 @@ answer_is_event ms w x p q reply h st c =
     let after : State = record w { marks = set w.marks x.slot new } in
     let steps : Steps w event Done after = (
       none_of (checks w event) (ap not (some_waits w.marks x.slot x.request reply.number mark), tt),
-      (x.slot, x.request, there, refl),
+      record { slot = x.slot; request = x.request; waits = there; after = refl },
     ) in
     let rows_same : SameRows w after = rows_move ms w after event h steps in
     let requests_same : SameRequests w after = requests_move ms w after event h steps in
