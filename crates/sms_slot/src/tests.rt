@@ -54,22 +54,23 @@ fn want_in_ring(
 #[test]
 fn a_late_answer_is_unknown(rt: HostRuntime) -> Result<(), Fail> {
     let (mut producers, mut consumers) = rings(rt.alloc(), 2)?;
-    let late = reply_to(&rt, 5);
-    let reply = reply_to(&rt, 6);
     let mut slot = Slot::Empty;
     assert_eq!(rt; slot.post(1, 5), Ok(()));
     assert_eq!(rt; slot.expire(5), Expired::Done);
     assert_eq!(rt; slot.post(1, 6), Ok(()));
-    assert_eq!(rt; slot.answer(late, &mut producers), Answer::Unknown);
     assert_eq!(rt;
-        slot.answer(reply, &mut producers),
+        slot.answer(reply_to(&rt, 5), &mut producers),
+        Answer::Unknown
+    );
+    assert_eq!(rt;
+        slot.answer(reply_to(&rt, 6), &mut producers),
         Answer::Matched { worker: 1 }
     );
     assert_eq!(rt; slot.take(6), Taken::Got);
     assert_eq!(rt; slot.take(6), Taken::Unknown);
     assert_eq!(rt; slot, Slot::Empty);
     want_in_ring(&rt, &mut consumers, 0, &[]);
-    want_in_ring(&rt, &mut consumers, 1, &[reply]);
+    want_in_ring(&rt, &mut consumers, 1, &[reply_to(&rt, 6)]);
     Ok(())
 }
 
@@ -77,25 +78,23 @@ fn a_late_answer_is_unknown(rt: HostRuntime) -> Result<(), Fail> {
 #[test]
 fn an_overrun_leaves_the_request_waiting(rt: HostRuntime) -> Result<(), Fail> {
     let (mut producers, mut consumers) = rings(rt.alloc(), 1)?;
-    let filler = reply_to(&rt, 4);
-    let reply = reply_to(&rt, 5);
     for _ in 0..64 {
         let Some(producer) = producers.first_mut() else {
             panic!(rt; "no ring")
         };
-        assert!(rt; producer.push(filler).is_ok());
+        assert!(rt; producer.push(reply_to(&rt, 4)).is_ok());
     }
     for worker in [0, 1] {
         let mut slot = Slot::Empty;
         assert_eq!(rt; slot.post(worker, 5), Ok(()));
         assert_eq!(rt;
-            slot.answer(reply, &mut producers),
+            slot.answer(reply_to(&rt, 5), &mut producers),
             Answer::Overrun { worker }
         );
         assert_eq!(rt; slot, Slot::Waiting { worker, number: 5 });
         assert_eq!(rt; slot.expire(5), Expired::Done);
     }
-    want_in_ring(&rt, &mut consumers, 0, &[filler; 64]);
+    want_in_ring(&rt, &mut consumers, 0, &[reply_to(&rt, 4); 64]);
     Ok(())
 }
 
@@ -162,24 +161,25 @@ fn every_slot_of_a_row(rt: HostRuntime) -> Result<(), Fail> {
     for number in 0u32..32 {
         let slot = number * 2;
         let worker = slot as usize;
-        let reply = reply_to(&rt, number);
-        let found = row.answer(&rt, reply, &mut producers);
+        let found = row.answer(&rt, reply_to(&rt, number), &mut producers);
         assert_eq!(rt; found, Search::Found { slot, worker });
         assert_eq!(rt; row.take(&rt, slot, number), Taken::Got);
         assert_eq!(rt; row.expire(&rt, slot + 1, number), Expired::Done);
-        assert_eq!(rt; row.answer(&rt, reply, &mut producers), Search::Unknown);
-        want_in_ring(&rt, &mut consumers, worker, &[reply]);
+        assert_eq!(rt;
+            row.answer(&rt, reply_to(&rt, number), &mut producers),
+            Search::Unknown
+        );
+        want_in_ring(&rt, &mut consumers, worker, &[reply_to(&rt, number)]);
         want_in_ring(&rt, &mut consumers, worker + 1, &[]);
     }
-    let last = reply_to(&rt, 64);
     assert_eq!(rt; row.post(&rt, 63, 9, 64), Ok(()));
     assert_eq!(rt;
-        row.answer(&rt, last, &mut producers),
+        row.answer(&rt, reply_to(&rt, 64), &mut producers),
         Search::Found {
             slot: 63,
             worker: 9
         }
     );
-    want_in_ring(&rt, &mut consumers, 9, &[last]);
+    want_in_ring(&rt, &mut consumers, 9, &[reply_to(&rt, 64)]);
     Ok(())
 }

@@ -20,7 +20,9 @@ fn answer_some<R: Wait>(
     producers: &mut [Producer<Reply>],
 ) -> Search {
     for _ in 0..TRIES {
-        let search = row.answer(rt, reply, producers);
+        // Each turn has a copy of its own, or the borrow checker takes the reply for moved.
+        let this = reply;
+        let search = row.answer(rt, this, producers);
         if search != Search::Unknown {
             return search;
         }
