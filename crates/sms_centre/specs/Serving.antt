@@ -72,13 +72,14 @@ is_early Lost = false
 is_early ReadFault = false
 is_early Turns = false
 
--- what each cause tells: whether a frame brought the end, and else what stands behind the frames
+-- what each cause tells: whether a frame brought the end, and else what stands behind the frames, where the rest is bad
+-- exactly where the connection is lost
 abbrev pub Brings : Cause → Option Cause → List ℕ → Option (List ℕ) → Type 0
-Brings Ended over rest after = (over ≡ Some Ended) ⊎ ((over ≡ None) × IsAtEnd after)
+Brings Ended over rest after = (over ≡ Some Ended) ⊎ ((over ≡ None) × IsAtEnd after × (¬ IsBad rest))
 Brings Unbound over rest after = over ≡ Some Unbound
 Brings Lost over rest after = (over ≡ None) × IsBad rest
-Brings ReadFault over rest after = over ≡ None
-Brings Turns over rest after = over ≡ None
+Brings ReadFault over rest after = (over ≡ None) × (¬ IsBad rest)
+Brings Turns over rest after = (over ≡ None) × (¬ IsBad rest)
 Brings WriteFault over rest after = Unit {0}
 Brings OutOfMemory over rest after = Unit {0}
 

@@ -2,11 +2,11 @@
 
 ghost use Rattle.std.specs.Prelude.{◌≡◌, ◌≢◌, ℕ, ◌≤◌, ◌∷◌, [], List, length, drop, Some, None, IfOk, IfSome, OnErr};
 ghost use Rattle.std.specs.Io.KnownBytes.{IsAtEnd};
-ghost use Rattle.sms_pdu.specs.Frame.{IsFrame, IsRest};
+ghost use Rattle.sms_pdu.specs.Frame.{IsFrame, IsRest, IsBad};
 ghost use Rattle.sms_pdu.specs.Streams.{Went, Reads, Leaves, early};
 ghost use Rattle.sms_centre.specs.Says.{begun};
 ghost use Rattle.sms_centre.specs.Serving.{Serves, end_at as brought_by, hangs_up as hung_up_by};
-ghost use Rattle.sms_centre.specs.Stops.{cause_of as cause_of_stop, brought, stretch_of, gives_nothing, Answered, Written};
+ghost use Rattle.sms_centre.specs.Stops.{cause_of as cause_of_stop, brought, stretch_of, gives_nothing, Awaits, Answered, Written};
 ghost use Rattle.std.specs.IoError.{error_kind};
 ghost use Rattle.sms_centre.specs.declared.serving.Stop.TheVariants.{Ended};
 
@@ -146,7 +146,7 @@ impl Centre {
         writer: &mut W,
         turns: u64,
     ) -> Stop
-        ensures reads { Reads (Written self.old self.new (Some result) (W.contents writer.old) (W.contents writer.new)) [] (R.remaining reader.old) (R.remaining reader.new) (stretch_of (Some result)) [] }
+        ensures served { (held : List ℕ) × Reads (Written self.old self.new (Some result) (W.contents writer.old) (W.contents writer.new)) [] (R.remaining reader.old) (R.remaining reader.new) (stretch_of (Some result)) held × Awaits (Some result) held }
         ensures end { result ≡ Ended → IsAtEnd (R.remaining reader.new) }
     {
         let Ok(mut buffers) = Buffers::new(alloc) else {
@@ -170,7 +170,9 @@ impl Centre {
     ) -> Option<Stop>
         requires piece { length buffers.old.piece.items ≡ 65536 }
         requires rest { IsRest buffers.old.held.items }
+        requires good { ¬ IsBad buffers.old.held.items }
         ensures reads { Reads (Written self.old self.new result (W.contents writer.old) (W.contents writer.new)) buffers.old.held.items (R.remaining reader.old) (R.remaining reader.new) (stretch_of result) buffers.new.held.items }
+        ensures awaits { Awaits result buffers.new.held.items }
         ensures piece { length buffers.new.piece.items ≡ 65536 }
         ensures end { result ≡ Some Ended → IsAtEnd (R.remaining reader.new) }
     {
@@ -201,6 +203,7 @@ impl Centre {
         buffers: &mut Buffers,
     ) -> Option<Stop>
         ensures went { (left : List ℕ) × Went (Written self.old self.new result (W.contents writer.old) (W.contents writer.new)) buffers.old.held.items left × Leaves (stretch_of result) left buffers.new.held.items }
+        ensures awaits { Awaits result buffers.new.held.items }
         ensures piece { buffers.new.piece.items ≡ buffers.old.piece.items }
         ensures cause { result ≢ Some Ended }
     {

@@ -10,13 +10,14 @@ pub returns-in-Ok : goal.returns-in-Ok
 returns-in-Ok g c =
     let q = c.serve_turns-stop.new.self in
     let why = c.serve_turns-stop.result in
+    let held = c.serve_turns-stop.ensures.served.0 in
     let r = g.R.Read.remaining c.args.reader.now in
     let t = g.R.Read.remaining c.serve_turns-stop.new.reader in
     let a = g.W.Write.contents c.args.writer.now in
     let b = g.W.Write.contents c.serve_turns-stop.new.writer in
     subst (λ (p : Progress). Serves p r t a b c.cause_of.result c.submits.result) c.in-Ok.ensures
     (subst (λ (k : Cause). Serves c.in-Ok.centre r t a b k c.submits.result) (sym c.cause_of.ensures)
-    (subst (λ (n : ℕ). Serves c.in-Ok.centre r t a b (cause_of why) n) (sym c.submits.ensures) (serves c.in-Ok.centre q why r t a b c.serve_turns-stop.ensures.reads c.serve_turns-stop.ensures.end)))
+    (subst (λ (n : ℕ). Serves c.in-Ok.centre r t a b (cause_of why) n) (sym c.submits.ensures) (serves c.in-Ok.centre q why held r t a b c.serve_turns-stop.ensures.served.1 c.serve_turns-stop.ensures.served.2 c.serve_turns-stop.ensures.end)))
 
 pub returns-in-Err : goal.returns-in-Err
 returns-in-Err g c = serves_none (begun c.args.script) (g.R.Read.remaining c.args.reader.now) (g.W.Write.contents c.args.writer.now)

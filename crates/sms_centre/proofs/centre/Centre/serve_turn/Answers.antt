@@ -1,5 +1,5 @@
 use Rattle.std.proofs.Common.{◌++◌, take, None, Some, refl}
-use Rattle.sms_pdu.specs.Streams.{early, going, complete}
+use Rattle.sms_pdu.specs.Streams.{early, going}
 use Rattle.sms_pdu.proofs.Streams.{reads_none, reads_once, went_none, consumes_nothing}
 use Rattle.sms_centre.specs.declared.serving.Stop.TheVariants.{OutOfMemory, ReadFault}
 use Rattle.sms_centre.specs.Stops.{Written}
@@ -26,4 +26,4 @@ returns-else-gave_nothing-clause-reads g c =
     let p = c.args.self.now in
     let w = g.W.Write.contents c.args.writer.now in
     let held = c.args.buffers.now.held.items in
-    reads_none (Written p p (Some ReadFault) w w) held held _ _ complete (written_none p (Some ReadFault) w refl) (consumes_nothing _ _ c.in-Err.ensures.bytes) c.requires.rest
+    reads_none (Written p p (Some ReadFault) w w) held held _ _ going (written_none p (Some ReadFault) w refl) (consumes_nothing _ _ c.in-Err.ensures.bytes) (c.requires.rest, refl)

@@ -2,18 +2,18 @@ use Rattle.std.proofs.Common.{◌≡◌, [], None, Some, refl, ap, rules, arith,
 use Rattle.std.proofs.KnownBytes.{Consumes-nil}
 use Rattle.sms_pdu.specs.Frame.{IsRest}
 use Rattle.sms_pdu.specs.Streams.{early, going}
-use Rattle.sms_pdu.proofs.Streams.{reads_none, reads_more, reads_ended, reads_rest}
+use Rattle.sms_pdu.proofs.Streams.{reads_none, reads_more, reads_rest}
 use Rattle.sms_centre.specs.declared.serving.Stop.TheVariants.{OutOfMemory}
 use Rattle.sms_centre.specs.Stops.{Written, stretch_of}
-use Rattle.sms_centre.proofs.Talks.{written_none, written_more, leaves_end}
+use Rattle.sms_centre.proofs.Talks.{written_none, written_more, none_good, reads_turns}
 use Rattle.sms_centre.proofs.centre.Centre.serve_turns.Goals as goal
 
-pub returns-in_default-clause-reads : goal.returns-in_default-clause-reads
-returns-in_default-clause-reads g c =
+pub returns-in_default-clause-served : goal.returns-in_default-clause-served
+returns-in_default-clause-served g c =
     let p = c.args.self.now in
     let w = g.W.Write.contents c.args.writer.now in
     let r = g.R.Read.remaining c.args.reader.now in
-    reads_none (Written p p (Some OutOfMemory) w w) [] [] r r early (written_none p (Some OutOfMemory) w refl) (Consumes-nil r) tt
+    ([], reads_none (Written p p (Some OutOfMemory) w w) [] [] r r early (written_none p (Some OutOfMemory) w refl) (Consumes-nil r) tt, tt)
 
 pub loop-turn-init : goal.loop-turn-init
 loop-turn-init g c =
@@ -24,6 +24,7 @@ loop-turn-init g c =
     let short : IsRest [] = inl (omega arith) in
     record {
       reads = reads_none (Written p p None w w) [] c.in-Ok.buffers.held.items r r going (written_none p None w refl) (Consumes-nil r) (short, none);
+      good = none_good c.in-Ok.buffers.held.items none;
       piece = search rules;
     }
 
@@ -31,8 +32,8 @@ pub serve_turn-requires-clause-rest : goal.serve_turn-requires-clause-rest
 serve_turn-requires-clause-rest g c =
     reads_rest (Written c.args.self.now c.loop-turn.self None (g.W.Write.contents c.args.writer.now) (g.W.Write.contents c.loop-turn.writer)) [] c.loop-turn.buffers.held.items (g.R.Read.remaining c.args.reader.now) (g.R.Read.remaining c.loop-turn.reader) c.loop-turn.invariant.reads
 
-pub returns-in-Some-clause-reads : goal.returns-in-Some-clause-reads
-returns-in-Some-clause-reads g c =
+pub returns-in-Some-clause-served : goal.returns-in-Some-clause-served
+returns-in-Some-clause-served g c =
     let p = c.args.self.now in
     let q = c.loop-turn.self in
     let z = c.serve_turn.new.self in
@@ -44,9 +45,7 @@ returns-in-Some-clause-reads g c =
     let t = g.R.Read.remaining c.serve_turn.new.reader in
     let why = Some c.in-Some.stop in
     let kept = c.serve_turn.new.buffers.held.items in
-    reads_ended (Written p z why u w) [] kept [] r t (stretch_of why)
-    (reads_more (Written p q None u v) (Written q z why v w) (Written p z why u w) [] c.loop-turn.buffers.held.items kept r s t (stretch_of why) c.loop-turn.invariant.reads c.in-Some.ensures.reads (written_more p q z why u v w))
-    (λ left. leaves_end c.in-Some.stop left kept)
+    (kept, reads_more (Written p q None u v) (Written q z why v w) (Written p z why u w) [] c.loop-turn.buffers.held.items kept r s t (stretch_of why) c.loop-turn.invariant.reads c.in-Some.ensures.reads (written_more p q z why u v w), c.in-Some.ensures.awaits)
 
 pub returns-in-Some-clause-end : goal.returns-in-Some-clause-end
 returns-in-Some-clause-end g c = λ e. c.in-Some.ensures.end (ap (λ x. Some x) e)
@@ -65,5 +64,15 @@ loop-turn-preserved g c =
     let kept = c.serve_turn.new.buffers.held.items in
     record {
       reads = reads_more (Written p q None u v) (Written q z None v w) (Written p z None u w) [] c.loop-turn.buffers.held.items kept r s t going c.loop-turn.invariant.reads c.in_default-serve_turn.ensures.reads (written_more p q z None u v w);
+      good = c.in_default-serve_turn.ensures.awaits;
       piece = c.serve_turn.ensures.piece;
     }
+
+pub returns-clause-served : goal.returns-clause-served
+returns-clause-served g c =
+    let held = c.loop-turn.buffers.held.items in
+    (
+      held,
+      reads_turns c.args.self.now c.loop-turn.self (g.R.Read.remaining c.args.reader.now) (g.R.Read.remaining c.loop-turn.reader) (g.W.Write.contents c.args.writer.now) (g.W.Write.contents c.loop-turn.writer) held c.loop-turn.invariant.reads,
+      c.loop-turn.invariant.good,
+    )
