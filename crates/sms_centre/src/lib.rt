@@ -19,6 +19,7 @@ mod treatment;
 
 pub use centre::Centre;
 pub use fuse::Fuse;
+pub use keys::strings_of;
 pub use pipe::{Pipe, PipeEnd};
 pub use said::Said;
 pub use script::{Script, ScriptError};
