@@ -46,7 +46,7 @@ told_put rules before received ms es k p m s others there mine j q m' s' mj at =
 ]
 
 result_put : (rules : Rules) (accounts : ℕ) (m : Message) (r : MessageResult) (p : ℕ) (s : SegmentEnd) → IsResultOf rules accounts m r → IsResultOf rules accounts m (put_in r p s)
-result_put rules accounts m (Sent ss) p s h = (h.0, h.1, length-set ss p s ∙ h.2)
+result_put rules accounts m (Sent ss) p s h = (h.0, h.1, h.2, length-set ss p s ∙ h.3)
 result_put rules accounts m (NotSent refusal) p s h = h
 
 pub ends_put : (rules : Rules) (accounts : ℕ) (ms : List Message) (es : List MessageEnd) (k p : ℕ) (s : SegmentEnd) → AreEnds rules accounts ms es → AreEnds rules accounts ms (put es k p s)

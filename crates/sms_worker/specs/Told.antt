@@ -73,12 +73,16 @@ abbrev pub IsKnown : ℕ → Option ℕ → Type 0
 IsKnown accounts None = ⊥
 IsKnown accounts (Some account) = account < accounts
 
+-- a header can count its parts
+abbrev pub IsShort : Rules → Message → Type 0
+IsShort rules m = ¬ IsTooLong (coded_text m) (reference_of rules m)
+
 -- what each refusal says of its message; they come in this order: NoAccount, BadAddress, TooLong, NoCredit
 abbrev pub IsRefusalOf : Rules → ℕ → Message → MessageRefusal → Type 0
 IsRefusalOf rules accounts m NoAccount = ¬ IsKnown accounts m.account
 IsRefusalOf rules accounts m BadAddress = IsKnown accounts m.account × ¬ HasAddresses m
 IsRefusalOf rules accounts m TooLong = IsKnown accounts m.account × HasAddresses m × IsTooLong (coded_text m) (reference_of rules m)
-IsRefusalOf rules accounts m NoCredit = IsKnown accounts m.account × HasAddresses m
+IsRefusalOf rules accounts m NoCredit = IsKnown accounts m.account × HasAddresses m × IsShort rules m
 IsRefusalOf rules accounts m BindClosed = Unit {0}
 IsRefusalOf rules accounts m OutOfMemory = Unit {0}
 
@@ -92,7 +96,7 @@ IsNotCut rules m NoCredit = ⊥
 IsNotCut rules m BindClosed = ⊥
 
 abbrev pub IsResultOf : Rules → ℕ → Message → MessageResult → Type 0
-IsResultOf rules accounts m (Sent segments) = IsKnown accounts m.account × HasAddresses m × (length segments ≡ length (message_parts rules m))
+IsResultOf rules accounts m (Sent segments) = IsKnown accounts m.account × HasAddresses m × IsShort rules m × (length segments ≡ length (message_parts rules m))
 IsResultOf rules accounts m (Refused refusal) = IsRefusalOf rules accounts m refusal
 
 -- an end for each message that was begun, in order

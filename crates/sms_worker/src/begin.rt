@@ -4,7 +4,7 @@ ghost use Rattle.sms_worker.specs.Begins.{ready, Begins};
 ghost use Rattle.sms_book.specs.Tariffs.{cost_of};
 ghost use Rattle.sms_segment.specs.Message.{IsTooLong};
 ghost use Rattle.sms_worker.specs.Submits.{HasAddresses, coded_text, message_parts, reference_of};
-ghost use Rattle.sms_worker.specs.Told.{AreParts, IsKnown, IsNotCut, IsRefusalOf, IsResultOf};
+ghost use Rattle.sms_worker.specs.Told.{AreParts, IsKnown, IsNotCut, IsRefusalOf, IsResultOf, IsShort};
 ghost use Rattle.std.specs.Prelude.{string_bytes};
 
 use crate::address::{destination, source};
@@ -56,6 +56,7 @@ fn reference_for(rules: &Rules, message: &Message) -> Reference
 /// The parts of a message.
 fn parts_for(alloc: Global, rules: &Rules, message: &Message) -> Result<Vec<Part>, MessageRefusal>
     ensures parts { IfOk result (λ parts. AreParts rules.now message.now parts.items) }
+    ensures short { OnOk result (IsShort rules.now message.now) }
     ensures refused { IfErr result (λ e. IsNotCut rules.now message.now e) }
 {
     let Ok(text) = choose(alloc, message.text.as_str()) else {
@@ -104,6 +105,7 @@ fn prepare(
     message: &Message,
 ) -> Result<(Texts, Vec<SegmentEnd>), MessageRefusal>
     ensures known { IfOk result (λ r. IsKnown accounts message.now.account × HasAddresses message.now) }
+    ensures short { OnOk result (IsShort rules.now message.now) }
     ensures parts { IfOk result (λ r. AreParts rules.now message.now r.0) }
     ensures ends { IfOk result (λ r. r.1.items ≡ ready (cost_of rules.now.tariff (string_bytes message.now.dest)) (length (message_parts rules.now message.now))) }
     ensures refused { IfErr result (λ e. IsRefusalOf rules.now accounts message.now e) }

@@ -1,4 +1,4 @@
-use Rattle.std.proofs.Common.{◌≡◌, ◌∙◌, Err, subst, rules}
+use Rattle.std.proofs.Common.{◌≡◌, ◌∙◌, Ok, Err, sym, subst, rules}
 use Rattle.sms_alphabet.specs.declared.coded.Coded.{Coded}
 use Rattle.sms_segment.specs.Message.{IsTooLong, parts_of}
 use Rattle.sms_segment.proofs.SizeLemmas.{parts_have_septets}
@@ -20,3 +20,11 @@ returns-in-Ok-cut-clause-parts c =
       c.in-Ok-cut.ensures.exact ∙ (λ i. parts_of (text i) (c.reference_for.ensures i)),
       parts_have_septets c.in-Ok.text c.reference_for.result c.in-Ok-cut.parts.items c.in-Ok.ensures.lawful c.in-Ok-cut.ensures.full,
     )
+
+pub returns-in-Ok-cut-clause-short : goal.returns-in-Ok-cut-clause-short
+returns-in-Ok-cut-clause-short c long =
+    let is : c.cut.result ≡ Ok c.in-Ok-cut.parts = cc in
+    let text : c.in-Ok.text ≡ coded_text c.args.message.now = search rules in
+    let here : IsTooLong (coded_text c.args.message.now) c.reference_for.result = subst (λ (r : Reference). IsTooLong (coded_text c.args.message.now) r) (sym c.reference_for.ensures) long in
+    let refused = c.cut.ensures.too_long.1 (subst (λ (t : Coded). IsTooLong t c.reference_for.result) (sym text) here) in
+    absurd (cc)
