@@ -73,7 +73,7 @@ held_named name is_out h slot ps w a stays held =
 
 -- marks
 
-empty_has : (request : ℕ) (slot : Slot) (answer : Option Reply) (mark : Mark) → slot ≡ Empty → HasMark request slot answer mark → mark ≡ MarkEmpty
+pub empty_has : (request : ℕ) (slot : Slot) (answer : Option Reply) (mark : Mark) → slot ≡ Empty → HasMark request slot answer mark → mark ≡ MarkEmpty
 empty_has request slot answer mark e m = subst (λ (s : Slot). HasMark request s answer mark) e m
 
 has_empty : (request : ℕ) (slot : Slot) (answer : Option Reply) (mark : Mark) → slot ≡ Empty → mark ≡ MarkEmpty → HasMark request slot answer mark
@@ -101,7 +101,7 @@ some_waits (m ∷ ms) zero request number e =
 some_waits (m ∷ ms) (suc slot) request number e = or_true (waits_for number m) (some_waits_for number ms) (some_waits ms slot request number e)
 
 -- what a mark tells
-abbrev request_in : Mark → ℕ
+abbrev pub request_in : Mark → ℕ
 request_in MarkEmpty = 0
 request_in (MarkOpen r n) = r
 request_in (Replied r n s k) = r
@@ -116,7 +116,7 @@ nack_in MarkEmpty = false
 nack_in (MarkOpen r n) = false
 nack_in (Replied r n s k) = k
 
-some_same : {X : Type 0} (x y : X) → Some x ≡ Some y → x ≡ y
+pub some_same : {X : Type 0} (x y : X) → Some x ≡ Some y → x ≡ y
 some_same x y e = cc
 
 -- phases
@@ -126,7 +126,7 @@ given_is [] e = cc
 given_is (x ∷ xs) e = cc
 
 -- a segment that waits isn't settled as one that was sent and not answered
-not_sent : (most : ℕ) (s : SegmentEnd) → IsWaiting most s → IsSettled most s → s.outcome ≡ Unanswered → ⊥
+pub not_sent : (most : ℕ) (s : SegmentEnd) → IsWaiting most s → IsSettled most s → s.outcome ≡ Unanswered → ⊥
 not_sent most s w h e =
     let given = given_state s (record { cost = s.cost; attempts = s.attempts; outcome = given_outcome s.attempts }) refl refl most w in
     given_is s.attempts (sym given.outcome ∙ h.outcome ∙ ap phase_of e)

@@ -6,6 +6,7 @@ pub mod EndLemmas
 pub mod EndsOf
 pub mod Events
 pub mod Keeping
+pub mod Leaving
 pub mod Submits
 pub mod Sweeping
 pub mod Tries

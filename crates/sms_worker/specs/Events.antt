@@ -1,6 +1,6 @@
 -- The changes of one attempt as parts of the core's events. What a worker, its window, its slot, its ring and the book have
 -- of one segment stands for what a world has of one request; each change of it is the same change as an event's that is
--- done. One thing is no event: a segment whose slot is answered when the turns run out stays unanswered.
+-- done. One thing is no event: a segment whose slot is answered at the end of a call, and which is left without its answer.
 use Rattle.std.specs.Prelude.{◌≡◌, ℕ, ◌<◌, ◌≤◌, Bool, false, List, [], ◌∷◌, ◌++◌, length, Option, Some, None}
 use Rattle.sms_core.specs.declared.event.Event.{Event}
 use Rattle.sms_core.specs.declared.event.Event.TheVariants.{Claim, Post, Respond, Settle, Expire, Discard, Release}
@@ -186,6 +186,14 @@ pub record ReleasesSlot (x : Sender) (p q : Parts) : Type 0 where
   pub releases : Releases p.pairs x.seat x.slot q.pairs
   pub rest : q ≡ record p { pairs = q.pairs }
 
+-- the slot is answered and the answer wasn't seen: it is taken without that, and the segment stays without an answer
+pub record IsLeft (x : Sender) (p q : Parts) : Type 0 where
+  pub number : ℕ
+  pub takes : slots.Takes number p.slot Got q.slot
+  pub settled : IsSettled x.most p.segment
+  pub unanswered : p.segment.outcome ≡ Unanswered
+  pub rest : q ≡ record p { slot = q.slot; answer = None }
+
 -- the event is done, and leaves a world for which the changed parts stand
 pub record IsEvent (x : Sender) (w : State) (event : Event) (q : Parts) : Type 0 where
   pub after : State
@@ -226,3 +234,8 @@ GivingUpIsEvent = (ms : List Moment) (w : State) (x : Sender) (p q : Parts) → 
 abbrev pub ReleaseIsEvent : Type 0
 ReleaseIsEvent = (ms : List Moment) (w : State) (x : Sender) (p q : Parts) → FromStart ms w → StandFor x p w → ReleasesSlot x p q
     → IsEvent x w (Release (x.name x.seat) x.slot) q
+
+-- what is left is left by no event that is done
+abbrev pub LeavingIsNoEvent : Type 0
+LeavingIsNoEvent = (ms : List Moment) (w : State) (x : Sender) (p q : Parts) (event : Event) → FromStart ms w → StandFor x p w → IsLeft x p q
+    → ¬ IsEvent x w event q

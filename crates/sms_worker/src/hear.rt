@@ -53,13 +53,13 @@ impl<N: BookName, C: Call> Run<N, C> {
         requires heard { HeardSince (length C.start.received) self.old.heard reply }
         ensures heard { self.new.heard ≡ self.old.heard }
     {
-        let Some(i) = find(self.open.as_slice(), reply.number) else {
+        let Some(i) = find(self.opened.as_slice(), reply.number) else {
             return;
         };
-        if i >= self.open.len() {
+        if i >= self.opened.len() {
             return;
         }
-        let open = self.open[i];
+        let open = self.opened[i];
         if desk.line.slots.take(desk.rt, open.slot, open.number) != Taken::Got {
             return;
         }
@@ -121,10 +121,10 @@ impl<N: BookName, C: Call> Run<N, C> {
         requires window { desk.now.window.now ≡ C.start.seat.window }
         ensures heard { self.new.heard ≡ self.old.heard }
     {
-        if i >= self.open.len() {
+        if i >= self.opened.len() {
             return false;
         }
-        let open = self.open[i];
+        let open = self.opened[i];
         if desk.line.slots.expire(desk.rt, open.slot, open.number) == Expired::Answered {
             return false;
         }

@@ -11,6 +11,7 @@ ghost use Rattle.sms_worker.specs.Events.{
   ExpiryIsEvent,
   GivingUpIsEvent,
   ReleaseIsEvent,
+  LeavingIsNoEvent,
 };
 
 use rtrb::{Consumer, Producer};
@@ -36,7 +37,8 @@ pub fn received_is_prefix(producer: &mut Producer<Reply>, consumer: &mut Consume
 /// post and its place in the list are a Post, its answer is a Respond, what the answer decides is a
 /// Settle, an end of the wait an Expire, giving a segment up a Discard, and a release a Release. Each
 /// event is done, and what the worker has stands for the world after it, as it did for the world
-/// before. A segment whose slot is answered when the turns run out is left as unanswered, by no event.
+/// before. That a segment whose slot is answered at the end of a call is left without its answer is no
+/// event.
 pub fn an_attempt_is_events()
     ensures claims { ClaimIsEvent }
     ensures sends { SendingIsEvent }
@@ -45,4 +47,5 @@ pub fn an_attempt_is_events()
     ensures expires { ExpiryIsEvent }
     ensures gives_up { GivingUpIsEvent }
     ensures releases { ReleaseIsEvent }
+    ensures leaves { LeavingIsNoEvent }
 {}

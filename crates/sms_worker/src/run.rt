@@ -14,14 +14,14 @@ use std::marker::{Model, PhantomData};
 use std::snapshot::Snapshot;
 
 /// What a worker has: its messages and what became of those that it began, and what it sends with.
-/// `open`, `queues` and `next` say where to look; what they say is checked against the ends.
+/// `opened`, `queues` and `next` say where to look; what they say is checked against the ends.
 /// Contracts see the replies that it has heard.
 #[derive(Drop)]
 pub struct Run<N: BookName, C: Call> {
     pub messages: Vec<Message>,
     pub ends: Vec<MessageEnd>,
     pub texts: Vec<Texts>,
-    pub open: Vec<Open>,
+    pub opened: Vec<Open>,
     /// The segments that are to be sent again.
     pub queues: Queues,
     /// The part of the last message begun that is sent next.
@@ -43,6 +43,6 @@ impl<N: BookName, C: Call> Model for Run<N, C> {
 
     ghost view = { λ r. record { heard = received r.heard.value; ends = r.ends.items } };
 
-    ghost invariant = { λ r. Keeps C.start r.messages.items r.ends.items r.texts.items r.open.items r.seat r.shares (received r.heard.value)
+    ghost invariant = { λ r. Keeps C.start r.messages.items r.ends.items r.texts.items r.opened.items r.seat r.shares (received r.heard.value)
         × (vec_len r.messages ≤ vec_capacity r.ends) × (vec_len r.messages ≤ vec_capacity r.texts) };
 }

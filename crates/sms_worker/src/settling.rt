@@ -214,7 +214,7 @@ impl<N: BookName, C: Call> Run<N, C> {
             return Tried::Never;
         }
         let part = &parts[place.part];
-        if self.open.len() >= self.open.capacity() {
+        if self.opened.len() >= self.opened.capacity() {
             return Tried::Later;
         }
         let Some(segment) = take(desk.alloc, &mut self.ends, place) else {
@@ -233,7 +233,7 @@ impl<N: BookName, C: Call> Run<N, C> {
         let tried = start(
             desk,
             &mut self.seat,
-            &mut self.open,
+            &mut self.opened,
             place,
             message,
             part,
@@ -253,10 +253,10 @@ impl<N: BookName, C: Call> Run<N, C> {
         requires window { desk.now.window.now ≡ C.start.seat.window }
         ensures heard { self.new.heard ≡ self.old.heard }
     {
-        if i >= self.open.len() {
+        if i >= self.opened.len() {
             return;
         }
-        let open = self.open.remove(i);
+        let open = self.opened.remove(i);
         desk.window.release(&mut self.seat, open.slot);
     }
 

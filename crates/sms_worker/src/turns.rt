@@ -132,7 +132,7 @@ impl<N: BookName, C: Call> Run<N, C> {
         let depth = desk.rules.depth as usize;
         let mut any = false;
         for _ in 0..MOST_STARTS {
-            if self.open.len() >= depth {
+            if self.opened.len() >= depth {
                 return any;
             }
             match self.start_one(desk, now_ms) {
@@ -153,10 +153,10 @@ impl<N: BookName, C: Call> Run<N, C> {
         let mut i = 0;
         let mut any = false;
         for _ in 0u32..64 {
-            if i >= self.open.len() {
+            if i >= self.opened.len() {
                 return any;
             }
-            let open = self.open[i];
+            let open = self.opened[i];
             if !down && now_ms.saturating_sub(open.since_ms) < limit {
                 return any;
             }
@@ -171,7 +171,7 @@ impl<N: BookName, C: Call> Run<N, C> {
 
     // Whether nothing is left to do.
     fn is_done(&self, down: bool) -> bool {
-        if !self.open.is_empty() {
+        if !self.opened.is_empty() {
             return false;
         }
         if down {

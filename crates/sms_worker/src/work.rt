@@ -50,21 +50,27 @@ pub struct WorkerEnd<N: BookName> {
     pub ends: Vec<MessageEnd>,
 }
 
-// Gives back whatever slots are open still.
-fn release_all(window: &Window, seat: &mut WindowSeat, mut opened: Vec<Open>)
-    requires own { seat.old.window ≡ window.now }
+// Gives back whatever slots are open still. Each was answered, and the ring didn't show its answer: it
+// is taken without that.
+fn release_all<N: BookName, W, G, K, R: Wait>(
+    desk: &Desk<N, W, G, K, R>,
+    seat: &mut WindowSeat,
+    mut opened: Vec<Open>,
+)
+    requires own { seat.old.window ≡ desk.now.window.now }
     requires open { (base : ℕ) × IsOpen base (slots_of opened.items) seat.old.view.slots }
     ensures window { seat.new.window ≡ seat.old.window }
     ensures slots { (base : ℕ) → IsOpen base (slots_of opened.items) seat.old.view.slots → seat.new.view.slots ≡ base }
     ensures numbers { HasDrawn seat.old.view [] seat.new.view }
 {
     while let Some(last) = opened.pop() {
-        window.release(seat, last.slot);
+        desk.line.slots.take(desk.rt, last.slot, last.number);
+        desk.window.release(seat, last.slot);
     }
 }
 
 // Ends a run.
-fn into_end<N: BookName, W, G, K, R, C: Call>(
+fn into_end<N: BookName, W, G, K, R: Wait, C: Call>(
     desk: &Desk<N, W, G, K, R>,
     run: Run<N, C>,
     consumer: Consumer<Reply>,
@@ -84,10 +90,10 @@ fn into_end<N: BookName, W, G, K, R, C: Call>(
         ends,
         mut seat,
         shares,
-        open,
+        opened,
         ..
     } = run;
-    release_all(desk.window, &mut seat, open);
+    release_all(desk, &mut seat, opened);
     WorkerEnd {
         seat,
         shares,
@@ -101,17 +107,21 @@ fn into_end<N: BookName, W, G, K, R, C: Call>(
 struct Lists {
     ends: Vec<MessageEnd>,
     texts: Vec<Texts>,
-    open: Vec<Open>,
+    opened: Vec<Open>,
 }
 
 fn grow(alloc: Global, messages: usize, depth: usize) -> Result<Lists, AllocError>
-    ensures empty { IfOk result (λ l. (l.ends.items ≡ []) × (l.texts.items ≡ []) × (l.open.items ≡ [])) }
+    ensures empty { IfOk result (λ l. (l.ends.items ≡ []) × (l.texts.items ≡ []) × (l.opened.items ≡ [])) }
     ensures room { IfOk result (λ l. (messages ≤ vec_capacity l.ends) × (messages ≤ vec_capacity l.texts)) }
 {
     let ends = Vec::with_capacity(alloc, messages)?;
     let texts = Vec::with_capacity(alloc, messages)?;
-    let open = Vec::with_capacity(alloc, depth)?;
-    Ok(Lists { ends, texts, open })
+    let opened = Vec::with_capacity(alloc, depth)?;
+    Ok(Lists {
+        ends,
+        texts,
+        opened,
+    })
 }
 
 fn work<N: BookName, W: Write, G: Gate, K: Clock, P: Pause, R: Wait, C: Call>(
@@ -127,7 +137,7 @@ fn work<N: BookName, W: Write, G: Gate, K: Clock, P: Pause, R: Wait, C: Call>(
     requires seat { worker.seat ≡ C.start.seat }
     requires share { worker.shares ≡ C.start.share }
     requires received { received worker.consumer ≡ C.start.received }
-    requires empty { (lists.ends.items ≡ []) × (lists.texts.items ≡ []) × (lists.open.items ≡ []) }
+    requires empty { (lists.ends.items ≡ []) × (lists.texts.items ≡ []) × (lists.opened.items ≡ []) }
     requires room { (vec_len messages ≤ vec_capacity lists.ends) × (vec_len messages ≤ vec_capacity lists.texts) }
     ensures each { AllZip (IsEndOf C.start.rules (length C.start.share.amounts)) C.start.messages result.ends.items }
     ensures told { AllTold C.start.rules (length C.start.received) (received result.consumer) C.start.messages result.ends.items }
@@ -146,14 +156,18 @@ fn work<N: BookName, W: Write, G: Gate, K: Clock, P: Pause, R: Wait, C: Call>(
         consumer,
         ..
     } = worker;
-    let Lists { ends, texts, open } = lists;
+    let Lists {
+        ends,
+        texts,
+        opened,
+    } = lists;
     let heard = Snapshot::of(&consumer);
     let mut consumer = consumer;
     let mut run: Run<N, C> = Run {
         messages,
         ends,
         texts,
-        open,
+        opened,
         queues: Queues::none(),
         next: 0,
         seat,

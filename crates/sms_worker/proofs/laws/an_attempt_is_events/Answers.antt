@@ -1,4 +1,5 @@
 use Rattle.sms_worker.proofs.Events.{claim_is_event, sending_is_event, answer_is_event, decision_is_event, expiry_is_event, giving_up_is_event, release_is_event}
+use Rattle.sms_worker.proofs.Leaving.{leaving_is_no_event}
 use Rattle.sms_worker.proofs.laws.an_attempt_is_events.Goals as goal
 
 pub returns-clause-claims : goal.returns-clause-claims
@@ -21,3 +22,6 @@ returns-clause-gives_up c = giving_up_is_event
 
 pub returns-clause-releases : goal.returns-clause-releases
 returns-clause-releases c = release_is_event
+
+pub returns-clause-leaves : goal.returns-clause-leaves
+returns-clause-leaves c = leaving_is_no_event

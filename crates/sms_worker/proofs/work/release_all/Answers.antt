@@ -8,15 +8,21 @@ use Rattle.sms_worker.specs.Keeps.{slots_of}
 use Rattle.sms_worker.proofs.Changes.{slots-append}
 use Rattle.sms_worker.proofs.work.release_all.Goals as goal
 
+pub take-requires : goal.take-requires
+take-requires g c =
+    let i = c.loop-last.invariant in
+    let o = subst (λ (l : List ℕ). IsOpen i.some.0 l c.loop-last.seat.view.slots) (ap slots_of c.in-Some.ensures.items ∙ slots-append c.pop.new.self.items c.in-Some.last) i.some.1 in
+    record { slot = (one_last i.some.0 c.loop-last.seat.view.slots c.in-Some.last.slot (slots_of c.pop.new.self.items) o).0 }
+
 pub release-requires-clause-held : goal.release-requires-clause-held
-release-requires-clause-held c =
+release-requires-clause-held g c =
     let i = c.loop-last.invariant in
     let o = subst (λ (l : List ℕ). IsOpen i.some.0 l c.loop-last.seat.view.slots) (ap slots_of c.in-Some.ensures.items ∙ slots-append c.pop.new.self.items c.in-Some.last) i.some.1 in
     let t = one_last i.some.0 c.loop-last.seat.view.slots c.in-Some.last.slot (slots_of c.pop.new.self.items) o in
     (t.0, t.1)
 
 pub loop-last-preserved : goal.loop-last-preserved
-loop-last-preserved c =
+loop-last-preserved g c =
     let i = c.loop-last.invariant in
     let after = c.release.ensures.freed.after in
     let moved = λ (base : ℕ) (o : IsOpen base (slots_of c.loop-last.opened.items) c.loop-last.seat.view.slots).
@@ -30,7 +36,7 @@ loop-last-preserved c =
     }
 
 pub returns-clause-slots : goal.returns-clause-slots
-returns-clause-slots c base o =
+returns-clause-slots g c base o =
     let i = c.loop-last.invariant in
     let nothing_left : c.loop-last.opened.items ≡ [] = search rules in
     none_left base c.loop-last.seat.view.slots (subst (λ (l : List Open). IsOpen base (slots_of l) c.loop-last.seat.view.slots) nothing_left (i.all base o))

@@ -5,7 +5,7 @@ use Rattle.sms_worker.specs.Keeps.{slots_of}
 use Rattle.sms_worker.proofs.work.release_all.Given as goal
 
 abbrev pub invariant-loop-last : goal.invariant-loop-last
-invariant-loop-last l = record {
+invariant-loop-last g l = record {
   own : l.seat.window ≡ l.initial.seat.window;
   some : (base : ℕ) × IsOpen base (slots_of l.opened.items) l.seat.view.slots;
   all : (base : ℕ) → IsOpen base (slots_of l.initial.opened.items) l.initial.seat.view.slots → IsOpen base (slots_of l.opened.items) l.seat.view.slots;
@@ -13,4 +13,4 @@ invariant-loop-last l = record {
 }
 
 abbrev pub decreases-loop-last : goal.decreases-loop-last
-decreases-loop-last l = vec_len l.opened
+decreases-loop-last g l = vec_len l.opened

@@ -9,15 +9,15 @@ use Rattle.sms_worker.proofs.run.Run.close.Goals as goal
 pub release-requires-clause-held : goal.release-requires-clause-held
 release-requires-clause-held g c =
     let i = c.self.invariant in
-    let low : c.args.i < length c.self.inside.open.items = search rules in
-    let at : slice_get c.self.inside.open.items c.args.i ≡ Some c.remove-open.result = slice_get-get_or c.self.inside.open.items c.args.i c.remove-open.result low ∙ ap Some (sym c.remove-open.ensures.value) in
-    let less = one_less_at (λ (x : Open). x.slot) _ _ c.self.inside.open.items c.args.i c.remove-open.result i.0.slots at in
+    let low : c.args.i < length c.self.inside.opened.items = search rules in
+    let at : slice_get c.self.inside.opened.items c.args.i ≡ Some c.remove-open.result = slice_get-get_or c.self.inside.opened.items c.args.i c.remove-open.result low ∙ ap Some (sym c.remove-open.ensures.value) in
+    let less = one_less_at (λ (x : Open). x.slot) _ _ c.self.inside.opened.items c.args.i c.remove-open.result i.0.slots at in
     (less.0, less.1)
 
 pub invariant_of-self : goal.invariant_of-self
 invariant_of-self g c =
     let i = c.self.invariant in
-    let low : c.args.i < length c.self.inside.open.items = search rules in
-    let at : slice_get c.self.inside.open.items c.args.i ≡ Some c.remove-open.result = slice_get-get_or c.self.inside.open.items c.args.i c.remove-open.result low ∙ ap Some (sym c.remove-open.ensures.value) in
-    let done = keeps_closed _ _ _ _ c.self.inside.open.items _ c.release.new.seat _ _ c.args.i c.remove-open.result i.0 at c.release.ensures.window c.release.ensures.freed in
+    let low : c.args.i < length c.self.inside.opened.items = search rules in
+    let at : slice_get c.self.inside.opened.items c.args.i ≡ Some c.remove-open.result = slice_get-get_or c.self.inside.opened.items c.args.i c.remove-open.result low ∙ ap Some (sym c.remove-open.ensures.value) in
+    let done = keeps_closed _ _ _ _ c.self.inside.opened.items _ c.release.new.seat _ _ c.args.i c.remove-open.result i.0 at c.release.ensures.window c.release.ensures.freed in
     (rw c.remove-open.ensures.items done, i.1, i.2)
