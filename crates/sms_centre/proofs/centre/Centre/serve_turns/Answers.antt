@@ -70,8 +70,7 @@ loop-turn-preserved g c =
 
 pub returns-clause-served : goal.returns-clause-served
 returns-clause-served g c =
-    let held = c.loop-turn.buffers.held.items in
-    (
+    let held = c.loop-turn.buffers.held.items in (
       held,
       reads_turns c.args.self.now c.loop-turn.self (g.R.Read.remaining c.args.reader.now) (g.R.Read.remaining c.loop-turn.reader) (g.W.Write.contents c.args.writer.now) (g.W.Write.contents c.loop-turn.writer) held c.loop-turn.invariant.reads,
       c.loop-turn.invariant.good,
