@@ -6,6 +6,7 @@ use std::test::Fail;
 
 mod devices;
 mod ends;
+mod memory;
 mod texts;
 
 // submit_sm number 2 of `Hi` from 12345 to 447700900123.
