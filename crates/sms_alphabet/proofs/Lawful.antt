@@ -42,4 +42,4 @@ units_fit_in Ucs2 units text is spelled =
 
 pub units_fit : (coded : Coded) → IsLawful coded
     → (coded.coding ≡ Gsm → All (λ unit. unit < 128) coded.units) × (coded.coding ≡ Ucs2 → All (λ unit. unit < 2 ^ 16) coded.units)
-units_fit coded lawful = units_fit_in coded.coding coded.units lawful.0 lawful.1 lawful.2
+units_fit coded lawful = units_fit_in coded.coding coded.units lawful.text lawful.is_text lawful.spells

@@ -13,7 +13,7 @@ use Rattle.sms_alphabet.proofs.Codes.{parts_of, continues, codes_not_empty, pair
 
 -- an empty list begins with a character's
 pub begins_not_empty : (units : List ℕ) → length units ≡ 0 → (c : ℕ) (rest : List ℕ) → BeginsWith units c rest → ⊥
-begins_not_empty [] none c rest begins = codes_not_empty c begins.0 rest begins.1 (sym begins.2)
+begins_not_empty [] none c rest begins = codes_not_empty c begins.codes rest begins.has (sym begins.starts)
 begins_not_empty (u ∷ units) none c rest begins = omega (arith, none)
 
 basic_at : (code : ℕ) (units : List ℕ) (c : ℕ) (codes rest : List ℕ) → code ≢ escape → ((c : ℕ) → codes_of c ≢ Some (code ∷ []))
@@ -53,15 +53,15 @@ shorter_at units c (k ∷ ks) rest is begins = omega (arith, ap length begins, l
 -- a code other than the escape begins with its own character alone
 pub begins_basic : (code : ℕ) (units : List ℕ) → code ≢ escape → ((c : ℕ) → codes_of c ≢ Some (code ∷ []))
     → (c : ℕ) (rest : List ℕ) → BeginsWith (code ∷ units) c rest → ⊥
-begins_basic code units other none c rest begins = basic_at code units c begins.0 rest other none begins.1 begins.2
+begins_basic code units other none c rest begins = basic_at code units c begins.codes rest other none begins.has begins.starts
 
 -- the escape begins with a character of the extension table alone
 pub begins_escaped : (code : ℕ) (units : List ℕ) → ((c : ℕ) → codes_of c ≢ Some (escape ∷ code ∷ []))
     → (c : ℕ) (rest : List ℕ) → BeginsWith (escape ∷ code ∷ units) c rest → ⊥
-begins_escaped code units none c rest begins = escaped_at code units c begins.0 rest none begins.1 begins.2
+begins_escaped code units none c rest begins = escaped_at code units c begins.codes rest none begins.has begins.starts
 
 pub begins_escape : (c : ℕ) (rest : List ℕ) → BeginsWith (escape ∷ []) c rest → ⊥
-begins_escape c rest begins = escape_at c begins.0 rest begins.1 begins.2
+begins_escape c rest begins = escape_at c begins.codes rest begins.has begins.starts
 
 -- what has been read: the text, and its codes
 pub record IsReadTo (units bytes rest : List ℕ) : Type 0 where
@@ -104,17 +104,17 @@ pub read_on : (units bytes left rest : List ℕ) (c : ℕ) → IsReadTo units by
 read_on units bytes left rest c held begins =
     record {
       text = held.text ++ c ∷ [];
-      codes = held.codes ++ begins.0;
-      is_text = text_more held.text c held.is_text (coded_is_scalar c begins.0 begins.1);
+      codes = held.codes ++ begins.codes;
+      is_text = text_more held.text c held.is_text (coded_is_scalar c begins.codes begins.has);
       bytes_are = ap (λ l. l ++ encode_utf8 c) held.bytes_are ∙ ap (λ l. encode_utf8_all held.text ++ l) (sym (append-nil (encode_utf8 c)))
           ∙ sym (encodes-append held.text (c ∷ []));
-      spelled = spelling_more held.text c held.codes begins.0 held.spelled begins.1;
-      units_are = held.units_are ∙ ap (λ l. held.codes ++ l) begins.2 ∙ sym (append_assoc held.codes begins.0 rest);
+      spelled = spelling_more held.text c held.codes begins.codes held.spelled begins.has;
+      units_are = held.units_are ∙ ap (λ l. held.codes ++ l) begins.starts ∙ sym (append_assoc held.codes begins.codes rest);
     }
 
 -- each character takes a code at least
 pub begins_shorter : (units : List ℕ) (c : ℕ) (rest : List ℕ) → BeginsWith units c rest → length rest < length units
-begins_shorter units c rest begins = shorter_at units c begins.0 rest begins.1 begins.2
+begins_shorter units c rest begins = shorter_at units c begins.codes rest begins.has begins.starts
 
 pub empty_rest : (rest : List ℕ) → length rest ≡ 0 → rest ≡ []
 empty_rest [] none = refl
@@ -132,7 +132,7 @@ more_begins [] rest is some none =
     some (ap length (sym empty))
 more_begins (c ∷ cs) rest is some none =
     let parts = parts_of (codes_of c) (gsm_spelling cs) rest is in
-    none c parts.later (parts.first, parts.first_is, sym parts.all_is)
+    none c parts.later record { codes = parts.first; has = parts.first_is; starts = sym parts.all_is }
 
 -- what is left begins with no character
 pub read_never : (units bytes rest : List ℕ) → IsReadTo units bytes rest → length rest ≢ 0

@@ -13,7 +13,7 @@ use Rattle.sms_alphabet.specs.Reading.{IsReading}
 pub exact : (coded : Coded) (told : Result (String Global) TextError) → IsReading coded.coding coded.units told
     → told ≢ Err OutOfMemory → IsOk told ↔ IsLawful coded
 exact coded (Ok text) is had =
-    (λ _. (chars (string_bytes text), scalars-chars (string_bytes text) (IsUtf8-string_bytes text), is), λ _. refl)
+    (λ _. record { text = chars (string_bytes text); is_text = scalars-chars (string_bytes text) (IsUtf8-string_bytes text); spells = is }, λ _. refl)
 exact coded (Err NotText) is had =
-    (λ ok. absurd (false≢true ok), λ lawful. absurd (is lawful.0 lawful.1 lawful.2))
+    (λ ok. absurd (false≢true ok), λ lawful. absurd (is lawful.text lawful.is_text lawful.spells))
 exact coded (Err OutOfMemory) is had = absurd (had refl)

@@ -19,5 +19,7 @@ IsReading coding units (Err NotText) = SpellsNoText coding units
 IsReading coding units (Err OutOfMemory) = Unit {0}
 
 -- the codes are those of the character and then the rest
-abbrev pub BeginsWith : List ℕ → ℕ → List ℕ → Type 0
-BeginsWith units c rest = (codes : List ℕ) × (codes_of c ≡ Some codes) × (units ≡ codes ++ rest)
+pub record BeginsWith (units : List ℕ) (c : ℕ) (rest : List ℕ) : Type 0 where
+  pub codes : List ℕ
+  pub has : codes_of c ≡ Some codes
+  pub starts : units ≡ codes ++ rest

@@ -40,8 +40,10 @@ abbrev pub Spells : Coded → List ℕ → Type 0
 Spells coded text = spelling coded.coding text ≡ Some coded.units
 
 -- the coded text is the spelling of some text in its coding
-abbrev pub IsLawful : Coded → Type 0
-IsLawful coded = (text : List ℕ) × IsText text × Spells coded text
+pub record IsLawful (coded : Coded) : Type 0 where
+  pub text : List ℕ
+  pub is_text : IsText text
+  pub spells : Spells coded text
 
 -- the spelling in the default alphabet where there is one, and otherwise in UCS2
 abbrev pub chosen_from : Option (List ℕ) → List ℕ → Coded
