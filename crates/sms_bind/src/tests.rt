@@ -8,6 +8,8 @@ use std::io::{Error, ErrorKind, Read, Write};
 use std::process::Abort;
 use std::test::Fail;
 
+mod faults;
+mod memory;
 mod reader;
 
 // bind_transmitter number 1 of `esme` with the password `pw` and no system_type.
@@ -67,16 +69,8 @@ impl Write for Sink {
     }
 }
 
-fn settings_of(
-    rt: &impl Abort,
-    alloc: Global,
-    mode: Mode,
-    name: &[u8],
-) -> Result<Settings, PduError> {
-    let (Ok(system_id), Ok(password)) = (Octets::copy(alloc, name), Octets::copy(alloc, b"pw"))
-    else {
-        panic!(rt; "no memory")
-    };
+fn settings_of(alloc: Global, mode: Mode, name: &[u8]) -> Result<Settings, PduError> {
+    let (system_id, password) = (Octets::copy(alloc, name)?, Octets::copy(alloc, b"pw")?);
     Settings::new(mode, system_id, password, Octets::new(Vec::new(alloc)))
 }
 
@@ -94,7 +88,7 @@ fn bound_by(
     alloc: Global,
     mut reader: Tap<Source<'_>>,
 ) -> Result<Bound, BindFault> {
-    let Ok(settings) = settings_of(rt, alloc, Mode::Transmitter, b"esme") else {
+    let Ok(settings) = settings_of(alloc, Mode::Transmitter, b"esme") else {
         panic!(rt; "no settings")
     };
     let mut wire = Wire::new(Tap::new(Vec::<u8>::new(alloc)));
@@ -110,14 +104,14 @@ fn frame(alloc: Global, octets: &[u8]) -> Result<Frame, Fail> {
 
 #[test]
 fn refuses_settings(rt: HostRuntime) {
-    let long = settings_of(&rt, rt.alloc(), Mode::Transmitter, b"sixteen letters!");
+    let long = settings_of(rt.alloc(), Mode::Transmitter, b"sixteen letters!");
     assert_eq!(rt;
         long.err(),
         Some(PduError::TooLong {
             field: Field::SystemId
         })
     );
-    let cut = settings_of(&rt, rt.alloc(), Mode::Transceiver, b"es\x00me");
+    let cut = settings_of(rt.alloc(), Mode::Transceiver, b"es\x00me");
     assert_eq!(rt;
         cut.err(),
         Some(PduError::Malformed {
@@ -169,7 +163,7 @@ fn a_write_that_takes_nothing_is_counted(rt: HostRuntime) {
 #[test]
 fn a_bind_and_its_answer(rt: HostRuntime) -> Result<(), Fail> {
     let alloc = rt.alloc();
-    let Ok(settings) = settings_of(&rt, alloc, Mode::Transmitter, b"esme") else {
+    let Ok(settings) = settings_of(alloc, Mode::Transmitter, b"esme") else {
         panic!(rt; "no settings")
     };
     let mut stream = Vec::from_slice(alloc, ACCEPTED)?;
@@ -234,7 +228,7 @@ fn reads_that_give_nothing(rt: HostRuntime) -> Result<(), Fail> {
 #[test]
 fn a_bind_that_can_not_be_written(rt: HostRuntime) -> Result<(), Fail> {
     let alloc = rt.alloc();
-    let Ok(settings) = settings_of(&rt, alloc, Mode::Transmitter, b"esme") else {
+    let Ok(settings) = settings_of(alloc, Mode::Transmitter, b"esme") else {
         panic!(rt; "no settings")
     };
     let mut reader = source_of(0, ACCEPTED, false);

@@ -19,7 +19,7 @@ const ENQUIRE_LINK_RESP: &[u8; 16] =
     b"\x00\x00\x00\x10\x80\x00\x00\x15\x00\x00\x00\x00\x00\x00\x00\x02";
 
 // A session that was just bound, and nothing read beyond the answer.
-fn bound_as(rt: &impl Abort, alloc: Global, mode: Mode) -> Bound {
+pub(crate) fn bound_as(rt: &impl Abort, alloc: Global, mode: Mode) -> Bound {
     let command = match mode {
         Mode::Transmitter => BIND_TRANSMITTER_RESP,
         Mode::Transceiver => BIND_TRANSCEIVER_RESP,
@@ -41,7 +41,7 @@ fn bound_as(rt: &impl Abort, alloc: Global, mode: Mode) -> Bound {
 }
 
 // A wire that takes so many octets, and as many slots that wait for the answers from 1 on.
-fn line_of<S: Abort + Wait>(
+pub(crate) fn line_of<S: Abort + Wait>(
     rt: &S,
     alloc: Global,
     room: usize,
@@ -62,7 +62,10 @@ fn line_of<S: Abort + Wait>(
 }
 
 // A ring of this room, for the one worker.
-fn ring_of(alloc: Global, room: usize) -> Result<(Vec<Producer<Reply>>, Consumer<Reply>), Fail> {
+pub(crate) fn ring_of(
+    alloc: Global,
+    room: usize,
+) -> Result<(Vec<Producer<Reply>>, Consumer<Reply>), Fail> {
     let (producer, consumer) = RingBuffer::new(alloc, room)?;
     let mut producers = Vec::new(alloc);
     producers.push(producer)?;
@@ -70,7 +73,7 @@ fn ring_of(alloc: Global, room: usize) -> Result<(Vec<Producer<Reply>>, Consumer
 }
 
 // Reads in 10 turns, and follows nothing.
-fn read_from<S: Abort + Wait>(
+pub(crate) fn read_from<S: Abort + Wait>(
     rt: &S,
     alloc: Global,
     source: Tap<Source<'_>>,
@@ -96,7 +99,7 @@ fn read_from<S: Abort + Wait>(
     )
 }
 
-fn counts(end: &ReaderEnd) -> [u64; 7] {
+pub(crate) fn counts(end: &ReaderEnd) -> [u64; 7] {
     [
         end.answered,
         end.unknown,
@@ -109,7 +112,7 @@ fn counts(end: &ReaderEnd) -> [u64; 7] {
 }
 
 // What stands in the line at the end: it is down, and these octets were written.
-fn want_written(rt: &impl Abort, line: Line<Sink>, wanted: &[u8]) {
+pub(crate) fn want_written(rt: &impl Abort, line: Line<Sink>, wanted: &[u8]) {
     assert!(rt; line.down.load(Ordering::SeqCst));
     let Line {
         slots: _,
@@ -185,7 +188,7 @@ fn streams_that_are_read(rt: HostRuntime) -> Result<(), Fail> {
 
 // Binds as a transmitter over the answer and these octets behind it.
 fn bound_with(rt: &impl Abort, alloc: Global, behind: &[u8]) -> Result<Bound, Fail> {
-    let Ok(settings) = settings_of(rt, alloc, Mode::Transmitter, b"esme") else {
+    let Ok(settings) = settings_of(alloc, Mode::Transmitter, b"esme") else {
         panic!(rt; "no settings")
     };
     let mut stream = Vec::from_slice(alloc, ACCEPTED)?;

@@ -1,0 +1,150 @@
+//! Reads and writes that fail at each octet of what is read and written.
+use super::reader::{bound_as, counts, line_of, read_from, ring_of, want_written};
+use super::{ACCEPTED, BIND, Sink, bound_by, settings_of, source_of};
+use crate::{BindFault, Cause, Tap, Wire, bind};
+use sms_pdu::Mode;
+use std::test::Fail;
+
+// An enquire_link, an answer, a deliver_sm, another answer and an unbind.
+pub(crate) const STREAM: &[u8; 80] =
+    b"\x00\x00\x00\x10\x00\x00\x00\x15\x00\x00\x00\x00\x00\x00\x00\x02\x00\x00\x00\x10\x80\x00\x00\x04\x00\x00\x00\x00\x00\x00\x00\x01\x00\x00\x00\x10\x00\x00\x00\x05\x00\x00\x00\x00\x00\x00\x00\x07\x00\x00\x00\x10\x80\x00\x00\x04\x00\x00\x00\x00\x00\x00\x00\x02\x00\x00\x00\x10\x00\x00\x00\x06\x00\x00\x00\x00\x00\x00\x00\x03";
+
+// The responses to its three requests.
+pub(crate) const RESPONSES: &[u8; 49] =
+    b"\x00\x00\x00\x10\x80\x00\x00\x15\x00\x00\x00\x00\x00\x00\x00\x02\x00\x00\x00\x11\x80\x00\x00\x05\x00\x00\x00\x00\x00\x00\x00\x07\x00\x00\x00\x00\x10\x80\x00\x00\x06\x00\x00\x00\x00\x00\x00\x00\x03";
+
+// A command_id that no PDU has, and a command_length of 15.
+const STRANGE: &[u8; 20] =
+    b"\x00\x00\x00\x10\x00\x00\x01\x03\x00\x00\x00\x00\x00\x00\x00\x09\x00\x00\x00\x0f";
+
+// A generic_nack for each.
+const NACKS: &[u8; 32] =
+    b"\x00\x00\x00\x10\x80\x00\x00\x00\x00\x00\x00\x03\x00\x00\x00\x09\x00\x00\x00\x10\x80\x00\x00\x00\x00\x00\x00\x02\x00\x00\x00\x00";
+
+// The bind's answer ends, or the reader fails, at each of its octets.
+#[test]
+fn an_answer_that_is_cut_at_each_octet(rt: HostRuntime) {
+    for octets in 0..27usize {
+        for fails in [false, true] {
+            let result = bound_by(
+                &rt,
+                rt.alloc(),
+                source_of(0, &ACCEPTED[..octets.min(26)], fails),
+            );
+            let fault = match fails {
+                false => BindFault::Closed,
+                true => BindFault::Read,
+            };
+            let wanted = match octets {
+                26 => None,
+                _ => Some(fault),
+            };
+            assert_eq!(rt; result.err(), wanted);
+        }
+    }
+}
+
+// The writer fails at each octet of the bind. Then nothing is read.
+#[test]
+fn a_bind_that_is_cut_at_each_octet(rt: HostRuntime) -> Result<(), Fail> {
+    let alloc = rt.alloc();
+    let Ok(settings) = settings_of(alloc, Mode::Transmitter, b"esme") else {
+        panic!(rt; "no settings")
+    };
+    for room in 0..30usize {
+        let mut reader = source_of(0, ACCEPTED, false);
+        let sink = Sink {
+            room,
+            octets: Vec::new(alloc),
+            fails: true,
+        };
+        let mut wire = Wire::new(Tap::new(sink));
+        let result = bind(alloc, &mut reader, &mut wire, &settings, 1);
+        let whole = room == 29;
+        assert_eq!(rt; result.is_ok(), whole);
+        assert!(rt; whole || matches!(result, Err(BindFault::Write)));
+        assert_eq!(rt; wire.broken(), !whole);
+        assert_eq!(rt; reader.into_inner().octets.is_empty(), whole);
+        let tap = wire.into_tap();
+        assert_eq!(rt; tap.faults(), if whole { 0 } else { 1 });
+        assert_eq!(rt; tap.into_inner().octets.as_slice(), &BIND[..room.min(29)]);
+    }
+    Ok(())
+}
+
+// The reader fails at each octet: what was whole before is worked, and nothing else.
+#[test]
+fn a_reader_that_fails_at_each_octet(rt: HostRuntime) -> Result<(), Fail> {
+    let alloc = rt.alloc();
+    for octets in 0..81usize {
+        let (cause, answered, delivered, written) = match octets / 16 {
+            0 => (Cause::ReadFault, 0, 0, 0),
+            1 => (Cause::ReadFault, 0, 0, 16),
+            2 => (Cause::ReadFault, 1, 0, 16),
+            3 => (Cause::ReadFault, 1, 1, 33),
+            4 => (Cause::ReadFault, 2, 1, 33),
+            _ => (Cause::Unbound, 2, 1, 49),
+        };
+        let line = line_of(&rt, alloc, 1000, 2)?;
+        let (producers, mut consumer) = ring_of(alloc, 64)?;
+        let source = source_of(0, &STREAM[..octets], true);
+        let bound = bound_as(&rt, alloc, Mode::Transceiver);
+        let end = read_from(&rt, alloc, source, bound, producers, &line);
+        assert_eq!(rt; end.cause, cause);
+        assert_eq!(rt; counts(&end), [answered, 0, 0, delivered, 0, 0, 0]);
+        for _ in 0..answered {
+            assert!(rt; consumer.pop().is_ok());
+        }
+        assert!(rt; consumer.pop().is_err());
+        want_written(&rt, line, &RESPONSES[..written.min(49)]);
+    }
+    Ok(())
+}
+
+// The writer fails at each octet of the responses: what came before is handed on, and what was taken
+// is out.
+#[test]
+fn a_writer_that_fails_at_each_octet(rt: HostRuntime) -> Result<(), Fail> {
+    let alloc = rt.alloc();
+    for room in 0..50usize {
+        let (cause, answered, delivered) = match room {
+            0..16 => (Cause::WriteFault, 0, 0),
+            16..33 => (Cause::WriteFault, 1, 1),
+            33..49 => (Cause::WriteFault, 2, 1),
+            _ => (Cause::Unbound, 2, 1),
+        };
+        let line = line_of(&rt, alloc, room, 2)?;
+        let (producers, mut consumer) = ring_of(alloc, 64)?;
+        let source = source_of(0, STREAM, true);
+        let bound = bound_as(&rt, alloc, Mode::Transceiver);
+        let end = read_from(&rt, alloc, source, bound, producers, &line);
+        assert_eq!(rt; end.cause, cause);
+        assert_eq!(rt; counts(&end), [answered, 0, 0, delivered, 0, 0, 0]);
+        for _ in 0..answered {
+            assert!(rt; consumer.pop().is_ok());
+        }
+        assert!(rt; consumer.pop().is_err());
+        want_written(&rt, line, &RESPONSES[..room.min(49)]);
+    }
+    Ok(())
+}
+
+// The same of generic_nack. A bad length ends the reader, whether or not that can be told.
+#[test]
+fn a_nack_that_is_cut_at_each_octet(rt: HostRuntime) -> Result<(), Fail> {
+    let alloc = rt.alloc();
+    for room in 0..33usize {
+        let (cause, nacked) = match room {
+            0..16 => (Cause::WriteFault, 0),
+            _ => (Cause::Lost, 1),
+        };
+        let line = line_of(&rt, alloc, room, 0)?;
+        let source = source_of(0, STRANGE, true);
+        let bound = bound_as(&rt, alloc, Mode::Transceiver);
+        let end = read_from(&rt, alloc, source, bound, Vec::new(alloc), &line);
+        assert_eq!(rt; end.cause, cause);
+        assert_eq!(rt; counts(&end), [0, 0, 0, 0, 0, nacked, 0]);
+        want_written(&rt, line, &NACKS[..room.min(32)]);
+    }
+    Ok(())
+}

@@ -1,0 +1,122 @@
+//! Memory that is refused, one allocation after another: `tools/refuse-memory` runs each of these once
+//! for each of its allocations, and where memory is refused before the call that is tested, it ends
+//! there.
+use super::faults::{RESPONSES, STREAM};
+use super::reader::{bound_as, counts};
+use super::{ACCEPTED, BIND, Sink, settings_of, source_of};
+use crate::{BindFault, Cause, Line, Tap, Wire, bind, read_loop};
+use rtrb::RingBuffer;
+use sms_pdu::Mode;
+use sms_session::State;
+use sms_slot::SlotRow;
+use sms_window::Window;
+use std::alloc::Global;
+use std::sync::atomic::Ordering;
+
+// A wire that needs no memory for its first 100 octets.
+fn wire_of(alloc: Global) -> Option<Wire<Sink>> {
+    let Ok(octets) = Vec::with_capacity(alloc, 100) else {
+        return None;
+    };
+    Some(Wire::new(Tap::new(Sink {
+        room: 100,
+        octets,
+        fails: true,
+    })))
+}
+
+// The bind is written whole, or it isn't begun; nothing but memory is named.
+#[test]
+fn memory_of_a_bind(rt: HostRuntime) {
+    let alloc = rt.alloc();
+    let Ok(settings) = settings_of(alloc, Mode::Transmitter, b"esme") else {
+        return;
+    };
+    let Some(mut wire) = wire_of(alloc) else {
+        return;
+    };
+    let mut reader = source_of(0, ACCEPTED, true);
+    let result = bind(alloc, &mut reader, &mut wire, &settings, 1);
+    assert_eq!(rt; (reader.faults(), wire.broken()), (0, false));
+    let is_read = reader.into_inner().octets.is_empty();
+    let written = wire.into_tap().into_inner().octets;
+    assert_eq!(rt;
+        written.as_slice(),
+        if is_read {
+            BIND.as_slice()
+        } else {
+            b"".as_slice()
+        }
+    );
+    match result {
+        Ok(bound) => assert_eq!(rt; (bound.session.state(), is_read), (State::BoundTx, true)),
+        Err(fault) => assert_eq!(rt; fault, BindFault::OutOfMemory),
+    }
+}
+
+// All is worked but for one response, or nothing is; the ring and the seat come back.
+#[test]
+fn memory_of_a_reader(rt: HostRuntime) {
+    let alloc = rt.alloc();
+    let (Ok(slots), Some(wire)) = (SlotRow::new(alloc), wire_of(alloc)) else {
+        return;
+    };
+    assert!(rt; slots.post(&rt, 0, 0, 1).is_ok() && slots.post(&rt, 1, 0, 2).is_ok());
+    let line = Line::new(slots, wire);
+    let Ok((producer, mut consumer)) = RingBuffer::new(alloc, 64) else {
+        return;
+    };
+    let Ok((window, seat)) = Window::make(alloc, 4) else {
+        return;
+    };
+    let Ok(mut producers) = Vec::with_capacity(alloc, 1) else {
+        return;
+    };
+    producers.push_reserved(producer);
+    let bound = bound_as(&rt, alloc, Mode::Transceiver);
+    let mut reader = source_of(0, STREAM, true);
+    let end = read_loop(
+        &rt,
+        alloc,
+        &mut reader,
+        bound,
+        producers,
+        &line,
+        &window,
+        seat,
+        Some(4),
+        10,
+    );
+    assert!(rt; line.down.load(Ordering::SeqCst));
+    assert_eq!(rt; end.producers.len(), 1);
+    assert_eq!(rt;
+        consumer.pop().is_ok() && consumer.pop().is_ok(),
+        end.answered == 2
+    );
+    assert!(rt; consumer.pop().is_err());
+    let Line {
+        slots: _,
+        wire,
+        down: _,
+        stop: _,
+    } = line;
+    let written = wire.into_inner().into_tap().into_inner().octets;
+    let said = counts(&end);
+    match end.cause {
+        Cause::Unbound => {
+            assert_eq!(rt; said, [2, 0, 0, 1, 0, 0, end.unreplied]);
+            match end.unreplied {
+                0 => assert_eq!(rt; written.as_slice(), RESPONSES.as_slice()),
+                _ => assert!(rt;
+                    end.unreplied == 1 && (written.len() == 33 || written.len() == 32)
+                ),
+            }
+        }
+        cause => {
+            assert_eq!(rt; cause, Cause::OutOfMemory);
+            assert_eq!(rt; said, [0, 0, 0, 0, 0, 0, 0]);
+            assert!(rt; written.is_empty());
+        }
+    }
+    assert_eq!(rt; window.close(end.seat).held, 0xFFFF_FFFF_FFFF_FFF0);
+}
