@@ -1,9 +1,10 @@
 //! Runs whose ends are compared with the credits that moved.
 ghost use Rattle.std.specs.Prelude.{◌≡◌};
 
+use super::beside::{Beside, Fuse};
 use super::{
-    Beside, Case, Fuse, OK, PLAIN, SILENT, THROTTLED, letters, message, messages_of, rules_of, run,
-    want_row, want_sent,
+    Case, OK, PLAIN, SILENT, THROTTLED, letters, message, messages_of, rules_of, run, want_row,
+    want_sent,
 };
 use crate::{MessageEnd, MessageRefusal, MessageResult, Outcome, Worker, run_worker};
 use rtrb::RingBuffer;
@@ -13,14 +14,13 @@ use sms_core::Row;
 use sms_slot::SlotRow;
 use sms_window::Window;
 use std::alloc::Global;
-use std::cell::{Cell, RefCell};
 use std::marker::Brand;
 use std::process::Abort;
 use std::sync::Wait;
 use std::test::Fail;
 
 // What the ends say of the credits: reserved, charged, returned.
-fn sums(ends: &[MessageEnd]) -> (u64, u64, u64) {
+pub fn sums(ends: &[MessageEnd]) -> (u64, u64, u64) {
     let mut reserved = 0u64;
     let mut charged = 0u64;
     let mut returned = 0u64;
@@ -124,17 +124,7 @@ fn two_work<N: BookName, R: Abort + Wait>(
         Wire::new(Tap::new(Fuse { left: case.room })),
     );
     let rules = rules_of(rt, alloc, case)?;
-    let beside = Beside {
-        rt,
-        line: &line,
-        producers: RefCell::new(producers),
-        asked: RefCell::new(Vec::new(alloc)),
-        answers: case.answers,
-        answered: Cell::new(0),
-        now: Cell::new(0),
-        pauses: Cell::new(0),
-        down_at: case.down_at,
-    };
+    let beside = Beside::new(rt, alloc, &line, producers, case);
     let Some(shares) = all.pop() else {
         panic!(rt; "no share")
     };
@@ -208,7 +198,7 @@ fn two_run(
 }
 
 // Whether the one message was sent and came to this.
-fn came_to(ends: &[MessageEnd], outcome: Outcome) -> bool {
+pub fn came_to(ends: &[MessageEnd], outcome: Outcome) -> bool {
     match ends.get(0) {
         Some(end) => match &end.result {
             MessageResult::Sent(segments) => segments
@@ -222,7 +212,7 @@ fn came_to(ends: &[MessageEnd], outcome: Outcome) -> bool {
 }
 
 // Whether the one message was refused for want of credits.
-fn had_no_credit(ends: &[MessageEnd]) -> bool {
+pub fn had_no_credit(ends: &[MessageEnd]) -> bool {
     match ends.get(0) {
         Some(end) => match &end.result {
             MessageResult::Sent(_) => false,

@@ -1,0 +1,162 @@
+//! What becomes of a segment by its answers, and what it costs.
+use super::{
+    Case, Done, OK, PLAIN, SILENT, THROTTLED, letters, message, messages_of, run, want_row,
+    want_sent,
+};
+use crate::{MessageResult, Outcome};
+use std::process::Abort;
+use std::test::Fail;
+
+#[test]
+fn both_parts_are_charged(rt: HostRuntime) -> Result<(), Fail> {
+    let alloc = rt.alloc();
+    let mut messages = Vec::new(alloc);
+    messages.push(message(alloc, 7, Some(0), "447700900123", letters(alloc, 161)?)?)?;
+    let done = run(&rt, alloc, PLAIN, messages)?;
+    want_sent(
+        &rt,
+        &done,
+        0,
+        &[(1, Outcome::Charged), (1, Outcome::Charged)],
+    );
+    want_row(&rt, &done, (1, 0, 2, 0));
+    Ok(())
+}
+
+#[test]
+fn a_throttled_segment_is_sent_again(rt: HostRuntime) -> Result<(), Fail> {
+    let alloc = rt.alloc();
+    let case = Case {
+        answers: &[THROTTLED, THROTTLED, OK],
+        ..PLAIN
+    };
+    let done = run(&rt, alloc, case, messages_of(alloc, 1)?)?;
+    want_sent(&rt, &done, 0, &[(3, Outcome::Charged)]);
+    want_row(&rt, &done, (2, 0, 1, 0));
+    let done = run(
+        &rt,
+        alloc,
+        Case {
+            attempts: 2,
+            ..case
+        },
+        messages_of(alloc, 1)?,
+    )?;
+    want_sent(&rt, &done, 0, &[(2, Outcome::Refused)]);
+    want_row(&rt, &done, (3, 0, 0, 1));
+    Ok(())
+}
+
+// Many wait to be sent again at once, in the order of their times.
+#[test]
+fn many_throttled_messages_are_charged(rt: HostRuntime) -> Result<(), Fail> {
+    let alloc = rt.alloc();
+    let throttled = [THROTTLED; 40];
+    let mut answers = Vec::from_slice(alloc, &throttled)?;
+    answers.push(OK)?;
+    let case = Case {
+        credits: 30,
+        depth: 8,
+        answers: answers.as_slice(),
+        ..PLAIN
+    };
+    let done = run(
+        &rt,
+        alloc,
+        Case {
+            attempts: 4,
+            ..case
+        },
+        messages_of(alloc, 30)?,
+    )?;
+    for place in 0..30 {
+        if let Some(end) = done.ends.get(place) {
+            let MessageResult::Sent(segments) = &end.result else {
+                panic!(rt; "message {place} is refused")
+            };
+            let charged = segments
+                .as_slice()
+                .iter()
+                .all(|segment| segment.outcome == Outcome::Charged);
+            assert!(rt; charged, "message {place}");
+        }
+    }
+    want_row(&rt, &done, (0, 0, 30, 0));
+    Ok(())
+}
+
+#[test]
+fn without_an_answer_credits_stay_reserved(rt: HostRuntime) -> Result<(), Fail> {
+    let alloc = rt.alloc();
+    let case = Case {
+        answers: &[SILENT],
+        answer_ms: 50,
+        ..PLAIN
+    };
+    let done = run(&rt, alloc, case, messages_of(alloc, 1)?)?;
+    want_sent(&rt, &done, 0, &[(1, Outcome::Unanswered)]);
+    want_row(&rt, &done, (2, 1, 0, 0));
+    Ok(())
+}
+
+#[test]
+fn a_segment_costs_what_its_prefix_says(rt: HostRuntime) -> Result<(), Fail> {
+    let alloc = rt.alloc();
+    let mut messages = Vec::new(alloc);
+    messages.push(message(alloc, 0, Some(0), "+46700000000", letters(alloc, 161)?)?)?;
+    let done = run(
+        &rt,
+        alloc,
+        Case {
+            credits: 12,
+            ..PLAIN
+        },
+        messages,
+    )?;
+    want_sent(
+        &rt,
+        &done,
+        0,
+        &[(1, Outcome::Charged), (1, Outcome::Charged)],
+    );
+    want_row(&rt, &done, (2, 0, 10, 0));
+    Ok(())
+}
+
+// The number of an attempt of the message's one part.
+fn number_of(rt: &impl Abort, done: &Done, place: usize, attempt: usize) -> u32 {
+    if let Some(end) = done.ends.get(place) {
+        if let MessageResult::Sent(segments) = &end.result {
+            if let Some(segment) = segments.as_slice().first() {
+                if let Some(attempt) = segment.attempts.as_slice().get(attempt) {
+                    return attempt.number;
+                }
+            }
+        }
+    }
+    panic!(rt; "message {place} has no attempt {attempt}")
+}
+
+// A pause takes 10 ms, in which the open request is answered, and a retry waits for 100. Until then new
+// messages are begun, in their order, and once its time has come the retry goes before the next.
+#[test]
+fn a_retry_that_is_due_comes_first(rt: HostRuntime) -> Result<(), Fail> {
+    let alloc = rt.alloc();
+    let case = Case {
+        credits: 15,
+        depth: 1,
+        answers: &[THROTTLED, OK],
+        ..PLAIN
+    };
+    let done = run(&rt, alloc, case, messages_of(alloc, 15)?)?;
+    assert_eq!(&rt; number_of(&rt, &done, 0, 0), 1);
+    for place in 1..11usize {
+        assert_eq!(&rt; number_of(&rt, &done, place, 0) as usize, place + 1);
+    }
+    assert_eq!(&rt; number_of(&rt, &done, 0, 1), 12);
+    for place in 11..15usize {
+        assert_eq!(&rt; number_of(&rt, &done, place, 0) as usize, place + 2);
+    }
+    want_row(&rt, &done, (0, 0, 15, 0));
+    Ok(())
+}

@@ -1,0 +1,132 @@
+//! What becomes of messages that can't be sent, or not any more.
+use super::{
+    Case, OK, PLAIN, SILENT, THROTTLED, letters, message, messages_of, run, want_refused, want_row,
+    want_sent,
+};
+use crate::{MessageRefusal, Outcome};
+use std::test::Fail;
+
+#[test]
+fn a_line_that_goes_down_ends_all(rt: HostRuntime) -> Result<(), Fail> {
+    let alloc = rt.alloc();
+    let case = Case {
+        credits: 5,
+        depth: 3,
+        answers: &[SILENT],
+        down_at: 1,
+        ..PLAIN
+    };
+    let done = run(&rt, alloc, case, messages_of(alloc, 5)?)?;
+    for place in 0..3 {
+        want_sent(&rt, &done, place, &[(1, Outcome::Unanswered)]);
+    }
+    for place in 3..5 {
+        want_refused(&rt, &done, place, MessageRefusal::BindClosed);
+    }
+    want_row(&rt, &done, (2, 3, 0, 0));
+    Ok(())
+}
+
+// A retry that waits when the line goes down is refused by its last answer, and what is open and
+// answered then is taken.
+#[test]
+fn a_line_that_goes_down_takes_what_is_answered(rt: HostRuntime) -> Result<(), Fail> {
+    let alloc = rt.alloc();
+    let case = Case {
+        answers: &[THROTTLED, OK],
+        depth: 2,
+        down_at: 1,
+        ..PLAIN
+    };
+    let done = run(&rt, alloc, case, messages_of(alloc, 2)?)?;
+    want_sent(&rt, &done, 0, &[(1, Outcome::Refused)]);
+    want_sent(&rt, &done, 1, &[(1, Outcome::Charged)]);
+    want_row(&rt, &done, (2, 0, 1, 1));
+    Ok(())
+}
+
+#[test]
+fn numbers_are_used_up(rt: HostRuntime) -> Result<(), Fail> {
+    let alloc = rt.alloc();
+    let done = run(
+        &rt,
+        alloc,
+        Case {
+            first: 0x7FFF_FFFF,
+            ..PLAIN
+        },
+        messages_of(alloc, 3)?,
+    )?;
+    want_sent(&rt, &done, 0, &[(1, Outcome::Charged)]);
+    want_sent(&rt, &done, 1, &[(0, Outcome::Unsent)]);
+    want_sent(&rt, &done, 2, &[(0, Outcome::Unsent)]);
+    want_row(&rt, &done, (2, 0, 1, 2));
+    Ok(())
+}
+
+#[test]
+fn messages_are_refused(rt: HostRuntime) -> Result<(), Fail> {
+    let alloc = rt.alloc();
+    let mut messages = Vec::new(alloc);
+    messages.push(message(alloc, 0, None, "abc", letters(alloc, 1)?)?)?;
+    messages.push(message(alloc, 1, Some(1), "447700900123", letters(alloc, 1)?)?)?;
+    messages.push(message(alloc, 2, Some(0), "abc", letters(alloc, 1)?)?)?;
+    messages.push(message(alloc, 3, Some(0), "+", letters(alloc, 1)?)?)?;
+    messages.push(message(alloc, 4, Some(0), "447700900123", letters(alloc, 39_016)?)?)?;
+    messages.push(message(alloc, 5, Some(0), "447700900123", letters(alloc, 460)?)?)?;
+    messages.push(message(alloc, 6, Some(0), "46700", letters(alloc, 1)?)?)?;
+    let mut named = message(alloc, 7, Some(0), "447700900123", letters(alloc, 1)?)?;
+    named.source = String::from_str(alloc, "TwelveLetter")?;
+    messages.push(named)?;
+    let mut empty = message(alloc, 8, Some(0), "447700900123", letters(alloc, 1)?)?;
+    empty.source = String::new(alloc);
+    messages.push(empty)?;
+    let done = run(&rt, alloc, PLAIN, messages)?;
+    let wanted = [
+        MessageRefusal::NoAccount,
+        MessageRefusal::NoAccount,
+        MessageRefusal::BadAddress,
+        MessageRefusal::BadAddress,
+        MessageRefusal::TooLong,
+        MessageRefusal::NoCredit,
+        MessageRefusal::NoCredit,
+        MessageRefusal::BadAddress,
+    ];
+    for place in 0..wanted.len() {
+        want_refused(&rt, &done, place, wanted[place]);
+    }
+    want_sent(&rt, &done, 8, &[(1, Outcome::Charged)]);
+    want_row(&rt, &done, (2, 0, 1, 0));
+    let done = run(
+        &rt,
+        alloc,
+        Case {
+            down: true,
+            ..PLAIN
+        },
+        messages_of(alloc, 1)?,
+    )?;
+    want_refused(&rt, &done, 0, MessageRefusal::BindClosed);
+    Ok(())
+}
+
+// The attempt whose frame was begun is made; no later one is.
+#[test]
+fn a_broken_wire_ends_the_line(rt: HostRuntime) -> Result<(), Fail> {
+    let alloc = rt.alloc();
+    let done = run(
+        &rt,
+        alloc,
+        Case {
+            room: 60,
+            depth: 1,
+            ..PLAIN
+        },
+        messages_of(alloc, 3)?,
+    )?;
+    want_sent(&rt, &done, 0, &[(1, Outcome::Charged)]);
+    want_sent(&rt, &done, 1, &[(1, Outcome::Unanswered)]);
+    want_refused(&rt, &done, 2, MessageRefusal::BindClosed);
+    want_row(&rt, &done, (1, 1, 1, 0));
+    Ok(())
+}
