@@ -58,7 +58,7 @@ and_no_other sent text some is = (is.0, is.1, λ joined other. joined_once sent 
 
 some_whole : (sent : List Part) → IsWhole sent → 0 < length sent
 some_whole sent (inl single) = rw single.1.alone (omega arith)
-some_whole sent (inr series) = series.2.some
+some_whole sent (inr (reference, coding, series)) = series.some
 
 -- a text with a unit has a part
 no_parts : (parts : List (List Group)) (units : List ℕ) (limit : ℕ) → length parts ≤ 0 → concat (map concat parts) ≡ units → limit < length units → ⊥
