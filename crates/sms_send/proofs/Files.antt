@@ -1,5 +1,5 @@
 -- A file, from its first record and those after it.
-use Rattle.std.proofs.Common.{◌≡◌, ◌∙◌, refl, ap, ℕ, inl, inr, Bool, true, false, List, ◌∷◌, Option, Some, None, IfSome}
+use Rattle.std.proofs.Common.{◌≡◌, ◌∙◌, refl, ap, ℕ, inl, inr, Bool, true, false, List, [], ◌∷◌, Option, Some, None, IfSome}
 use Rattle.std.specs.Prelude.{option_map}
 use Rattle.sms_send.specs.Fields.{Record, records_of}
 use Rattle.sms_send.specs.Records.{GivesFirst, TellsRecords, file_fault, record_fault}
@@ -7,6 +7,24 @@ use Rattle.sms_send.specs.declared.fault.Fault.{Fault}
 use Rattle.sms_send.specs.declared.fault.Fault.TheVariants.{BadRecord}
 use Rattle.sms_send.specs.declared.fault.Source.{Source}
 use Rattle.sms_send.proofs.Runs.{first-found, none-found}
+
+-- what holds of a file without records, and of one with a first record and those after it
+
+pub told-empty : (P : List Record → Type 0) (o : Option (List ℕ)) (left : Option (List Record)) (found : Bool) (r : Record) (after : Option (List Record))
+    → left ≡ option_map records_of o → IfSome left (λ rs. GivesFirst rs found r after) → found ≡ false → P [] → IfSome o (λ bytes. P (records_of bytes))
+told-empty P None left found r after whole h e p = tt
+told-empty P (Some bytes) left found r after whole h e p =
+    let none = none-found (records_of bytes) found r after (rw whole at h) e in
+    rw none p
+
+pub told-first : (P Q : List Record → Type 0) (o : Option (List ℕ)) (left : Option (List Record)) (found : Bool) (r : Record) (after : Option (List Record))
+    → left ≡ option_map records_of o → IfSome left (λ rs. GivesFirst rs found r after) → found ≡ true
+    → IfSome after Q → ((rs : List Record) → Q rs → P (r ∷ rs)) → IfSome o (λ bytes. P (records_of bytes))
+told-first P Q None left found r after whole h e rest make = tt
+told-first P Q (Some bytes) left found r after whole h e rest make =
+    let first = first-found (records_of bytes) found r after (rw whole at h) e in
+    let made = make first.0 (rw first.2 at rest) in
+    rw first.1 made
 
 -- there is no first record
 pub no-record : (source : Source) (is_first is_good : Record → Bool) (most : ℕ) (o : Option (List ℕ)) (left : Option (List Record)) (found : Bool) (r : Record) (after : Option (List Record))

@@ -51,7 +51,7 @@ pub none-there : (r : Record) (place : ℕ) (o : Option (Bor Field)) (m : Option
 none-there r place o m four lt h e n = rw n (no-message r place four lt (missing o (text_in r place) h e))
 
 -- text at a place is the field there
-text-is : (field text : Field) → as_text field ≡ Some text → (is_utf8 field ≡ true) × (text ≡ field)
+pub text-is : (field text : Field) → as_text field ≡ Some text → (is_utf8 field ≡ true) × (text ≡ field)
 text-is field text e = by (is_utf8 field) refl
   where
     by : (b : Bool) → is_utf8 field ≡ b → (is_utf8 field ≡ true) × (text ≡ field)

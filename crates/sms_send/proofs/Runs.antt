@@ -57,20 +57,21 @@ zip-push R [] (b ∷ bs) x y h p = absurd h
 zip-push R (a ∷ more) [] x y h p = absurd h
 zip-push R (a ∷ more) (b ∷ bs) x y h p = (h.0, zip-push R more bs x y h.1 p)
 
--- of the records that were left, some were read as these items, and others are left now
-pub record ReadSo {T : Type 0} (is_good : Record → Bool) (Says : Record → T → Type 0) (most before : ℕ) (left : List Record) (items : List T) (now : Option (List Record)) : Type 0 where
+-- of the records that were left, some were read as these items, and others are left now; the first faulty one of all, if there is one, is
+-- that of the others
+pub record ReadSo {T : Type 0} (Says : Record → T → Type 0) (total : Option ℕ) (rest : List Record → Option ℕ) (left : List Record) (items : List T) (now : Option (List Record)) : Type 0 where
   pub front : List Record
   pub after : List Record
   pub known : now ≡ Some after
   pub whole : left ≡ front ++ after
   pub says : AllZip Says front items
-  pub faulty : record_fault is_good most 1 left ≡ record_fault is_good most before after
+  pub faulty : total ≡ rest after
 
 -- the next record was read too
-pub one-more : {T : Type 0} (is_good : Record → Bool) (Says : Record → T → Type 0) (most before : ℕ) (left : List Record) (items pushed : List T) (x : T) (now after : Option (List Record)) (found : Bool) (r : Record)
-    → ReadSo is_good Says most before left items now → IfSome now (λ rs. GivesFirst rs found r after) → found ≡ true → before ≤ most → is_good r ≡ true → Says r x
-    → pushed ≡ items ++ x ∷ [] → ReadSo is_good Says most (before + 1) left pushed after
-one-more is_good Says most before left items pushed x now after found r so h e low good says p =
+pub one-more : {T : Type 0} (Says : Record → T → Type 0) (total : Option ℕ) (rest next : List Record → Option ℕ) (left : List Record) (items pushed : List T) (x : T) (now after : Option (List Record)) (found : Bool) (r : Record)
+    → ReadSo Says total rest left items now → IfSome now (λ rs. GivesFirst rs found r after) → found ≡ true → ((rs : List Record) → rest (r ∷ rs) ≡ next rs) → Says r x
+    → pushed ≡ items ++ x ∷ [] → ReadSo Says total next left pushed after
+one-more Says total rest next left items pushed x now after found r so h e goes says p =
     let f = next-found now so.after found r after so.known h e in
     record {
       front = so.front ++ r ∷ [];
@@ -78,33 +79,25 @@ one-more is_good Says most before left items pushed x now after found r so h e l
       known = f.2;
       whole = so.whole ∙ ap (λ (l : List Record). so.front ++ l) f.1 ∙ sym (append_assoc so.front (r ∷ []) f.0);
       says = rw p (zip-push Says so.front items r x so.says says);
-      faulty = so.faulty ∙ ap (record_fault is_good most before) f.1 ∙ fault-good is_good most before r f.0 low good;
+      faulty = so.faulty ∙ ap rest f.1 ∙ goes f.0;
     }
 
 -- no record is left
-pub no-more : {T : Type 0} (is_good : Record → Bool) (Says : Record → T → Type 0) (most before : ℕ) (left : List Record) (items : List T) (now after : Option (List Record)) (found : Bool) (r : Record)
-    → ReadSo is_good Says most before left items now → IfSome now (λ rs. GivesFirst rs found r after) → found ≡ false
-    → AllZip Says left items × (record_fault is_good most 1 left ≡ None)
-no-more is_good Says most before left items now after found r so h e =
+pub no-more : {T : Type 0} (Says : Record → T → Type 0) (total : Option ℕ) (rest : List Record → Option ℕ) (left : List Record) (items : List T) (now after : Option (List Record)) (found : Bool) (r : Record)
+    → ReadSo Says total rest left items now → IfSome now (λ rs. GivesFirst rs found r after) → found ≡ false → rest [] ≡ None
+    → AllZip Says left items × (total ≡ None)
+no-more Says total rest left items now after found r so h e ends =
     let none = none-found so.after found r after (at_known now (λ rs. GivesFirst rs found r after) so.after h so.known) e in
     let all : left ≡ so.front = so.whole ∙ ap (λ (l : List Record). so.front ++ l) none ∙ append-nil so.front in
-    (rw all so.says, so.faulty ∙ ap (record_fault is_good most before) none)
+    (rw all so.says, so.faulty ∙ ap rest none ∙ ends)
 
--- the next record isn't good
-pub bad-next : {T : Type 0} (is_good : Record → Bool) (Says : Record → T → Type 0) (most before : ℕ) (left : List Record) (items : List T) (now after : Option (List Record)) (found : Bool) (r : Record)
-    → ReadSo is_good Says most before left items now → IfSome now (λ rs. GivesFirst rs found r after) → found ≡ true → is_good r ≡ false
-    → record_fault is_good most 1 left ≡ Some (before + 1)
-bad-next is_good Says most before left items now after found r so h e bad =
+-- the next record is the first faulty one
+pub bad-next : {T : Type 0} (Says : Record → T → Type 0) (total : Option ℕ) (rest : List Record → Option ℕ) (place : ℕ) (left : List Record) (items : List T) (now after : Option (List Record)) (found : Bool) (r : Record)
+    → ReadSo Says total rest left items now → IfSome now (λ rs. GivesFirst rs found r after) → found ≡ true → ((rs : List Record) → rest (r ∷ rs) ≡ Some place)
+    → total ≡ Some place
+bad-next Says total rest place left items now after found r so h e bad =
     let f = next-found now so.after found r after so.known h e in
-    so.faulty ∙ ap (record_fault is_good most before) f.1 ∙ fault-bad is_good most before r f.0 bad
-
--- the next record is one too many
-pub many-next : {T : Type 0} (is_good : Record → Bool) (Says : Record → T → Type 0) (most before : ℕ) (left : List Record) (items : List T) (now after : Option (List Record)) (found : Bool) (r : Record)
-    → ReadSo is_good Says most before left items now → IfSome now (λ rs. GivesFirst rs found r after) → found ≡ true → most < before
-    → record_fault is_good most 1 left ≡ Some (before + 1)
-many-next is_good Says most before left items now after found r so h e high =
-    let f = next-found now so.after found r after so.known h e in
-    so.faulty ∙ ap (record_fault is_good most before) f.1 ∙ fault-many is_good most before r f.0 high
+    so.faulty ∙ ap rest f.1 ∙ bad f.0
 
 -- a fault of the device tells nothing of the records
 pub device-tells : (source : Source) (o : Option (List Record)) (faulty : List Record → Option ℕ) (f : Fault) → IsDevice source f → IfSome o (λ left. TellsRecords source (faulty left) f)

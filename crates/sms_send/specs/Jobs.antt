@@ -2,7 +2,7 @@
 use Rattle.std.specs.Prelude.{◌≡◌, ◌⊎◌, Bool, ℕ, List, Option, None, Some, IfSome}
 use Rattle.std.specs.Io.KnownBytes.{Appends}
 use Rattle.clap.specs.Words.{Text}
-use Rattle.sms_send.specs.CommandLine.{IsJob, subcommand_in}
+use Rattle.sms_send.specs.CommandLine.{IsJob, TellsWords, subcommand_in}
 use Rattle.sms_send.specs.Fields.{records_of}
 use Rattle.sms_send.specs.Messages.{messages_fault}
 use Rattle.sms_send.specs.PlanText.{TellsPlan, kind_of, plan_of}
@@ -10,7 +10,7 @@ use Rattle.sms_send.specs.Replays.{Replays, TellsReplay}
 use Rattle.sms_send.specs.declared.fault.Fault.{Fault}
 use Rattle.sms_send.specs.declared.fault.Fault.TheVariants.{File}
 use Rattle.sms_send.specs.declared.job.Job.{Job}
-use Rattle.sms_send.specs.declared.job.Job.TheVariants.{Plan, Replay}
+use Rattle.sms_send.specs.declared.job.Job.TheVariants.{Loop, Plan, Replay, Send}
 
 -- it holds of an input's bytes, where they are told
 abbrev pub OfInput : {I : Type 0} → (I → Option (List ℕ)) → (List ℕ → Type 0) → Type 0
@@ -20,18 +20,36 @@ OfInput {I} remaining P = (input : I) × IfSome (remaining input) P
 abbrev pub Plans : Bool → List ℕ → Option (List ℕ) → Option (List ℕ) → Type 0
 Plans long bytes old new = (messages_fault (records_of bytes) ≡ None) × Appends old new (plan_of (kind_of long) (records_of bytes))
 
--- the job was done: standard input or a file was replayed, or a file planned
+-- the exit status of a job that was done: 0, and of the sender also 4
+abbrev pub IsStatus : ℕ → Type 0
+IsStatus status = (status ≡ 0) ⊎ (status ≡ 4)
+
+abbrev pub IsStatusOf : Job → ℕ → Type 0
+IsStatusOf (Replay file) status = status ≡ 0
+IsStatusOf (Plan name long) status = status ≡ 0
+IsStatusOf (Loop name quiet) status = IsStatus status
+IsStatusOf (Send name quiet) status = IsStatus status
+
+-- the job was done: standard input or a file was replayed, or a file planned; what the sender does is said where it is called
 abbrev pub Does : {S F : Type 0} → (S → Option (List ℕ)) → (F → Option (List ℕ)) → Job → Option (List ℕ) → Option (List ℕ) → Type 0
 Does standard file (Replay None) old new = OfInput standard (λ bytes. Replays bytes old new)
 Does standard file (Replay (Some name)) old new = OfInput file (λ bytes. Replays bytes old new)
 Does standard file (Plan name long) old new = OfInput file (λ bytes. Plans long bytes old new)
+Does standard file (Loop name quiet) old new = Unit {0}
+Does standard file (Send name quiet) old new = Unit {0}
 
 -- what a fault of a job says: its file can't be opened, or what the fault says of the input
 abbrev pub TellsJob : {S F : Type 0} → (S → Option (List ℕ)) → (F → Option (List ℕ)) → Job → Fault → Type 0
 TellsJob standard file (Replay None) fault = OfInput standard (λ bytes. TellsReplay (records_of bytes) fault)
 TellsJob standard file (Replay (Some name)) fault = (fault ≡ File name) ⊎ OfInput file (λ bytes. TellsReplay (records_of bytes) fault)
 TellsJob standard file (Plan name long) fault = (fault ≡ File name) ⊎ OfInput file (λ bytes. TellsPlan (records_of bytes) fault)
+TellsJob standard file (Loop name quiet) fault = Unit {0}
+TellsJob standard file (Send name quiet) fault = Unit {0}
 
--- some words ask for a job, and it was done
-abbrev pub Works : {S F : Type 0} → (S → Option (List ℕ)) → (F → Option (List ℕ)) → Option (List ℕ) → Option (List ℕ) → Type 0
-Works standard file old new = (words : List Text) × (job : Job) × IsJob (subcommand_in words) job × Does standard file job old new
+-- these words ask for a job, and it was done
+abbrev pub Works : {S F : Type 0} → (S → Option (List ℕ)) → (F → Option (List ℕ)) → List Text → ℕ → Option (List ℕ) → Option (List ℕ) → Type 0
+Works standard file words status old new = (job : Job) × IsJob (subcommand_in words) job × IsStatusOf job status × Does standard file job old new
+
+-- what a fault says of the words: they are refused, or what it says of the job that they ask for
+abbrev pub TellsRun : {S F : Type 0} → (S → Option (List ℕ)) → (F → Option (List ℕ)) → List Text → Fault → Type 0
+TellsRun standard file words fault = TellsWords words fault ⊎ ((job : Job) × IsJob (subcommand_in words) job × TellsJob standard file job fault)

@@ -2,6 +2,7 @@ pub mod Fields
 pub mod Records
 pub mod Schedule
 pub mod Text
+pub mod Rows
 pub mod Messages
 pub mod PlanText
 pub mod Faults
@@ -9,3 +10,17 @@ pub mod Output
 pub mod CommandLine
 pub mod Replays
 pub mod Jobs
+pub mod Config
+pub mod ConfigFaults
+pub mod Setups
+pub mod Accounts
+pub mod Rates
+pub mod Sending
+pub mod Inputs
+pub mod Report
+pub mod Deals
+pub mod Seated
+pub mod Sent
+pub mod Settled
+pub mod Statements
+pub mod Worked

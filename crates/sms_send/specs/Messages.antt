@@ -1,24 +1,16 @@
 -- A messages file: a header, and a record for each message with its account, source, destination and text.
-use Rattle.std.specs.Prelude.{◌≡◌, ℕ, ◌==◌, ◌&&◌, Bool, false, true, List, [], ◌∷◌, length, Option, Some, None, option_and_then, if◌then◌else◌, codes, string_bytes}
-use Rattle.std.specs.List.{AllZip}
-use Rattle.std.specs.Str.{bytes_eq, is_utf8}
+use Rattle.std.specs.Prelude.{◌≡◌, ℕ, ◌==◌, ◌&&◌, Bool, true, false, List, [], ◌∷◌, length, Option, Some, None, option_and_then, if◌then◌else◌, codes, string_bytes}
+use Rattle.std.specs.Str.{is_utf8}
 use Rattle.csv.specs.Records.{field_at}
 use Rattle.sms_send.specs.Fields.{Field, Record}
 use Rattle.sms_send.specs.Records.{file_fault}
+use Rattle.sms_send.specs.Rows.{AreRows, field_is}
 use Rattle.sms_send.specs.declared.messages.MessageRecord.{MessageRecord}
 use Rattle.sms_send.specs.declared.messages.MessageText.{MessageText}
 
 -- how many messages a file has at the most
 abbrev pub most_messages : ℕ
 most_messages = 100_000
-
--- the field at a place is this one
-abbrev pub is_some_field : Option Field → Field → Bool
-is_some_field None name = false
-is_some_field (Some field) name = bytes_eq field name
-
-abbrev pub field_is : Record → ℕ → Field → Bool
-field_is r place name = is_some_field (field_at r place) name
 
 -- the header, and nothing else
 abbrev pub is_header : Record → Bool
@@ -65,5 +57,4 @@ HasText r m = string_bytes m.text ≡ text_of r
 
 -- the records are a messages file of these texts
 abbrev pub AreTexts : List Record → List MessageText → Type 0
-AreTexts [] ms = ⊥
-AreTexts (r ∷ rs) ms = (messages_fault (r ∷ rs) ≡ None) × AllZip HasText rs ms
+AreTexts = AreRows is_header is_message HasText most_messages

@@ -13,6 +13,10 @@ pub enum Source {
     Schedule,
     /// The messages to send.
     Messages,
+    /// The accounts that pay for them.
+    Accounts,
+    /// What a segment costs.
+    Tariff,
 }
 
 impl fmt::Display for Source {
@@ -25,6 +29,8 @@ impl fmt::Display for Source {
         match self {
             Source::Schedule => write!(f, "schedule"),
             Source::Messages => write!(f, "messages"),
+            Source::Accounts => write!(f, "accounts"),
+            Source::Tariff => write!(f, "tariff"),
         }
     }
 }
@@ -45,6 +51,14 @@ pub enum Fault {
     Unreadable(Source),
     /// The record of a file, counted from 1, isn't one that may stand there.
     BadRecord(Source, usize),
+    /// The config isn't TOML.
+    NotToml,
+    /// The config has no good value of this key, or may not have it.
+    BadKey(String),
+    /// The bind of this number, counted from 0, was refused with this command_status.
+    BindRefused(u32, u32),
+    /// The bind of this number failed otherwise, or there was no connection.
+    BindFailed(u32),
     /// What is to be printed can't be written.
     Output,
     /// Memory was refused.
@@ -65,6 +79,10 @@ impl fmt::Display for Fault {
             Fault::File(name) => write!(f, "fault: file {name}"),
             Fault::Unreadable(source) => write!(f, "fault: file {source}"),
             Fault::BadRecord(source, place) => write!(f, "fault: {source} record {place}"),
+            Fault::NotToml => write!(f, "fault: config"),
+            Fault::BadKey(key) => write!(f, "fault: config {key}"),
+            Fault::BindRefused(bind, status) => write!(f, "fault: bind {bind} refused {status}"),
+            Fault::BindFailed(bind) => write!(f, "fault: bind {bind} failed"),
             Fault::Output => write!(f, "fault: output"),
             Fault::OutOfMemory => write!(f, "fault: out of memory"),
         }
@@ -81,6 +99,7 @@ impl Fault {
         match self {
             Fault::Words => 2,
             Fault::Help(_) | Fault::Version(_) => 0,
+            Fault::BindRefused(_, _) | Fault::BindFailed(_) => 3,
             _ => 1,
         }
     }

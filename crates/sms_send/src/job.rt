@@ -1,9 +1,9 @@
 //! The command line.
 
-ghost use Rattle.std.specs.Prelude.{◌≡◌, ◌≢◌, ◌↔◌, [], false, IfErr, IfOk, OnOk, map, string_bytes};
-ghost use Rattle.clap.specs.Words.{HasKind, Kinds, app_of, first_of, found_of, kind_of, rows_of, subcommand_rows_of};
+ghost use Rattle.std.specs.Prelude.{◌≡◌, ◌≢◌, ◌↔◌, [], Some, false, IfErr, IfOk, OnOk, map, string_bytes};
+ghost use Rattle.clap.specs.Words.{HasKind, Kinds, app_of, first_of, found_of, kind_of, new_app, rows_of, rule_of, subcommand_rows_of, with_rule};
 ghost use Rattle.clap.specs.declared.builder.Command.TheViews.{out-Command as fields_of};
-ghost use Rattle.sms_send.specs.CommandLine.{IsJob, TellsName, TellsRefusal, TellsWords, bytes_of, file_named, command_line as words_allowed, is_set, plan_line, program_line, refusals_of, subcommand_in};
+ghost use Rattle.sms_send.specs.CommandLine.{IsJob, TellsMet, TellsName, TellsRefusal, TellsWords, bytes_of, command_line as words_allowed, file_named, file_rule, file_word as word_of_file, flag_rule, is_set, plan_line, program_line, refusals_of, replay_line, sender_line, subcommand_in, subcommand_named as named};
 ghost use Rattle.sms_send.specs.declared.fault.Fault.TheVariants.{OutOfMemory, Words};
 
 use crate::fault::Fault;
@@ -24,6 +24,20 @@ pub enum Job {
     Replay(Option<String>),
     /// To plan the messages in the file of this name; with references of 16 bits where it is true.
     Plan(String, bool),
+    /// To send, as the config in the file of this name has it, through a test centre in the same
+    /// process; without a word on the way where it is true.
+    Loop(String, bool),
+    /// The same to the message centre that the config names.
+    Send(String, bool),
+}
+
+/// What the first word asks for.
+#[derive(Clone, Copy, Debug, PartialEq, Eq)]
+enum Subcommand {
+    Replay,
+    Plan,
+    Loop,
+    Send,
 }
 
 /// The job that the words after the program's name ask for.
@@ -42,15 +56,23 @@ pub fn job_of(alloc: Global, words: &[String]) -> Result<Job, Fault>
 fn command_line<'a>(alloc: Global) -> Result<Command<'a>, AllocError>
     ensures { IfOk result (λ command. app_of command ≡ words_allowed) }
 {
-    let file = Arg::new(alloc, "FILE")
-        .required(true)
-        .help("The schedule; - is standard input");
-    let replay = Command::new(alloc, "replay")
-        .about("Replays a schedule of events and prints what became of each")
-        .arg(file)?;
-    let top = program_command(alloc)?.subcommand(replay)?;
+    let program = program_command(alloc)?;
+    let replay = replay_command(alloc)?;
     let plan = plan_command(alloc)?;
-    top.subcommand(plan)
+    let looping = sender_command(
+        alloc,
+        "loop",
+        "Sends the messages that the config names through a test centre in this process, and prints a report",
+    )?;
+    let sending = sender_command(
+        alloc,
+        "send",
+        "Sends the messages that the config names to its message centre, and prints a report",
+    )?;
+    let replaying = program.subcommand(replay)?;
+    let planning = replaying.subcommand(plan)?;
+    let either = planning.subcommand(looping)?;
+    either.subcommand(sending)
 }
 
 /// What the parser is told of the program before its subcommands.
@@ -66,49 +88,161 @@ fn program_command<'a>(alloc: Global) -> Result<Command<'a>, AllocError>
         .bin_name(NAME)
 }
 
+/// What the parser is told of `replay`.
+fn replay_command<'a>(alloc: Global) -> Result<Command<'a>, AllocError>
+    ensures line { IfOk result (λ command. app_of command ≡ replay_line) }
+    ensures local { IfOk result (λ command. (fields_of command).has_globals ≡ false) }
+{
+    let file = Arg::new(alloc, "FILE")
+        .required(true)
+        .help("The schedule; - is standard input");
+    Command::new(alloc, "replay")
+        .about("Replays a schedule of events and prints what became of each")
+        .arg(file)
+}
+
 /// What the parser is told of `plan`.
 fn plan_command<'a>(alloc: Global) -> Result<Command<'a>, AllocError>
     ensures line { IfOk result (λ command. app_of command ≡ plan_line) }
     ensures local { IfOk result (λ command. (fields_of command).has_globals ≡ false) }
 {
-    let messages = Arg::new(alloc, "messages")
-        .long("messages")
-        .value_name("FILE")
-        .required(true)
-        .help("The messages file");
-    let long = Arg::new(alloc, "long")
-        .long("long")
-        .action(ArgAction::SetTrue)
-        .help("Cuts for references of 16 bits, and not of 8");
-    Command::new(alloc, "plan")
-        .about("Prints how the text of each message is coded and cut into parts")
-        .arg(messages)?
-        .arg(long)
+    let messages = file_option(alloc, "messages", "The messages file");
+    let long = flag(
+        alloc,
+        "long",
+        "Cuts for references of 16 bits, and not of 8",
+    );
+    file_command(
+        alloc,
+        "plan",
+        "Prints how the text of each message is coded and cut into parts",
+        messages,
+        long,
+    )
 }
 
-/// The job of the subcommand that the parser met. The parser requires each name, and one that is
-/// missing is refused all the same.
+/// What the parser is told of `loop` or of `send`.
+fn sender_command<'a>(
+    alloc: Global,
+    name: &'a str,
+    about: &'a str,
+) -> Result<Command<'a>, AllocError>
+    ensures line { IfOk result (λ command. app_of command ≡ sender_line name.now) }
+    ensures local { IfOk result (λ command. (fields_of command).has_globals ≡ false) }
+{
+    let config = file_option(alloc, "config", "The config, which names the other files");
+    let quiet = flag(alloc, "quiet", "Tells nothing on the way on standard error");
+    file_command(alloc, name, about, config, quiet)
+}
+
+/// What the parser is told of a subcommand with a file and a flag.
+fn file_command<'a>(
+    alloc: Global,
+    name: &'a str,
+    about: &'a str,
+    file: Arg<'a>,
+    flag: Arg<'a>,
+) -> Result<Command<'a>, AllocError>
+    requires file_local { file.global ≡ false }
+    requires flag_local { flag.global ≡ false }
+    ensures line { IfOk result (λ command. app_of command ≡ with_rule (with_rule (new_app name.now) (rule_of file.entry)) (rule_of flag.entry)) }
+    ensures local { IfOk result (λ command. (fields_of command).has_globals ≡ false) }
+{
+    Command::new(alloc, name).about(about).arg(file)?.arg(flag)
+}
+
+/// An option that has to be given a file.
+fn file_option<'a>(alloc: Global, name: &'a str, help: &'a str) -> Arg<'a>
+    ensures rule { rule_of result ≡ file_rule name.now }
+    ensures local { result.global ≡ false }
+{
+    Arg::new(alloc, name)
+        .long(name)
+        .value_name("FILE")
+        .required(true)
+        .help(help)
+}
+
+/// An option that is given or not.
+fn flag<'a>(alloc: Global, name: &'a str, help: &'a str) -> Arg<'a>
+    ensures rule { rule_of result ≡ flag_rule name.now }
+    ensures local { result.global ≡ false }
+{
+    Arg::new(alloc, name)
+        .long(name)
+        .action(ArgAction::SetTrue)
+        .help(help)
+}
+
+/// The job of the subcommand that the parser met, and without one to replay standard input.
 fn job_in(alloc: Global, matches: &ArgMatches<'_>) -> Result<Job, Fault>
     ensures job { IfOk result (IsJob (subcommand_rows_of matches.now)) }
-    ensures refused { IfErr result (TellsName (subcommand_rows_of matches.now)) }
+    ensures refused { IfErr result (TellsMet (subcommand_rows_of matches.now)) }
 {
     let Some((name, found)) = matches.subcommand() else {
         return Ok(Job::Replay(None));
     };
-    if name == "plan" {
-        let Some(messages) = found.get_str("messages") else {
-            return Err(Fault::Words);
-        };
-        let long = is_given(found, "long");
-        return Ok(Job::Plan(String::from_str(alloc, messages)?, long));
+    job_named(alloc, name, found)
+}
+
+/// The job of the subcommand of this name with its matches. The parser knows no other, and requires
+/// its file; one that is missing is refused all the same.
+fn job_named(alloc: Global, name: &str, found: &ArgMatches<'_>) -> Result<Job, Fault>
+    ensures job { IfOk result (IsJob (Some (name.now, rows_of (found_of found.now)))) }
+    ensures refused { IfErr result (TellsMet (Some (name.now, rows_of (found_of found.now)))) }
+{
+    let Some(subcommand) = subcommand_named(name) else {
+        return Err(Fault::Words);
+    };
+    let file = match text_given(alloc, found, file_word(subcommand)) {
+        Ok(file) => file,
+        Err(fault) => return Err(fault),
+    };
+    match subcommand {
+        Subcommand::Replay => Ok(Job::Replay(file_of(file))),
+        Subcommand::Plan => Ok(Job::Plan(file, is_given(found, "long"))),
+        Subcommand::Loop => Ok(Job::Loop(file, is_given(found, "quiet"))),
+        Subcommand::Send => Ok(Job::Send(file, is_given(found, "quiet"))),
     }
+}
+
+/// The subcommand of this name.
+fn subcommand_named(name: &str) -> Option<Subcommand>
+    ensures { result ≡ named name.now }
+{
     if name == "replay" {
-        let Some(file) = found.get_str("FILE") else {
-            return Err(Fault::Words);
-        };
-        return Ok(Job::Replay(file_of(alloc, file)?));
+        Some(Subcommand::Replay)
+    } else if name == "plan" {
+        Some(Subcommand::Plan)
+    } else if name == "loop" {
+        Some(Subcommand::Loop)
+    } else if name == "send" {
+        Some(Subcommand::Send)
+    } else {
+        None
     }
-    Err(Fault::Words)
+}
+
+/// The argument that names a subcommand's file.
+fn file_word(subcommand: Subcommand) -> &'static str
+    ensures { result.now ≡ word_of_file subcommand }
+{
+    match subcommand {
+        Subcommand::Replay => "FILE",
+        Subcommand::Plan => "messages",
+        Subcommand::Loop | Subcommand::Send => "config",
+    }
+}
+
+/// The text that an argument was given.
+fn text_given(alloc: Global, matches: &ArgMatches<'_>, word: &str) -> Result<String, Fault>
+    ensures given { IfOk result (λ text. first_of word.now (rows_of (found_of matches.now)) ≡ Some (string_bytes text)) }
+    ensures missing { IfErr result (TellsName (first_of word.now (rows_of (found_of matches.now)))) }
+{
+    match matches.get_str(word) {
+        Some(text) => Ok(String::from_str(alloc, text)?),
+        None => Err(Fault::Words),
+    }
 }
 
 /// Whether a flag was given: the parser's value of it is `true` then, and else `false`.
@@ -122,14 +256,14 @@ fn is_given(matches: &ArgMatches<'_>, flag: &str) -> bool
 }
 
 /// The file of this name; `-` is standard input, which is none.
-fn file_of(alloc: Global, name: &str) -> Result<Option<String>, AllocError>
-    ensures { IfOk result (λ file. bytes_of file ≡ file_named name.now) }
+fn file_of(name: String) -> Option<String>
+    ensures { bytes_of result ≡ file_named (string_bytes name) }
 {
-    if name == "-" {
-        return Ok(None);
+    if name.as_str() == "-" {
+        None
+    } else {
+        Some(name)
     }
-    let file = String::from_str(alloc, name)?;
-    Ok(Some(file))
 }
 
 /// The fault that the parser's error is.

@@ -1,37 +1,68 @@
-//! The program `sms-send`: it replays schedules of events on accounts, requests and slots, and
-//! plans how the texts of messages are coded and cut.
+//! The program `sms-send`: it sends prepaid messages, plans how their texts are coded and cut, and
+//! replays schedules of events on accounts, requests and slots.
 #![tactic(auto)]
 
+mod accounts;
+mod answers;
+mod bell;
 #[cfg(test)]
 mod broken;
+mod config;
+#[cfg(test)]
+mod config_tests;
+mod devices;
+mod driver;
 mod fault;
 mod field;
+mod input;
+#[cfg(test)]
+mod input_tests;
 mod job;
+mod letters;
+mod limits;
 mod messages;
+mod network;
 mod output;
 mod plan;
 #[cfg(test)]
 mod plan_tests;
 mod plan_text;
+mod rates;
+#[cfg(test)]
+mod reading_tests;
 mod records;
 mod replay;
+mod report;
+#[cfg(test)]
+mod report_tests;
+mod rows;
 mod schedule;
+mod sender;
+mod sending;
+mod setup;
 #[cfg(test)]
 mod tests;
 mod text;
+mod toml_value;
 
-ghost use Rattle.std.specs.Prelude.{◌≡◌, ◌≢◌, ◌⊎◌, IfErr, IfOk, OnOk, is_ok, if◌then◌else◌};
+ghost use Rattle.std.specs.Prelude.{◌≡◌, ◌≢◌, ◌⊎◌, List, IfErr, IfOk, OnOk, is_ok, map, string_bytes, if◌then◌else◌};
+ghost use Rattle.clap.specs.Words.{Text};
 ghost use Rattle.sms_send.specs.Faults.{status_of};
-ghost use Rattle.sms_send.specs.Jobs.{Does, TellsJob, Works};
+ghost use Rattle.sms_send.specs.Jobs.{Does, IsStatusOf, TellsJob, TellsRun, Works};
 ghost use Rattle.sms_send.specs.declared.fault.Fault.TheVariants.{File, Output, OutOfMemory, Words};
 
 use crate::fault::Fault;
 use crate::job::{Job, job_of};
 use crate::plan::run_plan;
 use crate::replay::run_replay;
+use crate::sending::{Centre, send_job};
 use std::io::{ErrorKind, Write};
+use std::net::{Net, TcpListener, TcpStream};
 use std::process::ExitCode;
 use std::rt::{Env, Files};
+use std::sync::Wait;
+use std::thread::Threads;
+use std::time::Clock;
 use std::{env, fs, io};
 
 fn main(rt: HostRuntime) -> ExitCode {
@@ -43,14 +74,23 @@ fn main(rt: HostRuntime) -> ExitCode {
 }
 
 /// Does the job that the program's words ask for, and gives the exit status.
-fn run<R: AllocGlobal + Env + Files + Input, W: Write>(rt: &R, output: &mut W) -> Result<u8, Fault>
-    ensures status { IfOk result (λ status. status ≡ 0) }
-    ensures done { OnOk result (Works R.Reader.remaining R.File.remaining (W.contents output.old) (W.contents output.new)) }
+fn run<
+    R: AllocGlobal
+        + Env
+        + Files
+        + Input
+        + Net<Stream = TcpStream, Listener = TcpListener>
+        + Threads
+        + Wait
+        + Clock
+        + Sync,
+    W: Write,
+>(rt: &R, output: &mut W) -> Result<u8, Fault>
+    ensures done { IfOk result (λ status. (words : List Text) × Works R.Reader.remaining R.File.remaining words status (W.contents output.old) (W.contents output.new)) }
     ensures unwritten { IfErr result (λ fault. fault ≢ Output → output.new ≡ output.old) }
 {
     let words = words_of(rt)?;
-    let job = job_of(rt.alloc(), words.as_slice())?;
-    do_job(rt, job, output)
+    do_words(rt, words.as_slice(), output)
 }
 
 /// The words after the program's name. One that is not UTF-8 is refused.
@@ -64,13 +104,41 @@ fn words_of<R: AllocGlobal + Env>(rt: &R) -> Result<Vec<String>, Fault>
     }
 }
 
+/// Does the job that these words ask for, and gives the exit status.
+fn do_words<
+    R: AllocGlobal
+        + Files
+        + Input
+        + Net<Stream = TcpStream, Listener = TcpListener>
+        + Threads
+        + Wait
+        + Clock
+        + Sync,
+    W: Write,
+>(rt: &R, words: &[String], output: &mut W) -> Result<u8, Fault>
+    ensures done { IfOk result (λ status. Works R.Reader.remaining R.File.remaining (map string_bytes words.now) status (W.contents output.old) (W.contents output.new)) }
+    ensures refused { IfErr result (TellsRun R.Reader.remaining R.File.remaining (map string_bytes words.now)) }
+    ensures unwritten { IfErr result (λ fault. fault ≢ Output → output.new ≡ output.old) }
+{
+    match job_of(rt.alloc(), words) {
+        Ok(job) => do_job(rt, job, output),
+        Err(fault) => Err(fault),
+    }
+}
+
 /// Does a job, and gives the exit status.
-fn do_job<R: AllocGlobal + Files + Input, W: Write>(
-    rt: &R,
-    job: Job,
-    output: &mut W,
-) -> Result<u8, Fault>
-    ensures status { IfOk result (λ status. status ≡ 0) }
+fn do_job<
+    R: AllocGlobal
+        + Files
+        + Input
+        + Net<Stream = TcpStream, Listener = TcpListener>
+        + Threads
+        + Wait
+        + Clock
+        + Sync,
+    W: Write,
+>(rt: &R, job: Job, output: &mut W) -> Result<u8, Fault>
+    ensures status { IfOk result (IsStatusOf job) }
     ensures done { OnOk result (Does R.Reader.remaining R.File.remaining job (W.contents output.old) (W.contents output.new)) }
     ensures refused { IfErr result (TellsJob R.Reader.remaining R.File.remaining job) }
     ensures unwritten { IfErr result (λ fault. fault ≢ Output → output.new ≡ output.old) }
@@ -79,6 +147,8 @@ fn do_job<R: AllocGlobal + Files + Input, W: Write>(
         Job::Replay(None) => run_replay(rt.alloc(), rt.reader(), output),
         Job::Replay(Some(name)) => run_replay(rt.alloc(), open(rt, name)?, output),
         Job::Plan(name, long) => run_plan(rt.alloc(), open(rt, name)?, long, output),
+        Job::Loop(config, _quiet) => send_job(rt, Centre::Own, config, output),
+        Job::Send(config, _quiet) => send_job(rt, Centre::Named, config, output),
     }
 }
 

@@ -8,10 +8,11 @@ ghost use Rattle.sms_send.specs.Output.{WritesFront};
 ghost use Rattle.sms_send.specs.PlanText.{TellsPlan, kind_of, plan_of};
 ghost use Rattle.sms_send.specs.declared.fault.Fault.TheVariants.{Output};
 
-use crate::fault::Fault;
-use crate::messages::read_texts;
+use crate::fault::{Fault, Source};
+use crate::messages::{MOST_MESSAGES, MessageText};
 use crate::output::write_out;
 use crate::plan_text::plan_text;
+use crate::rows::read_rows;
 use sms_segment::Reference;
 use std::alloc::Global;
 use std::io::{Read, Write};
@@ -40,7 +41,7 @@ pub fn run_plan<R: Read + Drop, W: Write>(
     // Nothing was written, save where writing itself failed.
     ensures quiet { IfErr result (λ fault. fault ≢ Output → output.new ≡ output.old) }
 {
-    let texts = read_texts(alloc, input)?;
+    let texts: Vec<MessageText> = read_rows(alloc, input, Source::Messages, MOST_MESSAGES)?;
     let text = plan_text(alloc, reference_of(long), &texts)?;
     write_out(output, text.as_bytes())?;
     Ok(0)

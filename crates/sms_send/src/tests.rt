@@ -149,17 +149,23 @@ fn tells_files_that_cannot_be_read(rt: HostRuntime) -> Result<(), Fail> {
         ("plan", "nowhere.csv", "fault: file nowhere.csv"),
         ("replay", "/", "fault: file schedule"),
         ("plan", "/", "fault: file messages"),
+        ("loop", "nowhere.toml", "fault: file nowhere.toml"),
+        ("send", "nowhere.toml", "fault: file nowhere.toml"),
+        ("loop", "/", "fault: file /"),
+        ("send", "/", "fault: file /"),
     ];
     for (word, name, expected) in cases {
         let name = String::from_str(rt.alloc(), name)?;
-        let job = if word == "plan" {
-            Job::Plan(name, false)
-        } else {
-            Job::Replay(Some(name))
+        let job = match word {
+            "plan" => Job::Plan(name, false),
+            "loop" => Job::Loop(name, true),
+            "send" => Job::Send(name, true),
+            _ => Job::Replay(Some(name)),
         };
         let mut output = Vec::new(rt.alloc());
         let fault = do_job(&rt, job, &mut output).err().ok_or("no fault")?;
         assert_eq!(rt; fault.to_string(rt.alloc())?.as_str(), expected);
+        assert_eq!(rt; fault.exit_status(), 1);
         assert!(rt; output.is_empty());
     }
     Ok(())
@@ -187,6 +193,27 @@ fn reads_the_words(rt: HostRuntime) -> Result<(), Fail> {
         ("replay a b", "fault: words"),
         ("frob", "fault: words"),
         ("plan --version", "fault: words"),
+        ("loop --config c.toml", "loop of c.toml"),
+        ("loop --config c.toml --quiet", "quiet loop of c.toml"),
+        ("loop --quiet --config=-", "quiet loop of -"),
+        ("send --config c.toml", "send of c.toml"),
+        ("send --quiet --config c.toml", "quiet send of c.toml"),
+        ("loop", "fault: words"),
+        ("loop --quiet", "fault: words"),
+        ("loop --config", "fault: words"),
+        ("loop c.toml", "fault: words"),
+        ("loop --config a b", "fault: words"),
+        ("loop --config a --config b", "fault: words"),
+        ("loop --config a --quiet=true", "fault: words"),
+        ("loop --config a --long", "fault: words"),
+        ("send", "fault: words"),
+        ("send --messages x", "fault: words"),
+        ("send --config a --quiet --quiet", "fault: words"),
+        ("plan --config x", "fault: words"),
+        ("plan --messages x --quiet", "fault: words"),
+        ("replay --quiet x", "fault: words"),
+        ("Loop --config a", "fault: words"),
+        ("loop send --config a", "fault: words"),
     ];
     for (line, expected) in cases {
         let mut words = Vec::new(rt.alloc());
@@ -198,6 +225,10 @@ fn reads_the_words(rt: HostRuntime) -> Result<(), Fail> {
             Ok(Job::Replay(Some(name))) => name,
             Ok(Job::Plan(name, true)) => format!(in rt.alloc(); "long plan of {name}")?,
             Ok(Job::Plan(name, false)) => format!(in rt.alloc(); "plan of {name}")?,
+            Ok(Job::Loop(name, true)) => format!(in rt.alloc(); "quiet loop of {name}")?,
+            Ok(Job::Loop(name, false)) => format!(in rt.alloc(); "loop of {name}")?,
+            Ok(Job::Send(name, true)) => format!(in rt.alloc(); "quiet send of {name}")?,
+            Ok(Job::Send(name, false)) => format!(in rt.alloc(); "send of {name}")?,
             Err(fault) => fault.to_string(rt.alloc())?,
         };
         assert_eq!(rt; read.as_str(), expected);
@@ -219,6 +250,9 @@ fn gives_help_and_version(rt: HostRuntime) -> Result<(), Fail> {
     for (words, usage) in [
         ("--help", "Usage: sms-send [COMMAND]"),
         ("plan --help", "Usage: sms-send plan"),
+        ("loop --help", "Usage: sms-send loop"),
+        ("send -h", "Usage: sms-send send"),
+        ("help send", "--quiet"),
         ("help replay", "Usage: sms-send replay"),
     ] {
         let fault = answer_to(rt.alloc(), words)?;

@@ -1,10 +1,10 @@
-use Rattle.std.proofs.Common.{arith, ◌≡◌, ◌∙◌, refl, ap, inr, ◌+◌, length, None, Some}
+use Rattle.std.proofs.Common.{arith, ◌≡◌, ◌≤◌, ◌<◌, ◌∙◌, refl, ap, inr, ◌+◌, length, None, Some}
 use Rattle.std.specs.List.{AllZip}
 use Rattle.std.proofs.lemmas.List.{length-append}
 use Rattle.csv.specs.Records.{fields_of}
 use Rattle.sms_send.specs.Records.{TellsRecords, record_fault, records_left}
 use Rattle.sms_send.specs.declared.fault.Fault.TheVariants.{BadRecord}
-use Rattle.sms_send.proofs.Runs.{bad-next, if_known, many-next, no-more, not-read, one-more, was-read}
+use Rattle.sms_send.proofs.Runs.{bad-next, fault-bad, fault-good, fault-many, if_known, no-more, not-read, one-more, was-read}
 use Rattle.sms_send.proofs.records.read_records.Goals as goal
 
 pub returns-then-not-branch-clause-records : goal.returns-then-not-branch-clause-records
@@ -12,9 +12,9 @@ returns-then-not-branch-clause-records g c =
     let is_good = g.T.FromRecord.is_good in
     let Says = g.T.FromRecord.Says in
     if_known (records_left g.R.Read.remaining c.args.reader.now) (λ left. AllZip Says left c.loop-before.records.items × (record_fault is_good c.args.most 1 left ≡ None)) (λ left known.
-    no-more is_good Says c.args.most c.loop-before.before left c.loop-before.records.items (records_left g.R.Read.remaining c.loop-before.reader)
+    no-more Says (record_fault is_good c.args.most 1 left) (record_fault is_good c.args.most c.loop-before.before) left c.loop-before.records.items (records_left g.R.Read.remaining c.loop-before.reader)
     (records_left g.R.Read.remaining c.next_record.new.reader) c.in_ok-next_record.field-0 (fields_of c.next_record.new.row)
-    (c.loop-before.invariant.rest left known) c.in_ok-next_record.ensures.first c.if-not-branch.true)
+    (c.loop-before.invariant.rest left known) c.in_ok-next_record.ensures.first c.if-not-branch.true refl)
 
 pub returns-in-None-clause-faulty : goal.returns-in-None-clause-faulty
 returns-in-None-clause-faulty g c =
@@ -25,10 +25,11 @@ returns-in-None-clause-faulty g c =
     inr (
       before + 1,
       refl,
-      bad-next is_good Says c.args.most before left c.loop-before.records.items (records_left g.R.Read.remaining c.loop-before.reader)
+      bad-next Says (record_fault is_good c.args.most 1 left) (record_fault is_good c.args.most before) (before + 1) left c.loop-before.records.items (records_left g.R.Read.remaining c.loop-before.reader)
           (records_left g.R.Read.remaining c.next_record.new.reader) c.in_ok-next_record.field-0 (fields_of c.next_record.new.row)
           (c.loop-before.invariant.rest left known) c.in_ok-next_record.ensures.first c.if-not-branch.false
-          (not-read is_good Says (fields_of c.next_record.new.row) c.in_ok-record.field-0 c.in_ok-record.ensures c.in-None.is),
+          (λ rs. fault-bad is_good c.args.most before (fields_of c.next_record.new.row) rs
+          (not-read is_good Says (fields_of c.next_record.new.row) c.in_ok-record.field-0 c.in_ok-record.ensures c.in-None.is)),
     ))
 
 pub loop-before-preserved : goal.loop-before-preserved
@@ -37,14 +38,16 @@ loop-before-preserved g c =
     let is_good = g.T.FromRecord.is_good in
     let Says = g.T.FromRecord.Says in
     let pushed = c.in_ok-push-in-Some.ensures.items in
+    let low : before ≤ c.args.most = omega arith in
     let read = was-read is_good Says (fields_of c.next_record.new.row) c.in_ok-record.field-0 c.in-Some.record c.in_ok-record.ensures c.in-Some.is in
     record {
       reads = c.in_ok-next_record.ensures.reads;
       count = omega (arith, simp length-append at (ap length pushed), c.loop-before.invariant.count);
       rest = λ left known.
-          one-more is_good Says c.args.most before left c.loop-before.records.items c.push.new.self.items c.in-Some.record (records_left g.R.Read.remaining c.loop-before.reader)
+          one-more Says (record_fault is_good c.args.most 1 left) (record_fault is_good c.args.most before) (record_fault is_good c.args.most (before + 1)) left c.loop-before.records.items c.push.new.self.items c.in-Some.record (records_left g.R.Read.remaining c.loop-before.reader)
           (records_left g.R.Read.remaining c.next_record.new.reader) c.in_ok-next_record.field-0 (fields_of c.next_record.new.row)
-          (c.loop-before.invariant.rest left known) c.in_ok-next_record.ensures.first c.if-not-branch.false (omega arith) read.0 read.1 pushed;
+          (c.loop-before.invariant.rest left known) c.in_ok-next_record.ensures.first c.if-not-branch.false
+          (λ rs. fault-good is_good c.args.most before (fields_of c.next_record.new.row) rs low read.0) read.1 pushed;
     }
 
 pub returns-then-branch-clause-faulty : goal.returns-then-branch-clause-faulty
@@ -53,13 +56,15 @@ returns-then-branch-clause-faulty g c =
     let is_good = g.T.FromRecord.is_good in
     let Says = g.T.FromRecord.Says in
     let place : before + 1 ≡ c.args.most + 2 = omega arith in
+    let high : c.args.most < before = omega arith in
     if_known (records_left g.R.Read.remaining c.args.reader.now) (λ left. TellsRecords c.args.source (record_fault is_good c.args.most 1 left) (BadRecord c.args.source (c.args.most + 2))) (λ left known.
     inr (
       c.args.most + 2,
       refl,
-      many-next is_good Says c.args.most before left c.loop-before.records.items (records_left g.R.Read.remaining c.loop-before.reader)
+      bad-next Says (record_fault is_good c.args.most 1 left) (record_fault is_good c.args.most before) (before + 1) left c.loop-before.records.items (records_left g.R.Read.remaining c.loop-before.reader)
           (records_left g.R.Read.remaining c.next_record-2.new.reader) c.in_ok-next_record-2.field-0 (fields_of c.next_record-2.new.row)
-          (c.loop-before.invariant.rest left known) c.in_ok-next_record-2.ensures.first c.if-branch.true (omega arith)
+          (c.loop-before.invariant.rest left known) c.in_ok-next_record-2.ensures.first c.if-branch.true
+          (λ rs. fault-many is_good c.args.most before (fields_of c.next_record-2.new.row) rs high)
           ∙ ap Some place,
     ))
 
@@ -68,6 +73,6 @@ returns-clause-records g c =
     let is_good = g.T.FromRecord.is_good in
     let Says = g.T.FromRecord.Says in
     if_known (records_left g.R.Read.remaining c.args.reader.now) (λ left. AllZip Says left c.loop-before.records.items × (record_fault is_good c.args.most 1 left ≡ None)) (λ left known.
-    no-more is_good Says c.args.most c.loop-before.before left c.loop-before.records.items (records_left g.R.Read.remaining c.loop-before.reader)
+    no-more Says (record_fault is_good c.args.most 1 left) (record_fault is_good c.args.most c.loop-before.before) left c.loop-before.records.items (records_left g.R.Read.remaining c.loop-before.reader)
     (records_left g.R.Read.remaining c.next_record-2.new.reader) c.in_ok-next_record-2.field-0 (fields_of c.next_record-2.new.row)
-    (c.loop-before.invariant.rest left known) c.in_ok-next_record-2.ensures.first c.if-branch.false)
+    (c.loop-before.invariant.rest left known) c.in_ok-next_record-2.ensures.first c.if-branch.false refl)

@@ -1,7 +1,7 @@
 -- The records that were read are good and say what was kept, and the others are left.
 use Rattle.std.proofs.Common.{◌≡◌, ◌+◌, List, length, Some}
 use Rattle.sms_send.specs.Fields.{Record}
-use Rattle.sms_send.specs.Records.{ReadsAll, records_left}
+use Rattle.sms_send.specs.Records.{ReadsAll, record_fault, records_left}
 use Rattle.sms_send.proofs.Runs.{ReadSo}
 use Rattle.sms_send.proofs.records.read_records.Given as goal
 
@@ -10,5 +10,5 @@ invariant-loop-before g l = record {
   reads : ReadsAll l.reader;
   count : length l.records.items + 1 ≡ l.before;
   rest : (left : List Record) → records_left g.R.Read.remaining l.initial.reader ≡ Some left
-      → ReadSo g.T.FromRecord.is_good g.T.FromRecord.Says l.most l.before left l.records.items (records_left g.R.Read.remaining l.reader);
+      → ReadSo g.T.FromRecord.Says (record_fault g.T.FromRecord.is_good l.most 1 left) (record_fault g.T.FromRecord.is_good l.most l.before) left l.records.items (records_left g.R.Read.remaining l.reader);
 }

@@ -1,0 +1,13 @@
+use Rattle.std.proofs.Common.{◌≡◌, ◌<◌, ◌≤◌, ◌+◌, ℕ, List, length, map, take, drop, vec_len, vec_capacity}
+use Rattle.sms_worker.specs.declared.ends.MessageEnd.{MessageEnd}
+use Rattle.sms_send.specs.Deals.{dealt}
+use Rattle.sms_send.proofs.driver.dealing.merged.Given as goal
+
+abbrev pub invariant-loop-i : goal.invariant-loop-i
+invariant-loop-i l = record {
+  long : length l.parts.items ≡ length l.initial.parts.items;
+  place : l.place < length l.parts.items;
+  room : (vec_len l.out ≡ l._i) × (vec_capacity l.out ≡ vec_capacity l.initial.out);
+  back : (es : List MessageEnd) → length es ≡ l.count → map (λ p. p.items) l.initial.parts.items ≡ dealt (length l.initial.parts.items) 0 es
+      → (map (λ p. p.items) l.parts.items ≡ dealt (length l.initial.parts.items) l.place (drop l._i es)) × (l.out.items ≡ take l._i es);
+}

@@ -1,0 +1,6 @@
+use Rattle.std.proofs.Common.{◌≡◌, drop}
+use Rattle.sms_send.specs.Report.{has_unanswered}
+use Rattle.sms_send.proofs.sender.is_some_unanswered.Given as goal
+
+abbrev pub invariant-loop-segment : goal.invariant-loop-segment
+invariant-loop-segment l = has_unanswered l.segments ≡ has_unanswered (drop l.segment-index l.segments)

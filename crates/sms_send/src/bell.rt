@@ -1,0 +1,88 @@
+//! How workers wait for answers: a bell that the readers of all binds ring.
+
+ghost use Rattle.std.specs.Io.{ReadsAtMost};
+ghost use Rattle.std.specs.Io.KnownBytes.{ReadConsumes};
+
+use sms_worker::Pause;
+use std::io;
+use std::io::Read;
+use std::sync::{Condvar, Mutex, Wait};
+use std::time::{Clock, Duration};
+
+/// How often the bell was rung, and how many of these rings ended a pause before it began.
+#[derive(Drop)]
+struct Rings {
+    rung: u64,
+    heard: u64,
+}
+
+/// A bell that ends pauses.
+#[derive(Drop)]
+pub struct Bell {
+    rings: Mutex<Rings>,
+    sound: Condvar,
+}
+
+impl Bell {
+    /// A bell that has not rung.
+    pub fn new() -> Bell {
+        Bell {
+            rings: Mutex::new(Rings { rung: 0, heard: 0 }),
+            sound: Condvar::new(),
+        }
+    }
+
+    /// Ends all pauses, or the next one where none lasts.
+    pub fn ring<R: Wait>(&self, rt: &R) {
+        let mut rings = self.rings.lock(rt);
+        rings.rung = rings.rung.wrapping_add(1);
+        drop(rings);
+        self.sound.notify_all();
+    }
+
+    /// Waits until the bell rings, at most so long; not at all where it rang since a pause began.
+    fn wait<R: Wait + Clock>(&self, rt: &R, most: Duration) {
+        let mut rings = self.rings.lock(rt);
+        if rings.heard != rings.rung {
+            rings.heard = rings.rung;
+            return;
+        }
+        let (mut rings, _waited) = self.sound.wait_timeout(rt, rings, most);
+        rings.heard = rings.rung;
+    }
+}
+
+/// A pause that the bell ends early.
+#[derive(Drop)]
+pub struct Rest<'r, R> {
+    pub rt: &'r R,
+    pub bell: &'r Bell,
+}
+
+impl<'r, R: Wait + Clock> Pause for Rest<'r, R> {
+    fn pause(&self, ms: u32) {
+        self.bell
+            .wait(self.rt, Duration::from_millis(u64::from(ms)));
+    }
+}
+
+/// A reader that rings the bell when it is asked for octets: a bind's reader has then handed on all
+/// answers that came before.
+#[derive(Drop)]
+pub struct Ringing<'r, S, R> {
+    pub inner: S,
+    pub rt: &'r R,
+    pub bell: &'r Bell,
+}
+
+impl<'r, S: Read, R: Wait> Read for Ringing<'r, S, R> {
+    ghost remaining = { λ r. S.remaining r.inner };
+
+    fn read(&mut self, buf: &mut [u8]) -> io::Result<usize>
+        ensures bound { ReadsAtMost result buf.new }
+        ensures bytes { ReadConsumes (S.remaining self.old.inner) (S.remaining self.new.inner) result buf.new }
+    {
+        self.bell.ring(self.rt);
+        self.inner.read(buf)
+    }
+}

@@ -1,0 +1,118 @@
+//! How binds are ended (SMPP 3.4 4.2).
+ghost use Rattle.std.specs.Prelude.{◌≡◌, map, length};
+
+use crate::driver::seating::Post;
+use sms_pdu::{BodyRef, Frame, PduRef, encode_into};
+use sms_window::{Draw, Window, WindowSeat};
+use sms_worker::{Clock, Pause, Rules};
+use std::alloc::Global;
+use std::io::Write;
+use std::sync::Wait;
+use std::sync::atomic::Ordering;
+
+/// Draws a number, in at most 1,000 tries.
+pub(crate) fn draw(window: &Window, seat: &mut WindowSeat) -> Option<u32>
+    requires own { seat.old.window ≡ window.now }
+    ensures window { seat.new.window ≡ seat.old.window }
+{
+    for _try in 0u32..1_000 {
+        match window.try_draw(seat) {
+            Draw::Number(number) => return Some(number),
+            Draw::UsedUp => return None,
+            Draw::Contended(_) => {}
+        }
+    }
+    None
+}
+
+/// The frame of the unbind with this number; none where memory runs out.
+fn unbind_frame(alloc: Global, number: u32) -> Option<Frame> {
+    let pdu = PduRef {
+        status: 0,
+        number,
+        body: BodyRef::Unbind,
+    };
+    let mut octets = Vec::new(alloc);
+    match encode_into(&mut octets, &pdu) {
+        Ok(_) => Some(Frame::new(octets)),
+        Err(_) => None,
+    }
+}
+
+/// Writes an unbind. None is written where the bind is down, all its numbers are drawn, or memory
+/// runs out.
+fn unbind<W: Write, R: Wait>(rt: &R, alloc: Global, post: &Post<W>, own: &mut WindowSeat)
+    requires own { own.old.window ≡ post.now.window }
+    ensures window { own.new.window ≡ own.old.window }
+{
+    if post.line.down.load(Ordering::SeqCst) {
+        return;
+    }
+    let Some(number) = draw(&post.window, own) else {
+        return;
+    };
+    if let Some(frame) = unbind_frame(alloc, number) {
+        let _sent = post.line.wire.lock(rt).send(frame);
+    }
+}
+
+/// Writes an unbind to each bind.
+pub(crate) fn unbind_all<W: Write, R: Wait>(
+    rt: &R,
+    alloc: Global,
+    posts: &[Post<W>],
+    owns: &mut Vec<WindowSeat>,
+)
+    requires owns { map (λ s. s.window) owns.old.items ≡ map (λ p. p.window) posts.now }
+    ensures owns { map (λ s. s.window) owns.new.items ≡ map (λ s. s.window) owns.old.items }
+{
+    for bind in 0..posts.len() {
+        let own = &mut owns[bind];
+        unbind(rt, alloc, &posts[bind], own);
+    }
+}
+
+/// Waits until the bind is down, at most as long as for an answer.
+fn wait_until_down<W, K: Clock, P: Pause>(post: &Post<W>, rules: &Rules, clock: &K, pause: &P) {
+    let begun = clock.now_ms();
+    for _turn in 0..rules.turns {
+        if post.line.down.load(Ordering::SeqCst) {
+            return;
+        }
+        if clock.now_ms().saturating_sub(begun) >= u64::from(rules.answer_ms) {
+            return;
+        }
+        pause.pause(1);
+    }
+}
+
+/// Unbinds all binds, then waits for the end of each bind's reader, and stops it.
+pub(crate) fn hang_up_all<W: Write, K: Clock, P: Pause, R: Wait>(
+    rt: &R,
+    alloc: Global,
+    posts: &[Post<W>],
+    owns: &mut Vec<WindowSeat>,
+    rules: &Rules,
+    clock: &K,
+    pause: &P,
+)
+    requires owns { map (λ s. s.window) owns.old.items ≡ map (λ p. p.window) posts.now }
+    ensures owns { map (λ s. s.window) owns.new.items ≡ map (λ s. s.window) owns.old.items }
+{
+    unbind_all(rt, alloc, posts, owns);
+    for post in posts {
+        wait_until_down(post, rules, clock, pause);
+        post.line.stop.store(true, Ordering::SeqCst);
+    }
+}
+
+/// Lets workers and readers end soon, where not all could be started.
+pub(crate) fn give_up_unless<W>(all: bool, posts: &[Post<W>]) {
+    if all {
+        return;
+    }
+    for post in posts {
+        post.line.down.store(true, Ordering::SeqCst);
+        post.line.stop.store(true, Ordering::SeqCst);
+    }
+}

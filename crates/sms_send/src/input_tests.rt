@@ -1,0 +1,267 @@
+//! The files that the sender reads, and the first fault of those that are none.
+
+use crate::broken::FailingInput;
+use crate::fault::{Fault, Source};
+use crate::input::{Input, read_input};
+use std::alloc::{AllocError, Global};
+use std::process::Abort;
+use std::test::Fail;
+
+const ACCOUNTS: &str = "account,credits\nmain,3\n\"a,b\",1099511627776\n";
+
+const MESSAGES: &str =
+    "account,source,destination,text\n\"a,b\",1,2,x\nmain,,+44,\nnobody,a,b,\u{436}\n";
+
+const RATES: &str = "prefix,credits\n44,3\n4477,5\n,2\n";
+
+// What the files say, or the text of the fault.
+fn said(
+    rt: &impl Abort,
+    alloc: Global,
+    accounts: &[u8],
+    messages: &[u8],
+    tariff: Option<&[u8]>,
+) -> Result<String, Fail> {
+    match read_input(alloc, b"window = 3", accounts, messages, tariff) {
+        Ok(input) => Ok(shown(alloc, &input)?),
+        Err(Fault::OutOfMemory) => Err(Fail::from(AllocError)),
+        Err(fault) => {
+            assert_eq!(rt; fault.exit_status(), 1);
+            Ok(fault.to_string(alloc)?)
+        }
+    }
+}
+
+// The accounts, the messages, and what three destinations cost.
+fn shown(alloc: Global, input: &Input) -> Result<String, AllocError> {
+    let mut text = format!(in alloc; "window {}", input.config().limits.window)?;
+    for opening in input.openings() {
+        text.push_str(format!(in alloc; " / {} {}", opening.name, opening.credits)?.as_str())?;
+    }
+    for message in input.messages() {
+        let account = match message.account {
+            Some(account) => format!(in alloc; "{account}")?,
+            None => String::from_str(alloc, "none")?,
+        };
+        let line = format!(in alloc;
+            " / {} {} {} {} {}",
+            message.index, account, message.source, message.dest, message.text
+        )?;
+        text.push_str(line.as_str())?;
+    }
+    for destination in ["+447700900123", "4420", "33"] {
+        let cost = input.tariff().cost(destination);
+        text.push_str(format!(in alloc; " / {cost}")?.as_str())?;
+    }
+    Ok(text)
+}
+
+#[test]
+fn reads_the_files_of_a_run(rt: HostRuntime) -> Result<(), Fail> {
+    let alloc = rt.alloc();
+    let accounts = ACCOUNTS.as_bytes();
+    let messages = MESSAGES.as_bytes();
+    let read = "window 3 / main 3 / a,b 1099511627776 / 0 1 1 2 x / 1 0  +44  / 2 none a b \u{436}";
+    let plain = said(&rt, alloc, accounts, messages, None)?;
+    assert_eq!(rt;
+        plain.as_str(),
+        format!(in alloc; "{read} / 1 / 1 / 1")?.as_str()
+    );
+    let rated = said(&rt, alloc, accounts, messages, Some(RATES.as_bytes()))?;
+    assert_eq!(rt;
+        rated.as_str(),
+        format!(in alloc; "{read} / 5 / 3 / 2")?.as_str()
+    );
+    Ok(())
+}
+
+#[test]
+fn names_the_first_faulty_record(rt: HostRuntime) -> Result<(), Fail> {
+    let alloc = rt.alloc();
+    let accounts: [(&[u8], &str); 11] = [
+        (b"", "fault: accounts record 1"),
+        (b"account\nmain,1\n", "fault: accounts record 1"),
+        (b"account,credits\n", "fault: accounts record 2"),
+        (b"account,credits\nmain\n", "fault: accounts record 2"),
+        (b"account,credits\nmain,1,2\n", "fault: accounts record 2"),
+        (b"account,credits\nmain,-1\n", "fault: accounts record 2"),
+        (
+            b"account,credits\nmain,1\nmain,2\n",
+            "fault: accounts record 3",
+        ),
+        (
+            b"account,credits\na,1\nb,1\na,x\nc,y\n",
+            "fault: accounts record 4",
+        ),
+        (
+            b"account,credits\na,1\na,1\nc,y\n",
+            "fault: accounts record 3",
+        ),
+        (
+            b"account,credits\nmain,1099511627777\n",
+            "fault: accounts record 2",
+        ),
+        (b"account,credits\nm\xff,1\n", "fault: accounts record 2"),
+    ];
+    for (file, wanted) in accounts {
+        assert_eq!(rt; said(&rt, alloc, file, b"", None)?.as_str(), wanted);
+    }
+    let messages: [(&[u8], &str); 3] = [
+        (b"", "fault: messages record 1"),
+        (b"account,source,destination\n", "fault: messages record 1"),
+        (
+            b"account,source,destination,text\na,b,c,d\na,b,c\n",
+            "fault: messages record 3",
+        ),
+    ];
+    for (file, wanted) in messages {
+        assert_eq!(rt;
+            said(&rt, alloc, ACCOUNTS.as_bytes(), file, Some(b""))?.as_str(),
+            wanted
+        );
+    }
+    let rates: [(&[u8], &str); 9] = [
+        (b"", "fault: tariff record 1"),
+        (b"credits,prefix\n", "fault: tariff record 1"),
+        (b"prefix,credits\n44\n", "fault: tariff record 2"),
+        (b"prefix,credits\n44,3\n44,3\n", "fault: tariff record 3"),
+        (b"prefix,credits\n4a,3\n", "fault: tariff record 2"),
+        (b"prefix,credits\n44,0\n", "fault: tariff record 2"),
+        (b"prefix,credits\n44,1001\n", "fault: tariff record 2"),
+        (
+            b"prefix,credits\n44,3\n123456789012345678901,3\n",
+            "fault: tariff record 3",
+        ),
+        (b"prefix,credits\n4a,1\n44,x\n", "fault: tariff record 3"),
+    ];
+    for (file, wanted) in rates {
+        let told = said(
+            &rt,
+            alloc,
+            ACCOUNTS.as_bytes(),
+            MESSAGES.as_bytes(),
+            Some(file),
+        )?;
+        assert_eq!(rt; told.as_str(), wanted);
+    }
+    Ok(())
+}
+
+// A file of a header and so many records, each with its number.
+fn numbered(alloc: Global, header: &str, count: usize, rest: &str) -> Result<String, AllocError> {
+    let mut file = String::from_str(alloc, header)?;
+    for number in 0..count {
+        file.push_str(format!(in alloc; "{number}{rest}\n")?.as_str())?;
+    }
+    Ok(file)
+}
+
+#[test]
+fn takes_so_many_records_and_no_more(rt: HostRuntime) -> Result<(), Fail> {
+    let alloc = rt.alloc();
+    let messages = MESSAGES.as_bytes();
+    for (count, good) in [(64, true), (65, false)] {
+        let file = numbered(alloc, "account,credits\n", count, ",1")?;
+        let told = said(&rt, alloc, file.as_bytes(), messages, None)?;
+        assert_eq!(rt; told.as_str() == "fault: accounts record 66", !good);
+    }
+    for (count, good) in [(1_000, true), (1_001, false)] {
+        let file = numbered(alloc, "prefix,credits\n", count, ",1")?;
+        let told = said(
+            &rt,
+            alloc,
+            ACCOUNTS.as_bytes(),
+            messages,
+            Some(file.as_bytes()),
+        )?;
+        assert_eq!(rt; told.as_str() == "fault: tariff record 1002", !good);
+    }
+    Ok(())
+}
+
+// What is told of these inputs.
+fn told(
+    alloc: Global,
+    config: &[u8],
+    accounts: &[u8],
+    messages: &[u8],
+    tariff: Option<&[u8]>,
+) -> Result<String, Fail> {
+    match read_input(alloc, config, accounts, messages, tariff) {
+        Ok(_) => Ok(String::from_str(alloc, "none")?),
+        Err(Fault::OutOfMemory) => Err(Fail::from(AllocError)),
+        Err(fault) => Ok(fault.to_string(alloc)?),
+    }
+}
+
+// Each input is faulty, and then one after the other is mended, in the order in which they are told.
+#[test]
+fn tells_the_first_fault_of_all_inputs(rt: HostRuntime) -> Result<(), Fail> {
+    let alloc = rt.alloc();
+    let accounts = ACCOUNTS.as_bytes();
+    let messages = MESSAGES.as_bytes();
+    let rates = RATES.as_bytes();
+    let rows: [(&[u8], &[u8], &[u8], Option<&[u8]>, &str); 8] = [
+        (b"port = 0", b"", b"", Some(b""), "fault: config port"),
+        (b"port = ", b"", b"", Some(b""), "fault: config"),
+        (b"", b"", b"", Some(b""), "fault: accounts record 1"),
+        (b"", accounts, b"", Some(b""), "fault: messages record 1"),
+        (b"", accounts, messages, Some(b""), "fault: tariff record 1"),
+        (b"", accounts, messages, Some(rates), "none"),
+        (b"", accounts, messages, None, "none"),
+        (b"", b"", messages, None, "fault: accounts record 1"),
+    ];
+    for (config, accounts, messages, tariff, wanted) in rows {
+        let fault = told(alloc, config, accounts, messages, tariff)?;
+        assert_eq!(rt; fault.as_str(), wanted);
+    }
+    Ok(())
+}
+
+// The parts of an input are those that it shows.
+#[test]
+fn gives_its_parts(rt: HostRuntime) -> Result<(), Fail> {
+    let alloc = rt.alloc();
+    let input = match read_input(
+        alloc,
+        b"depth = 2",
+        ACCOUNTS.as_bytes(),
+        MESSAGES.as_bytes(),
+        Some(RATES.as_bytes()),
+    ) {
+        Ok(input) => input,
+        Err(_) => return Err(Fail::from(AllocError)),
+    };
+    let (config, openings, messages, tariff) = input.into_parts();
+    assert_eq!(rt; config.limits.depth, 2);
+    assert_eq!(rt; openings.len(), 2);
+    assert_eq!(rt; messages.len(), 3);
+    assert_eq!(rt; tariff.cost("4420"), 3);
+    Ok(())
+}
+
+// The fault says that this source can't be read.
+fn is_unread(fault: &Option<Fault>, source: Source) -> bool {
+    match fault {
+        Some(Fault::Unreadable(read)) => *read == source,
+        _ => false,
+    }
+}
+
+#[test]
+fn tells_a_file_that_fails(rt: HostRuntime) {
+    let alloc = rt.alloc();
+    let accounts = ACCOUNTS.as_bytes();
+    let messages = MESSAGES.as_bytes();
+    let none = None::<&[u8]>;
+    let left = b"account";
+    let fault = read_input(alloc, b"", FailingInput { left }, messages, none).err();
+    assert!(rt; is_unread(&fault, Source::Accounts));
+    let left = b"account,source,destination,text\na,";
+    let fault = read_input(alloc, b"", accounts, FailingInput { left }, none).err();
+    assert!(rt; is_unread(&fault, Source::Messages));
+    let left = b"prefix,credits\n44";
+    let file = Some(FailingInput { left });
+    let fault = read_input(alloc, b"", accounts, messages, file).err();
+    assert!(rt; is_unread(&fault, Source::Tariff));
+}

@@ -1,0 +1,104 @@
+//! Connections over TCP: to a message centre, or to test centres of the program's own.
+
+use crate::bell::{Bell, Ringing};
+use crate::driver::Dial;
+use sms_centre::{Script, serve};
+use std::alloc::Global;
+use std::net::{Ipv4Addr, Net, TcpListener, TcpStream};
+use std::sync::Wait;
+use std::thread;
+use std::thread::Threads;
+use std::time::Duration;
+
+/// How long a read waits for octets.
+const READ_MS: u64 = 100;
+
+/// How many turns a test centre takes.
+const CENTRE_TURNS: u64 = 1 << 40;
+
+/// Reader and writer of one connection: nothing waits for more to be written, and a read waits for
+/// 100 ms at most.
+fn ends_of<'r, R: Net<Stream = TcpStream>>(
+    rt: &'r R,
+    bell: &'r Bell,
+    stream: TcpStream,
+) -> Option<(Ringing<'r, TcpStream, R>, TcpStream)> {
+    stream.set_nodelay(true).ok()?;
+    stream
+        .set_read_timeout(Some(Duration::from_millis(READ_MS)))
+        .ok()?;
+    let inner = stream.try_clone().ok()?;
+    Some((Ringing { inner, rt, bell }, stream))
+}
+
+/// Connects to a message centre.
+#[derive(Drop)]
+pub struct TcpDial<'r, R> {
+    pub rt: &'r R,
+    pub bell: &'r Bell,
+    pub host: &'r str,
+    pub port: u16,
+}
+
+impl<'r, R: Net<Stream = TcpStream> + Wait + Sync> Dial for TcpDial<'r, R> {
+    type Reader = Ringing<'r, TcpStream, R>;
+
+    type Writer = TcpStream;
+
+    fn dial(&self, _bind: u32) -> Option<(Ringing<'r, TcpStream, R>, TcpStream)> {
+        let stream = TcpStream::connect(self.rt, (self.host, self.port)).ok()?;
+        ends_of(self.rt, self.bell, stream)
+    }
+}
+
+/// Connects to a test centre for each bind, which it starts in a thread of its own.
+#[derive(Drop)]
+pub struct LoopDial<'r, R> {
+    pub rt: &'r R,
+    pub alloc: Global,
+    pub bell: &'r Bell,
+    pub listener: TcpListener,
+    /// What the centres' script says.
+    pub bind_status: u32,
+    pub answers: &'r [String],
+}
+
+impl<'r, R: Net<Stream = TcpStream, Listener = TcpListener> + Threads + Wait + Sync> Dial
+    for LoopDial<'r, R> {
+    type Reader = Ringing<'r, TcpStream, R>;
+
+    type Writer = TcpStream;
+
+    fn dial(&self, _bind: u32) -> Option<(Ringing<'r, TcpStream, R>, TcpStream)> {
+        let address = self.listener.local_addr().ok()?;
+        let near = TcpStream::connect(self.rt, address).ok()?;
+        let (far, _from) = self.listener.accept().ok()?;
+        let script = Script::of(self.alloc, self.bind_status, self.answers).ok()?;
+        start_centre(self.rt, self.alloc, far, script)?;
+        ends_of(self.rt, self.bell, near)
+    }
+}
+
+/// A listener on a free port of this machine alone.
+pub fn listen<R: Net<Stream = TcpStream, Listener = TcpListener>>(rt: &R) -> Option<TcpListener> {
+    TcpListener::bind(rt, (Ipv4Addr::LOCALHOST, 0u16)).ok()
+}
+
+/// Serves the connection in a thread of its own, to its end.
+fn start_centre<R: Threads>(
+    rt: &R,
+    alloc: Global,
+    stream: TcpStream,
+    script: Script,
+) -> Option<()> {
+    stream.set_nodelay(true).ok()?;
+    let mut reader = stream.try_clone().ok()?;
+    let mut writer = stream;
+    let centre = move || {
+        let _end = serve(alloc, &mut reader, &mut writer, script, CENTRE_TURNS);
+    };
+    match thread::spawn(rt, centre) {
+        Ok(_running) => Some(()),
+        Err(_refused) => None,
+    }
+}

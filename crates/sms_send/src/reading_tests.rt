@@ -1,0 +1,111 @@
+//! Accounts and messages files: names in quotes, and where reading ends.
+
+use crate::accounts::read_accounts;
+use crate::broken::FailingInput;
+use crate::fault::Fault;
+use crate::letters::read_messages;
+use std::alloc::{AllocError, Global};
+use std::test::Fail;
+
+const ACCOUNTS: &[u8] =
+    b"\"account\",credits\r\n\"a \"\"b\"\", c\",007\r\n\r\n,0\n\"two\nlines\",1099511627776";
+
+const MESSAGES: &[u8] =
+    b"account,source,destination,text\n\"two\nlines\",ab,1,\"x, \"\"y\"\"\"\n,c,2,\nnobody,d,3,z\n";
+
+// The text of the fault, or that there is none.
+fn told<T: Drop>(alloc: Global, read: Result<T, Fault>) -> Result<String, Fail> {
+    match read {
+        Ok(_) => Ok(String::from_str(alloc, "no fault")?),
+        Err(Fault::OutOfMemory) => Err(Fail::from(AllocError)),
+        Err(fault) => Ok(fault.to_string(alloc)?),
+    }
+}
+
+#[test]
+fn reads_names_in_quotes(rt: HostRuntime) -> Result<(), Fail> {
+    let alloc = rt.alloc();
+    let Ok(openings) = read_accounts(alloc, ACCOUNTS) else {
+        return Err(Fail::from(AllocError));
+    };
+    let accounts = [
+        ("a \"b\", c", 7),
+        ("", 0),
+        ("two\nlines", 1_099_511_627_776),
+    ];
+    assert_eq!(rt; openings.len(), accounts.len());
+    for (opening, (name, credits)) in openings.iter().zip(accounts) {
+        assert_eq!(rt; opening.name.as_str(), name);
+        assert_eq!(rt; opening.credits, credits);
+    }
+    let Ok(messages) = read_messages(alloc, MESSAGES, openings.as_slice()) else {
+        return Err(Fail::from(AllocError));
+    };
+    let wanted = [
+        (0, Some(2), "ab", "1", "x, \"y\""),
+        (1, Some(1), "c", "2", ""),
+        (2, None, "d", "3", "z"),
+    ];
+    assert_eq!(rt; messages.len(), wanted.len());
+    for (message, (index, account, source, dest, text)) in messages.iter().zip(wanted) {
+        assert_eq!(rt; message.index, index);
+        assert_eq!(rt; message.account, account);
+        assert_eq!(rt; message.source.as_str(), source);
+        assert_eq!(rt; message.dest.as_str(), dest);
+        assert_eq!(rt; message.text.as_str(), text);
+    }
+    Ok(())
+}
+
+#[test]
+fn tells_a_device_that_fails_at_each_octet(rt: HostRuntime) -> Result<(), Fail> {
+    let alloc = rt.alloc();
+    for given in 0..ACCOUNTS.len() + 1 {
+        let left = &ACCOUNTS[..given];
+        let fault = told(alloc, read_accounts(alloc, FailingInput { left }))?;
+        assert_eq!(rt; fault.as_str(), "fault: file accounts");
+    }
+    for given in 0..MESSAGES.len() + 1 {
+        let left = &MESSAGES[..given];
+        let fault = told(alloc, read_messages(alloc, FailingInput { left }, &[]))?;
+        assert_eq!(rt; fault.as_str(), "fault: file messages");
+    }
+    Ok(())
+}
+
+/// Behind a faulty record nothing more is read: the device fails there.
+#[test]
+fn reads_no_further(rt: HostRuntime) -> Result<(), Fail> {
+    let alloc = rt.alloc();
+    let accounts: [(&[u8], &str); 5] = [
+        (b"account,credit\n", "fault: accounts record 1"),
+        (b"account,credits\n", "fault: file accounts"),
+        (b"account,credits\na,\n", "fault: accounts record 2"),
+        (b"account,credits\na,1\na,2\n", "fault: accounts record 3"),
+        (b"account,credits\na,1\nA,2\n", "fault: file accounts"),
+    ];
+    for (left, wanted) in accounts {
+        let fault = told(alloc, read_accounts(alloc, FailingInput { left }))?;
+        assert_eq!(rt; fault.as_str(), wanted);
+    }
+    let messages: [(&[u8], &str); 4] = [
+        (
+            b"account,source,text,destination\n",
+            "fault: messages record 1",
+        ),
+        (b"account,source,destination,text\n", "fault: file messages"),
+        (
+            b"account,source,destination,text\na,b,c\n",
+            "fault: messages record 2",
+        ),
+        (
+            b"account,source,destination,text\na,b,c,d\na,b,c,\xff\n",
+            "fault: messages record 3",
+        ),
+    ];
+    for (left, wanted) in messages {
+        let fault = told(alloc, read_messages(alloc, FailingInput { left }, &[]))?;
+        assert_eq!(rt; fault.as_str(), wanted);
+    }
+    Ok(())
+}

@@ -1,0 +1,237 @@
+//! The sender: what was read is sent over all binds, and ends as its contract says.
+
+ghost use Rattle.std.specs.Prelude.{◌≡◌, ◌≤◌, ◌⊎◌, IfErr, IfOk, OnOk};
+ghost use Rattle.std.specs.Io.KnownBytes.{Appends};
+ghost use Rattle.sms_send.specs.Output.{WritesFront};
+ghost use Rattle.sms_send.specs.Report.{ends_status, has_unanswered, is_open_end, is_unanswered as is_silence, report_of, some_unanswered};
+ghost use Rattle.sms_send.specs.Sent.{IsRulesOf, IsSent};
+ghost use Rattle.sms_send.specs.declared.fault.Fault.TheVariants.{Output, OutOfMemory};
+
+use crate::config::{Config, Connection, Flags, Retry};
+use crate::driver::{Dial, Habits, SendFault, drive_all};
+use crate::fault::Fault;
+use crate::input::Input;
+use crate::limits::Limits;
+use crate::report::write_report_of;
+use sms_bind::Settings;
+use sms_book::{Opening, Statement, Tariff};
+use sms_pdu::Octets;
+use sms_session::Policy;
+use sms_worker::{Clock, Gate, MessageEnd, MessageResult, Outcome, Pause, Rules, SegmentEnd};
+use std::alloc::Global;
+use std::io::Write;
+use std::sync::Wait;
+use std::thread::Threads;
+
+/// The exit status where a segment is unanswered.
+const UNANSWERED: u8 = 4;
+
+/// How many turns readers and workers take at most.
+const TURNS: u64 = 1 << 40;
+
+/// What a sending ends with: an end for each message, in order, and a row for each account.
+/// `send_all` alone makes one.
+#[derive(Drop)]
+pub struct Ended {
+    openings: Vec<Opening>,
+    ends: Vec<MessageEnd>,
+    statement: Statement,
+}
+
+impl Ended {
+    /// The accounts as they were opened.
+    pub fn openings(&self) -> &[Opening]
+        ensures { result.now ≡ self.now.openings.items }
+    {
+        self.openings.as_slice()
+    }
+
+    /// What became of the messages.
+    pub fn ends(&self) -> &[MessageEnd]
+        ensures { result.now ≡ self.now.ends.items }
+    {
+        self.ends.as_slice()
+    }
+
+    /// The program's exit status: 4 where a segment is unanswered, else 0.
+    pub fn exit_status(&self) -> u8
+        ensures { result ≡ ends_status self.now.ends.items }
+    {
+        if is_some_open(self.ends.as_slice()) {
+            UNANSWERED
+        } else {
+            0
+        }
+    }
+
+    /// What became of the accounts.
+    pub fn statement(&self) -> &Statement
+        ensures { result.now ≡ self.now.statement }
+    {
+        &self.statement
+    }
+}
+
+impl From<SendFault> for Fault {
+    fn from(fault: SendFault) -> Fault {
+        match fault {
+            SendFault::BindRefused(bind, status) => Fault::BindRefused(bind, status),
+            SendFault::BindFailed(bind) => Fault::BindFailed(bind),
+            SendFault::OutOfMemory => Fault::OutOfMemory,
+        }
+    }
+}
+
+/// Whether the outcome is that there was no answer.
+fn is_unanswered(outcome: Outcome) -> bool
+    ensures { result ≡ is_silence outcome }
+{
+    match outcome {
+        Outcome::Unanswered => true,
+        Outcome::Charged | Outcome::Refused | Outcome::Unsent => false,
+    }
+}
+
+/// Whether one of the segments is unanswered.
+fn is_some_unanswered(segments: &[SegmentEnd]) -> bool
+    ensures { result ≡ has_unanswered segments.now }
+{
+    for segment in segments {
+        if is_unanswered(segment.outcome) {
+            return true;
+        }
+    }
+    false
+}
+
+/// Whether a segment of the message is unanswered.
+fn is_open(end: &MessageEnd) -> bool
+    ensures { result ≡ is_open_end end.now.result }
+{
+    match &end.result {
+        MessageResult::Sent(segments) => is_some_unanswered(segments.as_slice()),
+        MessageResult::Refused(_) => false,
+    }
+}
+
+/// Whether a segment of one of the messages is unanswered.
+fn is_some_open(ends: &[MessageEnd]) -> bool
+    ensures { result ≡ some_unanswered ends.now }
+{
+    for end in ends {
+        if is_open(end) {
+            return true;
+        }
+    }
+    false
+}
+
+/// The rules of the workers.
+fn rules_of(retry: Retry, limits: Limits, flags: Flags, tariff: Tariff) -> Result<Rules, Fault>
+    ensures { IfOk result (IsRulesOf retry limits flags tariff) }
+{
+    let Ok(policy) = Policy::new(retry.attempts, retry.base_ms) else {
+        return Err(Fault::OutOfMemory);
+    };
+    Ok(Rules {
+        policy,
+        depth: limits.depth,
+        answer_ms: retry.answer_ms,
+        turns: TURNS,
+        receipts: flags.receipts,
+        tariff,
+        long_reference: flags.long_reference,
+    })
+}
+
+/// What all binds have in common.
+fn habits_of(connection: Connection, limits: Limits, flags: Flags) -> Result<Habits, Fault> {
+    let Connection {
+        system_id,
+        password,
+        system_type,
+        mode,
+        ..
+    } = connection;
+    let Ok(settings) = Settings::new(
+        mode,
+        Octets::new(system_id.into_bytes()),
+        Octets::new(password.into_bytes()),
+        Octets::new(system_type.into_bytes()),
+    ) else {
+        return Err(Fault::OutOfMemory);
+    };
+    Ok(Habits {
+        settings,
+        limit: limits.window,
+        follow: flags.follow,
+    })
+}
+
+/// Makes all binds, sends all messages, and ends the binds. Nothing is sent where a bind fails; the
+/// first that fails is told.
+pub fn send_all<
+    D: Dial,
+    G: Gate + Sync,
+    K: Clock + Sync,
+    P: Pause + Sync,
+    R: Threads + Wait + Sync,
+>(
+    rt: &R,
+    alloc: Global,
+    input: Input,
+    dial: &D,
+    gate: &G,
+    clock: &K,
+    pause: &P,
+) -> Result<Ended, Fault>
+    ensures { IfOk result (IsSent input) }
+{
+    let (config, openings, messages, tariff) = input.into_parts();
+    let Config {
+        connection,
+        limits,
+        retry,
+        flags,
+        ..
+    } = config;
+    let rules = rules_of(retry, limits, flags, tariff)?;
+    let habits = habits_of(connection, limits, flags)?;
+    let (ends, statement) = drive_all(
+        rt,
+        alloc,
+        limits.binds as usize,
+        limits.workers as usize,
+        &habits,
+        &rules,
+        openings.as_slice(),
+        messages,
+        dial,
+        gate,
+        clock,
+        pause,
+    )?;
+    Ok(Ended {
+        openings,
+        ends,
+        statement,
+    })
+}
+
+/// Writes what is printed of a sending. It is made whole before its first octet is written.
+pub fn write_report<W: Write>(alloc: Global, ended: &Ended, output: &mut W) -> Result<(), Fault>
+    ensures written { OnOk result (Appends (W.contents output.old) (W.contents output.new) (report_of ended.now.openings.items ended.now.ends.items ended.now.statement)) }
+    ensures failed { IfErr result (λ fault. (fault ≡ Output) ⊎ (fault ≡ OutOfMemory)) }
+
+    // Where the output failed, a front of the text was written, and else nothing.
+    ensures front { IfErr result (λ fault. fault ≡ Output → WritesFront (W.contents output.old) (W.contents output.new) (report_of ended.now.openings.items ended.now.ends.items ended.now.statement)) }
+    ensures quiet { IfErr result (λ fault. fault ≡ OutOfMemory → output.new ≡ output.old) }
+{
+    write_report_of(
+        alloc,
+        ended.openings(),
+        ended.ends(),
+        ended.statement(),
+        output,
+    )
+}
