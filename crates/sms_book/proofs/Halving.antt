@@ -10,7 +10,7 @@ use Rattle.std.proofs.lemmas.List.Edits.{length-insert, get_or-insert_below, get
 use native.Mathlib.Decide.{ℕ_discrete, dec_lt}
 use mathlib.Core.Logic.{dite}
 use Rattle.sms_book.specs.Tariffs.{Price, price_at}
-use Rattle.sms_book.specs.Indexes.{prefix_in, Before, IsIndex, IsRoom}
+use Rattle.sms_book.specs.Indexes.{prefix_in, Before, IsIndex, IsRoom, IsAmong}
 
 pub before_trans : (a b c : List ℕ) → Before a b → Before b c → Before a c
 before_trans a b c p q = nat_list_cmp_total.trans a b c p q
@@ -45,12 +45,12 @@ above_middle prices order n prefix middle i index more at low = dite (ℕ_discre
 pub no_place : (prices : List Price) (order : List ℕ) (n : ℕ) (prefix : List ℕ) (at place : ℕ) → IsIndex prices order n → IsRoom prices order prefix at → place < n → (price_at prices place).prefix ≡ prefix → ⊥
 no_place prices order n prefix at place index room low same = there (index.all place low)
   where
-    there : (i : ℕ) × (i < length order) × (slice_index order i ≡ place) → ⊥
+    there : IsAmong order place → ⊥
     there t =
-        let is : prefix_in prices order t.0 ≡ prefix = ap (λ (j : ℕ). (price_at prices j).prefix) t.2 ∙ same in
-        dite (dec_lt t.0 at)
-        (λ below. not_itself prefix (subst (λ (p : List ℕ). Before p prefix) is (room.below t.0 below)))
-        (λ no. not_itself prefix (subst (λ (p : List ℕ). Before prefix p) is (room.above t.0 (omega arith) t.1)))
+        let is : prefix_in prices order t.at ≡ prefix = ap (λ (j : ℕ). (price_at prices j).prefix) t.is ∙ same in
+        dite (dec_lt t.at at)
+        (λ below. not_itself prefix (subst (λ (p : List ℕ). Before p prefix) is (room.below t.at below)))
+        (λ no. not_itself prefix (subst (λ (p : List ℕ). Before prefix p) is (room.above t.at (omega arith) t.within)))
 
 -- the next place, put where there is room for its prefix
 module _ (prices : List Price) (order : List ℕ) (n at : ℕ) (index : IsIndex prices order n) (room : IsRoom prices order (price_at prices n).prefix at) where
@@ -94,18 +94,18 @@ module _ (prices : List Price) (order : List ℕ) (n at : ℕ) (index : IsIndex 
       (λ is l. let e = ap (slice_index (insert order at n)) is in let f = get_or-insert_at order at n 0 room.within in omega arith)
       (λ k is above l. let e = ap (slice_index (insert order at n)) is in let f = get_or-insert_above order at n 0 k above room.within in let h = index.places k (omega arith) in omega arith) low
 
-  all_new : (place : ℕ) → place < n + 1 → (i : ℕ) × (i < length (insert order at n)) × (slice_index (insert order at n) i ≡ place)
+  all_new : (place : ℕ) → place < n + 1 → IsAmong (insert order at n) place
   all_new place low = dite (ℕ_discrete place n)
-      (λ is. (at, (let long = length-insert order at n room.within in let w = room.within in omega arith), get_or-insert_at order at n 0 room.within ∙ sym is))
+      (λ is. record { at = at; within = (let long = length-insert order at n room.within in let w = room.within in omega arith); is = get_or-insert_at order at n 0 room.within ∙ sym is })
       (λ ne. from_old (index.all place (omega arith)))
     where
-      from_old : (i : ℕ) × (i < length order) × (slice_index order i ≡ place) → (i : ℕ) × (i < length (insert order at n)) × (slice_index (insert order at n) i ≡ place)
+      from_old : IsAmong order place → IsAmong (insert order at n) place
       from_old t =
           let long = length-insert order at n room.within in
-          let short = t.1 in
-          dite (dec_lt t.0 at)
-          (λ below. (t.0, omega arith, get_or-insert_below order at n 0 t.0 below room.within ∙ t.2))
-          (λ no. (t.0 + 1, omega arith, get_or-insert_above order at n 0 t.0 (omega arith) room.within ∙ t.2))
+          let short = t.within in
+          dite (dec_lt t.at at)
+          (λ below. record { at = t.at; within = omega arith; is = get_or-insert_below order at n 0 t.at below room.within ∙ t.is })
+          (λ no. record { at = t.at + 1; within = omega arith; is = get_or-insert_above order at n 0 t.at (omega arith) room.within ∙ t.is })
 
   pub put_in_order : IsIndex prices (insert order at n) (n + 1)
   put_in_order = record { places = places_new; rising = rising_new; all = all_new }

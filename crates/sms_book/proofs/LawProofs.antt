@@ -60,7 +60,7 @@ step_keeps_rule accounts workers s (keeps id) t h m =
 
 run_keeps : (accounts workers : ℕ) (s : Shared) (steps : List TableStep) (t : Shared) → Kept accounts workers s → Runs s steps t → Kept accounts workers t
 run_keeps accounts workers s [] t h r = subst (Kept accounts workers) (sym r) h
-run_keeps accounts workers s (step ∷ steps) t h r = run_keeps accounts workers r.0 steps t (step_keeps_rule accounts workers s step r.0 h r.1) r.2
+run_keeps accounts workers s (step ∷ steps) t h (mid, move, later) = run_keeps accounts workers mid steps t (step_keeps_rule accounts workers s step mid h move) later
 
 pub run_is_orderly : RunIsOrderly
 run_is_orderly credits workers steps t r = rule_is_orderly (length credits) workers t (run_keeps (length credits) workers (new_table credits workers) steps t (opening_meets_rule credits workers) r)

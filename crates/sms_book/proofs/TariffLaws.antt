@@ -32,13 +32,13 @@ module _ (prices others : List Price) (digits : List ℕ) (same : (p : Price) �
     there = low;
     begins = subst (λ (x : Price). Begins digits x.prefix) (sym is) l.begins;
     most = λ k k-low b.
-        let h = same (price_at others k) (k, k-low, refl) in
-        let most = l.most h.0 h.1 (subst (λ (x : Price). Begins digits x.prefix) (sym h.2) b) in
-        subst (λ (x : Price × Price). length x.0.prefix ≤ length x.1.prefix) (λ i. (h.2 i, sym is i)) most;
+        let h = same (price_at others k) record { place = k; there = k-low; is = refl } in
+        let most = l.most h.place h.there (subst (λ (x : Price). Begins digits x.prefix) (sym h.is) b) in
+        subst (λ (x : Price × Price). length x.0.prefix ≤ length x.1.prefix) (λ i. (h.is i, sym is i)) most;
   }
 
   none_there : ((place : ℕ) → place < length prices → ¬ (Begins digits (price_at prices place).prefix)) → (k : ℕ) → k < length others → ¬ (Begins digits (price_at others k).prefix)
-  none_there none k low b = let h = same (price_at others k) (k, low, refl) in none h.0 h.1 (subst (λ (x : Price). Begins digits x.prefix) (sym h.2) b)
+  none_there none k low b = let h = same (price_at others k) record { place = k; there = low; is = refl } in none h.place h.there (subst (λ (x : Price). Begins digits x.prefix) (sym h.is) b)
 
 pub cost_ignores_order : CostIgnoresOrder
 cost_ignores_order prices others destination t u same = by_best (longest prices digits) (best_of prices digits)
@@ -53,5 +53,5 @@ cost_ignores_order prices others destination t u same = by_best (longest prices 
     by_best None best = none_cost prices digits best ∙ sym (none_cost others digits (none_there prices others digits back best))
     by_best (Some p) top =
         let l = place_of_top prices digits p top in
-        let h = (same (price_at prices top.place)).0 (top.place, top.there, refl) in
-        found_cost prices digits top.place t l ∙ ap (λ (x : Price). x.credits) (sym h.2) ∙ sym (found_cost others digits h.0 u (moved prices others digits back top.place h.0 h.1 h.2 l))
+        let h = (same (price_at prices top.place)).0 record { place = top.place; there = top.there; is = refl } in
+        found_cost prices digits top.place t l ∙ ap (λ (x : Price). x.credits) (sym h.is) ∙ sym (found_cost others digits h.place u (moved prices others digits back top.place h.place h.there h.is l))

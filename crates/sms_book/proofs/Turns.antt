@@ -55,10 +55,28 @@ can_turn Charge n r a can holds part law small =
 can_turn GiveBack n r a can holds part law small =
     let h : n ≤ a.reserved = holds (λ e. cc) in let p = part.reserved in let q = part.returned in ((omega arith, omega arith, omega arith), (h, omega arith))
 
-turned : (what : Move) (n : ℕ) (r : Row) (a : Amounts) → CanMove what n r → FitsMove what n a → IsBalanced r → IsSmall r → MovesBy (of_worker a) (of_worker (moved_amounts what n a)) (of_row r) (of_row (moved_row what n r)) × IsBalanced (moved_row what n r) × IsSmall (moved_row what n r)
-turned Reserve n r a can fits law small = (record { topped = omega arith; reserved = omega arith; charged = omega arith; returned = omega arith }, omega arith, (omega arith, omega arith))
-turned Charge n r a can fits law small = (record { topped = omega arith; reserved = omega arith; charged = omega arith; returned = omega arith }, omega arith, (omega arith, omega arith))
-turned GiveBack n r a can fits law small = (record { topped = omega arith; reserved = omega arith; charged = omega arith; returned = omega arith }, omega arith, (omega arith, omega arith))
+-- a row becomes another as a portion does, and is balanced and small
+record MovesRow (had new : Portion) (was is : Row) : Type 0 where
+  by : MovesBy had new (of_row was) (of_row is)
+  balanced : IsBalanced is
+  small : IsSmall is
+
+turned : (what : Move) (n : ℕ) (r : Row) (a : Amounts) → CanMove what n r → FitsMove what n a → IsBalanced r → IsSmall r → MovesRow (of_worker a) (of_worker (moved_amounts what n a)) r (moved_row what n r)
+turned Reserve n r a can fits law small = record {
+  by = record { topped = omega arith; reserved = omega arith; charged = omega arith; returned = omega arith };
+  balanced = omega arith;
+  small = (omega arith, omega arith);
+}
+turned Charge n r a can fits law small = record {
+  by = record { topped = omega arith; reserved = omega arith; charged = omega arith; returned = omega arith };
+  balanced = omega arith;
+  small = (omega arith, omega arith);
+}
+turned GiveBack n r a can fits law small = record {
+  by = record { topped = omega arith; reserved = omega arith; charged = omega arith; returned = omega arith };
+  balanced = omega arith;
+  small = (omega arith, omega arith);
+}
 
 -- an account's row and a holder's portion of it change together
 change_of : (rows : List Row) (account : ℕ) (a : List Portion) (r : Row) (x : Portion) → account < length rows → length a ≡ length rows → MovesBy (portion_at a account) x (of_row (row_at rows account)) (of_row r)
@@ -89,17 +107,21 @@ settled {rows = rows} {a = a} i s account what n r h entry sums within is-r is-h
     let both = can_turn what n r h (rw row can) (rw had holds) part law.0 law.1 in
     let moves = turned what n r h both.0 both.1 law.0 law.1 in
     let by : MovesBy (portion_at (map of_worker a) account) (of_worker (moved_amounts what n h)) (of_row (row_at rows account)) (of_row (moved_row what n r)) =
-    subst (λ (x : Portion × Row). MovesBy x.0 (of_worker (moved_amounts what n h)) (of_row x.1) (of_row (moved_row what n r))) (λ j. (sym at j, row j)) moves.0 in
+    subst (λ (x : Portion × Row). MovesBy x.0 (of_worker (moved_amounts what n h)) (of_row x.1) (of_row (moved_row what n r))) (λ j. (sym at j, row j)) moves.by in
     record {
       can = both.0;
       fits = both.1;
-      sound = sound_set rows account (moved_row what n r) within i.sound moves.1 moves.2;
+      sound = sound_set rows account (moved_row what n r) within i.sound moves.balanced moves.small;
       moves = subst (λ (l : List Portion). MoveBy (map of_worker a) l (map of_row rows) (map of_row (set rows account (moved_row what n r)))) (sym (map-set of_worker a account (moved_amounts what n h)))
           (change_of rows account (map of_worker a) (moved_row what n r) (of_worker (moved_amounts what n h)) within (length-map a of_worker ∙ wide) by);
     }
 
-topped_with : (n : ℕ) (r : Row) (t : ℕ) → r.topped + n ≤ most_topped → IsBalanced r → IsSmall r → MovesBy (of_till t) (of_till (t + n)) (of_row r) (of_row (row_topped_up n r)) × IsBalanced (row_topped_up n r) × IsSmall (row_topped_up n r)
-topped_with n r t can law small = (record { topped = omega arith; reserved = omega arith; charged = omega arith; returned = omega arith }, omega arith, (omega arith, omega arith))
+topped_with : (n : ℕ) (r : Row) (t : ℕ) → r.topped + n ≤ most_topped → IsBalanced r → IsSmall r → MovesRow (of_till t) (of_till (t + n)) r (row_topped_up n r)
+topped_with n r t can law small = record {
+  by = record { topped = omega arith; reserved = omega arith; charged = omega arith; returned = omega arith };
+  balanced = omega arith;
+  small = (omega arith, omega arith);
+}
 
 -- What a top-up may rest on, and what it leaves
 pub record TopsUp (rows : List Row) (t : List ℕ) (account n : ℕ) (r : Row) (h : ℕ) : Type 0 where
@@ -124,12 +146,12 @@ topped {rows = rows} {t = t} i s account n r h entry sums within is-r is-h can =
     let can' : r.topped + n ≤ most_topped = rw row can in
     let moves = topped_with n r h can' law.0 law.1 in
     let by : MovesBy (portion_at (map of_till t) account) (of_till (h + n)) (of_row (row_at rows account)) (of_row (row_topped_up n r)) =
-    subst (λ (x : Portion × Row). MovesBy x.0 (of_till (h + n)) (of_row x.1) (of_row (row_topped_up n r))) (λ j. (sym at j, row j)) moves.0 in
+    subst (λ (x : Portion × Row). MovesBy x.0 (of_till (h + n)) (of_row x.1) (of_row (row_topped_up n r))) (λ j. (sym at j, row j)) moves.by in
     record {
       topped = can';
       free = let p = law.0 in omega arith;
       had = let p = part.topped in omega arith;
-      sound = sound_set rows account (row_topped_up n r) within i.sound moves.1 moves.2;
+      sound = sound_set rows account (row_topped_up n r) within i.sound moves.balanced moves.small;
       moves = subst (λ (l : List Portion). MoveBy (map of_till t) l (map of_row rows) (map of_row (set rows account (row_topped_up n r)))) (sym (map-set of_till t account (h + n)))
           (change_of rows account (map of_till t) (row_topped_up n r) (of_till (h + n)) within (length-map t of_till ∙ wide) by);
     }

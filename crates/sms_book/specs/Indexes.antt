@@ -13,11 +13,17 @@ prefix_in prices order i = (price_at prices (slice_index order i)).prefix
 abbrev pub Before : List ℕ → List ℕ → Type 0
 Before a b = slice_cmp nat_cmp a b ≡ Less
 
+-- the place stands among those in order
+pub record IsAmong (order : List ℕ) (place : ℕ) : Type 0 where
+  pub at : ℕ
+  pub within : at < length order
+  pub is : slice_index order at ≡ place
+
 -- these are the first n places, by their prefixes
 pub record IsIndex (prices : List Price) (order : List ℕ) (n : ℕ) : Type 0 where
   pub places : (i : ℕ) → i < length order → slice_index order i < n
   pub rising : (i j : ℕ) → i < j → j < length order → Before (prefix_in prices order i) (prefix_in prices order j)
-  pub all : (place : ℕ) → place < n → (i : ℕ) × (i < length order) × (slice_index order i ≡ place)
+  pub all : (place : ℕ) → place < n → IsAmong order place
 
 -- the rate at this place is among those in order, and has this prefix
 pub record IsFound (prices : List Price) (order : List ℕ) (prefix : List ℕ) (place : ℕ) : Type 0 where

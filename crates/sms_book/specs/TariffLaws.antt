@@ -3,8 +3,10 @@ use Rattle.std.specs.Prelude.{◌≡◌, ◌⊎◌, ℕ, ◌<◌, ◌↔◌, Lis
 use Rattle.sms_book.specs.Tariffs.{Price, price_at, digits_of, cost_of, IsTariff, IsLongest, Begins}
 
 -- a rate has its place among these
-abbrev pub HasRate : List Price → Price → Type 0
-HasRate prices p = (place : ℕ) × (place < length prices) × (price_at prices place ≡ p)
+pub record HasRate (prices : List Price) (p : Price) : Type 0 where
+  pub place : ℕ
+  pub there : place < length prices
+  pub is : price_at prices place ≡ p
 
 -- it is the credits of a rate with whose prefix the destination's digits begin, where none with a longer prefix fits;
 -- and 1 where none fits

@@ -141,7 +141,8 @@ fn deal_shares<N: BookName>(
     amounts: Vec<Vec<Amounts>>,
     mut shares: Vec<Shares<N>>,
 ) -> Vec<Shares<N>>
-    requires table { (table.now.table_id ≡ N.book.table) × (seat.old.table_id ≡ N.book.table) × (0 < N.book.table.words) }
+    requires table { (table.now.table_id ≡ N.book.table) × (seat.old.table_id ≡ N.book.table) }
+    requires words { 0 < N.book.table.words }
     requires book { (e : Entry) × (ts : List Portion) × (seat.old.views ≡ BookView (e ∷ replicate N.book.workers (at_home (replicate N.book.accounts nothing))) ts ∷ []) }
     requires amounts { map (λ a. a.items) amounts.items ≡ replicate N.book.workers (replicate N.book.accounts no_amounts) }
     requires room { (shares.items ≡ []) × (N.book.workers ≤ vec_capacity shares) }

@@ -23,7 +23,8 @@ pub type BookTable = Shared<(), View, Opened, BookRule>;
 
 /// The book's seat, which took a holder's number in.
 fn take_in(table: &BookTable, book: &mut Badge<View>, holder: &mut Badge<View>) -> Seat<(), View>
-    requires table { (book.old.table_id ≡ table.now.table_id) × (holder.old.table_id ≡ table.now.table_id) × (0 < table.now.table_id.words) }
+    requires table { (book.old.table_id ≡ table.now.table_id) × (holder.old.table_id ≡ table.now.table_id) }
+    requires words { 0 < table.now.table_id.words }
     requires book { (es : List Entry) × (ts : List Portion) × (book.old.views ≡ Book es ts ∷ []) }
     requires holder { (k : ℕ) × (ps : List Portion) × (holder.old.views ≡ Holder k ps ∷ []) }
     ensures table { result.table_id ≡ book.old.table_id }
@@ -38,7 +39,8 @@ fn take_in(table: &BookTable, book: &mut Badge<View>, holder: &mut Badge<View>) 
 /// Takes a holder's number into the book, which tells that what the holder had is its entry, and
 /// that each total is the sum over the entries.
 pub fn meet(table: &BookTable, book: &mut Badge<View>, holder: &mut Badge<View>)
-    requires table { (book.old.table_id ≡ table.now.table_id) × (holder.old.table_id ≡ table.now.table_id) × (0 < table.now.table_id.words) }
+    requires table { (book.old.table_id ≡ table.now.table_id) × (holder.old.table_id ≡ table.now.table_id) }
+    requires words { 0 < table.now.table_id.words }
     requires book { (es : List Entry) × (ts : List Portion) × (book.old.views ≡ Book es ts ∷ []) }
     requires holder { (k : ℕ) × (ps : List Portion) × (holder.old.views ≡ Holder k ps ∷ []) }
     ensures table { book.new.table_id ≡ book.old.table_id }
@@ -53,7 +55,8 @@ pub fn meet(table: &BookTable, book: &mut Badge<View>, holder: &mut Badge<View>)
 
 /// Takes a holder's number into the book, which keeps it, and tells the same.
 pub fn keep(table: &BookTable, book: &mut Badge<View>, holder: &mut Badge<View>)
-    requires table { (book.old.table_id ≡ table.now.table_id) × (holder.old.table_id ≡ table.now.table_id) × (0 < table.now.table_id.words) }
+    requires table { (book.old.table_id ≡ table.now.table_id) × (holder.old.table_id ≡ table.now.table_id) }
+    requires words { 0 < table.now.table_id.words }
     requires book { (es : List Entry) × (ts : List Portion) × (book.old.views ≡ Book es ts ∷ []) }
     requires holder { (k : ℕ) × (ps : List Portion) × (holder.old.views ≡ Holder k ps ∷ []) }
     ensures table { book.new.table_id ≡ book.old.table_id }

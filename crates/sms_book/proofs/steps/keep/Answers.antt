@@ -8,7 +8,7 @@ load-requires c =
     let b = c.requires.book in
     let s = c.requires.holder in
     let me = c.take_in-keeper.ensures.seat b.0 b.1 s.0 s.1 b.2 s.2 in
-    (search rules, c.requires.table.2, keeps_told_as _ _ _ _ 0 _ b.0 b.1 s.0 s.1 (ap (λ m. m.0) me) (ap (λ m. m.1) me))
+    (search rules, c.requires.words, keeps_told_as _ _ _ _ 0 _ b.0 b.1 s.0 s.1 (ap (λ m. m.0) me) (ap (λ m. m.1) me))
 
 pub returns-clause-book : goal.returns-clause-book
 returns-clause-book c es ts k ps is there =

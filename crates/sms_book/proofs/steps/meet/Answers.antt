@@ -7,7 +7,7 @@ load-requires c =
     let b = c.requires.book in
     let s = c.requires.holder in
     let me = c.take_in-keeper.ensures.seat b.0 b.1 s.0 s.1 b.2 s.2 in
-    (search rules, c.requires.table.2, tells_as _ _ _ _ 0 _ (ap (λ m. m.1) me))
+    (search rules, c.requires.words, tells_as _ _ _ _ 0 _ (ap (λ m. m.1) me))
 
 pub returns-clause-book : goal.returns-clause-book
 returns-clause-book c es ts k ps is there =

@@ -11,7 +11,7 @@ join_seat-requires c =
     let theirs = c.into_seat-theirs.ensures in
     let was = ap (λ (x : _). x.views) c.replace.ensures.value in
     let was' = ap (λ (x : _). x.views) c.replace-2.ensures.value in
-    (search rules, search rules, theirs.3, c.requires.table.2, joins_as _ _ _ _ s.0 b.0 b.1 s.1 _ _ (same_view _ _ _ (sym was ∙ keeper.2) b.2) (same_view _ _ _ (sym was' ∙ theirs.2) s.2))
+    (search rules, search rules, theirs.3, c.requires.words, joins_as _ _ _ _ s.0 b.0 b.1 s.1 _ _ (same_view _ _ _ (sym was ∙ keeper.2) b.2) (same_view _ _ _ (sym was' ∙ theirs.2) s.2))
 
 pub returns-clause-seat : goal.returns-clause-seat
 returns-clause-seat c es ts k ps is there =
