@@ -2,7 +2,6 @@
 use Rattle.std.proofs.Common.{◌≡◌, ℕ, ◌<◌, List, length, Some, refl, sym, ap, ◌∙◌, subst, arith, length-set}
 use mathlib.Core.Logic.{dite}
 use native.Mathlib.Decide.{ℕ_discrete}
-use Rattle.std.proofs.lemmas.Bool.{leb-false}
 use Rattle.sms_core.specs.declared.event.Event.{Event}
 use Rattle.sms_core.specs.declared.event.Event.TheVariants.{TopUp, Reserve, Claim, Post, Respond, Settle, Expire, Discard, Release}
 use Rattle.sms_core.specs.declared.event.Step.{Step}
@@ -10,12 +9,12 @@ use Rattle.sms_core.specs.declared.event.Step.TheVariants.{Done, Ignored}
 use Rattle.sms_core.specs.declared.request.RequestState.{RequestState}
 use Rattle.sms_core.specs.Histories.{Moment, FromStart}
 use Rattle.sms_core.specs.State.{State, request_of, mark_of, new_world}
-use Rattle.sms_core.specs.Steps.{checks, Steps}
+use Rattle.sms_core.specs.Steps.{Steps}
 use Rattle.sms_core.specs.StepLaws.{MovesRequest, AddsRequest, SameRequests}
-use Rattle.sms_core.proofs.Passed.{all_passed}
 use Rattle.sms_core.proofs.RequestSteps.{request_step, settled, expired}
 use Rattle.sms_core.proofs.Runs.{kept_by_runs}
 use Rattle.sms_core.proofs.Sound.{IsSound, sound_start, sound_step}
+use Rattle.sms_core.proofs.Done.{reserve_done, claim_done, release_done}
 
 abbrev pub IsAccounted : State → Type 0
 IsAccounted w = (id : ℕ) (s : RequestState) → request_of w id ≡ Some s → s.account < length w.topped
@@ -48,21 +47,20 @@ accounted_step event (Ignored cause) old new s i a = subst IsAccounted (sym s.1)
 accounted_step (TopUp account amount) Done old new s i a =
     same_accounts old new (ap (λ (w : State). length w.topped) s.1 ∙ length-set old.topped account _) (request_step (TopUp account amount) old new i s) a
 accounted_step (Reserve request account cost) Done old new s i a =
-    let check = all_passed (checks old (Reserve request account cost)) s.0 in
-    added_accounts old new request _ (ap (λ (w : State). length w.topped) s.1) (leb-false (length old.topped) account check.0) (request_step (Reserve request account cost) old new i s) a
-accounted_step (Claim worker slot) Done old new s i a = same_accounts old new (ap (λ (w : State). length w.topped) s.1.1) (request_step (Claim worker slot) old new i s) a
+    added_accounts old new request _ (ap (λ (w : State). length w.topped) s.1) (reserve_done old new request account cost s).account_there (request_step (Reserve request account cost) old new i s) a
+accounted_step (Claim worker slot) Done old new s i a = same_accounts old new (ap (λ (w : State). length w.topped) (claim_done old new worker slot s).after) (request_step (Claim worker slot) old new i s) a
 accounted_step (Post worker slot request) Done old new s i a = moved_accounts old new request _ (ap (λ (w : State). length w.topped) s.1) (λ r. refl) (request_step (Post worker slot request) old new i s).1 a
 accounted_step (Respond number status nack) Done old new s i a = same_accounts old new (ap (λ (w : State). length w.topped) s.1.after) (request_step (Respond number status nack) old new i s) a
 accounted_step (Settle worker slot) Done old new s i a =
     let t = settled (mark_of old slot) old new slot refl s.1 i in
     let m = request_step (Settle worker slot) old new i s in
-    moved_accounts old new m.0.request _ (ap length t.1) (λ r. refl) m.1 a
+    moved_accounts old new m.0.request _ (ap length t.topped) (λ r. refl) m.1 a
 accounted_step (Expire worker slot) Done old new s i a =
     let t = expired (mark_of old slot) old new slot refl s.1 i in
     let m = request_step (Expire worker slot) old new i s in
-    moved_accounts old new m.0.request _ (ap length t.1) (λ r. refl) m.1 a
+    moved_accounts old new m.0.request _ (ap length t.topped) (λ r. refl) m.1 a
 accounted_step (Discard request) Done old new s i a = moved_accounts old new request _ (ap (λ (w : State). length w.topped) s.1) (λ r. refl) (request_step (Discard request) old new i s).1 a
-accounted_step (Release worker slot) Done old new s i a = same_accounts old new (ap (λ (w : State). length w.topped) s.1.1) (request_step (Release worker slot) old new i s) a
+accounted_step (Release worker slot) Done old new s i a = same_accounts old new (ap (λ (w : State). length w.topped) (release_done old new worker slot s).after) (request_step (Release worker slot) old new i s) a
 
 abbrev Both : State → Type 0
 Both w = IsSound w × IsAccounted w

@@ -233,7 +233,7 @@ backed_close past old slot request f one new i b =
     record {
       posts = clear_posts past old slot b;
       replies = clear_replies past old slot b;
-      charges = change_charges past old request f s.0 b s.1 (new s.0);
+      charges = change_charges past old request f s.state b s.known (new s.state);
     }
 
 charged_after : (charge retry : Bool) → (if charge then Charged else if retry then Ready else Refused) ≡ Charged → charge ≡ true

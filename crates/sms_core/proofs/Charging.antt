@@ -11,15 +11,15 @@ use Rattle.sms_core.specs.declared.event.Step.TheVariants.{Done, Ignored}
 use Rattle.sms_core.specs.declared.mark.Mark.TheVariants.{Open}
 use Rattle.sms_core.specs.CoreLaws.{ChargeHasAnswer, AnswerIsOfOne}
 use Rattle.sms_core.specs.Numbers.{times, once_below}
-use Rattle.sms_core.specs.State.{State, new_world, request_of, mark_of}
-use Rattle.sms_core.specs.Steps.{checks, Steps}
+use Rattle.sms_core.specs.State.{State, new_world, mark_of}
+use Rattle.sms_core.specs.Steps.{Steps}
 use Rattle.sms_core.specs.Histories.{Moment, IsHistory, FromStart, number_in, given_by, numbers_given, PostedAt, AcceptedAt}
 use Rattle.sms_core.proofs.Backed.{IsBacked, moment, backed_later, backed_start, backed_reserve, backed_claim, backed_post, backed_respond, backed_settle, backed_expire, backed_discard}
-use Rattle.sms_core.proofs.Passed.{all_passed, some_held, ready_request, no_request}
 use Rattle.sms_core.proofs.Numbers.{times_append}
 use Rattle.sms_core.proofs.Drawing.{numbers_given_once}
-use Rattle.sms_core.proofs.Runs.{first_step}
+use Rattle.sms_core.proofs.Runs.{first_step, later_steps}
 use Rattle.sms_core.proofs.Sound.{IsSound, held_inside, sound_start, sound_step}
+use Rattle.sms_core.proofs.Done.{reserve_done, claim_done, post_done, discard_done, release_done}
 
 backed_step : (past : List Moment) (before : State) (event : Event) (answer : Step) (old new : State) → Steps old event answer new → IsSound old → IsBacked past old
     → IsBacked (past ++ moment before event answer new ∷ []) new
@@ -27,25 +27,22 @@ backed_step past before event (Ignored cause) old new s i b = backed_later past 
 backed_step past before (TopUp account amount) Done old new s i b =
     backed_later past _ new (subst (IsBacked past) (sym s.1) record { posts = b.posts; replies = b.replies; charges = b.charges })
 backed_step past before (Reserve request account cost) Done old new s i b =
-    let check = all_passed (checks old (Reserve request account cost)) s.0 in
-    backed_later past _ new (subst (IsBacked past) (sym s.1) (backed_reserve past old request account cost (no_request (request_of old request) check.1.0) b))
-backed_step past before (Claim worker slot) Done old new s i b = backed_later past _ new (subst (IsBacked past) (sym s.1.1) (backed_claim past old new.holds slot b))
+    backed_later past _ new (subst (IsBacked past) (sym s.1) (backed_reserve past old request account cost (reserve_done old new request account cost s).unknown b))
+backed_step past before (Claim worker slot) Done old new s i b = backed_later past _ new (subst (IsBacked past) (sym (claim_done old new worker slot s).after) (backed_claim past old new.holds slot b))
 backed_step past before (Post worker slot request) Done old new s i b =
-    let check = all_passed (checks old (Post worker slot request)) s.0 in
-    let r = ready_request (request_of old request) check.1.1.0 in
+    let done = post_done old new worker slot request s in
     subst (λ (w : State). IsBacked (past ++ moment before (Post worker slot request) Done w ∷ []) w) (sym s.1)
-    (backed_post past before old worker slot request r.0 (held_inside old worker slot i (some_held _ check.0)) r.1 b)
+    (backed_post past before old worker slot request done.ready.state (held_inside old worker slot i done.held) done.ready.known b)
 backed_step past before (Respond number status nack) Done old new s i b =
     subst (λ (w : State). IsBacked (past ++ moment before (Respond number status nack) Done w ∷ []) w) (sym s.1.after)
     (backed_respond past before old s.1.slot s.1.request number status nack s.1.waits b)
 backed_step past before (Settle worker slot) Done old new s i b = backed_later past _ new (backed_settle (mark_of old slot) past old new slot refl s.1 i b)
 backed_step past before (Expire worker slot) Done old new s i b = backed_later past _ new (backed_expire (mark_of old slot) past old new slot refl s.1 i b)
 backed_step past before (Discard request) Done old new s i b =
-    let check = all_passed (checks old (Discard request)) s.0 in
-    let r = ready_request (request_of old request) check.0 in
-    backed_later past _ new (subst (IsBacked past) (sym s.1) (backed_discard past old request r.0 r.1 b))
+    let r = (discard_done old new request s).ready in
+    backed_later past _ new (subst (IsBacked past) (sym s.1) (backed_discard past old request r.state r.known b))
 backed_step past before (Release worker slot) Done old new s i b =
-    backed_later past _ new (subst (IsBacked past) (sym s.1.1) record { posts = b.posts; replies = b.replies; charges = b.charges })
+    backed_later past _ new (subst (IsBacked past) (sym (release_done old new worker slot s).after) record { posts = b.posts; replies = b.replies; charges = b.charges })
 
 backed_run : (past ms : List Moment) (old new : State) → IsHistory old ms new → IsSound old → IsBacked past old → IsBacked (past ++ ms) new
 backed_run past [] old new h i b = subst (λ (l : List Moment). IsBacked l new) (sym (append-nil past)) (subst (IsBacked past) (sym h) b)
@@ -53,7 +50,7 @@ backed_run past (m ∷ ms) old new h i b =
     let s = first_step m ms old new h in
     let after = backed_step past m.before m.event m.answer old m.after s i b in
     subst (λ (l : List Moment). IsBacked l new) (append_assoc past (m ∷ []) ms)
-    (backed_run (past ++ m ∷ []) ms m.after new h.2 (sound_step m.event m.answer old m.after s i) after)
+    (backed_run (past ++ m ∷ []) ms m.after new (later_steps m ms old new h) (sound_step m.event m.answer old m.after s i) after)
 
 pub backed : (ms : List Moment) (w : State) → FromStart ms w → IsBacked ms w
 backed ms w h = backed_run [] ms (new_world h.accounts h.limit h.attempts) w h.history (sound_start h.accounts h.limit h.attempts h.limits) (backed_start h.accounts h.limit h.attempts)

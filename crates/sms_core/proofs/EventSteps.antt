@@ -13,28 +13,32 @@ use Rattle.sms_core.specs.Marks.{is_empty, is_open, waits_for}
 use Rattle.sms_core.specs.State.{State, mark_of, times_held, is_pair}
 use Rattle.sms_core.specs.Steps.{checks, is_held, cause_of, some_waits_for, Effect, Settles, Expires, Steps}
 use Rattle.sms_core.specs.StepLaws.{EventSteps}
-use Rattle.sms_core.proofs.Passed.{all_passed, both_false, some_held}
+use Rattle.sms_core.proofs.Passed.{AllPassed, all_passed, both_false, some_held}
 use Rattle.sms_core.proofs.Pairs.{weigh-append, weigh-out}
 
 -- the slot that waits for the number
-abbrev Waits : ℕ → List Mark → Type 0
-Waits number ms = (slot : ℕ) × (request : ℕ) × (slice_get ms slot ≡ Some (Open request number))
+record Waits (number : ℕ) (ms : List Mark) : Type 0 where
+  slot : ℕ
+  request : ℕ
+  there : slice_get ms slot ≡ Some (Open request number)
 
 waits_at_head : (number : ℕ) (m : Mark) (ms : List Mark) → waits_for number m ≡ true → Waits number (m ∷ ms)
 waits_at_head number Empty ms e = absurd (true≢false (sym e))
-waits_at_head number (Open request n) ms e = (0, request, ap (λ (k : ℕ). Some (Open request k)) (eqb-true n number e))
+waits_at_head number (Open request n) ms e = record { slot = 0; request = request; there = ap (λ (k : ℕ). Some (Open request k)) (eqb-true n number e) }
 waits_at_head number (Replied request n status nack) ms e = absurd (true≢false (sym e))
 
 waits_somewhere : (number : ℕ) (ms : List Mark) → some_waits_for number ms ≡ true → Waits number ms
 waits_somewhere number [] e = absurd (false≢true e)
 waits_somewhere number (m ∷ ms) e = ⊎_elim
     (λ (head : waits_for number m ≡ true). waits_at_head number m ms head)
-    (λ (behind : some_waits_for number ms ≡ true). let rest = waits_somewhere number ms behind in (suc rest.0, rest.1, rest.2))
+    (λ (behind : some_waits_for number ms ≡ true). let rest = waits_somewhere number ms behind in record { slot = suc rest.slot; request = rest.request; there = rest.there })
     (or_cases (waits_for number m) (some_waits_for number ms) e)
 
 -- a pair that is held stands at some place
-abbrev IsAt : ℕ → ℕ → List (ℕ × ℕ) → Type 0
-IsAt worker slot ps = (place : ℕ) × (place < length ps) × (get_or ps place (worker, slot) ≡ (worker, slot))
+record IsAt (worker slot : ℕ) (ps : List (ℕ × ℕ)) : Type 0 where
+  place : ℕ
+  within : place < length ps
+  there : get_or ps place (worker, slot) ≡ (worker, slot)
 
 pair_at : (worker slot : ℕ) (ps : List (ℕ × ℕ)) → 1 ≤ times_held worker slot ps → IsAt worker slot ps
 pair_at worker slot [] held = absurd (omega arith)
@@ -43,13 +47,11 @@ pair_at worker slot (p ∷ ps) held = ⊎_elim
     let both = and_parts (p.0 == worker) (p.1 == slot) here in
     let h : p.0 ≡ worker = eqb-true p.0 worker both.0 in
     let k : p.1 ≡ slot = eqb-true p.1 slot both.1 in
-    let at : IsAt worker slot (p ∷ ps) = (0, omega arith, λ i. (h i, k i)) in
-    at)
+    record { place = 0; within = omega arith; there = λ i. (h i, k i) })
     (λ (other : ((p.0 == worker) && (p.1 == slot)) ≡ false).
     let none : is_pair worker slot p ≡ 0 = rw other refl in
     let rest = pair_at worker slot ps (omega arith) in
-    let at : IsAt worker slot (p ∷ ps) = (suc rest.0, omega arith, rest.2) in
-    at)
+    record { place = suc rest.place; within = (let w = rest.within in omega arith); there = rest.there })
     (cases_Bool ((p.0 == worker) && (p.1 == slot)))
 
 claim_effect : (old : State) (worker slot : ℕ) → is_held old slot ≡ false → (new : State) × Effect old (Claim worker slot) new
@@ -63,9 +65,9 @@ claim_effect old worker slot e =
 release_effect : (old : State) (worker slot : ℕ) → 1 ≤ times_held worker slot old.holds → (new : State) × Effect old (Release worker slot) new
 release_effect old worker slot held =
     let at = pair_at worker slot old.holds held in
-    let holds : List (ℕ × ℕ) = take at.0 old.holds ++ drop (suc at.0) old.holds in (
+    let holds : List (ℕ × ℕ) = take at.place old.holds ++ drop (suc at.place) old.holds in (
       record old { holds = holds },
-      (λ f. weigh-out f old.holds at.0 (worker, slot) at.1 ∙ ap (λ (p : ℕ × ℕ). weigh f holds + f p) at.2, refl),
+      (λ f. weigh-out f old.holds at.place (worker, slot) at.within ∙ ap (λ (p : ℕ × ℕ). weigh f holds + f p) at.there, refl),
     )
 
 settle_effect : (m : Mark) (old : State) (slot : ℕ) → is_empty m ≡ false → is_open m ≡ false → (new : State) × Settles old slot m new
@@ -86,13 +88,17 @@ effect old (Post worker slot request) e = (_, refl)
 effect old (Respond number status nack) e =
     let check = all_passed (checks old (Respond number status nack)) e in
     let w = waits_somewhere number old.marks (not-false _ check.0) in
-    (_, record { slot = w.0; request = w.1; waits = w.2; after = refl })
+    (_, record { slot = w.slot; request = w.request; waits = w.there; after = refl })
 effect old (Settle worker slot) e =
-    let check = all_passed (checks old (Settle worker slot)) e in
-    settle_effect (mark_of old slot) old slot check.1.0 check.1.1.0
+    settled (all_passed (checks old (Settle worker slot)) e)
+  where
+    settled : AllPassed (checks old (Settle worker slot)) → (new : State) × Settles old slot (mark_of old slot) new
+    settled (held, some, replied, end) = settle_effect (mark_of old slot) old slot some replied
 effect old (Expire worker slot) e =
-    let check = all_passed (checks old (Expire worker slot)) e in
-    expire_effect (mark_of old slot) old slot check.1.0
+    expired (all_passed (checks old (Expire worker slot)) e)
+  where
+    expired : AllPassed (checks old (Expire worker slot)) → (new : State) × Expires old slot (mark_of old slot) new
+    expired (held, waits, end) = expire_effect (mark_of old slot) old slot waits
 effect old (Discard request) e = (_, refl)
 effect old (Release worker slot) e =
     let check = all_passed (checks old (Release worker slot)) e in

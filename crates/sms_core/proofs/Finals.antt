@@ -12,13 +12,13 @@ use Rattle.sms_core.specs.declared.request.Request.{Request}
 use Rattle.sms_core.specs.declared.request.RequestState.{RequestState}
 use Rattle.sms_core.specs.CoreLaws.{IsFinal, FinalStays}
 use Rattle.sms_core.specs.State.{State, find_request, request_of, changed, mark_of}
-use Rattle.sms_core.specs.Steps.{checks, Steps, Settles, Expires, reserved_request, posted, with_phase, answered, discarded}
+use Rattle.sms_core.specs.Steps.{Steps, Settles, Expires, reserved_request, posted, with_phase, answered, discarded}
 use Rattle.sms_core.specs.Histories.{Moment, IsHistory}
-use Rattle.sms_core.proofs.Passed.{all_passed, ready_request}
 use Rattle.sms_core.proofs.Named.{find_unchanged, find_before}
-use Rattle.sms_core.proofs.Runs.{first_step}
+use Rattle.sms_core.proofs.Runs.{first_step, later_steps}
 use Rattle.sms_core.proofs.Sound.{IsSound, mark_waits, sound, sound_step}
 use Rattle.sms_core.proofs.Spoken.{speaks, this_name}
+use Rattle.sms_core.proofs.Done.{claim_done, post_done, discard_done, release_done}
 
 -- the request is as it was
 abbrev Keeps : State → State → ℕ → RequestState → Type 0
@@ -50,7 +50,7 @@ waiting_changes : (old new with : State) (slot id request : ℕ) (f : RequestSta
 waiting_changes old new with slot id request f r i e q one known final =
     let s = mark_waits old slot id i one in
     ap (λ (l : List Request). find_request request l) (ap (λ (w : State). w.requests) e ∙ q)
-    ∙ beside_change old.requests id request f s.0 r s.1 (not_waiting s.0.phase s.2) known final
+    ∙ beside_change old.requests id request f s.state r s.known (not_waiting s.state.phase s.waits) known final
 
 settle_keeps : (m : Mark) (old new : State) (slot request : ℕ) (r : RequestState) → mark_of old slot ≡ m → Settles old slot m new → IsSound old → Keeps old new request r
 settle_keeps Empty old new slot request r e s i = absurd s
@@ -68,25 +68,23 @@ final_step request r event (Ignored cause) old new s i = same_requests old new o
 final_step request r (TopUp account amount) Done old new s i = same_requests old new _ request r s.1 refl
 final_step request r (Reserve id account cost) Done old new s i = λ known final.
     ap (λ (w : State). request_of w request) s.1 ∙ find_before request old.requests (reserved_request id account cost ∷ []) r known
-final_step request r (Claim worker slot) Done old new s i = same_requests old new _ request r s.1.1 refl
+final_step request r (Claim worker slot) Done old new s i = same_requests old new _ request r (claim_done old new worker slot s).after refl
 final_step request r (Post worker slot id) Done old new s i = λ known final.
-    let check = all_passed (checks old (Post worker slot id)) s.0 in
-    let t = ready_request (request_of old id) check.1.1.0 in
-    ap (λ (w : State). request_of w request) s.1 ∙ beside_change old.requests id request posted t.0 r t.1 (not_ready t.0.phase t.2) known final
+    let t = (post_done old new worker slot id s).ready in
+    ap (λ (w : State). request_of w request) s.1 ∙ beside_change old.requests id request posted t.state r t.known (not_ready t.state.phase t.ready) known final
 final_step request r (Respond number status nack) Done old new s i = same_requests old new _ request r s.1.after refl
 final_step request r (Settle worker slot) Done old new s i = settle_keeps (mark_of old slot) old new slot request r refl s.1 i
 final_step request r (Expire worker slot) Done old new s i = expire_keeps (mark_of old slot) old new slot request r refl s.1 i
 final_step request r (Discard id) Done old new s i = λ known final.
-    let check = all_passed (checks old (Discard id)) s.0 in
-    let t = ready_request (request_of old id) check.0 in
-    ap (λ (w : State). request_of w request) s.1 ∙ beside_change old.requests id request discarded t.0 r t.1 (not_ready t.0.phase t.2) known final
-final_step request r (Release worker slot) Done old new s i = same_requests old new _ request r s.1.1 refl
+    let t = (discard_done old new id s).ready in
+    ap (λ (w : State). request_of w request) s.1 ∙ beside_change old.requests id request discarded t.state r t.known (not_ready t.state.phase t.ready) known final
+final_step request r (Release worker slot) Done old new s i = same_requests old new _ request r (release_done old new worker slot s).after refl
 
 final_run : (request : ℕ) (r : RequestState) (ms : List Moment) (old new : State) → IsHistory old ms new → IsSound old → Keeps old new request r
 final_run request r [] old new h i = same_requests old new old request r h refl
 final_run request r (m ∷ ms) old new h i = λ known final.
     let s = first_step m ms old new h in
-    final_run request r ms m.after new h.2 (sound_step m.event m.answer old m.after s i) (final_step request r m.event m.answer old m.after s i known final) final
+    final_run request r ms m.after new (later_steps m ms old new h) (sound_step m.event m.answer old m.after s i) (final_step request r m.event m.answer old m.after s i known final) final
 
 pub final_stays : FinalStays
 final_stays ms later old new request r h run known final = final_run request r later old new run (sound ms old h) known final

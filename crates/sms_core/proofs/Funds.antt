@@ -3,7 +3,6 @@ use Rattle.std.proofs.Common.{◌≡◌, ℕ, zero, suc, ◌+◌, ◌<◌, ◌==
 use Rattle.std.specs.Prelude.{if◌then◌else◌, replicate}
 use mathlib.Core.Logic.{dite}
 use native.Mathlib.Decide.{ℕ_discrete}
-use Rattle.std.proofs.lemmas.Bool.{leb-false}
 use Rattle.std.proofs.lemmas.List.{get_or-set_same, get_or-set_other}
 use Rattle.sms_core.specs.declared.event.Event.{Event}
 use Rattle.sms_core.specs.declared.event.Event.TheVariants.{TopUp, Reserve, Claim, Post, Respond, Settle, Expire, Discard, Release}
@@ -14,11 +13,11 @@ use Rattle.sms_core.specs.declared.mark.Mark.{Mark}
 use Rattle.sms_core.specs.declared.mark.Mark.TheVariants.{Empty, Open, Replied}
 use Rattle.sms_core.specs.CoreLaws.{RowsBalance, ToppedIsSum}
 use Rattle.sms_core.specs.State.{State, new_world, topped_of, mark_of}
-use Rattle.sms_core.specs.Steps.{checks, Steps, Settles, Expires}
+use Rattle.sms_core.specs.Steps.{Steps, Settles, Expires}
 use Rattle.sms_core.specs.Histories.{Moment, IsHistory, topped_by, topped_up}
-use Rattle.sms_core.proofs.Passed.{all_passed}
-use Rattle.sms_core.proofs.Runs.{first_step}
+use Rattle.sms_core.proofs.Runs.{first_step, later_steps}
 use Rattle.sms_core.proofs.Sound.{sound}
+use Rattle.sms_core.proofs.Done.{top_up_done, claim_done, release_done}
 
 same_topped : (account : ℕ) (old new with : State) → new ≡ with → with.topped ≡ old.topped → topped_of new account ≡ topped_of old account + 0
 same_topped account old new with e t = let same : get_or new.topped account 0 ≡ get_or old.topped account 0 = ap (λ (l : List ℕ). get_or l account 0) (ap (λ (w : State). w.topped) e ∙ t) in omega arith
@@ -57,22 +56,21 @@ ignored_tops account (Release worker slot) cause = refl
 topped_step : (account : ℕ) (event : Event) (answer : Step) (old new : State) → Steps old event answer new → topped_of new account ≡ topped_of old account + topped_by account event answer
 topped_step account event (Ignored cause) old new s = let none = ignored_tops account event cause in let same = same_topped account old new old s.1 refl in omega arith
 topped_step account (TopUp other amount) Done old new s =
-    let check = all_passed (checks old (TopUp other amount)) s.0 in
-    ap (λ (w : State). topped_of w account) s.1 ∙ more_topped account other amount old.topped (leb-false (length old.topped) other check.0)
+    ap (λ (w : State). topped_of w account) s.1 ∙ more_topped account other amount old.topped (top_up_done old new other amount s).account_there
 topped_step account (Reserve request other cost) Done old new s = same_topped account old new _ s.1 refl
-topped_step account (Claim worker slot) Done old new s = same_topped account old new _ s.1.1 refl
+topped_step account (Claim worker slot) Done old new s = same_topped account old new _ (claim_done old new worker slot s).after refl
 topped_step account (Post worker slot request) Done old new s = same_topped account old new _ s.1 refl
 topped_step account (Respond number status nack) Done old new s = same_topped account old new _ s.1.after refl
 topped_step account (Settle worker slot) Done old new s = settle_topped account (mark_of old slot) old new slot s.1
 topped_step account (Expire worker slot) Done old new s = expire_topped account (mark_of old slot) old new slot s.1
 topped_step account (Discard request) Done old new s = same_topped account old new _ s.1 refl
-topped_step account (Release worker slot) Done old new s = same_topped account old new _ s.1.1 refl
+topped_step account (Release worker slot) Done old new s = same_topped account old new _ (release_done old new worker slot s).after refl
 
 topped_run : (account : ℕ) (ms : List Moment) (old new : State) → IsHistory old ms new → topped_of new account ≡ topped_of old account + topped_up account ms
 topped_run account [] old new h = same_topped account old new old h refl
 topped_run account (m ∷ ms) old new h =
     let one = topped_step account m.event m.answer old m.after (first_step m ms old new h) in
-    let rest = topped_run account ms m.after new h.2 in
+    let rest = topped_run account ms m.after new (later_steps m ms old new h) in
     omega arith
 
 nothing : (account n : ℕ) → get_or (replicate {A = ℕ} n 0) account 0 ≡ 0

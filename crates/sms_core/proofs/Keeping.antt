@@ -12,8 +12,9 @@ use Rattle.sms_core.specs.Holds.{is_slot, holders_of, IsLawful, Claims, Releases
 use Rattle.sms_core.specs.State.{State, is_pair, times_held, new_world}
 use Rattle.sms_core.specs.Steps.{Steps}
 use Rattle.sms_core.proofs.Held.{lawful_claims, lawful_releases}
-use Rattle.sms_core.proofs.Runs.{first_step, kept_by_runs, Takes, Frees, turn_of_holds}
+use Rattle.sms_core.proofs.Runs.{first_step, later_steps, kept_by_runs, Takes, Frees, turn_of_holds}
 use Rattle.sms_core.proofs.Workers.{own_at_most, two_at_most, same_pair, same_slot, other_slot, pair_at_most}
+use Rattle.sms_core.proofs.Done.{claim_done}
 
 pub lawful_step : (event : Event) (answer : Step) (old new : State) → Steps old event answer new → IsLawful old.holds → IsLawful new.holds
 lawful_step event answer old new s law = ⊎_elim
@@ -37,7 +38,9 @@ taken worker slot old new c =
     (omega arith, omega arith)
 
 pub claim_takes_free_slot : ClaimTakesFreeSlot
-claim_takes_free_slot old new worker slot s = (s.1.0.0, s.1.0, (taken worker slot old.holds new.holds s.1.0).0)
+claim_takes_free_slot old new worker slot s =
+    let claims = (claim_done old new worker slot s).claims in
+    (claims.0, claims, (taken worker slot old.holds new.holds claims).0)
 
 -- the worker has the slot, and nobody else has
 abbrev IsOwn : ℕ → ℕ → List (ℕ × ℕ) → Type 0
@@ -82,7 +85,8 @@ own_step worker slot event answer old new never s own = ⊎_elim
 own_run : (worker slot : ℕ) (ms : List Moment) (old new : State) → IsHistory old ms new → NeverReleased worker slot ms → IsOwn worker slot old.holds → IsOwn worker slot new.holds
 own_run worker slot [] old new h never own = subst (λ (w : State). IsOwn worker slot w.holds) (sym h) own
 own_run worker slot (m ∷ ms) old new h never own =
-    own_run worker slot ms m.after new h.2 never.1 (own_step worker slot m.event m.answer old m.after never.0 (first_step m ms old new h) own)
+    own_run worker slot ms m.after new (later_steps m ms old new h) never.1 (own_step worker slot m.event m.answer old m.after never.0 (first_step m ms old new h) own)
 
 pub slot_stays_held : SlotStaysHeld
-slot_stays_held ms later old claimed new worker slot start s h never = own_run worker slot later claimed new h never (taken worker slot old.holds claimed.holds s.1.0)
+slot_stays_held ms later old claimed new worker slot start s h never =
+    own_run worker slot later claimed new h never (taken worker slot old.holds claimed.holds (claim_done old claimed worker slot s).claims)

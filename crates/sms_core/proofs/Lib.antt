@@ -15,6 +15,7 @@ pub mod Running
 pub mod Backed
 pub mod Charging
 pub mod Determined
+pub mod Done
 pub mod Drawing
 pub mod Finals
 pub mod Funds

@@ -2,15 +2,14 @@
 use Rattle.std.proofs.Common.{◌≡◌, ℕ, zero, suc, ◌<◌, List, [], ◌∷◌, length, set, get_or, Option, Some, refl, sym, ap, ◌∙◌, arith, eq-eqb}
 use Rattle.std.proofs.lemmas.List.{get_or-set_same, get_or-set_other}
 use Rattle.std.proofs.lemmas.Option.{slice_get_within, get_or_from_slice_get}
-use Rattle.sms_core.specs.declared.event.Event.TheVariants.{Post}
 use Rattle.sms_core.specs.declared.mark.Mark.{Mark}
 use Rattle.sms_core.specs.declared.mark.Mark.TheVariants.{Empty, Open, Replied}
 use Rattle.sms_core.specs.CoreLaws.{MovesMark, PostOpens, RespondReplies, SettleEmpties, ExpireEmpties}
 use Rattle.sms_core.specs.Marks.{replied, settled, expired, opened}
 use Rattle.sms_core.specs.State.{State, mark_of}
-use Rattle.sms_core.specs.Steps.{checks, Settles, Expires}
-use Rattle.sms_core.proofs.Passed.{all_passed, some_held, empty_mark}
+use Rattle.sms_core.specs.Steps.{Settles, Expires}
 use Rattle.sms_core.proofs.Sound.{held_inside, sound}
+use Rattle.sms_core.proofs.Done.{post_done}
 
 -- where the marks are those before with one set
 sets_mark : (old new : State) (slot : ℕ) (m : Mark) (change : Mark → Option Mark) → slot < length old.marks → new.marks ≡ set old.marks slot m → change (mark_of old slot) ≡ Some m → MovesMark old slot change new
@@ -26,10 +25,9 @@ marked_inside (m ∷ ms) (suc slot) never = let rest = marked_inside ms slot nev
 
 pub post_opens : PostOpens
 post_opens ms old new worker slot request h s =
-    let check = all_passed (checks old (Post worker slot request)) s.0 in
-    let inside = held_inside old worker slot (sound ms old h) (some_held _ check.0) in
-    let empty = empty_mark (mark_of old slot) check.1.0 in
-    sets_mark old new slot (Open request old.next) (opened request old.next) inside (ap (λ (w : State). w.marks) s.1) (ap (opened request old.next) empty)
+    let done = post_done old new worker slot request s in
+    let inside = held_inside old worker slot (sound ms old h) done.held in
+    sets_mark old new slot (Open request old.next) (opened request old.next) inside (ap (λ (w : State). w.marks) s.1) (ap (opened request old.next) done.empty)
 
 pub respond_replies : RespondReplies
 respond_replies old new number status nack s =

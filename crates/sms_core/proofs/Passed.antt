@@ -12,7 +12,7 @@ use Rattle.sms_core.specs.declared.request.Phase.{Phase}
 use Rattle.sms_core.specs.declared.request.Phase.TheVariants.{Ready, Charged, Refused, Unanswered, Unsent, Open as Waiting}
 use Rattle.sms_core.specs.declared.request.RequestState.{RequestState}
 use Rattle.sms_core.specs.Marks.{is_empty}
-use Rattle.sms_core.specs.Steps.{first_cause, is_ready_phase, is_ready_state}
+use Rattle.sms_core.specs.Steps.{first_cause, is_ready_phase}
 
 -- none of the checks applies
 abbrev pub AllPassed : List (Bool × Cause) → Type 0
@@ -36,18 +36,13 @@ empty_mark Empty e = refl
 empty_mark (Open r n) e = absurd (true≢false e)
 empty_mark (Replied r n s k) e = absurd (true≢false e)
 
-ready_phase : (p : Phase) → not (is_ready_phase p) ≡ false → p ≡ Ready
+pub ready_phase : (p : Phase) → not (is_ready_phase p) ≡ false → p ≡ Ready
 ready_phase Ready e = refl
 ready_phase Waiting e = absurd (true≢false e)
 ready_phase Charged e = absurd (true≢false e)
 ready_phase Refused e = absurd (true≢false e)
 ready_phase Unanswered e = absurd (true≢false e)
 ready_phase Unsent e = absurd (true≢false e)
-
--- the request is known and ready
-pub ready_request : (o : Option RequestState) → not (is_ready_state o) ≡ false → (r : RequestState) × (o ≡ Some r) × (r.phase ≡ Ready)
-ready_request None e = absurd (true≢false e)
-ready_request (Some r) e = (r, refl, ready_phase r.phase e)
 
 -- the request is unknown
 pub no_request : (o : Option RequestState) → is_some o ≡ false → o ≡ None

@@ -3,7 +3,7 @@ use Rattle.std.proofs.Common.{◌≡◌, ◌≢◌, ℕ, ◌+◌, ◌-◌, ◌<�
 use Rattle.std.specs.Prelude.{if◌then◌else◌}
 use mathlib.Core.Logic.{dite}
 use native.Mathlib.Decide.{ℕ_discrete}
-use Rattle.std.proofs.lemmas.Bool.{leb-false, lt-ltb}
+use Rattle.std.proofs.lemmas.Bool.{lt-ltb}
 use Rattle.std.proofs.lemmas.List.{get_or-set_same, get_or-set_other}
 use Rattle.sms_core.specs.declared.event.Event.{Event}
 use Rattle.sms_core.specs.declared.event.Event.TheVariants.{TopUp, Reserve, Claim, Post, Respond, Settle, Expire, Discard, Release}
@@ -16,13 +16,13 @@ use Rattle.sms_core.specs.declared.row.Row.{Row}
 use Rattle.sms_core.specs.Rows.{over, reserved_of, charged_of, returned_of}
 use Rattle.sms_core.specs.RowMoves.{row_topped_up, row_reserved, row_given_back, row_after}
 use Rattle.sms_core.specs.State.{State, topped_of, row_at, rows, entry_of, request_of, changed, mark_of}
-use Rattle.sms_core.specs.Steps.{checks, Steps, reserved_request, posted, answered, with_phase, phase_after, discarded}
+use Rattle.sms_core.specs.Steps.{Steps, reserved_request, posted, answered, with_phase, phase_after, discarded}
 use Rattle.sms_core.specs.StepLaws.{MovesRow, SameRows, RowStep, RowsMove}
 use Rattle.sms_core.proofs.Accounts.{IsAccounted, accounted}
 use Rattle.sms_core.proofs.Named.{share, over_changed, over_more}
-use Rattle.sms_core.proofs.Passed.{all_passed}
-use Rattle.sms_core.proofs.RequestSteps.{is_ready, settled, expired}
+use Rattle.sms_core.proofs.RequestSteps.{settled, expired}
 use Rattle.sms_core.proofs.Sound.{IsSound, sound}
+use Rattle.sms_core.proofs.Done.{top_up_done, reserve_done, claim_done, post_done, discard_done, release_done}
 
 row_equal : (x y : Row) → x.topped ≡ y.topped → x.free ≡ y.free → x.reserved ≡ y.reserved → x.charged ≡ y.charged → x.returned ≡ y.returned → x ≡ y
 row_equal x y t f r c b = λ i. record { topped = t i; free = f i; reserved = r i; charged = c i; returned = b i }
@@ -48,14 +48,16 @@ all_same old new topped requests account =
     rows_same old new account (ap length topped) (ap (λ (l : List ℕ). get_or l account 0) topped) (λ g. ap (λ (l : List Request). over g account (map entry_of l)) requests)
 
 -- what a phase in which the cost is reserved adds
-abbrev IsSetAside : Phase → ℕ → Type 0
-IsSetAside p cost = (reserved_of p cost ≡ cost) × (charged_of p cost ≡ 0) × (returned_of p cost ≡ 0)
+record IsSetAside (p : Phase) (cost : ℕ) : Type 0 where
+  reserved : reserved_of p cost ≡ cost
+  charged : charged_of p cost ≡ 0
+  returned : returned_of p cost ≡ 0
 
 set_aside_ready : (p : Phase) (cost : ℕ) → p ≡ Ready → IsSetAside p cost
-set_aside_ready p cost e = subst (λ (q : Phase). IsSetAside q cost) (sym e) (refl, refl, refl)
+set_aside_ready p cost e = subst (λ (q : Phase). IsSetAside q cost) (sym e) record { reserved = refl; charged = refl; returned = refl }
 
 set_aside_open : (p : Phase) (cost : ℕ) → p ≡ Open → IsSetAside p cost
-set_aside_open p cost e = subst (λ (q : Phase). IsSetAside q cost) (sym e) (refl, refl, refl)
+set_aside_open p cost e = subst (λ (q : Phase). IsSetAside q cost) (sym e) record { reserved = refl; charged = refl; returned = refl }
 
 -- the sums of a row before and after a request of it came to a phase
 pub record Comes (phase : Phase) (cost : ℕ) (x y : Row) : Type 0 where
@@ -96,9 +98,9 @@ row_moves old new request f s n phase i a known aside becomes topped requests =
         was = refl;
         is = refl;
         topped = ap (λ (l : List ℕ). get_or l s.account 0) topped;
-        reserved = let e = moved reserved_of s.account in let o = own reserved_of in let t = later reserved_of in let z = aside.0 in omega arith;
-        charged = let e = moved charged_of s.account in let o = own charged_of in let t = later charged_of in let z = aside.1 in omega arith;
-        returned = let e = moved returned_of s.account in let o = own returned_of in let t = later returned_of in let z = aside.2 in omega arith;
+        reserved = let e = moved reserved_of s.account in let o = own reserved_of in let t = later reserved_of in let z = aside.reserved in omega arith;
+        charged = let e = moved charged_of s.account in let o = own charged_of in let t = later charged_of in let z = aside.charged in omega arith;
+        returned = let e = moved returned_of s.account in let o = own returned_of in let t = later returned_of in let z = aside.returned in omega arith;
       });
       others = λ other ne. rows_same old new other long (ap (λ (l : List ℕ). get_or l other 0) topped) (λ g.
           let e = moved g other in
@@ -124,8 +126,7 @@ row_moves old new request f s n phase i a known aside becomes topped requests =
 
 top_up_moves : (old new : State) (account amount : ℕ) → IsSound old → Steps old (TopUp account amount) Done new → MovesRow old account (row_topped_up amount) new
 top_up_moves old new account amount i s =
-    let check = all_passed (checks old (TopUp account amount)) s.0 in
-    let inside : account < length old.topped = leb-false (length old.topped) account check.0 in
+    let inside : account < length old.topped = (top_up_done old new account amount s).account_there in
     let n : ℕ = topped_of old account + amount in
     let topped : new.topped ≡ set old.topped account n = ap (λ (w : State). w.topped) s.1 in
     let long : length new.topped ≡ length old.topped = ap length topped ∙ length-set old.topped account n in
@@ -143,8 +144,7 @@ top_up_moves old new account amount i s =
 
 reserve_moves : (old new : State) (request account cost : ℕ) → IsSound old → Steps old (Reserve request account cost) Done new → MovesRow old account (row_reserved cost) new
 reserve_moves old new request account cost i s =
-    let check = all_passed (checks old (Reserve request account cost)) s.0 in
-    let inside : account < length old.topped = leb-false (length old.topped) account check.0 in
+    let inside : account < length old.topped = (reserve_done old new request account cost s).account_there in
     let topped : new.topped ≡ old.topped = ap (λ (w : State). w.topped) s.1 in
     let long : length new.topped ≡ length old.topped = ap length topped in
     let x : Request = reserved_request request account cost in
@@ -180,34 +180,36 @@ with_move old new account f g e m = record { row = m.row; before = m.before; aft
 pub row_step : (event : Event) (old new : State) → IsSound old → IsAccounted old → Steps old event Done new → RowStep old event new
 row_step (TopUp account amount) old new i a s = top_up_moves old new account amount i s
 row_step (Reserve request account cost) old new i a s = reserve_moves old new request account cost i s
-row_step (Claim worker slot) old new i a s = all_same old new (ap (λ (w : State). w.topped) s.1.1) (ap (λ (w : State). w.requests) s.1.1)
+row_step (Claim worker slot) old new i a s =
+    let after = (claim_done old new worker slot s).after in
+    all_same old new (ap (λ (w : State). w.topped) after) (ap (λ (w : State). w.requests) after)
 row_step (Post worker slot request) old new i a s =
-    let check = all_passed (checks old (Post worker slot request)) s.0 in
-    let r = is_ready old request check.1.1.0 in
+    let r = (post_done old new worker slot request s).ready in
     still_reserved old new r.state.account
     (row_moves old new request posted r.state (r.state.attempts + 1) Open i a r.known (set_aside_ready r.state.phase r.state.cost r.ready) refl (ap (λ (w : State). w.topped) s.1) (ap (λ (w : State). w.requests) s.1))
 row_step (Respond number status nack) old new i a s = all_same old new (ap (λ (w : State). w.topped) s.1.after) (ap (λ (w : State). w.requests) s.1.after)
 row_step (Settle worker slot) old new i a s =
     let t = settled (mark_of old slot) old new slot refl s.1 i in
-    let r = t.0 in (
+    let r = t.before in (
       r,
       row_moves old new r.request (answered old.attempts r.status r.nack) r.state r.state.attempts (phase_after old.attempts r.status r.nack r.state.attempts) i a r.known
-          (set_aside_open r.state.phase r.state.cost r.waits) refl t.1 t.2,
+          (set_aside_open r.state.phase r.state.cost r.waits) refl t.topped t.requests,
     )
 row_step (Expire worker slot) old new i a s =
     let t = expired (mark_of old slot) old new slot refl s.1 i in
-    let r = t.0 in
+    let r = t.before in
     still_reserved old new r.state.account
-    (row_moves old new r.request (with_phase Unanswered) r.state r.state.attempts Unanswered i a r.known (set_aside_open r.state.phase r.state.cost r.waits) refl t.1 t.2)
+    (row_moves old new r.request (with_phase Unanswered) r.state r.state.attempts Unanswered i a r.known (set_aside_open r.state.phase r.state.cost r.waits) refl t.topped t.requests)
 row_step (Discard request) old new i a s =
-    let check = all_passed (checks old (Discard request)) s.0 in
-    let r = is_ready old request check.0 in
+    let r = (discard_done old new request s).ready in
     let phase : Phase = if r.state.attempts == 0 then Unsent else Refused in (
       r,
       with_move old new r.state.account (row_after phase r.state.cost) (row_given_back r.state.cost) (unsent_or_refused (r.state.attempts == 0) r.state.cost)
           (row_moves old new request discarded r.state r.state.attempts phase i a r.known (set_aside_ready r.state.phase r.state.cost r.ready) refl (ap (λ (w : State). w.topped) s.1) (ap (λ (w : State). w.requests) s.1)),
     )
-row_step (Release worker slot) old new i a s = all_same old new (ap (λ (w : State). w.topped) s.1.1) (ap (λ (w : State). w.requests) s.1.1)
+row_step (Release worker slot) old new i a s =
+    let after = (release_done old new worker slot s).after in
+    all_same old new (ap (λ (w : State). w.topped) after) (ap (λ (w : State). w.requests) after)
 
 pub rows_move : RowsMove
 rows_move ms old new event h s = row_step event old new (sound ms old h) (accounted ms old h) s

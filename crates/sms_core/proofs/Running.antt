@@ -10,7 +10,7 @@ use Rattle.sms_core.specs.Histories.{Moment, IsHistory, Runs}
 history_more : (old : State) (ms : List Moment) (w : State) (event : Event) (answer : Step) (new : State) → IsHistory old ms w → Steps w event answer new →
     IsHistory old (ms ++ (record { before = w; event = event; answer = answer; after = new }) ∷ []) new
 history_more old [] w event answer new is step = (is, step, refl)
-history_more old (m ∷ ms) w event answer new is step = (is.0, is.1, history_more m.after ms w event answer new is.2 step)
+history_more old (m ∷ ms) w event answer new (from, steps, later) step = (from, steps, history_more m.after ms w event answer new later step)
 
 pub runs_more : (old : State) (events : List Event) (answers : List Step) (w : State) (event : Event) (answer : Step) (new : State) → Runs old events answers w → Steps w event answer new →
     Runs old (events ++ event ∷ []) (answers ++ answer ∷ []) new

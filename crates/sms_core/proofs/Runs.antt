@@ -1,7 +1,6 @@
 -- What each step keeps, every run keeps; and what a step does to the hold set.
 use mathlib.Core.Logic.{◌⊎◌}
 use Rattle.std.proofs.Common.{◌≡◌, ℕ, ◌<◌, ◌≤◌, List, [], ◌∷◌, refl, sym, ap, subst, inl, inr}
-use Rattle.std.proofs.lemmas.Bool.{leb-false}
 use Rattle.sms_core.specs.declared.event.Event.{Event}
 use Rattle.sms_core.specs.declared.event.Event.TheVariants.{TopUp, Reserve, Claim, Post, Respond, Settle, Expire, Discard, Release}
 use Rattle.sms_core.specs.declared.event.Step.{Step}
@@ -10,17 +9,20 @@ use Rattle.sms_core.specs.declared.mark.Mark.{Mark}
 use Rattle.sms_core.specs.declared.mark.Mark.TheVariants.{Empty, Open, Replied}
 use Rattle.sms_core.specs.Holds.{Claims, Releases}
 use Rattle.sms_core.specs.State.{State, mark_of, times_held}
-use Rattle.sms_core.specs.Steps.{checks, Steps, Settles, Expires}
+use Rattle.sms_core.specs.Steps.{Steps, Settles, Expires}
 use Rattle.sms_core.specs.Histories.{Moment, IsHistory}
-use Rattle.sms_core.proofs.Passed.{all_passed, both_false, some_held}
+use Rattle.sms_core.proofs.Done.{claim_done, release_done}
 
 pub first_step : (m : Moment) (ms : List Moment) (old new : State) → IsHistory old (m ∷ ms) new → Steps old m.event m.answer m.after
-first_step m ms old new h = subst (λ (w : State). Steps w m.event m.answer m.after) h.0 h.1
+first_step m ms old new (from, steps, later) = subst (λ (w : State). Steps w m.event m.answer m.after) from steps
+
+pub later_steps : (m : Moment) (ms : List Moment) (old new : State) → IsHistory old (m ∷ ms) new → IsHistory m.after ms new
+later_steps m ms old new (from, steps, later) = later
 
 pub kept_by_runs : (P : State → Type 0) → ((event : Event) (answer : Step) (old new : State) → Steps old event answer new → P old → P new)
     → (ms : List Moment) (old new : State) → IsHistory old ms new → P old → P new
 kept_by_runs P step [] old new h p = subst P (sym h) p
-kept_by_runs P step (m ∷ ms) old new h p = kept_by_runs P step ms m.after new h.2 (step m.event m.answer old m.after (first_step m ms old new h) p)
+kept_by_runs P step (m ∷ ms) old new h p = kept_by_runs P step ms m.after new (later_steps m ms old new h) (step m.event m.answer old m.after (first_step m ms old new h) p)
 
 -- a claim of a free slot of the window
 pub record Takes (old : State) (holds : List (ℕ × ℕ)) : Type 0 where
@@ -57,14 +59,13 @@ turn_of_holds event (Ignored cause) old new s = inl (ap (λ (w : State). w.holds
 turn_of_holds (TopUp account amount) Done old new s = inl (ap (λ (w : State). w.holds) s.1)
 turn_of_holds (Reserve request account cost) Done old new s = inl (ap (λ (w : State). w.holds) s.1)
 turn_of_holds (Claim worker slot) Done old new s =
-    let check = all_passed (checks old (Claim worker slot)) s.0 in
-    let inside = both_false _ _ check.0 in
-    inr (inl record { worker = worker; slot = slot; inside = leb-false old.limit slot inside.0; claims = s.1.0 })
+    let done = claim_done old new worker slot s in
+    inr (inl record { worker = worker; slot = slot; inside = done.inside; claims = done.claims })
 turn_of_holds (Post worker slot request) Done old new s = inl (ap (λ (w : State). w.holds) s.1)
 turn_of_holds (Respond number status nack) Done old new s = inl (ap (λ (w : State). w.holds) s.1.after)
 turn_of_holds (Settle worker slot) Done old new s = settles_holds (mark_of old slot) (Settle worker slot) Done old new slot s.1
 turn_of_holds (Expire worker slot) Done old new s = expires_holds (mark_of old slot) (Expire worker slot) Done old new slot s.1
 turn_of_holds (Discard request) Done old new s = inl (ap (λ (w : State). w.holds) s.1)
 turn_of_holds (Release worker slot) Done old new s =
-    let check = all_passed (checks old (Release worker slot)) s.0 in
-    inr (inr record { worker = worker; slot = slot; is = refl; done = refl; held = some_held (times_held worker slot old.holds) check.0; releases = s.1.0 })
+    let done = release_done old new worker slot s in
+    inr (inr record { worker = worker; slot = slot; is = refl; done = refl; held = done.held; releases = done.releases })

@@ -3,7 +3,6 @@ use Rattle.std.proofs.Common.{◌≡◌, ◌≢◌, ℕ, zero, suc, ◌+◌, ◌
 use Rattle.std.specs.Prelude.{if◌then◌else◌, replicate, slice_get}
 use mathlib.Core.Logic.{dite}
 use native.Mathlib.Decide.{ℕ_discrete, dec_lt}
-use Rattle.std.proofs.lemmas.Bool.{ltb-false, leb-false}
 use Rattle.std.proofs.lemmas.List.{length-set, length-replicate, get_or-set_same, get_or-set_other}
 use Rattle.std.proofs.lemmas.Option.{slice_get_within, get_or_from_slice_get}
 use Rattle.sms_core.specs.declared.event.Event.{Event}
@@ -20,13 +19,13 @@ use Rattle.sms_core.specs.Holds.{is_slot, holders_of, Claims, Releases}
 use Rattle.sms_core.specs.Replies.{is_charge, is_retry}
 use Rattle.sms_core.specs.Rows.{reserved_of, charged_of, over}
 use Rattle.sms_core.specs.State.{State, AreLimits, new_world, topped_of, entry_of, find_request, request_of, changed, mark_of, times_held}
-use Rattle.sms_core.specs.Steps.{checks, Steps, Settles, Expires, reserved_request, posted, with_phase, phase_after, discarded}
+use Rattle.sms_core.specs.Steps.{Steps, Settles, Expires, reserved_request, posted, with_phase, phase_after, discarded}
 use Rattle.sms_core.specs.Histories.{Moment, FromStart}
-use Rattle.sms_core.proofs.Passed.{all_passed, both_false, some_held, empty_mark, ready_request, no_request}
 use Rattle.sms_core.proofs.Named.{find_changed, find_unchanged, find_after, find_beside, AreNamedApart, apart_changed, apart_more, share, over_more, no_more_committed}
 use Rattle.sms_core.proofs.Runs.{kept_by_runs}
-use Rattle.sms_core.proofs.Spoken.{is_name, this_name, other_name, speaks, spoken, spoken_set, spoken_clear, spoken_none, is_waiting, waiting, request_waiting}
+use Rattle.sms_core.proofs.Spoken.{is_name, this_name, other_name, speaks, spoken, spoken_set, spoken_clear, spoken_none, is_waiting, waiting, IsThatWaits, request_waiting}
 use Rattle.sms_core.proofs.Workers.{own_at_most, other_slot}
+use Rattle.sms_core.proofs.Done.{top_up_done, reserve_done, claim_done, post_done, discard_done, release_done}
 
 pub record IsSound (w : State) : Type 0 where
   -- the window lies within the table of marks
@@ -210,7 +209,7 @@ sound_respond old slot request number status nack there i = record {
     mark = get_or_from_slice_get old.marks slot (Open request number) Empty there
 
 -- the request of a mark waits
-pub mark_waits : (old : State) (slot request : ℕ) → IsSound old → speaks request (mark_of old slot) ≡ 1 → (s : RequestState) × (request_of old request ≡ Some s) × (s.phase ≡ Waiting)
+pub mark_waits : (old : State) (slot request : ℕ) → IsSound old → speaks request (mark_of old slot) ≡ 1 → IsThatWaits (request_of old request)
 mark_waits old slot request i one =
     let e = spoken_clear request old.marks slot in
     let w = i.waits request in
@@ -223,9 +222,9 @@ sound_close : (old : State) (slot request : ℕ) (phase : RequestState → Phase
 sound_close old slot request phase ends mark i =
     let f : RequestState → RequestState = λ s. with_phase (phase s) s in
     let waits_now = mark_waits old slot request i (mark request ∙ this_name request request refl) in
-    let s : RequestState = waits_now.0 in
-    let known : request_of old request ≡ Some s = waits_now.1 in
-    let full : reserved_of s.phase s.cost ≡ s.cost = ap (λ (p : Phase). reserved_of p s.cost) waits_now.2 in
+    let s : RequestState = waits_now.state in
+    let known : request_of old request ≡ Some s = waits_now.known in
+    let full : reserved_of s.phase s.cost ≡ s.cost = ap (λ (p : Phase). reserved_of p s.cost) waits_now.waits in
     record {
       small = i.small;
       wide = length-set old.marks slot Empty ∙ i.wide;
@@ -240,7 +239,7 @@ sound_close old slot request phase ends mark i =
           (λ is.
           let one = this_name id request is in
           let at : request_of old id ≡ Some s = ap (λ (k : ℕ). find_request k old.requests) (sym is) ∙ known in
-          let was : waiting (request_of old id) ≡ 1 = ap waiting at ∙ ap is_waiting waits_now.2 in
+          let was : waiting (request_of old id) ≡ 1 = ap waiting at ∙ ap is_waiting waits_now.waits in
           let new : waiting (find_request id (changed request f old.requests)) ≡ 0 =
           ap (λ (k : ℕ). waiting (find_request k (changed request f old.requests))) (sym is) ∙ ap waiting (find_changed request f old.requests s known) ∙ ends s in
           omega arith)
@@ -300,28 +299,26 @@ sound_expire (Replied r n status nack) old new slot e s i = absurd s
 pub sound_step : (event : Event) (answer : Step) (old new : State) → Steps old event answer new → IsSound old → IsSound new
 sound_step event (Ignored cause) old new s i = subst IsSound (sym s.1) i
 sound_step (TopUp account amount) Done old new s i =
-    let check = all_passed (checks old (TopUp account amount)) s.0 in
-    subst IsSound (sym s.1) (sound_top_up old account amount (leb-false (length old.topped) account check.0) i)
+    subst IsSound (sym s.1) (sound_top_up old account amount (top_up_done old new account amount s).account_there i)
 sound_step (Reserve request account cost) Done old new s i =
-    let check = all_passed (checks old (Reserve request account cost)) s.0 in
-    subst IsSound (sym s.1) (sound_reserve old request account cost (no_request (request_of old request) check.1.0) (ltb-false _ cost check.1.1.1.0) i)
+    let done = reserve_done old new request account cost s in
+    subst IsSound (sym s.1) (sound_reserve old request account cost done.unknown done.enough i)
 sound_step (Claim worker slot) Done old new s i =
-    let check = all_passed (checks old (Claim worker slot)) s.0 in
-    subst IsSound (sym s.1.1) (sound_claim old worker slot new.holds (leb-false old.limit slot (both_false _ _ check.0).0) s.1.0 i)
+    let done = claim_done old new worker slot s in
+    subst IsSound (sym done.after) (sound_claim old worker slot new.holds done.inside done.claims i)
 sound_step (Post worker slot request) Done old new s i =
-    let check = all_passed (checks old (Post worker slot request)) s.0 in
-    let r = ready_request (request_of old request) check.1.1.0 in
-    subst IsSound (sym s.1) (sound_post old worker slot request r.0 (some_held _ check.0) (empty_mark (mark_of old slot) check.1.0) r.1 r.2 i)
+    let done = post_done old new worker slot request s in
+    let r = done.ready in
+    subst IsSound (sym s.1) (sound_post old worker slot request r.state done.held done.empty r.known r.ready i)
 sound_step (Respond number status nack) Done old new s i = subst IsSound (sym s.1.after) (sound_respond old s.1.slot s.1.request number status nack s.1.waits i)
 sound_step (Settle worker slot) Done old new s i = sound_settle (mark_of old slot) old new slot refl s.1 i
 sound_step (Expire worker slot) Done old new s i = sound_expire (mark_of old slot) old new slot refl s.1 i
 sound_step (Discard request) Done old new s i =
-    let check = all_passed (checks old (Discard request)) s.0 in
-    let r = ready_request (request_of old request) check.0 in
-    subst IsSound (sym s.1) (sound_discard old request r.0 r.1 r.2 i)
+    let r = (discard_done old new request s).ready in
+    subst IsSound (sym s.1) (sound_discard old request r.state r.known r.ready i)
 sound_step (Release worker slot) Done old new s i =
-    let check = all_passed (checks old (Release worker slot)) s.0 in
-    subst IsSound (sym s.1.1) (sound_release old worker slot new.holds s.1.0 (empty_mark (mark_of old slot) check.1.0) i)
+    let done = release_done old new worker slot s in
+    subst IsSound (sym done.after) (sound_release old worker slot new.holds done.releases done.empty i)
 
 pub sound : (ms : List Moment) (w : State) → FromStart ms w → IsSound w
 sound ms w h = kept_by_runs IsSound sound_step ms (new_world h.accounts h.limit h.attempts) w h.history (sound_start h.accounts h.limit h.attempts h.limits)

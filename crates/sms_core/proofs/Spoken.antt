@@ -61,6 +61,12 @@ phase_waiting Refused l = absurd (omega arith)
 phase_waiting Unanswered l = absurd (omega arith)
 phase_waiting Unsent l = absurd (omega arith)
 
-pub request_waiting : (o : Option RequestState) → 1 ≤ waiting o → (s : RequestState) × (o ≡ Some s) × (s.phase ≡ Waiting)
+-- the request is known and waits
+pub record IsThatWaits (o : Option RequestState) : Type 0 where
+  pub state : RequestState
+  pub known : o ≡ Some state
+  pub waits : state.phase ≡ Waiting
+
+pub request_waiting : (o : Option RequestState) → 1 ≤ waiting o → IsThatWaits o
 request_waiting None l = absurd (omega arith)
-request_waiting (Some s) l = (s, refl, phase_waiting s.phase l)
+request_waiting (Some s) l = record { state = s; known = refl; waits = phase_waiting s.phase l }

@@ -232,15 +232,21 @@ next_placed id r rs p ne e = rw (ne_eqb r.id id ne) (ap (option_map suc) e)
 first_placed : (id : ℕ) (r : Request) (rs : List Request) → r.id ≡ id → place_of id (r ∷ rs) ≡ Some 0
 first_placed id r rs is = rw (eq-eqb r.id id is) refl
 
-pub open_there : (id : ℕ) (rs : List Request) (d : Request) → sum_by (is_named id) rs ≤ 1 → 0 < sum_by (is_open_named id) rs → (p : ℕ) × (place_of id rs ≡ Some p) × (one_if_open (get_or rs p d).state.phase ≡ 1)
+-- the place of the open request with this id
+record OpenThere (id : ℕ) (rs : List Request) (d : Request) : Type 0 where
+  place : ℕ
+  placed : place_of id rs ≡ Some place
+  opens : one_if_open (get_or rs place d).state.phase ≡ 1
+
+open_there : (id : ℕ) (rs : List Request) (d : Request) → sum_by (is_named id) rs ≤ 1 → 0 < sum_by (is_open_named id) rs → OpenThere id rs d
 open_there id [] d one some = absurd (omega arith)
 open_there id (r ∷ rs) d one some =
     let n = sum_by-cons (is_named id) r rs in let o = sum_by-cons (is_open_named id) r rs in
     dite (ℕ_discrete r.id id)
     (λ is. let named : is_named id r ≡ 1 = rw (eq-eqb r.id id is) in let opened : is_open_named id r ≡ one_if_open r.state.phase = rw (eq-eqb r.id id is) in
-    let rest = open_sum id rs in let le = open_le_named id r in (0, first_placed id r rs is, omega arith))
+    let rest = open_sum id rs in let le = open_le_named id r in record { place = 0; placed = first_placed id r rs is; opens = omega arith })
     (λ ne. let opened : is_open_named id r ≡ 0 = rw (ne_eqb r.id id ne) in let named : is_named id r ≡ 0 = rw (ne_eqb r.id id ne) in
-    let ih = open_there id rs d (omega arith) (omega arith) in (suc ih.0, next_placed id r rs ih.0 ne ih.1, ih.2))
+    let ih = open_there id rs d (omega arith) (omega arith) in record { place = suc ih.place; placed = next_placed id r rs ih.place ne ih.placed; opens = ih.opens })
 
 -- a new request
 
@@ -291,9 +297,9 @@ phase_open Unsent e = absurd (omega arith)
 pub open_found : (id : ℕ) (rs : List Request) (place : ℕ) (r : Request) → sum_by (is_named id) rs ≤ 1 → 0 < sum_by (is_open_named id) rs → place_of id rs ≡ Some place → slice_get rs place ≡ Some r → r.state.phase ≡ Open
 open_found id rs place r one some placed at =
     let there = open_there id rs r one some in
-    let same : there.0 ≡ place = cc (there.1, placed) in
+    let same : there.place ≡ place = cc (there.placed, placed) in
     let is = (get_or-at rs place r r at).1 in
-    phase_open r.state.phase (ap (λ (x : Request). one_if_open x.state.phase) (sym is) ∙ ap (λ (p : ℕ). one_if_open (get_or rs p r).state.phase) (sym same) ∙ there.2)
+    phase_open r.state.phase (ap (λ (x : Request). one_if_open x.state.phase) (sym is) ∙ ap (λ (p : ℕ). one_if_open (get_or rs p r).state.phase) (sym same) ∙ there.opens)
 
 pub open_placed : (id : ℕ) (rs : List Request) → sum_by (is_named id) rs ≤ 1 → 0 < sum_by (is_open_named id) rs → find_request id rs ≢ None
 open_placed id rs one some none = let n = none_named id rs none in let o = open_sum id rs in omega arith
