@@ -19,39 +19,50 @@ AllZip-append R (x ∷ xs) us [] vs p q = absurd p
 AllZip-append R (x ∷ xs) us (y ∷ ys) vs p q = (p.0, AllZip-append R xs us ys vs p.1 q)
 
 -- the octets of a piece behind what was there
-pub puts_said : (s : Said) (old new : List ℕ) → Puts s old new → (octets : List ℕ) × IsSaid s octets × (new ≡ old ++ octets)
-puts_said (said.BindResp mode status number) old new a = (a.octets, a.spelled, a.behind)
-puts_said (said.SubmitResp k status number) old new a = (a.octets, a.spelled, a.behind)
-puts_said (said.CutResp k number) old new a = (take 10 a.0, (a.0, a.1, refl), a.2)
-puts_said (said.GenericNack status number) old new a = (a.octets, a.spelled, a.behind)
-puts_said said.Unbind old new a = (a.octets, a.spelled, a.behind)
-puts_said (said.UnbindResp number) old new a = (a.octets, a.spelled, a.behind)
-puts_said (said.EnquireLinkResp number) old new a = (a.octets, a.spelled, a.behind)
-puts_said said.Deliver old new a = (a.octets, a.spelled, a.behind)
-puts_said said.HugeLength old new a = (_, refl, a)
+record Behind (s : Said) (old new : List ℕ) : Type 0 where
+  octets : List ℕ
+  said : IsSaid s octets
+  behind : new ≡ old ++ octets
+
+puts_said : (s : Said) (old new : List ℕ) → Puts s old new → Behind s old new
+puts_said (said.BindResp mode status number) old new a = record { octets = a.octets; said = a.spelled; behind = a.behind }
+puts_said (said.SubmitResp k status number) old new a = record { octets = a.octets; said = a.spelled; behind = a.behind }
+puts_said (said.CutResp k number) old new a = record { octets = take 10 a.all; said = record { all = a.all; spelled = a.spelled; front = refl }; behind = a.behind }
+puts_said (said.GenericNack status number) old new a = record { octets = a.octets; said = a.spelled; behind = a.behind }
+puts_said said.Unbind old new a = record { octets = a.octets; said = a.spelled; behind = a.behind }
+puts_said (said.UnbindResp number) old new a = record { octets = a.octets; said = a.spelled; behind = a.behind }
+puts_said (said.EnquireLinkResp number) old new a = record { octets = a.octets; said = a.spelled; behind = a.behind }
+puts_said said.Deliver old new a = record { octets = a.octets; said = a.spelled; behind = a.behind }
+puts_said said.HugeLength old new a = record { octets = _; said = refl; behind = a }
 
 -- behind nothing
 pub said_alone : (s : Said) (old new : List ℕ) → old ≡ [] → Puts s old new → IsSaid s new
 said_alone s old new none a =
     let p = puts_said s old new a in
-    subst (IsSaid s) (sym (p.2 ∙ ap (λ (l : List ℕ). l ++ p.0) none)) p.1
+    subst (IsSaid s) (sym (p.behind ∙ ap (λ (l : List ℕ). l ++ p.octets) none)) p.said
 
 -- the front of what was added
 pub cut_behind : (k number n : ℕ) (old new cut : List ℕ) → n ≡ length old → Adds (answer_to k no_error number) old new → cut ≡ take (n + 10) new → Puts (said.CutResp k number) old cut
 cut_behind k number n old new cut long a is =
-    (a.octets, a.spelled, is ∙ ap (λ l. take (n + 10) l) a.behind ∙ ap (λ i. take (i + 10) (old ++ a.octets)) long ∙ take-append-add old a.octets 10)
+    record {
+      all = a.octets;
+      spelled = a.spelled;
+      behind = is ∙ ap (λ l. take (n + 10) l) a.behind ∙ ap (λ i. take (i + 10) (old ++ a.octets)) long ∙ take-append-add old a.octets 10;
+    }
 
 pub none_put : (out : List ℕ) → PutsAll [] out out
-none_put out = ([], sym (append-nil out), tt)
+none_put out = record { pieces = []; behind = sym (append-nil out); said = tt }
 
 -- one piece more
 pub put_more : (ss : List Said) (s : Said) (a b c : List ℕ) → PutsAll ss a b → Puts s b c → PutsAll (ss ++ s ∷ []) a c
 put_more ss s a b c p x =
-    let q = puts_said s b c x in (
-      p.0 ++ q.0 ∷ [],
-      q.2 ∙ ap (λ (l : List ℕ). l ++ q.0) p.1 ∙ append_assoc a (concat p.0) q.0 ∙ ap (λ (l : List ℕ). a ++ l) (ap (λ (l : List ℕ). concat p.0 ++ l) (sym (append-nil q.0)) ∙ sym (concat-append p.0 (q.0 ∷ []))),
-      AllZip-append IsSaid ss (s ∷ []) p.0 (q.0 ∷ []) p.2 (q.1, tt),
-    )
+    let q = puts_said s b c x in
+    record {
+      pieces = p.pieces ++ q.octets ∷ [];
+      behind = q.behind ∙ ap (λ (l : List ℕ). l ++ q.octets) p.behind ∙ append_assoc a (concat p.pieces) q.octets
+          ∙ ap (λ (l : List ℕ). a ++ l) (ap (λ (l : List ℕ). concat p.pieces ++ l) (sym (append-nil q.octets)) ∙ sym (concat-append p.pieces (q.octets ∷ [])));
+      said = AllZip-append IsSaid ss (s ∷ []) p.pieces (q.octets ∷ []) p.said (q.said, tt);
+    }
 
 pub put_next : (ss : List Said) (i : ℕ) (d : Said) (a b c : List ℕ) → i < length ss → PutsAll (take i ss) a b → Puts (get_or ss i d) b c → PutsAll (take (i + 1) ss) a c
 put_next ss i d a b c low p x = subst (λ (l : List Said). PutsAll l a c) (sym (take_more ss i d low)) (put_more (take i ss) (get_or ss i d) a b c p x)

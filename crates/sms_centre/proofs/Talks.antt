@@ -47,9 +47,9 @@ answered_none p out = record { pieces = []; each = tt; grown = sym (append-nil o
 pub answered_one : (p q : Progress) (end : Option Stop) (old new f : List ℕ) → brought end ≡ end_at p (header_at_front f) → q ≡ after_frame p (header_at_front f) → PutsAll (said_to p (header_at_front f)) old new → Answered p q end old new (f ∷ [])
 answered_one p q end old new f e h a =
     record {
-      pieces = a.0;
-      each = subst (λ (l : List Said). AllZip IsSaid l a.0) (sym (append-nil (said_to p (header_at_front f)))) a.2;
-      grown = a.1;
+      pieces = a.pieces;
+      each = subst (λ (l : List Said). AllZip IsSaid l a.pieces) (sym (append-nil (said_to p (header_at_front f)))) a.said;
+      grown = a.behind;
       heard = ap (λ (x : Option Cause). let t : Talk = record { now = q; over = x } in t) e ∙ ap (λ (x : Progress). let t : Talk = record { now = x; over = end_at p (header_at_front f) } in t) h;
     }
 
@@ -71,8 +71,8 @@ writes_all true a b xs w = (length xs, omega arith, subst (λ l. Appends a b l) 
 
 writes_more : (early : Bool) (a b c : Option (List ℕ)) (xs ys : List ℕ) → Appends a b xs → Writes early b c ys → Writes early a c (xs ++ ys)
 writes_more false a b c xs ys w v = Appends-trans a b c xs ys w v
-writes_more true a b c xs ys w v =
-    (length xs + v.0, (let n = length-append xs ys in let m = v.1 in omega (arith, n, m)), subst (λ l. Appends a c l) (sym (take-append-add xs ys v.0)) (Appends-trans a b c xs (take v.0 ys) w v.2))
+writes_more true a b c xs ys w (n, few, appended) =
+    (length xs + n, omega (arith, length-append xs ys, few), subst (λ l. Appends a c l) (sym (take-append-add xs ys n)) (Appends-trans a b c xs (take n ys) w appended))
 
 pub written_none : (p : Progress) (end : Option Stop) (a : Option (List ℕ)) → brought end ≡ None → Written p p end a a []
 written_none p end a none =

@@ -42,11 +42,23 @@ abbrev pub empty_sm : Sm
 empty_sm =
     record { service_type = []; source_ton = 0; source_npi = 0; source_addr = []; dest_ton = 0; dest_npi = 0; dest_addr = []; esm_class = 0; protocol_id = 0; priority = 0; schedule = []; validity = []; registered = 0; replace = 0; data_coding = 0; default_msg = 0; short_message = []; params = [] }
 
+-- the first ten octets of an answer
+pub record IsCut (p : Pdu) (octets : List ℕ) : Type 0 where
+  pub all : List ℕ
+  pub spelled : Spells p all
+  pub front : octets ≡ take 10 all
+
+-- the same, behind what was there
+pub record PutsCut (p : Pdu) (old new : List ℕ) : Type 0 where
+  pub all : List ℕ
+  pub spelled : Spells p all
+  pub behind : new ≡ old ++ take 10 all
+
 -- the octets of a piece
 abbrev pub IsSaid : Said → List ℕ → Type 0
 IsSaid (said.BindResp mode status number) octets = Spells (bind_answer mode status number) octets
 IsSaid (said.SubmitResp k status number) octets = Spells (answer_to k status number) octets
-IsSaid (said.CutResp k number) octets = (all : List ℕ) × Spells (answer_to k no_error number) all × (octets ≡ take 10 all)
+IsSaid (said.CutResp k number) octets = IsCut (answer_to k no_error number) octets
 IsSaid (said.GenericNack status number) octets = Spells (pdu status number body.GenericNack) octets
 IsSaid said.Unbind octets = Spells (pdu no_error 1 body.Unbind) octets
 IsSaid (said.UnbindResp number) octets = Spells (pdu no_error number body.UnbindResp) octets
@@ -58,7 +70,7 @@ IsSaid said.HugeLength octets = octets ≡ to_be_bytes w32 70001
 abbrev pub Puts : Said → List ℕ → List ℕ → Type 0
 Puts (said.BindResp mode status number) old new = Adds (bind_answer mode status number) old new
 Puts (said.SubmitResp k status number) old new = Adds (answer_to k status number) old new
-Puts (said.CutResp k number) old new = (all : List ℕ) × Spells (answer_to k no_error number) all × (new ≡ old ++ take 10 all)
+Puts (said.CutResp k number) old new = PutsCut (answer_to k no_error number) old new
 Puts (said.GenericNack status number) old new = Adds (pdu status number body.GenericNack) old new
 Puts said.Unbind old new = Adds (pdu no_error 1 body.Unbind) old new
 Puts (said.UnbindResp number) old new = Adds (pdu no_error number body.UnbindResp) old new
@@ -67,8 +79,10 @@ Puts said.Deliver old new = Adds (pdu no_error 2 (body.Deliver empty_sm)) old ne
 Puts said.HugeLength old new = new ≡ old ++ to_be_bytes w32 70001
 
 -- pieces behind what was there, one after another
-abbrev pub PutsAll : List Said → List ℕ → List ℕ → Type 0
-PutsAll saids old new = (pieces : List (List ℕ)) × (new ≡ old ++ concat pieces) × AllZip IsSaid saids pieces
+pub record PutsAll (saids : List Said) (old new : List ℕ) : Type 0 where
+  pub pieces : List (List ℕ)
+  pub behind : new ≡ old ++ concat pieces
+  pub said : AllZip IsSaid saids pieces
 
 -- what is said at once to submit_sm k with this sequence_number
 abbrev pub at_once : Treatment → ℕ → ℕ → List Said
