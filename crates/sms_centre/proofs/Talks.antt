@@ -154,22 +154,22 @@ pub serves : (p q : Progress) (why : Stop) (held : List ℕ) (r t a b : Option (
 serves p q why held r t a b x good end =
     let w = x.went in
     let d = each_divided x.left in
-    let joined = conversation-append (talking p) w.frames d.0 in
+    let joined = conversation-append (talking p) w.frames d.frames in
     record {
       got = x.got;
       consumed = x.consumed;
-      frames = w.frames ++ d.0;
-      rest = d.1;
-      divided = division_after x.got x.left w.frames d.0 d.1 w.whole w.each d.2;
+      frames = w.frames ++ d.frames;
+      rest = d.rest;
+      divided = division_after x.got x.left w.frames d.frames d.rest w.whole w.each d.divided;
       answered = w.frames;
-      first = (d.0, refl);
+      first = (d.frames, refl);
       pieces = w.done.pieces;
       each = w.done.each;
       writes = w.done.writes;
       counted = ap (λ (k : Progress). k.submits) w.done.at;
       whole = λ e.
-          joined ∙ ap (λ (k : Talk). conversation (talking p) w.frames ++ conversation k d.0) (sym (w.done.heard e)) ∙ ap (λ (l : List Said). conversation (talking p) w.frames ++ l) (quiet q why x.left held d.0 d.1 e x.leaves d.2).0 ∙ append-nil (conversation (talking p) w.frames);
-      why = brings why (talk (talking p) (w.frames ++ d.0)).over x.left held d.0 d.1 t (λ e. ap (λ (k : Talk). k.over) (talk-append (talking p) w.frames d.0 ∙ ap (λ (k : Talk). talk k d.0) (sym (w.done.heard e)) ∙ (quiet q why x.left held d.0 d.1 e x.leaves d.2).1)) x.leaves d.2 good end;
+          joined ∙ ap (λ (k : Talk). conversation (talking p) w.frames ++ conversation k d.frames) (sym (w.done.heard e)) ∙ ap (λ (l : List Said). conversation (talking p) w.frames ++ l) (quiet q why x.left held d.frames d.rest e x.leaves d.divided).0 ∙ append-nil (conversation (talking p) w.frames);
+      why = brings why (talk (talking p) (w.frames ++ d.frames)).over x.left held d.frames d.rest t (λ e. ap (λ (k : Talk). k.over) (talk-append (talking p) w.frames d.frames ∙ ap (λ (k : Talk). talk k d.frames) (sym (w.done.heard e)) ∙ (quiet q why x.left held d.frames d.rest e x.leaves d.divided).1)) x.leaves d.divided good end;
     }
 
 -- no memory, and so nothing was read

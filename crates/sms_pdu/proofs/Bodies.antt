@@ -35,16 +35,16 @@ ended_ok octets u e =
 bare_take : (c : Command) (status : ℕ) (octets : List ℕ) (plain b : Body) → body_spelling plain ≡ [] → BodyFits status plain → command_in plain ≡ c → bare_at plain octets ≡ Ok b → Read c status octets b
 bare_take c status octets plain b none fits is e =
     let a = bind_ok (ended octets) (λ done. Ok plain) b e in
-    subst (λ (y : Body). Read c status octets y) (ok_is plain b a.2) (record { spelled = ended_ok octets a.0 a.1 ∙ sym none; fits = fits; command = is })
+    subst (λ (y : Body). Read c status octets y) (ok_is plain b a.rest) (record { spelled = ended_ok octets a.value a.is ∙ sym none; fits = fits; command = is })
 
 bind_take : (mode : Mode) (status : ℕ) (octets : List ℕ) (b : Body) → bind_at mode octets ≡ Ok b → Read (bind_command mode) status octets b
 unfolding bind_at
 bind_take mode status octets b e =
     let v = bind_ok (values_at bind_fields octets) (λ values. ended values.1 >>= λ done. Ok (bind_of mode values.0)) b e in
-    let d = bind_ok (ended v.0.1) (λ done. Ok (bind_of mode v.0.0)) b v.2 in
-    let t = values_take bind_fields octets v.0 v.1 in
-    let spelled : octets ≡ spellings bind_fields v.0.0 = t.0 ∙ ap (λ (r : List ℕ). spellings bind_fields v.0.0 ++ r) (ended_ok v.0.1 d.0 d.1) ∙ append-nil (spellings bind_fields v.0.0) in
-    subst (λ (y : Body). Read (bind_command mode) status octets y) (ok_is (bind_of mode v.0.0) b d.2) (record { spelled = spelled; fits = t.1; command = refl })
+    let d = bind_ok (ended v.value.1) (λ done. Ok (bind_of mode v.value.0)) b v.rest in
+    let t = values_take bind_fields octets v.value v.is in
+    let spelled : octets ≡ spellings bind_fields v.value.0 = t.0 ∙ ap (λ (r : List ℕ). spellings bind_fields v.value.0 ++ r) (ended_ok v.value.1 d.value d.is) ∙ append-nil (spellings bind_fields v.value.0) in
+    subst (λ (y : Body). Read (bind_command mode) status octets y) (ok_is (bind_of mode v.value.0) b d.rest) (record { spelled = spelled; fits = t.1; command = refl })
 
 -- what follows a front of octets is octets
 after_octets : (octets front rest : List ℕ) → octets ≡ front ++ rest → IsOctets octets → IsOctets rest
@@ -54,11 +54,11 @@ sm_take : (octets : List ℕ) (sm : Sm) → IsOctets octets → sm_at octets ≡
 unfolding sm_at
 sm_take octets sm fits e =
     let v = bind_ok (values_at sm_fields octets) (λ values. parameters_at values.1 >>= λ params. Ok (sm_of values.0 params)) sm e in
-    let p = bind_ok (parameters_at v.0.1) (λ params. Ok (sm_of v.0.0 params)) sm v.2 in
-    let t = values_take sm_fields octets v.0 v.1 in
-    let u = parameters_take (length v.0.1) v.0.1 p.0 (after_octets octets (spellings sm_fields v.0.0) v.0.1 t.0 fits) p.1 in
-    let spelled : octets ≡ spellings sm_fields v.0.0 ++ parameters_spelling p.0 = t.0 ∙ ap (λ (r : List ℕ). spellings sm_fields v.0.0 ++ r) u.0 in
-    subst (λ (y : Sm). (octets ≡ sm_spelling y) × SmFits y) (ok_is (sm_of v.0.0 p.0) sm p.2) (spelled, record { fields = t.1; params = u.1 })
+    let p = bind_ok (parameters_at v.value.1) (λ params. Ok (sm_of v.value.0 params)) sm v.rest in
+    let t = values_take sm_fields octets v.value v.is in
+    let u = parameters_take (length v.value.1) v.value.1 p.value (after_octets octets (spellings sm_fields v.value.0) v.value.1 t.0 fits) p.is in
+    let spelled : octets ≡ spellings sm_fields v.value.0 ++ parameters_spelling p.value = t.0 ∙ ap (λ (r : List ℕ). spellings sm_fields v.value.0 ++ r) u.0 in
+    subst (λ (y : Sm). (octets ≡ sm_spelling y) × SmFits y) (ok_is (sm_of v.value.0 p.value) sm p.rest) (spelled, record { fields = t.1; params = u.1 })
 
 -- a test that was either so or not
 pub absent_cases : (b : Bool) → (b ≡ true) ⊎ (b ≡ false)
@@ -87,11 +87,11 @@ bind_resp_take mode status octets b fits e =
       | inr isnt ↦
           let there : (values_at bind_resp_fields octets >>= λ values. parameters_at values.1 >>= λ params. Ok (body.BindResp mode (Some values.0.0) params)) ≡ Ok b = rw isnt at e in
           let v = bind_ok (values_at bind_resp_fields octets) (λ values. parameters_at values.1 >>= λ params. Ok (body.BindResp mode (Some values.0.0) params)) b there in
-          let p = bind_ok (parameters_at v.0.1) (λ params. Ok (body.BindResp mode (Some v.0.0.0) params)) b v.2 in
-          let t = values_take bind_resp_fields octets v.0 v.1 in
-          let u = parameters_take (length v.0.1) v.0.1 p.0 (after_octets octets (spellings bind_resp_fields v.0.0) v.0.1 t.0 fits) p.1 in
-          let spelled : octets ≡ spellings bind_resp_fields v.0.0 ++ parameters_spelling p.0 = t.0 ∙ ap (λ (r : List ℕ). spellings bind_resp_fields v.0.0 ++ r) u.0 in
-          subst (λ (y : Body). Read (bind_resp_command mode) status octets y) (ok_is (body.BindResp mode (Some v.0.0.0) p.0) b p.2) (record { spelled = spelled; fits = (t.1, u.1); command = refl })
+          let p = bind_ok (parameters_at v.value.1) (λ params. Ok (body.BindResp mode (Some v.value.0.0) params)) b v.rest in
+          let t = values_take bind_resp_fields octets v.value v.is in
+          let u = parameters_take (length v.value.1) v.value.1 p.value (after_octets octets (spellings bind_resp_fields v.value.0) v.value.1 t.0 fits) p.is in
+          let spelled : octets ≡ spellings bind_resp_fields v.value.0 ++ parameters_spelling p.value = t.0 ∙ ap (λ (r : List ℕ). spellings bind_resp_fields v.value.0 ++ r) u.0 in
+          subst (λ (y : Body). Read (bind_resp_command mode) status octets y) (ok_is (body.BindResp mode (Some v.value.0.0) p.value) b p.rest) (record { spelled = spelled; fits = (t.1, u.1); command = refl })
     ]
 
 message_id_take : (status : ℕ) (octets : List ℕ) (id : Option (List ℕ)) → message_id_at status octets ≡ Ok id → (octets ≡ sm_resp_spelling id) × SmRespFits status id
@@ -107,21 +107,21 @@ message_id_take status octets id e =
       | inr isnt ↦
           let there : (values_at sm_resp_fields octets >>= λ values. ended values.1 >>= λ done. Ok (Some values.0.0)) ≡ Ok id = rw isnt at e in
           let v = bind_ok (values_at sm_resp_fields octets) (λ values. ended values.1 >>= λ done. Ok (Some values.0.0)) id there in
-          let d = bind_ok (ended v.0.1) (λ done. Ok (Some v.0.0.0)) id v.2 in
-          let t = values_take sm_resp_fields octets v.0 v.1 in
-          let spelled : octets ≡ spellings sm_resp_fields v.0.0 = t.0 ∙ ap (λ (r : List ℕ). spellings sm_resp_fields v.0.0 ++ r) (ended_ok v.0.1 d.0 d.1) ∙ append-nil (spellings sm_resp_fields v.0.0) in
-          subst (λ (y : Option (List ℕ)). (octets ≡ sm_resp_spelling y) × SmRespFits status y) (ok_is (Some v.0.0.0) id d.2) (spelled, t.1)
+          let d = bind_ok (ended v.value.1) (λ done. Ok (Some v.value.0.0)) id v.rest in
+          let t = values_take sm_resp_fields octets v.value v.is in
+          let spelled : octets ≡ spellings sm_resp_fields v.value.0 = t.0 ∙ ap (λ (r : List ℕ). spellings sm_resp_fields v.value.0 ++ r) (ended_ok v.value.1 d.value d.is) ∙ append-nil (spellings sm_resp_fields v.value.0) in
+          subst (λ (y : Option (List ℕ)). (octets ≡ sm_resp_spelling y) × SmRespFits status y) (ok_is (Some v.value.0.0) id d.rest) (spelled, t.1)
     ]
 
 sm_body_take : (c : Command) (status : ℕ) (octets : List ℕ) (f : Sm → Body) (b : Body) → IsOctets octets → ((sm : Sm) → (octets ≡ sm_spelling sm) × SmFits sm → Read c status octets (f sm)) → (sm_at octets >>= λ sm. Ok (f sm)) ≡ Ok b → Read c status octets b
 sm_body_take c status octets f b fits made e =
     let s = bind_ok (sm_at octets) (λ sm. Ok (f sm)) b e in
-    subst (λ (y : Body). Read c status octets y) (ok_is (f s.0) b s.2) (made s.0 (sm_take octets s.0 fits s.1))
+    subst (λ (y : Body). Read c status octets y) (ok_is (f s.value) b s.rest) (made s.value (sm_take octets s.value fits s.is))
 
 id_body_take : (c : Command) (status : ℕ) (octets : List ℕ) (f : Option (List ℕ) → Body) (b : Body) → ((id : Option (List ℕ)) → (octets ≡ sm_resp_spelling id) × SmRespFits status id → Read c status octets (f id)) → (message_id_at status octets >>= λ id. Ok (f id)) ≡ Ok b → Read c status octets b
 id_body_take c status octets f b made e =
     let s = bind_ok (message_id_at status octets) (λ id. Ok (f id)) b e in
-    subst (λ (y : Body). Read c status octets y) (ok_is (f s.0) b s.2) (made s.0 (message_id_take status octets s.0 s.1))
+    subst (λ (y : Body). Read c status octets y) (ok_is (f s.value) b s.rest) (made s.value (message_id_take status octets s.value s.is))
 
 pub body_take : (c : Command) (status : ℕ) (octets : List ℕ) (b : Body) → IsOctets octets → body_at c status octets ≡ Ok b → Read c status octets b
 body_take command.BindTransmitter status octets b fits e = bind_take Transmitter status octets b e

@@ -5,7 +5,7 @@ use Rattle.std.proofs.lemmas.Bool.{cases_lt}
 use Rattle.std.proofs.lemmas.List.{take-append-drop, take_at, drop_at, length-append, length-drop}
 use Rattle.std.proofs.lemmas.List.Elements.{filter_map-append}
 use Rattle.std.proofs.lemmas.List.Folds.{concat-append}
-use Rattle.sms_pdu.specs.Frame.{announced, IsFrame, IsRest, Division}
+use Rattle.sms_pdu.specs.Frame.{announced, IsFrame, IsRest, Division, HasDivision}
 use Rattle.sms_pdu.specs.Laws.{OneDivision, EachDivided, PiecesJoin, BadStays, LaterAdds, OthersFollow, AnswersJoin, OneListOfAnswers, AnswersGrow}
 use Rattle.sms_pdu.specs.declared.reply.Reply.{Reply}
 use Rattle.sms_pdu.specs.Reply.{reply_in, answers, AnswersOf}
@@ -76,19 +76,16 @@ frame_before f s fs rest h d =
       ended = d.ended;
     }
 
-abbrev Divided : List ℕ → Type 0
-Divided s = (frames : List (List ℕ)) × (rest : List ℕ) × Division s frames rest
-
-divided_more : (s : List ℕ) (k : ℕ) → FoundWhole s k → Divided (drop k s) → Divided s
+divided_more : (s : List ℕ) (k : ℕ) → FoundWhole s k → HasDivision (drop k s) → HasDivision s
 divided_more s k w d =
-    let more = frame_before (take k s) (drop k s) d.0 d.1 (whole_is_frame s k w) d.2 in
-    (take k s ∷ d.0, d.1, subst (λ (x : List ℕ). Division x (take k s ∷ d.0) d.1) (take-append-drop k s) more)
+    let more = frame_before (take k s) (drop k s) d.frames d.rest (whole_is_frame s k w) d.divided in
+    record { frames = take k s ∷ d.frames; rest = d.rest; divided = subst (λ (x : List ℕ). Division x (take k s ∷ d.frames) d.rest) (take-append-drop k s) more }
 
-divided : (n : ℕ) (s : List ℕ) → length s ≤ n → Divided s
-divided zero s le = ([], s, record { whole = refl; each = tt; ended = inl (omega arith) })
+divided : (n : ℕ) (s : List ℕ) → length s ≤ n → HasDivision s
+divided zero s le = record { frames = []; rest = s; divided = record { whole = refl; each = tt; ended = inl (omega arith) } }
 divided (suc n) s le =
     elim (front_cases s) [
-      | inl rest ↦ ([], s, record { whole = refl; each = tt; ended = rest })
+      | inl rest ↦ record { frames = []; rest = s; divided = record { whole = refl; each = tt; ended = rest } }
       | inr found ↦ divided_more s found.0 found.1 (divided n (drop found.0 s) (omega (arith, length-drop found.0 s, found.1.least)))
     ]
 
@@ -111,8 +108,8 @@ bad_stays rest piece h =
 pub later_adds : LaterAdds
 later_adds stream piece frames all rest left h k =
     let more = each_divided (rest ++ piece) in
-    let same = one_division (stream ++ piece) all (frames ++ more.0) left more.1 k (pieces_join stream piece frames more.0 rest more.1 h more.2) in
-    (more.0, same.0, subst (λ l. Division (rest ++ piece) more.0 l) (sym same.1) more.2)
+    let same = one_division (stream ++ piece) all (frames ++ more.frames) left more.rest k (pieces_join stream piece frames more.frames rest more.rest h more.divided) in
+    (more.frames, same.0, subst (λ l. Division (rest ++ piece) more.frames l) (sym same.1) more.divided)
 
 pub others_follow : OthersFollow
 others_follow stream first others rest h = (
@@ -129,8 +126,8 @@ answers_join frames more = filter_map-append reply_in frames more
 pub one_list_of_answers : OneListOfAnswers
 one_list_of_answers stream =
     let d = each_divided stream in
-    let one : (others : List Reply) → AnswersOf stream others → others ≡ answers d.0 = λ others h. h.are ∙ ap answers (one_division stream h.frames d.0 h.rest d.1 h.divided d.2).0 in
-    (answers d.0, record { frames = d.0; rest = d.1; divided = d.2; are = refl }, one)
+    let one : (others : List Reply) → AnswersOf stream others → others ≡ answers d.frames = λ others h. h.are ∙ ap answers (one_division stream h.frames d.frames h.rest d.rest h.divided d.divided).0 in
+    (answers d.frames, record { frames = d.frames; rest = d.rest; divided = d.divided; are = refl }, one)
 
 pub answers_grow : AnswersGrow
 answers_grow stream piece replies all h k =

@@ -29,21 +29,29 @@ pub record FoundWhole (s : List ℕ) (n : ℕ) : Type 0 where
   pub most : n ≤ 70000
   pub there : n ≤ length s
 
-whole_by : (a b c d : Bool) (m n : ℕ) → Whole n ≡ front_if a b c d m → (a ≡ false) × (b ≡ false) × (c ≡ false) × (d ≡ false) × (n ≡ m)
+-- the tests of a front that isn't short or bad: whether its rest is there is told by `cut`
+record Tested (a b c d cut : Bool) (m n : ℕ) : Type 0 where
+  begun : a ≡ false
+  least : b ≡ false
+  most : c ≡ false
+  there : d ≡ cut
+  is : n ≡ m
+
+whole_by : (a b c d : Bool) (m n : ℕ) → Whole n ≡ front_if a b c d m → Tested a b c d false m n
 whole_by true b c d m n e = absurd cc
 whole_by false true c d m n e = absurd cc
 whole_by false false true d m n e = absurd cc
 whole_by false false false true m n e = absurd cc
-whole_by false false false false m n e = (refl, refl, refl, refl, cc)
+whole_by false false false false m n e = record { begun = refl; least = refl; most = refl; there = refl; is = cc }
 
 pub found_whole : (s : List ℕ) (n : ℕ) → Whole n ≡ front_at s → FoundWhole s n
 found_whole s n e =
     let w = whole_by (ltb (length s) 4) (ltb (announced s) 16) (ltb 70000 (announced s)) (ltb (length s) (announced s)) (announced s) n e in
-    let h0 : 4 ≤ length s = ltb-false _ _ w.0 in
-    let h1 : 16 ≤ announced s = ltb-false _ _ w.1 in
-    let h2 : announced s ≤ 70000 = ltb-false _ _ w.2 in
-    let h3 : announced s ≤ length s = ltb-false _ _ w.3 in
-    record { is = w.4; begun = h0; least = omega (arith, w.4); most = omega (arith, w.4); there = omega (arith, w.4) }
+    let h0 : 4 ≤ length s = ltb-false _ _ w.begun in
+    let h1 : 16 ≤ announced s = ltb-false _ _ w.least in
+    let h2 : announced s ≤ 70000 = ltb-false _ _ w.most in
+    let h3 : announced s ≤ length s = ltb-false _ _ w.there in
+    record { is = w.is; begun = h0; least = omega (arith, w.is); most = omega (arith, w.is); there = omega (arith, w.is) }
 
 short_by : (a b c d : Bool) (m : ℕ) → Short ≡ front_if a b c d m → a ≡ true
 short_by true b c d m e = refl
@@ -67,17 +75,17 @@ found_bad s e =
     let w = bad_by (ltb (length s) 4) (ltb (announced s) 16) (ltb 70000 (announced s)) (ltb (length s) (announced s)) (announced s) e in
     record { begun = ltb-false _ _ w.0; bad = elim w.1 [ inl h ↦ inl (ltb-true _ _ h) | inr h ↦ inr (ltb-true _ _ h) ] }
 
-cut_by : (a b c d : Bool) (m n : ℕ) → Cut n ≡ front_if a b c d m → (a ≡ false) × (b ≡ false) × (c ≡ false) × (d ≡ true) × (n ≡ m)
+cut_by : (a b c d : Bool) (m n : ℕ) → Cut n ≡ front_if a b c d m → Tested a b c d true m n
 cut_by true b c d m n e = absurd cc
 cut_by false true c d m n e = absurd cc
 cut_by false false true d m n e = absurd cc
-cut_by false false false true m n e = (refl, refl, refl, refl, cc)
+cut_by false false false true m n e = record { begun = refl; least = refl; most = refl; there = refl; is = cc }
 cut_by false false false false m n e = absurd cc
 
 pub found_cut : (s : List ℕ) (n : ℕ) → Cut n ≡ front_at s → IsCut s × (n ≡ announced s)
 found_cut s n e =
     let w = cut_by (ltb (length s) 4) (ltb (announced s) 16) (ltb 70000 (announced s)) (ltb (length s) (announced s)) (announced s) n e in
-    (record { begun = ltb-false _ _ w.0; good = record { least = ltb-false _ _ w.1; most = ltb-false _ _ w.2 }; cut = ltb-true _ _ w.3 }, w.4)
+    (record { begun = ltb-false _ _ w.begun; good = record { least = ltb-false _ _ w.least; most = ltb-false _ _ w.most }; cut = ltb-true _ _ w.there }, w.is)
 
 bad_if : (a b c d : Bool) (n : ℕ) → a ≡ false → (b ≡ true) ⊎ (c ≡ true) → front_if a b c d n ≡ Bad
 bad_if true b c d n e h = absurd cc

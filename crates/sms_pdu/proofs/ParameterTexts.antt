@@ -32,7 +32,13 @@ four_parts a b v after = simp append_assoc
 number_below : (octets : List ℕ) → IsOctets octets → from_be_bytes w16 octets < 2 ^ 16
 number_below octets fits = omega (arith, fits 0, fits 1)
 
-parameter_takes : (octets : List ℕ) (x : Parameter × List ℕ) → IsOctets octets → parameter_at octets ≡ Ok x → Takes octets (parameter_spelling x.0) x.1 × ParameterFits x.0 × IsOctets x.1
+-- a parameter stands at the front, and what follows is octets
+record TakesParameter (octets : List ℕ) (x : Parameter × List ℕ) : Type 0 where
+  spelled : Takes octets (parameter_spelling x.0) x.1
+  fits : ParameterFits x.0
+  rest : IsOctets x.1
+
+parameter_takes : (octets : List ℕ) (x : Parameter × List ℕ) → IsOctets octets → parameter_at octets ≡ Ok x → TakesParameter octets x
 unfolding parameter_at
 parameter_takes octets x fits e =
     let tagged = take 2 octets in
@@ -59,7 +65,7 @@ parameter_takes octets x fits e =
     ap (λ (a : List ℕ). a ++ (sized ++ (take n left ++ drop n left))) (sym tag-is) ∙ ap (λ (b : List ℕ). to_be_bytes w16 tag ++ (b ++ (take n left ++ drop n left))) (sym size-is-len) in
     let parts : octets ≡ parameter_spelling p ++ drop n left = cut ∙ spelled ∙ four_parts (to_be_bytes w16 tag) (to_be_bytes w16 (length (take n left))) (take n left) (drop n left) in
     let good : ParameterFits p = record { tag = number_below tagged fits-tagged; value = omega (arith, len, number_below sized fits-sized) } in
-    subst (λ (y : Parameter × List ℕ). Takes octets (parameter_spelling y.0) y.1 × ParameterFits y.0 × IsOctets y.1) v.1 (parts, good, IsOctets-drop n left (IsOctets-drop 4 octets fits))
+    subst (TakesParameter octets) v.1 record { spelled = parts; fits = good; rest = IsOctets-drop n left (IsOctets-drop 4 octets fits) }
 
 parameter_cells : (a b c d tag : ℕ) (value rest : List ℕ) → from_be_bytes w16 (a ∷ b ∷ []) ≡ tag → from_be_bytes w16 (c ∷ d ∷ []) ≡ length value → parameter_at (a ∷ b ∷ c ∷ d ∷ (value ++ rest)) ≡ Ok (record { tag = tag; value = value }, rest)
 unfolding parameter_at
@@ -79,11 +85,11 @@ parameters_take (suc n) [] ps fits e = subst (λ (y : List Parameter). ([] ≡ p
 parameters_take zero (octet ∷ octets) ps fits e = absurd cc
 parameters_take (suc n) (octet ∷ octets) ps fits e =
     let a = bind_ok (parameter_at (octet ∷ octets)) (λ first. parameters_within n first.1 >>= λ others. Ok (first.0 ∷ others)) ps e in
-    let b = bind_ok (parameters_within n a.0.1) (λ others. Ok (a.0.0 ∷ others)) ps a.2 in
-    let t = parameter_takes (octet ∷ octets) a.0 fits a.1 in
-    let u = parameters_take n a.0.1 b.0 t.2 b.1 in
-    let parts : octet ∷ octets ≡ parameter_spelling a.0.0 ++ parameters_spelling b.0 = t.0 ∙ ap (λ (r : List ℕ). parameter_spelling a.0.0 ++ r) u.0 in
-    subst (λ (y : List Parameter). (octet ∷ octets ≡ parameters_spelling y) × ParametersFit y) (ok_is (a.0.0 ∷ b.0) ps b.2) (parts, (t.1, u.1))
+    let b = bind_ok (parameters_within n a.value.1) (λ others. Ok (a.value.0 ∷ others)) ps a.rest in
+    let t = parameter_takes (octet ∷ octets) a.value fits a.is in
+    let u = parameters_take n a.value.1 b.value t.rest b.is in
+    let parts : octet ∷ octets ≡ parameter_spelling a.value.0 ++ parameters_spelling b.value = t.spelled ∙ ap (λ (r : List ℕ). parameter_spelling a.value.0 ++ r) u.0 in
+    subst (λ (y : List Parameter). (octet ∷ octets ≡ parameters_spelling y) × ParametersFit y) (ok_is (a.value.0 ∷ b.value) ps b.rest) (parts, (t.fits, u.1))
 
 parameter_more : (n : ℕ) (p : Parameter) (rest : List ℕ) → parameters_within (suc n) (parameter_spelling p ++ rest) ≡ (parameter_at (parameter_spelling p ++ rest) >>= λ first. parameters_within n first.1 >>= λ others. Ok (first.0 ∷ others))
 unfolding parameters_within

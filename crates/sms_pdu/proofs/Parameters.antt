@@ -7,8 +7,14 @@ use Rattle.sms_pdu.specs.declared.parameter.Parameter.{Parameter}
 use Rattle.sms_pdu.specs.Reading.{◌>>=◌, parameter_at, parameters_within, parameters_at, parameter_count}
 
 -- the value of a step that did not fail
-pub bind_ok : {A B : Type 0} (r : Result A PduError) (f : A → Result B PduError) (y : B) → (r >>= f) ≡ Ok y → (x : A) × (r ≡ Ok x) × (f x ≡ Ok y)
-bind_ok (Ok x) f y e = (x, refl, e)
+-- both of two steps are done
+pub record BothOk {A B : Type 0} (r : Result A PduError) (f : A → Result B PduError) (y : B) : Type 0 where
+  pub value : A
+  pub is : r ≡ Ok value
+  pub rest : f value ≡ Ok y
+
+pub bind_ok : {A B : Type 0} (r : Result A PduError) (f : A → Result B PduError) (y : B) → (r >>= f) ≡ Ok y → BothOk r f y
+bind_ok (Ok x) f y e = record { value = x; is = refl; rest = e }
 bind_ok (Err d) f y e = absurd cc
 
 -- a test that did not fail

@@ -43,12 +43,18 @@ without_ok : (o : Option ℕ) (f : Field) (size n : ℕ) → without_zero o f si
 without_ok None f size n e = (refl, ok_is size n e)
 without_ok (Some place) f size n e = absurd cc
 
-text_sized : (f : Field) (m : ℕ) (text : List ℕ) (n : ℕ) → text_size f m text ≡ Ok n → (n ≡ length text + 1) × HasNoZero text × (length text < m)
+-- the size of a text, and what it says of its length
+record TextSized (text : List ℕ) (n : ℕ) (P : Type 0) : Type 0 where
+  len : n ≡ length text + 1
+  clean : HasNoZero text
+  short : P
+
+text_sized : (f : Field) (m : ℕ) (text : List ℕ) (n : ℕ) → text_size f m text ≡ Ok n → TextSized text n (length text < m)
 unfolding text_size
 text_sized f m text n e =
     let g = chosen_then (ltb (length text) m) (without_zero (position zero_test text) f (length text + 1)) (errors.TooLong f) n e in
     let w = without_ok (position zero_test text) f (length text + 1) n g.1 in
-    (sym w.1, no_zero 0 text (sym (position_from-zero zero_test text) ∙ w.0), ltb-true _ _ g.0)
+    record { len = sym w.1; clean = no_zero 0 text (sym (position_from-zero zero_test text) ∙ w.0); short = ltb-true _ _ g.0 }
 
 text_size_is : (f : Field) (m : ℕ) (text : List ℕ) → HasNoZero text → length text < m → text_size f m text ≡ Ok (length text + 1)
 unfolding text_size
@@ -56,14 +62,14 @@ text_size_is f m text clean lt =
     let place : position zero_test text ≡ None = position_from-zero zero_test text ∙ none_found 0 text clean in
     rw (lt-ltb _ _ lt, place) refl
 
-time_sized : (f : Field) (text : List ℕ) (n : ℕ) → time_size f text ≡ Ok n → (n ≡ length text + 1) × HasNoZero text × ((length text ≡ 0) ⊎ (length text ≡ 16))
+time_sized : (f : Field) (text : List ℕ) (n : ℕ) → time_size f text ≡ Ok n → TextSized text n ((length text ≡ 0) ⊎ (length text ≡ 16))
 unfolding time_size
 time_sized f text n e =
     let b = bind_ok (text_size f 17 text) (λ size. cond (eqb size 1 || eqb size 17) (Ok size) (Err (errors.Malformed f))) n e in
-    let t = text_sized f 17 text b.0 b.1 in
-    let g = guard_ended (eqb b.0 1 || eqb b.0 17) (errors.Malformed f) b.0 n b.2 in
-    let which : (length text ≡ 0) ⊎ (length text ≡ 16) = elim (or_true (eqb b.0 1) (eqb b.0 17) g.0) [ inl none ↦ inl (omega (arith, eqb-true b.0 1 none, t.0)) | inr full ↦ inr (omega (arith, eqb-true b.0 17 full, t.0)) ] in
-    (omega (arith, g.1, t.0), t.1, which)
+    let t = text_sized f 17 text b.value b.is in
+    let g = guard_ended (eqb b.value 1 || eqb b.value 17) (errors.Malformed f) b.value n b.rest in
+    let which : (length text ≡ 0) ⊎ (length text ≡ 16) = elim (or_true (eqb b.value 1) (eqb b.value 17) g.0) [ inl none ↦ inl (omega (arith, eqb-true b.value 1 none, t.len)) | inr full ↦ inr (omega (arith, eqb-true b.value 17 full, t.len)) ] in
+    record { len = omega (arith, g.1, t.len); clean = t.clean; short = which }
 
 time_test : (n : ℕ) → (n ≡ 0) ⊎ (n ≡ 16) → ((eqb (n + 1) 1 || eqb (n + 1) 17) ≡ true) × (n < 17)
 time_test n (inl e) = (ap (λ (k : ℕ). eqb (k + 1) 1 || eqb (k + 1) 17) e, omega (arith, e))
@@ -89,8 +95,8 @@ message_size_is text le = rw (le-leb _ _ le) refl
 
 value_sized : (f : Field) (kind : Kind) (v : Value kind) (n : ℕ) → value_size f kind v ≡ Ok n → (n ≡ length (spelling kind v)) × Fits kind v
 value_sized f Number v n e = (sym (ok_is 1 n e), tt)
-value_sized f (Text maximum) v n e = let t = text_sized f maximum v n e in (omega (arith, t.0, length-append v (0 ∷ [])), (t.1, t.2))
-value_sized f Time v n e = let t = time_sized f v n e in (omega (arith, t.0, length-append v (0 ∷ [])), (t.1, t.2))
+value_sized f (Text maximum) v n e = let t = text_sized f maximum v n e in (omega (arith, t.len, length-append v (0 ∷ [])), (t.clean, t.short))
+value_sized f Time v n e = let t = time_sized f v n e in (omega (arith, t.len, length-append v (0 ∷ [])), (t.clean, t.short))
 value_sized f Message v n e = let t = message_sized v n e in (omega (arith, t.0), t.1)
 
 value_size_is : (f : Field) (kind : Kind) (v : Value kind) → Fits kind v → value_size f kind v ≡ Ok (length (spelling kind v))
@@ -103,8 +109,8 @@ pub values_sized : (rows : List Row) (v : Values rows) (before n : ℕ) → valu
 values_sized [] v before n e = (omega (arith, ok_is before n e), tt)
 values_sized (row ∷ rows) v before n e =
     let a = bind_ok (value_size row.field row.kind v.0) (λ size. values_size rows v.1 (before + size)) n e in
-    let t = value_sized row.field row.kind v.0 a.0 a.1 in
-    let u = values_sized rows v.1 (before + a.0) n a.2 in
+    let t = value_sized row.field row.kind v.0 a.value a.is in
+    let u = values_sized rows v.1 (before + a.value) n a.rest in
     (omega (arith, t.0, u.0, length-append (spelling row.kind v.0) (spellings rows v.1)), (t.1, u.1))
 
 pub values_size_is : (rows : List Row) (v : Values rows) (before : ℕ) → AllFit rows v → values_size rows v before ≡ Ok (before + length (spellings rows v))
@@ -137,12 +143,18 @@ whole_size_is : (before : ℕ) (params : List Parameter) → before + length (pa
 unfolding whole_size
 whole_size_is before params le = rw (le-leb (before + length (parameters_spelling params)) 70000 le) refl
 
-tail_sized : (before : ℕ) (params : List Parameter) (n : ℕ) → tail_size before params ≡ Ok n → (n ≡ before + length (parameters_spelling params)) × (n ≤ 70000) × (parameters_fit params ≡ true)
+-- the size of a whole, and what it says of its parts
+record WholeSized (n octets : ℕ) (P : Type 0) : Type 0 where
+  len : n ≡ octets
+  most : n ≤ 70000
+  parts : P
+
+tail_sized : (before : ℕ) (params : List Parameter) (n : ℕ) → tail_size before params ≡ Ok n → WholeSized n (before + length (parameters_spelling params)) (parameters_fit params ≡ true)
 unfolding tail_size
 tail_sized before params n e =
     let b = bind_ok (parameters_checked params) (λ fit. whole_size before params) n e in
-    let w = whole_sized before params n b.2 in
-    (w.0, w.1, checked_ok params b.0 b.1)
+    let w = whole_sized before params n b.rest in
+    record { len = w.0; most = w.1; parts = checked_ok params b.value b.is }
 
 tail_size_is : (before : ℕ) (params : List Parameter) → ParametersFit params → before + length (parameters_spelling params) ≤ 70000 → tail_size before params ≡ Ok (before + length (parameters_spelling params))
 unfolding tail_size
@@ -161,15 +173,19 @@ message_short : (v : Values sm_fields) → AllFit sm_fields v → length v.1.1.1
 message_short v fits = fits.1.1.1.1.1.1.1.1.1.1.1.1.1.1.1.1.0
 
 abbrev SmSized : Sm → ℕ → Type 0
-SmSized sm n = (n ≡ 16 + length (sm_spelling sm)) × (n ≤ 70000) × SmWritable sm × (ParametersFit sm.params → SmFits sm)
+SmSized sm n = WholeSized n (16 + length (sm_spelling sm)) (SmWritable sm × (ParametersFit sm.params → SmFits sm))
 
 sm_sized : (sm : Sm) (n : ℕ) → sm_size sm ≡ Ok n → SmSized sm n
 unfolding sm_size
 sm_sized sm n e =
     let b = bind_ok (values_size sm_fields (sm_values sm) 16) (λ size. tail_size size sm.params) n e in
-    let v = values_sized sm_fields (sm_values sm) 16 b.0 b.1 in
-    let t = tail_sized b.0 sm.params n b.2 in
-    (omega (arith, v.0, t.0, length-append (spellings sm_fields (sm_values sm)) (parameters_spelling sm.params)), t.1, (message_short (sm_values sm) v.1, t.2), λ fit. record { fields = v.1; params = fit })
+    let v = values_sized sm_fields (sm_values sm) 16 b.value b.is in
+    let t = tail_sized b.value sm.params n b.rest in
+    record {
+      len = omega (arith, v.0, t.len, length-append (spellings sm_fields (sm_values sm)) (parameters_spelling sm.params));
+      most = t.most;
+      parts = ((message_short (sm_values sm) v.1, t.parts), λ fit. record { fields = v.1; params = fit });
+    }
 
 sm_size_is : (sm : Sm) → SmFits sm → 16 + length (sm_spelling sm) ≤ 70000 → sm_size sm ≡ Ok (16 + length (sm_spelling sm))
 unfolding sm_size
@@ -181,11 +197,11 @@ bind_small : (v : Values bind_fields) → AllFit bind_fields v → length (spell
 bind_small v fits =
     omega (arith, length-append {A = ℕ}, fits.0.1, fits.1.0.1, fits.1.1.0.1, fits.1.1.1.1.1.1.0.1)
 
-bind_sized : (v : Values bind_fields) (n : ℕ) → bind_size v ≡ Ok n → (n ≡ 16 + length (spellings bind_fields v)) × (n ≤ 70000) × AllFit bind_fields v
+bind_sized : (v : Values bind_fields) (n : ℕ) → bind_size v ≡ Ok n → WholeSized n (16 + length (spellings bind_fields v)) (AllFit bind_fields v)
 unfolding bind_size
 bind_sized v n e =
     let t = values_sized bind_fields v 16 n e in
-    (t.0, omega (arith, t.0, bind_small v t.1), t.1)
+    record { len = t.0; most = omega (arith, t.0, bind_small v t.1); parts = t.1 }
 
 bind_size_is : (v : Values bind_fields) → AllFit bind_fields v → bind_size v ≡ Ok (16 + length (spellings bind_fields v))
 unfolding bind_size
@@ -196,7 +212,7 @@ absent_sized [] n e = (sym (ok_is 16 n e), refl)
 absent_sized (p ∷ ps) n e = absurd cc
 
 abbrev RespSized : ℕ → Option (List ℕ) → List Parameter → ℕ → Type 0
-RespSized status id params n = (n ≡ 16 + length (bind_resp_spelling id params)) × (n ≤ 70000) × RespWritable id params × (RespFit id params → BindRespFits status id params)
+RespSized status id params n = WholeSized n (16 + length (bind_resp_spelling id params)) (RespWritable id params × (RespFit id params → BindRespFits status id params))
 
 status_test : (status : ℕ) → eqb status 0 ≡ false → status ≢ 0
 status_test status e = eqb-false status 0 e
@@ -206,13 +222,13 @@ unfolding bind_resp_size
 bind_resp_sized status None params n e =
     let g = guard_then (eqb status 0) (errors.Malformed fields.SystemId) (parameters_checked params >>= λ fit. absent_size params) n e in
     let b = bind_ok (parameters_checked params) (λ fit. absent_size params) n g.1 in
-    let a = absent_sized params n b.2 in
-    (omega (arith, a.0), omega (arith, a.0), tt, λ fit. (status_test status g.0, a.1))
+    let a = absent_sized params n b.rest in
+    record { len = omega (arith, a.0); most = omega (arith, a.0); parts = (tt, λ fit. (status_test status g.0, a.1)) }
 bind_resp_sized status (Some id) params n e =
     let b = bind_ok (text_size fields.SystemId 16 id) (λ size. tail_size (16 + size) params) n e in
-    let s = text_sized fields.SystemId 16 id b.0 b.1 in
-    let t = tail_sized (16 + b.0) params n b.2 in
-    (omega (arith, s.0, t.0, length-append {A = ℕ}), t.1, t.2, λ fit. (((s.1, s.2), tt), fit))
+    let s = text_sized fields.SystemId 16 id b.value b.is in
+    let t = tail_sized (16 + b.value) params n b.rest in
+    record { len = omega (arith, s.len, t.len, length-append {A = ℕ}); most = t.most; parts = (t.parts, λ fit. (((s.clean, s.short), tt), fit)) }
 
 bind_resp_size_is : (status : ℕ) (id : Option (List ℕ)) (params : List Parameter) → BindRespFits status id params → 16 + length (bind_resp_spelling id params) ≤ 70000 → bind_resp_size status id params ≡ Ok (16 + length (bind_resp_spelling id params))
 unfolding bind_resp_size
@@ -222,16 +238,16 @@ bind_resp_size_is status (Some id) params fits le =
     let all : length (((id ++ 0 ∷ []) ++ []) ++ parameters_spelling params) ≡ length ((id ++ 0 ∷ []) ++ []) + length (parameters_spelling params) = length-append ((id ++ 0 ∷ []) ++ []) (parameters_spelling params) in
     rw (text_size_is fields.SystemId 16 id fits.0.0.0 fits.0.0.1) (tail_size_is (16 + (length id + 1)) params fits.1 (omega (arith, le, len, all)) ∙ ap (λ (k : ℕ). sized_ok k) (omega (arith, len, all)))
 
-message_id_sized : (status : ℕ) (id : Option (List ℕ)) (n : ℕ) → message_id_size status id ≡ Ok n → (n ≡ 16 + length (sm_resp_spelling id)) × (n ≤ 70000) × SmRespFits status id
+message_id_sized : (status : ℕ) (id : Option (List ℕ)) (n : ℕ) → message_id_size status id ≡ Ok n → WholeSized n (16 + length (sm_resp_spelling id)) (SmRespFits status id)
 unfolding message_id_size
 message_id_sized status None n e =
     let g = guard_ok (eqb status 0) (errors.Malformed fields.MessageId) 16 n e in
-    (omega (arith, g.1), omega (arith, g.1), status_test status g.0)
+    record { len = omega (arith, g.1); most = omega (arith, g.1); parts = status_test status g.0 }
 message_id_sized status (Some id) n e =
     let b = bind_ok (text_size fields.MessageId 65 id) (λ size. Ok (16 + size)) n e in
-    let s = text_sized fields.MessageId 65 id b.0 b.1 in
-    let k = ok_is (16 + b.0) n b.2 in
-    (omega (arith, s.0, k, length-append {A = ℕ}), omega (arith, s.0, s.2, k), ((s.1, s.2), tt))
+    let s = text_sized fields.MessageId 65 id b.value b.is in
+    let k = ok_is (16 + b.value) n b.rest in
+    record { len = omega (arith, s.len, k, length-append {A = ℕ}); most = omega (arith, s.len, s.short, k); parts = ((s.clean, s.short), tt) }
 
 message_id_size_is : (status : ℕ) (id : Option (List ℕ)) → SmRespFits status id → message_id_size status id ≡ Ok (16 + length (sm_resp_spelling id))
 unfolding message_id_size
@@ -248,22 +264,22 @@ bare_sized status b n none writable fits e =
 pub body_sized : (status : ℕ) (b : Body) (n : ℕ) → body_size status b ≡ Ok n → Sized status b n
 body_sized status (body.Bind mode system_id password system_type version ton npi range) n e =
     let t = bind_sized (system_id, (password, (system_type, (version, (ton, (npi, (range, tt))))))) n e in
-    record { len = t.0; most = t.1; writable = tt; fits = λ u. t.2 }
+    record { len = t.len; most = t.most; writable = tt; fits = λ u. t.parts }
 body_sized status (body.BindResp mode id params) n e =
     let t = bind_resp_sized status id params n e in
-    record { len = t.0; most = t.1; writable = t.2; fits = t.3 }
+    record { len = t.len; most = t.most; writable = t.parts.0; fits = t.parts.1 }
 body_sized status (body.Submit sm) n e =
     let t = sm_sized sm n e in
-    record { len = t.0; most = t.1; writable = t.2; fits = t.3 }
+    record { len = t.len; most = t.most; writable = t.parts.0; fits = t.parts.1 }
 body_sized status (body.Deliver sm) n e =
     let t = sm_sized sm n e in
-    record { len = t.0; most = t.1; writable = t.2; fits = t.3 }
+    record { len = t.len; most = t.most; writable = t.parts.0; fits = t.parts.1 }
 body_sized status (body.SubmitResp id) n e =
     let t = message_id_sized status id n e in
-    record { len = t.0; most = t.1; writable = tt; fits = λ u. t.2 }
+    record { len = t.len; most = t.most; writable = tt; fits = λ u. t.parts }
 body_sized status (body.DeliverResp id) n e =
     let t = message_id_sized status id n e in
-    record { len = t.0; most = t.1; writable = tt; fits = λ u. t.2 }
+    record { len = t.len; most = t.most; writable = tt; fits = λ u. t.parts }
 body_sized status body.Unbind n e = bare_sized status body.Unbind n refl tt tt e
 body_sized status body.UnbindResp n e = bare_sized status body.UnbindResp n refl tt tt e
 body_sized status body.EnquireLink n e = bare_sized status body.EnquireLink n refl tt tt e

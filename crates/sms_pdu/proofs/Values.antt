@@ -35,18 +35,25 @@ found_here x xs e = record { parts = ap (λ (y : ℕ). y ∷ xs) e; clean = tt }
 found_later : (x : ℕ) (xs : List ℕ) (k : ℕ) → x ≢ 0 → ZeroAt xs k → ZeroAt (x ∷ xs) (suc k)
 found_later x xs k ne z = record { parts = rw add-one (ap (λ (ys : List ℕ). x ∷ ys) (rw add-one at z.parts)); clean = (ne, z.clean) }
 
-zero_found : (m i n : ℕ) (xs : List ℕ) → position_from zero_test i (take m xs) ≡ Some n → (k : ℕ) × (n ≡ i + k) × (k < m) × ZeroAt xs k
+-- the place of the first 0 among the first m
+record ZeroFound (m i n : ℕ) (xs : List ℕ) : Type 0 where
+  place : ℕ
+  is : n ≡ i + place
+  low : place < m
+  at : ZeroAt xs place
+
+zero_found : (m i n : ℕ) (xs : List ℕ) → position_from zero_test i (take m xs) ≡ Some n → ZeroFound m i n xs
 zero_found zero i n xs e = absurd cc
 zero_found (suc m) i n [] e = absurd cc
 zero_found (suc m) i n (x ∷ xs) e =
     elim (bool_cases (eqb x 0)) [
       | inl is ↦
           let here : Some i ≡ Some n = rw is at e in
-          (0, omega (arith, some_is i n here), omega arith, found_here x xs (eqb-true x 0 is))
+          record { place = 0; is = omega (arith, some_is i n here); low = omega arith; at = found_here x xs (eqb-true x 0 is) }
       | inr isnt ↦
           let later : position_from zero_test (i + 1) (take m xs) ≡ Some n = rw isnt at e in
           let k = zero_found m (i + 1) n xs later in
-          (suc k.0, omega (arith, k.1), omega (arith, k.2), found_later x xs k.0 (eqb-false x 0 isnt) k.3)
+          record { place = suc k.place; is = omega (arith, k.is); low = omega (arith, k.low); at = found_later x xs k.place (eqb-false x 0 isnt) k.at }
     ]
 
 pub ne_test : (x : ℕ) → x ≢ 0 → eqb x 0 ≡ false
@@ -63,20 +70,26 @@ zero_again (x ∷ xs) rest (suc m) i clean lt =
 abbrev pub Takes : List ℕ → List ℕ → List ℕ → Type 0
 Takes octets text rest = octets ≡ text ++ rest
 
-text_before_ok : (o : Option ℕ) (f : Field) (m : ℕ) (octets : List ℕ) (x : List ℕ × List ℕ) → text_before o f m octets ≡ Ok x → (k : ℕ) × (o ≡ Some k) × ((take k octets, drop (k + 1) octets) ≡ x)
-text_before_ok (Some k) f m octets x e = (k, refl, ok_is (take k octets, drop (k + 1) octets) x e)
+-- a text ends before this place
+record EndsBefore (o : Option ℕ) (octets : List ℕ) (x : List ℕ × List ℕ) : Type 0 where
+  place : ℕ
+  found : o ≡ Some place
+  is : (take place octets, drop (place + 1) octets) ≡ x
+
+text_before_ok : (o : Option ℕ) (f : Field) (m : ℕ) (octets : List ℕ) (x : List ℕ × List ℕ) → text_before o f m octets ≡ Ok x → EndsBefore o octets x
+text_before_ok (Some k) f m octets x e = record { place = k; found = refl; is = ok_is (take k octets, drop (k + 1) octets) x e }
 text_before_ok None f m octets x e = elim (bool_cases (leb m (length octets))) [ inl is ↦ absurd (let no = rw is at e in cc) | inr isnt ↦ absurd (let no = rw isnt at e in cc) ]
 
 pub text_takes : (f : Field) (m : ℕ) (octets : List ℕ) (x : List ℕ × List ℕ) → text_at f m octets ≡ Ok x → Takes octets (x.0 ++ 0 ∷ []) x.1 × (HasNoZero x.0 × (length x.0 < m))
 unfolding text_at
 text_takes f m octets x e =
     let b = text_before_ok (position zero_test (take m octets)) f m octets x e in
-    let z = zero_found m 0 b.0 octets (sym (position_from-zero zero_test (take m octets)) ∙ b.1) in
-    let k : z.0 ≡ b.0 = omega (arith, z.1) in
-    let at : ZeroAt octets b.0 = subst (λ (j : ℕ). ZeroAt octets j) k z.3 in
-    let short : length (take b.0 octets) < m = omega (arith, z.2, k, length-take b.0 octets) in
-    let whole : octets ≡ (take b.0 octets ++ 0 ∷ []) ++ drop (b.0 + 1) octets = at.parts ∙ sym (append_assoc (take b.0 octets) (0 ∷ []) (drop (b.0 + 1) octets)) in
-    subst (λ (y : List ℕ × List ℕ). Takes octets (y.0 ++ 0 ∷ []) y.1 × (HasNoZero y.0 × (length y.0 < m))) b.2 (whole, (at.clean, short))
+    let z = zero_found m 0 b.place octets (sym (position_from-zero zero_test (take m octets)) ∙ b.found) in
+    let k : z.place ≡ b.place = omega (arith, z.is) in
+    let at : ZeroAt octets b.place = subst (λ (j : ℕ). ZeroAt octets j) k z.at in
+    let short : length (take b.place octets) < m = omega (arith, z.low, k, length-take b.place octets) in
+    let whole : octets ≡ (take b.place octets ++ 0 ∷ []) ++ drop (b.place + 1) octets = at.parts ∙ sym (append_assoc (take b.place octets) (0 ∷ []) (drop (b.place + 1) octets)) in
+    subst (λ (y : List ℕ × List ℕ). Takes octets (y.0 ++ 0 ∷ []) y.1 × (HasNoZero y.0 × (length y.0 < m))) b.is (whole, (at.clean, short))
 
 pub text_again : (f : Field) (m : ℕ) (text rest : List ℕ) → HasNoZero text → length text < m → text_at f m ((text ++ 0 ∷ []) ++ rest) ≡ Ok (text, rest)
 unfolding text_at
@@ -115,10 +128,11 @@ time_takes : (f : Field) (octets : List ℕ) (x : List ℕ × List ℕ) → time
 unfolding time_at
 time_takes f octets x e =
     let b = bind_ok (text_at f 17 octets) (λ text. cond (eqb (length text.0) 0 || eqb (length text.0) 16) (Ok text) (Err (errors.Malformed f))) x e in
-    let t = text_takes f 17 octets b.0 b.1 in
-    let g = guard_ended (eqb (length b.0.0) 0 || eqb (length b.0.0) 16) (errors.Malformed f) b.0 x b.2 in
-    let which : (length b.0.0 ≡ 0) ⊎ (length b.0.0 ≡ 16) = elim (or_true _ _ g.0) [ inl none ↦ inl (eqb-true _ _ none) | inr full ↦ inr (eqb-true _ _ full) ] in
-    subst (λ (y : List ℕ × List ℕ). Takes octets (y.0 ++ 0 ∷ []) y.1 × (HasNoZero y.0 × ((length y.0 ≡ 0) ⊎ (length y.0 ≡ 16)))) g.1 (t.0, (t.1.0, which))
+    let t = text_takes f 17 octets b.value b.is in
+    let fits = t.1 in
+    let g = guard_ended (eqb (length b.value.0) 0 || eqb (length b.value.0) 16) (errors.Malformed f) b.value x b.rest in
+    let which : (length b.value.0 ≡ 0) ⊎ (length b.value.0 ≡ 16) = elim (or_true _ _ g.0) [ inl none ↦ inl (eqb-true _ _ none) | inr full ↦ inr (eqb-true _ _ full) ] in
+    subst (λ (y : List ℕ × List ℕ). Takes octets (y.0 ++ 0 ∷ []) y.1 × (HasNoZero y.0 × ((length y.0 ≡ 0) ⊎ (length y.0 ≡ 16)))) g.1 (t.0, (fits.0, which))
 
 time_length : (n : ℕ) → (n ≡ 0) ⊎ (n ≡ 16) → ((eqb n 0 || eqb n 16) ≡ true) × (n < 17)
 time_length n (inl e) = (ap (λ (k : ℕ). eqb k 0 || eqb k 16) e, omega (arith, e))
@@ -134,10 +148,10 @@ message_takes : (octets : List ℕ) (x : List ℕ × List ℕ) → message_at oc
 unfolding message_at
 message_takes octets x e =
     let b = bind_ok (number_octet_at fields.SmLength octets) (λ len. cond (ltb 254 len.0) (Err (errors.TooLong fields.ShortMessage)) (cond (ltb (length len.1) len.0) (Err (errors.Malformed fields.ShortMessage)) (Ok (take len.0 len.1, drop len.0 len.1)))) x e in
-    let n = b.0.0 in
-    let rest = b.0.1 in
-    let t = number_takes fields.SmLength octets b.0 b.1 in
-    let g = guard_then (ltb 254 n) (errors.TooLong fields.ShortMessage) (cond (ltb (length rest) n) (Err (errors.Malformed fields.ShortMessage)) (Ok (take n rest, drop n rest))) x b.2 in
+    let n = b.value.0 in
+    let rest = b.value.1 in
+    let t = number_takes fields.SmLength octets b.value b.is in
+    let g = guard_then (ltb 254 n) (errors.TooLong fields.ShortMessage) (cond (ltb (length rest) n) (Err (errors.Malformed fields.ShortMessage)) (Ok (take n rest, drop n rest))) x b.rest in
     let h = guard_ok (ltb (length rest) n) (errors.Malformed fields.ShortMessage) (take n rest, drop n rest) x g.1 in
     let most : n ≤ 254 = ltb-false _ _ g.0 in
     let there : n ≤ length rest = ltb-false _ _ h.0 in
@@ -170,14 +184,14 @@ pub values_take : (rows : List Row) (octets : List ℕ) (x : Values rows × List
 values_take [] octets x e = (ap (λ (y : Unit {0} × List ℕ). y.1) (ok_is (tt, octets) x e), tt)
 values_take (row ∷ rows) octets x e =
     let a = bind_ok (value_at row.field row.kind octets) (λ first. values_at rows first.1 >>= λ others. Ok ((first.0, others.0), others.1)) x e in
-    let b = bind_ok (values_at rows a.0.1) (λ others. Ok ((a.0.0, others.0), others.1)) x a.2 in
-    let t = value_takes row.field row.kind octets a.0 a.1 in
-    let u = values_take rows a.0.1 b.0 b.1 in
-    let first = spelling row.kind a.0.0 in
-    let others = spellings rows b.0.0 in
-    let parts : octets ≡ (first ++ others) ++ b.0.1 = t.0 ∙ ap (λ (r : List ℕ). first ++ r) u.0 ∙ sym (append_assoc first others b.0.1) in
-    let made : Values (row ∷ rows) × List ℕ = ((a.0.0, b.0.0), b.0.1) in
-    subst (λ (y : Values (row ∷ rows) × List ℕ). Takes octets (spellings (row ∷ rows) y.0) y.1 × AllFit (row ∷ rows) y.0) (ok_is made x b.2) (parts, (t.1, u.1))
+    let b = bind_ok (values_at rows a.value.1) (λ others. Ok ((a.value.0, others.0), others.1)) x a.rest in
+    let t = value_takes row.field row.kind octets a.value a.is in
+    let u = values_take rows a.value.1 b.value b.is in
+    let first = spelling row.kind a.value.0 in
+    let others = spellings rows b.value.0 in
+    let parts : octets ≡ (first ++ others) ++ b.value.1 = t.0 ∙ ap (λ (r : List ℕ). first ++ r) u.0 ∙ sym (append_assoc first others b.value.1) in
+    let made : Values (row ∷ rows) × List ℕ = ((a.value.0, b.value.0), b.value.1) in
+    subst (λ (y : Values (row ∷ rows) × List ℕ). Takes octets (spellings (row ∷ rows) y.0) y.1 × AllFit (row ∷ rows) y.0) (ok_is made x b.rest) (parts, (t.1, u.1))
 
 pub values_again : (rows : List Row) (v : Values rows) (rest : List ℕ) → AllFit rows v → values_at rows (spellings rows v ++ rest) ≡ Ok (v, rest)
 values_again [] v rest fits = refl

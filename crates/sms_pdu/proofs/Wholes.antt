@@ -54,9 +54,15 @@ found_id n (d ∷ ds) c e =
           found_id n ds c later
     ]
 
-body_by_ok : (o : Option Command) (status : ℕ) (octets : List ℕ) (b : Body) → body_by o status octets ≡ Ok b → (c : Command) × (o ≡ Some c) × (body_at c status octets ≡ Ok b)
+-- the command is known, and this is its body
+record BodyOf (o : Option Command) (status : ℕ) (octets : List ℕ) (b : Body) : Type 0 where
+  command : Command
+  known : o ≡ Some command
+  reads : body_at command status octets ≡ Ok b
+
+body_by_ok : (o : Option Command) (status : ℕ) (octets : List ℕ) (b : Body) → body_by o status octets ≡ Ok b → BodyOf o status octets b
 body_by_ok None status octets b e = absurd cc
-body_by_ok (Some c) status octets b e = (c, refl, e)
+body_by_ok (Some c) status octets b e = record { command = c; known = refl; reads = e }
 
 -- ---- the header
 
@@ -119,17 +125,17 @@ reading_take octets p fits e =
     let says : number_at 0 octets ≡ length octets = eqb-true _ _ tests.0 in
     let most : length octets ≤ 70000 = leb-true _ _ tests.1 in
     let b = bind_ok (body_by (command_of (number_at 4 octets)) status (drop 16 octets)) (λ b. Ok (made b)) p h.1 in
-    let c = body_by_ok (command_of (number_at 4 octets)) status (drop 16 octets) b.0 b.1 in
-    let id : id_of c.0 ≡ number_at 4 octets = found_id (number_at 4 octets) commands c.0 c.1 in
-    let r = body_take c.0 status (drop 16 octets) b.0 (IsOctets-drop 16 octets fits) c.2 in
-    let id-is : number_at 4 octets ≡ id_of (command_in b.0) = sym id ∙ ap id_of (sym r.command) in
+    let c = body_by_ok (command_of (number_at 4 octets)) status (drop 16 octets) b.value b.is in
+    let id : id_of c.command ≡ number_at 4 octets = found_id (number_at 4 octets) commands c.command c.known in
+    let r = body_take c.command status (drop 16 octets) b.value (IsOctets-drop 16 octets fits) c.reads in
+    let id-is : number_at 4 octets ≡ id_of (command_in b.value) = sym id ∙ ap id_of (sym r.command) in
     let tail : List ℕ → List ℕ = λ x. x ++ to_be_bytes w32 status ++ to_be_bytes w32 number ++ drop 16 octets in
-    let spelled : octets ≡ spelling_of (length octets) (made b.0) =
+    let spelled : octets ≡ spelling_of (length octets) (made b.value) =
     header_parts octets fits long
     ∙ ap (λ (n : ℕ). to_be_bytes w32 n ++ to_be_bytes w32 (number_at 4 octets) ++ to_be_bytes w32 status ++ to_be_bytes w32 number ++ drop 16 octets) says
     ∙ ap (λ (n : ℕ). to_be_bytes w32 (length octets) ++ to_be_bytes w32 n ++ to_be_bytes w32 status ++ to_be_bytes w32 number ++ drop 16 octets) id-is
-    ∙ ap (λ (x : List ℕ). to_be_bytes w32 (length octets) ++ to_be_bytes w32 (id_of (command_in b.0)) ++ to_be_bytes w32 status ++ to_be_bytes w32 number ++ x) r.spelled in
-    subst (λ (q : Pdu). Spells q octets) (ok_is (made b.0) p b.2) (record {
+    ∙ ap (λ (x : List ℕ). to_be_bytes w32 (length octets) ++ to_be_bytes w32 (id_of (command_in b.value)) ++ to_be_bytes w32 status ++ to_be_bytes w32 number ++ x) r.spelled in
+    subst (λ (q : Pdu). Spells q octets) (ok_is (made b.value) p b.rest) (record {
       spelled = spelled;
       most = most;
       status = number_at_small 8 octets fits;

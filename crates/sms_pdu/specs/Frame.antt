@@ -43,6 +43,12 @@ pub record Division (stream : List ℕ) (frames : List (List ℕ)) (rest : List 
   pub each : AllByRecursion IsFrame frames
   pub ended : IsRest rest
 
+-- the stream is some frames and then some rest
+pub record HasDivision (stream : List ℕ) : Type 0 where
+  pub frames : List (List ℕ)
+  pub rest : List ℕ
+  pub divided : Division stream frames rest
+
 -- what stands where this length was announced, and so many octets are there
 abbrev pub front_by : ℕ → ℕ → Front
 front_by says there =

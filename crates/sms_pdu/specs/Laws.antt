@@ -2,7 +2,7 @@
 use Rattle.std.specs.Prelude.{◌≡◌, ℕ, List, [], ◌∷◌, ◌++◌}
 use Rattle.sms_pdu.specs.declared.reply.Reply.{Reply}
 use Rattle.sms_pdu.specs.declared.body.Pdu.{Pdu}
-use Rattle.sms_pdu.specs.Frame.{IsFrame, IsBad, Division}
+use Rattle.sms_pdu.specs.Frame.{IsFrame, IsBad, Division, HasDivision}
 use Rattle.sms_pdu.specs.Reply.{answers, AnswersOf}
 use Rattle.sms_pdu.specs.Grammar.{Spells, IsLawful}
 
@@ -12,7 +12,7 @@ OneDivision = (stream : List ℕ) (frames others : List (List ℕ)) (rest left :
 
 -- every stream has a division
 abbrev pub EachDivided : Type 0
-EachDivided = (stream : List ℕ) → (frames : List (List ℕ)) × (rest : List ℕ) × Division stream frames rest
+EachDivided = (stream : List ℕ) → HasDivision stream
 
 -- what two pieces give one after the other is what they give as one
 abbrev pub PiecesJoin : Type 0
