@@ -41,7 +41,7 @@ counted-append p (d ∷ ds) es = omega (arith, counted-append p ds es)
 
 pub follow-append : (ds es : List Deed) (a b c : Held) → FollowAll ds a b → FollowAll es b c → FollowAll (ds ++ es) a c
 follow-append [] es a b c p q = subst (λ (h : Held). FollowAll es h c) p q
-follow-append (d ∷ ds) es a b c p q = (p.0, p.1, follow-append ds es p.0 b c p.2 q)
+follow-append (d ∷ ds) es a b c (next, one, rest) q = (next, one, follow-append ds es next b c rest q)
 
 pub state-append : (s : State) (fs gs : List (List ℕ)) → state_after s (fs ++ gs) ≡ state_after (state_after s fs) gs
 state-append s [] gs = refl
@@ -85,7 +85,7 @@ broke s t Closed h = sym (ends_by s t h Closed refl).1
 -- ---- the log has the frames' answers
 
 entry_by : (a : Action) (f : List ℕ) (d : Deed) (rest : List Reply) → (a ≢ action.Answer → reply_in f ≡ None) → Does a f d → map first (entry d) ++ rest ≡ cons_option (reply_in f) rest
-entry_by action.Answer f d rest other does = rw (does.3, does.2) refl
+entry_by action.Answer f d rest other (reply, search, is, deed) = rw (deed, is) refl
 entry_by (action.Reply response) f d rest other does = rw (does.1, other (λ e. absurd cc)) refl
 entry_by (action.ReplyClose response) f d rest other does = rw (does.1, other (λ e. absurd cc)) refl
 entry_by action.Note f d rest other does = rw (does, other (λ e. absurd cc)) refl

@@ -34,7 +34,12 @@ impl Model for Follower {
 
     ghost view = { λ f. record { began = f.began.value; now = f.seat; claimed = f.claimed.items; most = f.most; good = f.good } };
 
-    ghost invariant = { λ f. (f.good < 16) × IsOpen f.began.value.view.slots f.claimed.items f.seat.view.slots × (length f.claimed.items ≤ f.most) × (f.most ≤ vec_capacity f.claimed) };
+    ghost invariant = { λ f. record {
+      good : f.good < 16;
+      slots : IsOpen f.began.value.view.slots f.claimed.items f.seat.view.slots;
+      few : length f.claimed.items ≤ f.most;
+      room : f.most ≤ vec_capacity f.claimed;
+    } };
 }
 
 /// The good answers in a row after which a slot is given back.

@@ -7,7 +7,7 @@ use Rattle.std.proofs.lemmas.Bool.{le-ltb, lt-leb}
 use Rattle.sms_core.specs.declared.mark.Mark.TheVariants.{Empty}
 use Rattle.sms_core.specs.Holds.{weigh, is_slot, holders_of}
 use Rattle.sms_core.specs.Renaming.{renamed, without, held_out, is_of, KeepsUnderNames, KeepsWithout, NamesKeepSteps, LeavingOutKeepsSteps, OpensAsWorkers, StaysAsWorkers, ClaimIsWorkers, ReleaseIsWorkers}
-use Rattle.sms_core.specs.State.{State, is_pair, times_held}
+use Rattle.sms_core.specs.State.{is_pair, times_held}
 use Rattle.sms_core.proofs.Workers.{same_pair}
 
 at_most : (b : Bool) (n : ℕ) → (if b then 0 else n) ≤ n
@@ -154,17 +154,17 @@ claim_is_workers name is_out old new h slot w a stays low c =
     let free : holders_of slot w.holds ≡ 0 = a.same (is_slot slot) ∙ read.0 in
     let inside : slot < w.limit = dite (dec_lt slot w.limit) (λ lt. lt)
     (λ ge. let b = a.beyond slot (omega arith) low in let le = held_out_le is_out slot old in let none = c.0 in absurd (omega arith)) in
-    let after : State = record w { holds = holds; marks = set w.marks slot Empty } in (
-      after,
-      (
+    record {
+      after = record w { holds = holds; marks = set w.marks slot Empty };
+      steps = (
         rw (lt-leb w.limit slot inside, le-ltb 0 (holders_of slot w.holds) (omega arith)) refl,
         ((free, λ f. let e = a.same f in let r = read.1 f in omega arith), refl),
-      ),
-      record {
+      );
+      workers = record {
         same = λ f. refl;
         beyond = λ k low high. let b = a.beyond k low high in let e = c.1 (λ p. if is_out p.0 then is_slot k p else 0) in omega arith;
-      },
-    )
+      };
+    }
 
 pub release_is_workers : ReleaseIsWorkers
 release_is_workers name is_out old new h slot w a stays empty r =
@@ -172,18 +172,18 @@ release_is_workers name is_out old new h slot w a stays empty r =
     let holds : List (ℕ × ℕ) = renamed name (without is_out new) in
     let held : (times_held (name h) slot w.holds == 0) ≡ false =
     ne_eqb (times_held (name h) slot w.holds) 0 (λ none. let e = a.same (is_pair (name h) slot) in let o = read (is_pair (name h) slot) in let one = same_pair (name h) slot in absurd (omega arith)) in
-    let after : State = record w { holds = holds } in (
-      after,
-      (
+    record {
+      after = record w { holds = holds };
+      steps = (
         rw (held, empty) refl,
         (λ f. let e = a.same f in let o = read f in omega arith, refl),
-      ),
-      record {
+      );
+      workers = record {
         same = λ f. refl;
         beyond = λ k low high.
             let b = a.beyond k low high in
             let e = r (λ p. if is_out p.0 then is_slot k p else 0) in
             let none : (if is_out h then is_slot k (h, slot) else 0) ≡ 0 = ap (λ (b : Bool). if b then is_slot k (h, slot) else 0) stays in
             omega arith;
-      },
-    )
+      };
+    }

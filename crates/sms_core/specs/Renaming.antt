@@ -1,6 +1,7 @@
 -- One hold set read as another: each holder under another name, and without the pairs of some holders. So the pairs of a
 -- window's seats are read as those of the core's workers: a worker for each seat but the keeper's.
 use Rattle.std.specs.Prelude.{◌≡◌, ◌↔◌, ℕ, ◌≤◌, ◌<◌, Bool, true, false, List, [], ◌∷◌, if◌then◌else◌}
+use Rattle.sms_core.specs.declared.event.Event.{Event}
 use Rattle.sms_core.specs.declared.event.Event.TheVariants.{Claim, Release}
 use Rattle.sms_core.specs.declared.event.Step.TheVariants.{Done}
 use Rattle.sms_core.specs.declared.mark.Mark.TheVariants.{Empty}
@@ -75,12 +76,18 @@ OpensAsWorkers = (name : ℕ → ℕ) (is_out : ℕ → Bool) (pairs : List (ℕ
 abbrev pub StaysAsWorkers : Type 0
 StaysAsWorkers = (name : ℕ → ℕ) (is_out : ℕ → Bool) (old new : List (ℕ × ℕ)) (w : State) → AreWorkers name is_out old w → SamePairs old new → AreWorkers name is_out new w
 
+-- a step of a worker that is done, after which the pairs are those of the world's workers
+pub record IsWorkersStep (name : ℕ → ℕ) (is_out : ℕ → Bool) (pairs : List (ℕ × ℕ)) (w : State) (event : Event) : Type 0 where
+  pub after : State
+  pub steps : Steps w event Done after
+  pub workers : AreWorkers name is_out pairs after
+
 -- a claim is the worker's Claim, which is done
 abbrev pub ClaimIsWorkers : Type 0
 ClaimIsWorkers = (name : ℕ → ℕ) (is_out : ℕ → Bool) (old new : List (ℕ × ℕ)) (h slot : ℕ) (w : State) → AreWorkers name is_out old w
-    → is_out h ≡ false → slot < most_slots → Claims old h slot new → (after : State) × Steps w (Claim (name h) slot) Done after × AreWorkers name is_out new after
+    → is_out h ≡ false → slot < most_slots → Claims old h slot new → IsWorkersStep name is_out new w (Claim (name h) slot)
 
 -- a release of a slot with nothing in it is the worker's Release, which is done
 abbrev pub ReleaseIsWorkers : Type 0
 ReleaseIsWorkers = (name : ℕ → ℕ) (is_out : ℕ → Bool) (old new : List (ℕ × ℕ)) (h slot : ℕ) (w : State) → AreWorkers name is_out old w
-    → is_out h ≡ false → mark_of w slot ≡ Empty → Releases old h slot new → (after : State) × Steps w (Release (name h) slot) Done after × AreWorkers name is_out new after
+    → is_out h ≡ false → mark_of w slot ≡ Empty → Releases old h slot new → IsWorkersStep name is_out new w (Release (name h) slot)

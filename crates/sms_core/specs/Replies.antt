@@ -29,8 +29,10 @@ outcome_of (attempt ∷ []) = outcome_of_last attempt
 outcome_of (attempt ∷ next ∷ later) = outcome_of (next ∷ later)
 
 -- the attempt was answered by a reply after which the request may be tried again
-abbrev pub IsRetried : Option Reply → Type 0
-IsRetried attempt = (reply : Reply) × (attempt ≡ Some reply) × (is_retry reply.status reply.nack ≡ Bool.true)
+pub record IsRetried (attempt : Option Reply) : Type 0 where
+  pub reply : Reply
+  pub came : attempt ≡ Some reply
+  pub retries : is_retry reply.status reply.nack ≡ Bool.true
 
 -- each attempt but the last was answered by a retry reply
 abbrev pub AreRetried : List (Option Reply) → Type 0

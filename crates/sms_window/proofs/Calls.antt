@@ -27,10 +27,17 @@ pow_same : (k j : ℕ) → 2 ^ k ≡ 2 ^ j → k ≡ j
 pow_same k j e = dite (ℕ_discrete k j) (λ same. same) (λ ne. let a = bit_at-pow_same k in let b = bit_at-pow_other j k ne in let c : bit_at (2 ^ k) k ≡ bit_at (2 ^ j) k = ap (λ (n : ℕ). bit_at n k) e in absurd (omega arith))
 
 -- `trailing_ones` of a word that is not full is its least clear slot
-pub least_clear : (found slot : ℕ) → slot ≡ trailing_ones w64 found → found < 2 ^ 64 → found ≢ 2 ^ 64 - 1 → (slot < 64) × (bit_at found slot ≡ 0) × ((i : ℕ) → i < slot → bit_at found i ≡ 1)
+pub record IsLeastClear (word slot : ℕ) : Type 0 where
+  pub inside : slot < 64
+  pub clear : bit_at word slot ≡ 0
+  pub least : (i : ℕ) → i < slot → bit_at word i ≡ 1
+
+pub least_clear : (found slot : ℕ) → slot ≡ trailing_ones w64 found → found < 2 ^ 64 → found ≢ 2 ^ 64 - 1 → IsLeastClear found slot
 least_clear found slot is small not_full =
-    let t = bit_at-trailing_ones w64 found (omega arith) in
-    subst (λ (k : ℕ). (k < 64) × (bit_at found k ≡ 0) × ((i : ℕ) → i < k → bit_at found i ≡ 1)) (sym is) t
+    subst (IsLeastClear found) (sym is) (told (bit_at-trailing_ones w64 found (omega arith)))
+  where
+    told : (trailing_ones w64 found < 64) × (bit_at found (trailing_ones w64 found) ≡ 0) × ((i : ℕ) → i < trailing_ones w64 found → bit_at found i ≡ 1) → IsLeastClear found (trailing_ones w64 found)
+    told (inside, clear, least) = record { inside = inside; clear = clear; least = least }
 
 -- an exchange that claims and hits, after a load that left u: the seat holds the slot now
 pub got : (v u w : View) (found now slot new : ℕ) → u ≡ met_with v found → ClaimExchange 0 found new u now w → now ≡ found → slot < 64 → bit_at found slot ≡ 0 → ((i : ℕ) → i < slot → bit_at found i ≡ 1) → new ≡ found + 2 ^ slot

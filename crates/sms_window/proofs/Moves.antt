@@ -84,14 +84,14 @@ releases_pairs : (views : List View) (id : ℕ) (v w : View) (k : ℕ) → get_e
     → (2 ^ k ≤ v.slots) × Releases (pairs_of views) v.name k (pairs_of (set views id w))
 releases_pairs views id v w k at inside small has n s =
     let less = bit_at_less v.slots k inside small has in
-    let y : ℕ = less.0 in
-    let sum : v.slots ≡ y + 2 ^ k = less.1 in
+    let y : ℕ = less.rest in
+    let sum : v.slots ≡ y + 2 ^ k = less.sum in
     let rest : w.slots ≡ y = s ∙ omega arith in (
       omega arith,
       λ f.
           let t = pairs_set f views id v w at in
           let e : own f w ≡ spread f v.name y 64 = λ i. spread f (n i) (rest i) 64 in
-          let a = spread_add f v.name y (2 ^ k) v.slots 64 (λ i. ap (λ (m : ℕ). bit_at m i) sum ∙ bit_at_more y k less.2 i) in
+          let a = spread_add f v.name y (2 ^ k) v.slots 64 (λ i. ap (λ (m : ℕ). bit_at m i) sum ∙ bit_at_more y k less.clear i) in
           let p = spread-pow f v.name k 64 inside in
           omega arith,
     )
@@ -207,7 +207,8 @@ module _ {S : Type 0} (o : Opening) where
       let words = set s.words 0 new in
       let w0 : slice_index words 0 ≡ new = get_or-set_same s.words 0 new 0 (omega arith) in
       let w1 : slice_index words 1 ≡ slice_index s.words 1 = get_or-set_other s.words 0 1 new 0 (λ e. omega arith) in
-      let word : word_of (pairs_of (set s.views id w)) ≡ slice_index words 0 = d.1.1 (λ p. 2 ^ p.1) ∙ ap (λ (m : ℕ). m + 2 ^ k) (r.word ∙ e) ∙ sym is ∙ sym w0 in
+      let claims = d.1 in
+      let word : word_of (pairs_of (set s.views id w)) ≡ slice_index words 0 = claims.1 (λ p. 2 ^ p.1) ∙ ap (λ (m : ℕ). m + 2 ^ k) (r.word ∙ e) ∙ sym is ∙ sym w0 in
       let seat = r.seats id v at in
       let room : v.slots + 2 ^ k < 2 ^ 64 = let le = own_le (λ p. 2 ^ p.1) s.views id v at in let m = spread-word v.name v.slots 64 in let b = seat.whole.slots in let q = mod-eq_of_lt b in let x = r.word in omega arith in
       let rule : IsWindow o (stepped s 0 new id c w keeps) = rebuilt s r words s.homes id v w at (length-set s.words 0 new ∙ r.two) (lawful_claims _ _ _ _ d.1 r.lawful) word refl

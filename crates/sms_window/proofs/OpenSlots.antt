@@ -60,28 +60,36 @@ one_more base slots later x xs o lt free e = record {
   small = below_append most_slots xs (x ∷ []) o.small (lt, tt);
 }
 
-pub one_less : (base slots x : ℕ) (xs ys : List ℕ) → IsOpen base (xs ++ x ∷ ys) slots → (x < most_slots) × (bit_at slots x ≡ 1) × IsOpen base (xs ++ ys) (slots - 2 ^ x)
+-- a slot that is open is held, and without it the others are open
+pub record OneOpen (base slots x : ℕ) (others : List ℕ) : Type 0 where
+  pub within : x < most_slots
+  pub held : bit_at slots x ≡ 1
+  pub rest : IsOpen base others (slots - 2 ^ x)
+
+pub one_less : (base slots x : ℕ) (xs ys : List ℕ) → IsOpen base (xs ++ x ∷ ys) slots → OneOpen base slots x (xs ++ ys)
 one_less base slots x xs ys o =
     let w = word_of_slots-append xs (x ∷ ys) in
     let w' = word_of_slots-append xs ys in
     let s = o.sum in
     let parts = below_parts most_slots xs (x ∷ ys) o.small in
+    let below = parts.1 in
     let b = bits_beside base slots (xs ++ x ∷ ys) o x in
     let t = times_append x xs (x ∷ ys) in
     let one : times x (x ∷ ys) ≡ 1 + times x ys = rw (eq-eqb x x refl) (omega arith) in
-    let a = o.apart x in (
-      parts.1.0,
-      omega arith,
-      record {
+    let a = o.apart x in
+    record {
+      within = below.0;
+      held = omega arith;
+      rest = record {
         sum = omega arith;
         apart = λ k. let h = o.apart k in let u = times_append k xs (x ∷ ys) in let u' = times_append k xs ys in omega arith;
-        small = below_append most_slots xs ys parts.0 parts.1.1;
-      },
-    )
+        small = below_append most_slots xs ys parts.0 below.1;
+      };
+    }
 
 -- the last one
-pub one_last : (base slots x : ℕ) (xs : List ℕ) → IsOpen base (xs ++ x ∷ []) slots → (x < most_slots) × (bit_at slots x ≡ 1) × IsOpen base xs (slots - 2 ^ x)
-one_last base slots x xs o = let t = one_less base slots x xs [] o in (t.0, t.1, subst (λ (l : List ℕ). IsOpen base l (slots - 2 ^ x)) (append_nil xs) t.2)
+pub one_last : (base slots x : ℕ) (xs : List ℕ) → IsOpen base (xs ++ x ∷ []) slots → OneOpen base slots x xs
+one_last base slots x xs o = subst (OneOpen base slots x) (append_nil xs) (one_less base slots x xs [] o)
   where
     append_nil : (l : List ℕ) → l ++ [] ≡ l
     append_nil [] = refl
@@ -89,13 +97,13 @@ one_last base slots x xs o = let t = one_less base slots x xs [] o in (t.0, t.1,
 
 -- the one at the place i of a list of things that have slots, as `Vec::remove` leaves the others
 pub one_less_at : {A : Type 0} (slot_of : A → ℕ) (base slots : ℕ) (xs : List A) (i : ℕ) (x : A) → IsOpen base (map slot_of xs) slots → slice_get xs i ≡ Some x
-    → (slot_of x < most_slots) × (bit_at slots (slot_of x) ≡ 1) × IsOpen base (map slot_of (take i xs ++ drop (suc i) xs)) (slots - 2 ^ slot_of x)
+    → OneOpen base slots (slot_of x) (map slot_of (take i xs ++ drop (suc i) xs))
 one_less_at {A} slot_of base slots xs i x o at =
     let front : List ℕ = map slot_of (take i xs) in
     let back : List ℕ = map slot_of (drop (suc i) xs) in
     let whole : map slot_of xs ≡ front ++ slot_of x ∷ back = ap (map slot_of) (parted xs i x at) ∙ map-append slot_of (take i xs) (x ∷ drop (suc i) xs) in
-    let t = one_less base slots (slot_of x) front back (subst (λ (l : List ℕ). IsOpen base l slots) whole o) in
-    (t.0, t.1, subst (λ (l : List ℕ). IsOpen base l (slots - 2 ^ slot_of x)) (sym (map-append slot_of (take i xs) (drop (suc i) xs))) t.2)
+    subst (OneOpen base slots (slot_of x)) (sym (map-append slot_of (take i xs) (drop (suc i) xs)))
+    (one_less base slots (slot_of x) front back (subst (λ (l : List ℕ). IsOpen base l slots) whole o))
   where
     parted : (l : List A) (k : ℕ) (y : A) → slice_get l k ≡ Some y → l ≡ take k l ++ y ∷ drop (suc k) l
     parted [] k y e = absurd (cc)
@@ -111,4 +119,4 @@ one_more_law base more v w slot o got = one_more base v.slots w.slots slot more 
 pub one_less_law : OneLess
 one_less_law base xs ys v slot o =
     let t = one_less base v.slots slot xs ys o in
-    ((t.0, t.1), (λ w freed. subst (IsOpen base (xs ++ ys)) (sym (ap (λ (u : View). u.slots) freed.after)) t.2))
+    ((t.within, t.held), (λ w freed. subst (IsOpen base (xs ++ ys)) (sym (ap (λ (u : View). u.slots) freed.after)) t.rest))

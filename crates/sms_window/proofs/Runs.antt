@@ -39,8 +39,8 @@ window_word_kept s n id v = get_or-set_other s.words 1 0 n 0 (λ e. omega arith)
 word_back : (o : Opening) (s : Shared) → IsWindow o s → (id k : ℕ) (v : View) → IsThere s id v → Holds v k → window_word s ≡ window_word s - 2 ^ k + 2 ^ k
 word_back o s r id k v at h =
     let less = bit_at_less (window_word s) k h.0 (word_small o s r) (slot_in_word o s r id v k at h.0 h.1) in
-    let y : ℕ = less.0 in
-    let sum : window_word s ≡ y + 2 ^ k = less.1 in
+    let y : ℕ = less.rest in
+    let sum : window_word s ≡ y + 2 ^ k = less.sum in
     omega arith
 
 pub move_keeps_rule : MoveKeepsRule
@@ -131,11 +131,11 @@ more_bits w k i clear has = let m = bit_at_more w k clear i in let b = bit_at-lt
 less_bits : (w k i : ℕ) → k < 64 → w < 2 ^ 64 → bit_at w k ≡ 1 → k ≢ i → bit_at w i ≡ 1 → bit_at (w - 2 ^ k) i ≡ 1
 less_bits w k i inside small set_there ne has =
     let less = bit_at_less w k inside small set_there in
-    let y : ℕ = less.0 in
-    let sum : w ≡ y + 2 ^ k = less.1 in
+    let y : ℕ = less.rest in
+    let sum : w ≡ y + 2 ^ k = less.sum in
     let rest : bit_at (w - 2 ^ k) i ≡ bit_at y i = ap (λ (n : ℕ). bit_at n i) (omega arith) in
     let whole : bit_at w i ≡ bit_at (y + 2 ^ k) i = ap (λ (n : ℕ). bit_at n i) sum in
-    let m = bit_at_more y k less.2 i in
+    let m = bit_at_more y k less.clear i in
     let p = bit_at-pow_other k i (λ e. ne (sym e)) in
     omega arith
 
@@ -154,7 +154,8 @@ stays_held o s (draws id) t slot r h spare has = ap (λ (u : Shared). bit_at (wi
 
 run_stays_held : (o : Opening) (s : Shared) (ms : List Move) (t : Shared) (slot : ℕ) → IsWindow o s → Runs s ms t → AllSpare slot ms → bit_at (window_word s) slot ≡ 1 → bit_at (window_word t) slot ≡ 1
 run_stays_held o s [] t slot r run spare has = ap (λ (u : Shared). bit_at (window_word u) slot) run ∙ has
-run_stays_held o s (m ∷ ms) t slot r run spare has = run_stays_held o run.0 ms t slot (move_keeps_rule o s m run.0 r run.1) run.2 spare.1 (stays_held o s m run.0 slot r run.1 spare.0 has)
+run_stays_held o s (m ∷ ms) t slot r (mid, move, later) spare has =
+    run_stays_held o mid ms t slot (move_keeps_rule o s m mid r move) later spare.1 (stays_held o s m mid slot r move spare.0 has)
 
 pub claimed_once : ClaimedOnce
 claimed_once o s claimed later after id other slot ms r h run spare again =
@@ -178,9 +179,9 @@ number_grows s (draws id) t e = let a = e.0.is.1 in omega arith
 
 run_grows : (o : Opening) (s : Shared) (ms : List Move) (t : Shared) → IsWindow o s → Runs s ms t → number_word s ≤ number_word t
 run_grows o s [] t r run = let e : number_word t ≡ number_word s = ap number_word run in omega arith
-run_grows o s (m ∷ ms) t r run =
-    let first = number_grows s m run.0 (number_step o s m run.0 r run.1) in
-    let rest = run_grows o run.0 ms t (move_keeps_rule o s m run.0 r run.1) run.2 in
+run_grows o s (m ∷ ms) t r (mid, move, later) =
+    let first = number_grows s m mid (number_step o s m mid r move) in
+    let rest = run_grows o mid ms t (move_keeps_rule o s m mid r move) later in
     omega arith
 
 pub drawn_once : DrawnOnce
@@ -191,7 +192,7 @@ drawn_once o s drawn later id ms r h run =
 
 pub run_keeps_rule : (o : Opening) (s : Shared) (ms : List Move) (t : Shared) → IsWindow o s → Runs s ms t → IsWindow o t
 run_keeps_rule o s [] t r run = subst (IsWindow o) (sym run) r
-run_keeps_rule o s (m ∷ ms) t r run = run_keeps_rule o run.0 ms t (move_keeps_rule o s m run.0 r run.1) run.2
+run_keeps_rule o s (m ∷ ms) t r (mid, move, later) = run_keeps_rule o mid ms t (move_keeps_rule o s m mid r move) later
 
 -- the view of a seat that makes no step
 pub stays_there : (s : Shared) (m : Move) (t : Shared) (seat : ℕ) (v : View) → IsThere s seat v → Moves s m t → Without seat m → IsThere t seat v
@@ -206,4 +207,4 @@ stays_there s (draws id) t seat v at h out = subst (λ (u : Shared). IsThere u s
 
 pub dropped_stays : DroppedStays
 dropped_stays s later seat v [] at run out = subst (λ (u : Shared). IsThere u seat v) (sym run) at
-dropped_stays s later seat v (m ∷ ms) at run out = dropped_stays run.0 later seat v ms (stays_there s m run.0 seat v at run.1 out.0) run.2 out.1
+dropped_stays s later seat v (m ∷ ms) at (mid, move, rest) out = dropped_stays mid later seat v ms (stays_there s m mid seat v at move out.0) rest out.1

@@ -54,23 +54,23 @@ pub record Gives (v : View) : Type 0 where
 pub name_apart : (v : View) → v.family < 2 ^ 64 → v.name < 64 → bit_at v.family v.name ≡ 1 → CanSplit v → Gives v
 name_apart v small in_range has can =
     let less = bit_at_less v.family v.name in_range small has in
-    let y : ℕ = less.0 in
-    let sum : v.family ≡ y + 2 ^ v.name = less.1 in
+    let y : ℕ = less.rest in
+    let sum : v.family ≡ y + 2 ^ v.name = less.sum in
     let is : other_names v ≡ y = omega arith in
     let t = top_bit (other_names v) can (omega arith) in
     let j : ℕ = name_to_give v in
     let set_there : bit_at (other_names v) j ≡ 1 = t.set_there in
     let there : bit_at y j ≡ 1 = ap (λ (w : ℕ). bit_at w j) (sym is) ∙ set_there in
-    let ne : j ≢ v.name = λ e. let a : bit_at y v.name ≡ 1 = ap (bit_at y) (sym e) ∙ there in let b = less.2 in omega arith in
-    let more = bit_at_more y v.name less.2 j in
+    let ne : j ≢ v.name = λ e. let a : bit_at y v.name ≡ 1 = ap (bit_at y) (sym e) ∙ there in let b = less.clear in omega arith in
+    let more = bit_at_more y v.name less.clear j in
     let c : bit_at v.family j ≡ bit_at (y + 2 ^ v.name) j = ap (λ (w : ℕ). bit_at w j) sum in
     let d = bit_at-pow_other v.name j ne in
     let here : bit_at v.family j ≡ 1 = omega arith in
     let less' = bit_at_less v.family j t.inside small here in
-    let z : ℕ = less'.0 in
-    let sum' : v.family ≡ z + 2 ^ j = less'.1 in
+    let z : ℕ = less'.rest in
+    let sum' : v.family ≡ z + 2 ^ j = less'.sum in
     let rest : v.family - 2 ^ j ≡ z = omega arith in
-    let bits = bit_at_more z j less'.2 v.name in
+    let bits = bit_at_more z j less'.clear v.name in
     let e : bit_at v.family v.name ≡ bit_at (z + 2 ^ j) v.name = ap (λ (w : ℕ). bit_at w v.name) sum' in
     let f = bit_at-pow_other j v.name (λ e. ne (sym e)) in
     let g : bit_at (v.family - 2 ^ j) v.name ≡ bit_at z v.name = ap (λ (w : ℕ). bit_at w v.name) rest in
@@ -112,10 +112,10 @@ module _ {S : Type 0} (o : Opening) where
       let n = name_apart v seat.whole.family own_name.0 own_name.1 can in
       let j : ℕ = name_to_give v in
       let less = bit_at_less v.family j n.inside seat.whole.family n.there in
-      let y : ℕ = less.0 in
-      let sum : v.family ≡ y + 2 ^ j = less.1 in
+      let y : ℕ = less.rest in
+      let sum : v.family ≡ y + 2 ^ j = less.sum in
       let rest : v.family - 2 ^ j ≡ y = omega arith in
-      let bits : (k : ℕ) → bit_at v.family k ≡ bit_at y k + bit_at (2 ^ j) k = λ k. ap (λ (w : ℕ). bit_at w k) sum ∙ bit_at_more y j less.2 k in
+      let bits : (k : ℕ) → bit_at v.family k ≡ bit_at y k + bit_at (2 ^ j) k = λ k. ap (λ (w : ℕ). bit_at w k) sum ∙ bit_at_more y j less.clear k in
       let p = split_pairs s.views id v (giver v) (given v) at refl refl refl in
       let kept : bit_at (v.family - 2 ^ j) v.name ≡ 1 = n.stays in
       let live' : 0 < v.family - 2 ^ j = positive (v.family - 2 ^ j) v.name kept in

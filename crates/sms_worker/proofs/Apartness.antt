@@ -87,34 +87,34 @@ numbers_apart before after ms es long d k p i k' p' i' a b here there same =
 
     apart : (k ≢ k') ⊎ ((k ≡ k') × (p ≢ p')) → ⊥
     apart ne =
-        let t = two_places n ms es k p k' p' here.0 there.0 long ne here.1 there.1 in
-        let x = once_at n here.0.attempts i a here.2 same in
-        let y = once_at n there.0.attempts i' b there.2 refl in
+        let t = two_places n ms es k p k' p' here.segment there.segment long ne here.there there.there in
+        let x = once_at n here.segment.attempts i a here.has same in
+        let y = once_at n there.segment.attempts i' b there.has refl in
         let f = few in
         absurd (omega arith)
 
     twice : k ≡ k' → p ≡ p' → i ≢ i' → ⊥
     twice ek ep ni =
-        let at : segment_at es k p ≡ Some there.0 = ap (λ x. segment_at es x p) ek ∙ ap (segment_at es k') ep ∙ there.1 in
-        let h1 = here.1 in
-        let one : here.0 ≡ there.0 = cc in
-        let mine : slice_get there.0.attempts i ≡ Some a = ap (λ (s : SegmentEnd). slice_get s.attempts i) (sym one) ∙ here.2 in
-        let t = twice_at n there.0.attempts i i' a b ni mine there.2 same refl in
-        let e = end_at es k p there.0 at in
+        let at : segment_at es k p ≡ Some there.segment = ap (λ x. segment_at es x p) ek ∙ ap (segment_at es k') ep ∙ there.there in
+        let h1 = here.there in
+        let one : here.segment ≡ there.segment = cc in
+        let mine : slice_get there.segment.attempts i ≡ Some a = ap (λ (s : SegmentEnd). slice_get s.attempts i) (sym one) ∙ here.has in
+        let t = twice_at n there.segment.attempts i i' a b ni mine there.has same refl in
+        let e = end_at es k p there.segment at in
         let klow = get_low es k e.0 e.1 in
         let m = get_there ms k (omega arith) in
-        let most = part_at_most (λ m s. uses n s) ms es k p m.0 there.0 (record there.0 { attempts = [] }) m.1 at refl in
+        let most = part_at_most (λ m s. uses n s) ms es k p m.0 there.segment (record there.segment { attempts = [] }) m.1 at refl in
         let f = few in
         absurd (omega arith)
 
 reply_number : (rules : Rules) (before : ℕ) (received : List Reply) (ms : List Message) (es : List MessageEnd) (k p i : ℕ) (a : Attempt) (r : Reply) → length es ≤ length ms → AllTold rules before received ms es → IsAttempt es k p i a → a.reply ≡ Some r
     → r.number ≡ a.number
 reply_number rules before received ms es k p i a r long told here is =
-    let e = end_at es k p here.0 here.1 in
+    let e = end_at es k p here.segment here.there in
     let low = get_low es k e.0 e.1 in
     let m = get_there ms k (omega arith) in
-    let t = told k p m.0 here.0 m.1 here.1 in
-    (all_at (IsAnswered before received) here.0.attempts i a t.answered here.2 r is).0
+    let t = told k p m.0 here.segment m.1 here.there in
+    (all_at (IsAnswered before received) here.segment.attempts i a t.answered here.has r is).0
 
 pub places_apart : (rules : Rules) (before : ℕ) (received : List Reply) (was after : View) (ms : List Message) (es : List MessageEnd) → length es ≤ length ms → Drew was after ms es → AllTold rules before received ms es → PlacesApart received es
 places_apart rules before received was after ms es long d told k p i k' p' i' place a b r r' here there is is' at at' =

@@ -18,26 +18,35 @@ is_charge_of status true e = absurd (true≢false (sym e))
 is_charge_of status false e = dite (ℕ_discrete status no_error) (λ same. (same, refl)) (λ ne. absurd (true≢false (sym e ∙ ne_eqb status no_error ne)))
 
 -- the reply of an attempt that is the last and comes to a charge
-last_charge : (o : Option Reply) → outcome_of_last (read_reply o) ≡ phases.Charged → (r : Reply) × (o ≡ Some r) × (is_charge r.status r.nack ≡ true)
+record IsCharge (o : Option Reply) : Type 0 where
+  reply : Reply
+  came : o ≡ Some reply
+  accepts : is_charge reply.status reply.nack ≡ true
+
+last_charge : (o : Option Reply) → outcome_of_last (read_reply o) ≡ phases.Charged → IsCharge o
 last_charge None e = absurd (cc)
-last_charge (Some r) e = (r, refl, charged (is_charge r.status r.nack) e)
+last_charge (Some r) e = record { reply = r; came = refl; accepts = charged (is_charge r.status r.nack) e }
   where
     charged : (b : Bool) → (if b then phases.Charged else phases.Refused) ≡ phases.Charged → b ≡ true
     charged true e = refl
     charged false e = absurd (cc)
 
-charge_at : (xs : List Attempt) → outcome_of (answers xs) ≡ phases.Charged → (i : ℕ) × (a : Attempt) × (r : Reply) × (slice_get xs i ≡ Some a) × (a.reply ≡ Some r) × (is_charge r.status r.nack ≡ true)
+-- the last attempt comes to a charge
+record ChargeAt (xs : List Attempt) : Type 0 where
+  place : ℕ
+  attempt : Attempt
+  there : slice_get xs place ≡ Some attempt
+  charge : IsCharge attempt.reply
+
+charge_at : (xs : List Attempt) → outcome_of (answers xs) ≡ phases.Charged → ChargeAt xs
 charge_at [] e = absurd (cc)
-charge_at (x ∷ []) e = let h = last_charge x.reply e in (0, x, h.0, refl, h.1, h.2)
-charge_at (x ∷ y ∷ xs) e = let h = charge_at (y ∷ xs) e in (suc h.0, h.1, h.2, h.3, h.4, h.5)
+charge_at (x ∷ []) e = record { place = 0; attempt = x; there = refl; charge = last_charge x.reply e }
+charge_at (x ∷ y ∷ xs) e = let h = charge_at (y ∷ xs) e in record { place = suc h.place; attempt = h.attempt; there = h.there; charge = h.charge }
 
 pub charges_are_answered : ChargesAreAnswered
 charges_are_answered rules before received m p s told settled charged =
     let h = charge_at s.attempts (settled.outcome ∙ ap phase_of charged) in
-    let a = h.1 in
-    let r = h.2 in
-    let is = h.3 in
-    let has = h.4 in
-    let kind = is_charge_of r.status r.nack h.5 in
-    let came = all_at (IsAnswered before received) s.attempts h.0 a told.answered is r has in
-    record { place = h.0; attempt = a; reply = r; is = is; answered = has; number = came.0; status = kind.0; response = kind.1; came = came.1 }
+    let r = h.charge.reply in
+    let kind = is_charge_of r.status r.nack h.charge.accepts in
+    let came = all_at (IsAnswered before received) s.attempts h.place h.attempt told.answered h.there r h.charge.came in
+    record { place = h.place; attempt = h.attempt; reply = r; is = h.there; answered = h.charge.came; number = came.0; status = kind.0; response = kind.1; came = came.1 }

@@ -23,6 +23,7 @@ use Rattle.sms_core.specs.Steps.{Steps, Settles, Expires as ExpiresMark, checks,
 use Rattle.sms_core.proofs.Drawn.{post_draws}
 use Rattle.sms_core.proofs.Moved.{post_opens}
 use Rattle.sms_core.proofs.Named.{find_changed}
+use Rattle.sms_core.proofs.Done.{claim_done, release_done}
 use Rattle.sms_core.proofs.Passed.{AllPassed}
 use Rattle.sms_core.proofs.Renaming.{weigh-renamed, weigh-without, weigh-le, kept, claim_is_workers, release_is_workers}
 use Rattle.sms_core.proofs.RequestSteps.{requests_move}
@@ -188,18 +189,18 @@ pub claim_is_event : ClaimIsEvent
 claim_is_event ms w x p q h st c =
     let k = claim_is_workers x.name x.is_out p.pairs q.pairs x.seat x.slot w st.seats c.worker c.inside c.claims in
     let event = Claim (x.name x.seat) x.slot in
-    let e = k.1.1.1 in
-    let rows_same : SameRows w k.0 = rows_move ms w k.0 event h k.1 in
-    let requests_same : SameRequests w k.0 = requests_move ms w k.0 event h k.1 in
-    let mark : mark_of k.0 x.slot ≡ MarkEmpty = ap (λ (s : State). mark_of s x.slot) e ∙ set_empty w.marks x.slot in
+    let e = (claim_done w k.after (x.name x.seat) x.slot k.steps).after in
+    let rows_same : SameRows w k.after = rows_move ms w k.after event h k.steps in
+    let requests_same : SameRequests w k.after = requests_move ms w k.after event h k.steps in
+    let mark : mark_of k.after x.slot ≡ MarkEmpty = ap (λ (s : State). mark_of s x.slot) e ∙ set_empty w.marks x.slot in
     subst (λ (y : Parts). IsEvent x w event y) (sym c.rest) record {
-      after = k.0;
-      steps = k.1;
+      after = k.after;
+      steps = k.steps;
       stand = record {
         most = ap (λ (s : State). s.attempts) e ∙ st.most;
-        seats = k.2;
+        seats = k.workers;
         next = st.next ∙ sym (ap (λ (s : State). s.next) e);
-        mark = has_empty x.request p.slot p.answer (mark_of k.0 x.slot) c.empty mark;
+        mark = has_empty x.request p.slot p.answer (mark_of k.after x.slot) c.empty mark;
         row = rows_same x.account ∙ st.row;
         state = st.state;
         known = requests_same x.request ∙ st.known;
@@ -272,7 +273,7 @@ answer_is_event ms w x p q reply h st c =
         most = st.most;
         seats = record { same = st.seats.same; beyond = st.seats.beyond };
         next = st.next;
-        mark = subst (λ (s : Slot). HasMark x.request s (Some reply) (mark_of after x.slot)) (sym c.answers.1) (reply, refl, refl, get_or-set_same w.marks x.slot new MarkEmpty inside);
+        mark = subst (λ (s : Slot). HasMark x.request s (Some reply) (mark_of after x.slot)) (sym c.answers.1) record { reply = reply; came = refl; is_numbered = refl; marked = get_or-set_same w.marks x.slot new MarkEmpty inside };
         row = rows_same x.account ∙ st.row;
         state = st.state;
         known = requests_same x.request ∙ st.known;
@@ -291,8 +292,8 @@ decision_is_event ms w x p q h st c =
     let count = length p.segment.attempts in
     let held = held_named x.name x.is_out x.seat x.slot p.pairs w st.seats c.held.0 c.held.1 in
     let has : HasMark x.request (Answered c.takes.0.0 reply.number) p.answer (mark_of w x.slot) = subst (λ (s : Slot). HasMark x.request s p.answer (mark_of w x.slot)) c.takes.0.1 st.mark in
-    let came : has.0 ≡ reply = some_same has.0 reply (sym has.1 ∙ c.came) in
-    let mark : mark_of w x.slot ≡ Replied x.request reply.number reply.status reply.nack = has.3 ∙ ap (λ (y : Reply). Replied x.request reply.number y.status y.nack) came in
+    let came : has.reply ≡ reply = some_same has.reply reply (sym has.came ∙ c.came) in
+    let mark : mark_of w x.slot ≡ Replied x.request reply.number reply.status reply.nack = has.marked ∙ ap (λ (y : Reply). Replied x.request reply.number y.status y.nack) came in
     let after : State = record w { marks = set w.marks x.slot MarkEmpty; requests = changed x.request (answered w.attempts reply.status reply.nack) w.requests } in
     let steps : Steps w event Done after = (
       none_of (checks w event) (held, (ap is_empty mark, (ap is_open mark, tt))),
@@ -423,15 +424,15 @@ release_is_event ms w x p q h st c =
     let event = Release (x.name x.seat) x.slot in
     let empty = empty_has x.request p.slot p.answer (mark_of w x.slot) c.empty st.mark in
     let k = release_is_workers x.name x.is_out p.pairs q.pairs x.seat x.slot w st.seats c.worker empty c.releases in
-    let e = k.1.1.1 in
-    let rows_same : SameRows w k.0 = rows_move ms w k.0 event h k.1 in
-    let requests_same : SameRequests w k.0 = requests_move ms w k.0 event h k.1 in
+    let e = (release_done w k.after (x.name x.seat) x.slot k.steps).after in
+    let rows_same : SameRows w k.after = rows_move ms w k.after event h k.steps in
+    let requests_same : SameRequests w k.after = requests_move ms w k.after event h k.steps in
     subst (λ (y : Parts). IsEvent x w event y) (sym c.rest) record {
-      after = k.0;
-      steps = k.1;
+      after = k.after;
+      steps = k.steps;
       stand = record {
         most = ap (λ (s : State). s.attempts) e ∙ st.most;
-        seats = k.2;
+        seats = k.workers;
         next = st.next ∙ sym (ap (λ (s : State). s.next) e);
         mark = subst (HasMark x.request p.slot p.answer) (sym (ap (λ (s : State). mark_of s x.slot) e)) st.mark;
         row = rows_same x.account ∙ st.row;

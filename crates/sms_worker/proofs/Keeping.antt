@@ -184,15 +184,14 @@ keeps_tried start rules ms es es' texts os os' seat seat' share heard k p m part
     unsent e = subst (IsTold start.rules (length start.received) heard m p) {x = s} {y = s'} (λ i. record { cost = sym cost i; attempts = sym e i; outcome = sym outcome i }) old
 
     told : (t : Tried) → Tries rules m part seat.view s.attempts t seat'.view s'.attempts → IsTold start.rules (length start.received) heard m p s'
-    told (Sent n) h =
-        let a : Attempt = record { number = n; sent = h.1.0; reply = None } in
-        let e = h.1.1 in
+    told (Sent n) (drawn, octets, after, spells) =
+        let a : Attempt = record { number = n; sent = octets; reply = None } in
         record {
           cost = cost ∙ old.cost;
           some = subst (λ n. 0 < n) (sym cost) old.some;
-          sent = subst (AllByRecursion (IsSubmit start.rules m p)) (sym e) (all_snoc (IsSubmit start.rules m p) s.attempts a old.sent (part, here, subst (λ (x : Rules). SpellsSubmit x m part n h.1.0) same h.1.2));
-          answered = subst (AllByRecursion (IsAnswered (length start.received) heard)) (sym e) (all_snoc (IsAnswered (length start.received) heard) s.attempts a old.answered (λ r eq. absurd (cc)));
-          state = inl (sent_state start.rules.policy.attempts s s' a waits e refl outcome);
+          sent = subst (AllByRecursion (IsSubmit start.rules m p)) (sym after) (all_snoc (IsSubmit start.rules m p) s.attempts a old.sent (part, here, subst (λ (x : Rules). SpellsSubmit x m part n octets) same spells));
+          answered = subst (AllByRecursion (IsAnswered (length start.received) heard)) (sym after) (all_snoc (IsAnswered (length start.received) heard) s.attempts a old.answered (λ r eq. absurd (cc)));
+          state = inl (sent_state start.rules.policy.attempts s s' a waits after refl outcome);
         }
     told Later h = unsent h.1
     told Never h = unsent h.1
@@ -201,7 +200,7 @@ keeps_tried start rules ms es es' texts os os' seat seat' share heard k p m part
     like e = drew_same start.seat.view seat.view start.messages es k p m s s' keeps.numbers there' at (ap (map (λ (y : Attempt). y.number)) e)
 
     numbers : (t : Tried) → Tries rules m part seat.view s.attempts t seat'.view s'.attempts → Drew start.seat.view seat'.view start.messages (put es k p s')
-    numbers (Sent n) h = drew_sent start.seat.view seat.view seat'.view start.messages es k p m s s' (record { number = n; sent = h.1.0; reply = None }) keeps.numbers h.0 there' at h.1.1
+    numbers (Sent n) (drawn, octets, after, spells) = drew_sent start.seat.view seat.view seat'.view start.messages es k p m s s' (record { number = n; sent = octets; reply = None }) keeps.numbers drawn there' at after
     numbers Later h = drew_unused start.seat.view seat.view seat'.view [] start.messages (put es k p s') (like h.1) h.0
     numbers Never h = elim h.0 [
       | inl no_draw ↦ drew_unused start.seat.view seat.view seat'.view [] start.messages (put es k p s') (like h.1) no_draw
@@ -220,7 +219,7 @@ keeps_closed start ms es texts os seat seat' share heard i o keeps at window fre
       number = keeps.number;
       accounts = keeps.accounts;
       heard_more = keeps.heard_more;
-      slots = subst (IsOpen start.seat.view.slots (slots_of (take i os ++ drop (suc i) os))) (sym slots) less.2;
+      slots = subst (IsOpen start.seat.view.slots (slots_of (take i os ++ drop (suc i) os))) (sym slots) less.rest;
       numbers = drew_unused start.seat.view seat.view seat'.view [] start.messages es keeps.numbers (releases_draw_none seat.view seat.view seat'.view [] o.slot (draws_none seat.view) freed);
       shape = keeps.shape;
       told = keeps.told;

@@ -77,24 +77,34 @@ unanswered Unanswered e = refl
 unanswered Unsent e = absurd (cc)
 
 not_retried : (o : Option Reply) → o ≡ None → IsRetried (read_reply o) → ⊥
-not_retried None e h = let n = h.1 in cc
+not_retried None e h = let n = h.came in cc
 not_retried (Some r) e h = cc
 
+-- attempts are left, all but the last were to be tried again, and of the last this holds
+pub record IsLast (most : ℕ) (front : List Attempt) (P : Type 0) : Type 0 where
+  pub few : length front < most
+  pub retried : AllByRecursion IsRetried (answers front)
+  pub last : P
+
 settled_last : (most : ℕ) (s : SegmentEnd) (front : List Attempt) (a : Attempt) → s.attempts ≡ front ++ a ∷ [] → IsSettled most s
-    → (length front < most) × AllByRecursion IsRetried (answers front) × (outcome_of_last (read_reply a.reply) ≡ phase_of s.outcome)
+    → IsLast most front (outcome_of_last (read_reply a.reply) ≡ phase_of s.outcome)
 settled_last most s front a e h =
     let is : answers s.attempts ≡ answers front ++ read_reply a.reply ∷ [] = ap answers e ∙ answers_snoc front a in
     let allowed : AreAllowed most (answers front ++ read_reply a.reply ∷ []) = subst (AreAllowed most) is h.allowed in
     let long = length-snoc (answers front) (read_reply a.reply) in
     let n = length-answers front in
     let few = allowed.0 in
-    (omega arith, retried_front (answers front) (read_reply a.reply) allowed.1, sym (outcome_snoc (answers front) (read_reply a.reply)) ∙ sym (ap outcome_of is) ∙ h.outcome)
+    record {
+      few = omega arith;
+      retried = retried_front (answers front) (read_reply a.reply) allowed.1;
+      last = sym (outcome_snoc (answers front) (read_reply a.reply)) ∙ sym (ap outcome_of is) ∙ h.outcome;
+    }
 
 pub waits_by_last : (most : ℕ) (s : SegmentEnd) (a : Attempt) (r : Reply) → slice_get s.attempts (length s.attempts - 1) ≡ Some a → s.outcome ≡ Unanswered → IsSettled most s ⊎ IsWaiting most s → a.reply ≡ Some r → IsWaiting most s
 waits_by_last most s a r at is state some_r = elim state [
   | inl h ↦ (let f = some_last s.attempts a at in
       let l = settled_last most s f.0 a f.1 h in
-      let e : outcome_of_last (read_reply (Some r)) ≡ phases.Unanswered = ap (λ o. outcome_of_last (read_reply o)) (sym some_r) ∙ l.2 ∙ ap phase_of is in
+      let e : outcome_of_last (read_reply (Some r)) ≡ phases.Unanswered = ap (λ o. outcome_of_last (read_reply o)) (sym some_r) ∙ l.last ∙ ap phase_of is in
       absurd (answered_phase (is_charge r.status r.nack) e))
   | inr h ↦ h
 ]
@@ -109,9 +119,10 @@ settled_by_last most s a at state silent = elim state [
 
 -- a segment whose last attempt has no answer is settled as one that isn't answered
 pub silent_last : (most : ℕ) (s : SegmentEnd) (front : List Attempt) (a : Attempt) → s.attempts ≡ front ++ a ∷ [] → a.reply ≡ None → IsSettled most s ⊎ IsWaiting most s
-    → (length front < most) × AllByRecursion IsRetried (answers front) × (s.outcome ≡ Unanswered)
+    → IsLast most front (s.outcome ≡ Unanswered)
 silent_last most s front a e silent state = elim state [
-  | inl h ↦ (let l = settled_last most s front a e h in (l.0, l.1, unanswered s.outcome (ap (λ o. outcome_of_last (read_reply o)) (sym silent) ∙ l.2)))
+  | inl h ↦ (let l = settled_last most s front a e h in
+      record { few = l.few; retried = l.retried; last = unanswered s.outcome (ap (λ o. outcome_of_last (read_reply o)) (sym silent) ∙ l.last) })
   | inr h ↦ (let all : AllByRecursion IsRetried (answers front ++ read_reply a.reply ∷ []) = subst (AllByRecursion IsRetried) (ap answers e ∙ answers_snoc front a) h.retried in
       absurd (not_retried a.reply silent (all_front IsRetried (answers front) (read_reply a.reply) all).1))
 ]
@@ -145,7 +156,7 @@ follows_retry most front a r s few retried is e again =
     let count = ap length all in
     record {
       outcome = refl;
-      retried = subst (AllByRecursion IsRetried) (sym all) (all_snoc IsRetried (answers front) (read_reply (Some r)) retried (record { status = r.status; nack = r.nack }, refl, again));
+      retried = subst (AllByRecursion IsRetried) (sym all) (all_snoc IsRetried (answers front) (read_reply (Some r)) retried record { reply = record { status = r.status; nack = r.nack }; came = refl; retries = again });
       fewer = omega arith;
     }
 
@@ -171,7 +182,7 @@ retry_is_no_charge status false h = dite (ℕ_discrete status 0)
 retried_outcome : (y : Option core.Reply) (ys : List (Option core.Reply)) → AllByRecursion IsRetried (y ∷ ys) → outcome_of (y ∷ ys) ≡ phases.Refused
 retried_outcome y [] h =
     let r = h.0 in
-    ap outcome_of_last r.1 ∙ ap (λ b. if b then phases.Charged else phases.Refused) (retry_is_no_charge r.0.status r.0.nack r.2)
+    ap outcome_of_last r.came ∙ ap (λ b. if b then phases.Charged else phases.Refused) (retry_is_no_charge r.reply.status r.reply.nack r.retries)
 retried_outcome y (z ∷ ys) h = retried_outcome z ys h.1
 
 all_retried : (ys : List (Option core.Reply)) → AllByRecursion IsRetried ys → AreRetried ys

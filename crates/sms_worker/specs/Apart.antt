@@ -7,8 +7,10 @@ use Rattle.sms_worker.specs.declared.ends.MessageEnd.{MessageEnd}
 use Rattle.sms_worker.specs.Ends.{segment_at}
 
 -- attempt i of part p of message k
-abbrev pub IsAttempt : List MessageEnd → ℕ → ℕ → ℕ → Attempt → Type 0
-IsAttempt es k p i a = (s : SegmentEnd) × (segment_at es k p ≡ Some s) × (slice_get s.attempts i ≡ Some a)
+pub record IsAttempt (es : List MessageEnd) (k p i : ℕ) (a : Attempt) : Type 0 where
+  pub segment : SegmentEnd
+  pub there : segment_at es k p ≡ Some segment
+  pub has : slice_get segment.attempts i ≡ Some a
 
 -- no two attempts have one number
 abbrev pub NumbersApart : List MessageEnd → Type 0

@@ -64,11 +64,18 @@ pub record Parts : Type 0 where
   pub amounts : Amounts
   pub segment : SegmentEnd
 
+-- the mark has this answer, which came in the ring
+pub record HasReply (request number : ℕ) (answer : Option Reply) (mark : Mark) : Type 0 where
+  pub reply : Reply
+  pub came : answer ≡ Some reply
+  pub is_numbered : reply.number ≡ number
+  pub marked : mark ≡ Replied request number reply.status reply.nack
+
 -- the slot has this mark: where it is answered, the answer is in the ring
 abbrev pub HasMark : ℕ → Slot → Option Reply → Mark → Type 0
 HasMark request Empty answer mark = mark ≡ MarkEmpty
 HasMark request (Waiting worker number) answer mark = mark ≡ MarkOpen request number
-HasMark request (Answered worker number) answer mark = (r : Reply) × (answer ≡ Some r) × (r.number ≡ number) × (mark ≡ Replied request number r.status r.nack)
+HasMark request (Answered worker number) answer mark = HasReply request number answer mark
 
 -- The segment end has this phase as a request. One without an answer has the outcome Unanswered from when it is sent
 abbrev pub HasPhase : ℕ → SegmentEnd → Phase → Type 0

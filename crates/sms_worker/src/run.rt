@@ -43,6 +43,9 @@ impl<N: BookName, C: Call> Model for Run<N, C> {
 
     ghost view = { λ r. record { heard = received r.heard.value; ends = r.ends.items } };
 
-    ghost invariant = { λ r. Keeps C.start r.messages.items r.ends.items r.texts.items r.opened.items r.seat r.shares (received r.heard.value)
-        × (vec_len r.messages ≤ vec_capacity r.ends) × (vec_len r.messages ≤ vec_capacity r.texts) };
+    ghost invariant = { λ r. record {
+      keeps : Keeps C.start r.messages.items r.ends.items r.texts.items r.opened.items r.seat r.shares (received r.heard.value);
+      ends_fit : vec_len r.messages ≤ vec_capacity r.ends;
+      texts_fit : vec_len r.messages ≤ vec_capacity r.texts;
+    } };
 }

@@ -137,8 +137,11 @@ fn work<N: BookName, W: Write, G: Gate, K: Clock, P: Pause, R: Wait, C: Call>(
     requires seat { worker.seat ≡ C.start.seat }
     requires share { worker.shares ≡ C.start.share }
     requires received { received worker.consumer ≡ C.start.received }
-    requires empty { (lists.ends.items ≡ []) × (lists.texts.items ≡ []) × (lists.opened.items ≡ []) }
-    requires room { (vec_len messages ≤ vec_capacity lists.ends) × (vec_len messages ≤ vec_capacity lists.texts) }
+    requires no_ends { lists.ends.items ≡ [] }
+    requires no_texts { lists.texts.items ≡ [] }
+    requires none_opened { lists.opened.items ≡ [] }
+    requires ends_fit { vec_len messages ≤ vec_capacity lists.ends }
+    requires texts_fit { vec_len messages ≤ vec_capacity lists.texts }
     ensures each { AllZip (IsEndOf C.start.rules (length C.start.share.amounts)) C.start.messages result.ends.items }
     ensures told { AllTold C.start.rules (length C.start.received) (received result.consumer) C.start.messages result.ends.items }
     ensures numbers { Drew C.start.seat.view result.seat.view C.start.messages result.ends.items }

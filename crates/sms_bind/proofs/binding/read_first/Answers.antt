@@ -12,38 +12,38 @@ returns-in_default-clause-answer g c =
     let r = g.R.Read.remaining c.args.reader.now.inner in
     let t = g.R.Read.remaining c.loop-empty.reader.inner in
     let u = g.R.Read.remaining c.read.new.self.inner in
-    let i = c.loop-empty.invariant.read in
+    let i = c.loop-empty.invariant in
     let p = take c.in-Ok.n c.read.new.buf in
-    (i.0 ++ p, Consumes-trans r t u i.0 p i.1 c.in-Ok.ensures.bytes.0, tt, tt)
+    (i.got ++ p, Consumes-trans r t u i.got p i.consumed c.in-Ok.ensures.bytes.0, tt, tt)
 
 pub returns-then-not-is_empty-clause-answer : goal.returns-then-not-is_empty-clause-answer
 returns-then-not-is_empty-clause-answer g c =
     let r = g.R.Read.remaining c.args.reader.now.inner in
     let t = g.R.Read.remaining c.loop-empty.reader.inner in
     let u = g.R.Read.remaining c.read.new.self.inner in
-    let i = c.loop-empty.invariant.read in
+    let i = c.loop-empty.invariant in
     let p = take c.in-Ok.n c.read.new.buf in
     let items = c.into_vec-frames.result.items in
     let first = c.remove-first.result in
-    let d = pieces_join i.0 p [] c.in-Ok-feed.fed.frames c.loop-empty.framer c.feed.new.self i.2 (c.in-Ok-feed.ensures.divided c.loop-empty.invariant.good) in
+    let d = pieces_join i.got p [] c.in-Ok-feed.fed.frames c.loop-empty.framer c.feed.new.self i.divided (c.in-Ok-feed.ensures.divided c.loop-empty.invariant.good) in
     let low : 0 < length items = search rules in
     let cut : c.in-Ok-feed.fed.frames ≡ first ∷ c.new.result =
     sym c.into_vec-frames.ensures ∙ first_of_frames items first low c.remove-first.ensures.value ∙ ap (λ (l : List (List ℕ)). first ∷ l) (sym (c.new.ensures ∙ c.remove-first.ensures.items)) in
-    (i.0 ++ p, Consumes-trans r t u i.0 p i.1 c.in-Ok.ensures.bytes.0, subst (λ (l : List (List ℕ)). Division (i.0 ++ p) l c.feed.new.self) cut d, tt)
+    (i.got ++ p, Consumes-trans r t u i.got p i.consumed c.in-Ok.ensures.bytes.0, subst (λ (l : List (List ℕ)). Division (i.got ++ p) l c.feed.new.self) cut d, tt)
 
 pub returns-then-is_some-clause-answer : goal.returns-then-is_some-clause-answer
 returns-then-is_some-clause-answer g c =
     let r = g.R.Read.remaining c.args.reader.now.inner in
     let t = g.R.Read.remaining c.loop-empty.reader.inner in
     let u = g.R.Read.remaining c.read.new.self.inner in
-    let i = c.loop-empty.invariant.read in
+    let i = c.loop-empty.invariant in
     let p = take c.in-Ok.n c.read.new.buf in
     let items = c.into_vec-frames.result.items in
-    let d = pieces_join i.0 p [] c.in-Ok-feed.fed.frames c.loop-empty.framer c.feed.new.self i.2 (c.in-Ok-feed.ensures.divided c.loop-empty.invariant.good) in
+    let d = pieces_join i.got p [] c.in-Ok-feed.fed.frames c.loop-empty.framer c.feed.new.self i.divided (c.in-Ok-feed.ensures.divided c.loop-empty.invariant.good) in
     let zero : length items ≡ 0 = search rules in
     let none : c.in-Ok-feed.fed.frames ≡ [] = sym c.into_vec-frames.ensures ∙ nil_from_length items zero in
     let bad : IsBad c.feed.new.self = search rules in
-    (i.0 ++ p, Consumes-trans r t u i.0 p i.1 c.in-Ok.ensures.bytes.0, tt, (c.feed.new.self, subst (λ (l : List (List ℕ)). Division (i.0 ++ p) l c.feed.new.self) none d, bad))
+    (i.got ++ p, Consumes-trans r t u i.got p i.consumed c.in-Ok.ensures.bytes.0, tt, (c.feed.new.self, subst (λ (l : List (List ℕ)). Division (i.got ++ p) l c.feed.new.self) none d, bad))
 
 pub loop-empty-smaller-in-Ok : goal.loop-empty-smaller-in-Ok
 loop-empty-smaller-in-Ok g c =
@@ -64,14 +64,16 @@ loop-empty-preserved-in-Ok g c =
     let r = g.R.Read.remaining c.args.reader.now.inner in
     let t = g.R.Read.remaining c.loop-empty.reader.inner in
     let u = g.R.Read.remaining c.read.new.self.inner in
-    let i = c.loop-empty.invariant.read in
+    let i = c.loop-empty.invariant in
     let p = take c.in-Ok.n c.read.new.buf in
     let items = c.into_vec-frames.result.items in
-    let d = pieces_join i.0 p [] c.in-Ok-feed.fed.frames c.loop-empty.framer c.feed.new.self i.2 (c.in-Ok-feed.ensures.divided c.loop-empty.invariant.good) in
+    let d = pieces_join i.got p [] c.in-Ok-feed.fed.frames c.loop-empty.framer c.feed.new.self i.divided (c.in-Ok-feed.ensures.divided c.loop-empty.invariant.good) in
     let zero : length items ≡ 0 = search rules in
     let none : c.in-Ok-feed.fed.frames ≡ [] = sym c.into_vec-frames.ensures ∙ nil_from_length items zero in
     record {
-      read = (i.0 ++ p, Consumes-trans r t u i.0 p i.1 c.in-Ok.ensures.bytes.0, subst (λ (l : List (List ℕ)). Division (i.0 ++ p) l c.feed.new.self) none d);
+      got = i.got ++ p;
+      consumed = Consumes-trans r t u i.got p i.consumed c.in-Ok.ensures.bytes.0;
+      divided = subst (λ (l : List (List ℕ)). Division (i.got ++ p) l c.feed.new.self) none d;
       good = search rules;
       faults = (let h = c.loop-empty.invariant.faults in let k = c.read.ensures.grows in omega (arith, h, k));
       counted = search rules;

@@ -7,7 +7,7 @@ overflow_cast-count c =
     let before : c.args.segment.attempts ≡ c.pop.new.self.items ++ c.in-Some.last ∷ [] = search rules in
     let silent : c.in-Some.last.reply ≡ None = c.is_answered.ensures.no (search rules) in
     let l = silent_last c.args.policy.now.attempts c.args.segment c.pop.new.self.items c.in-Some.last before silent c.requires.state in
-    let few = l.0 in
+    let few = l.few in
     let long : c.len-count.result ≡ length c.pop.new.self.items = search rules in
     omega arith
 
@@ -23,8 +23,8 @@ returns-clause-answered c =
         before = before;
         number = search rules;
         silent = silent;
-        open_yet = l.2;
+        open_yet = l.last;
         after = search rules;
       };
-      state = decided_state c.args.policy.now.attempts c.args.policy.now.base_ms c.pop.new.self.items (record { number = c.in-Some.last.number; sent = c.in-Some.last.sent; reply = _ }) c.args.reply c.decide-decision.result (record { cost = c.args.segment.cost; attempts = c.new-attempts-2.result; outcome = c.args.segment.outcome }) l.0 l.1 refl (search rules) (search rules);
+      state = decided_state c.args.policy.now.attempts c.args.policy.now.base_ms c.pop.new.self.items (record { number = c.in-Some.last.number; sent = c.in-Some.last.sent; reply = _ }) c.args.reply c.decide-decision.result (record { cost = c.args.segment.cost; attempts = c.new-attempts-2.result; outcome = c.args.segment.outcome }) l.few l.retried refl (search rules) (search rules);
     }

@@ -19,7 +19,7 @@ release-requires-clause-held g c =
     let i = c.loop-last.invariant in
     let o = subst (λ (l : List ℕ). IsOpen i.some.0 l c.loop-last.seat.view.slots) (ap slots_of c.in-Some.ensures.items ∙ slots-append c.pop.new.self.items c.in-Some.last) i.some.1 in
     let t = one_last i.some.0 c.loop-last.seat.view.slots c.in-Some.last.slot (slots_of c.pop.new.self.items) o in
-    (t.0, t.1)
+    (t.within, t.held)
 
 pub loop-last-preserved : goal.loop-last-preserved
 loop-last-preserved g c =
@@ -27,7 +27,7 @@ loop-last-preserved g c =
     let after = c.release.ensures.freed.after in
     let moved = λ (base : ℕ) (o : IsOpen base (slots_of c.loop-last.opened.items) c.loop-last.seat.view.slots).
     subst (IsOpen base (slots_of c.pop.new.self.items)) (sym (ap (λ (v : View). v.slots) after))
-    (one_last base c.loop-last.seat.view.slots c.in-Some.last.slot (slots_of c.pop.new.self.items) (subst (λ (l : List ℕ). IsOpen base l c.loop-last.seat.view.slots) (ap slots_of c.in-Some.ensures.items ∙ slots-append c.pop.new.self.items c.in-Some.last) o)).2 in
+    (one_last base c.loop-last.seat.view.slots c.in-Some.last.slot (slots_of c.pop.new.self.items) (subst (λ (l : List ℕ). IsOpen base l c.loop-last.seat.view.slots) (ap slots_of c.in-Some.ensures.items ∙ slots-append c.pop.new.self.items c.in-Some.last) o)).rest in
     record {
       own = c.release.ensures.window ∙ i.own;
       some = (i.some.0, moved i.some.0 i.some.1);

@@ -11,7 +11,11 @@ use Rattle.sms_worker.proofs.work.work.Goals as goal
 pub invariant_of-run : goal.invariant_of-run
 invariant_of-run g c =
     let r = c.requires in
-    (rw c.of-heard.ensures (keeps_opening _ _ _ _ _ _ _ _ r.messages r.seat r.share r.received r.empty.0 r.empty.1 r.empty.2), r.room.0, r.room.1)
+    record {
+      keeps = rw c.of-heard.ensures (keeps_opening _ _ _ _ _ _ _ _ r.messages r.seat r.share r.received r.no_ends r.no_texts r.none_opened);
+      ends_fit = r.ends_fit;
+      texts_fit = r.texts_fit;
+    }
 
 pub returns-clause-told : goal.returns-clause-told
 returns-clause-told g c =

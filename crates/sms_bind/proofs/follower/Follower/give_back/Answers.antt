@@ -9,23 +9,24 @@ pub release-requires-clause-held : goal.release-requires-clause-held
 release-requires-clause-held c =
     let base = c.self.inside.began.value.view.slots in
     let slots = c.self.inside.seat.view.slots in
-    let o = subst (λ (l : List ℕ). IsOpen base l slots) c.in-Some.ensures.items c.self.invariant.1 in
+    let o = subst (λ (l : List ℕ). IsOpen base l slots) c.in-Some.ensures.items c.self.invariant.slots in
     let t = one_last base slots c.in-Some.slot c.pop.new.self.items o in
-    (t.0, t.1)
+    (t.within, t.held)
 
 pub invariant_of-self : goal.invariant_of-self
 invariant_of-self c =
     let base = c.self.inside.began.value.view.slots in
     let slots = c.self.inside.seat.view.slots in
     let rest = c.pop.new.self.items in
-    let o = subst (λ (l : List ℕ). IsOpen base l slots) c.in-Some.ensures.items c.self.invariant.1 in
+    let o = subst (λ (l : List ℕ). IsOpen base l slots) c.in-Some.ensures.items c.self.invariant.slots in
     let t = one_last base slots c.in-Some.slot rest o in
     let n : length c.self.inside.claimed.items ≡ length rest + 1 = ap length c.in-Some.ensures.items ∙ length_push rest c.in-Some.slot in
-    let few = c.self.invariant.2 in
-    let room = c.self.invariant.3 in
-    let same = c.in-Some.ensures.capacity in (
-      c.self.invariant.0,
-      subst (IsOpen base rest) (sym (ap (λ (v : View). v.slots) c.release.ensures.freed.after)) t.2,
-      omega (arith, few, n),
-      omega (arith, room, same),
-    )
+    let few = c.self.invariant.few in
+    let room = c.self.invariant.room in
+    let same = c.in-Some.ensures.capacity in
+    record {
+      good = c.self.invariant.good;
+      slots = subst (IsOpen base rest) (sym (ap (λ (v : View). v.slots) c.release.ensures.freed.after)) t.rest;
+      few = omega (arith, few, n);
+      room = omega (arith, room, same);
+    }

@@ -14,11 +14,12 @@ invariant_of-self c =
     let got = c.in-Got.ensures.claimed in
     let room : length claimed + 1 ≤ c.self.inside.most = search rules in
     let n : length c.push_reserved.new.self.items ≡ length claimed + 1 = ap length c.push_reserved.ensures.items ∙ length_push claimed c.in-Got.slot in
-    let most = c.self.invariant.3 in
-    let same = c.push_reserved.ensures.capacity in (
-      c.self.invariant.0,
-      subst (λ (l : List ℕ). IsOpen base l new) (sym c.push_reserved.ensures.items)
-          (one_more base old new c.in-Got.slot claimed c.self.invariant.1 got.now.0 got.claim.1.free (ap (λ (v : View). v.slots) got.after)),
-      omega (arith, n, room),
-      omega (arith, most, same),
-    )
+    let most = c.self.invariant.room in
+    let same = c.push_reserved.ensures.capacity in
+    record {
+      good = c.self.invariant.good;
+      slots = subst (λ (l : List ℕ). IsOpen base l new) (sym c.push_reserved.ensures.items)
+          (one_more base old new c.in-Got.slot claimed c.self.invariant.slots got.now.0 got.claim.1.free (ap (λ (v : View). v.slots) got.after));
+      few = omega (arith, n, room);
+      room = omega (arith, most, same);
+    }

@@ -14,12 +14,12 @@ pub compare_exchange-now-requires : goal.compare_exchange-now-requires
 compare_exchange-now-requires c =
     let l = c.load-found.ensures in
     let t = least_clear c.load-found.result c.trailing_ones-slot.result c.trailing_ones-slot.ensures c.load-found.type_inv c.if-found.false in
-    let b = or_bit c.load-found.result c.trailing_ones-slot.result t.0 c.load-found.type_inv t.1 in
+    let b = or_bit c.load-found.result c.trailing_ones-slot.result t.inside c.load-found.type_inv t.clear in
     let i = c.seat.invariant in
     let family : c.load-found.new.seat.me.0.family ≡ c.seat.inside.family = ap (λ (v : View). v.family) l.2.0.after ∙ sym i.family in (
       l.0 ∙ ap (λ (p : SeatState). p.window) c.seat.view_is ∙ c.requires.own ∙ sym c.self.view_is,
       (let w = c.self.invariant in omega arith),
-      exchange_claim_allows _ _ _ _ _ _ c.trailing_ones-slot.result t.0 c.load-found.type_inv t.1 b.0 (live c.load-found.new.seat.me.0.family c.seat.inside.name (ap (λ (w : ℕ). bit_at w c.seat.inside.name) family ∙ i.has_own)),
+      exchange_claim_allows _ _ _ _ _ _ c.trailing_ones-slot.result t.inside c.load-found.type_inv t.clear b.0 (live c.load-found.new.seat.me.0.family c.seat.inside.name (ap (λ (w : ℕ). bit_at w c.seat.inside.name) family ∙ i.has_own)),
     )
 
 pub invariant_of-seat-then-now-found : goal.invariant_of-seat-then-now-found
@@ -27,10 +27,10 @@ invariant_of-seat-then-now-found c =
     let l = c.load-found.ensures in
     let x = c.compare_exchange-now.ensures in
     let t = least_clear c.load-found.result c.trailing_ones-slot.result c.trailing_ones-slot.ensures c.load-found.type_inv c.if-found.false in
-    let b = or_bit c.load-found.result c.trailing_ones-slot.result t.0 c.load-found.type_inv t.1 in
-    let g = got c.seat.inside.seat.me.0 _ _ _ _ c.trailing_ones-slot.result _ l.2.0.after x.2.0 c.if-now-found.true t.0 t.1 t.2 b.0 in
+    let b = or_bit c.load-found.result c.trailing_ones-slot.result t.inside c.load-found.type_inv t.clear in
+    let g = got c.seat.inside.seat.me.0 _ _ _ _ c.trailing_ones-slot.result _ l.2.0.after x.2.0 c.if-now-found.true t.inside t.clear t.least b.0 in
     let i = c.seat.invariant in
-    let s = or_bit c.seat.inside.slots c.trailing_ones-slot.result t.0 (omega arith) (ap (λ (w : ℕ). bit_at w c.trailing_ones-slot.result) i.slots ∙ g.claim.1.free) in
+    let s = or_bit c.seat.inside.slots c.trailing_ones-slot.result t.inside (omega arith) (ap (λ (w : ℕ). bit_at w c.trailing_ones-slot.result) i.slots ∙ g.claim.1.free) in
     record {
       empty = x.2.1 ∙ l.2.1 ∙ i.empty;
       name = i.name ∙ sym (ap (λ (v : View). v.name) g.after);
@@ -45,6 +45,6 @@ returns-then-now-found-clause-claimed c =
     let l = c.load-found.ensures in
     let x = c.compare_exchange-now.ensures in
     let t = least_clear c.load-found.result c.trailing_ones-slot.result c.trailing_ones-slot.ensures c.load-found.type_inv c.if-found.false in
-    let b = or_bit c.load-found.result c.trailing_ones-slot.result t.0 c.load-found.type_inv t.1 in
+    let b = or_bit c.load-found.result c.trailing_ones-slot.result t.inside c.load-found.type_inv t.clear in
     subst (λ (p : SeatState). GotSlot p.view c.trailing_ones-slot.result c.compare_exchange-now.new.seat.me.0) c.seat.view_is
-    (got c.seat.inside.seat.me.0 _ _ _ _ c.trailing_ones-slot.result _ l.2.0.after x.2.0 c.if-now-found.true t.0 t.1 t.2 b.0)
+    (got c.seat.inside.seat.me.0 _ _ _ _ c.trailing_ones-slot.result _ l.2.0.after x.2.0 c.if-now-found.true t.inside t.clear t.least b.0)

@@ -15,7 +15,11 @@ invariant_of-self-then-not-is_waiting g c =
     let same = given_same c.self.inside.ends.items c.take.new.ends.items c.give.new.ends.items c.args.place.message c.args.place.part c.in-Some.segment c.in-Some.ensures.out c.give.ensures.now in
     let room = c.give.ensures.room in
     let room' = c.take.ensures.room in
-    (keeps_same _ _ _ _ _ _ _ _ _ i.0 same, (let r = i.1 in omega arith), i.2)
+    record {
+      keeps = keeps_same _ _ _ _ _ _ _ _ _ i.keeps same;
+      ends_fit = (let r = i.ends_fit in omega arith);
+      texts_fit = i.texts_fit;
+    }
 
 pub give-requires-2 : goal.give-requires-2
 give-requires-2 g c = record { there = back_there c.self.inside.ends.items c.take.new.ends.items c.args.place.message c.args.place.part c.in-Some.segment c.in-Some.ensures.out }
@@ -31,7 +35,7 @@ start-tried-requires-clause-septets g c =
     let kept : slice_get c.self.inside.texts.items k ≡ Some c.index.result.now = slice_get-get_or c.self.inside.texts.items k c.index.result.now texts_low ∙ ap Some (sym c.index.ensures) in
     let part_low : p < length c.as_slice-parts.result.now = search rules in
     let got = ap (λ l. slice_get l p) (sym c.as_slice-parts.ensures) ∙ slice_get-get_or c.as_slice-parts.result.now p c.index-parts-place.result part_low ∙ ap Some (sym c.index-parts-place.is) in
-    septets_there g.C.Call.start.rules g.C.Call.start.messages c.self.inside.texts.items k p c.index-message.result.now c.index.result.now c.index-parts-place.result i.0.parts (ap (λ l. slice_get l k) (sym i.0.messages) ∙ there) kept got
+    septets_there g.C.Call.start.rules g.C.Call.start.messages c.self.inside.texts.items k p c.index-message.result.now c.index.result.now c.index-parts-place.result i.keeps.parts (ap (λ l. slice_get l k) (sym i.keeps.messages) ∙ there) kept got
 
 pub invariant_of-self-2 : goal.invariant_of-self-2
 invariant_of-self-2 g c =
@@ -40,7 +44,7 @@ invariant_of-self-2 g c =
     let there : slice_get c.self.inside.messages.items c.args.place.message ≡ Some c.index-message.result.now = slice_get-get_or c.self.inside.messages.items c.args.place.message c.index-message.result.now low ∙ ap Some (sym c.index-message.ensures) in
     let s = c.in-Some.segment in
     let at = c.in-Some.ensures.out.0 in
-    let told = told_there _ _ _ _ _ _ _ _ _ _ c.index-message.result.now s i.0 there at in
+    let told = told_there _ _ _ _ _ _ _ _ _ _ c.index-message.result.now s i.keeps there at in
     let waits = c.is_waiting.ensures.waiting g.C.Call.start.rules.policy.attempts told.state (search rules) in
     let k = c.args.place.message in
     let p = c.args.place.part in
@@ -48,11 +52,15 @@ invariant_of-self-2 g c =
     let kept : slice_get c.self.inside.texts.items k ≡ Some c.index.result.now = slice_get-get_or c.self.inside.texts.items k c.index.result.now texts_low ∙ ap Some (sym c.index.ensures) in
     let part_low : p < length c.as_slice-parts.result.now = search rules in
     let got = ap (λ l. slice_get l p) (sym c.as_slice-parts.ensures) ∙ slice_get-get_or c.as_slice-parts.result.now p c.index-parts-place.result part_low ∙ ap Some (sym c.index-parts-place.is) in
-    let here = part_there g.C.Call.start.rules g.C.Call.start.messages c.self.inside.texts.items k p c.index-message.result.now c.index.result.now c.index-parts-place.result i.0.parts (ap (λ l. slice_get l k) (sym i.0.messages) ∙ there) kept got in
+    let here = part_there g.C.Call.start.rules g.C.Call.start.messages c.self.inside.texts.items k p c.index-message.result.now c.index.result.now c.index-parts-place.result i.keeps.parts (ap (λ l. slice_get l k) (sym i.keeps.messages) ∙ there) kept got in
     let s' : SegmentEnd = record { cost = s.cost; attempts = c.new.result; outcome = s.outcome } in
     let is = given_other c.self.inside.ends.items c.take.new.ends.items c.give-2.new.ends.items k p s s' c.in-Some.ensures.out c.give-2.ensures.now in
     let room = c.give-2.ensures.room in
     let room' = c.take.ensures.room in
     let long : length c.give-2.new.ends.items ≡ length c.self.inside.ends.items = search rules in
-    let slots = c.start-tried.ensures.open g.C.Call.start.seat.view.slots i.0.slots in
-    (keeps_tried _ c.args.desk.now.rules.now _ _ _ _ _ c.start-tried.new.opened.items _ c.start-tried.new.seat _ _ k p c.index-message.result.now c.index-parts-place.result s s' c.start-tried.result i.0 c.requires.rules there here at waits (search rules) refl refl c.start-tried.ensures.window slots is long, (let r = i.1 in omega arith), i.2)
+    let slots = c.start-tried.ensures.open g.C.Call.start.seat.view.slots i.keeps.slots in
+    record {
+      keeps = keeps_tried _ c.args.desk.now.rules.now _ _ _ _ _ c.start-tried.new.opened.items _ c.start-tried.new.seat _ _ k p c.index-message.result.now c.index-parts-place.result s s' c.start-tried.result i.keeps c.requires.rules there here at waits (search rules) refl refl c.start-tried.ensures.window slots is long;
+      ends_fit = (let r = i.ends_fit in omega arith);
+      texts_fit = i.texts_fit;
+    }

@@ -15,5 +15,9 @@ invariant_of-self g c =
     let low' : n < length c.self.inside.messages.items = search rules in
     let there = ap (slice_get c.self.inside.messages.items) (sym at) ∙ slice_get-get_or c.self.inside.messages.items n c.index-message.result.now low' ∙ ap Some (sym c.index-message.ensures) in
     let b = subst (λ (x : Rules). Begins x c.index-message.result.now c.self.inside.shares c.begun-texts.new.shares c.begun-texts.result.0 c.begun-texts.result.1) c.requires.rules c.begun-texts.ensures in
-    let done = keeps_begun _ _ _ _ _ _ _ _ _ c.index-message.result.now c.begun-texts.result.0 c.begun-texts.result.1 i.0 there low b in
-    (rw (c.push_reserved.ensures.items, c.push_reserved-2.ensures.items) done, (let r = i.1 in let e = c.push_reserved-2.ensures.capacity in omega arith), (let r = i.2 in let e = c.push_reserved.ensures.capacity in omega arith))
+    let done = keeps_begun _ _ _ _ _ _ _ _ _ c.index-message.result.now c.begun-texts.result.0 c.begun-texts.result.1 i.keeps there low b in
+    record {
+      keeps = rw (c.push_reserved.ensures.items, c.push_reserved-2.ensures.items) done;
+      ends_fit = (let r = i.ends_fit in let e = c.push_reserved-2.ensures.capacity in omega arith);
+      texts_fit = (let r = i.texts_fit in let e = c.push_reserved.ensures.capacity in omega arith);
+    }

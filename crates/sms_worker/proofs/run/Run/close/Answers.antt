@@ -11,13 +11,17 @@ release-requires-clause-held g c =
     let i = c.self.invariant in
     let low : c.args.i < length c.self.inside.opened.items = search rules in
     let at : slice_get c.self.inside.opened.items c.args.i ≡ Some c.remove-open.result = slice_get-get_or c.self.inside.opened.items c.args.i c.remove-open.result low ∙ ap Some (sym c.remove-open.ensures.value) in
-    let less = one_less_at (λ (x : Open). x.slot) _ _ c.self.inside.opened.items c.args.i c.remove-open.result i.0.slots at in
-    (less.0, less.1)
+    let less = one_less_at (λ (x : Open). x.slot) _ _ c.self.inside.opened.items c.args.i c.remove-open.result i.keeps.slots at in
+    (less.within, less.held)
 
 pub invariant_of-self : goal.invariant_of-self
 invariant_of-self g c =
     let i = c.self.invariant in
     let low : c.args.i < length c.self.inside.opened.items = search rules in
     let at : slice_get c.self.inside.opened.items c.args.i ≡ Some c.remove-open.result = slice_get-get_or c.self.inside.opened.items c.args.i c.remove-open.result low ∙ ap Some (sym c.remove-open.ensures.value) in
-    let done = keeps_closed _ _ _ _ c.self.inside.opened.items _ c.release.new.seat _ _ c.args.i c.remove-open.result i.0 at c.release.ensures.window c.release.ensures.freed in
-    (rw c.remove-open.ensures.items done, i.1, i.2)
+    let done = keeps_closed _ _ _ _ c.self.inside.opened.items _ c.release.new.seat _ _ c.args.i c.remove-open.result i.keeps at c.release.ensures.window c.release.ensures.freed in
+    record {
+      keeps = rw c.remove-open.ensures.items done;
+      ends_fit = i.ends_fit;
+      texts_fit = i.texts_fit;
+    }

@@ -19,7 +19,11 @@ invariant_of-self-then-not-is_waiting g c =
     let same = given_same c.self.inside.ends.items c.take.new.ends.items c.give.new.ends.items c.args.place.message c.args.place.part c.in-Some.segment c.in-Some.ensures.out c.give.ensures.now in
     let room = c.give.ensures.room in
     let room' = c.take.ensures.room in
-    (keeps_same _ _ _ _ _ _ _ _ _ i.0 same, (let r = i.1 in omega arith), i.2)
+    record {
+      keeps = keeps_same _ _ _ _ _ _ _ _ _ i.keeps same;
+      ends_fit = (let r = i.ends_fit in omega arith);
+      texts_fit = i.texts_fit;
+    }
 
 pub give_back-requires : goal.give_back-requires
 give_back-requires g c a acc =
@@ -28,9 +32,9 @@ give_back-requires g c a acc =
     let there : slice_get c.self.inside.messages.items c.args.place.message ≡ Some c.index-message.result.now = slice_get-get_or c.self.inside.messages.items c.args.place.message c.index-message.result.now low ∙ ap Some (sym c.index-message.ensures) in
     let s = c.in-Some.segment in
     let at = c.in-Some.ensures.out.0 in
-    let told = told_there _ _ _ _ _ _ _ _ _ _ c.index-message.result.now s i.0 there at in
+    let told = told_there _ _ _ _ _ _ _ _ _ _ c.index-message.result.now s i.keeps there at in
     let waits = c.is_waiting.ensures.waiting g.C.Call.start.rules.policy.attempts told.state (search rules) in
-    let fits = fits_there _ _ _ _ _ _ _ _ _ _ c.index-message.result.now s i.0 there at waits.outcome a acc in
+    let fits = fits_there _ _ _ _ _ _ _ _ _ _ c.index-message.result.now s i.keeps there at waits.outcome a acc in
     let cost = c.given_up-segment.ensures.cost in
     let some = fits.0 in
     let most = fits.1 in
@@ -46,14 +50,18 @@ invariant_of-self-2 g c =
     let there : slice_get c.self.inside.messages.items c.args.place.message ≡ Some c.index-message.result.now = slice_get-get_or c.self.inside.messages.items c.args.place.message c.index-message.result.now low ∙ ap Some (sym c.index-message.ensures) in
     let s = c.in-Some.segment in
     let at = c.in-Some.ensures.out.0 in
-    let told = told_there _ _ _ _ _ _ _ _ _ _ c.index-message.result.now s i.0 there at in
+    let told = told_there _ _ _ _ _ _ _ _ _ _ c.index-message.result.now s i.keeps there at in
     let waits = c.is_waiting.ensures.waiting g.C.Call.start.rules.policy.attempts told.state (search rules) in
     let is = given_other c.self.inside.ends.items c.take.new.ends.items c.give-2.new.ends.items c.args.place.message c.args.place.part s c.given_up-segment.result c.in-Some.ensures.out c.give-2.ensures.now in
     let room = c.give-2.ensures.room in
     let room' = c.take.ensures.room in
     let long : length c.give-2.new.ends.items ≡ length c.self.inside.ends.items = search rules in
     let moved = c.give_back.ensures ∙ ap (λ n. given_back_to c.index-message.result.now.account n c.self.inside.shares) c.given_up-segment.ensures.cost in
-    (keeps_given _ _ _ _ _ _ _ _ _ _ _ _ _ s c.given_up-segment.result i.0 there at waits c.given_up-segment.ensures moved is long, (let r = i.1 in omega arith), i.2)
+    record {
+      keeps = keeps_given _ _ _ _ _ _ _ _ _ _ _ _ _ s c.given_up-segment.result i.keeps there at waits c.given_up-segment.ensures moved is long;
+      ends_fit = (let r = i.ends_fit in omega arith);
+      texts_fit = i.texts_fit;
+    }
 
 pub returns-then-place-len-clause-swept : goal.returns-then-place-len-clause-swept
 returns-then-place-len-clause-swept g c =
@@ -63,8 +71,8 @@ returns-then-place-len-clause-swept g c =
     let p = c.args.place.part in
     let e = ap (λ (x : RunState). x.ends) c.self.view_is in
     let beyond : length c.self.inside.messages.items ≤ k = search rules in
-    let within = i.0.shape.within in
-    let same = ap length i.0.messages in
+    let within = i.keeps.shape.within in
+    let same = ap length i.keeps.messages in
     subst (λ es. SweptAt most k p es es) e (swept_none most k p c.self.inside.ends.items (no_segment c.self.inside.ends.items k p (omega arith)))
 
 pub returns-in_default-clause-in_place : goal.returns-in_default-clause-in_place
@@ -83,7 +91,7 @@ returns-then-not-is_waiting-clause-swept g c =
     let same = given_same c.self.inside.ends.items c.take.new.ends.items c.give.new.ends.items k p c.in-Some.segment c.in-Some.ensures.out c.give.ensures.now in
     let low : k < length c.self.inside.messages.items = search rules in
     let there : slice_get c.self.inside.messages.items k ≡ Some c.index-message.result.now = slice_get-get_or c.self.inside.messages.items k c.index-message.result.now low ∙ ap Some (sym c.index-message.ensures) in
-    let told = told_there _ _ _ _ _ _ _ _ _ _ c.index-message.result.now c.in-Some.segment i.0 there c.in-Some.ensures.out.0 in
+    let told = told_there _ _ _ _ _ _ _ _ _ _ c.index-message.result.now c.in-Some.segment i.keeps there c.in-Some.ensures.out.0 in
     let done = c.is_waiting.ensures.settled most told.state (search rules) in
     subst (SweptAt most k p c.args.self.now.ends) (sym (same ∙ e)) (subst (λ es. SweptAt most k p es es) e (swept_settled most k p c.self.inside.ends.items c.in-Some.segment c.in-Some.ensures.out.0 done))
 
@@ -104,7 +112,7 @@ returns-clause-swept g c =
     let e = ap (λ (x : RunState). x.ends) c.self.view_is in
     let low : k < length c.self.inside.messages.items = search rules in
     let there : slice_get c.self.inside.messages.items k ≡ Some c.index-message.result.now = slice_get-get_or c.self.inside.messages.items k c.index-message.result.now low ∙ ap Some (sym c.index-message.ensures) in
-    let told = told_there _ _ _ _ _ _ _ _ _ _ c.index-message.result.now s i.0 there c.in-Some.ensures.out.0 in
+    let told = told_there _ _ _ _ _ _ _ _ _ _ c.index-message.result.now s i.keeps there c.in-Some.ensures.out.0 in
     let waits = c.is_waiting.ensures.waiting most told.state (search rules) in
     let is = given_other es c.take.new.ends.items c.give-2.new.ends.items k p s c.given_up-segment.result c.in-Some.ensures.out c.give-2.ensures.now in
     subst (SweptAt most k p c.args.self.now.ends) (sym is) (subst (λ l. SweptAt most k p l (put es k p c.given_up-segment.result)) e (swept_put most k p es c.given_up-segment.result s c.in-Some.ensures.out.0 (c.given_up-segment.ensures.state most waits)))

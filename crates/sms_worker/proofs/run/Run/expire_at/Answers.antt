@@ -10,4 +10,4 @@ expire-requires g c =
     let opened = c.self.inside.opened.items in
     let low : c.args.i < length opened = search rules in
     let at : slice_get opened (c.args.i) ≡ Some c.index-open.result.now = slice_get-get_or opened (c.args.i) c.index-open.result.now low ∙ ap Some (sym c.index-open.ensures) in
-    record { slot = (one_less_at (λ (x : Open). x.slot) _ _ opened (c.args.i) c.index-open.result.now c.self.invariant.0.slots at).0 }
+    record { slot = (one_less_at (λ (x : Open). x.slot) _ _ opened (c.args.i) c.index-open.result.now c.self.invariant.keeps.slots at).within }

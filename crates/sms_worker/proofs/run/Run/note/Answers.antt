@@ -8,9 +8,13 @@ invariant_of-self g c =
     let i = c.self.invariant in
     let r = c.requires.more.0 in
     let e = c.requires.more.1 ∙ ap (λ (x : RunState). x.heard ++ r ∷ []) (sym c.self.view_is) in
-    (rw c.of.ensures (keeps_heard _ _ _ _ _ _ _ _ _ r i.0 e), i.1, i.2)
+    record {
+      keeps = rw c.of.ensures (keeps_heard _ _ _ _ _ _ _ _ _ r i.keeps e);
+      ends_fit = i.ends_fit;
+      texts_fit = i.texts_fit;
+    }
 
 pub returns-clause-since : goal.returns-clause-since
 returns-clause-since g c r is =
     let i = c.self.invariant in
-    rw c.of.ensures (heard_now _ _ _ _ _ _ _ _ _ r i.0 (is ∙ ap (λ (x : RunState). x.heard ++ r ∷ []) (sym c.self.view_is)))
+    rw c.of.ensures (heard_now _ _ _ _ _ _ _ _ _ r i.keeps (is ∙ ap (λ (x : RunState). x.heard ++ r ∷ []) (sym c.self.view_is)))

@@ -16,7 +16,7 @@ answer-segment-requires g c =
     let i = c.self.invariant in
     let low : c.args.place.message < length c.self.inside.messages.items = search rules in
     let there : slice_get c.self.inside.messages.items c.args.place.message ≡ Some c.index-message.result.now = slice_get-get_or c.self.inside.messages.items c.args.place.message c.index-message.result.now low ∙ ap Some (sym c.index-message.ensures) in
-    let told = told_there _ _ _ _ _ _ _ _ _ _ c.index-message.result.now c.in-Some.segment i.0 there c.in-Some.ensures.out.0 in
+    let told = told_there _ _ _ _ _ _ _ _ _ _ c.index-message.result.now c.in-Some.segment i.keeps there c.in-Some.ensures.out.0 in
     record { state = subst (λ (x : Rules). IsSettled x.policy.attempts c.in-Some.segment ⊎ IsWaiting x.policy.attempts c.in-Some.segment) (sym c.requires.rules) told.state }
 
 pub give-requires : goal.give-requires
@@ -28,7 +28,11 @@ invariant_of-self-in-None g c =
     let same = given_same c.self.inside.ends.items c.take.new.ends.items c.give.new.ends.items c.args.place.message c.args.place.part c.in-Some.segment c.in-Some.ensures.out (c.give.ensures.now ∙ ap (put c.take.new.ends.items c.args.place.message c.args.place.part) (let e : c.answer-segment.result.0 ≡ c.in-Some.segment = search rules in e)) in
     let room = c.give.ensures.room in
     let room' = c.take.ensures.room in
-    (keeps_same _ _ _ _ _ _ _ _ _ i.0 same, (let r = i.1 in omega arith), i.2)
+    record {
+      keeps = keeps_same _ _ _ _ _ _ _ _ _ i.keeps same;
+      ends_fit = (let r = i.ends_fit in omega arith);
+      texts_fit = i.texts_fit;
+    }
 
 pub settle-outcome-requires : goal.settle-outcome-requires
 settle-outcome-requires g c a acc =
@@ -41,7 +45,7 @@ settle-outcome-requires g c a acc =
     let d = c.in-Some-decision.decision in
     let found : Answers c.args.desk.now.rules.now.policy.attempts s c.args.reply d r = search rules in
     let answered = subst (λ (x : Rules). Answers x.policy.attempts s c.args.reply d r) c.requires.rules found in
-    let fits = fits_there _ _ _ _ _ _ _ _ _ _ c.index-message.result.now s i.0 there at answered.hears.open_yet a acc in
+    let fits = fits_there _ _ _ _ _ _ _ _ _ _ c.index-message.result.now s i.keeps there at answered.hears.open_yet a acc in
     let cost = ap (λ (x : SegmentEnd). x.cost) answered.hears.after in
     let some = fits.0 in
     let most = fits.1 in
@@ -69,4 +73,8 @@ invariant_of-self-2 g c =
     let long : length c.give-2.new.ends.items ≡ length c.self.inside.ends.items = search rules in
     let moved = c.settle-outcome.ensures.shares ∙ ap (λ n. settled_to (outcome_after d) c.index-message.result.now.account n c.self.inside.shares) (ap (λ (x : SegmentEnd). x.cost) answered.hears.after) in
     let heard = subst (λ (x : RunState). HeardSince (length g.C.Call.start.received) x.heard c.args.reply) (sym c.self.view_is) c.requires.heard in
-    (keeps_answered _ _ _ _ _ _ _ _ _ _ _ _ c.index-message.result.now s r s' c.args.reply d i.0 there at heard answered made moved is long, (let q = i.1 in omega arith), i.2)
+    record {
+      keeps = keeps_answered _ _ _ _ _ _ _ _ _ _ _ _ c.index-message.result.now s r s' c.args.reply d i.keeps there at heard answered made moved is long;
+      ends_fit = (let q = i.ends_fit in omega arith);
+      texts_fit = i.texts_fit;
+    }
