@@ -13,9 +13,9 @@ ghost use Rattle.sms_bind.specs.declared.binding.BindFault.TheVariants.{Closed, 
 
 use crate::bound::Bound;
 use crate::settings::Settings;
-use crate::tap::{Tap, gave_nothing};
+use crate::tap::Tap;
 use crate::wire::Wire;
-use sms_pdu::{Fed, Frame, Framer, Frames, Mode, encode_into};
+use sms_pdu::{Fed, Frame, Framer, Frames, Mode, encode_into, gave_nothing};
 use sms_session::{OpenFault, Opened};
 use std::alloc::{AllocError, Global};
 use std::io::{Read, Write};

@@ -14,7 +14,7 @@ use crate::desk::Desk;
 use crate::ending::Cause;
 use crate::line::Line;
 use crate::replying::refuse_length;
-use sms_pdu::{Frame, first_frame, is_bad};
+use sms_pdu::{Frame, drop_front, first_frame, is_bad};
 use sms_window::Window;
 use std::alloc::Global;
 use std::io::Write;
@@ -116,12 +116,4 @@ impl Desk {
         }
         (stream.len() - left.len(), None)
     }
-}
-
-/// Takes octets off the front.
-fn drop_front(octets: &mut Vec<u8>, used: usize)
-    requires { used ≤ length octets.old.items }
-    ensures { octets.new.items ≡ drop used octets.old.items }
-{
-    octets.drain(..used);
 }

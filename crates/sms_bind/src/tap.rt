@@ -122,11 +122,3 @@ impl<W: Write> Tap<W> {
         }
     }
 }
-
-/// Whether a read that failed so is one that gave nothing.
-pub(crate) fn gave_nothing(e: &Error) -> bool {
-    matches!(
-        e.kind(),
-        ErrorKind::WouldBlock | ErrorKind::TimedOut | ErrorKind::Interrupted
-    )
-}

@@ -1,8 +1,6 @@
 -- How serving stands between its steps.
 use Rattle.std.specs.Prelude.{◌≡◌, ℕ, List, ◌++◌, Bool, true, false, Option, Some, None}
 use Rattle.std.specs.List.{AllZip, concat}
-use Rattle.std.specs.declared.io.ErrorKind.{ErrorKind}
-use Rattle.std.specs.declared.io.ErrorKind.TheVariants as kind
 use Rattle.sms_pdu.specs.Frame.{IsBad}
 use Rattle.sms_pdu.specs.Streams.{Stretch, going, lost, early}
 use Rattle.sms_centre.specs.declared.serving.Cause.{Cause}
@@ -55,13 +53,6 @@ Awaits (Some stop.OutOfMemory) held = Unit {0}
 abbrev pub ends_early : Option Stop → Bool
 ends_early None = false
 ends_early (Some s) = is_early (cause_of s)
-
--- a read that failed so gave nothing, and is tried again
-abbrev pub gives_nothing : ErrorKind → Bool
-gives_nothing kind.WouldBlock = true
-gives_nothing kind.TimedOut = true
-gives_nothing kind.Interrupted = true
-gives_nothing _ = false
 
 -- the connection where the centre stands so
 abbrev pub talk_at : Progress → Option Stop → Talk

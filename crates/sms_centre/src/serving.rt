@@ -6,17 +6,19 @@ ghost use Rattle.sms_pdu.specs.Frame.{IsFrame, IsRest, IsBad};
 ghost use Rattle.sms_pdu.specs.Streams.{Went, Reads, Leaves, early};
 ghost use Rattle.sms_centre.specs.Says.{begun};
 ghost use Rattle.sms_centre.specs.Serving.{Serves, end_at as brought_by, hangs_up as hung_up_by};
-ghost use Rattle.sms_centre.specs.Stops.{cause_of as cause_of_stop, brought, stretch_of, gives_nothing, Awaits, Answered, Written};
-ghost use Rattle.std.specs.IoError.{error_kind};
+ghost use Rattle.sms_centre.specs.Stops.{cause_of as cause_of_stop, brought, stretch_of, Awaits, Answered, Written};
 ghost use Rattle.sms_centre.specs.declared.serving.Stop.TheVariants.{Ended};
 
 use crate::centre::Centre;
 use crate::said::Said;
 use crate::script::Script;
 use crate::treatment::Treatment;
-use sms_pdu::{Header, SUBMIT_SM, UNBIND, first_frame, frame_header, is_bad, write_octets};
+use sms_pdu::{
+    Header, SUBMIT_SM, UNBIND, drop_front, first_frame, frame_header, gave_nothing, is_bad,
+    write_octets,
+};
 use std::alloc::{AllocError, Global};
-use std::io::{Error, ErrorKind, Read, Write};
+use std::io::{Read, Write};
 
 /// Why a connection ended.
 #[derive(Clone, Copy, Debug, PartialEq, Eq)]
@@ -307,22 +309,4 @@ fn hangs_up(treatment: Treatment) -> Option<Stop>
         } => None,
         Treatment::Deliver => None,
     }
-}
-
-/// Whether a read that failed so is one that gave nothing.
-fn gave_nothing(e: &Error) -> bool
-    ensures { result ≡ gives_nothing (error_kind e.now) }
-{
-    matches!(
-        e.kind(),
-        ErrorKind::WouldBlock | ErrorKind::TimedOut | ErrorKind::Interrupted
-    )
-}
-
-/// Takes octets off the front.
-fn drop_front(octets: &mut Vec<u8>, used: usize)
-    requires { used ≤ length octets.old.items }
-    ensures { octets.new.items ≡ drop used octets.old.items }
-{
-    octets.drain(..used);
 }

@@ -11,3 +11,4 @@ pub mod Size
 pub mod Writing
 pub mod Laws
 pub mod Streams
+pub mod Turn

@@ -20,6 +20,7 @@ mod parameter;
 mod reading;
 mod reply;
 mod sizes;
+mod turn;
 mod writing;
 
 pub use body::{Body, Pdu, Sm};
@@ -42,6 +43,7 @@ pub use octets::Octets;
 pub use parameter::{Parameter, Params};
 pub use reply::{Reply, reply_of};
 pub use sizes::encoded_length;
+pub use turn::{drop_front, gave_nothing};
 pub use writing::write_octets;
 
 #[cfg(test)]
