@@ -5,6 +5,7 @@ use std::test::*;
 
 mod bodies;
 mod lengths;
+mod libsmpp34;
 mod read_refusals;
 mod streams;
 mod write_refusals;
