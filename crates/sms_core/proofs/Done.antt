@@ -60,7 +60,7 @@ pub reserve_done : (old new : State) (request account cost : ℕ) → Steps old 
 reserve_done old new request account cost s = told (all_passed (checks old (Reserve request account cost)) s.0)
   where
     told : AllPassed (checks old (Reserve request account cost)) → ReserveDone old request account cost new
-    told (account_there, unknown, good, enough, end) = record {
+    told (account_there, (unknown, (good, (enough, end)))) = record {
       account_there = leb-false (length old.topped) account account_there;
       unknown = no_request (request_of old request) unknown;
       enough = ltb-false _ cost enough;
@@ -68,7 +68,7 @@ reserve_done old new request account cost s = told (all_passed (checks old (Rese
     }
 
 pub claim_done : (old new : State) (worker slot : ℕ) → Steps old (Claim worker slot) Done new → ClaimDone old worker slot new
-claim_done old new worker slot (none, claims, after) =
+claim_done old new worker slot (none, (claims, after)) =
     let checked = all_passed (checks old (Claim worker slot)) none in
     record { inside = leb-false old.limit slot (both_false _ _ checked.0).0; claims = claims; after = after }
 
@@ -76,7 +76,7 @@ pub post_done : (old new : State) (worker slot request : ℕ) → Steps old (Pos
 post_done old new worker slot request s = told (all_passed (checks old (Post worker slot request)) s.0)
   where
     told : AllPassed (checks old (Post worker slot request)) → PostDone old worker slot request new
-    told (held, empty, ready, lawful, end) = record {
+    told (held, (empty, (ready, (lawful, end)))) = record {
       held = some_held (times_held worker slot old.holds) held;
       empty = empty_mark (mark_of old slot) empty;
       ready = is_ready old request ready;
@@ -90,10 +90,10 @@ discard_done old new request s =
     record { ready = is_ready old request checked.0; after = s.1 }
 
 pub release_done : (old new : State) (worker slot : ℕ) → Steps old (Release worker slot) Done new → ReleaseDone old worker slot new
-release_done old new worker slot (none, releases, after) = told (all_passed (checks old (Release worker slot)) none)
+release_done old new worker slot (none, (releases, after)) = told (all_passed (checks old (Release worker slot)) none)
   where
     told : AllPassed (checks old (Release worker slot)) → ReleaseDone old worker slot new
-    told (held, empty, end) = record {
+    told (held, (empty, end)) = record {
       held = some_held (times_held worker slot old.holds) held;
       empty = empty_mark (mark_of old slot) empty;
       releases = releases;

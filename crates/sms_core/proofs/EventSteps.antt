@@ -93,12 +93,12 @@ effect old (Settle worker slot) e =
     settled (all_passed (checks old (Settle worker slot)) e)
   where
     settled : AllPassed (checks old (Settle worker slot)) → (new : State) × Settles old slot (mark_of old slot) new
-    settled (held, some, replied, end) = settle_effect (mark_of old slot) old slot some replied
+    settled (held, (some, (replied, end))) = settle_effect (mark_of old slot) old slot some replied
 effect old (Expire worker slot) e =
     expired (all_passed (checks old (Expire worker slot)) e)
   where
     expired : AllPassed (checks old (Expire worker slot)) → (new : State) × Expires old slot (mark_of old slot) new
-    expired (held, waits, end) = expire_effect (mark_of old slot) old slot waits
+    expired (held, (waits, end)) = expire_effect (mark_of old slot) old slot waits
 effect old (Discard request) e = (_, refl)
 effect old (Release worker slot) e =
     let check = all_passed (checks old (Release worker slot)) e in
