@@ -204,10 +204,10 @@ put_same (e ∷ es) (suc k) p s at = ap (λ l. e ∷ l) (put_same es k p s at)
 
 -- what was taken out is given back, or another in its place
 pub back_there : (old es : List MessageEnd) (k p : ℕ) (s : SegmentEnd) → Takes old k p s es → (x : SegmentEnd) × (segment_at es k p ≡ Some x)
-back_there old es k p s (at, left, is) = (left, ap (λ l. segment_at l k p) is ∙ put_there old k p s left at)
+back_there old es k p s (at, (left, is)) = (left, ap (λ l. segment_at l k p) is ∙ put_there old k p s left at)
 
 pub given_other : (old es new : List MessageEnd) (k p : ℕ) (s s' : SegmentEnd) → Takes old k p s es → new ≡ put es k p s' → new ≡ put old k p s'
-given_other old es new k p s s' (at, left, is) e = e ∙ ap (λ l. put l k p s') is ∙ put_twice old k p left s'
+given_other old es new k p s s' (at, (left, is)) e = e ∙ ap (λ l. put l k p s') is ∙ put_twice old k p left s'
 
 pub given_same : (old es new : List MessageEnd) (k p : ℕ) (s : SegmentEnd) → Takes old k p s es → new ≡ put es k p s → new ≡ old
 given_same old es new k p s t e = given_other old es new k p s s t e ∙ put_same old k p s t.0

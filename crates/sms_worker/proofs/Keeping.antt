@@ -184,7 +184,7 @@ keeps_tried start rules ms es es' texts os os' seat seat' share heard k p m part
     unsent e = subst (IsTold start.rules (length start.received) heard m p) {x = s} {y = s'} (λ i. record { cost = sym cost i; attempts = sym e i; outcome = sym outcome i }) old
 
     told : (t : Tried) → Tries rules m part seat.view s.attempts t seat'.view s'.attempts → IsTold start.rules (length start.received) heard m p s'
-    told (Sent n) (drawn, octets, after, spells) =
+    told (Sent n) (drawn, (octets, after, spells)) =
         let a : Attempt = record { number = n; sent = octets; reply = None } in
         record {
           cost = cost ∙ old.cost;
@@ -200,7 +200,7 @@ keeps_tried start rules ms es es' texts os os' seat seat' share heard k p m part
     like e = drew_same start.seat.view seat.view start.messages es k p m s s' keeps.numbers there' at (ap (map (λ (y : Attempt). y.number)) e)
 
     numbers : (t : Tried) → Tries rules m part seat.view s.attempts t seat'.view s'.attempts → Drew start.seat.view seat'.view start.messages (put es k p s')
-    numbers (Sent n) (drawn, octets, after, spells) = drew_sent start.seat.view seat.view seat'.view start.messages es k p m s s' (record { number = n; sent = octets; reply = None }) keeps.numbers drawn there' at after
+    numbers (Sent n) (drawn, (octets, after, spells)) = drew_sent start.seat.view seat.view seat'.view start.messages es k p m s s' (record { number = n; sent = octets; reply = None }) keeps.numbers drawn there' at after
     numbers Later h = drew_unused start.seat.view seat.view seat'.view [] start.messages (put es k p s') (like h.1) h.0
     numbers Never h = elim h.0 [
       | inl no_draw ↦ drew_unused start.seat.view seat.view seat'.view [] start.messages (put es k p s') (like h.1) no_draw

@@ -32,7 +32,7 @@ replied_mark : (request : ℕ) (slot : Slot) (answer : Option Reply) (mark : Mar
     → (r : Reply) × (mark ≡ Replied request number r.status r.nack)
 replied_mark request slot answer mark worker number e m =
     let h = subst (λ (s : Slot). HasMark request s answer mark) e m in
-    (h.0, h.3)
+    (h.reply, h.marked)
 
 -- a mark that moves in a way that no reply has is that of another slot
 other_moves : (w new : State) (slot at request number status : ℕ) (nack : Bool) (change : Mark → Option Mark) → mark_of w at ≡ Replied request number status nack → change (Replied request number status nack) ≡ None → MovesMark w slot change new

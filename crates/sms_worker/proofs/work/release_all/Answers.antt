@@ -12,7 +12,7 @@ pub take-requires : goal.take-requires
 take-requires g c =
     let i = c.loop-last.invariant in
     let o = subst (λ (l : List ℕ). IsOpen i.some.0 l c.loop-last.seat.view.slots) (ap slots_of c.in-Some.ensures.items ∙ slots-append c.pop.new.self.items c.in-Some.last) i.some.1 in
-    record { slot = (one_last i.some.0 c.loop-last.seat.view.slots c.in-Some.last.slot (slots_of c.pop.new.self.items) o).0 }
+    record { slot = (one_last i.some.0 c.loop-last.seat.view.slots c.in-Some.last.slot (slots_of c.pop.new.self.items) o).within }
 
 pub release-requires-clause-held : goal.release-requires-clause-held
 release-requires-clause-held g c =
