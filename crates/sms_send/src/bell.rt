@@ -1,8 +1,10 @@
-//! How workers wait for answers: a bell that the readers of all binds ring.
+//! How workers wait for answers: a bell that the readers of all binds ring. Whoever is about to wait
+//! sends what waits to be written first.
 
 ghost use Rattle.std.specs.Io.{ReadsAtMost};
 ghost use Rattle.std.specs.Io.KnownBytes.{ReadConsumes};
 
+use crate::outbox::{Outbox, Outboxes};
 use sms_worker::Pause;
 use std::io;
 use std::io::Read;
@@ -57,10 +59,12 @@ impl Bell {
 pub struct Rest<'r, R> {
     pub rt: &'r R,
     pub bell: &'r Bell,
+    pub outboxes: &'r Outboxes,
 }
 
 impl<'r, R: Wait + Clock> Pause for Rest<'r, R> {
     fn pause(&self, ms: u32) {
+        self.outboxes.flush();
         self.bell
             .wait(self.rt, Duration::from_millis(u64::from(ms)));
     }
@@ -73,6 +77,7 @@ pub struct Ringing<'r, S, R> {
     pub inner: S,
     pub rt: &'r R,
     pub bell: &'r Bell,
+    pub outbox: &'r Outbox,
 }
 
 impl<'r, S: Read, R: Wait> Read for Ringing<'r, S, R> {
@@ -82,6 +87,7 @@ impl<'r, S: Read, R: Wait> Read for Ringing<'r, S, R> {
         ensures bound { ReadsAtMost result buf.new }
         ensures bytes { ReadConsumes (S.remaining self.old.inner) (S.remaining self.new.inner) result buf.new }
     {
+        self.outbox.flush();
         self.bell.ring(self.rt);
         self.inner.read(buf)
     }

@@ -22,6 +22,7 @@ mod letters;
 mod limits;
 mod messages;
 mod network;
+mod outbox;
 mod output;
 mod plan;
 #[cfg(test)]

@@ -2,6 +2,7 @@
 
 use crate::bell::{Bell, Ringing};
 use crate::driver::Dial;
+use crate::outbox::{Outbox, Outboxes, Posting};
 use sms_centre::{Script, serve};
 use std::alloc::Global;
 use std::net::{Ipv4Addr, Net, TcpListener, TcpStream};
@@ -16,26 +17,37 @@ const READ_MS: u64 = 100;
 /// How many turns a test centre takes.
 const CENTRE_TURNS: u64 = 1 << 40;
 
-/// Reader and writer of one connection: nothing waits for more to be written, and a read waits for
-/// 100 ms at most.
-fn ends_of<'r, R: Net<Stream = TcpStream>>(
+/// Reader and writer of one connection. What is written waits in the outbox alone, for no more than
+/// the system's own reasons after that; a read waits for 100 ms at most.
+fn ends_of<'r, R: Net<Stream = TcpStream> + Wait>(
     rt: &'r R,
+    alloc: Global,
     bell: &'r Bell,
+    outbox: &'r Outbox,
     stream: TcpStream,
-) -> Option<(Ringing<'r, TcpStream, R>, TcpStream)> {
+) -> Option<(Ringing<'r, TcpStream, R>, Posting<'r, R>)> {
     stream.set_nodelay(true).ok()?;
     stream
         .set_read_timeout(Some(Duration::from_millis(READ_MS)))
         .ok()?;
     let inner = stream.try_clone().ok()?;
-    Some((Ringing { inner, rt, bell }, stream))
+    outbox.open(rt, alloc, stream)?;
+    let reader = Ringing {
+        inner,
+        rt,
+        bell,
+        outbox,
+    };
+    Some((reader, Posting { rt, outbox }))
 }
 
 /// Connects to a message centre.
 #[derive(Drop)]
 pub struct TcpDial<'r, R> {
     pub rt: &'r R,
+    pub alloc: Global,
     pub bell: &'r Bell,
+    pub outboxes: &'r Outboxes,
     pub host: &'r str,
     pub port: u16,
 }
@@ -43,11 +55,12 @@ pub struct TcpDial<'r, R> {
 impl<'r, R: Net<Stream = TcpStream> + Wait + Sync> Dial for TcpDial<'r, R> {
     type Reader = Ringing<'r, TcpStream, R>;
 
-    type Writer = TcpStream;
+    type Writer = Posting<'r, R>;
 
-    fn dial(&self, _bind: u32) -> Option<(Ringing<'r, TcpStream, R>, TcpStream)> {
+    fn dial(&self, bind: u32) -> Option<(Ringing<'r, TcpStream, R>, Posting<'r, R>)> {
+        let outbox = self.outboxes.get(bind)?;
         let stream = TcpStream::connect(self.rt, (self.host, self.port)).ok()?;
-        ends_of(self.rt, self.bell, stream)
+        ends_of(self.rt, self.alloc, self.bell, outbox, stream)
     }
 }
 
@@ -57,6 +70,7 @@ pub struct LoopDial<'r, R> {
     pub rt: &'r R,
     pub alloc: Global,
     pub bell: &'r Bell,
+    pub outboxes: &'r Outboxes,
     pub listener: TcpListener,
     /// What the centres' script says.
     pub bind_status: u32,
@@ -67,15 +81,16 @@ impl<'r, R: Net<Stream = TcpStream, Listener = TcpListener> + Threads + Wait + S
     for LoopDial<'r, R> {
     type Reader = Ringing<'r, TcpStream, R>;
 
-    type Writer = TcpStream;
+    type Writer = Posting<'r, R>;
 
-    fn dial(&self, _bind: u32) -> Option<(Ringing<'r, TcpStream, R>, TcpStream)> {
+    fn dial(&self, bind: u32) -> Option<(Ringing<'r, TcpStream, R>, Posting<'r, R>)> {
+        let outbox = self.outboxes.get(bind)?;
         let address = self.listener.local_addr().ok()?;
         let near = TcpStream::connect(self.rt, address).ok()?;
         let (far, _from) = self.listener.accept().ok()?;
         let script = Script::of(self.alloc, self.bind_status, self.answers).ok()?;
         start_centre(self.rt, self.alloc, far, script)?;
-        ends_of(self.rt, self.bell, near)
+        ends_of(self.rt, self.alloc, self.bell, outbox, near)
     }
 }
 

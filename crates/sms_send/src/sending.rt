@@ -11,6 +11,7 @@ use crate::driver::Dial;
 use crate::fault::Fault;
 use crate::input::read_input;
 use crate::network::{LoopDial, TcpDial, listen};
+use crate::outbox::Outboxes;
 use crate::sender::{send_all, write_report};
 use crate::setup::{Setup, setup_of};
 use sms_worker::{Clock, Gate, Pause};
@@ -82,15 +83,23 @@ pub fn send_job<
     let config = octets_of(rt, config)?;
     let setup = setup_of(rt.alloc(), config.as_slice())?;
     let bell = Bell::new();
+    let outboxes = Outboxes::new();
+    let pause = Rest {
+        rt,
+        bell: &bell,
+        outboxes: &outboxes,
+    };
     match centre {
         Centre::Named => {
             let dial = TcpDial {
                 rt,
+                alloc: rt.alloc(),
                 bell: &bell,
+                outboxes: &outboxes,
                 host: setup.host.as_str(),
                 port: setup.port as u16,
             };
-            send_files(rt, config.as_slice(), &setup, &dial, &bell, output)
+            send_files(rt, config.as_slice(), &setup, &dial, &pause, output)
         }
         Centre::Own => {
             let Some(listener) = listen(rt) else {
@@ -100,24 +109,23 @@ pub fn send_job<
                 rt,
                 alloc: rt.alloc(),
                 bell: &bell,
+                outboxes: &outboxes,
                 listener,
                 bind_status: setup.bind_status,
                 answers: setup.answers.as_slice(),
             };
-            send_files(rt, config.as_slice(), &setup, &dial, &bell, output)
+            send_files(rt, config.as_slice(), &setup, &dial, &pause, output)
         }
     }
 }
 
 /// Opens the files that the config names, and sends over the connections that the dial makes.
-fn send_files<R: AllocGlobal + Files + Threads + Wait + time::Clock + Sync, D: Dial, W: Write>(
-    rt: &R,
-    config: &[u8],
-    setup: &Setup,
-    dial: &D,
-    bell: &Bell,
-    output: &mut W,
-) -> Result<u8, Fault>
+fn send_files<
+    R: AllocGlobal + Files + Threads + Wait + time::Clock + Sync,
+    D: Dial,
+    P: Pause + Sync,
+    W: Write,
+>(rt: &R, config: &[u8], setup: &Setup, dial: &D, pause: &P, output: &mut W) -> Result<u8, Fault>
     ensures status { IfOk result IsStatus }
     ensures unwritten { IfErr result (λ fault. fault ≢ Output → output.new ≡ output.old) }
 {
@@ -134,7 +142,7 @@ fn send_files<R: AllocGlobal + Files + Threads + Wait + time::Clock + Sync, D: D
         dial,
         &OpenGate,
         &Ticks::new(rt),
-        &Rest { rt, bell },
+        pause,
         output,
     )
 }
