@@ -1,7 +1,8 @@
 -- Lemmas on the bind's octets and its answer.
-use Rattle.std.proofs.Common.{◌≡◌, ℕ, ◌+◌, ◌-◌, ◌<◌, List, [], ◌++◌, ◌∷◌, length, length-append, get_or, Bool, true, false, if◌then◌else◌, Option, Result, Ok, Err, inl, inr, sym, ap, ◌∙◌, arith}
+use Rattle.std.proofs.Common.{◌≡◌, ℕ, ◌+◌, ◌-◌, ◌<◌, ◌≤◌, List, [], ◌++◌, ◌∷◌, length, length-append, get_or, Bool, true, false, if◌then◌else◌, Option, Result, Ok, Err, inl, inr, sym, ap, ◌∙◌, arith}
 use Rattle.std.specs.List.{remove}
-use Rattle.std.proofs.KnownBytes.{Appends-nil}
+use Rattle.std.specs.Io.KnownBytes.{Consumes}
+use Rattle.std.proofs.KnownBytes.{Appends-nil, Consumes-trans}
 use Rattle.sms_pdu.specs.declared.body.Pdu.{Pdu}
 use Rattle.sms_pdu.specs.declared.command.Mode.{Mode}
 use Rattle.sms_pdu.specs.Grammar.{Spells, IsLawful, spelling_of}
@@ -14,9 +15,12 @@ use Rattle.sms_bind.specs.declared.binding.BindFault.{BindFault}
 use Rattle.sms_bind.specs.declared.binding.BindFault.TheVariants as fault
 use Rattle.sms_session.specs.declared.session.OpenFault.{OpenFault}
 use Rattle.sms_session.specs.declared.session.OpenFault.TheVariants.{Refused, NotBind}
-use Rattle.sms_pdu.specs.Frame.{Division}
+use Rattle.sms_pdu.specs.Frame.{Division, IsBad}
 use Rattle.sms_pdu.specs.Header.{header_at_front}
 use Rattle.sms_pdu.specs.Streams.{SomeAppended}
+use Rattle.sms_pdu.specs.Turn.{GaveAtMost, IsSpent}
+use Rattle.sms_pdu.proofs.Streams.{short_rest}
+use Rattle.sms_pdu.proofs.Turns.{gave, not_spent}
 use Rattle.sms_bind.specs.Answers.{FoundNone, Refuses, fault_of}
 use Rattle.sms_bind.specs.Binds.{Setting, bind_pdu}
 
@@ -25,7 +29,10 @@ pub bind_lawful : (s : Setting) (n : ℕ) → size_of (bind_pdu s 0) ≡ Ok n �
 bind_lawful s n e = (spelling_of n (bind_pdu s 0), encoded (bind_pdu s 0) n e tt (omega arith) (omega arith))
 
 pub same_text : (p : Pdu) (a b : List ℕ) → Spells p a → Spells p b → a ≡ b
-same_text p a b s t = let o = one_spelling p (a, s) in o.2 a s ∙ sym (o.2 b t)
+same_text p a b s t = same (one_spelling p (a, s))
+  where
+    same : (octets : List ℕ) × Spells p octets × ((others : List ℕ) → Spells p others → others ≡ octets) → a ≡ b
+    same (octets, spells, only) = only a s ∙ sym (only b t)
 
 pub none_appended : (a : Option (List ℕ)) (octets : List ℕ) → SomeAppended a a octets
 none_appended a octets = (0, omega arith, Appends-nil a)
@@ -66,3 +73,14 @@ first_refuses mode o got first others rest NotBind d e = inl (first, others, res
 pub first_of_frames : (fs : List (List ℕ)) (f : List ℕ) → 0 < length fs → f ≡ get_or fs 0 f → fs ≡ f ∷ remove fs 0
 first_of_frames [] f low is = absurd (omega arith)
 first_of_frames (x ∷ fs) f low is = ap (λ (y : List ℕ). y ∷ fs) (sym is)
+
+-- what was read for an answer that isn't whole yet, and one read more
+pub gave_answer : (got piece framer : List ℕ) (r t u : Option (List ℕ)) → Division got [] framer → ¬ IsBad framer → length piece ≤ 4096 → Consumes r t got → Consumes t u piece → GaveAtMost 74096 r u
+gave_answer got piece framer r t u d good few before last =
+    let whole : length got ≡ length framer = ap length d.whole in
+    let short = short_rest framer d.ended good in
+    gave 74096 r u (got ++ piece) (omega (arith, length-append got piece, few, whole, short)) (Consumes-trans r t u got piece before last)
+
+-- who read something at last had something left at first
+pub not_spent_before : (got piece : List ℕ) (r t u : Option (List ℕ)) → 0 < length piece → Consumes r t got → Consumes t u piece → ¬ IsSpent r
+not_spent_before got piece r t u some before last = not_spent r u (got ++ piece) (omega (arith, length-append got piece, some)) (Consumes-trans r t u got piece before last)

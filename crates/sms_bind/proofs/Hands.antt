@@ -1,5 +1,5 @@
 -- What was worked of a stream, as the reader promises it.
-use Rattle.std.proofs.Common.{◌≡◌, ◌≢◌, ℕ, List, [], ◌++◌, inr, map, Option, Some, refl, sym, ap, ◌∙◌, subst, arith}
+use Rattle.std.proofs.Common.{◌≡◌, ◌≢◌, ◌↔◌, ℕ, List, [], ◌++◌, inr, map, Option, Some, refl, sym, ap, ◌∙◌, subst, arith}
 use Rattle.std.proofs.KnownBytes.{Consumes-nil}
 use Rattle.rtrb.specs.Ring.{sent}
 use Rattle.sms_pdu.specs.declared.reply.Reply.{Reply}
@@ -14,7 +14,7 @@ use Rattle.sms_bind.specs.declared.desk.Desk.{Desk}
 use Rattle.sms_bind.specs.declared.deed.Deed.{Deed}
 use Rattle.sms_bind.specs.declared.counts.Counts.{Counts}
 use Rattle.sms_bind.specs.declared.ending.Cause.{Cause}
-use Rattle.sms_bind.specs.declared.ending.Cause.TheVariants.{Lost, OutOfMemory}
+use Rattle.sms_bind.specs.declared.ending.Cause.TheVariants as cause
 use Rattle.sms_bind.specs.declared.ending.ReaderEnd.{ReaderEnd}
 use Rattle.sms_bind.specs.Held.{Held}
 use Rattle.sms_bind.specs.Deeds.{Reaches, stretch_of, broken_at, no_counts, tallies}
@@ -25,9 +25,20 @@ use Rattle.sms_bind.proofs.Logs.{log_answers, tallies_add}
 -- all whole frames were worked, unless the reading ended early
 rest_left : (s : Stretch) (left held : List ℕ) → s ≢ early → Leaves s left held → IsRest left
 rest_left going left held late h = h.0
-rest_left complete left held late h = h
+rest_left complete left held late h = h.0
 rest_left lost left held late h = inr (inr h)
 rest_left early left held late h = absurd (late refl)
+
+-- and a bad length is left exactly where the reader is lost
+lost_where : (end : Cause) (left held : List ℕ) → stretch_of (Some end) ≢ early → Leaves (stretch_of (Some end)) left held → (end ≡ cause.Lost) ↔ IsBad left
+lost_where cause.Ended left held late h = (λ e. absurd cc, λ bad. absurd (h.1 bad))
+lost_where cause.Unbound left held late h = absurd (late refl)
+lost_where cause.Lost left held late h = (λ e. h, λ bad. refl)
+lost_where cause.ReadFault left held late h = (λ e. absurd cc, λ bad. absurd (h.1 bad))
+lost_where cause.WriteFault left held late h = absurd (late refl)
+lost_where cause.Stopped left held late h = (λ e. absurd cc, λ bad. absurd (h.1 bad))
+lost_where cause.Turns left held late h = (λ e. absurd cc, λ bad. absurd (h.1 bad))
+lost_where cause.OutOfMemory left held late h = absurd (late refl)
 
 -- the counts that began at nothing
 tells : (ds : List Deed) (c : Counts) (end : ReaderEnd) → c ≡ tallies no_counts ds
@@ -57,12 +68,13 @@ tells ds c end is e1 e2 e3 e4 e5 e6 e7 =
 abbrev pub end_of : Desk → Cause → ReaderEnd
 end_of d cause = record { answered = d.counts.answered; unknown = d.counts.unknown; overrun = d.counts.overrun; delivered = d.counts.delivered; noted = d.counts.noted; nacked = d.counts.nacked; unreplied = d.counts.unreplied; cause = cause; producers = d.producers; seat = d.follower.now }
 
-pub hands_on : (s : State) (a b : Desk) (begun kept : List ℕ) (r t : Option (List ℕ)) (cause : Cause) → IsBound s → a.counts ≡ no_counts
-    → Reads (Worked s (Some cause) a b) begun r t (stretch_of (Some cause)) kept
-    → HandsOn s begun r t (map sent a.producers.items) (map sent b.producers.items) a.follower (end_of b cause)
-hands_on s a b begun kept r t cause up none p =
+pub hands_on : (s : State) (a b : Desk) (begun kept : List ℕ) (r t : Option (List ℕ)) (end : Cause) → IsBound s → a.counts ≡ no_counts
+    → Reads (Worked s (Some end) a b) begun r t (stretch_of (Some end)) kept
+    → HandsOn s begun r t (map sent a.producers.items) (map sent b.producers.items) a.follower (end_of b end)
+hands_on s a b begun kept r t end up none p =
     let w = p.went in
     let d = each_divided p.left in
+    let left = λ (late : stretch_of (Some end) ≢ early). rest_divided p.left d.frames d.rest (rest_left (stretch_of (Some end)) p.left kept late p.leaves) d.divided in
     let ds = w.done.deeds in
     let same = log_answers s w.frames ds up w.each w.done.each in
     record {
@@ -72,8 +84,8 @@ hands_on s a b begun kept r t cause up none p =
       others = d.frames;
       rest = d.rest;
       divided = division_after (begun ++ p.got) p.left w.frames d.frames d.rest w.whole w.each d.divided;
-      whole = λ late. (rest_divided p.left d.frames d.rest (rest_left (stretch_of (Some cause)) p.left kept late p.leaves) d.divided).0;
-      lost = λ e. bad p.left d.frames d.rest (subst (λ x. Leaves (stretch_of (Some x)) p.left kept) e p.leaves) d.divided;
+      whole = λ late. (left late).0;
+      lost = λ late. subst (λ l. (end ≡ cause.Lost) ↔ IsBad l) (sym (left late).1) (lost_where end p.left kept late p.leaves);
       deeds = ds;
       each = w.done.each;
       reaches = w.done.reaches;
@@ -81,17 +93,14 @@ hands_on s a b begun kept r t cause up none p =
       are = same;
       prefix = (answers d.frames, ap (λ l. l ++ answers d.frames) same ∙ sym (answers_join w.frames d.frames));
       hands = w.done.sends;
-      counts = tells ds b.counts (end_of b cause) (w.done.counts ∙ ap (λ (k : Counts). tallies k ds) none) refl refl refl refl refl refl refl;
+      counts = tells ds b.counts (end_of b end) (w.done.counts ∙ ap (λ (k : Counts). tallies k ds) none) refl refl refl refl refl refl refl;
       last = b.follower;
       follows = w.done.follows;
       seat = refl;
     }
-  where
-    bad : (left : List ℕ) (gs : List (List ℕ)) (rest : List ℕ) → IsBad left → Division left gs rest → IsBad rest
-    bad left gs rest h d = subst IsBad (sym (rest_divided left gs rest (inr (inr h)) d).1) h
 
 -- nothing was read and nothing worked
-pub hands_none : (s : State) (begun : List ℕ) (r : Option (List ℕ)) (rings : List (List Reply)) (held : Held) (end : ReaderEnd) → end.cause ≡ OutOfMemory
+pub hands_none : (s : State) (begun : List ℕ) (r : Option (List ℕ)) (rings : List (List Reply)) (held : Held) (end : ReaderEnd) → end.cause ≡ cause.OutOfMemory
     → end.answered ≡ 0 → end.unknown ≡ 0 → end.overrun ≡ 0 → end.delivered ≡ 0 → end.noted ≡ 0 → end.nacked ≡ 0 → end.unreplied ≡ 0 → end.seat ≡ held.now
     → HandsOn s begun r r rings rings held end
 hands_none s begun r rings held end is e1 e2 e3 e4 e5 e6 e7 seat =
@@ -104,7 +113,7 @@ hands_none s begun r rings held end is e1 e2 e3 e4 e5 e6 e7 seat =
       rest = d.rest;
       divided = d.divided;
       whole = λ late. absurd (late (ap (λ x. stretch_of (Some x)) is));
-      lost = λ e. absurd (no_lost (sym is ∙ e));
+      lost = λ late. absurd (late (ap (λ x. stretch_of (Some x)) is));
       deeds = [];
       each = tt;
       reaches = subst (λ x. Reaches (Some x) s s) (sym is) refl;
@@ -117,6 +126,3 @@ hands_none s begun r rings held end is e1 e2 e3 e4 e5 e6 e7 seat =
       follows = refl;
       seat = seat;
     }
-  where
-    no_lost : OutOfMemory ≡ Lost → ⊥
-    no_lost e = absurd cc

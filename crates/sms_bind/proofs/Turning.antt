@@ -1,16 +1,12 @@
 -- Turns, one after another.
-use Rattle.std.proofs.Common.{◌≡◌, ℕ, ◌+◌, ◌*◌, ◌<◌, ◌≤◌, List, inl, inr, length, length-append, Option, Some, None, sym, ap, ◌∙◌, subst, arith}
+use Rattle.std.proofs.Common.{◌≡◌, ℕ, ◌+◌, ◌-◌, ◌*◌, ◌<◌, ◌≤◌, List, inl, inr, length, length-append, Option, Some, None, sym, ap, ◌∙◌, subst, arith}
 use Rattle.std.specs.Io.KnownBytes.{Consumes, Keeps}
 use Rattle.sms_pdu.specs.Streams.{complete, early}
+use Rattle.sms_pdu.proofs.Turns.{gave_none, gave, gave_kept, gave_more, gave_fits}
 use Rattle.sms_bind.specs.declared.ending.Cause.{Cause}
-use Rattle.sms_bind.specs.declared.ending.Cause.TheVariants.{Turns}
 use Rattle.sms_bind.specs.Deeds.{stretch_of}
 use Rattle.sms_bind.specs.Faults.{IsCounted}
-use Rattle.sms_bind.specs.Turns.{GaveAtMost, Passed, Turned}
-
-gave_none : (n : ℕ) (r : Option (List ℕ)) → GaveAtMost n r r
-gave_none n None = tt
-gave_none n (Some xs) = omega arith
+use Rattle.sms_bind.specs.Turns.{Passed, Turned, Stops}
 
 -- no turn
 pub turned_none : (turns a : ℕ) (all : Type 0) (r : Option (List ℕ)) → ¬ all → Turned turns all r r a a
@@ -22,11 +18,6 @@ turned_begins a r = record { most = gave_none 0 r; passed = λ h. passed r }
     passed : (t : Option (List ℕ)) → Passed 0 t t a a
     passed None = tt
     passed (Some xs) = inl (omega arith)
-
-gave : (n : ℕ) (r t : Option (List ℕ)) (piece : List ℕ) → length piece ≤ n → Consumes r t piece → GaveAtMost n r t
-gave n None t piece few c = tt
-gave n (Some xs) None piece few c = absurd c
-gave n (Some xs) (Some ys) piece few c = let l = ap length c ∙ length-append piece ys in omega (arith, l)
 
 -- a turn that read something
 pub turned_read : (all : Type 0) (r t : Option (List ℕ)) (piece : List ℕ) (b c : ℕ) → length piece ≤ 65536 → 0 < length piece → b ≡ c → Consumes r t piece → Turned 1 all r t b c
@@ -43,29 +34,13 @@ turned_ends all r t piece b c few none given = record { most = gave 65536 r t pi
 
 -- a turn whose device answered an error
 pub turned_fault : (all : Type 0) (r t : Option (List ℕ)) (b c : ℕ) → IsCounted b c → b ≤ c → Keeps r t → Turned 1 all r t b c
-turned_fault all r t b c counted up kept = record { most = same r t kept; passed = λ h. passed r t kept counted }
+turned_fault all r t b c counted up kept = record { most = gave_kept 65536 r t kept; passed = λ h. passed r t kept counted }
   where
-    same : (u v : Option (List ℕ)) → Keeps u v → GaveAtMost 65536 u v
-    same None v k = tt
-    same (Some xs) None k = absurd k
-    same (Some xs) (Some ys) k = let l = ap length k in omega (arith, l)
-
     passed : (u v : Option (List ℕ)) → Keeps u v → IsCounted b c → Passed 1 u v b c
     passed None v k h = tt
     passed (Some xs) None k h = absurd k
     passed (Some xs) (Some ys) k (inl more) = let l = ap length k in inl (omega (arith, l))
     passed (Some xs) (Some ys) k (inr top) = inr (omega arith)
-
-gave_more : (n k : ℕ) (r t u : Option (List ℕ)) → GaveAtMost n r t → GaveAtMost k t u → GaveAtMost (n + k) r u
-gave_more n k None t u p q = tt
-gave_more n k (Some xs) None u p q = absurd p
-gave_more n k (Some xs) (Some ys) None p q = absurd q
-gave_more n k (Some xs) (Some ys) (Some zs) p q = omega arith
-
-gave_fits : (n k : ℕ) (r t : Option (List ℕ)) → n ≤ k → GaveAtMost n r t → GaveAtMost k r t
-gave_fits n k None t le p = tt
-gave_fits n k (Some xs) None le p = absurd p
-gave_fits n k (Some xs) (Some ys) le p = omega arith
 
 passed_more : (n a b c : ℕ) (r t u : Option (List ℕ)) → b ≤ c → Passed n r t a b → Passed 1 t u b c → Passed (n + 1) r u a c
 passed_more n a b c None t u up p q = tt
@@ -93,9 +68,13 @@ turned_stops n turns a b all r t low none p = record { most = gave_fits (65536 *
 pub turned_all : (n turns a b : ℕ) (all : Type 0) (r t : Option (List ℕ)) → n ≡ turns → Turned n (Unit {0}) r t a b → Turned turns all r t a b
 turned_all n turns a b all r t e p = subst (λ k. Turned k all r t a b) e (record { most = p.most; passed = λ h. p.passed tt })
 
--- who ended early has not used up the turns
-pub not_early : (end : Cause) → stretch_of (Some end) ≡ early → ¬ (end ≡ Turns)
-not_early end is e = complete_not_early (sym (ap (λ x. stretch_of (Some x)) e) ∙ is)
+-- and that was before a turn
+pub stops_before : (n turns a b : ℕ) (r t : Option (List ℕ)) → n < turns → Turned n (Unit {0}) r t a b → Stops turns r t
+stops_before n turns a b r t low p = record { some = omega arith; most = gave_fits (65536 * n) (65536 * (turns - 1)) r t (omega arith) p.most }
+
+-- who ended early has not used up the turns, nor was stopped
+pub not_early : (end other : Cause) → stretch_of (Some end) ≡ early → stretch_of (Some other) ≡ complete → ¬ (end ≡ other)
+not_early end other is late e = complete_not_early (sym late ∙ sym (ap (λ x. stretch_of (Some x)) e) ∙ is)
   where
     complete_not_early : complete ≡ early → ⊥
     complete_not_early k = absurd cc

@@ -1,17 +1,19 @@
 -- Frames that were worked one after another.
-use Rattle.std.proofs.Common.{◌≡◌, ℕ, ◌+◌, ◌<◌, ◌≤◌, List, [], ◌∷◌, ◌++◌, inl, inr, get_or, length, map, drop, Option, Some, None, refl, sym, ap, ◌∙◌, subst, arith, append-nil}
+use Rattle.std.proofs.Common.{◌≡◌, ◌≢◌, ◌⊎◌, ℕ, ◌+◌, ◌<◌, ◌≤◌, List, [], ◌∷◌, ◌++◌, inl, inr, get_or, length, map, drop, Option, Some, None, refl, sym, ap, ◌∙◌, subst, arith, append-nil}
 use Rattle.std.specs.List.{concat}
 use Rattle.std.proofs.lemmas.Bool.{cases_lt}
 use Rattle.std.proofs.lemmas.List.{drop_more}
 use Rattle.rtrb.specs.Ring.{sent, SameProducer}
+use Rattle.rtrb.specs.declared.producer.Producer.{Producer}
 use Rattle.sms_session.specs.declared.session.State.{State}
 use Rattle.sms_slot.specs.Rings.{handed}
 use Rattle.sms_slot.proofs.Rings.{AllZip-trans, same_rings, handed-append}
 use Rattle.sms_bind.specs.declared.desk.Desk.{Desk}
+use Rattle.std.specs.Io.KnownBytes.{Keeps}
 use Rattle.std.proofs.KnownBytes.{Consumes-nil}
-use Rattle.sms_pdu.specs.Frame.{IsRest}
-use Rattle.sms_pdu.specs.Streams.{Stretch, Went, Leaves, Reads, going, early}
-use Rattle.sms_pdu.proofs.Streams.{went_none, went_more}
+use Rattle.sms_pdu.specs.Frame.{IsRest, IsBad}
+use Rattle.sms_pdu.specs.Streams.{Stretch, Went, Leaves, Reads, going, complete, early}
+use Rattle.sms_pdu.proofs.Streams.{went_none, went_more, reads_none, consumes_nothing}
 use Rattle.sms_bind.specs.declared.ending.Cause.{Cause}
 use Rattle.sms_bind.specs.declared.ending.Cause.TheVariants as cause
 use Rattle.sms_bind.specs.Deeds.{Suits, Reaches, state_after, stretch_of, broken_at, log, tallies, of_response, is_broken}
@@ -28,6 +30,10 @@ worked_none s a = record { deeds = []; each = tt; reaches = refl; breaks = refl;
 pub worked_nothing : (s : State) (end : Option Cause) (a : Desk) → Reaches end s s → broken_at end ≡ 0 → Worked s end a a []
 worked_nothing s end a reaches quiet = record { deeds = []; each = tt; reaches = reaches; breaks = sym quiet; rings = same_rings a.producers.items; sends = refl; counts = refl; follows = refl }
 
+-- a ring that stayed the same twice
+same_on : {T A P : Type 0} (x y z : Producer T A P) → SameProducer x y → SameProducer y z → SameProducer x z
+same_on x y z ((a, b, c, d), e) ((f, g, h, i), j) = ((f ∙ a, g ∙ b, h ∙ c, i ∙ d), j ∙ e)
+
 pub worked_more : (s : State) (end : Option Cause) (a b c : Desk) (fs gs : List (List ℕ)) → Worked s None a b fs → Worked s end b c gs → Worked s end a c (fs ++ gs)
 worked_more s end a b c fs gs p q =
     let same : state_after s (fs ++ gs) ≡ state_after s gs = state-append s fs gs ∙ ap (λ (t : State). state_after t gs) p.reaches in
@@ -37,7 +43,7 @@ worked_more s end a b c fs gs p q =
       each = AllZip-append (Suits s) fs gs p.deeds q.deeds p.each q.each;
       reaches = subst (Reaches end s) (sym same) q.reaches;
       breaks = omega (arith, breaks, p.breaks, q.breaks);
-      rings = AllZip-trans SameProducer (λ x y z u v. ((v.0.0 ∙ u.0.0, v.0.1 ∙ u.0.1, v.0.2 ∙ u.0.2, v.0.3 ∙ u.0.3), v.1 ∙ u.1)) a.producers.items b.producers.items c.producers.items p.rings q.rings;
+      rings = AllZip-trans SameProducer same_on a.producers.items b.producers.items c.producers.items p.rings q.rings;
       sends = q.sends ∙ ap (λ ls. handed ls (log q.deeds)) p.sends ∙ sym (handed-append (map sent a.producers.items) (log p.deeds) (log q.deeds)) ∙ ap (handed (map sent a.producers.items)) (sym (log-append p.deeds q.deeds));
       counts = q.counts ∙ ap (λ k. tallies k q.deeds) p.counts ∙ sym (tallies-append a.counts p.deeds q.deeds);
       follows = follow-append p.deeds q.deeds a.follower b.follower c.follower p.follows q.follows;
@@ -114,3 +120,18 @@ reads_begun P begun left more r w none rest =
       went = subst (λ l. Went P l more) (sym (append-nil (begun ++ more))) (subst (λ l. Went P (begun ++ more) (l ++ more)) none (went_beside P begun left more w));
       leaves = (rest, refl);
     }
+
+-- ---- a read that failed
+
+-- it changes nothing, and the reader goes on or not
+pub reads_failed : (s : State) (a : Desk) (end : Option Cause) (held : List ℕ) (r t : Option (List ℕ)) → (end ≡ None) ⊎ (end ≡ Some cause.ReadFault) → Keeps r t → IsRest held → ¬ IsBad held
+    → Reads (Worked s end a a) held r t (stretch_of end) held
+reads_failed s a end held r t (inl e) kept rest good =
+    subst (λ (x : Option Cause). Reads (Worked s x a a) held r t (stretch_of x) held) (sym e) (reads_none (Worked s None a a) held held r t going (worked_none s a) (consumes_nothing r t kept) (rest, refl))
+reads_failed s a end held r t (inr e) kept rest good =
+    subst (λ (x : Option Cause). Reads (Worked s x a a) held r t (stretch_of x) held) (sym e)
+    (reads_none (Worked s (Some cause.ReadFault) a a) held held r t complete (worked_nothing s (Some cause.ReadFault) a refl refl) (consumes_nothing r t kept) (rest, good))
+
+pub not_failed : (end : Option Cause) (other : Cause) → (end ≡ None) ⊎ (end ≡ Some cause.ReadFault) → ¬ (other ≡ cause.ReadFault) → end ≢ Some other
+not_failed end other (inl e) off is = absurd cc
+not_failed end other (inr e) off is = off cc

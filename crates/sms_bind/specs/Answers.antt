@@ -1,5 +1,5 @@
 -- What the octets that were read say to a bind.
-use Rattle.std.specs.Prelude.{◌≡◌, ℕ, List, [], ◌∷◌, Bool, true, false, Result, Ok, Err, ◌⊎◌}
+use Rattle.std.specs.Prelude.{◌≡◌, ℕ, ◌+◌, List, [], ◌∷◌, Bool, true, false, Result, Ok, Err, ◌⊎◌}
 use Rattle.sms_pdu.specs.declared.command.Mode.{Mode}
 use Rattle.sms_pdu.specs.Header.{header_at_front}
 use Rattle.sms_pdu.specs.Frame.{Division, IsBad}
@@ -10,6 +10,14 @@ use Rattle.sms_session.specs.Session.{opening}
 use Rattle.sms_bind.specs.declared.bound.Bound.{Bound}
 use Rattle.sms_bind.specs.declared.binding.BindFault.{BindFault}
 use Rattle.sms_bind.specs.declared.binding.BindFault.TheVariants as fault
+
+-- the octets that are read for the answer at most: fewer than the longest frame has, and one read more
+abbrev pub most_answer : ℕ
+most_answer = 70000 + 4096
+
+-- the reads that may give nothing, of which the last is a fault
+abbrev pub most_tries : ℕ
+most_tries = 600
 
 -- the bind was written whole
 abbrev pub sent_at : BindFault → Bool

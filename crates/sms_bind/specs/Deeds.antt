@@ -109,7 +109,8 @@ cause_after (Replied response Broken) state = Some cause.WriteFault
 cause_after Noted state = cause_by state
 cause_after Closed state = cause_by state
 
--- how the reading stands then: all whole frames were worked, unless the session closed, the wire broke or memory was refused
+-- how the reading stands then: all whole frames were worked, unless the session closed, the wire broke or memory was
+-- refused; and a bad length stands behind them exactly where the reader is lost
 abbrev pub stretch_of : Option Cause → Stretch
 stretch_of None = going
 stretch_of (Some cause.Ended) = complete

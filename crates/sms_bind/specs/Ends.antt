@@ -1,5 +1,5 @@
 -- What a reader promises of what it read.
-use Rattle.std.specs.Prelude.{◌≡◌, ◌≢◌, ℕ, ◌+◌, List, [], ◌++◌, length, map, Option, Some}
+use Rattle.std.specs.Prelude.{◌≡◌, ◌≢◌, ◌↔◌, ℕ, ◌+◌, List, [], ◌++◌, length, map, Option, Some}
 use Rattle.std.specs.List.{AllZip}
 use mathlib.Core.List.{IsPrefix}
 use Rattle.std.specs.Io.KnownBytes.{Consumes}
@@ -37,7 +37,8 @@ pub record HandsOn (state : State) (begun : List ℕ) (before after : Option (Li
   pub rest : List ℕ
   pub divided : Division (begun ++ got) (worked ++ others) rest
   pub whole : stretch_of (Some end.cause) ≢ early → others ≡ []
-  pub lost : end.cause ≡ Lost → IsBad rest
+  -- a bad length stands behind them exactly where the reader is lost
+  pub lost : stretch_of (Some end.cause) ≢ early → (end.cause ≡ Lost) ↔ IsBad rest
   -- what was done with each frame, and where that led
   pub deeds : List Deed
   pub each : AllZip (Suits state) worked deeds

@@ -1,14 +1,15 @@
 //! How a session is bound (SMPP 3.4 4.1).
 
-ghost use Rattle.std.specs.Prelude.{◌≡◌, ℕ, ◌++◌, ◌∷◌, ◌⊎◌, [], List, true, ◌≢◌, ◌<◌, ◌^◌, length, false, Ok, Err, IfOk, IfErr, OnOk};
+ghost use Rattle.std.specs.Prelude.{◌≡◌, ℕ, ◌+◌, ◌++◌, ◌∷◌, ◌⊎◌, [], List, true, ◌≢◌, ◌<◌, ◌≤◌, ◌^◌, length, false, Ok, Err, IfOk, IfErr, OnOk};
 ghost use Rattle.std.specs.Io.KnownBytes.{Appends, Consumes, IsAtEnd};
 ghost use Rattle.sms_pdu.specs.Grammar.{Spells};
 ghost use Rattle.sms_pdu.specs.Frame.{Division};
 ghost use Rattle.sms_pdu.specs.Streams.{SomeAppended};
+ghost use Rattle.sms_pdu.specs.Turn.{GaveAtMost, IsSpent};
 ghost use Rattle.sms_bind.specs.Devices.{device, faults_of, writer, write_faults, is_broken};
 ghost use Rattle.sms_bind.specs.Faults.{IsCounted};
 ghost use Rattle.sms_bind.specs.Binds.{bind_pdu};
-ghost use Rattle.sms_bind.specs.Answers.{fault_of, sent_at, is_sent, Answers, FoundNone};
+ghost use Rattle.sms_bind.specs.Answers.{most_answer, most_tries, fault_of, sent_at, is_sent, Answers, FoundNone};
 ghost use Rattle.sms_bind.specs.declared.binding.BindFault.TheVariants.{Closed, Read as ReadFault, Write as WriteFault, OutOfMemory};
 
 use crate::bound::Bound;
@@ -70,6 +71,9 @@ pub fn bind<R: Read, W: Write>(
     ensures sent { (octets : List ℕ) → Spells (bind_pdu settings.now number) octets → is_sent result ≡ true → Appends (W.contents (writer wire.old)) (W.contents (writer wire.new)) octets }
     ensures answer { (got : List ℕ) × Consumes (R.remaining (device reader.old)) (R.remaining (device reader.new)) got × Answers settings.now.mode got result }
     ensures end { result ≡ Err Closed → IsAtEnd (R.remaining (device reader.new)) }
+    ensures most { GaveAtMost most_answer (R.remaining (device reader.old)) (R.remaining (device reader.new)) }
+    ensures tries { faults_of reader.new ≤ faults_of reader.old + most_tries }
+    ensures passed { OnOk result (faults_of reader.new < faults_of reader.old + most_tries) }
     ensures read_fault { result ≡ Err ReadFault → IsCounted (faults_of reader.old) (faults_of reader.new) }
     ensures write_fault { result ≡ Err WriteFault → (is_broken wire.old ≡ true) ⊎ IsCounted (write_faults wire.old) (write_faults wire.new) }
 {
@@ -105,6 +109,10 @@ fn write_bind<W: Write>(
 fn read_answer<R: Read>(alloc: Global, reader: &mut Tap<R>, mode: Mode) -> Result<Bound, BindFault>
     ensures answer { (got : List ℕ) × Consumes (R.remaining (device reader.old)) (R.remaining (device reader.new)) got × Answers mode got result }
     ensures end { result ≡ Err Closed → IsAtEnd (R.remaining (device reader.new)) }
+    ensures most { GaveAtMost most_answer (R.remaining (device reader.old)) (R.remaining (device reader.new)) }
+    ensures tries { faults_of reader.new ≤ faults_of reader.old + most_tries }
+    ensures passed { OnOk result (faults_of reader.new < faults_of reader.old + most_tries) }
+    ensures spent { IsSpent (R.remaining (device reader.old)) → ¬ IsCounted (faults_of reader.old) (faults_of reader.new) → result ≡ Err Closed }
     ensures fault { result ≡ Err ReadFault → IsCounted (faults_of reader.old) (faults_of reader.new) }
     ensures which { IfErr result (λ e. (e ≢ WriteFault) × (e ≢ OutOfMemory → sent_at e ≡ true)) }
 {
@@ -141,6 +149,10 @@ fn read_first<R: Read>(
     ensures answer { (got : List ℕ) × Consumes (R.remaining (device reader.old)) (R.remaining (device reader.new)) got × IfOk result (λ r. Division got (r.0 ∷ r.2) r.1) × IfErr result (FoundNone got) }
     ensures few { IfOk result (λ r. length r.2 < 2 ^ 63) }
     ensures end { result ≡ Err Closed → IsAtEnd (R.remaining (device reader.new)) }
+    ensures most { GaveAtMost most_answer (R.remaining (device reader.old)) (R.remaining (device reader.new)) }
+    ensures tries { faults_of reader.new ≤ faults_of reader.old + most_tries }
+    ensures passed { OnOk result (faults_of reader.new < faults_of reader.old + most_tries) }
+    ensures spent { IsSpent (R.remaining (device reader.old)) → ¬ IsCounted (faults_of reader.old) (faults_of reader.new) → result ≡ Err Closed }
     ensures fault { result ≡ Err ReadFault → IsCounted (faults_of reader.old) (faults_of reader.new) }
     ensures which { IfErr result (λ e. (e ≢ WriteFault) × (e ≢ OutOfMemory → sent_at e ≡ true)) }
 {

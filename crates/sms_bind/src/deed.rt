@@ -1,7 +1,8 @@
 //! What is done with a frame that came in.
 
-ghost use Rattle.std.specs.Prelude.{◌≡◌};
+ghost use Rattle.std.specs.Prelude.{◌≡◌, ◌≢◌, Some};
 ghost use Rattle.sms_bind.specs.Deeds.{cause_after};
+ghost use Rattle.sms_bind.specs.declared.ending.Cause.TheVariants.{OutOfMemory};
 
 use crate::ending::Cause;
 use sms_pdu::Reply;
@@ -39,7 +40,8 @@ pub(crate) enum Deed {
 
 /// Why the reader ends after this deed, if it does: the wire is broken, or the session closed.
 pub(crate) fn cause_of(deed: &Deed, state: State) -> Option<Cause>
-    ensures { result ≡ cause_after deed.now state }
+    ensures after { result ≡ cause_after deed.now state }
+    ensures full { result ≢ Some OutOfMemory }
 {
     if let Deed::Replied {
         response: _,

@@ -12,6 +12,7 @@ ghost use Rattle.sms_bind.specs.Deeds.{Suits, Follow, Responded, entry, stretch_
 ghost use Rattle.sms_bind.specs.Follows.{Follows};
 ghost use Rattle.sms_bind.specs.Desks.{Worked};
 ghost use Rattle.sms_bind.specs.declared.deed.Deed.TheVariants.{Brought};
+ghost use Rattle.sms_bind.specs.declared.ending.Cause.TheVariants.{OutOfMemory};
 
 use crate::counts::Counts;
 use crate::deed::{Deed, cause_of};
@@ -58,6 +59,7 @@ impl Desk {
         ensures frames { self.new.counts.frames ≡ self.old.counts.frames + 1 }
         ensures going { result ≡ None → self.new.session ≡ self.old.session }
         ensures early { IfSome result (λ c. stretch_of (Some c) ≡ early) }
+        ensures full { result ≢ Some OutOfMemory }
     {
         let deed = self.work(rt, alloc, line, window, frame);
         self.counts.add(&deed);

@@ -9,8 +9,8 @@ ghost use Rattle.sms_bind.specs.Devices.{device, faults_of};
 ghost use Rattle.sms_bind.specs.Faults.{IsCounted};
 ghost use Rattle.sms_bind.specs.Follows.{HoldsBack, most_held, held_none};
 ghost use Rattle.sms_bind.specs.Ends.{HandsOn};
-ghost use Rattle.sms_bind.specs.Turns.{Turned};
-ghost use Rattle.sms_bind.specs.declared.ending.Cause.TheVariants.{Ended, ReadFault, Turns};
+ghost use Rattle.sms_bind.specs.Turns.{Turned, Stops};
+ghost use Rattle.sms_bind.specs.declared.ending.Cause.TheVariants.{Ended, ReadFault, Stopped, Turns};
 
 use crate::bound::Bound;
 use crate::counts::Counts;
@@ -51,6 +51,7 @@ pub fn read_loop<R: Read, W: Write, S: Wait>(
     ensures seat { HoldsBack (most_held follow) seat.view result.seat.view }
     ensures window { result.seat.window ≡ seat.window }
     ensures turned { Turned turns (result.cause ≡ Turns) (R.remaining (device reader.old)) (R.remaining (device reader.new)) (faults_of reader.old) (faults_of reader.new) }
+    ensures stopped { result.cause ≡ Stopped → Stops turns (R.remaining (device reader.old)) (R.remaining (device reader.new)) }
     ensures end { result.cause ≡ Ended → IsAtEnd (R.remaining (device reader.new)) }
     ensures fault { result.cause ≡ ReadFault → IsCounted (faults_of reader.old) (faults_of reader.new) }
 {

@@ -2,13 +2,13 @@
 
 ghost use Rattle.std.specs.Prelude.{◌≡◌, ◌≢◌, ℕ, ◌+◌, ◌<◌, ◌≤◌, ◌^◌, [], List, length, drop, None, Some, IfSome};
 ghost use Rattle.std.specs.List.{concat};
-ghost use Rattle.sms_pdu.specs.Frame.{IsRest};
+ghost use Rattle.sms_pdu.specs.Frame.{IsRest, IsBad};
 ghost use Rattle.sms_pdu.specs.Streams.{Went, Leaves, early};
 ghost use Rattle.sms_session.specs.Session.{IsBound};
 ghost use Rattle.sms_bind.specs.Deeds.{stretch_of, IsWithin};
 ghost use Rattle.sms_bind.specs.Follows.{Follows};
 ghost use Rattle.sms_bind.specs.Desks.{Worked};
-ghost use Rattle.sms_bind.specs.declared.ending.Cause.TheVariants.{Ended, ReadFault, Turns};
+ghost use Rattle.sms_bind.specs.declared.ending.Cause.TheVariants.{Ended, ReadFault, Stopped, Turns, OutOfMemory};
 
 use crate::desk::Desk;
 use crate::ending::Cause;
@@ -40,6 +40,7 @@ impl Desk {
         ensures room { self.new.counts.frames ≤ self.old.counts.frames + length frames.now }
         ensures going { result ≡ None → self.new.session ≡ self.old.session }
         ensures early { IfSome result (λ c. stretch_of (Some c) ≡ early) }
+        ensures full { result ≢ Some OutOfMemory }
     {
         for frame in frames {
             if let Some(cause) = self.go(rt, alloc, line, window, frame.as_slice()) {
@@ -67,9 +68,9 @@ impl Desk {
         ensures leaves { Leaves (stretch_of result) held.new.items held.new.items }
         ensures within { IsWithin self.new.counts }
         ensures room { self.new.counts.frames + length held.new.items ≤ self.old.counts.frames + length held.old.items }
-        ensures short { result ≡ None → length held.new.items < 70000 }
+        ensures good { result ≡ None → ¬ IsBad held.new.items }
         ensures going { result ≡ None → self.new.session ≡ self.old.session }
-        ensures cause { (result ≢ Some Ended) × (result ≢ Some ReadFault) × (result ≢ Some Turns) }
+        ensures cause { (result ≢ Some Ended) × (result ≢ Some ReadFault) × (result ≢ Some Stopped) × (result ≢ Some Turns) × (result ≢ Some OutOfMemory) }
     {
         let (used, ended) = self.work_stream(rt, alloc, line, window, held.as_slice());
         drop_front(held, used);
@@ -105,6 +106,7 @@ impl Desk {
         ensures rest { result.1 ≡ None → IsRest (drop result.0 stream.now) }
         ensures going { result.1 ≡ None → self.new.session ≡ self.old.session }
         ensures early { IfSome result.1 (λ c. stretch_of (Some c) ≡ early) }
+        ensures full { result.1 ≢ Some OutOfMemory }
     {
         let mut left = stream;
         while let Some(length) = first_frame(left) {

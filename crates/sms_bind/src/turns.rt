@@ -1,18 +1,20 @@
 //! Reading in turns.
 
-ghost use Rattle.std.specs.Prelude.{◌≡◌, ◌≢◌, ◌+◌, ◌<◌, ◌≤◌, ◌^◌, ◌++◌, [], length, None, Some};
+ghost use Rattle.std.specs.Prelude.{◌≡◌, ◌≢◌, ◌+◌, ◌<◌, ◌≤◌, ◌^◌, ◌++◌, ◌⊎◌, [], length, None, Some, true, false};
+ghost use Rattle.std.specs.IoError.{error_kind};
 ghost use Rattle.std.specs.List.{concat};
 ghost use Rattle.std.specs.Io.KnownBytes.{IsAtEnd};
-ghost use Rattle.sms_pdu.specs.Frame.{IsRest};
+ghost use Rattle.sms_pdu.specs.Frame.{IsRest, IsBad};
 ghost use Rattle.sms_pdu.specs.Streams.{Reads};
+ghost use Rattle.sms_pdu.specs.Turn.{IsSpent, gives_nothing};
 ghost use Rattle.sms_session.specs.Session.{IsBound};
 ghost use Rattle.sms_bind.specs.Deeds.{stretch_of, IsWithin};
 ghost use Rattle.sms_bind.specs.Devices.{device, faults_of};
 ghost use Rattle.sms_bind.specs.Faults.{IsCounted};
 ghost use Rattle.sms_bind.specs.Follows.{Follows};
 ghost use Rattle.sms_bind.specs.Desks.{Worked};
-ghost use Rattle.sms_bind.specs.Turns.{Turned};
-ghost use Rattle.sms_bind.specs.declared.ending.Cause.TheVariants.{Ended, ReadFault, Turns};
+ghost use Rattle.sms_bind.specs.Turns.{Turned, Stops};
+ghost use Rattle.sms_bind.specs.declared.ending.Cause.TheVariants.{Ended, ReadFault, Stopped, Turns, OutOfMemory};
 
 use crate::desk::Desk;
 use crate::ending::Cause;
@@ -22,7 +24,7 @@ use crate::tap::Tap;
 use sms_pdu::{Frame, gave_nothing, is_bad};
 use sms_window::Window;
 use std::alloc::Global;
-use std::io::{Read, Write};
+use std::io::{Error, Read, Write};
 use std::sync::Wait;
 use std::sync::atomic::Ordering;
 
@@ -52,8 +54,10 @@ impl Desk {
         ensures follows { Follows self.old.follower self.new.follower }
         ensures reads { Reads (Worked self.old.session (Some result) self.old self.new) (concat frames.now ++ rest.items) (R.remaining (device reader.old)) (R.remaining (device reader.new)) (stretch_of (Some result)) [] }
         ensures turned { Turned turns (result ≡ Turns) (R.remaining (device reader.old)) (R.remaining (device reader.new)) (faults_of reader.old) (faults_of reader.new) }
+        ensures stopped { result ≡ Stopped → Stops turns (R.remaining (device reader.old)) (R.remaining (device reader.new)) }
         ensures end { result ≡ Ended → IsAtEnd (R.remaining (device reader.new)) }
         ensures fault { result ≡ ReadFault → IsCounted (faults_of reader.old) (faults_of reader.new) }
+        ensures full { IsBad rest.items → result ≢ OutOfMemory }
     {
         if let Some(cause) = self.work_all(rt, alloc, line, window, frames) {
             return cause;
@@ -80,12 +84,13 @@ impl Desk {
         requires bound { IsBound self.old.session }
         requires own { self.old.follower.now.window ≡ window.now }
         requires rest { IsRest held.items }
-        requires short { length held.items < 70000 }
+        requires good { ¬ IsBad held.items }
         requires within { IsWithin self.old.counts }
         requires room { self.old.counts.frames < 2 ^ 63 }
         ensures follows { Follows self.old.follower self.new.follower }
         ensures reads { Reads (Worked self.old.session (Some result) self.old self.new) held.items (R.remaining (device reader.old)) (R.remaining (device reader.new)) (stretch_of (Some result)) [] }
         ensures turned { Turned turns (result ≡ Turns) (R.remaining (device reader.old)) (R.remaining (device reader.new)) (faults_of reader.old) (faults_of reader.new) }
+        ensures stopped { result ≡ Stopped → Stops turns (R.remaining (device reader.old)) (R.remaining (device reader.new)) }
         ensures end { result ≡ Ended → IsAtEnd (R.remaining (device reader.new)) }
         ensures fault { result ≡ ReadFault → IsCounted (faults_of reader.old) (faults_of reader.new) }
     {
@@ -120,17 +125,18 @@ impl Desk {
         requires within { IsWithin self.old.counts }
         requires piece { length piece.old.items ≡ 65536 }
         requires rest { IsRest held.old.items }
-        requires short { length held.old.items < 70000 }
+        requires good { ¬ IsBad held.old.items }
         requires room { self.old.counts.frames + length held.old.items + 65536 < 2 ^ 64 }
         ensures follows { Follows self.old.follower self.new.follower }
         ensures reads { Reads (Worked self.old.session result self.old self.new) held.old.items (R.remaining (device reader.old)) (R.remaining (device reader.new)) (stretch_of result) held.new.items }
         ensures within { IsWithin self.new.counts }
         ensures piece { length piece.new.items ≡ 65536 }
-        ensures short { result ≡ None → length held.new.items < 70000 }
+        ensures good { result ≡ None → ¬ IsBad held.new.items }
         ensures room { result ≡ None → self.new.counts.frames + length held.new.items ≤ self.old.counts.frames + length held.old.items + 65536 }
         ensures going { result ≡ None → self.new.session ≡ self.old.session }
         ensures turned { Turned 1 (result ≡ None) (R.remaining (device reader.old)) (R.remaining (device reader.new)) (faults_of reader.old) (faults_of reader.new) }
-        ensures cause { result ≢ Some Turns }
+        ensures cause { (result ≢ Some Stopped) × (result ≢ Some Turns) }
+        ensures spent { IsSpent (R.remaining (device reader.old)) → ¬ IsCounted (faults_of reader.old) (faults_of reader.new) → result ≡ Some Ended }
         ensures end { result ≡ Some Ended → IsAtEnd (R.remaining (device reader.new)) }
         ensures fault { result ≡ Some ReadFault → IsCounted (faults_of reader.old) (faults_of reader.new) }
         ensures faults { faults_of reader.old ≤ faults_of reader.new }
@@ -143,13 +149,20 @@ impl Desk {
                 }
                 self.work_held(rt, alloc, line, window, held)
             }
-            Err(e) => {
-                if gave_nothing(&e) {
-                    None
-                } else {
-                    Some(Cause::ReadFault)
-                }
-            }
+            Err(e) => fault_of(&e),
         }
+    }
+}
+
+/// Why the reader ends after a read that failed so, if it does.
+fn fault_of(e: &Error) -> Option<Cause>
+    ensures again { gives_nothing (error_kind e.now) ≡ true → result ≡ None }
+    ensures fault { gives_nothing (error_kind e.now) ≡ false → result ≡ Some ReadFault }
+    ensures one { (result ≡ None) ⊎ (result ≡ Some ReadFault) }
+{
+    if gave_nothing(e) {
+        None
+    } else {
+        Some(Cause::ReadFault)
     }
 }

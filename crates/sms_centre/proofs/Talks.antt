@@ -7,7 +7,7 @@ use Rattle.std.specs.Io.KnownBytes.{Appends, IsAtEnd}
 use Rattle.std.proofs.KnownBytes.{Appends-nil, Appends-trans, Consumes-nil}
 use Rattle.sms_pdu.specs.Header.{header_at_front}
 use Rattle.sms_pdu.specs.Frame.{Division, IsBad}
-use Rattle.sms_pdu.specs.Streams.{SomeAppended, Leaves, Reads, going, early}
+use Rattle.sms_pdu.specs.Streams.{SomeAppended, Leaves, Reads, going, complete, early}
 use Rattle.sms_pdu.proofs.Divisions.{each_divided}
 use Rattle.sms_pdu.proofs.Streams.{rest_divided, division_after, reads_none, reads_ends, reads_rest}
 use Rattle.sms_centre.specs.declared.serving.Stop.{Stop}
@@ -17,7 +17,7 @@ use Rattle.sms_centre.specs.declared.serving.Cause.{Cause}
 use Rattle.sms_centre.specs.declared.serving.Cause.TheVariants as cause
 use Rattle.sms_centre.specs.Says.{IsSaid, Progress, said_to, after_frame, PutsAll}
 use Rattle.sms_centre.specs.Serving.{Talk, talking, talk, conversation, hears, tells, end_at, is_early, Writes, Brings, Serves}
-use Rattle.sms_centre.specs.Stops.{talk_at, brought, ends_early, stretch_of, cause_of, Awaits, Answered, Written}
+use Rattle.sms_centre.specs.Stops.{talk_at, brought, ends_early, stretch_of, cause_of, Answered, Written}
 use Rattle.sms_centre.proofs.Putting.{AllZip-append}
 
 talk-append : (t : Talk) (fs gs : List (List ℕ)) → talk t (fs ++ gs) ≡ talk (talk t fs) gs
@@ -134,24 +134,24 @@ quiet p stop.OutOfMemory left held gs rest e r d = absurd (true≢false e)
 pub none_good : (held : List ℕ) → held ≡ [] → ¬ IsBad held
 none_good held none bad = let n : length held ≡ 0 = ap length none in absurd (let b = bad.begun in omega (arith, n, b))
 
--- what is held is the rest
-rest_good : (left held : List ℕ) (gs : List (List ℕ)) (rest : List ℕ) → Leaves going left held → Division left gs rest → ¬ IsBad held → ¬ IsBad rest
-rest_good left held gs rest r d good = subst (λ (l : List ℕ). ¬ IsBad l) (r.1 ∙ sym (rest_divided left gs rest r.0 d).1) good
+-- the rest is good where what is left is
+rest_good : (left held : List ℕ) (gs : List (List ℕ)) (rest : List ℕ) → Leaves complete left held → Division left gs rest → ¬ IsBad rest
+rest_good left held gs rest r d = subst (λ (l : List ℕ). ¬ IsBad l) (sym (rest_divided left gs rest r.0 d).1) r.1
 
 -- what the cause tells
 brings : (why : Stop) (over : Option Cause) (left held : List ℕ) (gs : List (List ℕ)) (rest : List ℕ) (after : Option (List ℕ)) → (is_early (cause_of why) ≡ false → over ≡ brought (Some why))
-    → Leaves (stretch_of (Some why)) left held → Division left gs rest → Awaits (Some why) held → (why ≡ stop.Ended → IsAtEnd after) → Brings (cause_of why) over rest after
-brings stop.Ended over left held gs rest after h r d good end = inr (h refl, end refl, rest_good left held gs rest r d good)
-brings stop.HungUp over left held gs rest after h r d good end = inl (h refl)
-brings stop.Unbound over left held gs rest after h r d good end = h refl
-brings stop.Lost over left held gs rest after h r d good end = (h refl, subst IsBad (sym (rest_divided left gs rest (inr (inr r)) d).1) r)
-brings stop.ReadFault over left held gs rest after h r d good end = (h refl, rest_good left held gs rest r d good)
-brings stop.WriteFault over left held gs rest after h r d good end = tt
-brings stop.Turns over left held gs rest after h r d good end = (h refl, rest_good left held gs rest r d good)
-brings stop.OutOfMemory over left held gs rest after h r d good end = tt
+    → Leaves (stretch_of (Some why)) left held → Division left gs rest → (why ≡ stop.Ended → IsAtEnd after) → Brings (cause_of why) over rest after
+brings stop.Ended over left held gs rest after h r d end = inr (h refl, end refl, rest_good left held gs rest r d)
+brings stop.HungUp over left held gs rest after h r d end = inl (h refl)
+brings stop.Unbound over left held gs rest after h r d end = h refl
+brings stop.Lost over left held gs rest after h r d end = (h refl, subst IsBad (sym (rest_divided left gs rest (inr (inr r)) d).1) r)
+brings stop.ReadFault over left held gs rest after h r d end = (h refl, rest_good left held gs rest r d)
+brings stop.WriteFault over left held gs rest after h r d end = tt
+brings stop.Turns over left held gs rest after h r d end = (h refl, rest_good left held gs rest r d)
+brings stop.OutOfMemory over left held gs rest after h r d end = tt
 
-pub serves : (p q : Progress) (why : Stop) (held : List ℕ) (r t a b : Option (List ℕ)) → Reads (Written p q (Some why) a b) [] r t (stretch_of (Some why)) held → Awaits (Some why) held → (why ≡ stop.Ended → IsAtEnd t) → Serves p r t a b (cause_of why) q.submits
-serves p q why held r t a b x good end =
+pub serves : (p q : Progress) (why : Stop) (held : List ℕ) (r t a b : Option (List ℕ)) → Reads (Written p q (Some why) a b) [] r t (stretch_of (Some why)) held → (why ≡ stop.Ended → IsAtEnd t) → Serves p r t a b (cause_of why) q.submits
+serves p q why held r t a b x end =
     let w = x.went in
     let d = each_divided x.left in
     let joined = conversation-append (talking p) w.frames d.frames in
@@ -169,33 +169,22 @@ serves p q why held r t a b x good end =
       counted = ap (λ (k : Progress). k.submits) w.done.at;
       whole = λ e.
           joined ∙ ap (λ (k : Talk). conversation (talking p) w.frames ++ conversation k d.frames) (sym (w.done.heard e)) ∙ ap (λ (l : List Said). conversation (talking p) w.frames ++ l) (quiet q why x.left held d.frames d.rest e x.leaves d.divided).0 ∙ append-nil (conversation (talking p) w.frames);
-      why = brings why (talk (talking p) (w.frames ++ d.frames)).over x.left held d.frames d.rest t (λ e. ap (λ (k : Talk). k.over) (talk-append (talking p) w.frames d.frames ∙ ap (λ (k : Talk). talk k d.frames) (sym (w.done.heard e)) ∙ (quiet q why x.left held d.frames d.rest e x.leaves d.divided).1)) x.leaves d.divided good end;
+      why = brings why (talk (talking p) (w.frames ++ d.frames)).over x.left held d.frames d.rest t (λ e. ap (λ (k : Talk). k.over) (talk-append (talking p) w.frames d.frames ∙ ap (λ (k : Talk). talk k d.frames) (sym (w.done.heard e)) ∙ (quiet q why x.left held d.frames d.rest e x.leaves d.divided).1)) x.leaves d.divided end;
     }
 
 -- no memory, and so nothing was read
 pub serves_none : (p : Progress) (r a : Option (List ℕ)) → Serves p r r a a cause.OutOfMemory p.submits
 serves_none p r a =
-    serves p p stop.OutOfMemory [] r r a a (reads_none (Written p p (Some stop.OutOfMemory) a a) [] [] r r early (written_none p (Some stop.OutOfMemory) a refl) (Consumes-nil r) tt) tt (λ e. absurd (other e))
+    serves p p stop.OutOfMemory [] r r a a (reads_none (Written p p (Some stop.OutOfMemory) a a) [] [] r r early (written_none p (Some stop.OutOfMemory) a refl) (Consumes-nil r) tt) (λ e. absurd (other e))
   where
     other : stop.OutOfMemory ≡ stop.Ended → ⊥
     other e = cc
 
 -- the turns are used up
-pub reads_turns : (p q : Progress) (r t a b : Option (List ℕ)) (held : List ℕ) → Reads (Written p q None a b) [] r t going held → Reads (Written p q (Some stop.Turns) a b) [] r t going held
-reads_turns p q r t a b held x =
-    reads_ends (Written p q None a b) (Written p q (Some stop.Turns) a b) [] held held r t going x (λ fs. written_ends p q (Some stop.Turns) a b fs refl refl) (reads_rest (Written p q None a b) [] held r t x, refl)
+pub reads_turns : (p q : Progress) (r t a b : Option (List ℕ)) (held : List ℕ) → Reads (Written p q None a b) [] r t going held → ¬ IsBad held → Reads (Written p q (Some stop.Turns) a b) [] r t complete held
+reads_turns p q r t a b held x good =
+    reads_ends (Written p q None a b) (Written p q (Some stop.Turns) a b) [] held held r t complete x (λ fs. written_ends p q (Some stop.Turns) a b fs refl refl) (reads_rest (Written p q None a b) [] held r t x, good)
 
 -- memory ran out behind these frames
 pub answered_full : (p q : Progress) (a b : List ℕ) (fs : List (List ℕ)) → Answered p q None a b fs → Answered p q (Some stop.OutOfMemory) a b fs
 answered_full p q a b fs x = record { pieces = x.pieces; each = x.each; grown = x.grown; heard = x.heard }
-
--- where it ended early nothing is awaited
-pub early_awaits : (s : Stop) (held : List ℕ) → stretch_of (Some s) ≡ early → Awaits (Some s) held
-early_awaits stop.Ended held e = absurd cc
-early_awaits stop.HungUp held e = tt
-early_awaits stop.Unbound held e = tt
-early_awaits stop.Lost held e = tt
-early_awaits stop.ReadFault held e = absurd cc
-early_awaits stop.WriteFault held e = tt
-early_awaits stop.Turns held e = absurd cc
-early_awaits stop.OutOfMemory held e = tt

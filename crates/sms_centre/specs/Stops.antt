@@ -1,8 +1,7 @@
 -- How serving stands between its steps.
 use Rattle.std.specs.Prelude.{◌≡◌, ℕ, List, ◌++◌, Bool, true, false, Option, Some, None}
 use Rattle.std.specs.List.{AllZip, concat}
-use Rattle.sms_pdu.specs.Frame.{IsBad}
-use Rattle.sms_pdu.specs.Streams.{Stretch, going, lost, early}
+use Rattle.sms_pdu.specs.Streams.{Stretch, going, complete, lost, early}
 use Rattle.sms_centre.specs.declared.serving.Cause.{Cause}
 use Rattle.sms_centre.specs.declared.serving.Cause.TheVariants as cause
 use Rattle.sms_centre.specs.declared.serving.Stop.{Stop}
@@ -26,29 +25,18 @@ brought (Some stop.HungUp) = Some cause.Ended
 brought (Some stop.Unbound) = Some cause.Unbound
 brought _ = None
 
--- how the stretch of reading stands: what is held is what is left, unless it ended with a bad rest or early
+-- how the stretch of reading stands: a bad length stands behind the frames exactly where the connection is lost, unless it
+-- ended early
 abbrev pub stretch_of : Option Stop → Stretch
 stretch_of None = going
-stretch_of (Some stop.Ended) = going
+stretch_of (Some stop.Ended) = complete
 stretch_of (Some stop.HungUp) = early
 stretch_of (Some stop.Unbound) = early
 stretch_of (Some stop.Lost) = lost
-stretch_of (Some stop.ReadFault) = going
+stretch_of (Some stop.ReadFault) = complete
 stretch_of (Some stop.WriteFault) = early
-stretch_of (Some stop.Turns) = going
+stretch_of (Some stop.Turns) = complete
 stretch_of (Some stop.OutOfMemory) = early
-
--- then a frame may still come of it: its length isn't bad
-abbrev pub Awaits : Option Stop → List ℕ → Type 0
-Awaits None held = ¬ IsBad held
-Awaits (Some stop.Ended) held = ¬ IsBad held
-Awaits (Some stop.HungUp) held = Unit {0}
-Awaits (Some stop.Unbound) held = Unit {0}
-Awaits (Some stop.Lost) held = Unit {0}
-Awaits (Some stop.ReadFault) held = ¬ IsBad held
-Awaits (Some stop.WriteFault) held = Unit {0}
-Awaits (Some stop.Turns) held = ¬ IsBad held
-Awaits (Some stop.OutOfMemory) held = Unit {0}
 
 abbrev pub ends_early : Option Stop → Bool
 ends_early None = false

@@ -1,13 +1,14 @@
 //! The centre serves a connection.
 
-ghost use Rattle.std.specs.Prelude.{◌≡◌, ◌≢◌, ℕ, ◌≤◌, ◌∷◌, [], List, length, drop, Some, None, IfOk, IfSome, OnErr};
+ghost use Rattle.std.specs.Prelude.{◌≡◌, ◌≢◌, ◌⊎◌, ℕ, ◌*◌, ◌≤◌, ◌∷◌, [], List, length, drop, Some, None, IfOk, IfSome, OnErr};
 ghost use Rattle.std.specs.Io.KnownBytes.{IsAtEnd};
 ghost use Rattle.sms_pdu.specs.Frame.{IsFrame, IsRest, IsBad};
 ghost use Rattle.sms_pdu.specs.Streams.{Went, Reads, Leaves, early};
+ghost use Rattle.sms_pdu.specs.Turn.{most_piece, GaveAtMost, IsSpent};
 ghost use Rattle.sms_centre.specs.Says.{begun};
 ghost use Rattle.sms_centre.specs.Serving.{Serves, end_at as brought_by, hangs_up as hung_up_by};
-ghost use Rattle.sms_centre.specs.Stops.{cause_of as cause_of_stop, brought, stretch_of, Awaits, Answered, Written};
-ghost use Rattle.sms_centre.specs.declared.serving.Stop.TheVariants.{Ended};
+ghost use Rattle.sms_centre.specs.Stops.{cause_of as cause_of_stop, brought, stretch_of, Answered, Written};
+ghost use Rattle.sms_centre.specs.declared.serving.Stop.TheVariants.{Ended, ReadFault, Turns};
 
 use crate::centre::Centre;
 use crate::said::Said;
@@ -88,7 +89,8 @@ pub fn serve<R: Read, W: Write>(
     script: Script,
     turns: u64,
 ) -> ServeEnd
-    ensures { Serves (begun script) (R.remaining reader.old) (R.remaining reader.new) (W.contents writer.old) (W.contents writer.new) result.cause result.submits }
+    ensures serves { Serves (begun script) (R.remaining reader.old) (R.remaining reader.new) (W.contents writer.old) (W.contents writer.new) result.cause result.submits }
+    ensures most { GaveAtMost (most_piece * turns) (R.remaining reader.old) (R.remaining reader.new) }
 {
     match Centre::new(alloc, script) {
         Ok(mut centre) => {
@@ -148,7 +150,8 @@ impl Centre {
         writer: &mut W,
         turns: u64,
     ) -> Stop
-        ensures served { (held : List ℕ) × Reads (Written self.old self.new (Some result) (W.contents writer.old) (W.contents writer.new)) [] (R.remaining reader.old) (R.remaining reader.new) (stretch_of (Some result)) held × Awaits (Some result) held }
+        ensures served { (held : List ℕ) × Reads (Written self.old self.new (Some result) (W.contents writer.old) (W.contents writer.new)) [] (R.remaining reader.old) (R.remaining reader.new) (stretch_of (Some result)) held }
+        ensures most { GaveAtMost (most_piece * turns) (R.remaining reader.old) (R.remaining reader.new) }
         ensures end { result ≡ Ended → IsAtEnd (R.remaining reader.new) }
     {
         let Ok(mut buffers) = Buffers::new(alloc) else {
@@ -174,8 +177,11 @@ impl Centre {
         requires rest { IsRest buffers.old.held.items }
         requires good { ¬ IsBad buffers.old.held.items }
         ensures reads { Reads (Written self.old self.new result (W.contents writer.old) (W.contents writer.new)) buffers.old.held.items (R.remaining reader.old) (R.remaining reader.new) (stretch_of result) buffers.new.held.items }
-        ensures awaits { Awaits result buffers.new.held.items }
+        ensures good { result ≡ None → ¬ IsBad buffers.new.held.items }
+        ensures most { GaveAtMost most_piece (R.remaining reader.old) (R.remaining reader.new) }
         ensures piece { length buffers.new.piece.items ≡ 65536 }
+        ensures turns { result ≢ Some Turns }
+        ensures spent { IsSpent (R.remaining reader.old) → (result ≡ Some Ended) ⊎ (result ≡ Some ReadFault) ⊎ (result ≡ None) }
         ensures end { result ≡ Some Ended → IsAtEnd (R.remaining reader.new) }
     {
         match reader.read(buffers.piece.as_mut_slice()) {
@@ -205,9 +211,9 @@ impl Centre {
         buffers: &mut Buffers,
     ) -> Option<Stop>
         ensures went { (left : List ℕ) × Went (Written self.old self.new result (W.contents writer.old) (W.contents writer.new)) buffers.old.held.items left × Leaves (stretch_of result) left buffers.new.held.items }
-        ensures awaits { Awaits result buffers.new.held.items }
+        ensures good { result ≡ None → ¬ IsBad buffers.new.held.items }
         ensures piece { buffers.new.piece.items ≡ buffers.old.piece.items }
-        ensures cause { result ≢ Some Ended }
+        ensures cause { (result ≢ Some Ended) × (result ≢ Some ReadFault) × (result ≢ Some Turns) }
     {
         buffers.out.clear();
         let (used, ended) = self.answer_stream(

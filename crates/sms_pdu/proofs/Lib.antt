@@ -12,3 +12,4 @@ pub mod SizeLaws
 pub mod Writings
 pub mod Spellings
 pub mod Streams
+pub mod Turns

@@ -11,7 +11,8 @@ pub record Went (P : List (List ℕ) → Type 0) (stream left : List ℕ) : Type
   pub each : AllByRecursion IsFrame frames
   pub done : P frames
 
--- how a stretch of reading stands: it goes on; it ended with all whole frames worked; with a bad rest; or early
+-- how a stretch of reading stands: it goes on; it ended where a frame may still come; with a bad rest; or early, before
+-- all whole frames were worked
 pub data Stretch : Type 0 where
   going : Stretch
   complete : Stretch
@@ -21,7 +22,7 @@ pub data Stretch : Type 0 where
 -- what that says of what is left, and of what is held for the next read
 abbrev pub Leaves : Stretch → List ℕ → List ℕ → Type 0
 Leaves going left held = IsRest left × (held ≡ left)
-Leaves complete left held = IsRest left
+Leaves complete left held = IsRest left × (¬ IsBad left)
 Leaves lost left held = IsBad left
 Leaves early left held = Unit {0}
 

@@ -1,5 +1,5 @@
 -- A turn of reading.
-use Rattle.std.specs.Prelude.{Bool, true, false}
+use Rattle.std.specs.Prelude.{◌≡◌, ℕ, ◌+◌, ◌≤◌, List, [], length, Option, Some, None, Bool, true, false}
 use Rattle.std.specs.declared.io.ErrorKind.{ErrorKind}
 use Rattle.std.specs.declared.io.ErrorKind.TheVariants as kind
 
@@ -9,3 +9,18 @@ gives_nothing kind.WouldBlock = true
 gives_nothing kind.TimedOut = true
 gives_nothing kind.Interrupted = true
 gives_nothing _ = false
+
+-- the octets that one turn reads at most
+abbrev pub most_piece : ℕ
+most_piece = 65536
+
+-- a reader that tells its octets gave so many at most
+abbrev pub GaveAtMost : ℕ → Option (List ℕ) → Option (List ℕ) → Type 0
+GaveAtMost n None after = Unit {0}
+GaveAtMost n (Some xs) None = ⊥
+GaveAtMost n (Some xs) (Some ys) = length xs ≤ length ys + n
+
+-- a reader that tells its octets has none left
+abbrev pub IsSpent : Option (List ℕ) → Type 0
+IsSpent None = ⊥
+IsSpent (Some xs) = xs ≡ []

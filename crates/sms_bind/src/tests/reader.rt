@@ -58,7 +58,10 @@ pub(crate) fn line_of<S: Abort + Wait>(
         octets: Vec::new(alloc),
         fails: true,
     };
-    Ok(Line::new(slots, Wire::new(Tap::new(sink))))
+    let line = Line::new(slots, Wire::new(Tap::new(sink)));
+    assert!(rt; !line.down.load(Ordering::SeqCst));
+    assert!(rt; !line.stop.load(Ordering::SeqCst));
+    Ok(line)
 }
 
 // A ring of this room, for the one worker.

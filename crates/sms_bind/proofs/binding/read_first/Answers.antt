@@ -1,10 +1,10 @@
-use Rattle.std.proofs.Common.{◌≡◌, ◌+◌, ◌-◌, ◌<◌, ◌++◌, ◌∷◌, [], List, ℕ, length, take, sym, ap, ◌∙◌, subst, rules, arith}
-use Rattle.std.proofs.KnownBytes.{Consumes-trans}
+use Rattle.std.proofs.Common.{◌≡◌, ◌+◌, ◌-◌, ◌<◌, ◌≤◌, ◌++◌, ◌∷◌, [], List, ℕ, length, take, sym, ap, ◌∙◌, subst, rules, arith}
+use Rattle.std.proofs.KnownBytes.{Consumes-nil, Consumes-trans}
 use Rattle.std.proofs.lemmas.List.{nil_from_length}
 use Rattle.sms_pdu.specs.Frame.{Division, IsBad}
 use Rattle.sms_pdu.proofs.Divisions.{pieces_join}
-use Rattle.sms_pdu.proofs.Streams.{short_rest}
-use Rattle.sms_bind.proofs.Binds.{shorter_to_go, first_of_frames}
+use Rattle.sms_pdu.proofs.Streams.{short_rest, consumes_nothing}
+use Rattle.sms_bind.proofs.Binds.{shorter_to_go, first_of_frames, gave_answer, not_spent_before}
 use Rattle.sms_bind.proofs.binding.read_first.Goals as goal
 
 pub returns-in_default-clause-answer : goal.returns-in_default-clause-answer
@@ -78,5 +78,46 @@ loop-empty-preserved-in-Ok g c =
       faults = (let h = c.loop-empty.invariant.faults in let k = c.read.ensures.grows in omega (arith, h, k));
       counted = search rules;
       few = c.loop-empty.invariant.few;
+      tries = (let h = c.loop-empty.invariant.tries in let k = c.in-Ok.ensures.faults in omega (arith, h, k));
       piece = search rules;
     }
+
+pub returns-in_default-clause-most : goal.returns-in_default-clause-most
+returns-in_default-clause-most g c =
+    let i = c.loop-empty.invariant in
+    gave_answer i.got (take c.in-Ok.n c.read.new.buf) c.loop-empty.framer _ (g.R.Read.remaining c.loop-empty.reader.inner) _ i.divided i.good (search rules) i.consumed c.in-Ok.ensures.bytes.0
+
+pub returns-in_default-clause-spent : goal.returns-in_default-clause-spent
+returns-in_default-clause-spent g c = λ spent quiet.
+    let i = c.loop-empty.invariant in
+    absurd (not_spent_before i.got (take c.in-Ok.n c.read.new.buf) _ (g.R.Read.remaining c.loop-empty.reader.inner) _ (search rules) i.consumed c.in-Ok.ensures.bytes.0 spent)
+
+pub returns-then-not-is_empty-clause-most : goal.returns-then-not-is_empty-clause-most
+returns-then-not-is_empty-clause-most g c =
+    let i = c.loop-empty.invariant in
+    gave_answer i.got (take c.in-Ok.n c.read.new.buf) c.loop-empty.framer _ (g.R.Read.remaining c.loop-empty.reader.inner) _ i.divided i.good (search rules) i.consumed c.in-Ok.ensures.bytes.0
+
+pub returns-then-not-is_empty-clause-spent : goal.returns-then-not-is_empty-clause-spent
+returns-then-not-is_empty-clause-spent g c = λ spent quiet.
+    let i = c.loop-empty.invariant in
+    absurd (not_spent_before i.got (take c.in-Ok.n c.read.new.buf) _ (g.R.Read.remaining c.loop-empty.reader.inner) _ (search rules) i.consumed c.in-Ok.ensures.bytes.0 spent)
+
+pub returns-then-is_some-clause-most : goal.returns-then-is_some-clause-most
+returns-then-is_some-clause-most g c =
+    let i = c.loop-empty.invariant in
+    gave_answer i.got (take c.in-Ok.n c.read.new.buf) c.loop-empty.framer _ (g.R.Read.remaining c.loop-empty.reader.inner) _ i.divided i.good (search rules) i.consumed c.in-Ok.ensures.bytes.0
+
+pub returns-then-is_some-clause-spent : goal.returns-then-is_some-clause-spent
+returns-then-is_some-clause-spent g c = λ spent quiet.
+    let i = c.loop-empty.invariant in
+    absurd (not_spent_before i.got (take c.in-Ok.n c.read.new.buf) _ (g.R.Read.remaining c.loop-empty.reader.inner) _ (search rules) i.consumed c.in-Ok.ensures.bytes.0 spent)
+
+pub returns-then-not-gave_nothing-clause-most : goal.returns-then-not-gave_nothing-clause-most
+returns-then-not-gave_nothing-clause-most g c =
+    let i = c.loop-empty.invariant in
+    gave_answer i.got [] c.loop-empty.framer _ (g.R.Read.remaining c.loop-empty.reader.inner) _ i.divided i.good (omega arith) i.consumed (consumes_nothing _ _ c.in-Err.ensures.bytes)
+
+pub returns-clause-most : goal.returns-clause-most
+returns-clause-most g c =
+    let i = c.loop-empty.invariant in
+    gave_answer i.got [] c.loop-empty.framer _ (g.R.Read.remaining c.loop-empty.reader.inner) _ i.divided i.good (omega arith) i.consumed (Consumes-nil _)

@@ -1,9 +1,9 @@
-use Rattle.std.proofs.Common.{◌++◌, [], Option, None, Some, refl, subst, rules}
+use Rattle.std.proofs.Common.{◌++◌, [], Option, None, Some, refl, ap, subst, rules}
 use Rattle.std.specs.List.{concat}
 use Rattle.sms_pdu.specs.Frame.{IsBad}
 use Rattle.sms_pdu.specs.Streams.{Reads, lost}
 use Rattle.sms_bind.specs.declared.ending.Cause.{Cause}
-use Rattle.sms_bind.specs.declared.ending.Cause.TheVariants.{Lost}
+use Rattle.sms_bind.specs.declared.ending.Cause.TheVariants.{Lost, Stopped, Turns}
 use Rattle.sms_bind.specs.Deeds.{stretch_of}
 use Rattle.sms_bind.specs.Desks.{Worked}
 use Rattle.sms_bind.proofs.Works.{worked_more, worked_ends, reads_early, reads_begun}
@@ -47,7 +47,13 @@ returns-clause-reads g c =
 
 pub returns-in-Some-clause-turned : goal.returns-in-Some-clause-turned
 returns-in-Some-clause-turned g c =
-    turned_none _ _ _ _ (not_early c.in-Some.cause c.in-Some.ensures.early)
+    turned_none _ _ _ _ (not_early c.in-Some.cause Turns c.in-Some.ensures.early refl)
 
 pub returns-then-is_bad-clause-turned : goal.returns-then-is_bad-clause-turned
 returns-then-is_bad-clause-turned g c = turned_none _ _ _ _ (λ e. absurd cc)
+
+pub returns-in-Some-clause-stopped : goal.returns-in-Some-clause-stopped
+returns-in-Some-clause-stopped g c = λ e. absurd (not_early c.in-Some.cause Stopped c.in-Some.ensures.early refl e)
+
+pub returns-in-Some-clause-full : goal.returns-in-Some-clause-full
+returns-in-Some-clause-full g c = λ bad e. c.in-Some.ensures.full (ap (λ x. Some x) e)

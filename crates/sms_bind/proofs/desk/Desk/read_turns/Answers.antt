@@ -1,13 +1,13 @@
 use Rattle.std.proofs.Common.{[], Option, None, Some, refl, ap, ◌∙◌, subst, rules, arith}
 use Rattle.std.proofs.KnownBytes.{Consumes-nil}
 use Rattle.sms_pdu.specs.Streams.{Reads, going, complete, early}
-use Rattle.sms_pdu.proofs.Streams.{reads_none, reads_more, reads_ends, reads_ended, reads_rest}
+use Rattle.sms_pdu.proofs.Streams.{short_rest, reads_none, reads_more, reads_ends, reads_ended, reads_rest}
 use Rattle.sms_bind.specs.declared.ending.Cause.{Cause}
 use Rattle.sms_bind.specs.declared.ending.Cause.TheVariants.{OutOfMemory, Stopped, Turns}
 use Rattle.sms_bind.specs.Deeds.{stretch_of}
 use Rattle.sms_bind.specs.Desks.{Worked}
 use Rattle.sms_bind.proofs.Works.{worked_none, worked_nothing, worked_more, worked_ends, leaves_end, follows_same, follows_on, counted_later}
-use Rattle.sms_bind.proofs.Turning.{turned_none, turned_begins, turned_more, turned_last, turned_stops, turned_all}
+use Rattle.sms_bind.proofs.Turning.{turned_none, turned_begins, turned_more, turned_last, turned_stops, turned_all, stops_before}
 use Rattle.sms_bind.proofs.desk.Desk.read_turns.Goals as goal
 
 pub returns-in_default-clause-reads : goal.returns-in_default-clause-reads
@@ -30,8 +30,8 @@ loop-turn-init g c =
       turned = turned_begins _ _;
       faults = omega arith;
       piece = search rules;
-      short = c.requires.short;
-      room = (let h = c.requires.short in omega (arith, h));
+      good = c.requires.good;
+      room = (let h = short_rest held c.requires.rest c.requires.good in omega (arith, h));
     }
 
 pub turn-requires-clause-rest : goal.turn-requires-clause-rest
@@ -48,7 +48,7 @@ returns-then-load-clause-reads g c =
     let held = c.loop-turn.held.items in
     let i = c.loop-turn.invariant in
     reads_ends (Worked s None a b) (Worked s (Some Stopped) a b) c.args.held.items held [] r t complete i.reads (λ fs w. worked_ends s (Some Stopped) a b fs refl refl w)
-    (reads_rest (Worked s None a b) c.args.held.items held r t i.reads)
+    (reads_rest (Worked s None a b) c.args.held.items held r t i.reads, i.good)
 
 pub returns-clause-reads : goal.returns-clause-reads
 returns-clause-reads g c =
@@ -60,7 +60,7 @@ returns-clause-reads g c =
     let held = c.loop-turn.held.items in
     let i = c.loop-turn.invariant in
     reads_ends (Worked s None a b) (Worked s (Some Turns) a b) c.args.held.items held [] r t complete i.reads (λ fs w. worked_ends s (Some Turns) a b fs refl refl w)
-    (reads_rest (Worked s None a b) c.args.held.items held r t i.reads)
+    (reads_rest (Worked s None a b) c.args.held.items held r t i.reads, i.good)
 
 pub returns-in-Some-clause-reads : goal.returns-in-Some-clause-reads
 returns-in-Some-clause-reads g c =
@@ -106,7 +106,7 @@ loop-turn-preserved g c =
       turned = turned_more c.loop-turn._turn _ _ _ _ _ _ _ c.turn.ensures.faults i.turned c.in_default-turn.ensures.turned refl;
       faults = (let f = c.turn.ensures.faults in let h = i.faults in omega (arith, f, h));
       piece = c.turn.ensures.piece;
-      short = c.in_default-turn.ensures.short refl;
+      good = c.in_default-turn.ensures.good refl;
       room = (let n = c.in_default-turn.ensures.room refl in let m = i.room in omega (arith, n, m));
     }
 
@@ -117,7 +117,13 @@ pub returns-then-load-clause-turned : goal.returns-then-load-clause-turned
 returns-then-load-clause-turned g c = turned_stops c.loop-turn._turn _ _ _ _ _ _ (search rules) (λ e. absurd cc) c.loop-turn.invariant.turned
 
 pub returns-in-Some-clause-turned : goal.returns-in-Some-clause-turned
-returns-in-Some-clause-turned g c = turned_last c.loop-turn._turn _ _ _ _ _ _ _ _ _ (search rules) c.loop-turn.invariant.turned c.turn.ensures.turned (λ e. c.in-Some.ensures.cause (ap (λ x. Some x) e))
+returns-in-Some-clause-turned g c = turned_last c.loop-turn._turn _ _ _ _ _ _ _ _ _ (search rules) c.loop-turn.invariant.turned c.turn.ensures.turned (λ e. c.in-Some.ensures.cause.1 (ap (λ x. Some x) e))
 
 pub returns-clause-turned : goal.returns-clause-turned
 returns-clause-turned g c = turned_all c.loop-turn._turn _ _ _ _ _ _ (search rules) c.loop-turn.invariant.turned
+
+pub returns-then-load-clause-stopped : goal.returns-then-load-clause-stopped
+returns-then-load-clause-stopped g c = λ e. stops_before c.loop-turn._turn _ _ _ _ _ (search rules) c.loop-turn.invariant.turned
+
+pub returns-in-Some-clause-stopped : goal.returns-in-Some-clause-stopped
+returns-in-Some-clause-stopped g c = λ e. absurd (c.in-Some.ensures.cause.0 (ap (λ x. Some x) e))

@@ -1,4 +1,5 @@
-use Rattle.std.proofs.Common.{◌≡◌, ◌+◌, ◌*◌, ◌<◌, ◌≤◌, length, None}
+use Rattle.std.proofs.Common.{◌≡◌, ◌+◌, ◌*◌, ◌≤◌, length, None}
+use Rattle.sms_pdu.specs.Frame.{IsBad}
 use Rattle.sms_pdu.specs.Streams.{Reads, going}
 use Rattle.sms_bind.specs.Deeds.{IsWithin}
 use Rattle.sms_bind.specs.Devices.{device, faults_of}
@@ -16,6 +17,6 @@ invariant-loop-turn g l = record {
   turned : Turned l._turn (Unit {0}) (g.R.Read.remaining (device l.fn.reader)) (g.R.Read.remaining (device l.reader)) (faults_of l.fn.reader) (faults_of l.reader);
   faults : faults_of l.fn.reader ≤ faults_of l.reader;
   piece : length l.piece.items ≡ 65536;
-  short : length l.held.items < 70000;
+  good : ¬ IsBad l.held.items;
   room : l.self.counts.frames + length l.held.items ≤ l.fn.self.counts.frames + 70000 + 65536 * l._turn;
 }

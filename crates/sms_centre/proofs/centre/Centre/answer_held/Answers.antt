@@ -4,7 +4,7 @@ use Rattle.sms_pdu.specs.Streams.{Stretch, Went, Leaves, early}
 use Rattle.sms_pdu.proofs.Streams.{went_map}
 use Rattle.sms_centre.specs.declared.serving.Stop.{Stop}
 use Rattle.sms_centre.specs.Stops.{Answered, Written, stretch_of}
-use Rattle.sms_centre.proofs.Talks.{written_all, early_awaits}
+use Rattle.sms_centre.proofs.Talks.{written_all}
 use Rattle.sms_centre.proofs.centre.Centre.answer_held.Goals as goal
 
 pub returns-in-Some-clause-went : goal.returns-in-Some-clause-went
@@ -22,8 +22,3 @@ returns-in-Some-clause-went g c =
     let wrote : Appends a b out = search rules in
     let stands : stretch_of why ≡ early = search rules in
     (left, went_map (Answered p q why [] out) (Written p q why a b) held left (λ fs x. written_all p q why why a b out fs refl x wrote) went, subst (λ (s : Stretch). Leaves s left c.drop_front.new.octets.items) (sym stands) tt)
-
-pub returns-in-Some-clause-awaits : goal.returns-in-Some-clause-awaits
-returns-in-Some-clause-awaits g c =
-    let stands : stretch_of (Some c.in-Some.stop) ≡ early = search rules in
-    early_awaits c.in-Some.stop c.drop_front.new.octets.items stands

@@ -1,8 +1,9 @@
-use Rattle.std.proofs.Common.{◌≡◌, [], None, Some, refl, ap, rules, arith, inl}
+use Rattle.std.proofs.Common.{◌≡◌, ◌+◌, ◌*◌, [], None, Some, refl, ap, rules, arith, inl}
 use Rattle.std.proofs.KnownBytes.{Consumes-nil}
 use Rattle.sms_pdu.specs.Frame.{IsRest}
 use Rattle.sms_pdu.specs.Streams.{early, going}
 use Rattle.sms_pdu.proofs.Streams.{reads_none, reads_more, reads_rest}
+use Rattle.sms_pdu.proofs.Turns.{gave_none, gave_more, gave_fits}
 use Rattle.sms_centre.specs.declared.serving.Stop.TheVariants.{OutOfMemory}
 use Rattle.sms_centre.specs.Stops.{Written, stretch_of}
 use Rattle.sms_centre.proofs.Talks.{written_none, written_more, none_good, reads_turns}
@@ -13,7 +14,7 @@ returns-in_default-clause-served g c =
     let p = c.args.self.now in
     let w = g.W.Write.contents c.args.writer.now in
     let r = g.R.Read.remaining c.args.reader.now in
-    ([], reads_none (Written p p (Some OutOfMemory) w w) [] [] r r early (written_none p (Some OutOfMemory) w refl) (Consumes-nil r) tt, tt)
+    ([], reads_none (Written p p (Some OutOfMemory) w w) [] [] r r early (written_none p (Some OutOfMemory) w refl) (Consumes-nil r) tt)
 
 pub loop-turn-init : goal.loop-turn-init
 loop-turn-init g c =
@@ -25,6 +26,7 @@ loop-turn-init g c =
     record {
       reads = reads_none (Written p p None w w) [] c.in-Ok.buffers.held.items r r going (written_none p None w refl) (Consumes-nil r) (short, none);
       good = none_good c.in-Ok.buffers.held.items none;
+      most = gave_none 0 r;
       piece = search rules;
     }
 
@@ -45,7 +47,7 @@ returns-in-Some-clause-served g c =
     let t = g.R.Read.remaining c.serve_turn.new.reader in
     let why = Some c.in-Some.stop in
     let kept = c.serve_turn.new.buffers.held.items in
-    (kept, reads_more (Written p q None u v) (Written q z why v w) (Written p z why u w) [] c.loop-turn.buffers.held.items kept r s t (stretch_of why) c.loop-turn.invariant.reads c.in-Some.ensures.reads (written_more p q z why u v w), c.in-Some.ensures.awaits)
+    (kept, reads_more (Written p q None u v) (Written q z why v w) (Written p z why u w) [] c.loop-turn.buffers.held.items kept r s t (stretch_of why) c.loop-turn.invariant.reads c.in-Some.ensures.reads (written_more p q z why u v w))
 
 pub returns-in-Some-clause-end : goal.returns-in-Some-clause-end
 returns-in-Some-clause-end g c = λ e. c.in-Some.ensures.end (ap (λ x. Some x) e)
@@ -64,14 +66,22 @@ loop-turn-preserved g c =
     let kept = c.serve_turn.new.buffers.held.items in
     record {
       reads = reads_more (Written p q None u v) (Written q z None v w) (Written p z None u w) [] c.loop-turn.buffers.held.items kept r s t going c.loop-turn.invariant.reads c.in_default-serve_turn.ensures.reads (written_more p q z None u v w);
-      good = c.in_default-serve_turn.ensures.awaits;
+      good = c.in_default-serve_turn.ensures.good refl;
+      most = gave_fits (65536 * c.loop-turn._turn + 65536) _ r t (omega arith) (gave_more _ _ r s t c.loop-turn.invariant.most c.serve_turn.ensures.most);
       piece = c.serve_turn.ensures.piece;
     }
 
 pub returns-clause-served : goal.returns-clause-served
 returns-clause-served g c =
-    let held = c.loop-turn.buffers.held.items in (
-      held,
-      reads_turns c.args.self.now c.loop-turn.self (g.R.Read.remaining c.args.reader.now) (g.R.Read.remaining c.loop-turn.reader) (g.W.Write.contents c.args.writer.now) (g.W.Write.contents c.loop-turn.writer) held c.loop-turn.invariant.reads,
-      c.loop-turn.invariant.good,
-    )
+    let held = c.loop-turn.buffers.held.items in
+    (held, reads_turns c.args.self.now c.loop-turn.self (g.R.Read.remaining c.args.reader.now) (g.R.Read.remaining c.loop-turn.reader) (g.W.Write.contents c.args.writer.now) (g.W.Write.contents c.loop-turn.writer) held c.loop-turn.invariant.reads c.loop-turn.invariant.good)
+
+pub returns-in_default-clause-most : goal.returns-in_default-clause-most
+returns-in_default-clause-most g c = gave_none _ (g.R.Read.remaining c.args.reader.now)
+
+pub returns-in-Some-clause-most : goal.returns-in-Some-clause-most
+returns-in-Some-clause-most g c =
+    gave_fits (65536 * c.loop-turn._turn + 65536) _ _ _ (search rules) (gave_more _ _ _ (g.R.Read.remaining c.loop-turn.reader) _ c.loop-turn.invariant.most c.serve_turn.ensures.most)
+
+pub returns-clause-most : goal.returns-clause-most
+returns-clause-most g c = gave_fits (65536 * c.loop-turn._turn) _ _ _ (search rules) c.loop-turn.invariant.most
