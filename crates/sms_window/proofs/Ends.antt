@@ -85,9 +85,8 @@ module _ {S : Type 0} (o : Opening) where
   -- the same, of what `close_with` gives
   pub closes : (ws : List ℕ) (xs : List S) (id : ℕ) (v : View) → Final (Seen (IsWindow o) id v) ws xs → 0 < v.family → (word number : ℕ) → get_elem? ws 0 ≡ some word → get_elem? ws 1 ≡ some number → IsEnd v word number
   closes ws xs id v f live word number a b =
-      let s = f.0 in
-      let same : s.words ≡ ws = f.2 in
-      let t = ends s f.1.0 id v f.1.1 live in
+      let (s, (rule, at), same, homes, stays) = f in
+      let t = ends s rule id v at live in
       let first : slice_index s.words 0 ≡ word = ap (λ (l : List ℕ). slice_index l 0) same ∙ value_at ws 0 word a in
       let second : slice_index s.words 1 ≡ number = ap (λ (l : List ℕ). slice_index l 1) same ∙ value_at ws 1 number b in
       subst (λ (p : ℕ × ℕ). IsEnd v p.0 p.1) (λ i. (first i, second i)) t

@@ -50,7 +50,7 @@ gives_greatest o s id v r at some_name =
     let p = bit_at-pow_other v.name n ne in
     let q : bit_at (other_names v) n ≡ bit_at y n = ap (λ (w : ℕ). bit_at w n) rest in
     omega arith in (
-      ((λ can. let n = name_apart v small own_name.0 own_name.1 can in (name_to_give v, n.other, n.there)), (λ t. live_word (other_names v) t.0 (sym (others t.0 t.1) ∙ t.2))),
+      ((λ can. let n = name_apart v small own_name.0 own_name.1 can in (name_to_give v, n.other, n.there)), (λ t. let (n, ne, there) = t in live_word (other_names v) n (sym (others n ne) ∙ there))),
       λ can.
           let n = name_apart v small own_name.0 own_name.1 can in
           let top = top_bit (other_names v) can (omega arith) in

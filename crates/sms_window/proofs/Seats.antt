@@ -28,11 +28,10 @@ pub record IsTopBit (w top : ℕ) : Type 0 where
 
 pub top_bit : (w : ℕ) → 0 < w → w < 2 ^ 64 → IsTopBit w (63 - leading_zeros w64 w)
 top_bit w pos small =
-    let t = leading_top 64 w pos small in
-    let j : ℕ = t.0 in
+    let (j, is, low, high) = leading_top 64 w pos small in
     let e : 63 - leading_zeros w64 w ≡ j = omega arith in
-    let one : bit_at w j ≡ 1 = top_is_one w j t.2 t.3 in
-    record { inside = omega arith; set_there = ap (bit_at w) e ∙ one; none_above = λ i lt. bit_at_above w (suc j) i t.3 (omega arith) }
+    let one : bit_at w j ≡ 1 = top_is_one w j low high in
+    record { inside = omega arith; set_there = ap (bit_at w) e ∙ one; none_above = λ i lt. bit_at_above w (suc j) i high (omega arith) }
   where
     top_is_one : (w j : ℕ) → 2 ^ j ≤ w → w < 2 ^ suc j → bit_at w j ≡ 1
     top_is_one w j low high =

@@ -26,4 +26,6 @@ pub returns-in-Err-clause-sent : goal.returns-in-Err-clause-sent
 returns-in-Err-clause-sent c = map-set_same sent c.args.producers.now c.args.place c.push.new.self c.index-producers-place.result c.in-Err.ensures.full.1
 
 pub returns-in-Err-clause-given_back : goal.returns-in-Err-clause-given_back
-returns-in-Err-clause-given_back c = λ e. room_given_back known_free c.args.producers.now c.args.place c.index-producers-place.result c.push.new.self (search rules) (none_free _ (λ more. let full = c.in-Err.ensures.succeeds more in cc)) c.in-Err.ensures.full.2
+returns-in-Err-clause-given_back c = λ e.
+    let (given_back, sent_none, none_left) = c.in-Err.ensures.full in
+    room_given_back known_free c.args.producers.now c.args.place c.index-producers-place.result c.push.new.self (search rules) (none_free _ (λ more. let full = c.in-Err.ensures.succeeds more in cc)) none_left

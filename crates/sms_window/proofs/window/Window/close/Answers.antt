@@ -9,6 +9,7 @@ use Rattle.sms_window.proofs.window.Window.close.Goals as goal
 pub returns : goal.returns
 returns c =
     let i = c.seat.invariant in
+    let (full_words, full_slots, final) = c.close_with-closed.ensures.values in
     subst (λ (p : SeatState). IsEnd p.view c.word-held.result c.word-next.result) c.seat.view_is
-    (closes _ _ _ c.seat.inside.seat.id c.seat.inside.seat.me.0 c.close_with-closed.ensures.values.2 (live _ c.seat.inside.name (ap (λ (w : ℕ). bit_at w c.seat.inside.name) (sym i.family) ∙ i.has_own))
+    (closes _ _ _ c.seat.inside.seat.id c.seat.inside.seat.me.0 final (live _ c.seat.inside.name (ap (λ (w : ℕ). bit_at w c.seat.inside.name) (sym i.family) ∙ i.has_own))
     c.word-held.result c.word-next.result c.word-held.ensures c.word-next.ensures)

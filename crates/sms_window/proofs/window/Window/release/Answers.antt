@@ -20,12 +20,12 @@ fetch_and-seat-inside-requires c =
 pub invariant_of-seat : goal.invariant_of-seat
 invariant_of-seat c =
     let i = c.seat.invariant in
-    let e = c.fetch_and-seat-inside.ensures in
+    let (same_table, same_id, (fetched, carried)) = c.fetch_and-seat-inside.ensures in
     let held : Holds c.seat.inside.seat.me.0 c.args.slot = subst (λ (p : SeatState). Holds p.view c.args.slot) (sym c.seat.view_is) c.requires.held in
-    let r = freed _ _ _ c.args.slot _ e.2.0 held.0 (mask_is c.args.slot held.0) in
+    let r = freed _ _ _ c.args.slot _ fetched held.0 (mask_is c.args.slot held.0) in
     let s = and_clear c.seat.inside.slots c.args.slot held.0 (omega arith) (ap (λ (w : ℕ). bit_at w c.args.slot) i.slots ∙ held.1) in
     record {
-      empty = e.2.1 ∙ i.empty;
+      empty = carried ∙ i.empty;
       name = i.name ∙ sym (ap (λ (v : View). v.name) r.after);
       family = i.family ∙ sym (ap (λ (v : View). v.family) r.after);
       slots = s ∙ ap (λ (w : ℕ). w - 2 ^ c.args.slot) i.slots ∙ sym (ap (λ (v : View). v.slots) r.after);
@@ -35,6 +35,6 @@ invariant_of-seat c =
 
 pub returns-clause-freed : goal.returns-clause-freed
 returns-clause-freed c =
-    let e = c.fetch_and-seat-inside.ensures in
+    let (same_table, same_id, (fetched, carried)) = c.fetch_and-seat-inside.ensures in
     let inside = c.requires.held.0 in
-    subst (λ (p : SeatState). FreedSlot p.view c.args.slot c.fetch_and-seat-inside.new.seat.me.0) c.seat.view_is (freed _ _ _ c.args.slot _ e.2.0 inside (mask_is c.args.slot inside))
+    subst (λ (p : SeatState). FreedSlot p.view c.args.slot c.fetch_and-seat-inside.new.seat.me.0) c.seat.view_is (freed _ _ _ c.args.slot _ fetched inside (mask_is c.args.slot inside))

@@ -15,12 +15,12 @@ load-seat-inside-requires c = (ap (λ (p : SeatState). p.window) c.seat.view_is 
 pub split_seat-new-requires : goal.split_seat-new-requires
 split_seat-new-requires c =
     let i = c.seat.invariant in
-    let l = c.load-seat-inside.ensures in
-    let family = ap (λ (v : View). v.family) l.2.0.after ∙ sym i.family in
+    let (same_table, same_id, (looked, carried)) = c.load-seat-inside.ensures in
+    let family = ap (λ (v : View). v.family) looked.after ∙ sym i.family in
     let can = subst (λ (p : SeatState). CanSplit p.view) (sym c.seat.view_is) c.requires.names in (
-      l.0 ∙ ap (λ (p : SeatState). p.window) c.seat.view_is ∙ c.requires.own ∙ sym c.self.view_is,
+      same_table ∙ ap (λ (p : SeatState). p.window) c.seat.view_is ∙ c.requires.own ∙ sym c.self.view_is,
       (let w = c.self.invariant in omega arith),
-      splits_keeps _ _ _ (live _ c.seat.inside.name (ap (λ (w : ℕ). bit_at w c.seat.inside.name) family ∙ i.has_own)) (subst (λ (v : View). CanSplit v) (sym l.2.0.after) can),
+      splits_keeps _ _ _ (live _ c.seat.inside.name (ap (λ (w : ℕ). bit_at w c.seat.inside.name) family ∙ i.has_own)) (subst (λ (v : View). CanSplit v) (sym looked.after) can),
     )
 
 pub overflow_sub-seat : goal.overflow_sub-seat
@@ -40,11 +40,11 @@ invariant_of-seat c =
     let g = bit_given _ _ _ _ _ i (omega arith) can in
     let k : ℕ = 63 - leading_zeros w64 (c.seat.inside.family - 1 * 2 ^ c.seat.inside.name % 2 ^ 64) in
     let rest : c.seat.inside.family - 1 * 2 ^ k % 2 ^ 64 ≡ v.family - 2 ^ name_to_give v = λ j. i.family j - g.1 j in
-    let s = c.split_seat-new.ensures in
-    let l = c.load-seat-inside.ensures in
-    let now = ap (λ (m : Me (Unit {0}) View). m.0) s.2 ∙ ap giver l.2.0.after in
+    let (one_table, one_id, left, other_table, right) = c.split_seat-new.ensures in
+    let (same_table, same_id, (looked, carried)) = c.load-seat-inside.ensures in
+    let now = ap (λ (m : Me (Unit {0}) View). m.0) left ∙ ap giver looked.after in
     record {
-      empty = ap (λ (m : Me (Unit {0}) View). m.1) s.2 ∙ l.2.1 ∙ i.empty;
+      empty = ap (λ (m : Me (Unit {0}) View). m.1) left ∙ carried ∙ i.empty;
       name = i.name ∙ sym (ap (λ (w : View). w.name) now);
       family = rest ∙ sym (ap (λ (w : View). w.family) now);
       slots = i.slots ∙ sym (ap (λ (w : View). w.slots) now);
@@ -58,9 +58,9 @@ returns-clause-family c =
     let v = c.seat.inside.seat.me.0 in
     let can : CanSplit v = subst (λ (p : SeatState). CanSplit p.view) (sym c.seat.view_is) c.requires.names in
     let g = bit_given _ _ _ _ _ i (omega arith) can in
-    let s = c.split_seat-new.ensures in
-    let l = c.load-seat-inside.ensures in
-    let one = ap (λ (m : Me (Unit {0}) View). m.0.family) s.2 ∙ ap (λ (w : View). (giver w).family) l.2.0.after in
-    let two = ap (λ (m : Me (Unit {0}) View). m.0.family) s.4 ∙ ap (λ (w : View). (given w).family) l.2.0.after in
+    let (one_table, one_id, left, other_table, right) = c.split_seat-new.ensures in
+    let (same_table, same_id, (looked, carried)) = c.load-seat-inside.ensures in
+    let one = ap (λ (m : Me (Unit {0}) View). m.0.family) left ∙ ap (λ (w : View). (giver w).family) looked.after in
+    let two = ap (λ (m : Me (Unit {0}) View). m.0.family) right ∙ ap (λ (w : View). (given w).family) looked.after in
     let was = ap (λ (p : SeatState). p.view.family) c.seat.view_is in
     (λ k. one k + two k) ∙ (let le = g.0.fits in omega arith)

@@ -11,10 +11,10 @@ load-found-requires c = (ap (λ (p : SeatState). p.window) c.seat.view_is ∙ c.
 
 pub compare_exchange-now-requires : goal.compare_exchange-now-requires
 compare_exchange-now-requires c =
-    let l = c.load-found.ensures in
+    let (same_table, same_id, (looked, carried)) = c.load-found.ensures in
     let i = c.seat.invariant in
-    let family : c.load-found.new.seat.me.0.family ≡ c.seat.inside.family = ap (λ (v : View). v.family) l.2.0.after ∙ sym i.family in (
-      l.0 ∙ ap (λ (p : SeatState). p.window) c.seat.view_is ∙ c.requires.own ∙ sym c.self.view_is,
+    let family : c.load-found.new.seat.me.0.family ≡ c.seat.inside.family = ap (λ (v : View). v.family) looked.after ∙ sym i.family in (
+      same_table ∙ ap (λ (p : SeatState). p.window) c.seat.view_is ∙ c.requires.own ∙ sym c.self.view_is,
       (let w = c.self.invariant in omega arith),
       exchange_draw_allows _ _ _ _ _ _ (omega arith) (omega arith) (live c.load-found.new.seat.me.0.family c.seat.inside.name (ap (λ (w : ℕ). bit_at w c.seat.inside.name) family ∙ i.has_own)),
     )
