@@ -14,8 +14,8 @@ stands_at p ps c codes true same is later =
     let spelled : p.1 ≡ codes = cc in
     (0, omega arith, ap₂ (λ n l. (n, l)) (eqb-true p.0 c same) spelled)
 stands_at p ps c codes false same is later =
-    let found = later is in
-    (suc found.0, omega (arith, found.1), found.2)
+    let (place, within, here) = later is in
+    (suc place, omega (arith, within), here)
 
 stands_in : (ps : List (ℕ × List ℕ)) (c : ℕ) (codes : List ℕ) → codes_in ps c ≡ Some codes → Contains ps (c, codes)
 stands_in [] c codes is = cc
@@ -41,4 +41,4 @@ found_in (p ∷ ps) x (suc k) rule within is =
 
 pub standing_is_found : (c : ℕ) (codes : List ℕ) → Contains default_alphabet (c, codes) → codes_of c ≡ Some codes
 unfolding codes_of
-standing_is_found c codes stands = found_in default_alphabet (c, codes) stands.0 alphabet-is_one_to_one stands.1 stands.2
+standing_is_found c codes (place, within, here) = found_in default_alphabet (c, codes) place alphabet-is_one_to_one within here

@@ -68,8 +68,8 @@ paired text is = ap (list_any (λ o. not (is_some o))) (utf16_chars-spelling tex
 
 -- the text that std reads is the one with these units
 pub ucs2_read : (units bytes : List ℕ) → IsUtf16Of units bytes → IsUtf8 bytes → ucs2_spelling (chars bytes) ≡ units
-ucs2_read units bytes read utf8 =
-    ap ucs2_spelling (encodes_same (chars bytes) read.0 (encodes-chars bytes utf8 ∙ read.2)) ∙ sym read.1
+ucs2_read units bytes (text, spelled, encoded) utf8 =
+    ap ucs2_spelling (encodes_same (chars bytes) text (encodes-chars bytes utf8 ∙ encoded)) ∙ sym spelled
 
 pub ucs2_never : (units : List ℕ) → has_unpaired_surrogate units ≡ true → SpellsNoText Ucs2 units
 ucs2_never units unpaired = λ text is_text is.

@@ -5,8 +5,8 @@ use Rattle.sms_alphabet.proofs.spelling.ucs2.Goals as goal
 pub loop-unit-preserved : goal.loop-unit-preserved
 loop-unit-preserved c =
     rw c.in_ok-push.ensures.items (elim c.in-Some.ensures.steps [
-      | inl second ↦ units_on_pending _ _ _ _ _ _ c.in-Some.unit c.loop-unit.invariant second.0 second.1 second.2
-      | inr first ↦ units_on _ _ _ _ _ _ c.in-Some.unit first.1.0 c.loop-unit.invariant first.0 first.1.1 first.1.2
+      | inl (pending, spent, left) ↦ units_on_pending _ _ _ _ _ _ c.in-Some.unit c.loop-unit.invariant pending spent left
+      | inr (none, (char, left, spelled)) ↦ units_on _ _ _ _ _ _ c.in-Some.unit char c.loop-unit.invariant none left spelled
     ])
 
 pub returns : goal.returns
