@@ -70,13 +70,22 @@ replicate_push : {A : Type 0} (n : ℕ) (x : A) (zs : List A) → replicate n x 
 replicate_push zero x zs = refl
 replicate_push (suc n) x zs = ap (λ l. x ∷ l) (replicate_push n x zs)
 
--- the next of a list of equal ones, of which so many were taken
-pub next_equal : {A : Type 0} (taken n : ℕ) (x y : A) (ys zs : List A) → replicate taken x ++ ys ≡ replicate n x → ys ≡ y ∷ zs → (y ≡ x) × (taken < n) × (replicate (suc taken) x ++ zs ≡ replicate n x)
+-- what the next of a list of equal ones is, of which so many were taken, and what is left behind it
+pub record IsNextEqual {A : Type 0} (taken n : ℕ) (x y : A) (zs : List A) : Type 0 where
+  pub same : y ≡ x
+  pub few : taken < n
+  pub rest : replicate (suc taken) x ++ zs ≡ replicate n x
+
+pub next_equal : {A : Type 0} (taken n : ℕ) (x y : A) (ys zs : List A) → replicate taken x ++ ys ≡ replicate n x → ys ≡ y ∷ zs → IsNextEqual taken n x y zs
 next_equal taken n x y ys zs all is =
     let whole : replicate taken x ++ y ∷ zs ≡ replicate n x = ap (λ l. replicate taken x ++ l) (sym is) ∙ all in
     let m = middle (replicate taken x) y zs n x whole in
     let count = length-replicate taken x in
-    (m.0, (let l = m.1 in omega arith), sym (replicate_push taken x zs) ∙ ap (λ z. replicate taken x ++ z ∷ zs) (sym m.0) ∙ whole)
+    record {
+      same = m.0;
+      few = let l = m.1 in omega arith;
+      rest = sym (replicate_push taken x zs) ∙ ap (λ z. replicate taken x ++ z ∷ zs) (sym m.0) ∙ whole;
+    }
 
 -- all were taken
 pub all_taken : {A : Type 0} (taken n : ℕ) (x : A) (ys : List A) → replicate taken x ++ ys ≡ replicate n x → length ys ≡ 0 → taken ≡ n

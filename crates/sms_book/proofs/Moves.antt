@@ -232,7 +232,8 @@ dealt_views k es ts a v is here = let p = portions_there es k a here in
 pub deals : (accounts workers id k : ℕ) (es : List Entry) (ts a : List Portion) (v : View) → v ≡ Book es ts → slice_get es k ≡ Some (at_home a) → Splits (Kept accounts workers) id v (left_dealt k v) (right_dealt k v)
 deals accounts workers id k es ts a v is here =
     let d = dealt_views k es ts a v is here in
-    subst (λ (x : View × (View × View)). Splits (Kept accounts workers) id x.0 x.1.0 x.1.1) (λ i. (sym is i, (sym d.0 i, sym d.1 i))) whole
+    subst (λ (u : View). Splits (Kept accounts workers) id u (left_dealt k v) (right_dealt k v)) (sym is)
+    (subst (λ (x : View × View). Splits (Kept accounts workers) id (Book es ts) x.0 x.1) (λ i. (sym d.0 i, sym d.1 i)) whole)
   where
     whole : Splits (Kept accounts workers) id (Book es ts) (Book (set es k (away a)) ts) (Holder k a)
     whole s h at =

@@ -27,34 +27,34 @@ next_away e n w ps low =
 pub deal-requires-clause-here : goal.deal-requires-clause-here
 deal-requires-clause-here g c =
     let i = c.loop-amounts.invariant in
-    let b = c.requires.book in
+    let (e, ts, is) = c.requires.book in
     let n = c.loop-amounts.number in
     let w = g.N.BookName.book.workers in
     let ps = replicate g.N.BookName.book.accounts nothing in
     let mid = next_equal n w _ _ _ _ i.rest (ap (map (λ a. a.items)) c.in-Some.ensures.steps.0) in
-    record { entries = b.0 ∷ dealt n (replicate w (at_home ps)); totals = b.1; portions = ps; is = i.seat b.0 b.1 b.2; entry = next_home b.0 n w ps mid.1 }
+    record { entries = e ∷ dealt n (replicate w (at_home ps)); totals = ts; portions = ps; is = i.seat e ts is; entry = next_home e n w ps mid.few }
 
 pub invariant_of-push_reserved : goal.invariant_of-push_reserved
 invariant_of-push_reserved g c =
     let i = c.loop-amounts.invariant in
-    let b = c.requires.book in
+    let (e, ts, is) = c.requires.book in
     let n = c.loop-amounts.number in
     let w = g.N.BookName.book.workers in
     let ps = replicate g.N.BookName.book.accounts nothing in
     let mid = next_equal n w _ _ _ _ i.rest (ap (map (λ a. a.items)) c.in-Some.ensures.steps.0) in
-    let given = c.deal.ensures.holder (b.0 ∷ dealt n (replicate w (at_home ps))) b.1 ps (i.seat b.0 b.1 b.2) (next_home b.0 n w ps mid.1) in
+    let given = c.deal.ensures.holder (e ∷ dealt n (replicate w (at_home ps))) ts ps (i.seat e ts is) (next_home e n w ps mid.few) in
     record {
       seat_is = c.deal.ensures.table.1 ∙ i.table;
-      accounts = ap length mid.0 ∙ length-replicate g.N.BookName.book.accounts no_amounts;
+      accounts = ap length mid.same ∙ length-replicate g.N.BookName.book.accounts no_amounts;
       number = n + 1;
-      view = given ∙ ap (λ (x : List Portion). Holder (n + 1) x ∷ []) (sym (ap (map of_worker) mid.0 ∙ workers-nothing g.N.BookName.book.accounts));
+      view = given ∙ ap (λ (x : List Portion). Holder (n + 1) x ∷ []) (sym (ap (map of_worker) mid.same ∙ workers-nothing g.N.BookName.book.accounts));
     }
 
 pub push_reserved-requires : goal.push_reserved-requires
 push_reserved-requires g c =
     let i = c.loop-amounts.invariant in
     let mid = next_equal c.loop-amounts.number g.N.BookName.book.workers _ _ _ _ i.rest (ap (map (λ a. a.items)) c.in-Some.ensures.steps.0) in
-    let low = mid.1 in
+    let low = mid.few in
     let count = i.count in
     let room = i.room in
     omega arith
@@ -69,16 +69,16 @@ loop-amounts-preserved g c =
     let blank = replicate name.accounts no_amounts in
     let mid = next_equal n w _ _ _ _ i.rest (ap (map (λ a. a.items)) c.in-Some.ensures.steps.0) in
     let one : n + 1 ≡ suc n = omega arith in
-    let b = c.requires.book in
-    let given = c.deal.ensures.holder (b.0 ∷ dealt n (replicate w (at_home ps))) b.1 ps (i.seat b.0 b.1 b.2) (next_home b.0 n w ps mid.1) in
+    let (e, ts, is) = c.requires.book in
+    let given = c.deal.ensures.holder (e ∷ dealt n (replicate w (at_home ps))) ts ps (i.seat e ts is) (next_home e n w ps mid.few) in
     record {
       table = c.deal.ensures.table.0 ∙ i.table;
       seat = λ e ts is.
-          c.deal.ensures.book (e ∷ dealt n (replicate w (at_home ps))) ts ps (i.seat e ts is) (next_home e n w ps mid.1)
-          ∙ ap (λ (x : List Entry). Book x ts ∷ []) (next_away e n w ps mid.1);
+          c.deal.ensures.book (e ∷ dealt n (replicate w (at_home ps))) ts ps (i.seat e ts is) (next_home e n w ps mid.few)
+          ∙ ap (λ (x : List Entry). Book x ts ∷ []) (next_away e n w ps mid.few);
       count = c.push_reserved.ensures.len ∙ ap (λ (x : ℕ). x + 1) i.count;
-      shares = c.push_reserved.ensures.items ∙ shares_push name.accounts n (n + 1) c.loop-amounts.shares.items _ i.shares one (ap number_of given ∙ one) mid.0;
-      rest = subst (λ (m : ℕ). replicate m blank ++ map (λ a. a.items) (into_iter_items c.next.new.self) ≡ replicate w blank) (sym one) mid.2;
+      shares = c.push_reserved.ensures.items ∙ shares_push name.accounts n (n + 1) c.loop-amounts.shares.items _ i.shares one (ap number_of given ∙ one) mid.same;
+      rest = subst (λ (m : ℕ). replicate m blank ++ map (λ a. a.items) (into_iter_items c.next.new.self) ≡ replicate w blank) (sym one) mid.rest;
       room = subst (λ (k : ℕ). w ≤ k) (sym c.push_reserved.ensures.capacity) i.room;
     }
 

@@ -4,23 +4,27 @@ use Rattle.sms_book.proofs.steps.meet.Goals as goal
 
 pub load-requires : goal.load-requires
 load-requires c =
-    let b = c.requires.book in
-    let s = c.requires.holder in
-    let me = c.take_in-keeper.ensures.seat b.0 b.1 s.0 s.1 b.2 s.2 in
+    let (es, ts, is) = c.requires.book in
+    let (k, ps, there) = c.requires.holder in
+    let me = c.take_in-keeper.ensures.seat es ts k ps is there in
     (search rules, c.requires.words, tells_as _ _ _ _ 0 _ (ap (λ m. m.1) me))
 
 pub returns-clause-book : goal.returns-clause-book
 returns-clause-book c es ts k ps is there =
     let me = c.take_in-keeper.ensures.seat es ts k ps is there in
-    c.into_badge.ensures.2 ∙ ap (λ (m : _). m.0 ∷ []) c.load.ensures.2.0 ∙ ap (λ (m : _). m.0 ∷ []) me
+    let (same_table, same_id, views) = c.into_badge.ensures in
+    let (one_table, one_id, (after, told)) = c.load.ensures in
+    views ∙ ap (λ (m : _). m.0 ∷ []) after ∙ ap (λ (m : _). m.0 ∷ []) me
 
 pub returns-clause-entry : goal.returns-clause-entry
 returns-clause-entry c es ts k ps is there =
     let me = c.take_in-keeper.ensures.seat es ts k ps is there in
-    (c.load.ensures.2.1 es ts k ps (ap (λ m. m.0) me)).0
+    let (one_table, one_id, (after, told)) = c.load.ensures in
+    (told es ts k ps (ap (λ m. m.0) me)).0
 
 pub returns-clause-sums : goal.returns-clause-sums
 returns-clause-sums c es ts is =
-    let s = c.requires.holder in
-    let me = c.take_in-keeper.ensures.seat es ts s.0 s.1 is s.2 in
-    (c.load.ensures.2.1 es ts s.0 s.1 (ap (λ m. m.0) me)).1
+    let (k, ps, there) = c.requires.holder in
+    let me = c.take_in-keeper.ensures.seat es ts k ps is there in
+    let (one_table, one_id, (after, told)) = c.load.ensures in
+    (told es ts k ps (ap (λ m. m.0) me)).1

@@ -17,9 +17,8 @@ loop-low-preserved-in-Less c =
     let within = i.within in
     let middle = c.loop-low.low + (c.loop-low.high - c.loop-low.low) / 2 in
     let low : middle < length c.args.order.now = omega arith in
-    let index = c.requires.2 in
+    let (n, few, index) = c.requires in
     let there = index.places middle low in
-    let few = c.requires.1 in
     let price = price_read c.args.rates.now (slice_index c.args.order.now middle) c.index-rates-order.result (omega arith) in
     let is : prefix_in (prices_of c.args.rates.now) c.args.order.now middle ≡ string_bytes (slice_index_or c.args.rates.now (slice_index c.args.order.now middle) c.index-rates-order.result).prefix = ap (λ (p : Price). p.prefix) price in
     let less : Before (prefix_in (prices_of c.args.rates.now) c.args.order.now middle) c.args.prefix.now =
@@ -27,7 +26,7 @@ loop-low-preserved-in-Less c =
     record {
       ends = omega arith;
       within = i.within;
-      below = λ k at. below_middle _ _ c.requires.0 _ middle k index low less at;
+      below = λ k at. below_middle _ _ n _ middle k index low less at;
       above = i.above;
     }
 
@@ -39,9 +38,8 @@ loop-low-preserved c =
     let within = i.within in
     let middle = c.loop-low.low + (c.loop-low.high - c.loop-low.low) / 2 in
     let low : middle < length c.args.order.now = omega arith in
-    let index = c.requires.2 in
+    let (n, few, index) = c.requires in
     let there = index.places middle low in
-    let few = c.requires.1 in
     let price = price_read c.args.rates.now (slice_index c.args.order.now middle) c.index-rates-order.result (omega arith) in
     let is : prefix_in (prices_of c.args.rates.now) c.args.order.now middle ≡ string_bytes (slice_index_or c.args.rates.now (slice_index c.args.order.now middle) c.index-rates-order.result).prefix = ap (λ (p : Price). p.prefix) price in
     let more : Before c.args.prefix.now (prefix_in (prices_of c.args.rates.now) c.args.order.now middle) =
@@ -50,7 +48,7 @@ loop-low-preserved c =
       ends = omega arith;
       within = omega arith;
       below = i.below;
-      above = λ k at k-low. above_middle _ _ c.requires.0 _ middle k index more at k-low;
+      above = λ k at k-low. above_middle _ _ n _ middle k index more at k-low;
     }
 
 pub returns-in-Equal-clause-found : goal.returns-in-Equal-clause-found
@@ -61,8 +59,8 @@ returns-in-Equal-clause-found c =
     let within = i.within in
     let middle = c.loop-low.low + (c.loop-low.high - c.loop-low.low) / 2 in
     let low : middle < length c.args.order.now = omega arith in
-    let there = c.requires.2.places middle low in
-    let few = c.requires.1 in
+    let (n, few, index) = c.requires in
+    let there = index.places middle low in
     let price = price_read c.args.rates.now (slice_index c.args.order.now middle) c.index-rates-order.result (omega arith) in
     record {
       at = middle;

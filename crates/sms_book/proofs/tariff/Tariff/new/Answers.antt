@@ -9,9 +9,11 @@ returns-in-Err-clause-credits c place =
     let t = told (prices_of c.args.rates.now) c.in-Err.fault (BadCredits place) c.in-Err.ensures.refused in (
       λ is.
           let same : c.in-Err.fault ≡ BadCredits place = cc in
-          let r = t.0 same in
-          (r.0, r.1.prefix, r.1.credits),
-      λ p. ap Err (t.1 (p.0, record { is = refl; prefix = p.1; credits = p.2 })),
+          let (reached, bad) = t.0 same in
+          (reached, bad.prefix, bad.credits),
+      λ p.
+          let (reached, prefix, credits) = p in
+          ap Err (t.1 (reached, record { is = refl; prefix = prefix; credits = credits })),
     )
 
 pub returns-in-Err-clause-double : goal.returns-in-Err-clause-double
@@ -19,7 +21,9 @@ returns-in-Err-clause-double c first second =
     let t = told (prices_of c.args.rates.now) c.in-Err.fault (Duplicate first second) c.in-Err.ensures.refused in (
       λ is.
           let same : c.in-Err.fault ≡ Duplicate first second = cc in
-          let r = t.0 same in
-          (r.0, r.1.prefix, r.1.credits, r.1.double),
-      λ p. ap Err (t.1 (p.0, record { is = refl; prefix = p.1; credits = p.2; double = p.3 })),
+          let (reached, bad) = t.0 same in
+          (reached, bad.prefix, bad.credits, bad.double),
+      λ p.
+          let (reached, prefix, credits, double) = p in
+          ap Err (t.1 (reached, record { is = refl; prefix = prefix; credits = credits; double = double })),
     )
