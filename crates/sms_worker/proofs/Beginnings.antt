@@ -6,7 +6,6 @@ use mathlib.Core.Logic.{dite}
 use native.Mathlib.Decide.{ℕ_discrete}
 use Rattle.sms_core.specs.Rows.{reserved_of, charged_of, returned_of}
 use Rattle.sms_pdu.specs.declared.reply.Reply.{Reply}
-use Rattle.sms_segment.specs.declared.part.Part.{Part}
 use Rattle.sms_window.specs.SeatState.{SeatState}
 use Rattle.sms_book.specs.declared.amounts.Amounts.{Amounts}
 use Rattle.sms_book.specs.Money.{reserved_more}
@@ -23,7 +22,9 @@ use Rattle.sms_worker.specs.Submits.{HasAddresses}
 use Rattle.sms_worker.specs.declared.rules.Rules.{Rules}
 use Rattle.sms_worker.specs.declared.ends.MessageRefusal.{MessageRefusal}
 use Rattle.sms_worker.specs.declared.ends.MessageRefusal.TheVariants.{NoAccount, NoCredit, TooLong, BadAddress, BindClosed, OutOfMemory}
-use Rattle.sms_worker.specs.Told.{IsTold, IsResultOf, IsRefusalOf, IsNotCut, IsKnown, AreParts}
+use Rattle.sms_worker.specs.declared.user_data.UserData.{UserData}
+use Rattle.sms_worker.specs.Told.{IsTold, IsResultOf, IsRefusalOf, IsNotCut, IsKnown}
+use Rattle.sms_worker.specs.UserData.{message_data}
 use Rattle.sms_worker.specs.Keeps.{Keeps}
 use Rattle.sms_worker.proofs.EndLemmas.{total_append, got_of_more, got_of_append}
 use Rattle.sms_worker.proofs.Changes.{amounts_there, amounts_other}
@@ -108,10 +109,10 @@ other_ready old a more i low = dite (ℕ_discrete a i)
     (λ ne. let y = amounts_other old.amounts a i (reserved_more more (amounts_at old.amounts a)) ne in (ap (λ (z : Amounts). z.charged) y, ap (λ (z : Amounts). z.returned) y))
 
 -- a message was begun
-pub keeps_begun : (start : Start) (ms : List Message) (es : List MessageEnd) (texts : List (List Part)) (os : List Open) (seat : SeatState) (share share' : Share) (heard : List Reply) (m : Message) (ps : List Part) (e : MessageEnd)
-    → Keeps start ms es texts os seat share heard → slice_get ms (length es) ≡ Some m → length es < length ms → Begins start.rules m share share' ps e
-    → Keeps start ms (es ++ e ∷ []) (texts ++ ps ∷ []) os seat share' heard
-keeps_begun start ms es texts os seat share share' heard m ps e keeps there low b = record {
+pub keeps_begun : (start : Start) (ms : List Message) (es : List MessageEnd) (texts : List (List UserData)) (os : List Open) (seat : SeatState) (share share' : Share) (heard : List Reply) (m : Message) (carried : List UserData) (e : MessageEnd)
+    → Keeps start ms es texts os seat share heard → slice_get ms (length es) ≡ Some m → length es < length ms → Begins start.rules m share share' carried e
+    → Keeps start ms (es ++ e ∷ []) (texts ++ carried ∷ []) os seat share' heard
+keeps_begun start ms es texts os seat share share' heard m carried e keeps there low b = record {
   messages = keeps.messages;
   window = keeps.window;
   number = b.number ∙ keeps.number;
@@ -153,13 +154,13 @@ keeps_begun start ms es texts os seat share share' heard m ps e keeps there low 
       let c = b.charged i in
       let t = b.returned i in
       (omega arith, omega arith, omega arith);
-  parts = λ k m' ps' at got. elim (got_of_append texts ps k ps' got) [
-    | inl h ↦ keeps.parts k m' ps' at h
-    | inr h ↦ (let at' : slice_get start.messages (length es) ≡ Some m' = ap (slice_get start.messages) (sym (h.0 ∙ keeps.parts_long)) ∙ at in
+  texts_kept = λ k m' carried' at got. elim (got_of_append texts carried k carried' got) [
+    | inl h ↦ keeps.texts_kept k m' carried' at h
+    | inr h ↦ (let at' : slice_get start.messages (length es) ≡ Some m' = ap (slice_get start.messages) (sym (h.0 ∙ keeps.texts_long)) ∙ at in
         let same : m ≡ m' = cc in
-        subst (λ x. (x ≡ []) ⊎ AreParts start.rules m' x) (sym h.1) (subst (λ (y : Message). (ps ≡ []) ⊎ AreParts start.rules y ps) same b.texts_kept))
+        subst (λ x. (x ≡ []) ⊎ (x ≡ message_data start.rules m')) (sym h.1) (subst (λ (y : Message). (carried ≡ []) ⊎ (carried ≡ message_data start.rules y)) same b.texts_kept))
   ];
-  parts_long = let a = length-append texts (ps ∷ []) in let b' = length-append es (e ∷ []) in let l = keeps.parts_long in omega arith;
+  texts_long = let a = length-append texts (carried ∷ []) in let b' = length-append es (e ∷ []) in let l = keeps.texts_long in omega arith;
 }
   where
     there' : slice_get start.messages (length es) ≡ Some m

@@ -15,6 +15,7 @@ use Rattle.sms_book.specs.declared.amounts.Amounts.{Amounts}
 use Rattle.sms_book.specs.Portions.{amounts_at, no_amounts}
 use Rattle.sms_book.specs.Shares.{Share}
 use Rattle.sms_book.specs.Money.{charged_more, returned_more}
+use Rattle.sms_book.specs.declared.money.Move.{Move}
 use Rattle.sms_worker.specs.declared.message.Message.{Message}
 use Rattle.sms_worker.specs.declared.rules.Rules.{Rules}
 use Rattle.sms_worker.specs.declared.ends.Outcome.{Outcome}
@@ -28,7 +29,7 @@ use Rattle.sms_worker.specs.Ends.{segments_in, segment_at, put_in, put, total, c
 use Rattle.sms_worker.specs.Told.{IsTold, AllTold, IsKnown, IsResultOf, AreEnds, Drew, Grew}
 use Rattle.sms_worker.specs.declared.open.Open.{Open}
 use Rattle.sms_worker.specs.Keeps.{slots_of}
-use Rattle.sms_worker.specs.Steps.{settled_to}
+use Rattle.sms_worker.specs.Steps.{move_of, moved_to, settled_to}
 use Rattle.sms_worker.proofs.EndLemmas.{got_of_put, end_of_put, length-put, total_put, part_at_most, end_at}
 
 pub slots-append : (os : List Open) (o : Open) → slots_of (os ++ o ∷ []) ≡ slots_of os ++ o.slot ∷ []
@@ -46,7 +47,7 @@ told_put rules before received ms es k p m s others there mine j q m' s' mj at =
 ]
 
 result_put : (rules : Rules) (accounts : ℕ) (m : Message) (r : MessageResult) (p : ℕ) (s : SegmentEnd) → IsResultOf rules accounts m r → IsResultOf rules accounts m (put_in r p s)
-result_put rules accounts m (Sent ss) p s h = (h.0, h.1, h.2, length-set ss p s ∙ h.3)
+result_put rules accounts m (Sent ss) p s h = record { known = h.known; addresses = h.addresses; short = h.short; parts = length-set ss p s ∙ h.parts }
 result_put rules accounts m (NotSent refusal) p s h = h
 
 pub ends_put : (rules : Rules) (accounts : ℕ) (ms : List Message) (es : List MessageEnd) (k p : ℕ) (s : SegmentEnd) → AreEnds rules accounts ms es → AreEnds rules accounts ms (put es k p s)
@@ -187,42 +188,30 @@ sums_here x y i a s s' o o' e is is' er eh et =
     let t' = credit_here returned_of i a s' o' e is' in
     (omega arith, omega arith, omega arith)
 
+-- its account's amounts changed to these
+sums_by : (now : Share) (i a : ℕ) (s s' : SegmentEnd) (o : Outcome) (y : Amounts) → a < length now.amounts → s.outcome ≡ Unanswered → s'.outcome ≡ o
+    → y.reserved + s.cost ≡ (amounts_at now.amounts a).reserved + reserved_of (phase_of o) s'.cost
+    → y.charged ≡ (amounts_at now.amounts a).charged + charged_of (phase_of o) s'.cost
+    → y.returned ≡ (amounts_at now.amounts a).returned + returned_of (phase_of o) s'.cost
+    → SameSums (amounts_at now.amounts i) (amounts_at (slice_set now.amounts a y) i) i (Some a) s s'
+sums_by now i a s s' o y low is is' er eh et = dite (ℕ_discrete a i)
+    (λ e. let at = moved_here now.amounts a y i low e in
+    let x = ap (amounts_at now.amounts) (sym e) in
+    let yr = ap (λ (z : Amounts). z.reserved) at in
+    let yh = ap (λ (z : Amounts). z.charged) at in
+    let yt = ap (λ (z : Amounts). z.returned) at in
+    let xr = ap (λ (z : Amounts). z.reserved) x in
+    let xh = ap (λ (z : Amounts). z.charged) x in
+    let xt = ap (λ (z : Amounts). z.returned) x in
+    sums_here _ _ i a s s' Unanswered o e is is' (omega arith) (omega arith) (omega arith))
+    (λ ne. sums_away _ _ i a s s' (amounts_other now.amounts a i y ne) ne)
+
 -- the share moved as the outcome says
 sums_moved : (now : Share) (i a : ℕ) (s s' : SegmentEnd) (o : Outcome) → a < length now.amounts → s.outcome ≡ Unanswered → s'.outcome ≡ o → s'.cost ≡ s.cost → s.cost ≤ (amounts_at now.amounts a).reserved
     → SameSums (amounts_at now.amounts i) (amounts_at (settled_to o (Some a) s.cost now).amounts i) i (Some a) s s'
-sums_moved now i a s s' Charged low is is' c fits = dite (ℕ_discrete a i)
-    (λ e. let y = moved_here now.amounts a (charged_more s.cost (amounts_at now.amounts a)) i low e in
-    let x = ap (amounts_at now.amounts) (sym e) in
-    let yr = ap (λ (z : Amounts). z.reserved) y in
-    let yh = ap (λ (z : Amounts). z.charged) y in
-    let yt = ap (λ (z : Amounts). z.returned) y in
-    let xr = ap (λ (z : Amounts). z.reserved) x in
-    let xh = ap (λ (z : Amounts). z.charged) x in
-    let xt = ap (λ (z : Amounts). z.returned) x in
-    sums_here _ _ i a s s' Unanswered Charged e is is' (omega arith) (omega arith) (omega arith))
-    (λ ne. sums_away _ _ i a s s' (amounts_other now.amounts a i _ ne) ne)
-sums_moved now i a s s' Refused low is is' c fits = dite (ℕ_discrete a i)
-    (λ e. let y = moved_here now.amounts a (returned_more s.cost (amounts_at now.amounts a)) i low e in
-    let x = ap (amounts_at now.amounts) (sym e) in
-    let yr = ap (λ (z : Amounts). z.reserved) y in
-    let yh = ap (λ (z : Amounts). z.charged) y in
-    let yt = ap (λ (z : Amounts). z.returned) y in
-    let xr = ap (λ (z : Amounts). z.reserved) x in
-    let xh = ap (λ (z : Amounts). z.charged) x in
-    let xt = ap (λ (z : Amounts). z.returned) x in
-    sums_here _ _ i a s s' Unanswered Refused e is is' (omega arith) (omega arith) (omega arith))
-    (λ ne. sums_away _ _ i a s s' (amounts_other now.amounts a i _ ne) ne)
-sums_moved now i a s s' Unsent low is is' c fits = dite (ℕ_discrete a i)
-    (λ e. let y = moved_here now.amounts a (returned_more s.cost (amounts_at now.amounts a)) i low e in
-    let x = ap (amounts_at now.amounts) (sym e) in
-    let yr = ap (λ (z : Amounts). z.reserved) y in
-    let yh = ap (λ (z : Amounts). z.charged) y in
-    let yt = ap (λ (z : Amounts). z.returned) y in
-    let xr = ap (λ (z : Amounts). z.reserved) x in
-    let xh = ap (λ (z : Amounts). z.charged) x in
-    let xt = ap (λ (z : Amounts). z.returned) x in
-    sums_here _ _ i a s s' Unanswered Unsent e is is' (omega arith) (omega arith) (omega arith))
-    (λ ne. sums_away _ _ i a s s' (amounts_other now.amounts a i _ ne) ne)
+sums_moved now i a s s' Charged low is is' c fits = sums_by now i a s s' Charged (charged_more s.cost (amounts_at now.amounts a)) low is is' (omega arith) (omega arith) (omega arith)
+sums_moved now i a s s' Refused low is is' c fits = sums_by now i a s s' Refused (returned_more s.cost (amounts_at now.amounts a)) low is is' (omega arith) (omega arith) (omega arith)
+sums_moved now i a s s' Unsent low is is' c fits = sums_by now i a s s' Unsent (returned_more s.cost (amounts_at now.amounts a)) low is is' (omega arith) (omega arith) (omega arith)
 sums_moved now i a s s' Unanswered low is is' c fits = dite (ℕ_discrete a i)
     (λ e. sums_here _ _ i a s s' Unanswered Unanswered e is is' (omega arith) (omega arith) (omega arith))
     (λ ne. sums_away _ _ i a s s' refl ne)
@@ -237,10 +226,7 @@ grew_at : (base : List Amounts) (now : Share) (ms : List Message) (es : List Mes
 grew_at base now ms es k p m s s' o (Some a) acc g there at is is' c low =
     let fits = credit_held base now.amounts ms es k p a m s g there at is acc in
     grew_by base now.amounts _ ms es k p m s s' g there at (λ i. subst (λ y. SameSums (amounts_at now.amounts i) (amounts_at (settled_to o (Some a) s.cost now).amounts i) i y s s') (sym acc) (sums_moved now i a s s' o (low a refl) is is' c fits))
-grew_at base now ms es k p m s s' Charged None acc g there at is is' c low = grew_by base now.amounts _ ms es k p m s s' g there at (λ i. subst (λ y. SameSums (amounts_at now.amounts i) (amounts_at now.amounts i) i y s s') (sym acc) (sums_none _ i s s'))
-grew_at base now ms es k p m s s' Refused None acc g there at is is' c low = grew_by base now.amounts _ ms es k p m s s' g there at (λ i. subst (λ y. SameSums (amounts_at now.amounts i) (amounts_at now.amounts i) i y s s') (sym acc) (sums_none _ i s s'))
-grew_at base now ms es k p m s s' Unanswered None acc g there at is is' c low = grew_by base now.amounts _ ms es k p m s s' g there at (λ i. subst (λ y. SameSums (amounts_at now.amounts i) (amounts_at now.amounts i) i y s s') (sym acc) (sums_none _ i s s'))
-grew_at base now ms es k p m s s' Unsent None acc g there at is is' c low = grew_by base now.amounts _ ms es k p m s s' g there at (λ i. subst (λ y. SameSums (amounts_at now.amounts i) (amounts_at now.amounts i) i y s s') (sym acc) (sums_none _ i s s'))
+grew_at base now ms es k p m s s' o None acc g there at is is' c low = grew_by base now.amounts _ ms es k p m s s' g there at (λ i. subst (λ y. SameSums (amounts_at now.amounts i) (amounts_at now.amounts i) i y s s') (sym acc) (sums_none _ i s s'))
 
 -- the account of a message that has segments is one of the book's
 pub known_account : (rules : Rules) (accounts : ℕ) (ms : List Message) (es : List MessageEnd) (k p a : ℕ) (m : Message) (s : SegmentEnd) → AreEnds rules accounts ms es → slice_get ms k ≡ Some m → segment_at es k p ≡ Some s → m.account ≡ Some a → a < accounts
@@ -249,7 +235,7 @@ known_account rules accounts ms es k p a m s shape there at acc =
     known e.0.result e.2 (shape.each k m e.0 there e.1).1
   where
     known : (r : MessageResult) → slice_get (segments_in r) p ≡ Some s → IsResultOf rules accounts m r → a < accounts
-    known (Sent ss) at h = subst (IsKnown accounts) acc h.0
+    known (Sent ss) at h = subst (IsKnown accounts) acc h.known
     known (NotSent refusal) at h = absurd (cc)
 
 pub grew_settled : (rules : Rules) (base : List Amounts) (now : Share) (ms : List Message) (es : List MessageEnd) (k p : ℕ) (m : Message) (s s' : SegmentEnd) (o : Outcome) → AreEnds rules (length now.amounts) ms es → Grew base now.amounts ms es
@@ -258,22 +244,18 @@ pub grew_settled : (rules : Rules) (base : List Amounts) (now : Share) (ms : Lis
 grew_settled rules base now ms es k p m s s' o shape g there at is is' c =
     grew_at base now ms es k p m s s' o m.account refl g there at is is' c (λ a acc. known_account rules (length now.amounts) ms es k p a m s shape there at acc)
 
+length-moved : (acc : Option ℕ) (move : Option Move) (cost : ℕ) (now : Share) → length (moved_to acc move cost now).amounts ≡ length now.amounts
+length-moved None move cost now = refl
+length-moved (Some a) None cost now = refl
+length-moved (Some a) (Some move) cost now = length-set now.amounts a _
+
 pub length-settled : (o : Outcome) (acc : Option ℕ) (cost : ℕ) (now : Share) → length (settled_to o acc cost now).amounts ≡ length now.amounts
-length-settled Charged None cost now = refl
-length-settled Charged (Some a) cost now = length-set now.amounts a _
-length-settled Refused None cost now = refl
-length-settled Refused (Some a) cost now = length-set now.amounts a _
-length-settled Unanswered None cost now = refl
-length-settled Unanswered (Some a) cost now = refl
-length-settled Unsent None cost now = refl
-length-settled Unsent (Some a) cost now = length-set now.amounts a _
+length-settled o acc cost now = length-moved acc (move_of o) cost now
+
+number-moved : (acc : Option ℕ) (move : Option Move) (cost : ℕ) (now : Share) → (moved_to acc move cost now).number ≡ now.number
+number-moved None move cost now = refl
+number-moved (Some a) None cost now = refl
+number-moved (Some a) (Some move) cost now = refl
 
 pub number-settled : (o : Outcome) (acc : Option ℕ) (cost : ℕ) (now : Share) → (settled_to o acc cost now).number ≡ now.number
-number-settled Charged None cost now = refl
-number-settled Charged (Some a) cost now = refl
-number-settled Refused None cost now = refl
-number-settled Refused (Some a) cost now = refl
-number-settled Unanswered None cost now = refl
-number-settled Unanswered (Some a) cost now = refl
-number-settled Unsent None cost now = refl
-number-settled Unsent (Some a) cost now = refl
+number-settled o acc cost now = number-moved acc (move_of o) cost now

@@ -7,9 +7,10 @@ use Rattle.sms_worker.specs.declared.ends.MessageEnd.{MessageEnd}
 use Rattle.sms_worker.specs.declared.ends.MessageResult.{MessageResult}
 use Rattle.sms_worker.specs.declared.ends.MessageResult.TheVariants.{Sent, Refused as NotSent}
 use Rattle.sms_worker.specs.Ends.{segments_in, segment_at, put_in, with_part, put, total_in, total}
-use Rattle.sms_segment.specs.declared.part.Part.{Part}
+use Rattle.sms_worker.specs.declared.user_data.UserData.{UserData}
 use Rattle.sms_worker.specs.declared.rules.Rules.{Rules}
-use Rattle.sms_worker.specs.Told.{AreParts, AreTexts}
+use Rattle.sms_worker.specs.Told.{AreTexts}
+use Rattle.sms_worker.specs.UserData.{message_data}
 use Rattle.sms_worker.specs.Steps.{Takes}
 
 module _ {X : Type 0} where
@@ -213,10 +214,10 @@ pub given_same : (old es new : List MessageEnd) (k p : ℕ) (s : SegmentEnd) →
 given_same old es new k p s t e = given_other old es new k p s s t e ∙ put_same old k p s t.0
 
 -- the parts of a message stay, or are given back
-pub texts_set : (rules : Rules) (ms : List Message) (xs : List (List Part)) (k : ℕ) (v w : List Part) → AreTexts rules ms xs → slice_get xs k ≡ Some v → (w ≡ v) ⊎ (w ≡ []) → AreTexts rules ms (slice_set xs k w)
+pub texts_set : (rules : Rules) (ms : List Message) (xs : List (List UserData)) (k : ℕ) (v w : List UserData) → AreTexts rules ms xs → slice_get xs k ≡ Some v → (w ≡ v) ⊎ (w ≡ []) → AreTexts rules ms (slice_set xs k w)
 texts_set rules ms xs k v w all got is j m ps there at = elim (got_of_set xs k w j ps at) [
   | inl h ↦ elim is [
-    | inl same ↦ subst (λ (x : List Part). (x ≡ []) ⊎ AreParts rules m x) (sym (h.1 ∙ same)) (all k m v (ap (slice_get ms) (sym h.0) ∙ there) got)
+    | inl same ↦ subst (λ (x : List UserData). (x ≡ []) ⊎ (x ≡ message_data rules m)) (sym (h.1 ∙ same)) (all k m v (ap (slice_get ms) (sym h.0) ∙ there) got)
     | inr none_left ↦ inl (h.1 ∙ none_left)
   ]
   | inr h ↦ all j m ps there h

@@ -1,11 +1,12 @@
 -- Each step of a run keeps what a run keeps.
 use Rattle.std.proofs.Common.{◌≡◌, ℕ, suc, ◌<◌, ◌≤◌, List, [], ◌∷◌, ◌++◌, length, map, take, drop, append_assoc, append-nil, length-append, Some, None, inl, inr, refl, sym, ap, ◌∙◌, subst, arith}
-use Rattle.std.specs.Prelude.{◌⊎◌, Option, slice_get}
+use Rattle.std.specs.Prelude.{◌⊎◌, Option, option_map, slice_get}
 use Rattle.std.specs.List.{AllByRecursion}
 use Rattle.sms_pdu.specs.declared.reply.Reply.{Reply}
 use Rattle.sms_segment.specs.declared.part.Part.{Part}
-use Rattle.sms_segment.specs.Part.{HasSeptets}
-use Rattle.std.proofs.lemmas.List.Elements.{recursion_from_All}
+use Rattle.std.proofs.lemmas.Option.{slice_get-map}
+use Rattle.sms_worker.specs.declared.user_data.UserData.{UserData}
+use Rattle.sms_worker.specs.UserData.{user_data, message_data}
 use Rattle.sms_session.specs.declared.policy.Decision.{Decision}
 use Rattle.sms_window.specs.SeatState.{SeatState}
 use Rattle.sms_window.specs.declared.view.View.{View}
@@ -29,7 +30,7 @@ use Rattle.sms_worker.specs.Start.{Start}
 use Rattle.sms_worker.specs.Submits.{SpellsSubmit, message_parts}
 use Rattle.sms_worker.specs.Told.{IsSubmit, IsAnswered, HeardSince, IsTold, IsSettled, IsWaiting, AreEnds, AreTexts, Drew, Grew}
 use Rattle.sms_worker.specs.Keeps.{Keeps, slots_of}
-use Rattle.sms_worker.specs.Steps.{GivesUp, Answers, with_outcome, outcome_after, given_outcome, given_back_to, settled_to, Tries}
+use Rattle.sms_worker.specs.Steps.{GivesUp, Answers, with_outcome, outcome_after, settled_to, Tries}
 use Rattle.sms_worker.specs.declared.attempt.Tried.{Tried}
 use Rattle.sms_worker.specs.declared.attempt.Tried.TheVariants.{Sent, Later, Never}
 use Rattle.sms_worker.proofs.Changes.{told_put, ends_put, drew_same, drew_sent, drew_unused, grew_same, grew_settled, credit_held, length-settled, number-settled}
@@ -37,7 +38,7 @@ use Rattle.sms_worker.proofs.Tries.{all_at, all_snoc, all_front, all_map, sent_s
 use Rattle.sms_worker.proofs.EndLemmas.{get_more, get_last, total_none}
 
 -- one segment end changed, and with it the seat and the share
-pub keeps_put : (start : Start) (ms : List Message) (es : List MessageEnd) (texts : List (List Part)) (os os' : List Open) (seat seat' : SeatState) (share share' : Share) (heard : List Reply) (k p : ℕ) (m : Message) (s s' : SegmentEnd)
+pub keeps_put : (start : Start) (ms : List Message) (es : List MessageEnd) (texts : List (List UserData)) (os os' : List Open) (seat seat' : SeatState) (share share' : Share) (heard : List Reply) (k p : ℕ) (m : Message) (s s' : SegmentEnd)
     → Keeps start ms es texts os seat share heard → slice_get ms k ≡ Some m → segment_at es k p ≡ Some s → IsTold start.rules (length start.received) heard m p s' → seat'.window ≡ seat.window → share'.number ≡ share.number
     → length share'.amounts ≡ length share.amounts → IsOpen start.seat.view.slots (slots_of os') seat'.view.slots → Drew start.seat.view seat'.view start.messages (put es k p s')
     → Grew start.share.amounts share'.amounts start.messages (put es k p s') → length texts ≡ length (put es k p s') → Keeps start ms (put es k p s') texts os' seat' share' heard
@@ -52,23 +53,23 @@ keeps_put start ms es texts os os' seat seat' share share' heard k p m s s' keep
   shape = ends_put start.rules (length start.share.amounts) start.messages es k p s' keeps.shape;
   told = told_put start.rules (length start.received) heard start.messages es k p m s' keeps.told (ap (λ l. slice_get l k) (sym keeps.messages) ∙ there) told;
   money = money;
-  parts = keeps.parts;
-  parts_long = long;
+  texts_kept = keeps.texts_kept;
+  texts_long = long;
 }
 
-pub told_there : (start : Start) (ms : List Message) (es : List MessageEnd) (texts : List (List Part)) (os : List Open) (seat : SeatState) (share : Share) (heard : List Reply) (k p : ℕ) (m : Message) (s : SegmentEnd)
+pub told_there : (start : Start) (ms : List Message) (es : List MessageEnd) (texts : List (List UserData)) (os : List Open) (seat : SeatState) (share : Share) (heard : List Reply) (k p : ℕ) (m : Message) (s : SegmentEnd)
     → Keeps start ms es texts os seat share heard → slice_get ms k ≡ Some m → segment_at es k p ≡ Some s → IsTold start.rules (length start.received) heard m p s
 told_there start ms es texts os seat share heard k p m s keeps there at = keeps.told k p m s (ap (λ l. slice_get l k) (sym keeps.messages) ∙ there) at
 
 -- the credits of a segment that isn't settled are in the share
-pub fits_there : (start : Start) (ms : List Message) (es : List MessageEnd) (texts : List (List Part)) (os : List Open) (seat : SeatState) (share : Share) (heard : List Reply) (k p : ℕ) (m : Message) (s : SegmentEnd)
+pub fits_there : (start : Start) (ms : List Message) (es : List MessageEnd) (texts : List (List UserData)) (os : List Open) (seat : SeatState) (share : Share) (heard : List Reply) (k p : ℕ) (m : Message) (s : SegmentEnd)
     → Keeps start ms es texts os seat share heard → slice_get ms k ≡ Some m → segment_at es k p ≡ Some s → s.outcome ≡ Unanswered → (a : ℕ) → m.account ≡ Some a → (0 < s.cost) × (s.cost ≤ (amounts_at share.amounts a).reserved)
 fits_there start ms es texts os seat share heard k p m s keeps there at is a acc =
     let t = told_there start ms es texts os seat share heard k p m s keeps there at in
     (t.some, credit_held start.share.amounts share.amounts start.messages es k p a m s keeps.money (ap (λ l. slice_get l k) (sym keeps.messages) ∙ there) at is acc)
 
 -- a segment end changed, its attempts' numbers stayed, and its credits moved as its outcome says
-pub keeps_settled : (start : Start) (ms : List Message) (es : List MessageEnd) (texts : List (List Part)) (os : List Open) (seat : SeatState) (share : Share) (heard : List Reply) (k p : ℕ) (m : Message) (s s' : SegmentEnd) (o : Outcome)
+pub keeps_settled : (start : Start) (ms : List Message) (es : List MessageEnd) (texts : List (List UserData)) (os : List Open) (seat : SeatState) (share : Share) (heard : List Reply) (k p : ℕ) (m : Message) (s s' : SegmentEnd) (o : Outcome)
     → Keeps start ms es texts os seat share heard → slice_get ms k ≡ Some m → segment_at es k p ≡ Some s → IsTold start.rules (length start.received) heard m p s' → s.outcome ≡ Unanswered → s'.outcome ≡ o → s'.cost ≡ s.cost
     → map (λ (y : Attempt). y.number) s'.attempts ≡ map (λ (y : Attempt). y.number) s.attempts → length texts ≡ length (put es k p s')
     → Keeps start ms (put es k p s') texts os seat (settled_to o m.account s.cost share) heard
@@ -79,12 +80,8 @@ keeps_settled start ms es texts os seat share heard k p m s s' o keeps there at 
     (grew_settled start.rules start.share.amounts share start.messages es k p m s s' o (subst (λ n. AreEnds start.rules n start.messages es) (sym keeps.accounts) keeps.shape) keeps.money there' at is is' c) long
 
 -- a waiting segment was given up
-given_to : (xs : List Attempt) (acc : Option ℕ) (cost : ℕ) (share : Share) → settled_to (given_outcome xs) acc cost share ≡ given_back_to acc cost share
-given_to [] acc cost share = refl
-given_to (x ∷ xs) acc cost share = refl
-
-pub keeps_given : (start : Start) (ms : List Message) (es es' : List MessageEnd) (texts : List (List Part)) (os : List Open) (seat : SeatState) (share share' : Share) (heard : List Reply) (k p : ℕ) (m : Message) (s s' : SegmentEnd)
-    → Keeps start ms es texts os seat share heard → slice_get ms k ≡ Some m → segment_at es k p ≡ Some s → IsWaiting start.rules.policy.attempts s → GivesUp s s' → share' ≡ given_back_to m.account s.cost share → es' ≡ put es k p s'
+pub keeps_given : (start : Start) (ms : List Message) (es es' : List MessageEnd) (texts : List (List UserData)) (os : List Open) (seat : SeatState) (share share' : Share) (heard : List Reply) (k p : ℕ) (m : Message) (s s' : SegmentEnd)
+    → Keeps start ms es texts os seat share heard → slice_get ms k ≡ Some m → segment_at es k p ≡ Some s → IsWaiting start.rules.policy.attempts s → GivesUp s s' → share' ≡ settled_to s'.outcome m.account s.cost share → es' ≡ put es k p s'
     → length es' ≡ length es → Keeps start ms es' texts os seat share' heard
 keeps_given start ms es es' texts os seat share share' heard k p m s s' keeps there at waits up moved is long =
     let t = told_there start ms es texts os seat share heard k p m s keeps there at in
@@ -95,15 +92,15 @@ keeps_given start ms es es' texts os seat share share' heard k p m s s' keeps th
       answered = subst (AllByRecursion (IsAnswered (length start.received) heard)) (sym up.attempts) t.answered;
       state = inl (up.state start.rules.policy.attempts waits);
     } in
-    let done = keeps_settled start ms es texts os seat share heard k p m s s' (given_outcome s.attempts) keeps there at told waits.outcome up.outcome up.cost (ap (map (λ (y : Attempt). y.number)) up.attempts) (keeps.parts_long ∙ sym long ∙ ap length is) in
-    subst (λ l. Keeps start ms l texts os seat share' heard) (sym is) (subst (λ (x : Share). Keeps start ms (put es k p s') texts os seat x heard) (sym (moved ∙ sym (given_to s.attempts m.account s.cost share))) done)
+    let done = keeps_settled start ms es texts os seat share heard k p m s s' s'.outcome keeps there at told waits.outcome refl up.cost (ap (map (λ (y : Attempt). y.number)) up.attempts) (keeps.texts_long ∙ sym long ∙ ap length is) in
+    subst (λ l. Keeps start ms l texts os seat share' heard) (sym is) (subst (λ (x : Share). Keeps start ms (put es k p s') texts os seat x heard) (sym moved) done)
 
 numbers_heard : (front : List Attempt) (last last' : Attempt) → last'.number ≡ last.number → map (λ (y : Attempt). y.number) (front ++ last' ∷ []) ≡ map (λ (y : Attempt). y.number) (front ++ last ∷ [])
 numbers_heard [] last last' e = ap (λ n. n ∷ []) e
 numbers_heard (x ∷ front) last last' e = ap (λ l. x.number ∷ l) (numbers_heard front last last' e)
 
 -- an answer was recorded, and decided
-pub keeps_answered : (start : Start) (ms : List Message) (es es' : List MessageEnd) (texts : List (List Part)) (os : List Open) (seat : SeatState) (share share' : Share) (heard : List Reply) (k p : ℕ) (m : Message) (s s1 s' : SegmentEnd) (r : Reply) (d : Decision)
+pub keeps_answered : (start : Start) (ms : List Message) (es es' : List MessageEnd) (texts : List (List UserData)) (os : List Open) (seat : SeatState) (share share' : Share) (heard : List Reply) (k p : ℕ) (m : Message) (s s1 s' : SegmentEnd) (r : Reply) (d : Decision)
     → Keeps start ms es texts os seat share heard → slice_get ms k ≡ Some m → segment_at es k p ≡ Some s → HeardSince (length start.received) heard r → Answers start.rules.policy.attempts s r d s1 → s' ≡ with_outcome (outcome_after d) s1
     → share' ≡ settled_to (outcome_after d) m.account s.cost share → es' ≡ put es k p s' → length es' ≡ length es → Keeps start ms es' texts os seat share' heard
 keeps_answered start ms es es' texts os seat share share' heard k p m s s1 s' r d keeps there at new a same moved is long =
@@ -122,16 +119,16 @@ keeps_answered start ms es es' texts os seat share share' heard k p m s s1 s' r 
       state = subst (λ (x : SegmentEnd). IsSettled start.rules.policy.attempts x ⊎ IsWaiting start.rules.policy.attempts x) (sym same ∙ after) a.state;
     }) in
     let done = keeps_settled start ms es texts os seat share heard k p m s s' (outcome_after d) keeps there at told h.open_yet (ap (λ (x : SegmentEnd). x.outcome) after) (ap (λ (x : SegmentEnd). x.cost) after)
-    (ap (λ (x : SegmentEnd). map (λ (y : Attempt). y.number) x.attempts) after ∙ numbers_heard h.front h.last last' refl ∙ ap (map (λ (y : Attempt). y.number)) (sym h.before)) (keeps.parts_long ∙ sym long ∙ ap length is) in
+    (ap (λ (x : SegmentEnd). map (λ (y : Attempt). y.number) x.attempts) after ∙ numbers_heard h.front h.last last' refl ∙ ap (map (λ (y : Attempt). y.number)) (sym h.before)) (keeps.texts_long ∙ sym long ∙ ap length is) in
     subst (λ l. Keeps start ms l texts os seat share' heard) (sym is) (subst (λ (x : Share). Keeps start ms (put es k p s') texts os seat x heard) (sym moved) done)
 
 -- nothing changed but the ends' list, which is equal
-pub keeps_same : (start : Start) (ms : List Message) (es es' : List MessageEnd) (texts : List (List Part)) (os : List Open) (seat : SeatState) (share : Share) (heard : List Reply) → Keeps start ms es texts os seat share heard → es' ≡ es
+pub keeps_same : (start : Start) (ms : List Message) (es es' : List MessageEnd) (texts : List (List UserData)) (os : List Open) (seat : SeatState) (share : Share) (heard : List Reply) → Keeps start ms es texts os seat share heard → es' ≡ es
     → Keeps start ms es' texts os seat share heard
 keeps_same start ms es es' texts os seat share heard keeps e = subst (λ l. Keeps start ms l texts os seat share heard) (sym e) keeps
 
 -- the parts that are kept changed
-pub keeps_texts : (start : Start) (ms : List Message) (es : List MessageEnd) (texts texts' : List (List Part)) (os : List Open) (seat : SeatState) (share : Share) (heard : List Reply) → Keeps start ms es texts os seat share heard
+pub keeps_texts : (start : Start) (ms : List Message) (es : List MessageEnd) (texts texts' : List (List UserData)) (os : List Open) (seat : SeatState) (share : Share) (heard : List Reply) → Keeps start ms es texts os seat share heard
     → AreTexts start.rules start.messages texts' → length texts' ≡ length texts → Keeps start ms es texts' os seat share heard
 keeps_texts start ms es texts texts' os seat share heard keeps all long = record {
   messages = keeps.messages;
@@ -144,35 +141,37 @@ keeps_texts start ms es texts texts' os seat share heard keeps all long = record
   shape = keeps.shape;
   told = keeps.told;
   money = keeps.money;
-  parts = all;
-  parts_long = long ∙ keeps.parts_long;
+  texts_kept = all;
+  texts_long = long ∙ keeps.texts_long;
 }
 
--- the part that stands at a place
-pub part_there : (rules : Rules) (ms : List Message) (texts : List (List Part)) (k p : ℕ) (m : Message) (ps : List Part) (part : Part) → AreTexts rules ms texts → slice_get ms k ≡ Some m → slice_get texts k ≡ Some ps → slice_get ps p ≡ Some part
-    → slice_get (message_parts rules m) p ≡ Some part
-part_there rules ms texts k p m ps part all there at got = elim (all k m ps there at) [
-  | inl none_kept ↦ (let e : slice_get [] p ≡ Some part = ap (λ l. slice_get l p) (sym none_kept) ∙ got in absurd (cc))
-  | inr same ↦ ap (λ l. slice_get l p) (sym same.0) ∙ got
-]
+-- a part whose user data it is
+pub record HasPart (parts : List Part) (p : ℕ) (kept : UserData) : Type 0 where
+  pub part : Part
+  pub there : slice_get parts p ≡ Some part
+  pub carried : kept ≡ user_data part
 
--- it can be sent
-pub septets_there : (rules : Rules) (ms : List Message) (texts : List (List Part)) (k p : ℕ) (m : Message) (ps : List Part) (part : Part) → AreTexts rules ms texts → slice_get ms k ≡ Some m → slice_get texts k ≡ Some ps → slice_get ps p ≡ Some part
-    → HasSeptets part
-septets_there rules ms texts k p m ps part all there at got = elim (all k m ps there at) [
-  | inl none_kept ↦ (let e : slice_get [] p ≡ Some part = ap (λ l. slice_get l p) (sym none_kept) ∙ got in absurd (cc))
-  | inr same ↦ all_at HasSeptets ps p part (recursion_from_All HasSeptets ps same.1) got
+part_of : (parts : List Part) (p : ℕ) (kept : UserData) (found : Option Part) → slice_get parts p ≡ found → option_map user_data found ≡ Some kept → HasPart parts p kept
+part_of parts p kept None e is = absurd (cc)
+part_of parts p kept (Some part) e is = record { part = part; there = e; carried = cc }
+
+-- what is kept at a place is of the part there
+pub part_there : (rules : Rules) (ms : List Message) (texts : List (List UserData)) (k p : ℕ) (m : Message) (all : List UserData) (kept : UserData) → AreTexts rules ms texts → slice_get ms k ≡ Some m → slice_get texts k ≡ Some all → slice_get all p ≡ Some kept
+    → HasPart (message_parts rules m) p kept
+part_there rules ms texts k p m all kept are there at got = elim (are k m all there at) [
+  | inl none_kept ↦ (let e : slice_get [] p ≡ Some kept = ap (λ l. slice_get l p) (sym none_kept) ∙ got in absurd (cc))
+  | inr same ↦ part_of (message_parts rules m) p kept (slice_get (message_parts rules m) p) refl (sym (slice_get-map user_data (message_parts rules m) p) ∙ ap (λ l. slice_get l p) (sym same) ∙ got)
 ]
 
 -- a try to send
-pub keeps_tried : (start : Start) (rules : Rules) (ms : List Message) (es es' : List MessageEnd) (texts : List (List Part)) (os os' : List Open) (seat seat' : SeatState) (share : Share) (heard : List Reply) (k p : ℕ) (m : Message) (part : Part) (s s' : SegmentEnd) (tried : Tried)
+pub keeps_tried : (start : Start) (rules : Rules) (ms : List Message) (es es' : List MessageEnd) (texts : List (List UserData)) (os os' : List Open) (seat seat' : SeatState) (share : Share) (heard : List Reply) (k p : ℕ) (m : Message) (part : Part) (s s' : SegmentEnd) (tried : Tried)
     → Keeps start ms es texts os seat share heard → rules ≡ start.rules → slice_get ms k ≡ Some m → slice_get (message_parts start.rules m) p ≡ Some part → segment_at es k p ≡ Some s → IsWaiting start.rules.policy.attempts s
     → Tries rules m part seat.view s.attempts tried seat'.view s'.attempts → s'.cost ≡ s.cost → s'.outcome ≡ s.outcome → seat'.window ≡ seat.window → IsOpen start.seat.view.slots (slots_of os') seat'.view.slots
     → es' ≡ put es k p s' → length es' ≡ length es → Keeps start ms es' texts os' seat' share heard
 keeps_tried start rules ms es es' texts os os' seat seat' share heard k p m part s s' tried keeps same there here at waits tries cost outcome window slots is long =
     subst (λ l. Keeps start ms l texts os' seat' share heard) (sym is)
     (keeps_put start ms es texts os os' seat seat' share share heard k p m s s' keeps there at (told tried tries) window refl refl slots (numbers tried tries)
-    (grew_same start.share.amounts share.amounts start.messages es k p m s s' keeps.money there' at cost outcome) (keeps.parts_long ∙ sym long ∙ ap length is))
+    (grew_same start.share.amounts share.amounts start.messages es k p m s s' keeps.money there' at cost outcome) (keeps.texts_long ∙ sym long ∙ ap length is))
   where
     there' : slice_get start.messages k ≡ Some m
     there' = ap (λ l. slice_get l k) (sym keeps.messages) ∙ there
@@ -208,7 +207,7 @@ keeps_tried start rules ms es es' texts os os' seat seat' share heard k p m part
     ]
 
 -- a slot was released
-pub keeps_closed : (start : Start) (ms : List Message) (es : List MessageEnd) (texts : List (List Part)) (os : List Open) (seat seat' : SeatState) (share : Share) (heard : List Reply) (i : ℕ) (o : Open) → Keeps start ms es texts os seat share heard
+pub keeps_closed : (start : Start) (ms : List Message) (es : List MessageEnd) (texts : List (List UserData)) (os : List Open) (seat seat' : SeatState) (share : Share) (heard : List Reply) (i : ℕ) (o : Open) → Keeps start ms es texts os seat share heard
     → slice_get os i ≡ Some o → seat'.window ≡ seat.window → FreedSlot seat.view o.slot seat'.view → Keeps start ms es texts (take i os ++ drop (suc i) os) seat' share heard
 keeps_closed start ms es texts os seat seat' share heard i o keeps at window freed =
     let less = one_less_at (λ (x : Open). x.slot) start.seat.view.slots seat.view.slots os i o keeps.slots at in
@@ -224,12 +223,12 @@ keeps_closed start ms es texts os seat seat' share heard i o keeps at window fre
       shape = keeps.shape;
       told = keeps.told;
       money = keeps.money;
-      parts = keeps.parts;
-      parts_long = keeps.parts_long;
+      texts_kept = keeps.texts_kept;
+      texts_long = keeps.texts_long;
     }
 
 -- one reply more was heard
-pub keeps_heard : (start : Start) (ms : List Message) (es : List MessageEnd) (texts : List (List Part)) (os : List Open) (seat : SeatState) (share : Share) (heard heard' : List Reply) (r : Reply) → Keeps start ms es texts os seat share heard
+pub keeps_heard : (start : Start) (ms : List Message) (es : List MessageEnd) (texts : List (List UserData)) (os : List Open) (seat : SeatState) (share : Share) (heard heard' : List Reply) (r : Reply) → Keeps start ms es texts os seat share heard
     → heard' ≡ heard ++ r ∷ [] → Keeps start ms es texts os seat share heard'
 keeps_heard start ms es texts os seat share heard heard' r keeps e = record {
   messages = keeps.messages;
@@ -246,23 +245,23 @@ keeps_heard start ms es texts os seat share heard heard' r keeps e = record {
         cost = t.cost;
         some = t.some;
         sent = t.sent;
-        answered = all_map (IsAnswered (length start.received) heard) (IsAnswered (length start.received) heard') (λ a h x is. let g = h x is in (g.0, (g.1.0, g.1.1, ap (λ l. slice_get l g.1.0) e ∙ get_more heard r g.1.0 x g.1.2))) s.attempts t.answered;
+        answered = all_map (IsAnswered (length start.received) heard) (IsAnswered (length start.received) heard') (λ a h x is. let g = h x is in (g.0, record { place = g.1.place; since = g.1.since; there = ap (λ l. slice_get l g.1.place) e ∙ get_more heard r g.1.place x g.1.there })) s.attempts t.answered;
         state = t.state;
       };
   money = keeps.money;
-  parts = keeps.parts;
-  parts_long = keeps.parts_long;
+  texts_kept = keeps.texts_kept;
+  texts_long = keeps.texts_long;
 }
 
 -- it stands behind those that were received before
-pub heard_now : (start : Start) (ms : List Message) (es : List MessageEnd) (texts : List (List Part)) (os : List Open) (seat : SeatState) (share : Share) (heard heard' : List Reply) (r : Reply) → Keeps start ms es texts os seat share heard
+pub heard_now : (start : Start) (ms : List Message) (es : List MessageEnd) (texts : List (List UserData)) (os : List Open) (seat : SeatState) (share : Share) (heard heard' : List Reply) (r : Reply) → Keeps start ms es texts os seat share heard
     → heard' ≡ heard ++ r ∷ [] → HeardSince (length start.received) heard' r
 heard_now start ms es texts os seat share heard heard' r keeps e =
     let long = ap length keeps.heard_more.1 ∙ length-append start.received keeps.heard_more.0 in
-    (length heard, omega arith, ap (λ l. slice_get l (length heard)) e ∙ get_last heard r)
+    record { place = length heard; since = omega arith; there = ap (λ l. slice_get l (length heard)) e ∙ get_last heard r }
 
 -- a call begins
-pub keeps_opening : (start : Start) (ms : List Message) (es : List MessageEnd) (texts : List (List Part)) (os : List Open) (seat : SeatState) (share : Share) (heard : List Reply) → ms ≡ start.messages → seat ≡ start.seat
+pub keeps_opening : (start : Start) (ms : List Message) (es : List MessageEnd) (texts : List (List UserData)) (os : List Open) (seat : SeatState) (share : Share) (heard : List Reply) → ms ≡ start.messages → seat ≡ start.seat
     → share ≡ start.share → heard ≡ start.received → es ≡ [] → texts ≡ [] → os ≡ [] → Keeps start ms es texts os seat share heard
 keeps_opening start ms es texts os seat share heard messages seats shares received no_ends no_texts no_open =
     subst (λ l. Keeps start ms l texts os seat share heard) (sym no_ends) (subst (λ l. Keeps start ms [] l os seat share heard) (sym no_texts) (subst (λ l. Keeps start ms [] [] l seat share heard) (sym no_open) (record {
@@ -283,6 +282,6 @@ keeps_opening start ms es texts os seat share heard messages seats shares receiv
           let ah = ap (λ (x : Share). (amounts_at x.amounts i).charged) shares in
           let at = ap (λ (x : Share). (amounts_at x.amounts i).returned) shares in
           (omega arith, omega arith, omega arith);
-      parts = λ k m ps there at. absurd (cc);
-      parts_long = refl;
+      texts_kept = λ k m carried there at. absurd (cc);
+      texts_long = refl;
     })))

@@ -3,14 +3,15 @@ use Rattle.std.proofs.Common.{◌≡◌, ℕ, List, []}
 use Rattle.sms_pdu.specs.declared.body.Pdu.{Pdu}
 use Rattle.sms_pdu.specs.declared.body.Body.TheVariants.{Submit}
 use Rattle.sms_segment.specs.declared.part.Part.{Part}
-use Rattle.sms_segment.specs.Part.{short_message, esm_class, data_coding}
 use Rattle.sms_worker.specs.declared.rules.Rules.{Rules}
+use Rattle.sms_worker.specs.declared.user_data.UserData.{UserData}
 use Rattle.sms_worker.specs.Addresses.{Address}
 use Rattle.sms_worker.specs.Submits.{registered, submit_sm}
+use Rattle.sms_worker.specs.UserData.{user_data}
 
--- with these four fields
-abbrev pub filled : Address → Address → ℕ → ℕ → ℕ → List ℕ → ℕ → Pdu
-filled source dest esm asked coding text number = record {
+-- with this user data
+abbrev pub filled : Address → Address → ℕ → UserData → ℕ → Pdu
+filled source dest asked carried number = record {
   status = 0;
   number = number;
   body = Submit (record {
@@ -21,20 +22,19 @@ filled source dest esm asked coding text number = record {
     dest_ton = dest.ton;
     dest_npi = dest.npi;
     dest_addr = dest.octets;
-    esm_class = esm;
+    esm_class = carried.esm_class;
     protocol_id = 0;
     priority = 0;
     schedule = [];
     validity = [];
     registered = asked;
     replace = 0;
-    data_coding = coding;
+    data_coding = carried.data_coding;
     default_msg = 0;
-    short_message = text;
+    short_message = carried.short_message;
     params = [];
   });
 }
 
-pub filled_is : (rules : Rules) (source dest : Address) (part : Part) (number esm asked coding : ℕ) (text : List ℕ) → esm ≡ esm_class part.place → asked ≡ registered rules.receipts → coding ≡ data_coding part.coding
-    → text ≡ short_message part → filled source dest esm asked coding text number ≡ submit_sm rules source dest part number
-filled_is rules source dest part number esm asked coding text e1 e2 e3 e4 = λ i. filled source dest (e1 i) (e2 i) (e3 i) (e4 i) number
+pub filled_is : (rules : Rules) (source dest : Address) (part : Part) (number asked : ℕ) (carried : UserData) → asked ≡ registered rules.receipts → carried ≡ user_data part → filled source dest asked carried number ≡ submit_sm rules source dest part number
+filled_is rules source dest part number asked carried e is = λ i. filled source dest (e i) (is i) number

@@ -1,7 +1,6 @@
 -- A message that is begun.
 use Rattle.std.specs.Prelude.{◌≡◌, ℕ, zero, suc, ◌+◌, ◌<◌, ◌⊎◌, List, [], ◌∷◌, length, string_bytes}
 use Rattle.sms_core.specs.Rows.{reserved_of}
-use Rattle.sms_segment.specs.declared.part.Part.{Part}
 use Rattle.sms_book.specs.Portions.{amounts_at}
 use Rattle.sms_book.specs.Shares.{Share}
 use Rattle.sms_book.specs.Tariffs.{cost_of}
@@ -9,7 +8,9 @@ use Rattle.sms_worker.specs.declared.message.Message.{Message}
 use Rattle.sms_worker.specs.declared.rules.Rules.{Rules}
 use Rattle.sms_worker.specs.declared.ends.MessageEnd.{MessageEnd}
 use Rattle.sms_worker.specs.Ends.{segments_in, total_in, credit}
-use Rattle.sms_worker.specs.Told.{AreParts, IsResultOf}
+use Rattle.sms_worker.specs.declared.user_data.UserData.{UserData}
+use Rattle.sms_worker.specs.Told.{IsResultOf}
+use Rattle.sms_worker.specs.UserData.{message_data}
 use Rattle.sms_worker.specs.declared.ends.Outcome.TheVariants.{Unanswered}
 use Rattle.sms_worker.specs.declared.ends.SegmentEnd.{SegmentEnd}
 
@@ -22,11 +23,11 @@ abbrev pub ready : ℕ → ℕ → List SegmentEnd
 ready cost zero = []
 ready cost (suc n) = fresh cost ∷ ready cost n
 
--- a message was begun: its end, the parts that are kept of it, and what its share reserved for it
-pub record Begins (rules : Rules) (m : Message) (old new : Share) (texts : List Part) (e : MessageEnd) : Type 0 where
+-- a message was begun: its end, the user data that is kept of it, and what its share reserved for it
+pub record Begins (rules : Rules) (m : Message) (old new : Share) (texts : List UserData) (e : MessageEnd) : Type 0 where
   pub index : e.index ≡ m.index
   pub result : IsResultOf rules (length old.amounts) m e.result
-  pub texts_kept : (texts ≡ []) ⊎ AreParts rules m texts
+  pub texts_kept : (texts ≡ []) ⊎ (texts ≡ message_data rules m)
   pub count : ℕ
   pub some : 0 < count → 0 < cost_of rules.tariff (string_bytes m.dest)
   pub segments : segments_in e.result ≡ ready (cost_of rules.tariff (string_bytes m.dest)) count

@@ -28,14 +28,14 @@ use Rattle.sms_slot.specs.declared.slot.Taken.TheVariants.{Got}
 use Rattle.sms_slot.specs.declared.slot.Expired.TheVariants.{Done as IsExpired}
 use Rattle.sms_slot.specs.Slot as slots
 use Rattle.sms_book.specs.declared.amounts.Amounts.{Amounts}
-use Rattle.sms_book.specs.declared.money.Move.TheVariants.{Charge, GiveBack}
+use Rattle.sms_book.specs.declared.money.Move.{Move}
 use Rattle.sms_book.specs.Money.{moved_row, moved_amounts}
 use Rattle.sms_book.specs.Portions.{of_worker, of_row}
 use Rattle.sms_book.specs.Sums.{MovesBy}
 use Rattle.sms_worker.specs.declared.ends.Outcome.{Outcome}
 use Rattle.sms_worker.specs.declared.ends.Outcome.TheVariants.{Charged, Refused, Unanswered, Unsent}
 use Rattle.sms_worker.specs.declared.ends.SegmentEnd.{SegmentEnd}
-use Rattle.sms_worker.specs.Steps.{Answers, GivesUp, outcome_after, with_outcome}
+use Rattle.sms_worker.specs.Steps.{Answers, GivesUp, move_of, outcome_after, with_outcome}
 use Rattle.sms_worker.specs.Told.{IsSettled, IsWaiting}
 
 -- which request a segment is, and who sends it
@@ -108,18 +108,21 @@ HasSlot x p = (x.is_out x.seat ≡ false) × (1 ≤ times_held x.seat x.slot p.p
 abbrev pub AreReserved : Parts → Type 0
 AreReserved p = (p.segment.cost ≤ p.amounts.reserved) × (p.amounts.reserved ≤ p.row.reserved)
 
--- what an outcome does to the account's row, and to what the share has of it
+-- what a move does to the account's row, and to what the share has of it
+abbrev pub row_moved : Option Move → ℕ → Row → Row
+row_moved None cost r = r
+row_moved (Some move) cost r = moved_row move cost r
+
+abbrev pub amounts_moved : Option Move → ℕ → Amounts → Amounts
+amounts_moved None cost a = a
+amounts_moved (Some move) cost a = moved_amounts move cost a
+
+-- and what an outcome does
 abbrev pub row_settled : Outcome → ℕ → Row → Row
-row_settled Charged cost r = moved_row Charge cost r
-row_settled Refused cost r = moved_row GiveBack cost r
-row_settled Unsent cost r = moved_row GiveBack cost r
-row_settled Unanswered cost r = r
+row_settled outcome cost r = row_moved (move_of outcome) cost r
 
 abbrev pub amounts_settled : Outcome → ℕ → Amounts → Amounts
-amounts_settled Charged cost a = moved_amounts Charge cost a
-amounts_settled Refused cost a = moved_amounts GiveBack cost a
-amounts_settled Unsent cost a = moved_amounts GiveBack cost a
-amounts_settled Unanswered cost a = a
+amounts_settled outcome cost a = amounts_moved (move_of outcome) cost a
 
 abbrev pub with_credits : Outcome → Parts → Parts
 with_credits outcome p = record p { row = row_settled outcome p.segment.cost p.row; amounts = amounts_settled outcome p.segment.cost p.amounts }

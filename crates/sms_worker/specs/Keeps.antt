@@ -1,13 +1,13 @@
 -- What a run keeps, from its start to its end.
 use Rattle.std.specs.Prelude.{◌≡◌, ℕ, List, ◌++◌, length, map}
 use Rattle.sms_pdu.specs.declared.reply.Reply.{Reply}
-use Rattle.sms_segment.specs.declared.part.Part.{Part}
 use Rattle.sms_window.specs.OpenSlots.{IsOpen}
 use Rattle.sms_window.specs.SeatState.{SeatState}
 use Rattle.sms_book.specs.Shares.{Share}
 use Rattle.sms_worker.specs.declared.message.Message.{Message}
 use Rattle.sms_worker.specs.declared.ends.MessageEnd.{MessageEnd}
 use Rattle.sms_worker.specs.declared.open.Open.{Open}
+use Rattle.sms_worker.specs.declared.user_data.UserData.{UserData}
 use Rattle.sms_worker.specs.Start.{Start}
 use Rattle.sms_worker.specs.Told.{AllTold, AreEnds, AreTexts, Drew, Grew}
 
@@ -15,7 +15,7 @@ use Rattle.sms_worker.specs.Told.{AllTold, AreEnds, AreTexts, Drew, Grew}
 abbrev pub slots_of : List Open → List ℕ
 slots_of opened = map (λ o. o.slot) opened
 
-pub record Keeps (start : Start) (ms : List Message) (es : List MessageEnd) (texts : List (List Part)) (opened : List Open) (seat : SeatState) (share : Share) (heard : List Reply) : Type 0 where
+pub record Keeps (start : Start) (ms : List Message) (es : List MessageEnd) (texts : List (List UserData)) (opened : List Open) (seat : SeatState) (share : Share) (heard : List Reply) : Type 0 where
   -- what it was given
   pub messages : ms ≡ start.messages
   pub window : seat.window ≡ start.seat.window
@@ -29,6 +29,6 @@ pub record Keeps (start : Start) (ms : List Message) (es : List MessageEnd) (tex
   pub shape : AreEnds start.rules (length start.share.amounts) start.messages es
   pub told : AllTold start.rules (length start.received) heard start.messages es
   pub money : Grew start.share.amounts share.amounts start.messages es
-  -- the parts of the messages that were begun
-  pub parts : AreTexts start.rules start.messages texts
-  pub parts_long : length texts ≡ length es
+  -- what is kept of the messages that were begun
+  pub texts_kept : AreTexts start.rules start.messages texts
+  pub texts_long : length texts ≡ length es

@@ -13,3 +13,4 @@ pub mod Steps
 pub mod Submits
 pub mod Sweeps
 pub mod Told
+pub mod UserData

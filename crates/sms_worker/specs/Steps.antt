@@ -7,7 +7,9 @@ use Rattle.sms_session.specs.declared.policy.Decision.TheVariants.{Charge, Retry
 use Rattle.sms_window.specs.declared.view.View.{View}
 use Rattle.sms_window.specs.Drawing.{HasDrawn}
 use Rattle.sms_book.specs.Shares.{Share, changed}
-use Rattle.sms_book.specs.Money.{charged_more, returned_more}
+use Rattle.sms_book.specs.Money.{moved_amounts}
+use Rattle.sms_book.specs.declared.money.Move.{Move}
+use Rattle.sms_book.specs.declared.money.Move.TheVariants as moves
 use Rattle.sms_worker.specs.declared.message.Message.{Message}
 use Rattle.sms_worker.specs.declared.rules.Rules.{Rules}
 use Rattle.sms_worker.specs.declared.ends.Outcome.{Outcome}
@@ -60,20 +62,21 @@ Tries rules m part v old (Sent n) w new =
 Tries rules m part v old Later w new = HasDrawn v [] w × (new ≡ old)
 Tries rules m part v old Never w new = (HasDrawn v [] w ⊎ ((n : ℕ) × HasDrawn v (n ∷ []) w)) × (new ≡ old)
 
--- the share after the credits of a segment moved; nothing moves where there is no account
-abbrev pub charged_to : Option ℕ → ℕ → Share → Share
-charged_to None cost s = s
-charged_to (Some account) cost s = changed s account (charged_more cost)
+-- where the credits go that were reserved for a segment; without an answer they stay reserved
+abbrev pub move_of : Outcome → Option Move
+move_of Charged = Some moves.Charge
+move_of Refused = Some moves.GiveBack
+move_of Unsent = Some moves.GiveBack
+move_of Unanswered = None
 
-abbrev pub given_back_to : Option ℕ → ℕ → Share → Share
-given_back_to None cost s = s
-given_back_to (Some account) cost s = changed s account (returned_more cost)
+-- the share after that; nothing moves where there is no account
+abbrev pub moved_to : Option ℕ → Option Move → ℕ → Share → Share
+moved_to None move cost s = s
+moved_to (Some account) None cost s = s
+moved_to (Some account) (Some move) cost s = changed s account (moved_amounts move cost)
 
 abbrev pub settled_to : Outcome → Option ℕ → ℕ → Share → Share
-settled_to Charged account cost s = charged_to account cost s
-settled_to Refused account cost s = given_back_to account cost s
-settled_to Unsent account cost s = given_back_to account cost s
-settled_to Unanswered account cost s = s
+settled_to outcome account cost s = moved_to account (move_of outcome) cost s
 
 -- a segment end is out of its place, where some other stands meanwhile
 abbrev pub Takes : List MessageEnd → ℕ → ℕ → SegmentEnd → List MessageEnd → Type 0

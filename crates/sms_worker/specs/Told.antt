@@ -1,5 +1,5 @@
 -- What a worker's record says of its segments.
-use Rattle.std.specs.Prelude.{◌≡◌, ℕ, ◌+◌, ◌<◌, ◌≤◌, ◌⊎◌, List, [], length, map, Option, Some, None, slice_get, string_bytes, All}
+use Rattle.std.specs.Prelude.{◌≡◌, ℕ, ◌+◌, ◌<◌, ◌≤◌, ◌⊎◌, List, [], length, map, Option, Some, None, slice_get, string_bytes}
 use Rattle.std.specs.List.{AllByRecursion}
 use Rattle.sms_core.specs.Replies.{IsRetried, AreAllowed, outcome_of, outcome_of_last}
 use Rattle.sms_core.specs.Replies as core
@@ -8,7 +8,6 @@ use Rattle.sms_core.specs.Rows.{reserved_of, charged_of, returned_of}
 use Rattle.sms_pdu.specs.declared.reply.Reply.{Reply}
 use Rattle.sms_segment.specs.declared.part.Part.{Part}
 use Rattle.sms_segment.specs.Message.{IsTooLong}
-use Rattle.sms_segment.specs.Part.{HasSeptets}
 use Rattle.sms_book.specs.declared.amounts.Amounts.{Amounts}
 use Rattle.sms_book.specs.Portions.{amounts_at}
 use Rattle.sms_book.specs.Tariffs.{cost_of}
@@ -25,7 +24,9 @@ use Rattle.sms_worker.specs.declared.ends.MessageResult.TheVariants.{Sent, Refus
 use Rattle.sms_worker.specs.declared.ends.MessageRefusal.{MessageRefusal}
 use Rattle.sms_worker.specs.declared.ends.MessageRefusal.TheVariants.{NoAccount, NoCredit, TooLong, BadAddress, BindClosed, OutOfMemory}
 use Rattle.sms_worker.specs.Ends.{segment_at, total, credits, uses, phase_of}
+use Rattle.sms_worker.specs.declared.user_data.UserData.{UserData}
 use Rattle.sms_worker.specs.Submits.{HasAddresses, SpellsSubmit, coded_text, reference_of, message_parts}
+use Rattle.sms_worker.specs.UserData.{message_data}
 
 -- an attempt's answer, as the core reads it
 abbrev pub read_reply : Option Reply → Option core.Reply
@@ -51,8 +52,10 @@ abbrev pub IsSubmit : Rules → Message → ℕ → Attempt → Type 0
 IsSubmit rules m p a = (part : Part) × (slice_get (message_parts rules m) p ≡ Some part) × SpellsSubmit rules m part a.number a.sent
 
 -- the reply stands in what was received behind the first so many
-abbrev pub HeardSince : ℕ → List Reply → Reply → Type 0
-HeardSince before received r = (k : ℕ) × (before ≤ k) × (slice_get received k ≡ Some r)
+pub record HeardSince (before : ℕ) (received : List Reply) (r : Reply) : Type 0 where
+  pub place : ℕ
+  pub since : before ≤ place
+  pub there : slice_get received place ≡ Some r
 
 -- an answer has its attempt's number, and was received in this call
 abbrev pub IsAnswered : ℕ → List Reply → Attempt → Type 0
@@ -95,8 +98,15 @@ IsNotCut rules m BadAddress = ⊥
 IsNotCut rules m NoCredit = ⊥
 IsNotCut rules m BindClosed = ⊥
 
+-- no check stands against the message, and it has a segment for each of its parts
+pub record HasSegments (rules : Rules) (accounts : ℕ) (m : Message) (segments : List SegmentEnd) : Type 0 where
+  pub known : IsKnown accounts m.account
+  pub addresses : HasAddresses m
+  pub short : IsShort rules m
+  pub parts : length segments ≡ length (message_parts rules m)
+
 abbrev pub IsResultOf : Rules → ℕ → Message → MessageResult → Type 0
-IsResultOf rules accounts m (Sent segments) = IsKnown accounts m.account × HasAddresses m × IsShort rules m × (length segments ≡ length (message_parts rules m))
+IsResultOf rules accounts m (Sent segments) = HasSegments rules accounts m segments
 IsResultOf rules accounts m (Refused refusal) = IsRefusalOf rules accounts m refusal
 
 -- an end for each message that was begun, in order
@@ -116,10 +126,6 @@ Grew old new ms es = (i : ℕ) → ((amounts_at new i).reserved ≡ (amounts_at 
     × ((amounts_at new i).charged ≡ (amounts_at old i).charged + credits charged_of i ms es)
     × ((amounts_at new i).returned ≡ (amounts_at old i).returned + credits returned_of i ms es)
 
--- they are the parts of the message, and can be sent
-abbrev pub AreParts : Rules → Message → List Part → Type 0
-AreParts rules m ps = (ps ≡ message_parts rules m) × All HasSeptets ps
-
--- the parts of a message that was begun, where they are kept
-abbrev pub AreTexts : Rules → List Message → List (List Part) → Type 0
-AreTexts rules ms kept = (k : ℕ) (m : Message) (ps : List Part) → slice_get ms k ≡ Some m → slice_get kept k ≡ Some ps → (ps ≡ []) ⊎ AreParts rules m ps
+-- what is kept of the messages that were begun: all their user data, or nothing more
+abbrev pub AreTexts : Rules → List Message → List (List UserData) → Type 0
+AreTexts rules ms kept = (k : ℕ) (m : Message) (carried : List UserData) → slice_get ms k ≡ Some m → slice_get kept k ≡ Some carried → (carried ≡ []) ⊎ (carried ≡ message_data rules m)

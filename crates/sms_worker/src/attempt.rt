@@ -1,11 +1,12 @@
 //! One attempt: a slot, a number, a frame, the gate, and the wire.
 ghost use Rattle.std.specs.Prelude.{◌≡◌, ℕ, ◌+◌, ◌<◌, ◌≤◌, ◌⊎◌, vec_len, vec_capacity, IfSome, IfOk, IsTrue};
 ghost use Rattle.sms_core.specs.Limits.{most_slots};
-ghost use Rattle.sms_segment.specs.Part.{HasSeptets};
+ghost use Rattle.sms_segment.specs.declared.part.Part.{Part};
 ghost use Rattle.sms_window.specs.OpenSlots.{IsOpen};
 ghost use Rattle.sms_worker.specs.Keeps.{slots_of};
 ghost use Rattle.sms_worker.specs.Submits.{SpellsSubmit};
 ghost use Rattle.sms_worker.specs.Steps.{Tries, Draws};
+ghost use Rattle.sms_worker.specs.UserData.{user_data};
 
 use crate::address::{destination, source};
 use crate::desk::{Clock, Desk, Gate};
@@ -13,10 +14,10 @@ use crate::ends::Attempt;
 use crate::message::Message;
 use crate::open::{Open, Place};
 use crate::rules::Rules;
+use crate::user_data::UserData;
 use sms_bind::{Receipt, WireFault};
 use sms_book::BookName;
 use sms_pdu::{BodyRef, Frame, PduRef, SmRef, encode_into};
-use sms_segment::Part;
 use sms_window::{Claim, Draw, Window, WindowSeat};
 use std::alloc::Global;
 use std::io::Write;
@@ -59,24 +60,21 @@ fn draw(window: &Window, seat: &mut WindowSeat) -> Number
     Number::Contended
 }
 
-/// The frame of the submit_sm with this number; none where memory runs out.
+/// The frame of the submit_sm with this number, of the part with this user data; none where memory runs
+/// out.
 fn frame_for(
     alloc: Global,
     rules: &Rules,
     message: &Message,
-    part: &Part,
+    carried: &UserData,
     number: u32,
 ) -> Option<Frame>
-    requires { HasSeptets part.now }
-    ensures { IfSome result (λ frame. SpellsSubmit rules.now message.now part.now number frame) }
+    ensures { (part : Part) → carried.now ≡ user_data part → IfSome result (λ frame. SpellsSubmit rules.now message.now part number frame) }
 {
     let Some(from) = source(message.source.as_str()) else {
         return None;
     };
     let Some(to) = destination(message.dest.as_str()) else {
-        return None;
-    };
-    let Ok(short_message) = part.short_message(alloc) else {
         return None;
     };
     let sm = SmRef {
@@ -87,16 +85,16 @@ fn frame_for(
         dest_ton: to.ton,
         dest_npi: to.npi,
         dest_addr: to.octets,
-        esm_class: part.esm_class(),
+        esm_class: carried.esm_class,
         protocol_id: 0,
         priority: 0,
         schedule: &[],
         validity: &[],
         registered: u8::from(rules.receipts),
         replace: 0,
-        data_coding: part.data_coding(),
+        data_coding: carried.data_coding,
         default_msg: 0,
-        short_message: short_message.as_slice(),
+        short_message: carried.short_message.as_slice(),
         params: &[],
     };
     let pdu = PduRef {
@@ -144,28 +142,27 @@ fn post_and_send<N: BookName, W: Write, G: Gate, K: Clock, R: Wait>(
     }
 }
 
-/// Sends a part through a slot that is claimed, and lists the attempt.
+/// Sends the part with this user data through a slot that is claimed, and lists the attempt.
 fn try_send<N: BookName, W: Write, G: Gate, K: Clock, R: Wait>(
     desk: &Desk<N, W, G, K, R>,
     seat: &mut WindowSeat,
     slot: u32,
     message: &Message,
-    part: &Part,
+    carried: &UserData,
     attempts: &mut Vec<Attempt>,
 ) -> Tried
     requires own { seat.old.window ≡ desk.now.window.now }
     requires slot { slot < most_slots }
-    requires septets { HasSeptets part.now }
     ensures window { seat.new.window ≡ seat.old.window }
     ensures slots { seat.new.view.slots ≡ seat.old.view.slots }
-    ensures tried { Tries desk.now.rules.now message.now part.now seat.old.view attempts.old.items result seat.new.view attempts.new.items }
+    ensures tried { (part : Part) → carried.now ≡ user_data part → Tries desk.now.rules.now message.now part seat.old.view attempts.old.items result seat.new.view attempts.new.items }
 {
     let number = match draw(desk.window, seat) {
         Number::Drawn(number) => number,
         Number::UsedUp => return Tried::Never,
         Number::Contended => return Tried::Later,
     };
-    let Some(frame) = frame_for(desk.alloc, desk.rules, message, part, number) else {
+    let Some(frame) = frame_for(desk.alloc, desk.rules, message, carried, number) else {
         return Tried::Never;
     };
     if attempts.reserve(1).is_err() {
@@ -185,29 +182,28 @@ fn try_send<N: BookName, W: Write, G: Gate, K: Clock, R: Wait>(
     Tried::Sent(number)
 }
 
-/// Claims a slot and sends a part through it. The slot is open then, or released.
+/// Claims a slot and sends the part with this user data through it. The slot is open then, or released.
 pub(crate) fn start<N: BookName, W: Write, G: Gate, K: Clock, R: Wait>(
     desk: &Desk<N, W, G, K, R>,
     seat: &mut WindowSeat,
     opened: &mut Vec<Open>,
     place: Place,
     message: &Message,
-    part: &Part,
+    carried: &UserData,
     attempts: &mut Vec<Attempt>,
 ) -> Tried
     requires own { seat.old.window ≡ desk.now.window.now }
     requires room { vec_len opened.old < vec_capacity opened.old }
-    requires septets { HasSeptets part.now }
     ensures window { seat.new.window ≡ seat.old.window }
     ensures open { (base : ℕ) → IsOpen base (slots_of opened.old.items) seat.old.view.slots → IsOpen base (slots_of opened.new.items) seat.new.view.slots }
-    ensures tried { Tries desk.now.rules.now message.now part.now seat.old.view attempts.old.items result seat.new.view attempts.new.items }
+    ensures tried { (part : Part) → carried.now ≡ user_data part → Tries desk.now.rules.now message.now part seat.old.view attempts.old.items result seat.new.view attempts.new.items }
 {
     let slot = match desk.window.try_claim(seat) {
         Claim::Got(slot) => slot,
         Claim::Full => return Tried::Later,
         Claim::Contended(_) => return Tried::Later,
     };
-    let tried = try_send(desk, seat, slot, message, part, attempts);
+    let tried = try_send(desk, seat, slot, message, carried, attempts);
     match tried {
         Tried::Sent(number) => {
             let since_ms = desk.clock.now_ms();

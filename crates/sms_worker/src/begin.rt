@@ -1,10 +1,12 @@
 //! Beginning a message: its parts, its credits, and its end so far.
-ghost use Rattle.std.specs.Prelude.{◌≡◌, ℕ, ◌<◌, ◌≤◌, ◌↔◌, IsTrue, IfOk, IfErr, OnOk, length, vec_len};
+ghost use Rattle.std.specs.Prelude.{◌≡◌, ℕ, ◌<◌, ◌≤◌, ◌↔◌, All, IsTrue, IfOk, IfErr, OnOk, length, vec_len};
 ghost use Rattle.sms_worker.specs.Begins.{ready, Begins};
 ghost use Rattle.sms_book.specs.Tariffs.{cost_of};
 ghost use Rattle.sms_segment.specs.Message.{IsTooLong};
+ghost use Rattle.sms_segment.specs.Part.{HasSeptets};
 ghost use Rattle.sms_worker.specs.Submits.{HasAddresses, coded_text, message_parts, reference_of};
-ghost use Rattle.sms_worker.specs.Told.{AreParts, IsKnown, IsNotCut, IsRefusalOf, IsResultOf, IsShort};
+ghost use Rattle.sms_worker.specs.Told.{IsKnown, IsNotCut, IsRefusalOf, IsResultOf, IsShort};
+ghost use Rattle.sms_worker.specs.UserData.{message_data};
 ghost use Rattle.std.specs.Prelude.{string_bytes};
 
 use crate::address::{destination, source};
@@ -13,7 +15,7 @@ use crate::ends::{
 };
 use crate::message::Message;
 use crate::rules::Rules;
-use crate::texts::{Link, Texts};
+use crate::texts::Texts;
 use sms_alphabet::choose;
 use sms_book::{Book, BookName, Shares};
 use sms_segment::{CutError, Part, Reference, cut};
@@ -55,7 +57,8 @@ fn reference_for(rules: &Rules, message: &Message) -> Reference
 
 /// The parts of a message.
 fn parts_for(alloc: Global, rules: &Rules, message: &Message) -> Result<Vec<Part>, MessageRefusal>
-    ensures parts { IfOk result (λ parts. AreParts rules.now message.now parts.items) }
+    ensures parts { IfOk result (λ parts. parts.items ≡ message_parts rules.now message.now) }
+    ensures septets { IfOk result (λ parts. All HasSeptets parts.items) }
     ensures short { OnOk result (IsShort rules.now message.now) }
     ensures refused { IfErr result (λ e. IsNotCut rules.now message.now e) }
 {
@@ -84,18 +87,6 @@ fn waiting_ends(alloc: Global, count: usize, cost: u32) -> Result<Vec<SegmentEnd
     Ok(ends)
 }
 
-/// A link for each of so many parts.
-fn links_for(alloc: Global, count: usize) -> Result<Vec<Link>, AllocError> {
-    let mut links = Vec::with_capacity(alloc, count)?;
-    for _ in 0..count {
-        links.push(Link {
-            due_ms: 0,
-            next: None,
-        })?;
-    }
-    Ok(links)
-}
-
 /// What a message is sent as, where nothing but its credits stands against it.
 fn prepare(
     alloc: Global,
@@ -106,7 +97,7 @@ fn prepare(
 ) -> Result<(Texts, Vec<SegmentEnd>), MessageRefusal>
     ensures known { IfOk result (λ r. IsKnown accounts message.now.account × HasAddresses message.now) }
     ensures short { OnOk result (IsShort rules.now message.now) }
-    ensures parts { IfOk result (λ r. AreParts rules.now message.now r.0) }
+    ensures texts { IfOk result (λ r. r.0 ≡ message_data rules.now message.now) }
     ensures ends { IfOk result (λ r. r.1.items ≡ ready (cost_of rules.now.tariff (string_bytes message.now.dest)) (length (message_parts rules.now message.now))) }
     ensures refused { IfErr result (λ e. IsRefusalOf rules.now accounts message.now e) }
 {
@@ -123,12 +114,12 @@ fn prepare(
         Ok(parts) => parts,
         Err(refusal) => return Err(refusal),
     };
-    let Ok(links) = links_for(alloc, parts.len()) else {
+    let Ok(texts) = Texts::of(alloc, parts.as_slice()) else {
         return Err(MessageRefusal::OutOfMemory);
     };
     let cost = rules.tariff.cost(message.dest.as_str());
     match waiting_ends(alloc, parts.len(), cost) {
-        Ok(ends) => Ok((Texts::new(parts, links), ends)),
+        Ok(ends) => Ok((texts, ends)),
         Err(_) => Err(MessageRefusal::OutOfMemory),
     }
 }

@@ -22,6 +22,7 @@ mod settling;
 mod tests;
 mod texts;
 mod turns;
+mod user_data;
 mod work;
 
 pub use desk::{Clock, Gate, Pause};

@@ -2,7 +2,7 @@
 ghost use Rattle.std.specs.Prelude.{◌≡◌, vec_len, vec_capacity};
 
 use crate::open::Place;
-use crate::texts::{Link, Texts};
+use crate::texts::{Link, NO_LINK, Texts};
 
 /// The segments with one count of attempts. Their wait is one number, so that the one that came
 /// first is due first. Each is linked to the next.
@@ -23,10 +23,7 @@ fn link_at(texts: &[Texts], place: Place) -> Link {
     if place.message < texts.len() {
         return texts[place.message].link(place.part);
     }
-    Link {
-        due_ms: 0,
-        next: None,
-    }
+    NO_LINK
 }
 
 /// Gives the segment at a place another link.

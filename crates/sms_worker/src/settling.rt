@@ -3,7 +3,7 @@ ghost use Rattle.std.specs.Prelude.{◌≡◌, ℕ, ◌+◌, ◌≤◌, ◌<◌,
 ghost use Rattle.sms_book.specs.Portions.{amounts_at};
 ghost use Rattle.sms_worker.specs.declared.ends.SegmentEnd.{SegmentEnd};
 ghost use Rattle.sms_worker.specs.Ends.{segment_at};
-ghost use Rattle.sms_worker.specs.Steps.{charged_to, given_back_to, settled_to, outcome_after};
+ghost use Rattle.sms_worker.specs.Steps.{settled_to, outcome_after};
 ghost use Rattle.sms_worker.specs.Sweeps.{SweptAt, InPlace};
 ghost use Rattle.sms_worker.specs.Told.{HeardSince, IsSettled};
 
@@ -24,61 +24,39 @@ use std::alloc::Global;
 use std::io::Write;
 use std::sync::{Mutex, Wait};
 
-/// Charges a segment's credits to its account, if it has one.
-fn charge<N: BookName, R: Wait>(
-    rt: &R,
-    book: &Mutex<Book<N>>,
-    shares: &mut Shares<N>,
-    account: Option<usize>,
-    cost: u32,
-)
-    requires { (a : ℕ) → account ≡ Some a → (0 < cost) × (cost ≤ (amounts_at shares.old.amounts a).reserved) }
-    ensures { shares.new ≡ charged_to account cost shares.old }
+/// What an answer makes of its segment, by what was decided.
+fn outcome_of(decision: Decision) -> Outcome
+    ensures { result ≡ outcome_after decision }
 {
-    if let Some(account) = account {
-        book.lock(rt).charge(shares, account, u64::from(cost));
+    match decision {
+        Decision::Charge => Outcome::Charged,
+        Decision::Refuse => Outcome::Refused,
+        Decision::RetryAfter(_) => Outcome::Unanswered,
     }
 }
 
-/// Gives a segment's credits back to its account, if it has one.
-fn give_back<N: BookName, R: Wait>(
-    rt: &R,
-    book: &Mutex<Book<N>>,
-    shares: &mut Shares<N>,
-    account: Option<usize>,
-    cost: u32,
-)
-    requires { (a : ℕ) → account ≡ Some a → (0 < cost) × (cost ≤ (amounts_at shares.old.amounts a).reserved) }
-    ensures { shares.new ≡ given_back_to account cost shares.old }
-{
-    if let Some(account) = account {
-        book.lock(rt).give_back(shares, account, u64::from(cost));
-    }
-}
-
-/// Moves a segment's credits as was decided, and says its outcome.
+/// Moves a segment's credits as its outcome says, if it has an account: they are charged, or given back;
+/// without an answer they stay reserved.
 fn settle<N: BookName, R: Wait>(
     rt: &R,
     book: &Mutex<Book<N>>,
     shares: &mut Shares<N>,
     account: Option<usize>,
     cost: u32,
-    decision: Decision,
-) -> Outcome
+    outcome: Outcome,
+)
     requires { (a : ℕ) → account ≡ Some a → (0 < cost) × (cost ≤ (amounts_at shares.old.amounts a).reserved) }
-    ensures outcome { result ≡ outcome_after decision }
-    ensures shares { shares.new ≡ settled_to (outcome_after decision) account cost shares.old }
+    ensures { shares.new ≡ settled_to outcome account cost shares.old }
 {
-    match decision {
-        Decision::Charge => {
-            charge(rt, book, shares, account, cost);
-            Outcome::Charged
-        }
-        Decision::Refuse => {
-            give_back(rt, book, shares, account, cost);
-            Outcome::Refused
-        }
-        Decision::RetryAfter(_) => Outcome::Unanswered,
+    let Some(account) = account else {
+        return;
+    };
+    let credits = u64::from(cost);
+    match outcome {
+        Outcome::Charged => book.lock(rt).charge(shares, account, credits),
+        Outcome::Refused => book.lock(rt).give_back(shares, account, credits),
+        Outcome::Unsent => book.lock(rt).give_back(shares, account, credits),
+        Outcome::Unanswered => {}
     }
 }
 
@@ -143,7 +121,14 @@ impl<N: BookName, C: Call> Run<N, C> {
             return false;
         }
         let segment = given_up(segment);
-        give_back(desk.rt, desk.book, &mut self.shares, account, segment.cost);
+        settle(
+            desk.rt,
+            desk.book,
+            &mut self.shares,
+            account,
+            segment.cost,
+            segment.outcome,
+        );
         give(&mut self.ends, place, segment);
         true
     }
@@ -178,14 +163,8 @@ impl<N: BookName, C: Call> Run<N, C> {
         };
         let SegmentEnd { cost, attempts, .. } = segment;
         let count = attempts.as_slice().len();
-        let outcome = settle(
-            desk.rt,
-            desk.book,
-            &mut self.shares,
-            account,
-            cost,
-            decision,
-        );
+        let outcome = outcome_of(decision);
+        settle(desk.rt, desk.book, &mut self.shares, account, cost, outcome);
         let segment = SegmentEnd {
             cost,
             attempts,
@@ -209,11 +188,9 @@ impl<N: BookName, C: Call> Run<N, C> {
             return Tried::Never;
         }
         let message = &self.messages[place.message];
-        let parts = self.texts[place.message].as_slice();
-        if place.part >= parts.len() {
+        let Some(carried) = self.texts[place.message].part(place.part) else {
             return Tried::Never;
-        }
-        let part = &parts[place.part];
+        };
         if self.opened.len() >= self.opened.capacity() {
             return Tried::Later;
         }
@@ -236,7 +213,7 @@ impl<N: BookName, C: Call> Run<N, C> {
             &mut self.opened,
             place,
             message,
-            part,
+            carried,
             &mut attempts,
         );
         let segment = SegmentEnd {

@@ -1,12 +1,15 @@
 //! The parts of a message that was begun, and where each stands in a queue.
-ghost use Rattle.std.specs.Prelude.{◌≡◌, ◌⊎◌, [], List, vec_len, vec_capacity};
+ghost use Rattle.std.specs.Prelude.{◌≡◌, ◌⊎◌, [], List, All, IfOk, IfSome, Some, map, slice_get, vec_len, vec_capacity};
+ghost use Rattle.sms_segment.specs.Part.{HasSeptets};
 ghost use Rattle.sms_worker.specs.declared.message.Message.{Message};
 ghost use Rattle.sms_worker.specs.declared.rules.Rules.{Rules};
 ghost use Rattle.sms_worker.specs.Told.{AreTexts};
+ghost use Rattle.sms_worker.specs.UserData.{user_data};
 
 use crate::open::Place;
+use crate::user_data::UserData;
 use sms_segment::Part;
-use std::alloc::Global;
+use std::alloc::{AllocError, Global};
 use std::marker::Model;
 
 /// When a segment is to be sent again, and which one follows it in its queue.
@@ -16,68 +19,91 @@ pub struct Link {
     pub next: Option<Place>,
 }
 
-/// The parts that a message is sent as, until all its segments are settled. Contracts see them.
+/// The link of a segment that is in no queue.
+pub const NO_LINK: Link = Link {
+    due_ms: 0,
+    next: None,
+};
+
+/// A part that is kept, and its link.
+#[derive(Drop)]
+pub struct Kept {
+    pub carried: UserData,
+    pub link: Link,
+}
+
+/// What a message's short messages carry, until all its segments are settled. Contracts see that, part
+/// by part.
 #[derive(Drop)]
 pub struct Texts {
-    parts: Vec<Part>,
-    links: Vec<Link>,
+    parts: Vec<Kept>,
     /// How many segments aren't settled.
     unsettled: usize,
 }
 
 impl Model for Texts {
-    ghost use Rattle.std.specs.Prelude.{List};
-    ghost use Rattle.sms_segment.specs.declared.part.Part.{Part};
+    ghost use Rattle.std.specs.Prelude.{List, map};
+    ghost use Rattle.sms_worker.specs.declared.user_data.UserData.{UserData};
 
-    ghost Value = { List Part };
+    ghost Value = { List UserData };
 
-    ghost view = { λ t. t.parts.items };
+    ghost view = { λ t. map (λ kept. kept.carried) t.parts.items };
 }
 
 impl Texts {
-    /// These parts, with a link for each.
-    pub fn new(parts: Vec<Part>, links: Vec<Link>) -> Texts
-        ensures { result ≡ parts.items }
+    /// The texts of these parts: the user data of each is made here, and nowhere else.
+    pub fn of(alloc: Global, parts: &[Part]) -> Result<Texts, AllocError>
+        requires { All HasSeptets parts.now }
+        ensures { IfOk result (λ texts. texts ≡ map user_data parts.now) }
     {
-        let unsettled = parts.len();
-        Texts {
-            parts,
-            links,
-            unsettled,
+        let mut kept = Vec::with_capacity(alloc, parts.len())?;
+        for part in parts {
+            let carried = UserData::of(alloc, part)?;
+            kept.push_reserved(Kept {
+                carried,
+                link: NO_LINK,
+            });
         }
+        Ok(Texts {
+            unsettled: kept.len(),
+            parts: kept,
+        })
     }
 
     /// No parts. Takes no memory.
     pub fn none(alloc: Global) -> Texts
         ensures { result ≡ [] }
     {
-        Texts::new(Vec::new(alloc), Vec::new(alloc))
+        Texts {
+            parts: Vec::new(alloc),
+            unsettled: 0,
+        }
     }
 
-    /// The parts that are left.
-    pub fn as_slice(&self) -> &[Part]
-        ensures { result.now ≡ self.now }
+    /// The user data of a part, if it is there still.
+    pub fn part(&self, part: usize) -> Option<&UserData>
+        ensures { IfSome result (λ carried. slice_get self.now part ≡ Some carried.now) }
     {
-        self.parts.as_slice()
+        if part >= self.parts.len() {
+            return None;
+        }
+        Some(&self.parts[part].carried)
     }
 
     /// The link of a part.
     pub fn link(&self, part: usize) -> Link {
-        if part < self.links.len() {
-            return self.links[part];
+        if part < self.parts.len() {
+            return self.parts[part].link;
         }
-        Link {
-            due_ms: 0,
-            next: None,
-        }
+        NO_LINK
     }
 
     /// Gives a part another link.
     pub fn set_link(&mut self, part: usize, link: Link)
         ensures { self.new ≡ self.old }
     {
-        if part < self.links.len() {
-            self.links[part] = link;
+        if part < self.parts.len() {
+            self.parts[part].link = link;
         }
     }
 

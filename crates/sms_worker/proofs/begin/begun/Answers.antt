@@ -32,8 +32,8 @@ returns-in-Ok-reserve g c =
     let total = λ (i : ℕ). ap (total_in (λ (s : SegmentEnd). credit reserved_of i m.account s)) segments ∙ ap (λ (acc : Option ℕ). total_in (λ (s : SegmentEnd). credit reserved_of i acc s) (ready cost n)) c.in-Some.is in
     record {
       index = refl;
-      result = (known, c.in-Ok.ensures.known.1, c.in-Ok.ensures.short, ap length segments ∙ length-ready cost n);
-      texts_kept = inr c.in-Ok.ensures.parts;
+      result = record { known = known; addresses = c.in-Ok.ensures.known.1; short = c.in-Ok.ensures.short; parts = ap length segments ∙ length-ready cost n };
+      texts_kept = inr c.in-Ok.ensures.texts;
       count = n;
       some = λ _. subst (λ k. 0 < k) price some_cost;
       segments = segments;

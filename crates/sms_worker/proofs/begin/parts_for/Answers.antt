@@ -16,10 +16,11 @@ returns-in-Err-TooLong-clause-refused c =
 
 pub returns-in-Ok-cut-clause-parts : goal.returns-in-Ok-cut-clause-parts
 returns-in-Ok-cut-clause-parts c =
-    let text : c.in-Ok.text ≡ coded_text c.args.message.now = search rules in (
-      c.in-Ok-cut.ensures.exact ∙ (λ i. parts_of (text i) (c.reference_for.ensures i)),
-      parts_have_septets c.in-Ok.text c.reference_for.result c.in-Ok-cut.parts.items c.in-Ok.ensures.lawful c.in-Ok-cut.ensures.full,
-    )
+    let text : c.in-Ok.text ≡ coded_text c.args.message.now = search rules in
+    c.in-Ok-cut.ensures.exact ∙ (λ i. parts_of (text i) (c.reference_for.ensures i))
+
+pub returns-in-Ok-cut-clause-septets : goal.returns-in-Ok-cut-clause-septets
+returns-in-Ok-cut-clause-septets c = parts_have_septets c.in-Ok.text c.reference_for.result c.in-Ok-cut.parts.items c.in-Ok.ensures.lawful c.in-Ok-cut.ensures.full
 
 pub returns-in-Ok-cut-clause-short : goal.returns-in-Ok-cut-clause-short
 returns-in-Ok-cut-clause-short c long =

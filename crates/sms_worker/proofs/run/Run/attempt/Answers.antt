@@ -1,18 +1,20 @@
-use Rattle.std.proofs.Common.{◌≡◌, ◌<◌, length, Some, sym, ap, ◌∙◌, refl, rules, arith}
+use Rattle.std.proofs.Common.{◌≡◌, ◌<◌, List, length, Some, sym, ap, ◌∙◌, refl, subst, rules, arith}
 use Rattle.std.specs.Prelude.{slice_get}
 use Rattle.std.proofs.lemmas.Option.{slice_get-get_or}
+use Rattle.sms_worker.specs.declared.ends.Attempt.{Attempt}
 use Rattle.sms_worker.specs.declared.ends.SegmentEnd.{SegmentEnd}
+use Rattle.sms_worker.specs.Steps.{Tries}
 use Rattle.sms_worker.proofs.EndLemmas.{back_there, given_same, given_other}
-use Rattle.sms_worker.proofs.Keeping.{keeps_same, keeps_tried, part_there, septets_there, told_there}
+use Rattle.sms_worker.proofs.Keeping.{keeps_same, keeps_tried, part_there, told_there}
 use Rattle.sms_worker.proofs.run.Run.attempt.Goals as goal
 
 pub give-requires : goal.give-requires
-give-requires g c = record { there = back_there c.self.inside.ends.items c.take.new.ends.items c.args.place.message c.args.place.part c.in-Some.segment c.in-Some.ensures.out }
+give-requires g c = record { there = back_there c.self.inside.ends.items c.take.new.ends.items c.args.place.message c.args.place.part c.in-Some-take.segment c.in-Some-take.ensures.out }
 
 pub invariant_of-self-then-not-is_waiting : goal.invariant_of-self-then-not-is_waiting
 invariant_of-self-then-not-is_waiting g c =
     let i = c.self.invariant in
-    let same = given_same c.self.inside.ends.items c.take.new.ends.items c.give.new.ends.items c.args.place.message c.args.place.part c.in-Some.segment c.in-Some.ensures.out c.give.ensures.now in
+    let same = given_same c.self.inside.ends.items c.take.new.ends.items c.give.new.ends.items c.args.place.message c.args.place.part c.in-Some-take.segment c.in-Some-take.ensures.out c.give.ensures.now in
     let room = c.give.ensures.room in
     let room' = c.take.ensures.room in
     record {
@@ -22,45 +24,36 @@ invariant_of-self-then-not-is_waiting g c =
     }
 
 pub give-requires-2 : goal.give-requires-2
-give-requires-2 g c = record { there = back_there c.self.inside.ends.items c.take.new.ends.items c.args.place.message c.args.place.part c.in-Some.segment c.in-Some.ensures.out }
-
-pub start-tried-requires-clause-septets : goal.start-tried-requires-clause-septets
-start-tried-requires-clause-septets g c =
-    let i = c.self.invariant in
-    let k = c.args.place.message in
-    let p = c.args.place.part in
-    let low : k < length c.self.inside.messages.items = search rules in
-    let there : slice_get c.self.inside.messages.items k ≡ Some c.index-message.result.now = slice_get-get_or c.self.inside.messages.items k c.index-message.result.now low ∙ ap Some (sym c.index-message.ensures) in
-    let texts_low : k < length c.self.inside.texts.items = search rules in
-    let kept : slice_get c.self.inside.texts.items k ≡ Some c.index.result.now = slice_get-get_or c.self.inside.texts.items k c.index.result.now texts_low ∙ ap Some (sym c.index.ensures) in
-    let part_low : p < length c.as_slice-parts.result.now = search rules in
-    let got = ap (λ l. slice_get l p) (sym c.as_slice-parts.ensures) ∙ slice_get-get_or c.as_slice-parts.result.now p c.index-parts-place.result part_low ∙ ap Some (sym c.index-parts-place.is) in
-    septets_there g.C.Call.start.rules g.C.Call.start.messages c.self.inside.texts.items k p c.index-message.result.now c.index.result.now c.index-parts-place.result i.keeps.parts (ap (λ l. slice_get l k) (sym i.keeps.messages) ∙ there) kept got
+give-requires-2 g c = record { there = back_there c.self.inside.ends.items c.take.new.ends.items c.args.place.message c.args.place.part c.in-Some-take.segment c.in-Some-take.ensures.out }
 
 pub invariant_of-self-2 : goal.invariant_of-self-2
 invariant_of-self-2 g c =
     let i = c.self.invariant in
     let low : c.args.place.message < length c.self.inside.messages.items = search rules in
     let there : slice_get c.self.inside.messages.items c.args.place.message ≡ Some c.index-message.result.now = slice_get-get_or c.self.inside.messages.items c.args.place.message c.index-message.result.now low ∙ ap Some (sym c.index-message.ensures) in
-    let s = c.in-Some.segment in
-    let at = c.in-Some.ensures.out.0 in
+    let s = c.in-Some-take.segment in
+    let at = c.in-Some-take.ensures.out.0 in
     let told = told_there _ _ _ _ _ _ _ _ _ _ c.index-message.result.now s i.keeps there at in
     let waits = c.is_waiting.ensures.waiting g.C.Call.start.rules.policy.attempts told.state (search rules) in
     let k = c.args.place.message in
     let p = c.args.place.part in
     let texts_low : k < length c.self.inside.texts.items = search rules in
     let kept : slice_get c.self.inside.texts.items k ≡ Some c.index.result.now = slice_get-get_or c.self.inside.texts.items k c.index.result.now texts_low ∙ ap Some (sym c.index.ensures) in
-    let part_low : p < length c.as_slice-parts.result.now = search rules in
-    let got = ap (λ l. slice_get l p) (sym c.as_slice-parts.ensures) ∙ slice_get-get_or c.as_slice-parts.result.now p c.index-parts-place.result part_low ∙ ap Some (sym c.index-parts-place.is) in
-    let here = part_there g.C.Call.start.rules g.C.Call.start.messages c.self.inside.texts.items k p c.index-message.result.now c.index.result.now c.index-parts-place.result i.keeps.parts (ap (λ l. slice_get l k) (sym i.keeps.messages) ∙ there) kept got in
+    let got = c.in-Some.ensures in
+    let part = part_there g.C.Call.start.rules g.C.Call.start.messages c.self.inside.texts.items k p c.index-message.result.now c.index.result.now c.in-Some.carried.now i.keeps.texts_kept (ap (λ l. slice_get l k) (sym i.keeps.messages) ∙ there) kept got in
     let s' : SegmentEnd = record { cost = s.cost; attempts = c.new.result; outcome = s.outcome } in
-    let is = given_other c.self.inside.ends.items c.take.new.ends.items c.give-2.new.ends.items k p s s' c.in-Some.ensures.out c.give-2.ensures.now in
+    let is = given_other c.self.inside.ends.items c.take.new.ends.items c.give-2.new.ends.items k p s s' c.in-Some-take.ensures.out c.give-2.ensures.now in
     let room = c.give-2.ensures.room in
     let room' = c.take.ensures.room in
     let long : length c.give-2.new.ends.items ≡ length c.self.inside.ends.items = search rules in
+    let was = c.into_vec-attempts.ensures in
+    let now = c.new.ensures in
+    let tries = c.start-tried.ensures.tried part.part part.carried in
+    let tried = subst (λ (l : List Attempt). Tries c.args.desk.now.rules.now c.index-message.result.now part.part c.self.inside.seat.view s.attempts c.start-tried.result c.start-tried.new.seat.view l) (sym now)
+    (subst (λ (l : List Attempt). Tries c.args.desk.now.rules.now c.index-message.result.now part.part c.self.inside.seat.view l c.start-tried.result c.start-tried.new.seat.view c.start-tried.new.attempts.items) was tries) in
     let slots = c.start-tried.ensures.open g.C.Call.start.seat.view.slots i.keeps.slots in
     record {
-      keeps = keeps_tried _ c.args.desk.now.rules.now _ _ _ _ _ c.start-tried.new.opened.items _ c.start-tried.new.seat _ _ k p c.index-message.result.now c.index-parts-place.result s s' c.start-tried.result i.keeps c.requires.rules there here at waits (search rules) refl refl c.start-tried.ensures.window slots is long;
+      keeps = keeps_tried _ c.args.desk.now.rules.now _ _ _ _ _ c.start-tried.new.opened.items _ c.start-tried.new.seat _ _ k p c.index-message.result.now part.part s s' c.start-tried.result i.keeps c.requires.rules there part.there at waits tried refl refl c.start-tried.ensures.window slots is long;
       ends_fit = (let r = i.ends_fit in omega arith);
       texts_fit = i.texts_fit;
     }

@@ -1,7 +1,7 @@
 use Rattle.std.proofs.Common.{◌≡◌, ◌<◌, ◌≤◌, length, Some, sym, ap, ◌∙◌, subst, rules, arith}
 use Rattle.std.specs.Prelude.{slice_get}
 use Rattle.std.proofs.lemmas.Option.{slice_get-get_or}
-use Rattle.sms_worker.specs.Steps.{given_back_to}
+use Rattle.sms_worker.specs.Steps.{settled_to}
 use Rattle.sms_worker.specs.RunState.{RunState}
 use Rattle.sms_worker.specs.Ends.{put}
 use Rattle.sms_worker.specs.Sweeps.{SweptAt, InPlace}
@@ -25,8 +25,8 @@ invariant_of-self-then-not-is_waiting g c =
       texts_fit = i.texts_fit;
     }
 
-pub give_back-requires : goal.give_back-requires
-give_back-requires g c a acc =
+pub settle-requires : goal.settle-requires
+settle-requires g c a acc =
     let i = c.self.invariant in
     let low : c.args.place.message < length c.self.inside.messages.items = search rules in
     let there : slice_get c.self.inside.messages.items c.args.place.message ≡ Some c.index-message.result.now = slice_get-get_or c.self.inside.messages.items c.args.place.message c.index-message.result.now low ∙ ap Some (sym c.index-message.ensures) in
@@ -56,7 +56,7 @@ invariant_of-self-2 g c =
     let room = c.give-2.ensures.room in
     let room' = c.take.ensures.room in
     let long : length c.give-2.new.ends.items ≡ length c.self.inside.ends.items = search rules in
-    let moved = c.give_back.ensures ∙ ap (λ n. given_back_to c.index-message.result.now.account n c.self.inside.shares) c.given_up-segment.ensures.cost in
+    let moved = c.settle.ensures ∙ ap (λ n. settled_to c.given_up-segment.result.outcome c.index-message.result.now.account n c.self.inside.shares) c.given_up-segment.ensures.cost in
     record {
       keeps = keeps_given _ _ _ _ _ _ _ _ _ _ _ _ _ s c.given_up-segment.result i.keeps there at waits c.given_up-segment.ensures moved is long;
       ends_fit = (let r = i.ends_fit in omega arith);

@@ -7,7 +7,7 @@ invariant_of-self g c =
     let i = c.self.invariant in
     let room = c.settle_text.ensures.room in
     record {
-      keeps = keeps_texts _ _ _ _ _ _ _ _ _ i.keeps (c.settle_text.ensures.kept g.C.Call.start.rules g.C.Call.start.messages i.keeps.parts) (search rules);
+      keeps = keeps_texts _ _ _ _ _ _ _ _ _ i.keeps (c.settle_text.ensures.kept g.C.Call.start.rules g.C.Call.start.messages i.keeps.texts_kept) (search rules);
       ends_fit = i.ends_fit;
       texts_fit = (let r = i.texts_fit in omega arith);
     }

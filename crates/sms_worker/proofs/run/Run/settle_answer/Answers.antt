@@ -34,8 +34,8 @@ invariant_of-self-in-None g c =
       texts_fit = i.texts_fit;
     }
 
-pub settle-outcome-requires : goal.settle-outcome-requires
-settle-outcome-requires g c a acc =
+pub settle-requires : goal.settle-requires
+settle-requires g c a acc =
     let i = c.self.invariant in
     let low : c.args.place.message < length c.self.inside.messages.items = search rules in
     let there : slice_get c.self.inside.messages.items c.args.place.message ≡ Some c.index-message.result.now = slice_get-get_or c.self.inside.messages.items c.args.place.message c.index-message.result.now low ∙ ap Some (sym c.index-message.ensures) in
@@ -65,13 +65,14 @@ invariant_of-self-2 g c =
     let d = c.in-Some-decision.decision in
     let found : Answers c.args.desk.now.rules.now.policy.attempts s c.args.reply d r = search rules in
     let answered = subst (λ (x : Rules). Answers x.policy.attempts s c.args.reply d r) c.requires.rules found in
-    let s' : SegmentEnd = record { cost = r.cost; attempts = r.attempts; outcome = c.settle-outcome.result } in
-    let made : s' ≡ record r { outcome = outcome_after d } = ap (λ o. record r { outcome = o }) c.settle-outcome.ensures.outcome in
+    let s' : SegmentEnd = record { cost = r.cost; attempts = r.attempts; outcome = c.outcome_of-outcome.result } in
+    let made : s' ≡ record r { outcome = outcome_after d } = ap (λ o. record r { outcome = o }) c.outcome_of-outcome.ensures in
     let is = given_other c.self.inside.ends.items c.take.new.ends.items c.give-2.new.ends.items c.args.place.message c.args.place.part s s' c.in-Some.ensures.out c.give-2.ensures.now in
     let room = c.give-2.ensures.room in
     let room' = c.take.ensures.room in
     let long : length c.give-2.new.ends.items ≡ length c.self.inside.ends.items = search rules in
-    let moved = c.settle-outcome.ensures.shares ∙ ap (λ n. settled_to (outcome_after d) c.index-message.result.now.account n c.self.inside.shares) (ap (λ (x : SegmentEnd). x.cost) answered.hears.after) in
+    let moved = c.settle.ensures ∙ ap (λ o. settled_to o c.index-message.result.now.account r.cost c.self.inside.shares) c.outcome_of-outcome.ensures
+    ∙ ap (λ n. settled_to (outcome_after d) c.index-message.result.now.account n c.self.inside.shares) (ap (λ (x : SegmentEnd). x.cost) answered.hears.after) in
     let heard = subst (λ (x : RunState). HeardSince (length g.C.Call.start.received) x.heard c.args.reply) (sym c.self.view_is) c.requires.heard in
     record {
       keeps = keeps_answered _ _ _ _ _ _ _ _ _ _ _ _ c.index-message.result.now s r s' c.args.reply d i.keeps there at heard answered made moved is long;

@@ -1,0 +1,16 @@
+-- What a short message carries of a part.
+use Rattle.std.specs.Prelude.{List, map}
+use Rattle.sms_segment.specs.declared.part.Part.{Part}
+use Rattle.sms_segment.specs.Part.{short_message, esm_class, data_coding}
+use Rattle.sms_worker.specs.declared.message.Message.{Message}
+use Rattle.sms_worker.specs.declared.rules.Rules.{Rules}
+use Rattle.sms_worker.specs.declared.user_data.UserData.{UserData}
+use Rattle.sms_worker.specs.Submits.{message_parts}
+
+-- the octets of the part, whether they begin with a header, and which alphabet they are of
+abbrev pub user_data : Part → UserData
+user_data part = record { esm_class = esm_class part.place; data_coding = data_coding part.coding; short_message = short_message part }
+
+-- of each part of the message
+abbrev pub message_data : Rules → Message → List UserData
+message_data rules m = map user_data (message_parts rules m)
