@@ -78,6 +78,12 @@ unfolding parameters_within
 is_done front n [] total le so_far = sym so_far ∙ ap (λ (ps : List Parameter). done ps) (append-nil front)
 is_done front n (x ∷ xs) total le so_far = absurd (omega arith)
 
+-- where nothing is left there are no parameters
+pub none_left : (octets : List ℕ) → length octets ≤ 0 → parameters_at octets ≡ Ok []
+unfolding parameters_within
+none_left [] le = refl
+none_left (x ∷ xs) le = absurd (omega arith)
+
 -- what the test for an empty list says
 pub is_some_length : (b : Bool) (n : ℕ) → b ≡ eqb n 0 → b ≡ false → 0 < n
 is_some_length b zero e f = absurd cc

@@ -144,6 +144,12 @@ sm_at octets = do
   params ← parameters_at values.1
   Ok (sm_of values.0 params)
 
+abbrev pub submit_at : List ℕ → Result Body PduError
+submit_at octets = sm_at octets >>= λ sm. Ok (body.Submit sm)
+
+abbrev pub deliver_at : List ℕ → Result Body PduError
+deliver_at octets = sm_at octets >>= λ sm. Ok (body.Deliver sm)
+
 -- a response with a status other than 0 may have no body
 abbrev pub is_absent : ℕ → List ℕ → Bool
 is_absent status octets = (length octets == 0) && nat_lt 0 status
@@ -161,8 +167,8 @@ body_at command.BindTransmitter status octets = bind_at Transmitter octets
 body_at command.BindTransceiver status octets = bind_at Transceiver octets
 body_at command.BindTransmitterResp status octets = bind_resp_at Transmitter status octets
 body_at command.BindTransceiverResp status octets = bind_resp_at Transceiver status octets
-body_at command.SubmitSm status octets = sm_at octets >>= λ sm. Ok (body.Submit sm)
-body_at command.DeliverSm status octets = sm_at octets >>= λ sm. Ok (body.Deliver sm)
+body_at command.SubmitSm status octets = submit_at octets
+body_at command.DeliverSm status octets = deliver_at octets
 body_at command.SubmitSmResp status octets = message_id_at status octets >>= λ id. Ok (body.SubmitResp id)
 body_at command.DeliverSmResp status octets = message_id_at status octets >>= λ id. Ok (body.DeliverResp id)
 body_at command.Unbind status octets = bare_at body.Unbind octets
@@ -198,8 +204,12 @@ abbrev pub body_by : Option Command → ℕ → List ℕ → Result Body PduErro
 body_by None status octets = Err errors.UnknownCommand
 body_by (Some command) status octets = body_at command status octets
 
+-- a PDU with this status and number, of the body that was told
+abbrev pub pdu_of : ℕ → ℕ → Result Body PduError → Result Pdu PduError
+pdu_of status number told = told >>= λ b. Ok (record { status = status; number = number; body = b })
+
 unfoldable pub reading : List ℕ → Result Pdu PduError
 reading octets =
     if nat_lt (length octets) 16 then Err errors.Short
-    else (if (number_at 0 octets == length octets) && nat_le (length octets) 70000 then (body_by (command_of (number_at 4 octets)) (number_at 8 octets) (drop 16 octets) >>= λ b. Ok (record { status = number_at 8 octets; number = number_at 12 octets; body = b }))
+    else (if (number_at 0 octets == length octets) && nat_le (length octets) 70000 then pdu_of (number_at 8 octets) (number_at 12 octets) (body_by (command_of (number_at 4 octets)) (number_at 8 octets) (drop 16 octets))
     else Err errors.BadLength)

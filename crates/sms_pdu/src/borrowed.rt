@@ -125,6 +125,7 @@ impl BindRef<'_> {
 
 impl SmRef<'_> {
     /// A message with copies of these strings, and these parameters.
+    #[inline(always)]
     pub(crate) fn copied(&self, alloc: Global, params: Params) -> Result<Sm, AllocError>
         ensures { IfOk result (λ sm. sm ≡ sm_with params (owned_sm self.now)) }
     {

@@ -1,18 +1,19 @@
 //! Octets read as a PDU: first its fields, which takes no memory, and then copies of its strings.
 
-ghost use Rattle.std.specs.Prelude.{◌≡◌, ◌≤◌, ℕ, List, [], ◌∷◌, length, Option, Result, Ok, IfOk};
+ghost use Rattle.std.specs.Prelude.{◌≡◌, ◌≢◌, ◌≤◌, ℕ, List, [], ◌∷◌, length, Option, Result, Ok, IfOk};
 ghost use Rattle.sms_pdu.specs.declared.body.Pdu.{Pdu};
+ghost use Rattle.sms_pdu.specs.declared.command.Command.TheVariants.{SubmitSm, DeliverSm};
 ghost use Rattle.sms_pdu.specs.Layout.{sm_fields};
 ghost use Rattle.sms_pdu.specs.Grammar.{sm_values, Spells};
 ghost use Rattle.sms_pdu.specs.Borrowed.{owned_bind, owned_sm};
-ghost use Rattle.sms_pdu.specs.Reading.{Says, Gives, GivesBut, IsFilled, HasStrings, values_at, bind_at, sm_at, bind_resp_at, message_id_at, bare_at, body_at, reading};
+ghost use Rattle.sms_pdu.specs.Reading.{Says, Gives, GivesBut, IsFilled, HasStrings, values_at, bind_at, sm_at, bind_resp_at, message_id_at, submit_at, deliver_at, bare_at, body_at, pdu_of, reading};
 
 use crate::body::{Body, Pdu, Sm};
 use crate::borrowed::{BindRef, SmRef};
 use crate::command::{Command, Mode};
 use crate::error::PduError;
 use crate::field::Field;
-use crate::header::{MOST_LENGTH, body_of, header_of};
+use crate::header::{Header, MOST_LENGTH, body_of, header_of};
 use crate::layout::{bind_fields, bind_resp_fields, sm_fields, sm_resp_fields};
 use crate::octets::Octets;
 use crate::parameter::Params;
@@ -67,6 +68,7 @@ fn bind(alloc: Global, mode: Mode, octets: &[u8]) -> Result<Body, PduError>
 }
 
 /// The fields of a message before its parameters, and the octets after them.
+#[inline(always)]
 fn sm_parts(octets: &[u8]) -> Result<(SmRef<'_>, &[u8]), PduError>
     ensures { Says (λ x. (sm_values (owned_sm x.0), x.1.now)) result (values_at sm_fields octets.now) }
 {
@@ -75,12 +77,38 @@ fn sm_parts(octets: &[u8]) -> Result<(SmRef<'_>, &[u8]), PduError>
 
 /// A message.
 #[tactic(auto, unfolding(crate::specs::Reading::sm_at))]
+#[inline(always)]
 fn sm(alloc: Global, octets: &[u8]) -> Result<Sm, PduError>
     ensures { Gives (λ sm. sm) result (sm_at octets.now) }
 {
     let (parts, rest) = sm_parts(octets)?;
     let params = parameters(alloc, rest)?;
     Ok(parts.copied(alloc, params)?)
+}
+
+/// A submit_sm. (The message is made in the PDU that is returned, as in [`deliver_sm`]: to move it
+/// costs more than to copy its strings.)
+#[inline(never)]
+fn submit_sm(alloc: Global, status: u32, number: u32, octets: &[u8]) -> Result<Pdu, PduError>
+    ensures { Gives (λ p. p) result (pdu_of status number (submit_at octets.now)) }
+{
+    Ok(Pdu {
+        status,
+        number,
+        body: Body::Submit(sm(alloc, octets)?),
+    })
+}
+
+/// A deliver_sm.
+#[inline(never)]
+fn deliver_sm(alloc: Global, status: u32, number: u32, octets: &[u8]) -> Result<Pdu, PduError>
+    ensures { Gives (λ p. p) result (pdu_of status number (deliver_at octets.now)) }
+{
+    Ok(Pdu {
+        status,
+        number,
+        body: Body::Deliver(sm(alloc, octets)?),
+    })
 }
 
 /// The body of a bind's response.
@@ -117,8 +145,9 @@ fn message_id(alloc: Global, status: u32, octets: &[u8]) -> Result<Option<Octets
     Ok(Some(Octets::copy(alloc, message_id)?))
 }
 
-/// The body of a command.
+/// The body of a command that brings no message.
 fn body(alloc: Global, command: Command, status: u32, octets: &[u8]) -> Result<Body, PduError>
+    requires { (command ≢ SubmitSm) × (command ≢ DeliverSm) }
     ensures { GivesBut HasStrings (λ body. body) result (body_at command status octets.now) }
 {
     match command {
@@ -126,8 +155,7 @@ fn body(alloc: Global, command: Command, status: u32, octets: &[u8]) -> Result<B
         Command::BindTransceiver => bind(alloc, Mode::Transceiver, octets),
         Command::BindTransmitterResp => bind_resp(alloc, Mode::Transmitter, status, octets),
         Command::BindTransceiverResp => bind_resp(alloc, Mode::Transceiver, status, octets),
-        Command::SubmitSm => Ok(Body::Submit(sm(alloc, octets)?)),
-        Command::DeliverSm => Ok(Body::Deliver(sm(alloc, octets)?)),
+        Command::SubmitSm | Command::DeliverSm => unreachable!(),
         Command::SubmitSmResp => Ok(Body::SubmitResp {
             message_id: message_id(alloc, status, octets)?,
         }),
@@ -140,6 +168,26 @@ fn body(alloc: Global, command: Command, status: u32, octets: &[u8]) -> Result<B
         Command::EnquireLinkResp => bare(Body::EnquireLinkResp, octets),
         Command::GenericNack => bare(Body::GenericNack, octets),
     }
+}
+
+/// A PDU of a command that brings no message.
+#[inline(never)]
+fn other(
+    alloc: Global,
+    command: Command,
+    status: u32,
+    number: u32,
+    octets: &[u8],
+) -> Result<Pdu, PduError>
+    requires { (command ≢ SubmitSm) × (command ≢ DeliverSm) }
+    ensures { GivesBut (λ p. HasStrings p.body) (λ p. p) result (pdu_of status number (body_at command status octets.now)) }
+{
+    let body = body(alloc, command, status, octets)?;
+    Ok(Pdu {
+        status,
+        number,
+        body,
+    })
 }
 
 /// A body without fields.
@@ -178,10 +226,11 @@ fn read(alloc: Global, octets: &[u8]) -> Result<Pdu, PduError>
     let Some(command) = Command::of(header.command) else {
         return Err(PduError::UnknownCommand);
     };
-    let body = body(alloc, command, header.status, body_of(octets))?;
-    Ok(Pdu {
-        status: header.status,
-        number: header.number,
-        body,
-    })
+    let Header { status, number, .. } = header;
+    let octets = body_of(octets);
+    match command {
+        Command::SubmitSm => submit_sm(alloc, status, number, octets),
+        Command::DeliverSm => deliver_sm(alloc, status, number, octets),
+        _ => other(alloc, command, status, number, octets),
+    }
 }

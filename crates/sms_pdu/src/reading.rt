@@ -1,6 +1,6 @@
 //! The values of a PDU's fields, read from left to right. Only the list of parameters takes memory.
 
-ghost use Rattle.std.specs.Prelude.{◌≡◌, length};
+ghost use Rattle.std.specs.Prelude.{◌≡◌, ◌==◌, ◌<◌, length, position, IfSome};
 ghost use Rattle.sms_pdu.specs.Reading.{Says, Gives, number_octet_at, text_at, time_at, message_at, parameter_at, parameters_at, parameter_count, ended};
 
 use crate::error::PduError;
@@ -22,12 +22,34 @@ pub(crate) fn number(field: Field, octets: &[u8]) -> Result<(u8, &[u8]), PduErro
     Ok((octets[0], rest))
 }
 
+/// Where the first 0 stands. The first octet is looked at here, since many strings of a message are
+/// empty; the others in a loop of its own, which is as tight as it can be.
+#[inline(always)]
+fn zero_at(octets: &[u8]) -> Option<usize>
+    ensures place { result ≡ position (λ octet. octet == 0) octets.now }
+    ensures within { IfSome result (λ place. place < length octets.now) }
+{
+    match octets {
+        [0, ..] => Some(0),
+        _ => later_zero(octets),
+    }
+}
+
+/// The same.
+#[inline(never)]
+fn later_zero(octets: &[u8]) -> Option<usize>
+    ensures place { result ≡ position (λ octet. octet == 0) octets.now }
+    ensures within { IfSome result (λ place. place < length octets.now) }
+{
+    first_zero(octets)
+}
+
 /// A C-Octet String (SMPP 3.4 3.1) whose maximum counts its 0.
 #[tactic(auto, unfolding(crate::specs::Reading::text_at))]
 pub(crate) fn text(field: Field, maximum: usize, octets: &[u8]) -> Result<(&[u8], &[u8]), PduError>
     ensures { Says (λ x. (x.0.now, x.1.now)) result (text_at field maximum octets.now) }
 {
-    let Some(len) = first_zero(front(octets, maximum)) else {
+    let Some(len) = zero_at(front(octets, maximum)) else {
         if maximum <= octets.len() {
             return Err(PduError::TooLong { field });
         }
@@ -108,9 +130,21 @@ fn count_parameters(octets: &[u8]) -> Result<usize, PduError>
     Ok(count)
 }
 
-/// The optional parameters to the end of the octets. They are all looked at before memory is asked
-/// for.
+/// The optional parameters to the end of the octets.
+#[inline(always)]
 pub(crate) fn parameters(alloc: Global, octets: &[u8]) -> Result<Params, PduError>
+    ensures { Gives (λ params. params) result (parameters_at octets.now) }
+{
+    // (Most messages have none.)
+    if octets.is_empty() {
+        return Ok(Params::none(alloc));
+    }
+    some_parameters(alloc, octets)
+}
+
+/// The same. They are all looked at before memory is asked for.
+#[inline(never)]
+fn some_parameters(alloc: Global, octets: &[u8]) -> Result<Params, PduError>
     ensures { Gives (λ params. params) result (parameters_at octets.now) }
 {
     let mut list = Vec::with_capacity(alloc, count_parameters(octets)?)?;

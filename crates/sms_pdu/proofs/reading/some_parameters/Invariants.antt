@@ -1,7 +1,7 @@
 use Rattle.std.proofs.Common.{◌≡◌, ◌≤◌, ◌+◌, ◌-◌, length}
 use Rattle.sms_pdu.specs.Reading.{parameters_within, parameters_at}
 use Rattle.sms_pdu.proofs.Parameters.{with_front}
-use Rattle.sms_pdu.proofs.reading.parameters.Given as goal
+use Rattle.sms_pdu.proofs.reading.some_parameters.Given as goal
 
 abbrev pub invariant-loop-rest : goal.invariant-loop-rest
 invariant-loop-rest l = record {
