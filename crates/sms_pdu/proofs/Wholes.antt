@@ -11,10 +11,12 @@ use Rattle.sms_pdu.specs.declared.command.Command.{Command}
 use Rattle.sms_pdu.specs.declared.command.Command.TheVariants as command
 use Rattle.sms_pdu.specs.declared.body.Pdu.{Pdu}
 use Rattle.sms_pdu.specs.declared.body.Body.{Body}
-use Rattle.sms_pdu.specs.Header.{number_at}
+use Rattle.sms_pdu.specs.declared.body.Sm.{Sm}
+use Rattle.sms_pdu.specs.declared.header.Header.{Header}
+use Rattle.sms_pdu.specs.Header.{number_at, header_at_front}
 use Rattle.sms_pdu.specs.Command.{id_of, commands, command_of}
 use Rattle.sms_pdu.specs.Grammar.{command_in, body_spelling, spelling_of, Spells}
-use Rattle.sms_pdu.specs.Reading.{◌>>=◌, GivesBut, HasStrings, body_at, body_by, reading}
+use Rattle.sms_pdu.specs.Reading.{◌>>=◌, GivesBut, HasStrings, body_at, known, header_told, pdu_of, reading}
 use Rattle.sms_pdu.proofs.Parameters.{bind_ok, guard_then, ok_is}
 use Rattle.sms_pdu.proofs.ParameterTexts.{IsOctets, IsOctets-drop, IsOctets-take}
 use Rattle.sms_pdu.proofs.Bodies.{both_true, absent_cases, body_take, body_again}
@@ -59,6 +61,22 @@ record BodyOf (o : Option Command) (status : ℕ) (octets : List ℕ) (b : Body)
   command : Command
   known : o ≡ Some command
   reads : body_at command status octets ≡ Ok b
+
+-- ---- the tests of the header, each before the body
+
+abbrev pub body_by : Option Command → ℕ → List ℕ → Result Body PduError
+body_by None status octets = Err errors.UnknownCommand
+body_by (Some command) status octets = body_at command status octets
+
+tests_first : (octets : List ℕ) (short whole : Bool) (o : Option Command) (h : Header) → (cond short (Err errors.Short) (cond whole (known o h) (Err errors.BadLength)) >>= λ told. pdu_of told.1.status told.1.number (body_at told.0 told.1.status (drop 16 octets))) ≡ cond short (Err errors.Short) (cond whole (pdu_of h.status h.number (body_by o h.status (drop 16 octets))) (Err errors.BadLength))
+tests_first octets true whole o h = refl
+tests_first octets false false o h = refl
+tests_first octets false true None h = refl
+tests_first octets false true (Some c) h = refl
+
+reading_tests : (octets : List ℕ) → reading octets ≡ cond (ltb (length octets) 16) (Err errors.Short) (cond (eqb (number_at 0 octets) (length octets) && leb (length octets) 70000) (pdu_of (number_at 8 octets) (number_at 12 octets) (body_by (command_of (number_at 4 octets)) (number_at 8 octets) (drop 16 octets))) (Err errors.BadLength))
+unfolding reading header_told
+reading_tests octets = tests_first octets (ltb (length octets) 16) (eqb (number_at 0 octets) (length octets) && leb (length octets) 70000) (command_of (number_at 4 octets)) (header_at_front octets)
 
 body_by_ok : (o : Option Command) (status : ℕ) (octets : List ℕ) (b : Body) → body_by o status octets ≡ Ok b → BodyOf o status octets b
 body_by_ok None status octets b e = absurd cc
@@ -111,14 +129,13 @@ chosen_then true r d y e = (refl, e)
 chosen_then false r d y e = absurd cc
 
 pub reading_take : (octets : List ℕ) (p : Pdu) → IsOctets octets → reading octets ≡ Ok p → Spells p octets
-unfolding reading
 reading_take octets p fits e =
     let status = number_at 8 octets in
     let number = number_at 12 octets in
     let whole = eqb (number_at 0 octets) (length octets) && leb (length octets) 70000 in
     let made : Body → Pdu = λ b. record { status = status; number = number; body = b } in
     let rest = body_by (command_of (number_at 4 octets)) status (drop 16 octets) >>= λ b. Ok (record { status = status; number = number; body = b }) in
-    let g = guard_then (ltb (length octets) 16) errors.Short (cond whole rest (Err errors.BadLength)) p e in
+    let g = guard_then (ltb (length octets) 16) errors.Short (cond whole rest (Err errors.BadLength)) p (sym (reading_tests octets) ∙ e) in
     let long : 16 ≤ length octets = ltb-false _ _ g.0 in
     let h = chosen_then whole rest errors.BadLength p g.1 in
     let tests = both_true (eqb (number_at 0 octets) (length octets)) (leb (length octets) 70000) h.0 in
@@ -142,6 +159,15 @@ reading_take octets p fits e =
       number = number_at_small 12 octets fits;
       fits = r.fits;
     })
+
+-- ---- a message
+
+-- what was returned of a message
+pub message_given : (status number : ℕ) (of : Sm → Body) (told : Result Sm PduError) (r : Result Pdu PduError) → ((sm : Sm) → HasStrings (of sm)) → GivesBut (λ (p : Pdu). Unit {0}) (λ (p : Pdu). p) r (pdu_of status number (told >>= λ sm. Ok (of sm))) → GivesBut (λ (p : Pdu). HasStrings p.body) (λ (p : Pdu). p) r (pdu_of status number (told >>= λ sm. Ok (of sm)))
+message_given status number of (Ok sm) (Ok p) strings g = g
+message_given status number of (Err e) (Ok p) strings g = g
+message_given status number of (Ok sm) (Err f) strings g = (g.0, strings sm)
+message_given status number of (Err e) (Err f) strings g = g
 
 -- ---- what is spelled so is read
 
@@ -179,8 +205,7 @@ id_small command.EnquireLinkResp = omega arith
 id_small command.GenericNack = omega arith
 
 reading_by : (octets : List ℕ) (p : Pdu) → ltb (length octets) 16 ≡ false → (eqb (number_at 0 octets) (length octets) && leb (length octets) 70000) ≡ true → number_at 8 octets ≡ p.status → number_at 12 octets ≡ p.number → body_by (command_of (number_at 4 octets)) (number_at 8 octets) (drop 16 octets) ≡ Ok p.body → reading octets ≡ Ok p
-unfolding reading
-reading_by octets p long whole status number read = rw (long, whole, read, status, number) refl
+reading_by octets p long whole status number read = rw (reading_tests octets, long, whole, read, status, number) refl
 
 both_tests : (m n : ℕ) → m ≡ n → n ≤ 70000 → (eqb m n && leb n 70000) ≡ true
 both_tests m n e le = rw (eq-eqb m n e, le-leb n 70000 le) refl

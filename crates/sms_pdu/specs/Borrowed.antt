@@ -1,5 +1,4 @@
 -- What a PDU is whose strings are borrowed.
-use Rattle.std.specs.Prelude.{List}
 use Rattle.std.specs.Option.{option_copied}
 use Rattle.sms_pdu.specs.declared.body.Pdu.{Pdu}
 use Rattle.sms_pdu.specs.declared.body.Sm.{Sm}
@@ -10,7 +9,6 @@ use Rattle.sms_pdu.specs.declared.borrowed.SmRef.{SmRef}
 use Rattle.sms_pdu.specs.declared.borrowed.BindRef.{BindRef}
 use Rattle.sms_pdu.specs.declared.borrowed.BodyRef.{BodyRef}
 use Rattle.sms_pdu.specs.declared.borrowed.BodyRef.TheVariants.{Bind, BindResp, Submit, Deliver, SubmitResp, DeliverResp, Unbind, UnbindResp, EnquireLink, EnquireLinkResp, GenericNack}
-use Rattle.sms_pdu.specs.declared.parameter.Parameter.{Parameter}
 use Rattle.sms_pdu.specs.Layout.{Values, bind_fields}
 
 -- the fields of a bind in their order
@@ -41,10 +39,6 @@ owned_sm sm = record {
   short_message = sm.short_message.now;
   params = sm.params.now;
 }
-
--- the message with these parameters
-abbrev pub sm_with : List Parameter → Sm → Sm
-sm_with params sm = record sm { params = params }
 
 abbrev pub owned_body : BodyRef → Body
 owned_body (Bind b) = owned_bind b

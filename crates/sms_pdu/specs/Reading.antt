@@ -14,7 +14,8 @@ use Rattle.sms_pdu.specs.declared.body.Sm.{Sm}
 use Rattle.sms_pdu.specs.declared.body.Body.{Body}
 use Rattle.sms_pdu.specs.declared.body.Body.TheVariants as body
 use Rattle.sms_pdu.specs.declared.parameter.Parameter.{Parameter}
-use Rattle.sms_pdu.specs.Header.{number_at}
+use Rattle.sms_pdu.specs.declared.header.Header.{Header}
+use Rattle.sms_pdu.specs.Header.{number_at, header_at_front}
 use Rattle.sms_pdu.specs.Command.{command_of}
 use Rattle.sms_pdu.specs.Layout.{Kind, Number, Text, Time, Message, Row, Value, Values, bind_fields, bind_resp_fields, sm_fields, sm_resp_fields}
 
@@ -200,16 +201,22 @@ HasStrings body.GenericNack = ⊥
 
 -- ---- the whole
 
-abbrev pub body_by : Option Command → ℕ → List ℕ → Result Body PduError
-body_by None status octets = Err errors.UnknownCommand
-body_by (Some command) status octets = body_at command status octets
-
 -- a PDU with this status and number, of the body that was told
 abbrev pub pdu_of : ℕ → ℕ → Result Body PduError → Result Pdu PduError
 pdu_of status number told = told >>= λ b. Ok (record { status = status; number = number; body = b })
 
-unfoldable pub reading : List ℕ → Result Pdu PduError
-reading octets =
+-- the command of a PDU and its header, or the first fault of the header
+abbrev pub known : Option Command → Header → Result (Command × Header) PduError
+known None header = Err errors.UnknownCommand
+known (Some command) header = Ok (command, header)
+
+unfoldable pub header_told : List ℕ → Result (Command × Header) PduError
+header_told octets =
     if nat_lt (length octets) 16 then Err errors.Short
-    else (if (number_at 0 octets == length octets) && nat_le (length octets) 70000 then pdu_of (number_at 8 octets) (number_at 12 octets) (body_by (command_of (number_at 4 octets)) (number_at 8 octets) (drop 16 octets))
+    else (if (number_at 0 octets == length octets) && nat_le (length octets) 70000 then known (command_of (number_at 4 octets)) (header_at_front octets)
     else Err errors.BadLength)
+
+unfoldable pub reading : List ℕ → Result Pdu PduError
+reading octets = do
+  told ← header_told octets
+  pdu_of told.1.status told.1.number (body_at told.0 told.1.status (drop 16 octets))

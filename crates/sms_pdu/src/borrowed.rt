@@ -1,13 +1,13 @@
 //! PDUs that borrow their strings: what is written, and what is read before memory is asked for.
 
 ghost use Rattle.std.specs.Prelude.{◌≡◌, IfOk};
-ghost use Rattle.sms_pdu.specs.Borrowed.{owned_bind, owned_sm, sm_with};
+ghost use Rattle.sms_pdu.specs.Borrowed.{owned_bind};
 
-use crate::body::{Body, Sm};
+use crate::body::Body;
 use crate::command::Mode;
-use crate::layout::{bind_fields, sm_fields};
+use crate::layout::bind_fields;
 use crate::octets::Octets;
-use crate::parameter::{Parameter, Params};
+use crate::parameter::Parameter;
 use std::alloc::{AllocError, Global};
 use std::fmt;
 
@@ -59,7 +59,7 @@ pub struct BindRef<'a> {
     pub address_range: &'a [u8],
 }
 
-/// A message, as [`Sm`], whose strings are borrowed.
+/// A message, as [`Sm`](crate::Sm), whose strings are borrowed.
 #[derive(Clone, Copy, Debug)]
 pub struct SmRef<'a> {
     pub service_type: &'a [u8],
@@ -123,17 +123,8 @@ impl BindRef<'_> {
     }
 }
 
-impl SmRef<'_> {
-    /// A message with copies of these strings, and these parameters.
-    #[inline(always)]
-    pub(crate) fn copied(&self, alloc: Global, params: Params) -> Result<Sm, AllocError>
-        ensures { IfOk result (λ sm. sm ≡ sm_with params (owned_sm self.now)) }
-    {
-        Ok(sm_fields!(copy_fields!(
-            alloc, self => Sm { params: params, .. }
-        )))
-    }
-}
+pub(crate) use copy_field;
+pub(crate) use copy_fields;
 
 impl fmt::Debug for BindRef<'_> {
     /// All but the password.

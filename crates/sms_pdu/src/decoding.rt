@@ -6,10 +6,10 @@ ghost use Rattle.sms_pdu.specs.declared.command.Command.TheVariants.{SubmitSm, D
 ghost use Rattle.sms_pdu.specs.Layout.{sm_fields};
 ghost use Rattle.sms_pdu.specs.Grammar.{sm_values, Spells};
 ghost use Rattle.sms_pdu.specs.Borrowed.{owned_bind, owned_sm};
-ghost use Rattle.sms_pdu.specs.Reading.{Says, Gives, GivesBut, IsFilled, HasStrings, values_at, bind_at, sm_at, bind_resp_at, message_id_at, submit_at, deliver_at, bare_at, body_at, pdu_of, reading};
+ghost use Rattle.sms_pdu.specs.Reading.{Says, Gives, GivesBut, IsFilled, HasStrings, values_at, bind_at, bind_resp_at, message_id_at, submit_at, deliver_at, bare_at, body_at, pdu_of, header_told, reading};
 
 use crate::body::{Body, Pdu, Sm};
-use crate::borrowed::{BindRef, SmRef};
+use crate::borrowed::{BindRef, SmRef, copy_field, copy_fields};
 use crate::command::{Command, Mode};
 use crate::error::PduError;
 use crate::field::Field;
@@ -75,40 +75,37 @@ fn sm_parts(octets: &[u8]) -> Result<(SmRef<'_>, &[u8]), PduError>
     Ok(sm_fields!(read_fields!(octets => SmRef { params: &[], .. })))
 }
 
-/// A message.
-#[tactic(auto, unfolding(crate::specs::Reading::sm_at))]
-#[inline(always)]
-fn sm(alloc: Global, octets: &[u8]) -> Result<Sm, PduError>
-    ensures { Gives (λ sm. sm) result (sm_at octets.now) }
-{
-    let (parts, rest) = sm_parts(octets)?;
-    let params = parameters(alloc, rest)?;
-    Ok(parts.copied(alloc, params)?)
+/// The PDU of a message, made where it is returned: to move it costs more than to copy its strings.
+macro_rules! message_pdu {
+    ($variant:ident, $alloc:ident, $status:ident, $number:ident, $octets:ident) => {{
+        let (parts, rest) = sm_parts($octets)?;
+        let params = parameters($alloc, rest)?;
+        Ok(Pdu {
+            status: $status,
+            number: $number,
+            body: Body::$variant(sm_fields!(copy_fields!(
+                $alloc, parts => Sm { params: params, .. }
+            ))),
+        })
+    }};
 }
 
-/// A submit_sm. (The message is made in the PDU that is returned, as in [`deliver_sm`]: to move it
-/// costs more than to copy its strings.)
+/// A submit_sm.
 #[inline(never)]
+#[tactic(auto, unfolding(crate::specs::Reading::sm_at))]
 fn submit_sm(alloc: Global, status: u32, number: u32, octets: &[u8]) -> Result<Pdu, PduError>
     ensures { Gives (λ p. p) result (pdu_of status number (submit_at octets.now)) }
 {
-    Ok(Pdu {
-        status,
-        number,
-        body: Body::Submit(sm(alloc, octets)?),
-    })
+    message_pdu!(Submit, alloc, status, number, octets)
 }
 
 /// A deliver_sm.
 #[inline(never)]
+#[tactic(auto, unfolding(crate::specs::Reading::sm_at))]
 fn deliver_sm(alloc: Global, status: u32, number: u32, octets: &[u8]) -> Result<Pdu, PduError>
     ensures { Gives (λ p. p) result (pdu_of status number (deliver_at octets.now)) }
 {
-    Ok(Pdu {
-        status,
-        number,
-        body: Body::Deliver(sm(alloc, octets)?),
-    })
+    message_pdu!(Deliver, alloc, status, number, octets)
 }
 
 /// The body of a bind's response.
@@ -212,10 +209,12 @@ pub fn decode(alloc: Global, octets: &[u8]) -> Result<Pdu, PduError>
     read(alloc, octets)
 }
 
-/// The PDU that the octets spell, or the first fault.
-#[tactic(auto, unfolding(crate::specs::Reading::reading))]
-fn read(alloc: Global, octets: &[u8]) -> Result<Pdu, PduError>
-    ensures { GivesBut (λ p. HasStrings p.body) (λ p. p) result (reading octets.now) }
+/// The command of a PDU and its header, or the first fault of the header.
+#[tactic(auto, unfolding(crate::specs::Reading::header_told))]
+#[inline(always)]
+fn known_header(octets: &[u8]) -> Result<(Command, Header), PduError>
+    ensures told { result ≡ header_told octets.now }
+    ensures long { IfOk result (λ x. 16 ≤ length octets.now) }
 {
     let Some(header) = header_of(octets) else {
         return Err(PduError::Short);
@@ -226,11 +225,24 @@ fn read(alloc: Global, octets: &[u8]) -> Result<Pdu, PduError>
     let Some(command) = Command::of(header.command) else {
         return Err(PduError::UnknownCommand);
     };
-    let Header { status, number, .. } = header;
-    let octets = body_of(octets);
-    match command {
-        Command::SubmitSm => submit_sm(alloc, status, number, octets),
-        Command::DeliverSm => deliver_sm(alloc, status, number, octets),
-        _ => other(alloc, command, status, number, octets),
+    Ok((command, header))
+}
+
+/// The PDU that the octets spell, or the first fault.
+#[tactic(auto, unfolding(crate::specs::Reading::reading))]
+fn read(alloc: Global, octets: &[u8]) -> Result<Pdu, PduError>
+    ensures { GivesBut (λ p. HasStrings p.body) (λ p. p) result (reading octets.now) }
+{
+    match known_header(octets) {
+        Ok((command, header)) => {
+            let Header { status, number, .. } = header;
+            let octets = body_of(octets);
+            match command {
+                Command::SubmitSm => submit_sm(alloc, status, number, octets),
+                Command::DeliverSm => deliver_sm(alloc, status, number, octets),
+                _ => other(alloc, command, status, number, octets),
+            }
+        }
+        Err(fault) => Err(fault),
     }
 }

@@ -26,6 +26,7 @@ impl Octets {
     }
 
     /// A copy of these octets, in one allocation, or in none where there are no octets.
+    #[inline(always)]
     pub fn copy(alloc: Global, octets: &[u8]) -> Result<Octets, AllocError>
         ensures same { IfOk result (λ copy. copy ≡ octets.now) }
         ensures none { octets.now ≡ [] → IsOk result }

@@ -46,6 +46,7 @@ fn later_zero(octets: &[u8]) -> Option<usize>
 
 /// A C-Octet String (SMPP 3.4 3.1) whose maximum counts its 0.
 #[tactic(auto, unfolding(crate::specs::Reading::text_at))]
+#[inline(always)]
 pub(crate) fn text(field: Field, maximum: usize, octets: &[u8]) -> Result<(&[u8], &[u8]), PduError>
     ensures { Says (λ x. (x.0.now, x.1.now)) result (text_at field maximum octets.now) }
 {
@@ -62,6 +63,7 @@ pub(crate) fn text(field: Field, maximum: usize, octets: &[u8]) -> Result<(&[u8]
 
 /// A time: a C-Octet String of 0 or 16 octets before its 0 (SMPP 3.4 7.1.1).
 #[tactic(auto, unfolding(crate::specs::Reading::time_at))]
+#[inline(always)]
 pub(crate) fn time(field: Field, octets: &[u8]) -> Result<(&[u8], &[u8]), PduError>
     ensures { Says (λ x. (x.0.now, x.1.now)) result (time_at field octets.now) }
 {
