@@ -195,20 +195,6 @@ fn bare(body: Body, octets: &[u8]) -> Result<Body, PduError>
     Ok(body)
 }
 
-/// The PDU that the octets spell. What no PDU spells is refused, for the first fault in this order:
-/// fewer than 16 octets, the command_length, the command_id, then the fields from left to right.
-/// Memory is asked for only where a PDU is spelled, and that PDU has strings.
-pub fn decode(alloc: Global, octets: &[u8]) -> Result<Pdu, PduError>
-    // What is read is spelled so.
-    ensures found { IfOk result (λ p. Spells p octets.now) }
-    // What is spelled so is read, unless it has strings and memory runs out.
-    ensures only { (p : Pdu) → Spells p octets.now → GivesBut (λ q. HasStrings q.body) (λ q. q) result (Ok p) }
-    // Which PDU or fault it is; a fault is told whether or not there is memory.
-    ensures exact { GivesBut (λ q. HasStrings q.body) (λ q. q) result (reading octets.now) }
-{
-    read(alloc, octets)
-}
-
 /// The command of a PDU and its header, or the first fault of the header.
 #[tactic(auto, unfolding(crate::specs::Reading::header_told))]
 #[inline(always)]
@@ -228,21 +214,22 @@ fn known_header(octets: &[u8]) -> Result<(Command, Header), PduError>
     Ok((command, header))
 }
 
-/// The PDU that the octets spell, or the first fault.
-#[tactic(auto, unfolding(crate::specs::Reading::reading))]
-fn read(alloc: Global, octets: &[u8]) -> Result<Pdu, PduError>
-    ensures { GivesBut (λ p. HasStrings p.body) (λ p. p) result (reading octets.now) }
+/// The PDU that the octets spell. What no PDU spells is refused, for the first fault in this order:
+/// fewer than 16 octets, the command_length, the command_id, then the fields from left to right.
+/// Memory is asked for only where a PDU is spelled, and that PDU has strings.
+pub fn decode(alloc: Global, octets: &[u8]) -> Result<Pdu, PduError>
+    // What is read is spelled so.
+    ensures found { IfOk result (λ p. Spells p octets.now) }
+    // What is spelled so is read, unless it has strings and memory runs out.
+    ensures only { (p : Pdu) → Spells p octets.now → GivesBut (λ q. HasStrings q.body) (λ q. q) result (Ok p) }
+    // Which PDU or fault it is; a fault is told whether or not there is memory.
+    ensures exact { GivesBut (λ q. HasStrings q.body) (λ q. q) result (reading octets.now) }
 {
+    // (One flat match, whose calls are the result: each join on the way moves the PDU once more.)
     match known_header(octets) {
-        Ok((command, header)) => {
-            let Header { status, number, .. } = header;
-            let octets = body_of(octets);
-            match command {
-                Command::SubmitSm => submit_sm(alloc, status, number, octets),
-                Command::DeliverSm => deliver_sm(alloc, status, number, octets),
-                _ => other(alloc, command, status, number, octets),
-            }
-        }
+        Ok((Command::SubmitSm, h)) => submit_sm(alloc, h.status, h.number, body_of(octets)),
+        Ok((Command::DeliverSm, h)) => deliver_sm(alloc, h.status, h.number, body_of(octets)),
+        Ok((command, h)) => other(alloc, command, h.status, h.number, body_of(octets)),
         Err(fault) => Err(fault),
     }
 }

@@ -37,6 +37,14 @@ impl Octets {
                 octets: Vec::new(alloc),
             });
         }
+        Octets::allocated(alloc, octets)
+    }
+
+    /// A copy of these octets, in one allocation.
+    #[inline(never)]
+    fn allocated(alloc: Global, octets: &[u8]) -> Result<Octets, AllocError>
+        ensures { IfOk result (λ copy. copy ≡ octets.now) }
+    {
         let mut copy = Vec::with_capacity(alloc, octets.len())?;
         copy.extend_from_slice(octets)?;
         Ok(Octets { octets: copy })
