@@ -11,8 +11,9 @@ use std::io::{BufWriter, Error, ErrorKind, Write};
 use std::net::TcpStream;
 use std::sync::{Mutex, Wait};
 
-/// How many octets wait at most: more than a full window of short requests has.
-const MOST_WAITING: usize = 32_768;
+/// How many octets wait at most: some fifteen requests. With more of them the answers to the requests
+/// of a turn come in bursts, between which the connection idles.
+const MOST_WAITING: usize = 2_048;
 
 /// A connection's writer, and whether it has failed. What waited then is lost.
 #[derive(Drop)]
