@@ -1,15 +1,15 @@
 -- What is said to frames that come one after another, and what of it is written.
-use Rattle.std.proofs.Common.{◌≡◌, ℕ, ◌+◌, inl, inr, List, [], ◌∷◌, ◌++◌, length, take, Bool, true, false, Option, Some, None, refl, sym, ap, ◌∙◌, subst, arith, append_assoc, append-nil, length-append, true≢false}
+use Rattle.std.proofs.Common.{◌≡◌, ◌≢◌, ◌⊎◌, ℕ, ◌+◌, inl, inr, List, [], ◌∷◌, ◌++◌, length, take, Bool, true, false, Option, Some, None, refl, sym, ap, ◌∙◌, subst, arith, append_assoc, append-nil, length-append, true≢false}
 use lib.Seq.{take-append-add, take_all}
 use Rattle.std.specs.List.{AllZip, concat}
 use Rattle.std.proofs.lemmas.List.Folds.{concat-append}
-use Rattle.std.specs.Io.KnownBytes.{Appends, IsAtEnd}
+use Rattle.std.specs.Io.KnownBytes.{Appends, Keeps, IsAtEnd}
 use Rattle.std.proofs.KnownBytes.{Appends-nil, Appends-trans, Consumes-nil}
 use Rattle.sms_pdu.specs.Header.{header_at_front}
-use Rattle.sms_pdu.specs.Frame.{Division, IsBad}
+use Rattle.sms_pdu.specs.Frame.{Division, IsRest, IsBad}
 use Rattle.sms_pdu.specs.Streams.{SomeAppended, Leaves, Reads, going, complete, early}
 use Rattle.sms_pdu.proofs.Divisions.{each_divided}
-use Rattle.sms_pdu.proofs.Streams.{rest_divided, division_after, reads_none, reads_ends, reads_rest}
+use Rattle.sms_pdu.proofs.Streams.{rest_divided, division_after, consumes_nothing, reads_none, reads_ends, reads_rest}
 use Rattle.sms_centre.specs.declared.serving.Stop.{Stop}
 use Rattle.sms_centre.specs.declared.serving.Stop.TheVariants as stop
 use Rattle.sms_centre.specs.declared.said.Said.{Said}
@@ -188,3 +188,16 @@ reads_turns p q r t a b held x good =
 -- memory ran out behind these frames
 pub answered_full : (p q : Progress) (a b : List ℕ) (fs : List (List ℕ)) → Answered p q None a b fs → Answered p q (Some stop.OutOfMemory) a b fs
 answered_full p q a b fs x = record { pieces = x.pieces; each = x.each; grown = x.grown; heard = x.heard }
+
+-- a read that failed changes nothing, and the connection goes on or not
+pub reads_failed : (p : Progress) (end : Option Stop) (held : List ℕ) (r t w : Option (List ℕ)) → (end ≡ None) ⊎ (end ≡ Some stop.ReadFault) → Keeps r t → IsRest held → ¬ IsBad held
+    → Reads (Written p p end w w) held r t (stretch_of end) held
+reads_failed p end held r t w (inl e) kept rest good =
+    subst (λ (x : Option Stop). Reads (Written p p x w w) held r t (stretch_of x) held) (sym e) (reads_none (Written p p None w w) held held r t going (written_none p None w refl) (consumes_nothing r t kept) (rest, refl))
+reads_failed p end held r t w (inr e) kept rest good =
+    subst (λ (x : Option Stop). Reads (Written p p x w w) held r t (stretch_of x) held) (sym e)
+    (reads_none (Written p p (Some stop.ReadFault) w w) held held r t complete (written_none p (Some stop.ReadFault) w refl) (consumes_nothing r t kept) (rest, good))
+
+pub not_failed : (end : Option Stop) (other : Stop) → (end ≡ None) ⊎ (end ≡ Some stop.ReadFault) → ¬ (other ≡ stop.ReadFault) → end ≢ Some other
+not_failed end other (inl e) off is = absurd cc
+not_failed end other (inr e) off is = off cc

@@ -1,10 +1,11 @@
 //! The centre serves a connection.
 
-ghost use Rattle.std.specs.Prelude.{◌≡◌, ◌≢◌, ◌⊎◌, ℕ, ◌*◌, ◌≤◌, ◌∷◌, [], List, length, drop, Some, None, IfOk, IfSome, OnErr};
+ghost use Rattle.std.specs.Prelude.{◌≡◌, ◌≢◌, ◌⊎◌, ℕ, ◌*◌, ◌≤◌, ◌∷◌, [], List, length, drop, Some, None, true, false, IfOk, IfSome, OnErr};
 ghost use Rattle.std.specs.Io.KnownBytes.{IsAtEnd};
+ghost use Rattle.std.specs.IoError.{error_kind};
 ghost use Rattle.sms_pdu.specs.Frame.{IsFrame, IsRest, IsBad};
 ghost use Rattle.sms_pdu.specs.Streams.{Went, Reads, Leaves, early};
-ghost use Rattle.sms_pdu.specs.Turn.{most_piece, GaveAtMost, IsSpent};
+ghost use Rattle.sms_pdu.specs.Turn.{most_piece, GaveAtMost, IsSpent, gives_nothing};
 ghost use Rattle.sms_centre.specs.Says.{begun};
 ghost use Rattle.sms_centre.specs.Serving.{Serves, end_at as brought_by, hangs_up as hung_up_by};
 ghost use Rattle.sms_centre.specs.Stops.{cause_of as cause_of_stop, brought, stretch_of, Answered, Written};
@@ -19,7 +20,7 @@ use sms_pdu::{
     write_octets,
 };
 use std::alloc::{AllocError, Global};
-use std::io::{Read, Write};
+use std::io::{Error, Read, Write};
 
 /// Why a connection ended.
 #[derive(Clone, Copy, Debug, PartialEq, Eq)]
@@ -181,7 +182,7 @@ impl Centre {
         ensures most { GaveAtMost most_piece (R.remaining reader.old) (R.remaining reader.new) }
         ensures piece { length buffers.new.piece.items ≡ 65536 }
         ensures turns { result ≢ Some Turns }
-        ensures spent { IsSpent (R.remaining reader.old) → (result ≡ Some Ended) ⊎ (result ≡ Some ReadFault) ⊎ (result ≡ None) }
+        ensures spent { IsSpent (R.remaining reader.old) → (result ≡ Some Ended) ⊎ (result ≡ None) ⊎ (result ≡ Some ReadFault) }
         ensures end { result ≡ Some Ended → IsAtEnd (R.remaining reader.new) }
     {
         match reader.read(buffers.piece.as_mut_slice()) {
@@ -192,13 +193,7 @@ impl Centre {
                 }
                 self.answer_held(alloc, writer, buffers)
             }
-            Err(e) => {
-                if gave_nothing(&e) {
-                    None
-                } else {
-                    Some(Stop::ReadFault)
-                }
-            }
+            Err(e) => fault_of(&e),
         }
     }
 
@@ -292,6 +287,19 @@ impl Centre {
             UNBIND => Some(Stop::Unbound),
             _ => None,
         }
+    }
+}
+
+/// Why the connection ends after a read that failed so, if it does.
+fn fault_of(e: &Error) -> Option<Stop>
+    ensures again { gives_nothing (error_kind e.now) ≡ true → result ≡ None }
+    ensures fault { gives_nothing (error_kind e.now) ≡ false → result ≡ Some ReadFault }
+    ensures one { (result ≡ None) ⊎ (result ≡ Some ReadFault) }
+{
+    if gave_nothing(e) {
+        None
+    } else {
+        Some(Stop::ReadFault)
     }
 }
 
