@@ -78,7 +78,7 @@ pub only-parts : (limit : ℕ) (parts : List (List Group)) → AllByRecursion (�
 only-parts limit [] some small full = refl
 only-parts limit ([] ∷ parts) some small full = absurd (omega (arith, some.0))
 only-parts limit ((g ∷ p) ∷ []) some small full = full_cutting-append limit g p [] small.0
-only-parts limit ((g ∷ p) ∷ ([] ∷ parts)) some small full = absurd (omega (arith, some.1.0))
+only-parts limit ((g ∷ p) ∷ ([] ∷ parts)) (first, (second, later)) small full = absurd (omega (arith, second))
 only-parts limit ((g ∷ p) ∷ ((h ∷ q) ∷ parts)) some small full =
     full_cutting-append limit g p (all_groups ((h ∷ q) ∷ parts)) small.0
     ∙ filled-breaks limit (g ∷ p) h (q ++ all_groups parts) full.0

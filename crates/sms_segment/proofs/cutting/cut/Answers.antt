@@ -14,8 +14,8 @@ use Rattle.sms_segment.proofs.cutting.cut.Goals as goal
 pub returns-in_err-whole_text-clause-too_long : goal.returns-in_err-whole_text-clause-too_long
 returns-in_err-whole_text-clause-too_long c =
     let short : length c.args.text.now.units ≤ single_limit c.args.text.now.coding = omega (arith, c.len.ensures, c.single_limit.ensures) in
-    let memory = err_from_is_err_and c.from_residual.result c.from_residual.ensures.1 in
-    rw (memory.1, memory.2) (λ e. cc, λ each. absurd (short_is_not_too_long c.args.text.now c.args.reference short each))
+    let (error, is, from_memory) = err_from_is_err_and c.from_residual.result c.from_residual.ensures.1 in
+    rw (is, from_memory) (λ e. cc, λ each. absurd (short_is_not_too_long c.args.text.now c.args.reference short each))
 
 pub returns-then-len-single_limit-clause-full : goal.returns-then-len-single_limit-clause-full
 returns-then-len-single_limit-clause-full c =
@@ -50,8 +50,8 @@ pub returns-in_err-numbered_parts-in-Some-clause-too_long : goal.returns-in_err-
 returns-in_err-numbered_parts-in-Some-clause-too_long c =
     let long : single_limit c.args.text.now.coding < length c.args.text.now.units = omega (arith, c.len.ensures, c.single_limit.ensures) in
     let small : length (text_parts c.args.text.now c.args.reference) ≤ 255 = few c.args.text.now c.args.reference c.part_limit-limit.result c.in-Some.count c.as_slice.result.now long c.part_limit-limit.ensures c.as_slice.ensures c.in-Some.ensures.none.1 in
-    let memory = err_from_is_err_and c.from_residual-in_err-numbered_parts-in-Some.result c.from_residual-in_err-numbered_parts-in-Some.ensures.1 in
-    rw (memory.1, memory.2) (λ e. cc, λ each. absurd (not_too_long c.args.text.now c.args.reference small each))
+    let (error, is, from_memory) = err_from_is_err_and c.from_residual-in_err-numbered_parts-in-Some.result c.from_residual-in_err-numbered_parts-in-Some.ensures.1 in
+    rw (is, from_memory) (λ e. cc, λ each. absurd (not_too_long c.args.text.now c.args.reference small each))
 
 pub returns-in-None-clause-too_long : goal.returns-in-None-clause-too_long
 returns-in-None-clause-too_long c =
