@@ -92,6 +92,7 @@ pub(crate) fn front(octets: &[u8], most: usize) -> &[u8]
 }
 
 /// Where the first 0 stands.
+#[inline(always)]
 pub(crate) fn first_zero(octets: &[u8]) -> Option<usize>
     ensures place { result ≡ position (λ octet. octet == 0) octets.now }
     ensures within { IfSome result (λ place. place < length octets.now) }

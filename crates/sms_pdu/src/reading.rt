@@ -1,12 +1,12 @@
 //! The values of a PDU's fields, read from left to right. Only the list of parameters takes memory.
 
-ghost use Rattle.std.specs.Prelude.{◌≡◌, ◌==◌, ◌<◌, length, position, IfSome};
+ghost use Rattle.std.specs.Prelude.{◌≡◌, ◌==◌, ◌<◌, length, take, position, IfSome};
 ghost use Rattle.sms_pdu.specs.Reading.{Says, Gives, number_octet_at, text_at, time_at, message_at, parameter_at, parameters_at, parameter_count, ended};
 
 use crate::error::PduError;
 use crate::field::Field;
 use crate::layout::{MESSAGE_MAXIMUM, TIME_LENGTH};
-use crate::octets::{Octets, first_zero, front};
+use crate::octets::{Octets, first_zero};
 use crate::parameter::{Parameter, Params};
 use std::alloc::Global;
 
@@ -22,22 +22,22 @@ pub(crate) fn number(field: Field, octets: &[u8]) -> Result<(u8, &[u8]), PduErro
     Ok((octets[0], rest))
 }
 
-/// Where the first 0 stands. The first octet is looked at here, since many strings of a message are
-/// empty; the others in a loop of its own, which is as tight as it can be.
+/// Where the first 0 stands among the first octets, at most so many. (Where so many are there, their
+/// number is known to the compiler at each call, which makes the search straight code.)
 #[inline(always)]
-fn zero_at(octets: &[u8]) -> Option<usize>
-    ensures place { result ≡ position (λ octet. octet == 0) octets.now }
+fn zero_among(maximum: usize, octets: &[u8]) -> Option<usize>
+    ensures place { result ≡ position (λ octet. octet == 0) (take maximum octets.now) }
     ensures within { IfSome result (λ place. place < length octets.now) }
 {
-    match octets {
-        [0, ..] => Some(0),
-        _ => later_zero(octets),
+    if octets.len() < maximum {
+        return last_zero(octets);
     }
+    first_zero(&octets[..maximum])
 }
 
-/// The same.
+/// Where the first 0 stands, in octets that end before a string's maximum.
 #[inline(never)]
-fn later_zero(octets: &[u8]) -> Option<usize>
+fn last_zero(octets: &[u8]) -> Option<usize>
     ensures place { result ≡ position (λ octet. octet == 0) octets.now }
     ensures within { IfSome result (λ place. place < length octets.now) }
 {
@@ -50,7 +50,7 @@ fn later_zero(octets: &[u8]) -> Option<usize>
 pub(crate) fn text(field: Field, maximum: usize, octets: &[u8]) -> Result<(&[u8], &[u8]), PduError>
     ensures { Says (λ x. (x.0.now, x.1.now)) result (text_at field maximum octets.now) }
 {
-    let Some(len) = zero_at(front(octets, maximum)) else {
+    let Some(len) = zero_among(maximum, octets) else {
         if maximum <= octets.len() {
             return Err(PduError::TooLong { field });
         }
