@@ -199,6 +199,8 @@ impl<N: BookName, C: Call> Run<N, C> {
         let down = desk.line.down.load(Ordering::SeqCst);
         let expired = self.expire(desk, down);
         let started = self.start_or_sweep(desk, down);
+        desk.gate
+            .see(desk.worker, self.ends.as_slice(), self.opened.len());
         if heard || expired || started {
             return true;
         }

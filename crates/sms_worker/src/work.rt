@@ -180,7 +180,9 @@ fn work<N: BookName, W: Write, G: Gate, K: Clock, P: Pause, R: Wait, C: Call>(
     };
     run.take_turns(desk, pause, &mut consumer);
     run.finish(desk, &mut consumer);
-    into_end(desk, run, consumer)
+    let end = into_end(desk, run, consumer);
+    desk.gate.see_last(desk.worker, end.ends.as_slice());
+    end
 }
 
 /// Sends the messages in order, in at most so many turns. Each message has one end, in order; each
