@@ -65,12 +65,24 @@ const BARE: [(&[u8], Command); 5] = [
 
 const NAME: &[u8] = b"Raul Antonio Tremsal";
 
+fn decoded(alloc: Global, octets: &[u8]) -> Result<Pdu, Fail> {
+    Ok(decode(alloc, octets)?)
+}
+
+// The PDU is the first of its library, and is written as these octets again.
+fn is_written(rt: &impl Abort, alloc: Global, pdu: &Pdu, octets: &[u8]) -> Result<(), Fail> {
+    assert_eq!(rt; (pdu.status, pdu.number), (0, 1));
+    let again = encode(alloc, pdu)?;
+    assert_eq!(rt; again.as_slice(), octets);
+    Ok(())
+}
+
 // What is read of the octets, which are written again from it.
 fn read(rt: &impl Abort, alloc: Global, octets: &[u8]) -> Result<Body, Fail> {
-    let pdu = decode(alloc, octets)?;
-    assert_eq!(rt; (pdu.status, pdu.number), (0, 1));
-    assert_eq!(rt; encode(alloc, &pdu)?.as_slice(), octets);
-    Ok(pdu.body)
+    let pdu = decoded(alloc, octets)?;
+    is_written(rt, alloc, &pdu, octets)?;
+    let Pdu { body, .. } = pdu;
+    Ok(body)
 }
 
 fn has_params(rt: &impl Abort, params: &Params, told: &[(u16, &[u8])]) {
