@@ -1,5 +1,5 @@
 //! The parts of a message that was begun, and where each stands in a queue.
-ghost use Rattle.std.specs.Prelude.{◌≡◌, ◌⊎◌, [], List, All, IfOk, IfSome, Some, map, slice_get, vec_len, vec_capacity};
+ghost use Rattle.std.specs.Prelude.{◌≡◌, ◌⊎◌, [], List, All, IfOk, IfSome, IfNone, Some, None, map, slice_get, vec_len, vec_capacity};
 ghost use Rattle.sms_segment.specs.Part.{HasSeptets};
 ghost use Rattle.sms_worker.specs.declared.message.Message.{Message};
 ghost use Rattle.sms_worker.specs.declared.rules.Rules.{Rules};
@@ -82,7 +82,8 @@ impl Texts {
 
     /// The user data of a part, if it is there still.
     pub fn part(&self, part: usize) -> Option<&UserData>
-        ensures { IfSome result (λ carried. slice_get self.now part ≡ Some carried.now) }
+        ensures there { IfSome result (λ carried. slice_get self.now part ≡ Some carried.now) }
+        ensures gone { IfNone result (slice_get self.now part ≡ None) }
     {
         if part >= self.parts.len() {
             return None;

@@ -39,7 +39,7 @@ invariant_of-self-2 g c =
     let p = c.args.place.part in
     let texts_low : k < length c.self.inside.texts.items = search rules in
     let kept : slice_get c.self.inside.texts.items k ≡ Some c.index.result.now = slice_get-get_or c.self.inside.texts.items k c.index.result.now texts_low ∙ ap Some (sym c.index.ensures) in
-    let got = c.in-Some.ensures in
+    let got = c.in-Some.ensures.there in
     let part = part_there g.C.Call.start.rules g.C.Call.start.messages c.self.inside.texts.items k p c.index-message.result.now c.index.result.now c.in-Some.carried.now i.keeps.texts_kept (ap (λ l. slice_get l k) (sym i.keeps.messages) ∙ there) kept got in
     let s' : SegmentEnd = record { cost = s.cost; attempts = c.new.result; outcome = s.outcome } in
     let is = given_other c.self.inside.ends.items c.take.new.ends.items c.give-2.new.ends.items k p s s' c.in-Some-take.ensures.out c.give-2.ensures.now in
