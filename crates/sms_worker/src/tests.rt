@@ -1,28 +1,30 @@
 //! A worker whose answers come while it pauses, on one thread: what becomes of its messages.
-ghost use Rattle.std.specs.Prelude.{◌≡◌};
+ghost use Rattle.std.specs.Prelude.{◌≡◌, IfSome};
 
-use self::beside::{Beside, Fuse};
+use self::beside::{Beside, line_with_fuse};
 use crate::{
-    Message, MessageEnd, MessageRefusal, MessageResult, Outcome, Rules, Worker, run_worker,
+    Clock, Gate, Message, MessageEnd, MessageRefusal, MessageResult, Outcome, Pause, Rules, Worker,
+    run_worker,
 };
-use rtrb::RingBuffer;
-use sms_bind::{Line, Tap, Wire};
-use sms_book::{Blank, BookName, Opening, Rate, Tariff, open_book};
+use rtrb::{Consumer, Producer, RingBuffer};
+use sms_bind::Line;
+use sms_book::{Blank, Book, BookName, Opening, Rate, Tariff, open_book};
 use sms_core::Row;
+use sms_pdu::Reply;
 use sms_session::Policy;
-use sms_slot::SlotRow;
-use sms_window::Window;
+use sms_window::{Window, WindowSeat};
 use std::alloc::{AllocError, Global};
+use std::io::Write;
 use std::marker::Brand;
 use std::process::Abort;
-use std::sync::Wait;
 use std::sync::atomic::Ordering;
-use std::test::Fail;
+use std::sync::{Mutex, Wait};
 
 mod answered;
 mod beside;
 mod centre;
 mod ended;
+mod memory;
 mod sums;
 mod threads;
 
@@ -109,20 +111,15 @@ fn messages_of(alloc: Global, count: u64) -> Result<Vec<Message>, AllocError> {
     Ok(messages)
 }
 
-// How the worker works. A destination that begins with 46 costs 5 credits.
-fn rules_of(rt: &impl Abort, alloc: Global, case: Case<'_>) -> Result<Rules, Fail> {
-    let Ok(policy) = Policy::new(case.attempts, case.base_ms) else {
-        panic!(rt; "no policy")
-    };
+// How the worker works. A destination that begins with 46 costs 5 credits. None where memory is refused.
+fn rules_of(alloc: Global, case: Case<'_>) -> Option<Rules> {
     let rates = [Rate {
-        prefix: String::from_str(alloc, "46")?,
+        prefix: String::from_str(alloc, "46").ok()?,
         credits: 5,
     }];
-    let Ok(tariff) = Tariff::new(alloc, rates.as_slice()) else {
-        panic!(rt; "no tariff")
-    };
-    Ok(Rules {
-        policy,
+    let tariff = Tariff::new(alloc, rates.as_slice()).ok()?;
+    Some(Rules {
+        policy: Policy::new(case.attempts, case.base_ms).ok()?,
         depth: case.depth,
         answer_ms: case.answer_ms,
         turns: 1 << 40,
@@ -132,73 +129,124 @@ fn rules_of(rt: &impl Abort, alloc: Global, case: Case<'_>) -> Result<Rules, Fai
     })
 }
 
+// A book with one account and so many workers.
+fn book_of(alloc: Global, credits: u64, workers: usize) -> Option<Blank> {
+    let openings = [Opening {
+        name: String::from_str(alloc, "main").ok()?,
+        credits,
+    }];
+    open_book(alloc, openings.as_slice(), workers).ok()
+}
+
+// A window, and seats of it for two workers and for what stands beside them.
+fn seats_of(
+    rt: &impl Abort,
+    alloc: Global,
+    first: u32,
+) -> Option<(Window, WindowSeat, WindowSeat, WindowSeat)>
+    ensures { IfSome result (λ r. (r.1.window ≡ r.0) × (r.2.window ≡ r.0) × (r.3.window ≡ r.0)) }
+{
+    let (window, mut keeper) = Window::make_from(alloc, 64, first).ok()?;
+    assert!(rt; keeper.can_split());
+    let one = window.split(&mut keeper);
+    assert!(rt; keeper.can_split());
+    let other = window.split(&mut keeper);
+    Some((window, one, other, keeper))
+}
+
+/// The rings of two workers: what the reader has of them, and what each worker has.
+type Rings = (Vec<Producer<Reply>>, Consumer<Reply>, Consumer<Reply>);
+
+fn rings_of(alloc: Global) -> Option<Rings> {
+    let mut producers = Vec::new(alloc);
+    let (producer, consumer) = RingBuffer::new(alloc, 64).ok()?;
+    producers.push(producer).ok()?;
+    let (producer, other_consumer) = RingBuffer::new(alloc, 64).ok()?;
+    producers.push(producer).ok()?;
+    Some((producers, consumer, other_consumer))
+}
+
+// Sends the messages. Where the call is refused, all was handed back.
+fn sends<N: BookName, W: Write, B: Gate + Clock + Pause, R: Abort + Wait>(
+    rt: &R,
+    alloc: Global,
+    worker: Worker<N>,
+    messages: Vec<Message>,
+    line: &Line<W>,
+    window: &Window,
+    book: &Mutex<Book<N>>,
+    rules: &Rules,
+    beside: &B,
+) -> Option<Done>
+    requires { worker.seat.window ≡ window.now }
+{
+    let count = messages.len();
+    match run_worker(
+        rt, alloc, worker, messages, line, window, book, rules, beside, beside, beside,
+    ) {
+        Ok(mut end) => {
+            let row = book.lock(rt).look(&mut end.shares, 0)?;
+            Some(Done {
+                ends: end.ends,
+                row,
+            })
+        }
+        Err((_refused, _worker, messages)) => {
+            assert_eq!(rt; messages.len(), count);
+            None
+        }
+    }
+}
+
 fn works<N: BookName, R: Abort + Wait>(
     rt: &R,
     alloc: Global,
     blank: Blank,
+    rules: &Rules,
     case: Case<'_>,
     messages: Vec<Message>,
-) -> Result<Done, Fail>
+) -> Option<Done>
     requires { blank.book ≡ N.book }
 {
-    let Ok((book, _till, mut all)) = blank.open::<N>(alloc) else {
-        panic!(rt; "no book")
-    };
-    let Some(shares) = all.pop() else {
-        panic!(rt; "no share")
-    };
-    let Ok((window, mut keeper)) = Window::make_from(alloc, 64, case.first) else {
-        panic!(rt; "no window")
-    };
-    assert!(rt; keeper.can_split());
-    let seat = window.split(&mut keeper);
-    let (producer, consumer) = RingBuffer::new(alloc, 64)?;
+    let (window, seat) = Window::make_from(alloc, 64, case.first).ok()?;
+    let (producer, consumer) = RingBuffer::new(alloc, 64).ok()?;
     let mut producers = Vec::new(alloc);
-    producers.push(producer)?;
-    let line = Line::new(
-        SlotRow::new(alloc)?,
-        Wire::new(Tap::new(Fuse { left: case.room })),
-    );
-    if case.down {
-        line.down.store(true, Ordering::SeqCst);
-    }
-    let rules = rules_of(rt, alloc, case)?;
+    producers.push(producer).ok()?;
+    let line = line_with_fuse(alloc, case.room)?;
+    line.down.store(case.down, Ordering::SeqCst);
     let beside = Beside::new(rt, alloc, &line, producers, case);
+    let Ok((book, _till, mut all)) = blank.open::<N>(alloc) else {
+        return None;
+    };
     let worker = Worker {
         index: 0,
         place: 0,
         seat,
-        shares,
+        shares: all.pop()?,
         consumer,
     };
-    let result = run_worker(
-        rt, alloc, worker, messages, &line, &window, &book, &rules, &beside, &beside, &beside,
-    );
-    let Ok(mut end) = result else {
-        panic!(rt; "no memory")
-    };
-    let Some(row) = book.lock(rt).look(&mut end.shares, 0) else {
-        panic!(rt; "no account")
-    };
-    Ok(Done {
-        ends: end.ends,
-        row,
-    })
+    sends(
+        rt, alloc, worker, messages, &line, &window, &book, rules, &beside,
+    )
 }
 
-fn run(
+// What becomes of the messages; none where memory is refused.
+fn try_run(
     rt: &(impl Abort + Wait),
     alloc: Global,
     case: Case<'_>,
     messages: Vec<Message>,
-) -> Result<Done, Fail> {
-    let mut openings = Vec::new(alloc);
-    openings.push(Opening {
-        name: String::from_str(alloc, "main")?,
-        credits: case.credits,
-    })?;
-    let blank = open_book(alloc, openings.as_slice(), 1)?;
-    works::<Brand, _>(rt, alloc, blank, case, messages)
+) -> Option<Done> {
+    let rules = rules_of(alloc, case)?;
+    let blank = book_of(alloc, case.credits, 1)?;
+    works::<Brand, _>(rt, alloc, blank, &rules, case, messages)
+}
+
+fn run(rt: &(impl Abort + Wait), alloc: Global, case: Case<'_>, messages: Vec<Message>) -> Done {
+    let Some(done) = try_run(rt, alloc, case, messages) else {
+        panic!(rt; "no memory")
+    };
+    done
 }
 
 // The message's segments, each with the count of its attempts and its outcome.
@@ -232,7 +280,11 @@ fn want_refused(rt: &impl Abort, done: &Done, place: usize, wanted: MessageRefus
 }
 
 // The account's credits: free, reserved, charged, returned.
-fn want_row(rt: &impl Abort, done: &Done, wanted: (u64, u64, u64, u64)) {
+fn row_of(done: &Done) -> (u64, u64, u64, u64) {
     let row = done.row;
-    assert_eq!(rt; (row.free, row.reserved, row.charged, row.returned), wanted);
+    (row.free, row.reserved, row.charged, row.returned)
+}
+
+fn want_row(rt: &impl Abort, done: &Done, wanted: (u64, u64, u64, u64)) {
+    assert_eq!(rt; row_of(done), wanted);
 }

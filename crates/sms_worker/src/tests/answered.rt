@@ -12,7 +12,7 @@ fn both_parts_are_charged(rt: HostRuntime) -> Result<(), Fail> {
     let alloc = rt.alloc();
     let mut messages = Vec::new(alloc);
     messages.push(message(alloc, 7, Some(0), "447700900123", letters(alloc, 161)?)?)?;
-    let done = run(&rt, alloc, PLAIN, messages)?;
+    let done = run(&rt, alloc, PLAIN, messages);
     want_sent(
         &rt,
         &done,
@@ -30,7 +30,7 @@ fn a_throttled_segment_is_sent_again(rt: HostRuntime) -> Result<(), Fail> {
         answers: &[THROTTLED, THROTTLED, OK],
         ..PLAIN
     };
-    let done = run(&rt, alloc, case, messages_of(alloc, 1)?)?;
+    let done = run(&rt, alloc, case, messages_of(alloc, 1)?);
     want_sent(&rt, &done, 0, &[(3, Outcome::Charged)]);
     want_row(&rt, &done, (2, 0, 1, 0));
     let done = run(
@@ -41,7 +41,7 @@ fn a_throttled_segment_is_sent_again(rt: HostRuntime) -> Result<(), Fail> {
             ..case
         },
         messages_of(alloc, 1)?,
-    )?;
+    );
     want_sent(&rt, &done, 0, &[(2, Outcome::Refused)]);
     want_row(&rt, &done, (3, 0, 0, 1));
     Ok(())
@@ -68,7 +68,7 @@ fn many_throttled_messages_are_charged(rt: HostRuntime) -> Result<(), Fail> {
             ..case
         },
         messages_of(alloc, 30)?,
-    )?;
+    );
     for place in 0..30 {
         if let Some(end) = done.ends.get(place) {
             let MessageResult::Sent(segments) = &end.result else {
@@ -93,7 +93,7 @@ fn without_an_answer_credits_stay_reserved(rt: HostRuntime) -> Result<(), Fail> 
         answer_ms: 50,
         ..PLAIN
     };
-    let done = run(&rt, alloc, case, messages_of(alloc, 1)?)?;
+    let done = run(&rt, alloc, case, messages_of(alloc, 1)?);
     want_sent(&rt, &done, 0, &[(1, Outcome::Unanswered)]);
     want_row(&rt, &done, (2, 1, 0, 0));
     Ok(())
@@ -112,7 +112,7 @@ fn a_segment_costs_what_its_prefix_says(rt: HostRuntime) -> Result<(), Fail> {
             ..PLAIN
         },
         messages,
-    )?;
+    );
     want_sent(
         &rt,
         &done,
@@ -148,7 +148,7 @@ fn a_retry_that_is_due_comes_first(rt: HostRuntime) -> Result<(), Fail> {
         answers: &[THROTTLED, OK],
         ..PLAIN
     };
-    let done = run(&rt, alloc, case, messages_of(alloc, 15)?)?;
+    let done = run(&rt, alloc, case, messages_of(alloc, 15)?);
     assert_eq!(&rt; number_of(&rt, &done, 0, 0), 1);
     for place in 1..11usize {
         assert_eq!(&rt; number_of(&rt, &done, place, 0) as usize, place + 1);

@@ -4,8 +4,9 @@ use super::centre::{answer_of, status_of};
 use super::{Case, SILENT};
 use crate::{Clock, Gate, Pause};
 use rtrb::Producer;
-use sms_bind::Line;
+use sms_bind::{Line, Tap, Wire};
 use sms_pdu::{Reply, reply_of};
+use sms_slot::SlotRow;
 use std::alloc::Global;
 use std::cell::{Cell, RefCell};
 use std::io::Write;
@@ -32,6 +33,12 @@ impl Write for Fuse {
     fn flush(&mut self) -> io::Result<()> {
         Ok(())
     }
+}
+
+/// A line whose writer takes so many octets.
+pub fn line_with_fuse(alloc: Global, room: u64) -> Option<Line<Fuse>> {
+    let slots = SlotRow::new(alloc).ok()?;
+    Some(Line::new(slots, Wire::new(Tap::new(Fuse { left: room }))))
 }
 
 /// What stands beside the worker: a gate that remembers the numbers that pass, a clock that goes on

@@ -3,12 +3,13 @@
 ghost use Rattle.std.specs.Prelude.{◌≡◌};
 
 use super::SILENT;
-use rtrb::{Consumer, Producer};
-use sms_bind::{Bound, Line, ReaderEnd, Tap, read_loop};
+use rtrb::{Consumer, Producer, RingBuffer};
+use sms_bind::{Bound, Line, ReaderEnd, Tap, Wire, read_loop};
 use sms_pdu::{
     BIND_TRANSCEIVER_RESP, Framer, Frames, Header, Mode, Reply, SUBMIT_SM_RESP, header_of,
 };
 use sms_session::Opened;
+use sms_slot::SlotRow;
 use sms_window::{Window, WindowSeat};
 use std::alloc::Global;
 use std::io::{Error, ErrorKind, Read, Write};
@@ -37,6 +38,16 @@ impl Write for Way {
     fn flush(&mut self) -> io::Result<()> {
         Ok(())
     }
+}
+
+/// A line whose writer is the way to the centre, and the other end of that way.
+pub fn line_to_centre(alloc: Global) -> Option<(Line<Way>, Consumer<u8>)> {
+    let (octets, requests) = RingBuffer::new(alloc, 8192).ok()?;
+    let slots = SlotRow::new(alloc).ok()?;
+    Some((
+        Line::new(slots, Wire::new(Tap::new(Way { octets }))),
+        requests,
+    ))
 }
 
 /// The centre, as a reader. A read gives one octet of the answer to the request that came last; where

@@ -16,7 +16,7 @@ fn a_line_that_goes_down_ends_all(rt: HostRuntime) -> Result<(), Fail> {
         down_at: 1,
         ..PLAIN
     };
-    let done = run(&rt, alloc, case, messages_of(alloc, 5)?)?;
+    let done = run(&rt, alloc, case, messages_of(alloc, 5)?);
     for place in 0..3 {
         want_sent(&rt, &done, place, &[(1, Outcome::Unanswered)]);
     }
@@ -38,7 +38,7 @@ fn a_line_that_goes_down_takes_what_is_answered(rt: HostRuntime) -> Result<(), F
         down_at: 1,
         ..PLAIN
     };
-    let done = run(&rt, alloc, case, messages_of(alloc, 2)?)?;
+    let done = run(&rt, alloc, case, messages_of(alloc, 2)?);
     want_sent(&rt, &done, 0, &[(1, Outcome::Refused)]);
     want_sent(&rt, &done, 1, &[(1, Outcome::Charged)]);
     want_row(&rt, &done, (2, 0, 1, 1));
@@ -56,7 +56,7 @@ fn numbers_are_used_up(rt: HostRuntime) -> Result<(), Fail> {
             ..PLAIN
         },
         messages_of(alloc, 3)?,
-    )?;
+    );
     want_sent(&rt, &done, 0, &[(1, Outcome::Charged)]);
     want_sent(&rt, &done, 1, &[(0, Outcome::Unsent)]);
     want_sent(&rt, &done, 2, &[(0, Outcome::Unsent)]);
@@ -81,7 +81,7 @@ fn messages_are_refused(rt: HostRuntime) -> Result<(), Fail> {
     let mut empty = message(alloc, 8, Some(0), "447700900123", letters(alloc, 1)?)?;
     empty.source = String::new(alloc);
     messages.push(empty)?;
-    let done = run(&rt, alloc, PLAIN, messages)?;
+    let done = run(&rt, alloc, PLAIN, messages);
     let wanted = [
         MessageRefusal::NoAccount,
         MessageRefusal::NoAccount,
@@ -105,7 +105,7 @@ fn messages_are_refused(rt: HostRuntime) -> Result<(), Fail> {
             ..PLAIN
         },
         messages_of(alloc, 1)?,
-    )?;
+    );
     want_refused(&rt, &done, 0, MessageRefusal::BindClosed);
     Ok(())
 }
@@ -123,7 +123,7 @@ fn a_broken_wire_ends_the_line(rt: HostRuntime) -> Result<(), Fail> {
             ..PLAIN
         },
         messages_of(alloc, 3)?,
-    )?;
+    );
     want_sent(&rt, &done, 0, &[(1, Outcome::Charged)]);
     want_sent(&rt, &done, 1, &[(1, Outcome::Unanswered)]);
     want_refused(&rt, &done, 2, MessageRefusal::BindClosed);

@@ -1,18 +1,13 @@
 //! Runs whose ends are compared with the credits that moved.
 ghost use Rattle.std.specs.Prelude.{◌≡◌};
 
-use super::beside::{Beside, Fuse};
+use super::beside::{Beside, line_with_fuse};
 use super::{
-    Case, OK, PLAIN, SILENT, THROTTLED, letters, message, messages_of, rules_of, run, want_row,
-    want_sent,
+    Case, Done, OK, PLAIN, SILENT, THROTTLED, book_of, letters, message, messages_of, rings_of,
+    row_of, rules_of, run, seats_of, sends, want_row, want_sent,
 };
-use crate::{MessageEnd, MessageRefusal, MessageResult, Outcome, Worker, run_worker};
-use rtrb::RingBuffer;
-use sms_bind::{Line, Tap, Wire};
-use sms_book::{Blank, BookName, Opening, open_book};
-use sms_core::Row;
-use sms_slot::SlotRow;
-use sms_window::Window;
+use crate::{MessageEnd, MessageRefusal, MessageResult, Outcome, Rules, Worker};
+use sms_book::{Blank, BookName};
 use std::alloc::Global;
 use std::marker::Brand;
 use std::process::Abort;
@@ -51,7 +46,7 @@ fn a_wire_may_fail_at_any_octet(rt: HostRuntime) -> Result<(), Fail> {
             answers: &[THROTTLED, OK],
             ..PLAIN
         };
-        let done = run(&rt, alloc, case, messages_of(alloc, 2)?)?;
+        let done = run(&rt, alloc, case, messages_of(alloc, 2)?);
         let row = done.row;
         assert_eq!(&rt;
             (row.reserved, row.charged, row.returned),
@@ -83,7 +78,7 @@ fn want_parts(
         long_reference,
         ..PLAIN
     };
-    let done = run(rt, alloc, case, messages)?;
+    let done = run(rt, alloc, case, messages);
     want_sent(rt, &done, 0, wanted);
     want_row(rt, &done, row);
     Ok(())
@@ -98,103 +93,55 @@ fn long_references_take_more_parts(rt: HostRuntime) -> Result<(), Fail> {
     want_parts(&rt, alloc, true, &[one, one, one], (0, 0, 3, 0))
 }
 
-// Two workers of one bind, one after the other, each with one message: their ends, and the row after
+// Two workers of one bind, one after the other, each with one message: what came of the first, and of
 // both.
 fn two_work<N: BookName, R: Abort + Wait>(
     rt: &R,
     alloc: Global,
     blank: Blank,
+    rules: &Rules,
     case: Case<'_>,
-) -> Result<(Vec<MessageEnd>, Vec<MessageEnd>, Row), Fail>
+) -> Option<(Done, Done)>
     requires { blank.book ≡ N.book }
 {
-    let Ok((book, _till, mut all)) = blank.open::<N>(alloc) else {
-        panic!(rt; "no book")
-    };
-    let Ok((window, mut keeper)) = Window::make_from(alloc, 64, case.first) else {
-        panic!(rt; "no window")
-    };
-    let mut producers = Vec::new(alloc);
-    let (producer, consumer) = RingBuffer::new(alloc, 64)?;
-    producers.push(producer)?;
-    let (producer, other_consumer) = RingBuffer::new(alloc, 64)?;
-    producers.push(producer)?;
-    let line = Line::new(
-        SlotRow::new(alloc)?,
-        Wire::new(Tap::new(Fuse { left: case.room })),
-    );
-    let rules = rules_of(rt, alloc, case)?;
+    let (window, one, other, _keeper) = seats_of(rt, alloc, case.first)?;
+    let (producers, consumer, other_consumer) = rings_of(alloc)?;
+    let line = line_with_fuse(alloc, case.room)?;
     let beside = Beside::new(rt, alloc, &line, producers, case);
-    let Some(shares) = all.pop() else {
-        panic!(rt; "no share")
+    let Ok((book, _till, mut all)) = blank.open::<N>(alloc) else {
+        return None;
     };
-    assert!(rt; keeper.can_split());
+    let shares = all.pop()?;
+    let messages = messages_of(alloc, 1).ok()?;
     let worker = Worker {
         index: 0,
         place: 0,
-        seat: window.split(&mut keeper),
+        seat: one,
         shares,
         consumer,
     };
-    let Ok(first) = run_worker(
-        rt,
-        alloc,
-        worker,
-        messages_of(alloc, 1)?,
-        &line,
-        &window,
-        &book,
-        &rules,
-        &beside,
-        &beside,
-        &beside,
-    ) else {
-        panic!(rt; "no memory")
-    };
-    let Some(shares) = all.pop() else {
-        panic!(rt; "no second share")
-    };
-    assert!(rt; keeper.can_split());
+    let first = sends(
+        rt, alloc, worker, messages, &line, &window, &book, rules, &beside,
+    )?;
+    let shares = all.pop()?;
+    let messages = messages_of(alloc, 1).ok()?;
     let worker = Worker {
         index: 1,
         place: 1,
-        seat: window.split(&mut keeper),
+        seat: other,
         shares,
         consumer: other_consumer,
     };
-    let Ok(mut second) = run_worker(
-        rt,
-        alloc,
-        worker,
-        messages_of(alloc, 1)?,
-        &line,
-        &window,
-        &book,
-        &rules,
-        &beside,
-        &beside,
-        &beside,
-    ) else {
-        panic!(rt; "no memory")
-    };
-    let Some(row) = book.lock(rt).look(&mut second.shares, 0) else {
-        panic!(rt; "no account")
-    };
-    Ok((first.ends, second.ends, row))
+    let second = sends(
+        rt, alloc, worker, messages, &line, &window, &book, rules, &beside,
+    )?;
+    Some((first, second))
 }
 
-fn two_run(
-    rt: &(impl Abort + Wait),
-    alloc: Global,
-    case: Case<'_>,
-) -> Result<(Vec<MessageEnd>, Vec<MessageEnd>, Row), Fail> {
-    let mut openings = Vec::new(alloc);
-    openings.push(Opening {
-        name: String::from_str(alloc, "main")?,
-        credits: case.credits,
-    })?;
-    let blank = open_book(alloc, openings.as_slice(), 2)?;
-    two_work::<Brand, _>(rt, alloc, blank, case)
+fn two_run(rt: &(impl Abort + Wait), alloc: Global, case: Case<'_>) -> Option<(Done, Done)> {
+    let rules = rules_of(alloc, case)?;
+    let blank = book_of(alloc, case.credits, 2)?;
+    two_work::<Brand, _>(rt, alloc, blank, &rules, case)
 }
 
 // Whether the one message was sent and came to this.
@@ -225,37 +172,33 @@ pub fn had_no_credit(ends: &[MessageEnd]) -> bool {
 // The first worker gets the last credit. It is free again for the second where the first message is
 // refused, and not where it has no answer.
 #[test]
-fn two_workers_have_one_credit(rt: HostRuntime) -> Result<(), Fail> {
+fn two_workers_have_one_credit(rt: HostRuntime) {
     let alloc = rt.alloc();
-    let case = Case {
-        credits: 1,
-        answer_ms: 50,
-        ..PLAIN
-    };
-    let (first, second, row) = two_run(&rt, alloc, case)?;
-    assert!(&rt; came_to(first.as_slice(), Outcome::Charged));
-    assert!(&rt; had_no_credit(second.as_slice()));
-    assert_eq!(&rt;
-        (row.free, row.reserved, row.charged, row.returned),
-        (0, 0, 1, 0)
-    );
-
-    let answers = &[8, OK];
-    let (first, second, row) = two_run(&rt, alloc, Case { answers, ..case })?;
-    assert!(&rt; came_to(first.as_slice(), Outcome::Refused));
-    assert!(&rt; came_to(second.as_slice(), Outcome::Charged));
-    assert_eq!(&rt;
-        (row.free, row.reserved, row.charged, row.returned),
-        (0, 0, 1, 1)
-    );
-
-    let answers = &[SILENT];
-    let (first, second, row) = two_run(&rt, alloc, Case { answers, ..case })?;
-    assert!(&rt; came_to(first.as_slice(), Outcome::Unanswered));
-    assert!(&rt; had_no_credit(second.as_slice()));
-    assert_eq!(&rt;
-        (row.free, row.reserved, row.charged, row.returned),
-        (0, 1, 0, 0)
-    );
-    Ok(())
+    let rows: [(&[u32], Outcome, Option<Outcome>, (u64, u64, u64, u64)); 3] = [
+        (&[OK], Outcome::Charged, None, (0, 0, 1, 0)),
+        (
+            &[8, OK],
+            Outcome::Refused,
+            Some(Outcome::Charged),
+            (0, 0, 1, 1),
+        ),
+        (&[SILENT], Outcome::Unanswered, None, (0, 1, 0, 0)),
+    ];
+    for (answers, first, second, row) in rows {
+        let case = Case {
+            credits: 1,
+            answer_ms: 50,
+            answers,
+            ..PLAIN
+        };
+        let Some((one, other)) = two_run(&rt, alloc, case) else {
+            panic!(rt; "no memory")
+        };
+        assert!(rt; came_to(one.ends.as_slice(), first), "{first:?}");
+        match second {
+            Some(outcome) => assert!(rt; came_to(other.ends.as_slice(), outcome), "{first:?}"),
+            None => assert!(rt; had_no_credit(other.ends.as_slice()), "{first:?}"),
+        }
+        assert_eq!(rt; row_of(&other), row, "{first:?}");
+    }
 }

@@ -3,23 +3,21 @@
 ghost use Rattle.std.specs.Prelude.{◌≡◌};
 
 use super::beside::Together;
-use super::centre::{Centre, Way, reads};
+use super::centre::{Centre, Way, line_to_centre, reads};
 use super::sums::{came_to, had_no_credit, sums};
-use super::{Case, OK, PLAIN, THROTTLED, messages_of, rules_of};
+use super::{Case, OK, PLAIN, THROTTLED, book_of, messages_of, rings_of, rules_of, seats_of};
 use crate::{Message, MessageEnd, MessageResult, Outcome, Rules, Worker, WorkerEnd, run_worker};
-use rtrb::{Producer, RingBuffer};
-use sms_bind::{Cause, Line, ReaderEnd, Tap, Wire};
-use sms_book::{Blank, Book, BookName, Opening, gather, open_book};
+use rtrb::Producer;
+use sms_bind::{Cause, Line, ReaderEnd};
+use sms_book::{Blank, Book, BookName, Shares, Till, gather};
 use sms_core::Row;
 use sms_pdu::Reply;
-use sms_slot::SlotRow;
 use sms_window::{Window, WindowSeat};
 use std::alloc::Global;
 use std::marker::Brand;
 use std::process::Abort;
 use std::sync::atomic::Ordering;
 use std::sync::{Mutex, Wait};
-use std::test::Fail;
 use std::thread;
 use std::thread::Threads;
 
@@ -155,55 +153,56 @@ fn all_work<N: BookName + Send + Sync, S: Threads + Wait + Sync>(
     )
 }
 
+// The row of the account, by the shares of both.
+fn gathered<N: BookName>(
+    alloc: Global,
+    book: Mutex<Book<N>>,
+    till: Till<N>,
+    first: Shares<N>,
+    second: Shares<N>,
+) -> Option<Row> {
+    let mut shares = Vec::new(alloc);
+    shares.push(first).ok()?;
+    shares.push(second).ok()?;
+    let statement = gather(book.into_inner(), till, shares).ok()?;
+    statement.rows().first().copied()
+}
+
 fn work_together<N: BookName + Send + Sync, R: Abort + Threads + Wait + Sync>(
     rt: &R,
     alloc: Global,
     blank: Blank,
+    rules: &Rules,
     threaded: Threaded<'_>,
-) -> Result<Came, Fail>
+) -> Option<Came>
     requires { blank.book ≡ N.book }
 {
-    let case = threaded.case;
+    let its = messages_of(alloc, threaded.messages.0).ok()?;
+    let others = messages_of(alloc, threaded.messages.1).ok()?;
+    let statuses = Vec::from_slice(alloc, threaded.case.answers).ok()?;
+    let (window, seat, other_seat, keeper) = seats_of(rt, alloc, threaded.case.first)?;
+    let (line, requests) = line_to_centre(alloc)?;
+    let (producers, consumer, other_consumer) = rings_of(alloc)?;
     let Ok((book, till, mut all)) = blank.open::<N>(alloc) else {
-        panic!(rt; "no book")
+        return None;
     };
-    let Ok((window, mut keeper)) = Window::make_from(alloc, 64, case.first) else {
-        panic!(rt; "no window")
-    };
-    let (octets, requests) = RingBuffer::new(alloc, 8192)?;
-    let line = Line::new(SlotRow::new(alloc)?, Wire::new(Tap::new(Way { octets })));
-    let mut producers = Vec::new(alloc);
-    let (producer, consumer) = RingBuffer::new(alloc, 64)?;
-    producers.push(producer)?;
-    let (producer, other_consumer) = RingBuffer::new(alloc, 64)?;
-    producers.push(producer)?;
-    let Some(shares) = all.pop() else {
-        panic!(rt; "no share")
-    };
-    let Some(other_shares) = all.pop() else {
-        panic!(rt; "no second share")
-    };
-    assert!(rt; keeper.can_split());
+    let shares = all.pop()?;
+    let other_shares = all.pop()?;
     let one = Worker {
         index: 0,
         place: 0,
-        seat: window.split(&mut keeper),
+        seat,
         shares,
         consumer,
     };
-    assert!(rt; keeper.can_split());
     let other = Worker {
         index: 1,
         place: 1,
-        seat: window.split(&mut keeper),
+        seat: other_seat,
         shares: other_shares,
         consumer: other_consumer,
     };
-    let rules = rules_of(rt, alloc, case)?;
     let beside = Together::new(threaded.held);
-    let its = messages_of(alloc, threaded.messages.0)?;
-    let others = messages_of(alloc, threaded.messages.1)?;
-    let statuses = Vec::from_slice(alloc, case.answers)?;
     let centre = Centre::new(requests, statuses, threaded.left, threaded.fails);
     let (ends, end) = all_work(
         rt,
@@ -215,7 +214,7 @@ fn work_together<N: BookName + Send + Sync, R: Abort + Threads + Wait + Sync>(
         &line,
         &window,
         &book,
-        &rules,
+        rules,
         &beside,
         threaded.at_once,
         centre,
@@ -223,29 +222,13 @@ fn work_together<N: BookName + Send + Sync, R: Abort + Threads + Wait + Sync>(
         keeper,
     );
     let (first, second) = ends;
-    let Some(first) = first else {
-        panic!(rt; "no memory")
-    };
-    let Some(second) = second else {
-        panic!(rt; "no memory")
-    };
-    let Some(end) = end else {
-        panic!(rt; "no memory")
-    };
-    let mut shares = Vec::new(alloc);
-    shares.push(first.shares)?;
-    shares.push(second.shares)?;
-    let Ok(statement) = gather(book.into_inner(), till, shares) else {
-        panic!(rt; "not gathered")
-    };
-    let Some(row) = statement.rows().first() else {
-        panic!(rt; "no account")
-    };
-    Ok(Came {
+    let first = first?;
+    let second = second?;
+    Some(Came {
+        row: gathered(alloc, book, till, first.shares, second.shares)?,
         first: first.ends,
         second: second.ends,
-        row: *row,
-        end,
+        end: end?,
     })
 }
 
@@ -253,14 +236,10 @@ fn go(
     rt: &(impl Abort + Threads + Wait + Sync),
     alloc: Global,
     threaded: Threaded<'_>,
-) -> Result<Came, Fail> {
-    let mut openings = Vec::new(alloc);
-    openings.push(Opening {
-        name: String::from_str(alloc, "main")?,
-        credits: threaded.case.credits,
-    })?;
-    let blank = open_book(alloc, openings.as_slice(), 2)?;
-    work_together::<Brand, _>(rt, alloc, blank, threaded)
+) -> Option<Came> {
+    let rules = rules_of(alloc, threaded.case)?;
+    let blank = book_of(alloc, threaded.case.credits, 2)?;
+    work_together::<Brand, _>(rt, alloc, blank, &rules, threaded)
 }
 
 // The ends of both add up to the row, and each answer that was handed on is an attempt's.
@@ -306,9 +285,11 @@ fn replies(ends: &[MessageEnd]) -> u64 {
 // Neither goes on before the other has come to the gate, so both are charged only at once: the second
 // after the first, the first waits in vain.
 #[test]
-fn two_workers_work_at_once(rt: HostRuntime) -> Result<(), Fail> {
+fn two_workers_work_at_once(rt: HostRuntime) {
     let held = 1_000_000_000;
-    let came = go(&rt, rt.alloc(), Threaded { held, ..FAR })?;
+    let Some(came) = go(&rt, rt.alloc(), Threaded { held, ..FAR }) else {
+        panic!(rt; "no memory")
+    };
     assert!(&rt; came_to(came.first.as_slice(), Outcome::Charged));
     assert!(&rt; came_to(came.second.as_slice(), Outcome::Charged));
     want_agreement(&rt, &came, 3, 0);
@@ -317,16 +298,17 @@ fn two_workers_work_at_once(rt: HostRuntime) -> Result<(), Fail> {
         at_once: false,
         ..FAR
     };
-    let came = go(&rt, rt.alloc(), in_turn)?;
+    let Some(came) = go(&rt, rt.alloc(), in_turn) else {
+        panic!(rt; "no memory")
+    };
     assert!(&rt; came_to(came.first.as_slice(), Outcome::Unsent));
     assert!(&rt; came_to(came.second.as_slice(), Outcome::Charged));
     want_agreement(&rt, &came, 3, 1);
-    Ok(())
 }
 
 // Whichever gets it, the other has none.
 #[test]
-fn one_gets_the_last_credit(rt: HostRuntime) -> Result<(), Fail> {
+fn one_gets_the_last_credit(rt: HostRuntime) {
     let threaded = Threaded {
         case: Case {
             credits: 1,
@@ -335,7 +317,9 @@ fn one_gets_the_last_credit(rt: HostRuntime) -> Result<(), Fail> {
         ..FAR
     };
     for round in 0..20u64 {
-        let came = go(&rt, rt.alloc(), threaded)?;
+        let Some(came) = go(&rt, rt.alloc(), threaded) else {
+            panic!(rt; "no memory")
+        };
         let first = came_to(came.first.as_slice(), Outcome::Charged);
         let second = came_to(came.second.as_slice(), Outcome::Charged);
         assert!(&rt; first != second, "round {round}");
@@ -347,12 +331,11 @@ fn one_gets_the_last_credit(rt: HostRuntime) -> Result<(), Fail> {
         assert!(&rt; none, "round {round}");
         want_agreement(&rt, &came, 1, round);
     }
-    Ok(())
 }
 
 // All of many messages are charged, some at the second or third try.
 #[test]
-fn a_centre_answers_two_workers(rt: HostRuntime) -> Result<(), Fail> {
+fn a_centre_answers_two_workers(rt: HostRuntime) {
     let threaded = Threaded {
         case: Case {
             credits: 400,
@@ -362,17 +345,18 @@ fn a_centre_answers_two_workers(rt: HostRuntime) -> Result<(), Fail> {
         messages: (200, 200),
         ..FAR
     };
-    let came = go(&rt, rt.alloc(), threaded)?;
+    let Some(came) = go(&rt, rt.alloc(), threaded) else {
+        panic!(rt; "no memory")
+    };
     want_agreement(&rt, &came, 400, 0);
     assert_eq!(&rt; (came.row.charged, came.end.answered), (400, 403));
     assert_eq!(&rt; came.end.cause, Cause::Stopped);
-    Ok(())
 }
 
 // Wherever the reader ends, by the end of its input or by a fault: what it handed on is recorded, and no
 // credit is lost.
 #[test]
-fn the_reader_may_go_at_any_octet(rt: HostRuntime) -> Result<(), Fail> {
+fn the_reader_may_go_at_any_octet(rt: HostRuntime) {
     let case = Case {
         attempts: 2,
         answers: &[THROTTLED, OK, 8, OK],
@@ -387,10 +371,11 @@ fn the_reader_may_go_at_any_octet(rt: HostRuntime) -> Result<(), Fail> {
                 messages: (2, 1),
                 ..FAR
             };
-            let came = go(&rt, rt.alloc(), threaded)?;
+            let Some(came) = go(&rt, rt.alloc(), threaded) else {
+                panic!(rt; "no memory")
+            };
             want_agreement(&rt, &came, 3, left);
             assert!(&rt; came.end.answered <= left / 17, "octet {left}");
         }
     }
-    Ok(())
 }
