@@ -10,8 +10,8 @@ use Rattle.sms_send.specs.Sending.{AreFrom, AreMessages, AreSaid, HasFields, IsM
 use Rattle.sms_send.specs.declared.letters.Letter.{Letter}
 
 one_message : (names : List Field) (index : ℕ) (r : Record) (l : Letter) (m : Message) → HasFields r l → Said names index l m → IsMessage names index r m
-one_message names index r l m h s =
-    (string_bytes l.account, rw (s.2, s.3, s.4) (sym h), s.1, s.0)
+one_message names index r l m h (index_is, account_is, source_is, dest_is, text_is) =
+    (string_bytes l.account, rw (source_is, dest_is, text_is) (sym h), account_is, index_is)
 
 pub messages_from : (names : List Field) (index : ℕ) (rs : List Record) (ls : List Letter) (ms : List Message) → AllZip HasFields rs ls → AreSaid names index ls ms → AreFrom names index rs ms
 messages_from names index [] [] [] h s = tt

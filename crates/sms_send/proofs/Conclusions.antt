@@ -1,13 +1,12 @@
 -- From what each worker gave back to the ends and the rows of the run.
-use Rattle.std.proofs.Common.{◌≡◌, ℕ, zero, suc, ◌+◌, ◌<◌, List, [], ◌∷◌, ◌++◌, length, map, refl, sym, ap, ◌∙◌, subst, arith, Result, Ok, Err, MatchResult}
+use Rattle.std.proofs.Common.{◌≡◌, ℕ, zero, suc, ◌<◌, List, [], ◌∷◌, length, map, refl, sym, ap, ◌∙◌, subst, arith, Result, Ok, MatchResult}
 use Rattle.std.proofs.lemmas.List.{length-map}
 use Rattle.sms_send.proofs.Joins.{all_ok}
 use Rattle.std.specs.List.{AllZip, AllByRecursion}
 use Rattle.sms_core.specs.declared.row.Row.{Row}
 use Rattle.sms_core.specs.Rows.{reserved_of, charged_of, returned_of}
 use Rattle.sms_pdu.proofs.Fronts.{AllByRecursion-append}
-use Rattle.sms_book.specs.declared.amounts.Amounts.{Amounts}
-use Rattle.sms_book.specs.Portions.{amounts_at, no_amounts, row_at, topped_at}
+use Rattle.sms_book.specs.Portions.{no_amounts, row_at}
 use Rattle.sms_book.specs.Shares.{Share, blank_share, opening_shares}
 use Rattle.sms_book.specs.Sums.{over_shares, IsSumOf}
 use Rattle.sms_worker.specs.declared.message.Message.{Message}
@@ -17,12 +16,12 @@ use Rattle.sms_worker.specs.Ends.{credit, credits}
 use Rattle.sms_send.specs.Deals.{totals, dealt}
 use Rattle.sms_send.specs.Worked.{Worked}
 use Rattle.sms_worker.specs.EndOf.{IsEndOf}
-use Rattle.sms_send.specs.Statements.{IsRow, AreRows}
+use Rattle.sms_send.specs.Statements.{AreRows}
 use Rattle.sms_send.specs.Settled.{Summed, AreSettled}
 use Rattle.sms_send.proofs.Dealings.{undealt, zip_dealt, total_dealt}
 use Rattle.sms_send.proofs.Sums.{Column, GrewBy, sums_grow, opening_sum}
 
-map_map : {A B C : Type 0} (f : A → B) (g : B → C) (xs : List A) → map g (map f xs) ≡ map (λ x. g (f x)) xs
+pub map_map : {A B C : Type 0} (f : A → B) (g : B → C) (xs : List A) → map g (map f xs) ≡ map (λ x. g (f x)) xs
 map_map f g [] = refl
 map_map f g (x ∷ xs) = ap (λ l. g (f x) ∷ l) (map_map f g xs)
 
@@ -94,21 +93,21 @@ module _ {T D : Type 0} (share : T → Share) (given : T → List Message) (back
   pub summed : (accounts count : ℕ) (ms : List Message) (es : List MessageEnd) (ts : List T) (ds : List D) → 0 < count → map given ts ≡ dealt count 0 ms → map share ts ≡ opening_shares accounts count → AllZip Works ts ds
       → length es ≡ length ms → map ends ds ≡ dealt count 0 es → Summed ms es (map back ds)
   summed accounts count ms es ts ds some hands shares z long back_is = record {
-    reserved = column (record { amount = λ a. a.reserved; counts = reserved_of }) refl accounts count ms es ts ds some hands shares long back_is (zip_to Works _ (λ t d w i. (w.credits i).0) ts ds z);
-    charged = column (record { amount = λ a. a.charged; counts = charged_of }) refl accounts count ms es ts ds some hands shares long back_is (zip_to Works _ (λ t d w i. (w.credits i).1) ts ds z);
-    returned = column (record { amount = λ a. a.returned; counts = returned_of }) refl accounts count ms es ts ds some hands shares long back_is (zip_to Works _ (λ t d w i. (w.credits i).2) ts ds z);
+    reserved = column (record { amount = λ a. a.reserved; counts = reserved_of }) refl accounts count ms es ts ds some hands shares long back_is (zip_to Works _ (λ t d w i. let (reserved, _, _) = w.credits i in reserved) ts ds z);
+    charged = column (record { amount = λ a. a.charged; counts = charged_of }) refl accounts count ms es ts ds some hands shares long back_is (zip_to Works _ (λ t d w i. let (_, charged, _) = w.credits i in charged) ts ds z);
+    returned = column (record { amount = λ a. a.returned; counts = returned_of }) refl accounts count ms es ts ds some hands shares long back_is (zip_to Works _ (λ t d w i. let (_, _, returned) = w.credits i in returned) ts ds z);
   }
 
   pub settled : (accounts count : ℕ) (ms : List Message) (ts : List T) (ds : List D) → 0 < count → map given ts ≡ dealt count 0 ms → map share ts ≡ opening_shares accounts count → AllZip Works ts ds
       → AreSettled rules accounts count ms (map back ds) (map ends ds)
   settled accounts count ms ts ds some hands shares z =
-      let d = dealt_ends accounts count ms ts ds some hands shares z in
+      let (es, long, dealt_is) = dealt_ends accounts count ms ts ds some hands shares z in
       record {
-        es = d.0;
-        long = d.1;
-        dealt_is = d.2;
-        ends = ends_in_order accounts count ms d.0 ts ds some hands shares z d.1 d.2;
-        sums = summed accounts count ms d.0 ts ds some hands shares z d.1 d.2;
+        es = es;
+        long = long;
+        dealt_is = dealt_is;
+        ends = ends_in_order accounts count ms es ts ds some hands shares z long dealt_is;
+        sums = summed accounts count ms es ts ds some hands shares z long dealt_is;
       }
 
   pub all_settled : {K E : Type 0} (job : K → T) (P : T → D → Type 0) (Q : T → E → Type 0) → ((t : T) (d : D) → P t d → Works t d) → (accounts count : ℕ) (ms : List Message) (ks : List K) (ds : List D) (bs : List (Result D E)) → 0 < count

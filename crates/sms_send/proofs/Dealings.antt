@@ -1,5 +1,5 @@
 -- What dealing does to lengths, to facts on pairs, and to sums.
-use Rattle.std.proofs.Common.{◌≡◌, ◌≢◌, ◌==◌, ℕ, Bool, ⊎_elim, zero, suc, ◌+◌, ◌<◌, ◌≤◌, List, [], ◌∷◌, ◌++◌, length, map, take, drop, get_or, replicate, if◌then◌else◌, true, false, refl, sym, ap, ◌∙◌, subst, arith, add-one, drop-cons, append-nil}
+use Rattle.std.proofs.Common.{◌≡◌, ◌≢◌, ◌==◌, ℕ, Bool, ⊎_elim, zero, suc, ◌+◌, ◌<◌, List, [], ◌∷◌, ◌++◌, length, map, take, drop, get_or, replicate, if◌then◌else◌, true, false, refl, sym, ap, ◌∙◌, subst, arith, add-one, drop-cons, append-nil}
 use Rattle.std.proofs.Math.Seq.{take-suc}
 use Rattle.std.proofs.lemmas.Bool.Decides.{eqb_tells}
 use Rattle.std.specs.List.{AllZip}
@@ -56,7 +56,7 @@ module _ {A B : Type 0} (P : A → B → Type 0) where
   zip_cons_at [] bs w a b low z = absurd (omega arith)
   zip_cons_at (x ∷ xs) [] zero a b low z = absurd z
   zip_cons_at (x ∷ xs) [] (suc w) a b low z = absurd z
-  zip_cons_at (x ∷ xs) (y ∷ bs) zero a b low z = (z.0.0, (z.0.1, z.1))
+  zip_cons_at (x ∷ xs) (y ∷ bs) zero a b low ((front, more), others) = (front, (more, others))
   zip_cons_at (x ∷ xs) (y ∷ bs) (suc w) a b low z = let r = zip_cons_at xs bs w a b (omega arith) z.1 in (r.0, (z.0, r.1))
 
   pub zip_dealt : (count w : ℕ) (xs : List A) (bs : List B) → w < count → length xs ≡ length bs → AllZip (AllZip P) (dealt count w xs) (dealt count w bs) → AllZip P xs bs
@@ -77,9 +77,8 @@ module _ {A B : Type 0} (P : A → B → Type 0) where
   un_cons (x ∷ xs) ((b ∷ y) ∷ bs) zero a low e = let h : suc (length y) ≡ suc (length x) = cc in let g : length y ≡ length x = omega arith in let t : map length bs ≡ map length xs = cc in (b, y ∷ bs, refl, λ i. g i ∷ t i)
   un_cons (x ∷ xs) (y ∷ bs) (suc w) a low e =
       let g : length y ≡ length x = cc in
-      let r = un_cons xs bs w a (omega arith) cc in
-      let s = r.2 in let t = r.3 in
-      (r.0, y ∷ r.1, ap (λ l. y ∷ l) s, λ i. g i ∷ t i)
+      let (b, others, is, long) = un_cons xs bs w a (omega arith) cc in
+      (b, y ∷ others, ap (λ l. y ∷ l) is, λ i. g i ∷ long i)
 
 abbrev nil : (A : Type 0) → List A
 nil A = []
@@ -95,9 +94,9 @@ pub undealt : {A B : Type 0} (P : A → B → Type 0) (count w : ℕ) (xs : List
 undealt {A} P count w [] bs low e = ([], refl, all_nil count A bs e)
 undealt P count w (a ∷ xs) bs low e =
     let n = length-dealt count (next count w) xs in
-    let u = un_cons P (dealt count (next count w) xs) bs w a (omega arith) e in
-    let r = undealt P count (next count w) xs u.1 (next_below count w low) u.3 in
-    (u.0 ∷ r.0, ap suc r.1, u.2 ∙ ap (λ l. cons_at l w u.0) r.2)
+    let (b, others, is, long) = un_cons P (dealt count (next count w) xs) bs w a (omega arith) e in
+    let (back, as_long, dealt_is) = undealt P count (next count w) xs others (next_below count w low) long in
+    (b ∷ back, ap suc as_long, is ∙ ap (λ l. cons_at l w b) dealt_is)
 
 -- sums
 totals_nils : (f : Message → SegmentEnd → ℕ) (n : ℕ) (ess : List (List MessageEnd)) → totals f (replicate n []) ess ≡ 0

@@ -22,9 +22,9 @@ pub told-first : (P Q : List Record → Type 0) (o : Option (List ℕ)) (left : 
     → IfSome after Q → ((rs : List Record) → Q rs → P (r ∷ rs)) → IfSome o (λ bytes. P (records_of bytes))
 told-first P Q None left found r after whole h e rest make = tt
 told-first P Q (Some bytes) left found r after whole h e rest make =
-    let first = first-found (records_of bytes) found r after (rw whole at h) e in
-    let made = make first.0 (rw first.2 at rest) in
-    rw first.1 made
+    let (others, stood, left_are) = first-found (records_of bytes) found r after (rw whole at h) e in
+    let made = make others (rw left_are at rest) in
+    rw stood made
 
 -- there is no first record
 pub no-record : (source : Source) (is_first is_good : Record → Bool) (most : ℕ) (o : Option (List ℕ)) (left : Option (List Record)) (found : Bool) (r : Record) (after : Option (List Record))
@@ -46,8 +46,8 @@ pub bad-first : (source : Source) (is_first is_good : Record → Bool) (most : �
     → IfSome o (λ bytes. TellsRecords source (file_fault is_first is_good most (records_of bytes)) (BadRecord source 1))
 bad-first source is_first is_good most None left found r after whole h e bad = tt
 bad-first source is_first is_good most (Some bytes) left found r after whole h e bad =
-    let first = first-found (records_of bytes) found r after (rw whole at h) e in
-    inr (1, refl, ap (file_fault is_first is_good most) first.1 ∙ stops is_first is_good most r first.0 bad)
+    let (others, stood, _) = first-found (records_of bytes) found r after (rw whole at h) e in
+    inr (1, refl, ap (file_fault is_first is_good most) stood ∙ stops is_first is_good most r others bad)
 
 -- what is told of the records after the first is told of the file
 pub bad-rest : (source : Source) (is_first is_good : Record → Bool) (most : ℕ) (o : Option (List ℕ)) (left : Option (List Record)) (found : Bool) (r : Record) (after : Option (List Record)) (f : Fault)
@@ -56,10 +56,12 @@ pub bad-rest : (source : Source) (is_first is_good : Record → Bool) (most : �
     → IfSome o (λ bytes. TellsRecords source (file_fault is_first is_good most (records_of bytes)) f)
 bad-rest source is_first is_good most None left found r after f whole h e good tells = tt
 bad-rest source is_first is_good most (Some bytes) left found r after f whole h e good tells =
-    let first = first-found (records_of bytes) found r after (rw whole at h) e in
-    elim (rw first.2 at tells) [
+    let (others, stood, left_are) = first-found (records_of bytes) found r after (rw whole at h) e in
+    elim (rw left_are at tells) [
       | inl device ↦ inl device
-      | inr bad ↦ inr (bad.0, bad.1, ap (file_fault is_first is_good most) first.1 ∙ goes-on is_first is_good most r first.0 good ∙ bad.2)
+      | inr bad ↦
+          let (place, is, told) = bad in
+          inr (place, is, ap (file_fault is_first is_good most) stood ∙ goes-on is_first is_good most r others good ∙ told)
     ]
 
 -- what follows of a first record and of those after it holds of the file
@@ -70,7 +72,7 @@ pub whole-file : (is_first is_good : Record → Bool) (most : ℕ) (P Q : List R
     → IfSome o (λ bytes. Q (records_of bytes))
 whole-file is_first is_good most P Q None left found r after whole h e good rest make = tt
 whole-file is_first is_good most P Q (Some bytes) left found r after whole h e good rest make =
-    let first = first-found (records_of bytes) found r after (rw whole at h) e in
-    let known = rw first.2 at rest in
-    let made = make first.0 known.0 (goes-on is_first is_good most r first.0 good ∙ known.1) in
-    rw first.1 made
+    let (others, stood, left_are) = first-found (records_of bytes) found r after (rw whole at h) e in
+    let (says, faultless) = rw left_are at rest in
+    let made = make others says (goes-on is_first is_good most r others good ∙ faultless) in
+    rw stood made

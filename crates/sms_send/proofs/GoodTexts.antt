@@ -1,5 +1,5 @@
 -- The texts of a script, good and bad.
-use Rattle.std.proofs.Common.{◌≡◌, ◌≢◌, ◌<◌, ℕ, zero, suc, List, [], ◌∷◌, length, map, Option, Some, None, Bool, true, false, refl, arith, String, Global, string_bytes}
+use Rattle.std.proofs.Common.{◌≡◌, ◌≢◌, ◌<◌, ℕ, zero, suc, List, [], ◌∷◌, length, map, Some, None, Bool, true, false, refl, arith, String, Global, string_bytes}
 use Rattle.std.specs.Prelude.{slice_index_or, is_some}
 use Rattle.sms_centre.specs.declared.treatment.Treatment.{Treatment}
 use Rattle.sms_centre.specs.Texts.{IsFirstBad, SayAll, treatment_of}

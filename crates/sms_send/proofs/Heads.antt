@@ -1,5 +1,5 @@
 -- The first of two lists that go together.
-use Rattle.std.proofs.Common.{◌≡◌, ℕ, zero, suc, ◌+◌, ◌<◌, List, [], ◌∷◌, ◌++◌, length, drop, get_or, refl, sym, ap, ◌∙◌, subst, arith, add-one, drop-cons}
+use Rattle.std.proofs.Common.{◌≡◌, ℕ, zero, suc, ◌+◌, ◌<◌, List, [], ◌∷◌, length, drop, get_or, sym, subst, arith, add-one, drop-cons}
 use Rattle.std.specs.List.{AllZip}
 use Rattle.sms_send.specs.declared.driver.seating.Post.{Post}
 use Rattle.sms_send.specs.declared.driver.seating.Guest.{Guest}

@@ -1,5 +1,5 @@
 -- The keys of a config's table, and what a fault says of the first faulty one.
-use Rattle.std.proofs.Common.{◌≡◌, ◌∙◌, ℕ, List, [], ◌∷◌, Option, Some, None, map, refl, ap, Bool, true, false, string_bytes, String}
+use Rattle.std.proofs.Common.{◌≡◌, List, [], ◌∷◌, Option, Some, None, map, refl, ap, string_bytes, String}
 use Rattle.std.specs.Prelude.{if◌then◌else◌}
 use Rattle.std.specs.declared.alloc.Global.{Global}
 use Rattle.toml.specs.declared.value.Value.{Value}
@@ -7,7 +7,7 @@ use Rattle.toml.specs.View.{members_view}
 use Rattle.sms_send.specs.Config.{Key, fault_at, first_of, is_among, known_keys, unknown_key}
 use Rattle.sms_send.specs.ConfigFaults.{TellsKey}
 use Rattle.sms_send.specs.declared.fault.Fault.{Fault}
-use Rattle.sms_send.specs.declared.fault.Fault.TheVariants.{Words, Help, Version, File, Unreadable, BadRecord, NotToml, BadKey, BindRefused, BindFailed, Output, OutOfMemory}
+use Rattle.sms_send.specs.declared.fault.Fault.TheVariants.{BadKey, OutOfMemory}
 
 -- the least unknown of keys that ascend
 abbrev pub first_unknown : List (String Global) → Option Key

@@ -65,11 +65,11 @@ after-read : (s : State) (xs : List ℕ) (o : Option Read) (found : Bool) (field
     → GivesFirst (records_from default_config (length xs + 1) s xs) found fields (Some (records_from default_config (length ys + 1) s2 ys))
 unfolding records_from
 after-read s xs None found fields s2 ys e h = rw (add-one (length xs), e) h
-after-read s xs (Some p) found fields s2 ys e h =
+after-read s xs (Some p) found fields s2 ys e (is_found, fields_are, state_is, rest_is) =
     rw (add-one (length xs), e) (
-      h.0,
-      h.1,
-      rw (h.2, h.3) (ap Some (elim (record-takes default_config s [] [] xs p e) [
+      is_found,
+      fields_are,
+      rw (state_is, rest_is) (ap Some (elim (record-takes default_config s [] [] xs p e) [
         | inl less ↦ far-enough (length p.2 + 1) (length xs) p.1 p.2 (omega arith) (omega arith)
         | inr end ↦ rw (end.0, end.1) (none-left (length {A = ℕ} [] + 1) ∙ sym (none-left (length xs)))
       ])),

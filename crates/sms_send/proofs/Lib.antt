@@ -5,13 +5,15 @@ pub mod Files
 pub mod Lines
 pub mod Jobs
 pub mod Below
+pub mod BindTexts
+pub mod Capped
 pub mod Schedules
+pub mod Sendings
 pub mod Replaying
 pub mod MessageRecords
 pub mod Plans
 pub mod Writing
 pub mod Keys
-pub mod KeyTexts
 pub mod LastReply
 pub mod RowTexts
 pub mod Addressing
@@ -24,6 +26,7 @@ pub mod Dealings
 pub mod Heads
 pub mod Joins
 pub mod Oks
+pub mod Returning
 pub mod Sums
 pub mod Takes
 pub mod Windows

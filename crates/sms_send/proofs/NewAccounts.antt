@@ -1,5 +1,5 @@
 -- Which records of an accounts file are new accounts, and what is faulty where one is or isn't.
-use Rattle.std.proofs.Common.{◌≡◌, ◌∙◌, sym, refl, ap, ℕ, ◌+◌, ◌<◌, ◌≤◌, inl, inr, Bool, true, false, List, [], ◌∷◌, ◌++◌, length, map, Option, Some, None, arith}
+use Rattle.std.proofs.Common.{◌≡◌, ◌∙◌, sym, refl, ap, ℕ, ◌+◌, ◌<◌, ◌≤◌, inl, inr, Bool, true, false, List, [], ◌∷◌, ◌++◌, length, Option, Some, None, arith}
 use Rattle.std.specs.List.{AllZip}
 use Rattle.std.specs.Prelude.{◌&&◌, nat_le, not, if◌then◌else◌, string_bytes}
 use Rattle.std.proofs.lemmas.Bool.Decides.{nat_tests}
@@ -103,7 +103,7 @@ some-bad (r ∷ rs) place e = e
 pub tells-rest : (r : Record) (rs : List Record) (f : Fault) → is_accounts_header r ≡ true → TellsRecords Accounts (rest_fault [] 1 rs) f → TellsRecords Accounts (accounts_fault (r ∷ rs)) f
 tells-rest r rs f good h = elim h [
   | inl device ↦ inl device
-  | inr bad ↦ inr (bad.0, bad.1, good-header r rs good ∙ some-bad rs bad.0 bad.2)
+  | inr bad ↦ let (place, is, found) = bad in inr (place, is, good-header r rs good ∙ some-bad rs place found)
 ]
 
 -- no account was read

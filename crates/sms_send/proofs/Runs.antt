@@ -23,7 +23,7 @@ at_known o P x h e = rw e at h
 pub first-found : (left : List Record) (found : Bool) (r : Record) (after : Option (List Record)) → GivesFirst left found r after → found ≡ true
     → (rest : List Record) × (left ≡ r ∷ rest) × (after ≡ Some rest)
 first-found [] found r after h e = cc
-first-found (first ∷ rest) found r after h e = (rest, ap (λ (x : Record). x ∷ rest) (sym h.1), h.2)
+first-found (first ∷ rest) found r after (_, is_first, left_is) e = (rest, ap (λ (x : Record). x ∷ rest) (sym is_first), left_is)
 
 pub none-found : (left : List Record) (found : Bool) (r : Record) (after : Option (List Record)) → GivesFirst left found r after → found ≡ false → left ≡ []
 none-found [] found r after h e = refl
@@ -72,14 +72,14 @@ pub one-more : {T : Type 0} (Says : Record → T → Type 0) (total : Option ℕ
     → ReadSo Says total rest left items now → IfSome now (λ rs. GivesFirst rs found r after) → found ≡ true → ((rs : List Record) → rest (r ∷ rs) ≡ next rs) → Says r x
     → pushed ≡ items ++ x ∷ [] → ReadSo Says total next left pushed after
 one-more Says total rest next left items pushed x now after found r so h e goes says p =
-    let f = next-found now so.after found r after so.known h e in
+    let (others, stood, left_are) = next-found now so.after found r after so.known h e in
     record {
       front = so.front ++ r ∷ [];
-      after = f.0;
-      known = f.2;
-      whole = so.whole ∙ ap (λ (l : List Record). so.front ++ l) f.1 ∙ sym (append_assoc so.front (r ∷ []) f.0);
+      after = others;
+      known = left_are;
+      whole = so.whole ∙ ap (λ (l : List Record). so.front ++ l) stood ∙ sym (append_assoc so.front (r ∷ []) others);
       says = rw p (zip-push Says so.front items r x so.says says);
-      faulty = so.faulty ∙ ap rest f.1 ∙ goes f.0;
+      faulty = so.faulty ∙ ap rest stood ∙ goes others;
     }
 
 -- no record is left

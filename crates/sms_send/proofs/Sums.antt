@@ -1,19 +1,15 @@
 -- From each worker's ends to the rows.
-use Rattle.std.proofs.Common.{◌≡◌, ℕ, zero, suc, ◌+◌, ◌<◌, List, [], ◌∷◌, ◌++◌, length, map, replicate, refl, sym, ap, ◌∙◌, subst, arith}
+use Rattle.std.proofs.Common.{◌≡◌, ℕ, zero, suc, ◌+◌, List, [], ◌∷◌, ◌++◌, length, map, replicate, refl, ap, ◌∙◌, arith}
 use Rattle.std.specs.List.{AllZip}
 use Rattle.sms_core.specs.declared.request.Phase.{Phase}
-use Rattle.sms_core.specs.Rows.{reserved_of, charged_of, returned_of}
 use Rattle.sms_book.specs.declared.amounts.Amounts.{Amounts}
 use Rattle.sms_book.specs.Portions.{amounts_at, no_amounts}
 use Rattle.sms_book.specs.Shares.{Share, blank_share, opening_shares}
 use Rattle.sms_book.specs.Sums.{over_shares}
 use Rattle.sms_worker.specs.declared.message.Message.{Message}
-use Rattle.sms_worker.specs.declared.rules.Rules.{Rules}
 use Rattle.sms_worker.specs.declared.ends.MessageEnd.{MessageEnd}
 use Rattle.sms_worker.specs.Ends.{credit, credits}
 use Rattle.sms_send.specs.Deals.{totals}
-use Rattle.sms_send.specs.Worked.{Worked}
-use Rattle.sms_worker.specs.EndOf.{IsEndOf}
 
 -- an amount of a share, and the phases that it counts
 pub record Column : Type 0 where

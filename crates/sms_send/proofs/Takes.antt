@@ -1,5 +1,5 @@
 -- Taking the first of one of several lists, and giving to one of them.
-use Rattle.std.proofs.Common.{◌≡◌, ℕ, zero, suc, ◌+◌, ◌<◌, List, [], ◌∷◌, ◌++◌, length, set, map, get_or, refl, sym, ap, ◌∙◌, subst, arith, append_assoc}
+use Rattle.std.proofs.Common.{◌≡◌, ℕ, zero, suc, ◌<◌, List, [], ◌∷◌, ◌++◌, length, set, map, get_or, sym, ap, ◌∙◌, arith, append_assoc}
 use Rattle.sms_send.specs.Deals.{cons_at, onto}
 
 module _ {A K : Type 0} (f : A → List K) where

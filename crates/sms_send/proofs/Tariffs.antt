@@ -6,7 +6,7 @@ use Rattle.sms_book.specs.declared.error.TariffError.TheVariants.{TooMany, BadPr
 use Rattle.sms_book.specs.declared.rate.Rate.{Rate}
 use Rattle.sms_book.specs.Limits.{most_rates as most_of_tariff}
 use Rattle.sms_book.specs.Openings.{HaveOneName}
-use Rattle.sms_book.specs.Tariffs.{IsCredits, IsPrefix, IsReached, IsTariff, Price, Refuses, prefixes, price_at, price_of, prices_of}
+use Rattle.sms_book.specs.Tariffs.{IsCredits, IsPrefix, IsReached, Price, Refuses, prefixes, price_at, price_of, prices_of}
 use Rattle.sms_send.specs.Rates.{place_of}
 
 -- why rates are no tariff
@@ -19,9 +19,9 @@ pub refuses-so : (rates : List Rate) (r : Result (List Price) TariffError) (e : 
 refuses-so rates r TooMany is many prefix credits double = let n = many.0 is in let l = length-map rates price_of in inr (omega arith)
 refuses-so rates r (BadPrefix place) is many prefix credits double = let h = (prefix place).0 is in inr (h.0, (refl, h.1))
 refuses-so rates r (BadCredits place) is many prefix credits double =
-    let h = (credits place).0 is in inr (h.0, record { is = refl; prefix = h.1; credits = h.2 })
+    let (reached, prefix_is, wrong) = (credits place).0 is in inr (reached, record { is = refl; prefix = prefix_is; credits = wrong })
 refuses-so rates r (Duplicate first second) is many prefix credits double =
-    let h = (double first second).0 is in inr (h.0, record { is = refl; prefix = h.1; credits = h.2; double = h.3 })
+    let (reached, prefix_is, credits_are, named) = (double first second).0 is in inr (reached, record { is = refl; prefix = prefix_is; credits = credits_are; double = named })
 refuses-so rates r OutOfMemory is many prefix credits double = inl refl
 
 -- a place is told where the rates are refused

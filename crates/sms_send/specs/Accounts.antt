@@ -1,7 +1,7 @@
 -- An accounts file: a header, and a record for each account with its name and its credits.
 use Rattle.std.specs.Prelude.{◌≡◌, ℕ, ◌+◌, ◌==◌, ◌&&◌, ◌||◌, nat_le, not, Bool, true, false, List, [], ◌∷◌, ◌++◌, length, Option, Some, None, is_some, if◌then◌else◌, codes, string_bytes}
 use Rattle.std.specs.List.{AllZip}
-use Rattle.std.specs.Str.{bytes_eq, is_utf8}
+use Rattle.std.specs.Str.{bytes_eq}
 use Rattle.sms_core.specs.Limits.{most_accounts, most_topped}
 use Rattle.sms_book.specs.declared.opening.Opening.{Opening}
 use Rattle.sms_send.specs.Fields.{Field, Record, number_at}

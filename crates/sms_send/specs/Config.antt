@@ -1,7 +1,6 @@
 -- The config: its keys in their order, what each may hold, and its value where it is missing.
-use Rattle.std.specs.Prelude.{◌≡◌, ◌⊎◌, ℕ, ℤ, pos, negsuc, nat_le, nat_lt, ◌==◌, ◌&&◌, ◌||◌, not, Bool, true, false, List, [], ◌∷◌, length, Option, Some, None, String, option_and_then, is_some, if◌then◌else◌, codes, string_bytes}
+use Rattle.std.specs.Prelude.{ℕ, ℤ, pos, negsuc, nat_le, nat_lt, ◌==◌, ◌&&◌, ◌||◌, not, Bool, true, false, List, [], ◌∷◌, length, Option, Some, None, option_and_then, is_some, if◌then◌else◌, codes}
 use Rattle.std.specs.Str.{bytes_eq}
-use Rattle.std.specs.declared.alloc.Global.{Global}
 use Rattle.toml.specs.Data.{Data, Members, no_members, member, get_member, as_integer, as_str, as_array, as_bool}
 use Rattle.sms_centre.specs.Keys.{strings_in}
 use Rattle.sms_centre.specs.Texts.{treatment_of}

@@ -24,10 +24,10 @@ TellsKey faulty _ = ⊥
 pub record SaysConnection (t : Members) (c : Connection) : Type 0 where
   pub host : host_of t ≡ Some (string_bytes c.host)
   pub port : port_of t ≡ Some c.port
-  pub system_id : system_id_of t ≡ Some (string_bytes c.system_id)
-  pub password : password_of t ≡ Some (string_bytes c.password)
-  pub system_type : system_type_of t ≡ Some (string_bytes c.system_type)
-  pub mode : mode_of t ≡ Some c.mode
+  pub system_id : system_id_of t ≡ Some c.settings.system_id
+  pub password : password_of t ≡ Some c.settings.password
+  pub system_type : system_type_of t ≡ Some c.settings.system_type
+  pub mode : mode_of t ≡ Some c.settings.mode
 
 pub record SaysLimits (t : Members) (l : Limits) : Type 0 where
   pub binds : binds_of t ≡ Some l.binds
@@ -36,8 +36,8 @@ pub record SaysLimits (t : Members) (l : Limits) : Type 0 where
   pub depth : depth_of t ≡ Some l.depth
 
 pub record SaysRetry (t : Members) (r : Retry) : Type 0 where
-  pub attempts : attempts_of t ≡ Some r.attempts
-  pub base_ms : base_ms_of t ≡ Some r.base_ms
+  pub attempts : attempts_of t ≡ Some r.policy.attempts
+  pub base_ms : base_ms_of t ≡ Some r.policy.base_ms
   pub answer_ms : answer_ms_of t ≡ Some r.answer_ms
 
 pub record SaysFlags (t : Members) (f : Flags) : Type 0 where

@@ -18,7 +18,10 @@ pub mod Rates
 pub mod Sending
 pub mod Inputs
 pub mod Report
+pub mod Summary
 pub mod Deals
+pub mod BindEnds
+pub mod SendFaults
 pub mod Seated
 pub mod Sent
 pub mod Settled

@@ -1,6 +1,5 @@
 -- The messages that a messages file's records are, and all that the sender reads.
 use Rattle.std.specs.Prelude.{◌≡◌, ℕ, ◌+◌, suc, List, [], ◌∷◌, Option, Some, None, option_map, if◌then◌else◌, string_bytes}
-use Rattle.std.specs.List.{AllZip}
 use Rattle.std.specs.Str.{bytes_eq}
 use Rattle.sms_worker.specs.declared.message.Message.{Message}
 use Rattle.sms_send.specs.Fields.{Field, Record}

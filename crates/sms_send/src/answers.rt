@@ -2,35 +2,15 @@
 
 ghost use Rattle.std.specs.Prelude.{◌≡◌, None, Some, if◌then◌else◌, IfErr, IfOk, MatchOption, codes, map, string_bytes};
 ghost use Rattle.toml.specs.Data.{get_member};
-ghost use Rattle.toml.specs.View.{items_view, table_view, view};
-ghost use Rattle.sms_centre.specs.Keys.{strings_in};
+ghost use Rattle.toml.specs.View.{table_view, view};
 ghost use Rattle.sms_send.specs.Config.{answers_in, fault_at, some_answers};
 ghost use Rattle.sms_send.specs.ConfigFaults.{TellsKey};
 
 use crate::fault::Fault;
 use crate::toml_value::bad_key;
-use sms_centre::{Script, ScriptError};
+use sms_centre::{Script, ScriptError, strings_of};
 use std::alloc::{AllocError, Global};
 use toml::{Table, Value};
-
-/// A copy of the texts, where each value is one.
-fn strings_of(alloc: Global, values: &[Value]) -> Result<Option<Vec<String>>, AllocError>
-    ensures { IfOk result (λ r. MatchOption r (strings_in (items_view values.now) ≡ None) (λ v. strings_in (items_view values.now) ≡ Some (map string_bytes v.items))) }
-{
-    let mut texts = Vec::new(alloc);
-    for value in values {
-        match value.as_str() {
-            Some(text) => {
-                let text = String::from_str(alloc, text)?;
-                if texts.push(text).is_err() {
-                    return Err(AllocError);
-                }
-            }
-            None => return Ok(None),
-        }
-    }
-    Ok(Some(texts))
-}
 
 /// The texts where the config names none.
 fn default_answers(alloc: Global) -> Result<Vec<String>, AllocError>

@@ -2,7 +2,8 @@
 
 ghost use Rattle.std.specs.Prelude.{◌≡◌, ◌≤◌, ◌⊎◌, None, Some, IfErr, IfOk, map};
 ghost use Rattle.toml.specs.View.{table_view};
-ghost use Rattle.sms_send.specs.Config.{connection_fault, faulty_key, files_fault, flags_fault, is_among, known_keys, limits_fault, retry_fault, script_fault, unknown_key as unknown_key_of};
+ghost use Rattle.sms_bind.specs.Binds.{setting};
+ghost use Rattle.sms_send.specs.Config.{c_octet_string, connection_fault, faulty_key, files_fault, flags_fault, is_among, known_keys, limits_fault, retry_fault, script_fault, unknown_key as unknown_key_of};
 ghost use Rattle.sms_send.specs.ConfigFaults.{IsConfig, SaysAnswers, SaysConfig, SaysConnection, SaysFiles, SaysLimits, SaysFlags, SaysRetry, TellsConfig, TellsKey, toml_of};
 ghost use Rattle.sms_send.specs.declared.fault.Fault.TheVariants.{NotToml, OutOfMemory};
 
@@ -10,29 +11,25 @@ use crate::answers::answers_at;
 use crate::fault::Fault;
 use crate::limits::Limits;
 use crate::toml_value::{bad_key, flag_at, mode_at, number_at, octets_at, text_at};
-use sms_pdu::Mode;
+use sms_bind::Settings;
+use sms_pdu::{Mode, Octets};
+use sms_session::Policy;
 use std::alloc::Global;
 use std::str;
 use toml::Table;
 
 /// To whom the sender binds, and as whom (SMPP 3.4 4.1.1).
-#[derive(Debug, Drop)]
+#[derive(Drop)]
 pub struct Connection {
     pub host: String,
     pub port: u32,
-    pub system_id: String,
-    pub password: String,
-    pub system_type: String,
-    pub mode: Mode,
+    pub settings: Settings,
 }
 
 /// How often a request is tried, and how long it waits.
 #[derive(Clone, Copy, Debug, PartialEq, Eq)]
 pub struct Retry {
-    /// Attempts, 1 to 10.
-    pub attempts: u32,
-    /// Milliseconds before the second attempt, at most a minute.
-    pub base_ms: u32,
+    pub policy: Policy,
     /// Milliseconds that a request waits for its answer, 1 to 600,000.
     pub answer_ms: u32,
 }
@@ -67,7 +64,7 @@ pub struct Answers {
 }
 
 /// What a config says.
-#[derive(Debug, Drop)]
+#[derive(Drop)]
 pub struct Config {
     pub connection: Connection,
     pub limits: Limits,
@@ -75,6 +72,19 @@ pub struct Config {
     pub flags: Flags,
     pub files: FileNames,
     pub answers: Answers,
+}
+
+/// The fields of a bind. They are no longer than the bind has room for (SMPP 3.4 4.1.1).
+fn settings_of(mode: Mode, system_id: Octets, password: Octets, system_type: Octets) -> Settings
+    requires system_id { c_octet_string 16 system_id ≡ Some system_id }
+    requires password { c_octet_string 9 password ≡ Some password }
+    requires system_type { c_octet_string 13 system_type ≡ Some system_type }
+    ensures { result ≡ setting mode system_id password system_type }
+{
+    match Settings::new(mode, system_id, password, system_type) {
+        Ok(settings) => settings,
+        Err(_) => unreachable!(),
+    }
 }
 
 /// To whom the sender binds, and as whom.
@@ -92,10 +102,7 @@ fn connection_at(alloc: Global, table: &Table) -> Result<Connection, Fault>
     Ok(Connection {
         host,
         port,
-        system_id,
-        password,
-        system_type,
-        mode,
+        settings: settings_of(mode, system_id, password, system_type),
     })
 }
 
@@ -127,8 +134,7 @@ fn retry_at(alloc: Global, table: &Table) -> Result<Retry, Fault>
     let base_ms = number_at(alloc, table, "base_ms", 100, 0, 60_000)?;
     let answer_ms = number_at(alloc, table, "answer_ms", 5_000, 1, 600_000)?;
     Ok(Retry {
-        attempts,
-        base_ms,
+        policy: Policy { attempts, base_ms },
         answer_ms,
     })
 }

@@ -1,6 +1,6 @@
-//! The program's clock and its gate.
+//! The program's clock.
 
-use sms_worker::{Clock, Gate};
+use sms_worker::Clock;
 use std::time;
 use std::time::Instant;
 
@@ -31,15 +31,5 @@ impl<'r, R: time::Clock> Clock for Ticks<'r, R> {
             Ok(passed) => u64::try_from(passed.as_millis()).unwrap_or(u64::MAX),
             Err(_unread) => 0,
         }
-    }
-}
-
-/// Lets every request pass.
-#[derive(Clone, Copy, Drop)]
-pub struct OpenGate;
-
-impl Gate for OpenGate {
-    fn pass(&self, _worker: usize, _number: u32) -> bool {
-        true
     }
 }

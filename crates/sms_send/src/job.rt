@@ -25,7 +25,7 @@ pub enum Job {
     /// To plan the messages in the file of this name; with references of 16 bits where it is true.
     Plan(String, bool),
     /// To send, as the config in the file of this name has it, through a test centre in the same
-    /// process; without a word on the way where it is true.
+    /// process; nothing but a fault is told on standard error where it is true.
     Loop(String, bool),
     /// The same to the message centre that the config names.
     Send(String, bool),
@@ -131,7 +131,7 @@ fn sender_command<'a>(
     ensures local { IfOk result (λ command. (fields_of command).has_globals ≡ false) }
 {
     let config = file_option(alloc, "config", "The config, which names the other files");
-    let quiet = flag(alloc, "quiet", "Tells nothing on the way on standard error");
+    let quiet = flag(alloc, "quiet", "Tells nothing but faults on standard error");
     file_command(alloc, name, about, config, quiet)
 }
 

@@ -3,6 +3,8 @@
 #![tactic(auto)]
 
 mod accounts;
+#[cfg(test)]
+mod answer_tests;
 mod answers;
 mod bell;
 #[cfg(test)]
@@ -14,6 +16,8 @@ mod devices;
 mod driver;
 mod fault;
 mod field;
+#[cfg(test)]
+mod frame_tests;
 mod input;
 #[cfg(test)]
 mod input_tests;
@@ -22,16 +26,22 @@ mod letters;
 mod limits;
 mod messages;
 mod network;
+mod opened;
 mod outbox;
 mod output;
 mod plan;
 #[cfg(test)]
 mod plan_tests;
 mod plan_text;
+mod progress;
+#[cfg(test)]
+mod progress_tests;
 mod rates;
 #[cfg(test)]
 mod reading_tests;
 mod records;
+#[cfg(test)]
+mod refusal_tests;
 mod replay;
 mod report;
 #[cfg(test)]
@@ -40,21 +50,31 @@ mod rows;
 mod schedule;
 mod sender;
 mod sending;
+#[cfg(test)]
+mod sending_tests;
 mod setup;
+#[cfg(test)]
+mod simulator;
+mod summary;
+mod tally;
 #[cfg(test)]
 mod tests;
 mod text;
 mod toml_value;
+#[cfg(test)]
+mod trial;
 
 ghost use Rattle.std.specs.Prelude.{◌≡◌, ◌≢◌, ◌⊎◌, List, IfErr, IfOk, OnOk, is_ok, map, string_bytes, if◌then◌else◌};
 ghost use Rattle.clap.specs.Words.{Text};
 ghost use Rattle.sms_send.specs.Faults.{status_of};
 ghost use Rattle.sms_send.specs.Jobs.{Does, IsStatusOf, TellsJob, TellsRun, Works};
-ghost use Rattle.sms_send.specs.declared.fault.Fault.TheVariants.{File, Output, OutOfMemory, Words};
+ghost use Rattle.sms_send.specs.declared.fault.Fault.TheVariants.{Output, OutOfMemory, Words};
 
 use crate::fault::Fault;
 use crate::job::{Job, job_of};
+use crate::opened::open;
 use crate::plan::run_plan;
+use crate::progress::Screen;
 use crate::replay::run_replay;
 use crate::sending::{Centre, send_job};
 use std::io::{ErrorKind, Write};
@@ -64,7 +84,7 @@ use std::rt::{Env, Files};
 use std::sync::Wait;
 use std::thread::Threads;
 use std::time::Clock;
-use std::{env, fs, io};
+use std::{env, io};
 
 fn main(rt: HostRuntime) -> ExitCode {
     let status = match run(&rt, &mut io::writer(&rt)) {
@@ -84,6 +104,8 @@ fn run<
         + Threads
         + Wait
         + Clock
+        + Eprint
+        + Screen
         + Sync,
     W: Write,
 >(rt: &R, output: &mut W) -> Result<u8, Fault>
@@ -114,6 +136,8 @@ fn do_words<
         + Threads
         + Wait
         + Clock
+        + Eprint
+        + Screen
         + Sync,
     W: Write,
 >(rt: &R, words: &[String], output: &mut W) -> Result<u8, Fault>
@@ -136,6 +160,8 @@ fn do_job<
         + Threads
         + Wait
         + Clock
+        + Eprint
+        + Screen
         + Sync,
     W: Write,
 >(rt: &R, job: Job, output: &mut W) -> Result<u8, Fault>
@@ -148,18 +174,8 @@ fn do_job<
         Job::Replay(None) => run_replay(rt.alloc(), rt.reader(), output),
         Job::Replay(Some(name)) => run_replay(rt.alloc(), open(rt, name)?, output),
         Job::Plan(name, long) => run_plan(rt.alloc(), open(rt, name)?, long, output),
-        Job::Loop(config, _quiet) => send_job(rt, Centre::Own, config, output),
-        Job::Send(config, _quiet) => send_job(rt, Centre::Named, config, output),
-    }
-}
-
-/// The file of this name, opened to be read.
-fn open<R: Files>(rt: &R, name: String) -> Result<R::File, Fault>
-    ensures { IfErr result (λ fault. fault ≡ File name) }
-{
-    match fs::open(rt, name.as_str()) {
-        Ok(file) => Ok(file),
-        Err(_) => Err(Fault::File(name)),
+        Job::Loop(config, quiet) => send_job(rt, Centre::Own, config, quiet, output),
+        Job::Send(config, quiet) => send_job(rt, Centre::Named, config, quiet, output),
     }
 }
 

@@ -33,7 +33,7 @@ fn receipt(alloc: Global) -> Result<Receipt, Fail> {
 }
 
 // The reply that a submit_sm_resp with this status and message_id is.
-fn reply(status: u8, text: &[u8]) -> Option<Reply>
+pub fn reply(status: u8, text: &[u8]) -> Option<Reply>
     requires { length text.now ≤ 64 }
 {
     let mut octets = [0; 81];
@@ -48,7 +48,11 @@ fn reply(status: u8, text: &[u8]) -> Option<Reply>
 }
 
 // A segment with attempts that had these replies.
-fn segment(alloc: Global, outcome: Outcome, replies: &[Option<Reply>]) -> Result<SegmentEnd, Fail> {
+pub fn segment(
+    alloc: Global,
+    outcome: Outcome,
+    replies: &[Option<Reply>],
+) -> Result<SegmentEnd, Fail> {
     let mut attempts = Vec::new(alloc);
     for reply in replies {
         attempts.push(Attempt {
@@ -147,7 +151,7 @@ fn account(alloc: Global, row: Row) -> Result<(Vec<Opening>, Statement), Fail> {
 }
 
 // A row that was opened with so many credits, of which so many are reserved, charged and returned.
-fn row(topped: u64, free: u64, reserved: u64, charged: u64, returned: u64) -> Row {
+pub fn row(topped: u64, free: u64, reserved: u64, charged: u64, returned: u64) -> Row {
     Row {
         topped,
         free,

@@ -4,19 +4,18 @@ ghost use Rattle.std.specs.Prelude.{◌≡◌, ◌≤◌, ◌⊎◌, IfErr, IfOk
 ghost use Rattle.std.specs.Io.KnownBytes.{Appends};
 ghost use Rattle.sms_send.specs.Output.{WritesFront};
 ghost use Rattle.sms_send.specs.Report.{ends_status, has_unanswered, is_open_end, is_unanswered as is_silence, report_of, some_unanswered};
-ghost use Rattle.sms_send.specs.Sent.{IsRulesOf, IsSent};
+ghost use Rattle.sms_send.specs.SendFaults.{IsFaultOfOne, told};
+ghost use Rattle.sms_send.specs.Sent.{AreHabitsOf, IsRulesOf, IsSent};
+ghost use Rattle.sms_send.specs.declared.driver.fault.SendFault.{SendFault};
 ghost use Rattle.sms_send.specs.declared.fault.Fault.TheVariants.{Output, OutOfMemory};
 
 use crate::config::{Config, Connection, Flags, Retry};
-use crate::driver::{Dial, Habits, SendFault, drive_all};
+use crate::driver::{BindEnd, Dial, Habits, SendFault, Sending, drive_all};
 use crate::fault::Fault;
 use crate::input::Input;
 use crate::limits::Limits;
 use crate::report::write_report_of;
-use sms_bind::Settings;
 use sms_book::{Opening, Statement, Tariff};
-use sms_pdu::Octets;
-use sms_session::Policy;
 use sms_worker::{Clock, Gate, MessageEnd, MessageResult, Outcome, Pause, Rules, SegmentEnd};
 use std::alloc::Global;
 use std::io::Write;
@@ -29,13 +28,15 @@ const UNANSWERED: u8 = 4;
 /// How many turns readers and workers take at most.
 const TURNS: u64 = 1 << 40;
 
-/// What a sending ends with: an end for each message, in order, and a row for each account.
+/// What a sending ends with: an end for each message, in order, a row for each account, and what
+/// became of each bind.
 /// `send_all` alone makes one.
 #[derive(Drop)]
 pub struct Ended {
     openings: Vec<Opening>,
     ends: Vec<MessageEnd>,
     statement: Statement,
+    binds: Vec<BindEnd>,
 }
 
 impl Ended {
@@ -70,9 +71,21 @@ impl Ended {
     {
         &self.statement
     }
+
+    /// What became of the binds.
+    pub fn binds(&self) -> &[BindEnd]
+        ensures { result.now ≡ self.now.binds.items }
+    {
+        self.binds.as_slice()
+    }
 }
 
 impl From<SendFault> for Fault {
+    ghost use Rattle.std.specs.Prelude.{◌≡◌};
+    ghost use Rattle.sms_send.specs.SendFaults.{told};
+
+    ghost from_gives = { λ fault f. f ≡ told fault };
+
     fn from(fault: SendFault) -> Fault {
         match fault {
             SendFault::BindRefused(bind, status) => Fault::BindRefused(bind, status),
@@ -127,45 +140,29 @@ fn is_some_open(ends: &[MessageEnd]) -> bool
 }
 
 /// The rules of the workers.
-fn rules_of(retry: Retry, limits: Limits, flags: Flags, tariff: Tariff) -> Result<Rules, Fault>
-    ensures { IfOk result (IsRulesOf retry limits flags tariff) }
+fn rules_of(retry: Retry, limits: Limits, flags: Flags, tariff: Tariff) -> Rules
+    ensures { IsRulesOf retry limits flags tariff result }
 {
-    let Ok(policy) = Policy::new(retry.attempts, retry.base_ms) else {
-        return Err(Fault::OutOfMemory);
-    };
-    Ok(Rules {
-        policy,
+    Rules {
+        policy: retry.policy,
         depth: limits.depth,
         answer_ms: retry.answer_ms,
         turns: TURNS,
         receipts: flags.receipts,
         tariff,
         long_reference: flags.long_reference,
-    })
+    }
 }
 
 /// What all binds have in common.
-fn habits_of(connection: Connection, limits: Limits, flags: Flags) -> Result<Habits, Fault> {
-    let Connection {
-        system_id,
-        password,
-        system_type,
-        mode,
-        ..
-    } = connection;
-    let Ok(settings) = Settings::new(
-        mode,
-        Octets::new(system_id.into_bytes()),
-        Octets::new(password.into_bytes()),
-        Octets::new(system_type.into_bytes()),
-    ) else {
-        return Err(Fault::OutOfMemory);
-    };
-    Ok(Habits {
-        settings,
+fn habits_of(connection: Connection, limits: Limits, flags: Flags) -> Habits
+    ensures { AreHabitsOf connection limits flags result }
+{
+    Habits {
+        settings: connection.settings,
         limit: limits.window,
         follow: flags.follow,
-    })
+    }
 }
 
 /// Makes all binds, sends all messages, and ends the binds. Nothing is sent where a bind fails; the
@@ -185,7 +182,9 @@ pub fn send_all<
     clock: &K,
     pause: &P,
 ) -> Result<Ended, Fault>
-    ensures { IfOk result (IsSent input) }
+    ensures sent { IfOk result (IsSent input) }
+    // A fault is of one of the config's binds, or of memory.
+    ensures refused { IfErr result (λ fault. (f : SendFault) × IsFaultOfOne input.config.limits.binds f × (fault ≡ told f)) }
 {
     let (config, openings, messages, tariff) = input.into_parts();
     let Config {
@@ -195,9 +194,9 @@ pub fn send_all<
         flags,
         ..
     } = config;
-    let rules = rules_of(retry, limits, flags, tariff)?;
-    let habits = habits_of(connection, limits, flags)?;
-    let (ends, statement) = drive_all(
+    let rules = rules_of(retry, limits, flags, tariff);
+    let habits = habits_of(connection, limits, flags);
+    let driven = drive_all(
         rt,
         alloc,
         limits.binds as usize,
@@ -210,11 +209,24 @@ pub fn send_all<
         gate,
         clock,
         pause,
-    )?;
+    );
+    let sending = match driven {
+        Ok(sending) => sending,
+        Err(fault) => {
+            let told = Fault::from(fault);
+            return Err(told);
+        }
+    };
+    let Sending {
+        ends,
+        statement,
+        binds,
+    } = sending;
     Ok(Ended {
         openings,
         ends,
         statement,
+        binds,
     })
 }
 

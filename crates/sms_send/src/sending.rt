@@ -1,27 +1,30 @@
 //! The job of `loop` and `send`: the files that the config names are opened and read, and sent.
 
-ghost use Rattle.std.specs.Prelude.{◌≡◌, ◌≢◌, ◌⊎◌, IfErr, IfOk, option_map};
+ghost use Rattle.std.specs.Prelude.{◌≡◌, ◌≢◌, IfErr, IfOk, option_map};
 ghost use Rattle.sms_send.specs.Jobs.{IsStatus, OfInput};
-ghost use Rattle.sms_send.specs.Sent.{RunsSender};
-ghost use Rattle.sms_send.specs.declared.fault.Fault.TheVariants.{File, Output, OutOfMemory};
+ghost use Rattle.sms_send.specs.Sent.{RunsSender, SendsFiles};
+ghost use Rattle.sms_send.specs.declared.fault.Fault.TheVariants.{Output};
 
 use crate::bell::{Bell, Rest};
-use crate::devices::{OpenGate, Ticks};
+use crate::config::FileNames;
+use crate::devices::Ticks;
 use crate::driver::Dial;
 use crate::fault::Fault;
 use crate::input::read_input;
 use crate::network::{LoopDial, TcpDial, listen};
+use crate::opened::{octets_of, open, open_named};
 use crate::outbox::Outboxes;
+use crate::progress::{Progress, Screen, Telling};
 use crate::sender::{send_all, write_report};
 use crate::setup::{Setup, setup_of};
 use sms_worker::{Clock, Gate, Pause};
 use std::alloc::Global;
-use std::io::{ErrorKind, Read, Write};
+use std::io::{Eprint, Read, Write};
 use std::net::{Net, TcpListener, TcpStream};
 use std::rt::Files;
 use std::sync::Wait;
 use std::thread::Threads;
-use std::{fs, time};
+use std::time;
 
 /// To which message centre the messages go.
 #[derive(Clone, Copy, Debug, PartialEq, Eq)]
@@ -74,14 +77,31 @@ pub fn send_job<
         + Threads
         + Wait
         + time::Clock
+        + Eprint
+        + Screen
         + Sync,
     W: Write,
->(rt: &R, centre: Centre, config: String, output: &mut W) -> Result<u8, Fault>
+>(rt: &R, centre: Centre, config: String, quiet: bool, output: &mut W) -> Result<u8, Fault>
+    ensures sent { IfOk result (λ status. OfInput R.File.remaining (λ octets. SendsFiles R.File.remaining octets (W.contents output.old) (W.contents output.new) status)) }
     ensures status { IfOk result IsStatus }
     ensures unwritten { IfErr result (λ fault. fault ≢ Output → output.new ≡ output.old) }
 {
     let config = octets_of(rt, config)?;
-    let setup = setup_of(rt.alloc(), config.as_slice())?;
+    let Setup {
+        accounts,
+        messages,
+        tariff,
+        host,
+        port,
+        bind_status,
+        answers,
+    } = setup_of(rt.alloc(), config.as_slice())?;
+    let files = FileNames {
+        accounts,
+        messages,
+        tariff,
+    };
+    let telling = Telling::new(quiet, rt.is_terminal());
     let bell = Bell::new();
     let outboxes = Outboxes::new();
     let pause = Rest {
@@ -96,10 +116,10 @@ pub fn send_job<
                 alloc: rt.alloc(),
                 bell: &bell,
                 outboxes: &outboxes,
-                host: setup.host.as_str(),
-                port: setup.port as u16,
+                host: host.as_str(),
+                port: port as u16,
             };
-            send_files(rt, config.as_slice(), &setup, &dial, &pause, output)
+            send_files(rt, config.as_slice(), files, &dial, &pause, telling, output)
         }
         Centre::Own => {
             let Some(listener) = listen(rt) else {
@@ -111,70 +131,45 @@ pub fn send_job<
                 bell: &bell,
                 outboxes: &outboxes,
                 listener,
-                bind_status: setup.bind_status,
-                answers: setup.answers.as_slice(),
+                bind_status,
+                answers: answers.as_slice(),
             };
-            send_files(rt, config.as_slice(), &setup, &dial, &pause, output)
+            send_files(rt, config.as_slice(), files, &dial, &pause, telling, output)
         }
     }
 }
 
-/// Opens the files that the config names, and sends over the connections that the dial makes.
+/// Opens the files that the config names, and sends over the connections that the dial makes, as
+/// `run_sender` does. A person is told how it goes.
 fn send_files<
-    R: AllocGlobal + Files + Threads + Wait + time::Clock + Sync,
+    R: AllocGlobal + Files + Threads + Wait + time::Clock + Eprint + Sync,
     D: Dial,
     P: Pause + Sync,
     W: Write,
->(rt: &R, config: &[u8], setup: &Setup, dial: &D, pause: &P, output: &mut W) -> Result<u8, Fault>
+>(
+    rt: &R,
+    config: &[u8],
+    files: FileNames,
+    dial: &D,
+    pause: &P,
+    telling: Telling,
+    output: &mut W,
+) -> Result<u8, Fault>
+    ensures sent { IfOk result (SendsFiles R.File.remaining config.now (W.contents output.old) (W.contents output.new)) }
     ensures status { IfOk result IsStatus }
     ensures unwritten { IfErr result (λ fault. fault ≢ Output → output.new ≡ output.old) }
 {
-    let accounts = open_copy(rt, setup.accounts.as_str())?;
-    let messages = open_copy(rt, setup.messages.as_str())?;
-    let tariff = open_named(rt, setup.tariff.as_str())?;
-    run_sender(
-        rt,
-        rt.alloc(),
-        config,
-        accounts,
-        messages,
-        tariff,
-        dial,
-        &OpenGate,
-        &Ticks::new(rt),
-        pause,
-        output,
-    )
-}
-
-/// The file of this name, opened to be read. A fault has a copy of the name.
-fn open_copy<R: AllocGlobal + Files>(rt: &R, name: &str) -> Result<R::File, Fault> {
-    match fs::open(rt, name) {
-        Ok(file) => Ok(file),
-        Err(_) => Err(Fault::File(String::from_str(rt.alloc(), name)?)),
-    }
-}
-
-/// The octets of the file of this name.
-fn octets_of<R: AllocGlobal + Files>(rt: &R, name: String) -> Result<Vec<u8>, Fault>
-    ensures octets { IfOk result (λ octets. OfInput R.File.remaining (λ bytes. octets.items ≡ bytes)) }
-    ensures refused { IfErr result (λ fault. (fault ≡ OutOfMemory) ⊎ (fault ≡ File name)) }
-{
-    let Ok(mut file) = fs::open(rt, name.as_str()) else {
-        return Err(Fault::File(name));
-    };
-    let mut octets = Vec::new(rt.alloc());
-    match file.read_to_end(&mut octets) {
-        Ok(_) => Ok(octets),
-        Err(error) if error.kind() == ErrorKind::OutOfMemory => Err(Fault::OutOfMemory),
-        Err(_) => Err(Fault::File(name)),
-    }
-}
-
-/// The file of this name, opened to be read; none where the name is empty.
-fn open_named<R: AllocGlobal + Files>(rt: &R, name: &str) -> Result<Option<R::File>, Fault> {
-    if name.is_empty() {
-        return Ok(None);
-    }
-    Ok(Some(open_copy(rt, name)?))
+    let accounts = open(rt, files.accounts)?;
+    let messages = open(rt, files.messages)?;
+    let tariff = open_named(rt, files.tariff)?;
+    let alloc = rt.alloc();
+    let input = read_input(alloc, config, accounts, messages, tariff)?;
+    let clock = Ticks::new(rt);
+    let progress = Progress::new(rt, &clock, telling, input.messages().len());
+    let sent = send_all(rt, alloc, input, dial, &progress, &clock, pause);
+    progress.clear();
+    let ended = sent?;
+    write_report(alloc, &ended, output)?;
+    progress.sum_up(&ended);
+    Ok(ended.exit_status())
 }

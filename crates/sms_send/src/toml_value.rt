@@ -3,11 +3,11 @@
 ghost use Rattle.std.specs.Prelude.{◌≡◌, ◌≤◌, Some, IfErr, IfOk, IfSome, option_and_then, option_map, string_bytes};
 ghost use Rattle.toml.specs.Data.{as_integer, get_member};
 ghost use Rattle.toml.specs.View.{table_view, view};
-ghost use Rattle.sms_send.specs.Config.{fault_at, flag_in, has_no_zero as is_without_zero, in_range, mode_in, number_in, octets_in, text_in};
+ghost use Rattle.sms_send.specs.Config.{c_octet_string, fault_at, flag_in, has_no_zero as is_without_zero, in_range, mode_in, number_in, octets_in, text_in};
 ghost use Rattle.sms_send.specs.ConfigFaults.{TellsKey};
 
 use crate::fault::Fault;
-use sms_pdu::Mode;
+use sms_pdu::{Mode, Octets};
 use std::alloc::Global;
 use toml::{Table, Value};
 
@@ -115,14 +115,15 @@ pub fn octets_at(
     key: &str,
     default: &str,
     most: usize,
-) -> Result<String, Fault>
-    ensures text { IfOk result (λ text. octets_in most default.now (get_member key.now (table_view table.now)) ≡ Some (string_bytes text)) }
+) -> Result<Octets, Fault>
+    ensures octets { IfOk result (λ octets. octets_in most default.now (get_member key.now (table_view table.now)) ≡ Some octets) }
+    ensures fits { IfOk result (λ octets. c_octet_string most octets ≡ Some octets) }
     ensures refused { IfErr result (TellsKey (fault_at key.now (octets_in most default.now (get_member key.now (table_view table.now))))) }
 {
     match text_found(table, key, default) {
         Some(text) if text.len() < most && has_no_zero(text.as_bytes()) => {
             match String::from_str(alloc, text) {
-                Ok(copy) => Ok(copy),
+                Ok(copy) => Ok(Octets::new(copy.into_bytes())),
                 Err(_) => Err(Fault::OutOfMemory),
             }
         }

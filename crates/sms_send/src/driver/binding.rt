@@ -1,18 +1,20 @@
 //! How the binds are made, one after the other (SMPP 3.4 4.1).
-ghost use Rattle.std.specs.Prelude.{◌≡◌, ℕ, ◌<◌, ◌≤◌, [], length, map, vec_capacity, Some, None, if◌then◌else◌, IfOk, OnOk};
+ghost use Rattle.std.specs.Prelude.{◌≡◌, ℕ, ◌<◌, ◌≤◌, [], length, map, vec_capacity, Some, None, if◌then◌else◌, IfErr, IfOk, OnOk};
 ghost use Rattle.std.specs.List.{AllByRecursion, AllZip};
 ghost use Rattle.sms_core.specs.Limits.{most_slots};
 ghost use Rattle.sms_send.specs.Seated.{IsSeated};
+ghost use Rattle.sms_send.specs.SendFaults.{fault_in, IsFaultOf, IsFaultOfOne};
 
+use crate::driver::bind_end::Unbinding;
 use crate::driver::fault::SendFault;
 use crate::driver::hanging_up::{draw, unbind_all};
 use crate::driver::rings::Rings;
-use crate::driver::seating::{Guest, Post};
+use crate::driver::seating::{Guest, Own, Post};
 use crate::driver::seats::split_seats;
 use crate::driver::threads::Following;
 use sms_bind::{BindFault, Line, Settings, Tap, Wire, bind};
 use sms_slot::SlotRow;
-use sms_window::{Window, WindowSeat};
+use sms_window::Window;
 use std::alloc::Global;
 use std::io::{Read, Write};
 use std::sync::Wait;
@@ -42,7 +44,7 @@ pub struct Habits {
 struct Made<Rd, W> {
     post: Post<W>,
     guest: Guest<Rd>,
-    own: WindowSeat,
+    own: Own,
 }
 
 /// All binds, each at its place in each list: what its threads share, what they are given, and the
@@ -51,11 +53,13 @@ struct Made<Rd, W> {
 pub(crate) struct Binds<Rd, W> {
     pub posts: Vec<Post<W>>,
     pub guests: Vec<Guest<Rd>>,
-    pub owns: Vec<WindowSeat>,
+    pub owns: Vec<Own>,
 }
 
 /// A bind's fault, as the sending tells it.
-fn fault_of(bind: u32, fault: BindFault) -> SendFault {
+fn fault_of(bind: u32, fault: BindFault) -> SendFault
+    ensures { result ≡ fault_in bind fault }
+{
     match fault {
         BindFault::Refused(status) => SendFault::BindRefused(bind, status),
         BindFault::OutOfMemory => SendFault::OutOfMemory,
@@ -91,7 +95,8 @@ fn make_bind<D: Dial>(
     requires rings { length rings.consumers.items ≡ workers }
     requires few { workers < 62 }
     ensures seated { IfOk result (λ m. IsSeated workers m.post m.guest) }
-    ensures own { IfOk result (λ m. m.own.window ≡ m.post.window) }
+    ensures own { IfOk result (λ m. m.own.seat.window ≡ m.post.window) }
+    ensures refused { IfErr result (IsFaultOf bind_place) }
 {
     let Rings {
         producers,
@@ -103,11 +108,11 @@ fn make_bind<D: Dial>(
     let Ok(seats) = split_seats(alloc, &window, &mut keeper, workers) else {
         return Err(SendFault::OutOfMemory);
     };
-    let mut own = window.split(&mut keeper);
+    let mut seat = window.split(&mut keeper);
     let Ok(slots) = SlotRow::new(alloc) else {
         return Err(SendFault::OutOfMemory);
     };
-    let Some(number) = draw(&window, &mut own) else {
+    let Some(number) = draw(&window, &mut seat) else {
         return Err(SendFault::BindFailed(bind_place));
     };
     let Some((reader, writer)) = dial.dial(bind_place) else {
@@ -133,7 +138,10 @@ fn make_bind<D: Dial>(
             bound,
             follow: following(habits),
         },
-        own,
+        own: Own {
+            seat,
+            unbinding: Unbinding::NotYet,
+        },
     })
 }
 
@@ -148,11 +156,14 @@ fn bind_each<D: Dial>(
 ) -> (Binds<D::Reader, D::Writer>, Result<(), SendFault>)
     requires rings { AllByRecursion (λ r. length r.consumers.items ≡ workers) rings.items }
     requires few { workers < 62 }
+    requires binds { length rings.items ≤ 4 }
     requires none { (binds.posts.items ≡ []) × (binds.guests.items ≡ []) × (binds.owns.items ≡ []) }
     requires room { (length rings.items ≤ vec_capacity binds.posts) × (length rings.items ≤ vec_capacity binds.guests) × (length rings.items ≤ vec_capacity binds.owns) }
-    ensures owns { map (λ s. s.window) result.0.owns.items ≡ map (λ p. p.window) result.0.posts.items }
+    ensures owns { map (λ o. o.seat.window) result.0.owns.items ≡ map (λ p. p.window) result.0.posts.items }
     ensures seated { AllZip (IsSeated workers) result.0.posts.items result.0.guests.items }
     ensures long { OnOk result.1 (length result.0.posts.items ≡ length rings.items) }
+    // The first that failed is told.
+    ensures refused { IfErr result.1 (λ fault. (length result.0.posts.items < length rings.items) × IsFaultOf (length result.0.posts.items) fault) }
 {
     let Binds {
         mut posts,
@@ -167,7 +178,7 @@ fn bind_each<D: Dial>(
                 posts.push_reserved(post);
                 guests.push_reserved(guest);
                 owns.push_reserved(own);
-                place = place.wrapping_add(1);
+                place += 1;
             }
             Err(fault) => {
                 return (
@@ -202,9 +213,11 @@ pub(crate) fn make_binds<D: Dial, R: Wait>(
 ) -> Result<Binds<D::Reader, D::Writer>, SendFault>
     requires rings { AllByRecursion (λ r. length r.consumers.items ≡ workers) rings.items }
     requires few { workers < 62 }
-    ensures owns { IfOk result (λ b. map (λ s. s.window) b.owns.items ≡ map (λ p. p.window) b.posts.items) }
+    requires binds { length rings.items ≤ 4 }
+    ensures owns { IfOk result (λ b. map (λ o. o.seat.window) b.owns.items ≡ map (λ p. p.window) b.posts.items) }
     ensures seated { IfOk result (λ b. AllZip (IsSeated workers) b.posts.items b.guests.items) }
     ensures long { IfOk result (λ b. length b.posts.items ≡ length rings.items) }
+    ensures refused { IfErr result (IsFaultOfOne (length rings.items)) }
 {
     let none = Binds {
         posts: Vec::with_capacity(alloc, rings.len())?,

@@ -1,15 +1,15 @@
 //! The threads of a sending.
 ghost use Rattle.std.specs.Prelude.{◌≡◌, List, length, map, IfOk, MatchResult};
 ghost use Rattle.std.specs.List.{AllByRecursion, AllZip};
+ghost use Rattle.sms_send.specs.BindEnds.{IsTried};
 ghost use Rattle.sms_send.specs.Worked.{Worked};
 
 use crate::driver::hanging_up::{give_up_unless, hang_up_all};
-use crate::driver::seating::Post;
+use crate::driver::seating::{Own, Post};
 use crate::driver::task::Task;
 use crate::driver::threads::{Back, Ear, Office, join_all, start_all, start_readers};
 use sms_bind::ReaderEnd;
 use sms_book::BookName;
-use sms_window::WindowSeat;
 use sms_worker::{Clock, Gate, Pause};
 use std::alloc::AllocError;
 use std::io::{Read, Write};
@@ -22,7 +22,7 @@ use std::thread::{Scope, Threads};
 pub struct Returned<N: BookName> {
     pub backs: Vec<Back<N>>,
     pub readers: Vec<ReaderEnd>,
-    pub owns: Vec<WindowSeat>,
+    pub owns: Vec<Own>,
 }
 
 /// Runs readers and workers at once: workers are joined, then the binds are ended, then the readers
@@ -43,14 +43,17 @@ fn drive<
     tasks: Vec<Task<'s, N, W>>,
     ears: Vec<Ear<'s, Rd, W>>,
     posts: &'s [Post<W>],
-    owns: Vec<WindowSeat>,
+    owns: Vec<Own>,
 ) -> Result<Returned<N>, AllocError>
     requires tasks { AllByRecursion (λ t. t.job.worker.seat.window ≡ t.window.now) tasks.items }
     requires ears { AllByRecursion (λ e. e.seat.window ≡ e.window.now) ears.items }
-    requires owns { map (λ s. s.window) owns.items ≡ map (λ p. p.window) posts.now }
+    requires owns { map (λ o. o.seat.window) owns.items ≡ map (λ p. p.window) posts.now }
     ensures backs { IfOk result (λ r. AllZip (λ j b. MatchResult b
         (λ d. Worked office.now.rules.now j.worker.shares.amounts d.shares.amounts j.messages.items d.ends.items × (d.seat.window ≡ j.worker.seat.window))
         (λ e. e.1.seat.window ≡ j.worker.seat.window)) (map (λ t. t.job) tasks.entry.items) r.backs.items) }
+    ensures keepers { IfOk result (λ r. map (λ d. d.seat.window) r.readers.items ≡ map (λ e. e.seat.window) ears.entry.items) }
+    ensures owns { IfOk result (λ r. map (λ o. o.seat.window) r.owns.items ≡ map (λ p. p.window) posts.now) }
+    ensures tried { IfOk result (λ r. AllByRecursion (λ o. IsTried o.unbinding) r.owns.items) }
 {
     let (rt, alloc, rules) = (office.rt, office.alloc, office.rules);
     let mut owns = owns;
@@ -94,14 +97,17 @@ pub fn work_all<
     tasks: Vec<Task<'a, N, W>>,
     ears: Vec<Ear<'a, Rd, W>>,
     posts: &'a [Post<W>],
-    owns: Vec<WindowSeat>,
+    owns: Vec<Own>,
 ) -> Result<Returned<N>, AllocError>
     requires tasks { AllByRecursion (λ t. t.job.worker.seat.window ≡ t.window.now) tasks.items }
     requires ears { AllByRecursion (λ e. e.seat.window ≡ e.window.now) ears.items }
-    requires owns { map (λ s. s.window) owns.items ≡ map (λ p. p.window) posts.now }
+    requires owns { map (λ o. o.seat.window) owns.items ≡ map (λ p. p.window) posts.now }
     ensures backs { IfOk result (λ r. AllZip (λ j b. MatchResult b
         (λ d. Worked office.now.rules.now j.worker.shares.amounts d.shares.amounts j.messages.items d.ends.items × (d.seat.window ≡ j.worker.seat.window))
         (λ e. e.1.seat.window ≡ j.worker.seat.window)) (map (λ t. t.job) tasks.entry.items) r.backs.items) }
+    ensures keepers { IfOk result (λ r. map (λ d. d.seat.window) r.readers.items ≡ map (λ e. e.seat.window) ears.entry.items) }
+    ensures owns { IfOk result (λ r. map (λ o. o.seat.window) r.owns.items ≡ map (λ p. p.window) posts.now) }
+    ensures tried { IfOk result (λ r. AllByRecursion (λ o. IsTried o.unbinding) r.owns.items) }
 {
     thread::scope(
         thread::scope_env(),
@@ -109,10 +115,13 @@ pub fn work_all<
         move |scope| -> Result<Returned<N>, AllocError>
             requires tasks { AllByRecursion (λ t. t.job.worker.seat.window ≡ t.window.now) tasks.items }
             requires ears { AllByRecursion (λ e. e.seat.window ≡ e.window.now) ears.items }
-            requires owns { map (λ s. s.window) owns.items ≡ map (λ p. p.window) posts.now }
-            ensures { IfOk result (λ r. AllZip (λ j b. MatchResult b
+            requires owns { map (λ o. o.seat.window) owns.items ≡ map (λ p. p.window) posts.now }
+            ensures backs { IfOk result (λ r. AllZip (λ j b. MatchResult b
                 (λ d. Worked office.entry.now.rules.now j.worker.shares.amounts d.shares.amounts j.messages.items d.ends.items × (d.seat.window ≡ j.worker.seat.window))
                 (λ e. e.1.seat.window ≡ j.worker.seat.window)) (map (λ t. t.job) tasks.entry.items) r.backs.items) }
+            ensures keepers { IfOk result (λ r. map (λ d. d.seat.window) r.readers.items ≡ map (λ e. e.seat.window) ears.entry.items) }
+            ensures owns { IfOk result (λ r. map (λ o. o.seat.window) r.owns.items ≡ map (λ p. p.window) posts.entry.now) }
+            ensures tried { IfOk result (λ r. AllByRecursion (λ o. IsTried o.unbinding) r.owns.items) }
         { drive(scope, office, tasks, ears, posts, owns) },
     )
 }

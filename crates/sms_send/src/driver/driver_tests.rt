@@ -1,11 +1,12 @@
 //! Whole sendings, over pipes in memory.
-use crate::driver::{Dial, Habits, SendFault, drive_all};
+use crate::driver::bind_end::Unbinding;
+use crate::driver::{Dial, Habits, SendFault, Sending, drive_all};
 use sms_bind::Settings;
-use sms_book::{Opening, Statement, Tariff};
+use sms_book::{Opening, Tariff};
 use sms_centre::{Cause, Pipe, PipeEnd, Script, ServeEnd, serve};
 use sms_pdu::{Mode, Octets};
 use sms_session::Policy;
-use sms_worker::{Clock, Gate, Message, MessageEnd, MessageResult, Outcome, Pause, Rules};
+use sms_worker::{Clock, Gate, Message, MessageResult, Outcome, Pause, Rules};
 use std::alloc::Global;
 use std::process::Abort;
 use std::sync::Wait;
@@ -80,7 +81,7 @@ struct Case<'a> {
 struct Done {
     first: ServeEnd,
     second: ServeEnd,
-    ended: Result<(Vec<MessageEnd>, Statement), SendFault>,
+    ended: Result<Sending, SendFault>,
 }
 
 fn octets(alloc: Global, text: &[u8]) -> Result<Octets, Fail> {
@@ -228,11 +229,25 @@ fn two_binds_of_two_workers(rt: HostRuntime) -> Result<(), Fail> {
         second,
         ended,
     } = sent(&rt, rt.alloc(), case)?;
-    let (ends, statement) = match ended {
+    let Sending {
+        ends,
+        statement,
+        binds,
+    } = match ended {
         Ok(ended) => ended,
         Err(fault) => return Err(Fail::new(fault)),
     };
     assert_eq!(rt; ends.len(), 9);
+    assert_eq!(rt; binds.len(), 2);
+    for bind in binds {
+        assert_eq!(rt; bind.workers, 2);
+        match bind.unbinding {
+            Unbinding::Sent(_) => {}
+            Unbinding::NotYet | Unbinding::Failed(_) | Unbinding::Unasked(_) => {
+                panic!(&rt; "not unbound")
+            }
+        }
+    }
     for place in 0..ends.len() {
         assert_eq!(rt; ends[place].index, place as u64);
         match &ends[place].result {

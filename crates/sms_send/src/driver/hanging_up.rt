@@ -1,7 +1,11 @@
 //! How binds are ended (SMPP 3.4 4.2).
-ghost use Rattle.std.specs.Prelude.{◌≡◌, map, length};
+ghost use Rattle.std.specs.Prelude.{◌≡◌, IfSome, map, length};
+ghost use Rattle.std.specs.List.{AllByRecursion};
+ghost use Rattle.sms_send.specs.BindEnds.{IsTried, SpellsUnbind};
 
-use crate::driver::seating::Post;
+use crate::driver::bind_end::{Unasked, Unbinding};
+use crate::driver::seating::{Own, Post};
+use sms_bind::WireFault;
 use sms_pdu::{BodyRef, Frame, PduRef, encode_into};
 use sms_window::{Draw, Window, WindowSeat};
 use sms_worker::{Clock, Pause, Rules};
@@ -26,7 +30,9 @@ pub(crate) fn draw(window: &Window, seat: &mut WindowSeat) -> Option<u32>
 }
 
 /// The frame of the unbind with this number; none where memory runs out.
-fn unbind_frame(alloc: Global, number: u32) -> Option<Frame> {
+fn unbind_frame(alloc: Global, number: u32) -> Option<Frame>
+    ensures { IfSome result (λ frame. SpellsUnbind number frame) }
+{
     let pdu = PduRef {
         status: 0,
         number,
@@ -41,19 +47,35 @@ fn unbind_frame(alloc: Global, number: u32) -> Option<Frame> {
 
 /// Writes an unbind. None is written where the bind is down, all its numbers are drawn, or memory
 /// runs out.
-fn unbind<W: Write, R: Wait>(rt: &R, alloc: Global, post: &Post<W>, own: &mut WindowSeat)
-    requires own { own.old.window ≡ post.now.window }
-    ensures window { own.new.window ≡ own.old.window }
+fn ask<W: Write, R: Wait>(rt: &R, alloc: Global, post: &Post<W>, seat: &mut WindowSeat) -> Unbinding
+    requires own { seat.old.window ≡ post.now.window }
+    ensures window { seat.new.window ≡ seat.old.window }
+    ensures tried { IsTried result }
 {
     if post.line.down.load(Ordering::SeqCst) {
-        return;
+        return Unbinding::Unasked(Unasked::Down);
     }
-    let Some(number) = draw(&post.window, own) else {
-        return;
+    let Some(number) = draw(&post.window, seat) else {
+        return Unbinding::Unasked(Unasked::NoNumber);
     };
-    if let Some(frame) = unbind_frame(alloc, number) {
-        let _sent = post.line.wire.lock(rt).send(frame);
+    let Some(frame) = unbind_frame(alloc, number) else {
+        return Unbinding::Unasked(Unasked::OutOfMemory);
+    };
+    let sent = post.line.wire.lock(rt).send(frame);
+    match sent {
+        Ok(receipt) => Unbinding::Sent(receipt),
+        Err(WireFault::Write(receipt)) => Unbinding::Failed(receipt),
+        Err(WireFault::Broken) => Unbinding::Unasked(Unasked::Broken),
     }
+}
+
+/// Writes an unbind, and keeps what came of it.
+fn unbind<W: Write, R: Wait>(rt: &R, alloc: Global, post: &Post<W>, own: &mut Own)
+    requires own { own.old.seat.window ≡ post.now.window }
+    ensures window { own.new.seat.window ≡ own.old.seat.window }
+    ensures tried { IsTried own.new.unbinding }
+{
+    own.unbinding = ask(rt, alloc, post, &mut own.seat);
 }
 
 /// Writes an unbind to each bind.
@@ -61,10 +83,11 @@ pub(crate) fn unbind_all<W: Write, R: Wait>(
     rt: &R,
     alloc: Global,
     posts: &[Post<W>],
-    owns: &mut Vec<WindowSeat>,
+    owns: &mut Vec<Own>,
 )
-    requires owns { map (λ s. s.window) owns.old.items ≡ map (λ p. p.window) posts.now }
-    ensures owns { map (λ s. s.window) owns.new.items ≡ map (λ s. s.window) owns.old.items }
+    requires owns { map (λ o. o.seat.window) owns.old.items ≡ map (λ p. p.window) posts.now }
+    ensures owns { map (λ o. o.seat.window) owns.new.items ≡ map (λ o. o.seat.window) owns.old.items }
+    ensures tried { AllByRecursion (λ o. IsTried o.unbinding) owns.new.items }
 {
     for bind in 0..posts.len() {
         let own = &mut owns[bind];
@@ -91,13 +114,14 @@ pub(crate) fn hang_up_all<W: Write, K: Clock, P: Pause, R: Wait>(
     rt: &R,
     alloc: Global,
     posts: &[Post<W>],
-    owns: &mut Vec<WindowSeat>,
+    owns: &mut Vec<Own>,
     rules: &Rules,
     clock: &K,
     pause: &P,
 )
-    requires owns { map (λ s. s.window) owns.old.items ≡ map (λ p. p.window) posts.now }
-    ensures owns { map (λ s. s.window) owns.new.items ≡ map (λ s. s.window) owns.old.items }
+    requires owns { map (λ o. o.seat.window) owns.old.items ≡ map (λ p. p.window) posts.now }
+    ensures owns { map (λ o. o.seat.window) owns.new.items ≡ map (λ o. o.seat.window) owns.old.items }
+    ensures tried { AllByRecursion (λ o. IsTried o.unbinding) owns.new.items }
 {
     unbind_all(rt, alloc, posts, owns);
     for post in posts {

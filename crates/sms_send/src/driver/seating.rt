@@ -1,8 +1,9 @@
 //! Who sits at which bind.
-ghost use Rattle.std.specs.Prelude.{◌≡◌, ℕ, ◌+◌, ◌*◌, List, length, IfOk, OnOk};
+ghost use Rattle.std.specs.Prelude.{◌≡◌, ℕ, ◌+◌, ◌*◌, ◌++◌, List, length, map, IfOk, OnOk};
 ghost use Rattle.std.specs.List.{AllByRecursion, AllZip};
-ghost use Rattle.sms_send.specs.Seated.{IsSeated};
+ghost use Rattle.sms_send.specs.Seated.{IsSeated, windows};
 
+use crate::driver::bind_end::Unbinding;
 use crate::driver::task::Place;
 use crate::driver::threads::{Ear, Following};
 use rtrb::{Consumer, Producer};
@@ -31,6 +32,13 @@ pub struct Guest<Rd> {
     pub follow: Following,
 }
 
+/// The driver's own seat at a bind, and what came of its unbind.
+#[derive(Drop)]
+pub struct Own {
+    pub seat: WindowSeat,
+    pub unbinding: Unbinding,
+}
+
 /// All workers and readers.
 #[derive(Drop)]
 pub struct Seating<'a, Rd, W> {
@@ -50,6 +58,7 @@ fn seat_workers<'a, W>(
     requires own { AllByRecursion (λ p. p.seat.window ≡ p.window.now) places.old.items }
     ensures own { OnOk result (AllByRecursion (λ p. p.seat.window ≡ p.window.now) places.new.items) }
     ensures long { OnOk result (length places.new.items ≡ length places.old.items + length seats.items) }
+    ensures windows { OnOk result (map (λ p. p.seat.window) places.new.items ≡ map (λ p. p.seat.window) places.old.items ++ map (λ s. s.window) seats.items) }
 {
     let mut consumers = VecDeque::from(consumers);
     let mut place = 0usize;
@@ -83,6 +92,8 @@ where
     ensures places { IfOk result (λ s. AllByRecursion (λ p. p.seat.window ≡ p.window.now) s.places.items) }
     ensures ears { IfOk result (λ s. AllByRecursion (λ e. e.seat.window ≡ e.window.now) s.ears.items) }
     ensures long { IfOk result (λ s. length s.places.items ≡ length posts.now * workers) }
+    ensures windows { IfOk result (λ s. map (λ p. p.seat.window) s.places.items ≡ windows workers (map (λ p. p.window) posts.now)) }
+    ensures keepers { IfOk result (λ s. map (λ e. e.seat.window) s.ears.items ≡ map (λ p. p.window) posts.now) }
 {
     let mut places = Vec::new(alloc);
     let mut ears = Vec::with_capacity(alloc, posts.len())?;

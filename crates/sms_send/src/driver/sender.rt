@@ -1,15 +1,18 @@
 //! The whole of a sending, from accounts and messages to ends and a statement.
-ghost use Rattle.std.specs.Prelude.{◌≡◌, ℕ, ◌*◌, ◌<◌, ◌≤◌, length, IfOk};
+ghost use Rattle.std.specs.Prelude.{◌≡◌, ℕ, ◌*◌, ◌<◌, ◌≤◌, length, IfErr, IfOk};
 ghost use Rattle.std.specs.List.{AllZip};
 ghost use Rattle.sms_book.specs.Openings.{credits_of};
 ghost use Rattle.sms_worker.specs.EndOf.{IsEndOf};
+ghost use Rattle.sms_send.specs.BindEnds.{AreBinds};
+ghost use Rattle.sms_send.specs.SendFaults.{IsFaultOfOne};
 ghost use Rattle.sms_send.specs.Statements.{AreRows};
 
 use crate::driver::binding::{Dial, Habits};
+use crate::driver::ending::Sending;
 use crate::driver::fault::SendFault;
 use crate::driver::run::run;
-use sms_book::{Opening, Statement, open_book};
-use sms_worker::{Clock, Gate, Message, MessageEnd, Pause, Rules};
+use sms_book::{Opening, open_book};
+use sms_worker::{Clock, Gate, Message, Pause, Rules};
 use std::alloc::Global;
 use std::marker::Brand;
 use std::sync::Wait;
@@ -35,10 +38,14 @@ pub fn drive_all<
     gate: &G,
     clock: &K,
     pause: &P,
-) -> Result<(Vec<MessageEnd>, Statement), SendFault>
+) -> Result<Sending, SendFault>
     requires few { (binds ≤ 4) × (workers ≤ 8) }
-    ensures ends { IfOk result (λ r. AllZip (IsEndOf rules.now (length openings.now)) messages.items r.0.items) }
-    ensures rows { IfOk result (λ r. AreRows (credits_of openings.now) messages.items r.0.items r.1) }
+    ensures ends { IfOk result (λ r. AllZip (IsEndOf rules.now (length openings.now)) messages.items r.ends.items) }
+    ensures rows { IfOk result (λ r. AreRows (credits_of openings.now) messages.items r.ends.items r.statement) }
+    // Each bind was made and ended, and had its workers.
+    ensures binds { IfOk result (λ r. AreBinds binds workers r.binds.items) }
+    // A fault is of one of the binds, or of memory.
+    ensures refused { IfErr result (IsFaultOfOne binds) }
 {
     let Ok(blank) = open_book(alloc, openings, binds * workers) else {
         return Err(SendFault::OutOfMemory);

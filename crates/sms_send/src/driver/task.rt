@@ -44,6 +44,9 @@ fn make_task<'a, N: BookName, W>(
 ) -> Task<'a, N, W>
     ensures shares { result.job.worker.shares ≡ shares }
     ensures messages { result.job.messages ≡ messages }
+    ensures index { result.job.worker.index ≡ index }
+    ensures place { result.job.worker.place ≡ place.entry.place }
+    ensures ring { result.job.worker.consumer ≡ place.entry.consumer }
     ensures seat { result.job.worker.seat ≡ place.entry.seat }
     ensures window { result.window.now ≡ place.entry.window.now }
 {
@@ -80,6 +83,7 @@ pub fn tasks<'a, N: BookName, W>(
     requires own { AllByRecursion (λ p. p.seat.window ≡ p.window.now) places.items }
     ensures shares { IfOk result (λ v. map (λ t. t.job.worker.shares) v.items ≡ shares.items) }
     ensures messages { IfOk result (λ v. map (λ t. t.job.messages.items) v.items ≡ map (λ l. l.items) hands.items) }
+    ensures windows { IfOk result (λ v. map (λ t. t.job.worker.seat.window) v.items ≡ map (λ p. p.seat.window) places.entry.items) }
     ensures own { IfOk result (λ v. AllByRecursion (λ t. t.job.worker.seat.window ≡ t.window.now) v.items) }
 {
     let mut tasks = Vec::with_capacity(alloc, shares.len())?;

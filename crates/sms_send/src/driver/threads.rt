@@ -4,6 +4,7 @@ ghost use Rattle.sms_core.specs.Limits.{most_slots};
 ghost use Rattle.std.specs.PromisedHandle.{KeepsEach};
 ghost use Rattle.std.proofs.Props.{props};
 ghost use Rattle.rtrb.specs.Ring.{SameProducer};
+ghost use Rattle.sms_bind.specs.Follows.{HoldsBack, most_held};
 ghost use Rattle.std.specs.List.{AllByRecursion, AllZip};
 ghost use Rattle.sms_send.specs.Worked.{Worked};
 
@@ -180,6 +181,7 @@ where
     Rd: Drop,
     requires own { ear.seat.window ≡ ear.window.now }
     ensures window { result.seat.window ≡ ear.entry.seat.window }
+    ensures held { HoldsBack (most_held ear.entry.follow.limit) ear.entry.seat.view result.seat.view }
     ensures rings { AllZip SameProducer ear.entry.producers.items result.producers.items }
 {
     let Ear {

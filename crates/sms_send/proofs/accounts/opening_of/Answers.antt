@@ -6,11 +6,11 @@ use Rattle.sms_send.proofs.accounts.opening_of.Goals as goal
 
 pub returns-then-has_name : goal.returns-then-has_name
 returns-then-has_name c =
-    taken-name (names_of c.args.before.now) (fields_of c.args.row.now) c.in-Some.name.now c.in-Some.ensures.1 (sym c.has_name.ensures ∙ c.if-has_name.true)
+    taken-name (names_of c.args.before.now) (fields_of c.args.row.now) c.in-Some.name.now (let (_, read, _) = c.in-Some.ensures in read) (sym c.has_name.ensures ∙ c.if-has_name.true)
 
 pub returns : goal.returns
 returns c =
-    let read = c.in-Some.ensures in (
-      new-account (names_of c.args.before.now) (fields_of c.args.row.now) c.in-Some.name.now read.0 read.1 (sym c.has_name.ensures ∙ c.if-has_name.false),
-      (read.1 ∙ ap Some (sym c.in_ok-name.ensures.ok), read.2),
+    let (is_account, name_is, credits_are) = c.in-Some.ensures in (
+      new-account (names_of c.args.before.now) (fields_of c.args.row.now) c.in-Some.name.now is_account name_is (sym c.has_name.ensures ∙ c.if-has_name.false),
+      (name_is ∙ ap Some (sym c.in_ok-name.ensures.ok), credits_are),
     )

@@ -1,4 +1,4 @@
-use Rattle.std.proofs.Common.{◌≡◌, Err, ap, map, string_bytes}
+use Rattle.std.proofs.Common.{map, string_bytes}
 use Rattle.sms_send.proofs.GoodTexts.{answers_bad, answers_good, map_none}
 use Rattle.sms_send.proofs.answers.are_answers.Goals as goal
 

@@ -1,4 +1,4 @@
-use Rattle.std.proofs.Common.{sym, subst, ◌≡◌, ◌∙◌, Some, Option, List, IfOk, IfErr}
+use Rattle.std.proofs.Common.{sym, subst, ◌∙◌, Option, List, IfOk, IfErr}
 use Rattle.clap.specs.Words.{Row, Text, found_of, rows_of, subcommand_rows_of}
 use Rattle.clap.specs.declared.parser.matches.ArgMatches.TheViews.{out-ArgMatches}
 use Rattle.sms_send.specs.CommandLine.{IsJob, TellsMet}

@@ -1,4 +1,4 @@
-use Rattle.std.proofs.Common.{ap₂, codes, ◌∙◌}
+use Rattle.std.proofs.Common.{ap₂, ◌∙◌}
 use Rattle.std.proofs.lemmas.Result.{IfOk-weaker}
 use Rattle.clap.specs.Words.{Rule, new_app, with_rule}
 use Rattle.sms_send.proofs.job.sender_command.Goals as goal

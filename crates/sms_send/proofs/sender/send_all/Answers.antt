@@ -5,25 +5,33 @@ use Rattle.sms_book.specs.Tariffs.{Price}
 use Rattle.sms_book.specs.declared.opening.Opening.{Opening}
 use Rattle.sms_worker.specs.EndOf.{IsEndOf}
 use Rattle.sms_worker.specs.declared.message.Message.{Message}
+use Rattle.sms_send.specs.BindEnds.{AreBinds}
+use Rattle.sms_send.specs.SendFaults.{IsFaultOfOne}
 use Rattle.sms_send.specs.Sent.{IsRulesOf}
 use Rattle.sms_send.specs.Statements.{AreRows}
 use Rattle.sms_send.specs.declared.config.Config.{Config}
 use Rattle.sms_send.proofs.sender.send_all.Goals as goal
 
-pub returns : goal.returns
-returns g c =
+pub returns-clause-sent : goal.returns-clause-sent
+returns-clause-sent g c =
     let input = c.args.input in
-    let rules = c.in_ok-rules.rules in
-    let ends = c.in_ok-ends.ends.items in
+    let rules = c.rules_of-rules.result in
+    let ends = c.in-Ok.sending.ends.items in
     let e = c.into_parts-config.ensures in
     let slice : c.as_slice.result.now ≡ input.openings.items = c.as_slice.ensures.value ∙ ap (λ (v : Vec Opening Global). v.items) e.openings in
     record {
       openings = e.openings;
       rules = rules;
       says = subst (λ (t : List Price). IsRulesOf input.config.retry input.config.limits input.config.flags t rules) e.tariff
-          (subst (λ (k : Config). IsRulesOf k.retry k.limits k.flags c.into_parts-config.result.3 rules) e.config c.in_ok-rules.ensures);
+          (subst (λ (k : Config). IsRulesOf k.retry k.limits k.flags c.into_parts-config.result.3 rules) e.config c.rules_of-rules.ensures);
       ends = subst (λ (os : List Opening). AllZip (IsEndOf rules (length os)) input.messages.items ends) slice
-          (subst (λ (ms : Vec Message Global). AllZip (IsEndOf rules (length c.as_slice.result.now)) ms.items ends) e.messages c.in_ok-ends.ensures.ends);
-      rows = subst (λ (os : List Opening). AreRows (credits_of os) input.messages.items ends c.in_ok-ends.statement) slice
-          (subst (λ (ms : Vec Message Global). AreRows (credits_of c.as_slice.result.now) ms.items ends c.in_ok-ends.statement) e.messages c.in_ok-ends.ensures.rows);
+          (subst (λ (ms : Vec Message Global). AllZip (IsEndOf rules (length c.as_slice.result.now)) ms.items ends) e.messages c.in-Ok.ensures.ends);
+      binds = subst (λ (k : Config). AreBinds k.limits.binds k.limits.workers c.in-Ok.sending.binds.items) e.config c.in-Ok.ensures.binds;
+      rows = subst (λ (os : List Opening). AreRows (credits_of os) input.messages.items ends c.in-Ok.sending.statement) slice
+          (subst (λ (ms : Vec Message Global). AreRows (credits_of c.as_slice.result.now) ms.items ends c.in-Ok.sending.statement) e.messages c.in-Ok.ensures.rows);
     }
+
+pub returns-in-Err-clause-refused : goal.returns-in-Err-clause-refused
+returns-in-Err-clause-refused g c =
+    let e = c.into_parts-config.ensures in
+    (c.in-Err.fault, subst (λ (k : Config). IsFaultOfOne k.limits.binds c.in-Err.fault) e.config c.in-Err.ensures.refused, c.from-told.ensures)

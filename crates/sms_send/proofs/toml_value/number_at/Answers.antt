@@ -1,4 +1,4 @@
-use Rattle.std.proofs.Common.{sym, ◌∙◌, rules}
+use Rattle.std.proofs.Common.{sym, ◌∙◌}
 use Rattle.toml.proofs.Views.{table_get}
 use Rattle.sms_send.proofs.Keys.{told}
 use Rattle.sms_send.proofs.toml_value.number_at.Goals as goal

@@ -1,8 +1,7 @@
-use Rattle.std.proofs.Common.{◌≡◌, ℕ, List, [], ◌∷◌, ◌++◌, ◌+◌, map, length, refl, sym, ap, ◌∙◌, rules, arith, subst}
+use Rattle.std.proofs.Common.{◌≡◌, List, [], ◌∷◌, map, length, refl, sym, ap, ◌∙◌, rules, arith}
 use Rattle.std.specs.Vec.Iter.{into_iter_items}
-use Rattle.std.specs.Prelude.{replicate}
 use Rattle.sms_worker.specs.declared.message.Message.{Message}
-use Rattle.sms_send.specs.Deals.{cons_at, dealt, next, onto}
+use Rattle.sms_send.specs.Deals.{dealt, next, onto}
 use Rattle.sms_send.proofs.Dealings.{length-dealt, nils_onto, onto_nils}
 use Rattle.sms_send.proofs.driver.dealing.deal.Goals as goal
 

@@ -1,4 +1,4 @@
-use Rattle.std.proofs.Common.{◌≡◌, ◌<◌, List, length, map}
+use Rattle.std.proofs.Common.{◌≡◌, ◌<◌, length, map}
 use Rattle.std.specs.Vec.Iter.{into_iter_items}
 use Rattle.sms_send.specs.Deals.{dealt, onto}
 use Rattle.sms_send.proofs.driver.dealing.deal.Given as goal

@@ -1,5 +1,4 @@
-use Rattle.std.proofs.Common.{◌≡◌, ℕ, List, [], ◌∷◌, ◌++◌, ◌+◌, map, length, get_or, refl, sym, ap, ◌∙◌, rules, arith, subst}
-use Rattle.sms_send.specs.Deals.{cons_at, onto}
+use Rattle.std.proofs.Common.{[], ◌∷◌, ◌++◌, ap, ◌∙◌}
 use Rattle.sms_send.proofs.Takes.{given}
 use Rattle.sms_send.proofs.driver.dealing.give.Goals as goal
 

@@ -1,16 +1,16 @@
-use Rattle.std.proofs.Common.{◌≡◌, ◌<◌, ℕ, List, [], ◌∷◌, ◌++◌, ◌+◌, map, length, get_or, take, drop, refl, sym, ap, ◌∙◌, rules, arith, subst}
-use Rattle.sms_send.specs.Deals.{cons_at, dealt, next}
+use Rattle.std.proofs.Common.{◌≡◌, ◌<◌, ◌+◌, length, get_or, drop, sym, ap, ◌∙◌, rules}
+use Rattle.sms_send.specs.Deals.{dealt, next}
 use Rattle.sms_send.proofs.Dealings.{dealt_next, taken_more, first}
 use Rattle.sms_send.proofs.driver.dealing.merged.Goals as goal
 
 pub take_next-end-requires-clause-dealt : goal.take_next-end-requires-clause-dealt
 take_next-end-requires-clause-dealt c =
-    let k = c.requires.dealt in
-    let i = c.loop-i.invariant.back k.0 k.1 k.2 in
+    let (es, long, is) = c.requires.dealt in
+    let (left, out) = c.loop-i.invariant.back es long is in
     let n = length c.args.parts.items in
-    let low : c.loop-i._i < length k.0 = search rules in
-    let d = first c.loop-i._i k.0 low in
-    (dealt n (next n c.loop-i.place) (drop (c.loop-i._i + 1) k.0), get_or k.0 c.loop-i._i d, i.0 ∙ dealt_next n c.loop-i.place c.loop-i._i k.0 d low)
+    let low : c.loop-i._i < length es = search rules in
+    let d = first c.loop-i._i es low in
+    (dealt n (next n c.loop-i.place) (drop (c.loop-i._i + 1) es), get_or es c.loop-i._i d, left ∙ dealt_next n c.loop-i.place c.loop-i._i es d low)
 
 pub loop-i-preserved : goal.loop-i-preserved
 loop-i-preserved c =

@@ -1,16 +1,15 @@
-use Rattle.std.proofs.Common.{◌≡◌, ℕ, List, [], ◌∷◌, ◌++◌, ◌+◌, map, map-id, length, get_or, refl, sym, ap, ◌∙◌, rules, arith, subst, None, Some}
+use Rattle.std.proofs.Common.{◌≡◌, map-id, length, sym, ap, ◌∙◌, rules}
 use Rattle.sms_worker.specs.declared.ends.MessageEnd.{MessageEnd}
-use Rattle.sms_send.specs.Deals.{cons_at}
 use Rattle.sms_send.proofs.Takes.{dealt_there, taken, none_left}
 use Rattle.sms_send.proofs.driver.dealing.take_next.Goals as goal
 
 pub unreachable-requires : goal.unreachable-requires
 unreachable-requires c =
-    let d = c.requires.dealt in
+    let (ls, x, is) = c.requires.dealt in
     let p = c.index_mut-part.result.now in
-    let there = dealt_there (λ p. p.items) c.args.parts.now.items c.args.place p d.0 d.1 c.requires.there d.2 in
+    let (after, part_is) = dealt_there (λ p. p.items) c.args.parts.now.items c.args.place p ls x c.requires.there is in
     let empty : length p.items ≡ 0 = let k = rw c.in_default.is at c.pop_front.ensures.cases in grind rules in
-    none_left (λ (e : MessageEnd). e) p.items d.1 there.0 empty (map-id p.items ∙ ap (λ q. q.items) c.index_mut-part.ensures.value ∙ there.1)
+    none_left (λ (e : MessageEnd). e) p.items x after empty (map-id p.items ∙ ap (λ q. q.items) c.index_mut-part.ensures.value ∙ part_is)
 
 pub returns-clause-taken : goal.returns-clause-taken
 returns-clause-taken c ls x e =

@@ -1,4 +1,3 @@
-use Rattle.std.proofs.Common.{◌≡◌, map, rules}
 use denote.Param.Send.{sendable}
 use Rattle.sms_send.proofs.driver.drive.work_all.Goals as goal
 

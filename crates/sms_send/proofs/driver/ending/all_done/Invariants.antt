@@ -1,4 +1,4 @@
-use Rattle.std.proofs.Common.{◌≡◌, ◌++◌, List, map, Ok}
+use Rattle.std.proofs.Common.{◌≡◌, ◌++◌, map, Ok}
 use Rattle.std.specs.Vec.Iter.{into_iter_items}
 use Rattle.sms_send.proofs.driver.ending.all_done.Given as goal
 

@@ -1,6 +1,5 @@
-use Rattle.std.proofs.Common.{◌≡◌, ◌+◌, ◌<◌, ◌*◌, ℕ, List, [], ◌∷◌, length, map, rules, arith, refl, sym, ap, ◌∙◌, subst, Vec, Global}
+use Rattle.std.proofs.Common.{◌≡◌, ◌*◌, ℕ, List, length, map, rules, arith, sym, ap, ◌∙◌, subst}
 use Rattle.std.specs.List.{AllZip}
-use Rattle.sms_core.specs.declared.row.Row.{Row}
 use Rattle.sms_book.specs.Name.{BookId}
 use Rattle.sms_book.specs.Portions.{row_at}
 use Rattle.sms_book.specs.Sums.{IsSumOf}
@@ -33,31 +32,31 @@ try_two g c κs held =
 pub conclude-requires-clause-dealt : goal.conclude-requires-clause-dealt
 conclude-requires-clause-dealt g c =
     let ms = c.args.messages.items in
-    let s = c.in_ok-done.ensures.settled ms c.in_ok-hands.ensures.dealt in
+    let s = c.in_ok-over.ensures.settled ms c.in_ok-hands.ensures.dealt in
     let count : c.len-count.result ≡ length ms = omega (arith, c.len-count.ensures) in
-    (s.es, s.long ∙ sym count, s.dealt_is ∙ ap (λ n. dealt n 0 s.es) (sym c.in_ok-done.ensures.all))
+    (s.es, s.long ∙ sym count, s.dealt_is ∙ ap (λ n. dealt n 0 s.es) (sym c.in_ok-over.ensures.all))
 
 pub returns-clause-ends : goal.returns-clause-ends
 returns-clause-ends g c =
     let rules : Rules = c.args.rules.now in
     let ms = c.args.messages.items in
-    let s = c.in_ok-done.ensures.settled ms c.in_ok-hands.ensures.dealt in
+    let s = c.in_ok-over.ensures.settled ms c.in_ok-hands.ensures.dealt in
     let accounts : g.N.BookName.book.accounts ≡ c.args.blank.book.accounts = ap (λ (b : BookId). b.accounts) (sym c.requires.name) in
     let count : c.len-count.result ≡ length ms = omega (arith, c.len-count.ensures) in
-    let all : map (λ (d : WorkerEnd g.row.N.Denot). d.ends.items) c.in_ok-done.done.items ≡ dealt (length c.in_ok-done.done.items) 0 s.es = s.dealt_is ∙ ap (λ n. dealt n 0 s.es) (sym c.in_ok-done.ensures.all) in
+    let all : map (λ (d : WorkerEnd g.row.N.Denot). d.ends.items) c.in_ok-over.over.done.items ≡ dealt (length c.in_ok-over.over.done.items) 0 s.es = s.dealt_is ∙ ap (λ n. dealt n 0 s.es) (sym c.in_ok-over.ensures.all) in
     let e = c.in_ok-ended.ensures.ends s.es (s.long ∙ sym count) all in
-    subst (λ (n : ℕ). AllZip (IsEndOf rules n) ms c.in_ok-ended.ended.0.items) accounts (subst (AllZip (IsEndOf rules g.N.BookName.book.accounts) ms) (sym e) s.ends)
+    subst (λ (n : ℕ). AllZip (IsEndOf rules n) ms c.in_ok-ended.ended.ends.items) accounts (subst (AllZip (IsEndOf rules g.N.BookName.book.accounts) ms) (sym e) s.ends)
 
 pub returns-clause-rows : goal.returns-clause-rows
 returns-clause-rows g c =
     let ms = c.args.messages.items in
     let opened = c.args.blank.credits in
-    let s = c.in_ok-done.ensures.settled ms c.in_ok-hands.ensures.dealt in
+    let s = c.in_ok-over.ensures.settled ms c.in_ok-hands.ensures.dealt in
     let accounts : g.N.BookName.book.accounts ≡ length opened = ap (λ (b : BookId). b.accounts) (sym c.requires.name) ∙ sym c.requires.accounts in
     let count : c.len-count.result ≡ length ms = omega (arith, c.len-count.ensures) in
-    let shares = map (λ (d : WorkerEnd g.row.N.Denot). d.shares) c.in_ok-done.done.items in
-    let all : map (λ (d : WorkerEnd g.row.N.Denot). d.ends.items) c.in_ok-done.done.items ≡ dealt (length c.in_ok-done.done.items) 0 s.es = s.dealt_is ∙ ap (λ n. dealt n 0 s.es) (sym c.in_ok-done.ensures.all) in
-    let rows = c.in_ok-ended.ended.1 in
+    let shares = map (λ (d : WorkerEnd g.row.N.Denot). d.shares) c.in_ok-over.over.done.items in
+    let all : map (λ (d : WorkerEnd g.row.N.Denot). d.ends.items) c.in_ok-over.over.done.items ≡ dealt (length c.in_ok-over.over.done.items) 0 s.es = s.dealt_is ∙ ap (λ n. dealt n 0 s.es) (sym c.in_ok-over.ensures.all) in
+    let rows = c.in_ok-ended.ended.statement in
     let e = c.in_ok-ended.ensures.ends s.es (s.long ∙ sym count) all in
     subst (λ (x : List MessageEnd). AreRows opened ms x rows) (sym e)
     (rows_of opened ms s.es shares rows s.sums (c.in_ok-ended.ensures.accounts ∙ accounts)

@@ -1,15 +1,15 @@
-use Rattle.std.proofs.Common.{◌≡◌, ℕ, List, [], ◌∷◌, ◌++◌, ◌+◌, ◌-◌, ◌<◌, length, refl, sym, ap, ◌∙◌, rules, arith, subst}
+use Rattle.std.proofs.Common.{◌≡◌, ℕ, [], ◌∷◌, ◌+◌, ◌-◌, sym, rules, arith, subst}
 use Rattle.std.specs.List.{AllByRecursion}
 use Rattle.sms_pdu.proofs.Fronts.{AllByRecursion-append}
-use Rattle.sms_window.specs.declared.view.View.{View}
 use Rattle.sms_window.specs.Names.{HasNames}
 use Rattle.sms_window.proofs.Names.{can_split, gave_one}
 use Rattle.sms_send.proofs.driver.seats.split_seats.Goals as goal
 
 pub split-requires-clause-names : goal.split-requires-clause-names
 split-requires-clause-names c =
-    let k = c.requires.names in
-    can_split (k.0 - c.loop-i._i) c.loop-i.keeper.view (let a = k.1 in let b = c.loop-i-test.true in omega arith) (let a = k.2 in omega arith) (c.loop-i.invariant.names k.0 k.1 k.2 k.3)
+    let (n, more, few, has) = c.requires.names in
+    let goes = c.loop-i-test.true in
+    can_split (n - c.loop-i._i) c.loop-i.keeper.view (omega arith) (omega arith) (c.loop-i.invariant.names n more few has)
 
 pub loop-i-preserved : goal.loop-i-preserved
 loop-i-preserved c = record {

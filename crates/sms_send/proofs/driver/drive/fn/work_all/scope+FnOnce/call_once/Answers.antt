@@ -1,4 +1,3 @@
-use Rattle.std.proofs.Common.{rules}
 use denote.Param.Send.{sendable}
 use Rattle.sms_send.proofs.driver.drive.fn.work_all.scope+FnOnce.call_once.Goals as goal
 

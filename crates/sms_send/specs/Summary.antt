@@ -1,0 +1,32 @@
+-- What is told at the end of a sending: how many messages and segments there were, and where the credits stand.
+use Rattle.std.specs.Prelude.{ℕ, ◌-◌, ◌^◌, List, length, min, sum_by}
+use Rattle.sms_core.specs.declared.row.Row.{Row}
+use Rattle.sms_worker.specs.declared.ends.MessageEnd.{MessageEnd}
+use Rattle.sms_worker.specs.declared.ends.MessageResult.{MessageResult}
+use Rattle.sms_worker.specs.declared.ends.MessageResult.TheVariants.{Sent, Refused}
+use Rattle.sms_send.specs.declared.summary.Credits.{Credits}
+use Rattle.sms_send.specs.declared.summary.Summary.{Summary}
+
+-- a sum, and the greatest number of 64 bits where it is more
+abbrev pub capped : ℕ → ℕ
+capped n = min n (2 ^ 64 - 1)
+
+-- how many segments a message was sent as
+abbrev pub segments_of : MessageResult → ℕ
+segments_of (Sent segments) = length segments
+segments_of (Refused refusal) = 0
+
+abbrev pub segments_in : MessageEnd → ℕ
+segments_in end = segments_of end.result
+
+-- the sums of the statement's columns
+abbrev pub credits_of : List Row → Credits
+credits_of rows = record {
+  charged = capped (sum_by (λ row. row.charged) rows);
+  returned = capped (sum_by (λ row. row.returned) rows);
+  reserved = capped (sum_by (λ row. row.reserved) rows);
+}
+
+-- the messages and segments of the report, and these sums
+abbrev pub summary_of : List MessageEnd → List Row → Summary
+summary_of ends rows = record { messages = length ends; segments = capped (sum_by segments_in ends); credits = credits_of rows }

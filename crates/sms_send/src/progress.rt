@@ -1,0 +1,229 @@
+//! What a person sees of a sending on standard error: how far it is, on a terminal, and what it came
+//! to.
+
+use crate::sender::Ended;
+use crate::summary::{EndLine, summary_of};
+use crate::tally::{Tally, WayLine, tally_of};
+use sms_worker::{Clock, Gate, MessageEnd};
+use std::array;
+use std::io::{Eprint, IsTerminal};
+use std::sync::atomic::{AtomicU64, Ordering};
+
+/// How long the line on a terminal stays as it is, in milliseconds.
+const RENEWAL_MS: u64 = 200;
+
+/// How many workers there are at most, in all binds.
+const MOST_WORKERS: usize = 32;
+
+/// What is told of a sending on standard error, beside faults.
+#[derive(Clone, Copy, Debug, PartialEq, Eq)]
+pub enum Telling {
+    Nothing,
+    /// A line at its end.
+    End,
+    /// That, and a line on the way, which is renewed.
+    Way,
+}
+
+impl Telling {
+    /// What is told to a terminal or elsewhere, by someone who was asked to be quiet or wasn't.
+    pub fn new(quiet: bool, terminal: bool) -> Telling {
+        if quiet {
+            Telling::Nothing
+        } else if terminal {
+            Telling::Way
+        } else {
+            Telling::End
+        }
+    }
+}
+
+/// Whether a person sees standard error.
+pub trait Screen {
+    fn is_terminal(&self) -> bool;
+}
+
+impl Screen for HostRuntime {
+    fn is_terminal(&self) -> bool {
+        self.stderr().is_terminal()
+    }
+}
+
+/// Whether it is time, by a word that says when it next is. Of several threads one is told so.
+fn is_due(due_ms: &AtomicU64, now_ms: u64) -> bool {
+    let due = due_ms.load(Ordering::SeqCst);
+    let next = now_ms.saturating_add(RENEWAL_MS);
+    now_ms >= due
+        && due_ms
+            .compare_exchange(due, next, Ordering::SeqCst, Ordering::SeqCst)
+            .is_ok()
+}
+
+/// How far a worker is, and when that is looked at again.
+#[derive(Drop)]
+struct Place {
+    due_ms: AtomicU64,
+    charged: AtomicU64,
+    refused: AtomicU64,
+    unanswered: AtomicU64,
+}
+
+impl Place {
+    fn new() -> Place {
+        Place {
+            due_ms: AtomicU64::new(0),
+            charged: AtomicU64::new(0),
+            refused: AtomicU64::new(0),
+            unanswered: AtomicU64::new(0),
+        }
+    }
+
+    fn put(&self, tally: &Tally) {
+        self.charged.store(tally.charged, Ordering::SeqCst);
+        self.refused.store(tally.refused, Ordering::SeqCst);
+        self.unanswered.store(tally.unanswered, Ordering::SeqCst);
+    }
+
+    fn get(&self) -> Tally {
+        Tally {
+            charged: self.charged.load(Ordering::SeqCst),
+            refused: self.refused.load(Ordering::SeqCst),
+            unanswered: self.unanswered.load(Ordering::SeqCst),
+        }
+    }
+}
+
+/// How far all workers are.
+#[derive(Drop)]
+struct Board {
+    places: [Place; MOST_WORKERS],
+    /// When it is to be shown.
+    due_ms: AtomicU64,
+}
+
+impl Board {
+    fn new(begun_ms: u64) -> Board {
+        Board {
+            places: array::from_fn(|_| Place::new()),
+            due_ms: AtomicU64::new(begun_ms.saturating_add(RENEWAL_MS)),
+        }
+    }
+
+    /// Looks at how far a worker is, where it is time to. Whether this thread is to show it then.
+    fn look(&self, worker: usize, ends: &[MessageEnd], open: usize, now_ms: u64) -> bool {
+        if worker >= MOST_WORKERS {
+            return false;
+        }
+        let place = &self.places[worker];
+        if !is_due(&place.due_ms, now_ms) {
+            return false;
+        }
+        place.put(&tally_of(ends, open));
+        is_due(&self.due_ms, now_ms)
+    }
+
+    /// Looks at what a worker came to.
+    fn look_last(&self, worker: usize, ends: &[MessageEnd]) {
+        if worker < MOST_WORKERS {
+            let place = &self.places[worker];
+            place.put(&tally_of(ends, 0));
+        }
+    }
+
+    /// What has become of all messages.
+    fn total(&self) -> Tally {
+        let mut tally = Tally::none();
+        for place in &self.places {
+            tally = tally.with(&place.get());
+        }
+        tally
+    }
+}
+
+/// The gate of the program, which lets every request pass, and tells how far the workers are.
+#[derive(Drop)]
+pub struct Progress<'r, S, K> {
+    screen: &'r S,
+    clock: &'r K,
+    telling: Telling,
+    /// How many messages there are.
+    all: u64,
+    begun_ms: u64,
+    board: Board,
+}
+
+impl<'r, S: Eprint, K: Clock> Progress<'r, S, K> {
+    /// So many messages are sent from now on.
+    pub fn new(
+        screen: &'r S,
+        clock: &'r K,
+        telling: Telling,
+        messages: usize,
+    ) -> Progress<'r, S, K> {
+        let begun_ms = clock.now_ms();
+        Progress {
+            screen,
+            clock,
+            telling,
+            all: messages as u64,
+            begun_ms,
+            board: Board::new(begun_ms),
+        }
+    }
+
+    /// How long the messages are being sent.
+    fn passed_ms(&self, now_ms: u64) -> u64 {
+        now_ms.saturating_sub(self.begun_ms)
+    }
+
+    /// Writes the line over the one before. It doesn't matter to the sending whether that goes well.
+    fn show(&self, now_ms: u64) {
+        let line = WayLine {
+            tally: self.board.total(),
+            all: self.all,
+            ms: self.passed_ms(now_ms),
+        };
+        let _told = eprint!(self.screen; "\r{line}\x1b[K");
+    }
+
+    /// Clears the line. All threads have ended, and nothing was printed yet.
+    pub fn clear(&self) {
+        if self.telling == Telling::Way {
+            let _told = eprint!(self.screen; "\r\x1b[K");
+        }
+    }
+
+    /// Tells what the sending came to, once its report was printed.
+    pub fn sum_up(&self, ended: &Ended) {
+        if self.telling == Telling::Nothing {
+            return;
+        }
+        let line = EndLine {
+            summary: summary_of(ended.ends(), ended.statement()),
+            ms: self.passed_ms(self.clock.now_ms()),
+        };
+        let _told = eprintln!(self.screen; "{line}");
+    }
+}
+
+impl<'r, S: Eprint, K: Clock> Gate for Progress<'r, S, K> {
+    fn pass(&self, _worker: usize, _number: u32) -> bool {
+        true
+    }
+
+    fn see(&self, worker: usize, ends: &[MessageEnd], open: usize) {
+        if self.telling != Telling::Way {
+            return;
+        }
+        let now_ms = self.clock.now_ms();
+        if self.board.look(worker, ends, open, now_ms) {
+            self.show(now_ms);
+        }
+    }
+
+    fn see_last(&self, worker: usize, ends: &[MessageEnd]) {
+        if self.telling == Telling::Way {
+            self.board.look_last(worker, ends);
+        }
+    }
+}

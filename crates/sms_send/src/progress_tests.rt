@@ -1,0 +1,309 @@
+//! What a person sees of a sending, worked out by hand.
+
+use crate::progress::{Progress, Telling};
+use crate::report_tests::{reply, row, segment};
+use crate::summary::{EndLine, summary_of};
+use crate::tally::{Tally, WayLine, tally_of};
+use sms_book::Statement;
+use sms_pdu::Reply;
+use sms_worker::{Clock, Gate, MessageEnd, MessageRefusal, MessageResult, Outcome, Segments};
+use std::alloc::Global;
+use std::fmt::Display;
+use std::io::Eprint;
+use std::sync::atomic::{AtomicU64, Ordering};
+use std::sync::{Mutex, Wait};
+use std::test::Fail;
+use std::{io, mem};
+
+/// What became of a segment, and its replies.
+type Told<'a> = (Outcome, &'a [Option<Reply>]);
+
+// Adds a message with these segments to the ends.
+fn push_sent(alloc: Global, ends: &mut Vec<MessageEnd>, told: &[Told<'_>]) -> Result<(), Fail> {
+    let mut segments = Vec::new(alloc);
+    for (outcome, replies) in told {
+        segments.push(segment(alloc, *outcome, *replies)?)?;
+    }
+    ends.push(MessageEnd {
+        index: ends.len() as u64,
+        result: MessageResult::Sent(Segments::new(segments)),
+    })?;
+    Ok(())
+}
+
+// Adds a message that was refused to the ends.
+fn push_refused(ends: &mut Vec<MessageEnd>) -> Result<(), Fail> {
+    ends.push(MessageEnd {
+        index: ends.len() as u64,
+        result: MessageResult::Refused(MessageRefusal::NoCredit),
+    })?;
+    Ok(())
+}
+
+#[test]
+fn sums_up_a_sending(rt: HostRuntime) -> Result<(), Fail> {
+    let alloc = rt.alloc();
+    let charged = (Outcome::Charged, [reply(0, b"m1")]);
+    let mut ends = Vec::new(alloc);
+    push_sent(
+        alloc,
+        &mut ends,
+        &[(charged.0, &charged.1), (Outcome::Refused, &[])],
+    )?;
+    push_refused(&mut ends)?;
+    push_sent(alloc, &mut ends, &[(Outcome::Unanswered, &[None])])?;
+    let mut rows = Vec::new(alloc);
+    rows.push(row(9, 4, 3, 2, 1))?;
+    rows.push(row(20, 5, 4, 11, 6))?;
+    let summary = summary_of(ends.as_slice(), &Statement::new(rows));
+    for (ms, wanted) in [
+        (
+            59,
+            "done: messages 3, segments 3, credits charged 13, returned 7, still reserved 7, seconds 0.0",
+        ),
+        (
+            12_399,
+            "done: messages 3, segments 3, credits charged 13, returned 7, still reserved 7, seconds 12.3",
+        ),
+    ] {
+        let line = EndLine { summary, ms };
+        assert_eq!(rt; line.to_string(alloc)?.as_str(), wanted);
+    }
+    Ok(())
+}
+
+#[test]
+fn sums_up_to_the_greatest_number(rt: HostRuntime) -> Result<(), Fail> {
+    let alloc = rt.alloc();
+    let mut rows = Vec::new(alloc);
+    rows.push(row(0, 0, 1, u64::MAX - 1, 0))?;
+    rows.push(row(0, 0, 2, 3, 0))?;
+    rows.push(row(0, 0, 4, 5, 0))?;
+    let summary = summary_of(&[], &Statement::new(rows));
+    let line = EndLine { summary, ms: 1000 };
+    assert_eq!(rt;
+        line.to_string(alloc)?.as_str(),
+        "done: messages 0, segments 0, credits charged 18446744073709551615, returned 0, still reserved 7, seconds 1.0"
+    );
+    Ok(())
+}
+
+// Messages of all kinds: three that are refused or have a segment that is, one that is charged, one
+// without an answer, and three that go on.
+fn all_kinds(alloc: Global) -> Result<Vec<MessageEnd>, Fail> {
+    let throttled = [reply(88, b"")];
+    let taken = [reply(0, b"m1")];
+    let charged = (Outcome::Charged, taken.as_slice());
+    let mut ends = Vec::new(alloc);
+    push_refused(&mut ends)?;
+    push_sent(alloc, &mut ends, &[charged, (Outcome::Refused, &throttled)])?;
+    push_sent(alloc, &mut ends, &[(Outcome::Unsent, &[]), charged])?;
+    push_sent(alloc, &mut ends, &[charged, charged])?;
+    push_sent(
+        alloc,
+        &mut ends,
+        &[
+            (Outcome::Refused, &throttled),
+            (Outcome::Unanswered, &[None]),
+        ],
+    )?;
+    push_sent(alloc, &mut ends, &[(Outcome::Unanswered, &[None])])?;
+    push_sent(alloc, &mut ends, &[(Outcome::Unanswered, &throttled)])?;
+    push_sent(
+        alloc,
+        &mut ends,
+        &[
+            (Outcome::Unanswered, &[None]),
+            charged,
+            (Outcome::Unanswered, &[]),
+        ],
+    )?;
+    Ok(ends)
+}
+
+#[test]
+fn tells_how_far_messages_are(rt: HostRuntime) -> Result<(), Fail> {
+    let ends = all_kinds(rt.alloc())?;
+    // So many segments are open, and so many messages unanswered.
+    for (open, unanswered) in [(0, 2), (1, 1), (2, 0), (3, 0)] {
+        let wanted = Tally {
+            charged: 1,
+            refused: 3,
+            unanswered,
+        };
+        assert_eq!(rt; tally_of(ends.as_slice(), open), wanted);
+    }
+    assert_eq!(rt; tally_of(&[], 0), Tally::none());
+    Ok(())
+}
+
+#[test]
+fn tells_the_rate_and_the_time_left(rt: HostRuntime) -> Result<(), Fail> {
+    let alloc = rt.alloc();
+    let rows: [(u64, u64, u64, u64, u64, &str); 4] = [
+        (
+            0,
+            0,
+            0,
+            500,
+            200,
+            "messages 0 of 500, charged 0, refused 0, unanswered 0, 0 a second",
+        ),
+        // 120 in 2.4 seconds; the other 380 take 7.6.
+        (
+            110,
+            8,
+            2,
+            500,
+            2400,
+            "messages 120 of 500, charged 110, refused 8, unanswered 2, 50 a second, 7 s left",
+        ),
+        (
+            3,
+            0,
+            0,
+            3,
+            400,
+            "messages 3 of 3, charged 3, refused 0, unanswered 0, 7 a second, 0 s left",
+        ),
+        (
+            3,
+            0,
+            0,
+            4,
+            0,
+            "messages 3 of 4, charged 3, refused 0, unanswered 0, 0 a second, 0 s left",
+        ),
+    ];
+    for (charged, refused, unanswered, all, ms, wanted) in rows {
+        let tally = Tally {
+            charged,
+            refused,
+            unanswered,
+        };
+        let line = WayLine { tally, all, ms };
+        assert_eq!(rt; line.to_string(alloc)?.as_str(), wanted);
+    }
+    Ok(())
+}
+
+// A standard error that keeps what is written to it.
+#[derive(Drop)]
+struct Paper<'r, R> {
+    rt: &'r R,
+    alloc: Global,
+    text: Mutex<String>,
+}
+
+impl<'r, R: Wait> Eprint for Paper<'r, R> {
+    fn eprint<D: Display + Drop>(&self, value: D) -> io::Result<()> {
+        let written = value.to_string(self.alloc)?;
+        self.text.lock(self.rt).push_str(written.as_str())?;
+        Ok(())
+    }
+
+    fn eprintln<D: Display + Drop>(&self, value: D) -> io::Result<()> {
+        self.eprint(value)?;
+        self.eprint("\n")
+    }
+}
+
+impl<'r, R: Wait> Paper<'r, R> {
+    fn blank(rt: &'r R, alloc: Global) -> Paper<'r, R> {
+        Paper {
+            rt,
+            alloc,
+            text: Mutex::new(String::new(alloc)),
+        }
+    }
+
+    // What was written since the last call.
+    fn take(&self) -> String {
+        let mut text = self.text.lock(self.rt);
+        mem::replace(&mut *text, String::new(self.alloc))
+    }
+}
+
+// A clock that is set by hand.
+#[derive(Drop)]
+struct Hand {
+    ms: AtomicU64,
+}
+
+impl Clock for Hand {
+    fn now_ms(&self) -> u64 {
+        self.ms.load(Ordering::SeqCst)
+    }
+}
+
+#[test]
+fn renews_the_line_in_turns(rt: HostRuntime) -> Result<(), Fail> {
+    let alloc = rt.alloc();
+    let paper = Paper::blank(&rt, alloc);
+    let clock = Hand {
+        ms: AtomicU64::new(1000),
+    };
+    let progress = Progress::new(&paper, &clock, Telling::Way, 10);
+    let ends = all_kinds(alloc)?;
+    // When a worker is at which place, and what is written then.
+    let steps: [(u64, usize, usize, usize, &str); 7] = [
+        (1100, 0, 5, 1, ""),
+        (
+            1200,
+            1,
+            2,
+            0,
+            "\rmessages 6 of 10, charged 1, refused 5, unanswered 0, 30 a second, 0 s left\x1b[K",
+        ),
+        (1399, 0, 5, 0, ""),
+        (1399, 0, 5, 0, ""),
+        (
+            1400,
+            1,
+            3,
+            0,
+            "\rmessages 8 of 10, charged 1, refused 6, unanswered 1, 20 a second, 0 s left\x1b[K",
+        ),
+        (1400, 2, 1, 0, ""),
+        (1900, 32, 1, 0, ""),
+    ];
+    for (ms, worker, begun, open, wanted) in steps {
+        clock.ms.store(ms, Ordering::SeqCst);
+        let Some(first) = ends.as_slice().get(..begun) else {
+            return Err("no so many ends".into());
+        };
+        progress.see(worker, first, open);
+        assert_eq!(rt; paper.take().as_str(), wanted);
+    }
+    progress.clear();
+    assert_eq!(rt; paper.take().as_str(), "\r\x1b[K");
+    Ok(())
+}
+
+#[test]
+fn is_quiet_in_a_pipe(rt: HostRuntime) -> Result<(), Fail> {
+    let alloc = rt.alloc();
+    let paper = Paper::blank(&rt, alloc);
+    let clock = Hand {
+        ms: AtomicU64::new(0),
+    };
+    let ends = all_kinds(alloc)?;
+    for telling in [Telling::Nothing, Telling::End] {
+        let progress = Progress::new(&paper, &clock, telling, 10);
+        clock.ms.store(5000, Ordering::SeqCst);
+        assert!(rt; progress.pass(0, 1));
+        progress.see(0, ends.as_slice(), 0);
+        progress.see_last(0, ends.as_slice());
+        progress.clear();
+        assert_eq!(rt; paper.take().as_str(), "");
+    }
+    for (quiet, terminal, telling) in [
+        (true, true, Telling::Nothing),
+        (true, false, Telling::Nothing),
+        (false, true, Telling::Way),
+        (false, false, Telling::End),
+    ] {
+        assert_eq!(rt; Telling::new(quiet, terminal), telling);
+    }
+    Ok(())
+}

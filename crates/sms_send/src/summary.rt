@@ -1,0 +1,111 @@
+//! What a person is told at the end of a sending.
+
+ghost use Rattle.std.specs.Prelude.{◌≡◌, ◌+◌, ◌-◌, ◌^◌, length, min, sum_by};
+ghost use Rattle.sms_send.specs.Summary.{capped, credits_of as credits_in, segments_in, summary_of as summary_in};
+
+use sms_book::Statement;
+use sms_core::Row;
+use sms_worker::{MessageEnd, MessageResult};
+use std::fmt;
+
+/// Where the credits of all accounts stand. A sum past 64 bits is the greatest number.
+#[derive(Clone, Copy, Debug, PartialEq, Eq)]
+pub struct Credits {
+    pub charged: u64,
+    pub returned: u64,
+    /// Those of segments that had no answer.
+    pub reserved: u64,
+}
+
+/// How much was sent, and where the credits stand.
+#[derive(Clone, Copy, Debug, PartialEq, Eq)]
+pub struct Summary {
+    pub messages: usize,
+    pub segments: u64,
+    pub credits: Credits,
+}
+
+impl Credits {
+    /// These and an account's.
+    fn with(self, row: &Row) -> Credits
+        ensures charged { result.charged ≡ min (self.charged + row.now.charged) (2 ^ 64 - 1) }
+        ensures returned { result.returned ≡ min (self.returned + row.now.returned) (2 ^ 64 - 1) }
+        ensures reserved { result.reserved ≡ min (self.reserved + row.now.reserved) (2 ^ 64 - 1) }
+    {
+        Credits {
+            charged: self.charged.saturating_add(row.charged),
+            returned: self.returned.saturating_add(row.returned),
+            reserved: self.reserved.saturating_add(row.reserved),
+        }
+    }
+}
+
+/// How many segments the message was sent as.
+fn segments_of(end: &MessageEnd) -> usize
+    ensures { result ≡ segments_in end.now }
+{
+    match &end.result {
+        MessageResult::Sent(segments) => segments.len(),
+        MessageResult::Refused(_) => 0,
+    }
+}
+
+/// How many segments all messages were sent as.
+fn all_segments(ends: &[MessageEnd]) -> u64
+    ensures { result ≡ capped (sum_by segments_in ends.now) }
+{
+    let mut total = 0u64;
+    for end in ends {
+        total = total.saturating_add(segments_of(end) as u64);
+    }
+    total
+}
+
+/// The sums over all accounts.
+fn credits_of(rows: &[Row]) -> Credits
+    ensures { result ≡ credits_in rows.now }
+{
+    let mut credits = Credits {
+        charged: 0,
+        returned: 0,
+        reserved: 0,
+    };
+    for row in rows {
+        credits = credits.with(row);
+    }
+    credits
+}
+
+/// What the report and the statement come to.
+pub fn summary_of(ends: &[MessageEnd], statement: &Statement) -> Summary
+    ensures { result ≡ summary_in ends.now statement.now }
+{
+    Summary {
+        messages: ends.len(),
+        segments: all_segments(ends),
+        credits: credits_of(statement.rows()),
+    }
+}
+
+/// The line that ends a sending.
+#[derive(Clone, Copy, Debug, PartialEq, Eq, Drop)]
+pub struct EndLine {
+    pub summary: Summary,
+    /// How long it took, in milliseconds.
+    pub ms: u64,
+}
+
+impl fmt::Display for EndLine {
+    fn fmt<W: fmt::Write>(&self, f: &mut fmt::Formatter<W>) -> fmt::Result {
+        let (messages, segments) = (self.summary.messages, self.summary.segments);
+        let charged = self.summary.credits.charged;
+        let returned = self.summary.credits.returned;
+        let reserved = self.summary.credits.reserved;
+        let seconds = self.ms / 1000;
+        let tenths = self.ms % 1000 / 100;
+        write!(
+            f,
+            "done: messages {messages}, segments {segments}, credits charged {charged}, returned {returned}, still reserved {reserved}, seconds {seconds}.{tenths}"
+        )
+    }
+}

@@ -1,0 +1,155 @@
+//! How far the messages of a sending are.
+
+use sms_worker::{MessageEnd, MessageResult, Outcome, SegmentEnd};
+use std::fmt;
+
+/// How many messages have ended, and how. One whose segments ended differently is unanswered where
+/// one of them is, else refused where one of them is refused or unsent.
+#[derive(Clone, Copy, Debug, PartialEq, Eq)]
+pub struct Tally {
+    pub charged: u64,
+    pub refused: u64,
+    pub unanswered: u64,
+}
+
+/// How far a segment or a message is.
+#[derive(Clone, Copy, Debug, PartialEq, Eq)]
+enum Standing {
+    /// It waits to be sent, or to be sent again.
+    Waiting,
+    Charged,
+    Refused,
+    /// It was sent and has no answer, or none yet.
+    Unanswered,
+}
+
+impl Tally {
+    /// No message has ended.
+    pub fn none() -> Tally {
+        Tally {
+            charged: 0,
+            refused: 0,
+            unanswered: 0,
+        }
+    }
+
+    /// How many messages have ended.
+    pub fn ended(&self) -> u64 {
+        self.charged
+            .saturating_add(self.refused)
+            .saturating_add(self.unanswered)
+    }
+
+    /// Both together.
+    pub fn with(&self, other: &Tally) -> Tally {
+        Tally {
+            charged: self.charged.saturating_add(other.charged),
+            refused: self.refused.saturating_add(other.refused),
+            unanswered: self.unanswered.saturating_add(other.unanswered),
+        }
+    }
+
+    /// Counts a message.
+    fn count(&mut self, standing: Standing) {
+        match standing {
+            Standing::Waiting => {}
+            Standing::Charged => self.charged = self.charged.saturating_add(1),
+            Standing::Refused => self.refused = self.refused.saturating_add(1),
+            Standing::Unanswered => self.unanswered = self.unanswered.saturating_add(1),
+        }
+    }
+}
+
+/// How far a segment is. While it isn't settled its outcome is `Unanswered`.
+fn segment_standing(segment: &SegmentEnd) -> Standing {
+    match segment.outcome {
+        Outcome::Charged => Standing::Charged,
+        Outcome::Refused | Outcome::Unsent => Standing::Refused,
+        Outcome::Unanswered => match segment.attempts.as_slice().last() {
+            Some(last) if last.reply.is_none() => Standing::Unanswered,
+            _ => Standing::Waiting,
+        },
+    }
+}
+
+/// What two segments of one message come to.
+fn joined(one: Standing, other: Standing) -> Standing {
+    match (one, other) {
+        (Standing::Waiting, _) | (_, Standing::Waiting) => Standing::Waiting,
+        (Standing::Unanswered, _) | (_, Standing::Unanswered) => Standing::Unanswered,
+        (Standing::Refused, _) | (_, Standing::Refused) => Standing::Refused,
+        (Standing::Charged, Standing::Charged) => Standing::Charged,
+    }
+}
+
+/// How far a message is.
+fn message_standing(end: &MessageEnd) -> Standing {
+    let MessageResult::Sent(segments) = &end.result else {
+        return Standing::Refused;
+    };
+    let mut all = Standing::Charged;
+    for segment in segments.as_slice() {
+        all = joined(all, segment_standing(segment));
+    }
+    all
+}
+
+/// What has become of these messages, so many segments of which still wait for an answer. Such a
+/// segment looks like one that had none.
+pub fn tally_of(ends: &[MessageEnd], open: usize) -> Tally {
+    let mut tally = Tally::none();
+    for end in ends {
+        tally.count(message_standing(end));
+    }
+    tally.unanswered = tally.unanswered.saturating_sub(open as u64);
+    tally
+}
+
+/// The line that tells how far a sending is.
+#[derive(Clone, Copy, Debug, PartialEq, Eq, Drop)]
+pub struct WayLine {
+    pub tally: Tally,
+    /// How many messages there are.
+    pub all: u64,
+    /// How long they are being sent, in milliseconds.
+    pub ms: u64,
+}
+
+impl WayLine {
+    /// How many messages ended in a second.
+    fn rate(&self) -> u64 {
+        if self.ms == 0 {
+            return 0;
+        }
+        self.tally.ended().saturating_mul(1000) / self.ms
+    }
+
+    /// In how many seconds the others end at this rate, where one has ended.
+    fn left(&self) -> Option<u64> {
+        let ended = self.tally.ended();
+        if ended == 0 {
+            return None;
+        }
+        let others = self.all.saturating_sub(ended);
+        Some(others.saturating_mul(self.ms) / ended / 1000)
+    }
+}
+
+impl fmt::Display for WayLine {
+    fn fmt<W: fmt::Write>(&self, f: &mut fmt::Formatter<W>) -> fmt::Result {
+        let (ended, all, rate) = (self.tally.ended(), self.all, self.rate());
+        let Tally {
+            charged,
+            refused,
+            unanswered,
+        } = self.tally;
+        write!(
+            f,
+            "messages {ended} of {all}, charged {charged}, refused {refused}, unanswered {unanswered}, {rate} a second"
+        )?;
+        match self.left() {
+            Some(left) => write!(f, ", {left} s left"),
+            None => Ok(()),
+        }
+    }
+}
