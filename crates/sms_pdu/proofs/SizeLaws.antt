@@ -253,7 +253,8 @@ message_id_size_is : (status : ℕ) (id : Option (List ℕ)) → SmRespFits stat
 unfolding message_id_size
 message_id_size_is status None fits = rw (ne_test status fits) refl
 message_id_size_is status (Some id) fits =
-    rw (text_size_is fields.MessageId 65 id fits.0.0 fits.0.1) (ap (λ (k : ℕ). sized_ok k) (omega (arith, length-append {A = ℕ})))
+    let ((clean, short), rest) = fits in
+    rw (text_size_is fields.MessageId 65 id clean short) (ap (λ (k : ℕ). sized_ok k) (omega (arith, length-append {A = ℕ})))
 
 bare_sized : (status : ℕ) (b : Body) (n : ℕ) → body_spelling b ≡ [] → Writable b → BodyFits status b → sized_ok 16 ≡ Ok n → Sized status b n
 bare_sized status b n none writable fits e =

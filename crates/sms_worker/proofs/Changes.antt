@@ -39,10 +39,9 @@ slots-append (x ∷ os) o = ap (λ l. x.slot ∷ l) (slots-append os o)
 pub told_put : (rules : Rules) (before : ℕ) (received : List Reply) (ms : List Message) (es : List MessageEnd) (k p : ℕ) (m : Message) (s : SegmentEnd) → AllTold rules before received ms es → slice_get ms k ≡ Some m
     → IsTold rules before received m p s → AllTold rules before received ms (put es k p s)
 told_put rules before received ms es k p m s others there mine j q m' s' mj at = elim (got_of_put es k p s j q s' at) [
-  | inl h ↦ (let e0 : j ≡ k = h.0 in
-      let e2 : s' ≡ s = h.2 in
+  | inl h ↦ (let (message, part, end) = h in
       let same : m ≡ m' = cc in
-      subst (λ y. IsTold rules before received y q s') same (subst (λ y. IsTold rules before received m q y) (sym e2) (subst (λ y. IsTold rules before received m y s) (sym h.1) mine)))
+      subst (λ y. IsTold rules before received y q s') same (subst (λ y. IsTold rules before received m q y) (sym end) (subst (λ y. IsTold rules before received m y s) (sym part) mine)))
   | inr h ↦ others j q m' s' mj h
 ]
 
@@ -54,11 +53,11 @@ pub ends_put : (rules : Rules) (accounts : ℕ) (ms : List Message) (es : List M
 ends_put rules accounts ms es k p s a = record {
   within = let l = length-put es k p s in let w = a.within in omega arith;
   each = λ j m z mj at.
-      let t = end_of_put es k p s j z at in
-      let old = a.each j m t.0 mj t.1 in
-      elim t.2 [
+      let (end, there, either) = end_of_put es k p s j z at in
+      let old = a.each j m end mj there in
+      elim either [
         | inl same ↦ subst (λ (y : MessageEnd). (y.index ≡ m.index) × IsResultOf rules accounts m y.result) (sym same) old
-        | inr same ↦ subst (λ (y : MessageEnd). (y.index ≡ m.index) × IsResultOf rules accounts m y.result) (sym same) (old.0, result_put rules accounts m t.0.result p s old.1)
+        | inr same ↦ subst (λ (y : MessageEnd). (y.index ≡ m.index) × IsResultOf rules accounts m y.result) (sym same) (old.0, result_put rules accounts m end.result p s old.1)
       ];
 }
 
@@ -231,8 +230,8 @@ grew_at base now ms es k p m s s' o None acc g there at is is' c low = grew_by b
 -- the account of a message that has segments is one of the book's
 pub known_account : (rules : Rules) (accounts : ℕ) (ms : List Message) (es : List MessageEnd) (k p a : ℕ) (m : Message) (s : SegmentEnd) → AreEnds rules accounts ms es → slice_get ms k ≡ Some m → segment_at es k p ≡ Some s → m.account ≡ Some a → a < accounts
 known_account rules accounts ms es k p a m s shape there at acc =
-    let e = end_at es k p s at in
-    known e.0.result e.2 (shape.each k m e.0 there e.1).1
+    let (end, is_there, part) = end_at es k p s at in
+    known end.result part (shape.each k m end there is_there).1
   where
     known : (r : MessageResult) → slice_get (segments_in r) p ≡ Some s → IsResultOf rules accounts m r → a < accounts
     known (Sent ss) at h = subst (IsKnown accounts) acc h.known

@@ -96,10 +96,10 @@ put_twice (e ∷ es) (suc k) p s t = ap (λ l. e ∷ l) (put_twice es k p s t)
 
 pub got_of_put : (es : List MessageEnd) (k p : ℕ) (t : SegmentEnd) (j q : ℕ) (z : SegmentEnd) → segment_at (put es k p t) j q ≡ Some z → ((j ≡ k) × (q ≡ p) × (z ≡ t)) ⊎ (segment_at es j q ≡ Some z)
 got_of_put [] k p t j q z e = inr e
-got_of_put (x ∷ es) zero p t zero q z e = elim (in_got x.result p t q z e) [ inl h ↦ inl (refl, h.0, h.1) | inr h ↦ inr h ]
+got_of_put (x ∷ es) zero p t zero q z e = elim (in_got x.result p t q z e) [ inl h ↦ let (part, end) = h in inl (refl, part, end) | inr h ↦ inr h ]
 got_of_put (x ∷ es) zero p t (suc j) q z e = inr e
 got_of_put (x ∷ es) (suc k) p t zero q z e = inr e
-got_of_put (x ∷ es) (suc k) p t (suc j) q z e = elim (got_of_put es k p t j q z e) [ inl h ↦ inl (ap suc h.0, h.1, h.2) | inr h ↦ inr h ]
+got_of_put (x ∷ es) (suc k) p t (suc j) q z e = elim (got_of_put es k p t j q z e) [ inl h ↦ let (message, part, end) = h in inl (ap suc message, part, end) | inr h ↦ inr h ]
 
 pub length-put : (es : List MessageEnd) (k p : ℕ) (t : SegmentEnd) → length (put es k p t) ≡ length es
 length-put [] k p t = refl

@@ -291,7 +291,8 @@ decision_is_event ms w x p q h st c =
     let reply = c.reply in
     let count = length p.segment.attempts in
     let held = held_named x.name x.is_out x.seat x.slot p.pairs w st.seats c.held.0 c.held.1 in
-    let has : HasMark x.request (Answered c.takes.0.0 reply.number) p.answer (mark_of w x.slot) = subst (λ (s : Slot). HasMark x.request s p.answer (mark_of w x.slot)) c.takes.0.1 st.mark in
+    let ((name, was), emptied) = c.takes in
+    let has : HasMark x.request (Answered name reply.number) p.answer (mark_of w x.slot) = subst (λ (s : Slot). HasMark x.request s p.answer (mark_of w x.slot)) was st.mark in
     let came : has.reply ≡ reply = some_same has.reply reply (sym has.came ∙ c.came) in
     let mark : mark_of w x.slot ≡ Replied x.request reply.number reply.status reply.nack = has.marked ∙ ap (λ (y : Reply). Replied x.request reply.number y.status y.nack) came in
     let after : State = record w { marks = set w.marks x.slot MarkEmpty; requests = changed x.request (answered w.attempts reply.status reply.nack) w.requests } in
@@ -351,7 +352,8 @@ expiry_is_event ms w x p q h st c =
     let worker = x.name x.seat in
     let event = Expire worker x.slot in
     let held = held_named x.name x.is_out x.seat x.slot p.pairs w st.seats c.held.0 c.held.1 in
-    let mark : mark_of w x.slot ≡ MarkOpen x.request c.number = subst (λ (s : Slot). HasMark x.request s p.answer (mark_of w x.slot)) c.expires.0.1 st.mark in
+    let ((name, was), emptied) = c.expires in
+    let mark : mark_of w x.slot ≡ MarkOpen x.request c.number = subst (λ (s : Slot). HasMark x.request s p.answer (mark_of w x.slot)) was st.mark in
     let after : State = record w { marks = set w.marks x.slot MarkEmpty; requests = changed x.request (with_phase phases.Unanswered) w.requests } in
     let steps : Steps w event Done after = (
       none_of (checks w event) (held, (ap (λ (m : Mark). not (is_open m)) mark, tt)),

@@ -72,8 +72,9 @@ no_such_phase false false most s is e h = let both : Refused ≡ Unanswered = sy
 
 pub leaving_is_no_event : LeavingIsNoEvent
 leaving_is_no_event ms w x p q event h st left is =
-    let was = replied_mark x.request p.slot p.answer (mark_of w x.slot) left.takes.0.0 left.number left.takes.0.1 st.mark in
-    let now : mark_of is.after x.slot ≡ MarkEmpty = empty_has x.request q.slot q.answer (mark_of is.after x.slot) left.takes.1 is.stand.mark in
+    let ((name, answered_slot), emptied) = left.takes in
+    let was = replied_mark x.request p.slot p.answer (mark_of w x.slot) name left.number answered_slot st.mark in
+    let now : mark_of is.after x.slot ≡ MarkEmpty = empty_has x.request q.slot q.answer (mark_of is.after x.slot) emptied is.stand.mark in
     not_emptied ms w is.after event x.slot x.request left.number was.0.status was.0.nack h was.1 now
     (λ worker steps.
     let moved = requests_move ms w is.after (Settle worker x.slot) h steps in

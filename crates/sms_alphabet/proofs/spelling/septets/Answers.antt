@@ -28,7 +28,11 @@ returns-in-None-code_of-clause-codable c =
     (spelled_never _ _ _ _ c.in-Some.c c.loop-c.invariant c.in-Some.ensures.steps.0 c.in-None-code_of.ensures)
 
 pub returns-clause-codes : goal.returns-clause-codes
-returns-clause-codes c = spelled_all _ _ _ c.loop-c.invariant c.in-None.ensures.steps.0.0
+returns-clause-codes c =
+    let ((none, ended), more, last) = c.in-None.ensures.steps in
+    spelled_all _ _ _ c.loop-c.invariant none
 
 pub returns-clause-codable : goal.returns-clause-codable
-returns-clause-codable c = codable_as_found _ _ (spelled_all _ _ _ c.loop-c.invariant c.in-None.ensures.steps.0.0)
+returns-clause-codable c =
+    let ((none, ended), more, last) = c.in-None.ensures.steps in
+    codable_as_found _ _ (spelled_all _ _ _ c.loop-c.invariant none)

@@ -7,14 +7,14 @@ use Rattle.sms_bind.proofs.binding.read_answer.Goals as goal
 
 pub returns-clause-answer : goal.returns-clause-answer
 returns-clause-answer g c =
-    let a = c.in-Ok.ensures.answer in
+    let (got, consumed, divided, none) = c.in-Ok.ensures.answer in
     let first = c.in-Ok.read.0 in
     let e : opening c.args.mode (header_at_front first) ≡ Err (c.in-Err-bound._opened, c.in-Err-bound.why) = search rules in
-    (a.0, a.1, subst (Refuses c.args.mode a.0) (sym c.refusal.ensures) (first_refuses c.args.mode c.in-Err-bound._opened a.0 first c.in-Ok.read.2 c.in-Ok.read.1 c.in-Err-bound.why a.2 e))
+    (got, consumed, subst (Refuses c.args.mode got) (sym c.refusal.ensures) (first_refuses c.args.mode c.in-Err-bound._opened got first c.in-Ok.read.2 c.in-Ok.read.1 c.in-Err-bound.why divided e))
 
 pub returns-in-Ok-bound-clause-answer : goal.returns-in-Ok-bound-clause-answer
 returns-in-Ok-bound-clause-answer g c =
-    let a = c.in-Ok.ensures.answer in
+    let (got, consumed, divided, none) = c.in-Ok.ensures.answer in
     let first = c.in-Ok.read.0 in
     let e : opening c.args.mode (header_at_front first) ≡ Ok c.in-Ok-bound.session = search rules in
-    (a.0, a.1, (first, a.2, e))
+    (got, consumed, (first, divided, e))

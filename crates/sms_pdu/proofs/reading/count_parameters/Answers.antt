@@ -9,8 +9,8 @@ loop-rest-init c = counted_none c.args.octets.now
 pub returns-in_err-after : goal.returns-in_err-after
 returns-in_err-after c =
     let some : 0 < length c.loop-rest.rest.now = is_some_length c.is_empty.result _ c.is_empty.ensures c.loop-rest-test.true in
-    let p = err_from_is_err_and c.from_residual.result c.from_residual.ensures.1 in
-    rw (p.1, p.2) (sym (counted_ends c.args.octets.now c.loop-rest.rest.now c.loop-rest.count c.in_err-after.field-0.0 some c.in_err-after.ensures c.loop-rest.invariant))
+    let (fault, is, same) = err_from_is_err_and c.from_residual.result c.from_residual.ensures.1 in
+    rw (is, same) (sym (counted_ends c.args.octets.now c.loop-rest.rest.now c.loop-rest.count c.in_err-after.field-0.0 some c.in_err-after.ensures c.loop-rest.invariant))
 
 pub loop-rest-smaller : goal.loop-rest-smaller
 loop-rest-smaller c =

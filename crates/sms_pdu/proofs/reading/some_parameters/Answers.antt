@@ -9,9 +9,9 @@ use Rattle.sms_pdu.proofs.reading.some_parameters.Goals as goal
 
 pub returns-in_err-tag : goal.returns-in_err-tag
 returns-in_err-tag c =
-    let p = err_from_is_err_and c.from_residual-in_err-tag.result c.from_residual-in_err-tag.ensures.1 in
+    let (fault, is, same) = err_from_is_err_and c.from_residual-in_err-tag.result c.from_residual-in_err-tag.ensures.1 in
     let some : 0 < length c.loop-rest.rest.now = is_some_length c.is_empty.result _ c.is_empty.ensures c.loop-rest-test.true in
-    rw (p.1, p.2) (refused _ (λ params. params) _ _ (ends c.in_err-tag.field-0.0 c.loop-rest.list.items (length c.args.octets.now) c.loop-rest.rest.now (parameters_at c.args.octets.now) some c.loop-rest.invariant.room c.in_err-tag.ensures c.loop-rest.invariant.so_far))
+    rw (is, same) (refused _ (λ params. params) _ _ (ends c.in_err-tag.field-0.0 c.loop-rest.list.items (length c.args.octets.now) c.loop-rest.rest.now (parameters_at c.args.octets.now) some c.loop-rest.invariant.room c.in_err-tag.ensures c.loop-rest.invariant.so_far))
 
 pub loop-rest-smaller : goal.loop-rest-smaller
 loop-rest-smaller c =

@@ -6,4 +6,9 @@ never : IsTrue false → ⊥
 never t = cc
 
 pub returns-in_default : goal.returns-in_default
-returns-in_default c = (λ t. absurd (never t), λ h. absurd (c.source.ensures.bad (search rules) h.0.0 (subst (λ l. IsSource l h.0.0) (sym c.as_str.ensures.value) h.0.1)))
+returns-in_default c = (
+  λ t. absurd (never t),
+  λ h.
+      let ((source, is), rest) = h in
+      absurd (c.source.ensures.bad (search rules) source (subst (λ l. IsSource l source) (sym c.as_str.ensures.value) is)),
+)

@@ -18,7 +18,9 @@ returns-clause-out c =
     let e = c.index_mut-end.result.now in
     let low : k < length es = search rules in
     let there : slice_get es k ≡ Some e = slice_get-get_or es k e low ∙ ap Some (sym c.index_mut-end.ensures.value) in
-    if_some _ (λ (s : SegmentEnd). Takes es k p s (slice_set es k c.take_part.new.end)) c.take_part.result (λ s h. (segment_in es k p e there ∙ h.0, (h.1.0, ap (slice_set es k) h.1.1 ∙ set_is_put es k p e h.1.0 there))) c.take_part.ensures.out
+    if_some _ (λ (s : SegmentEnd). Takes es k p s (slice_set es k c.take_part.new.end)) c.take_part.result (λ s h.
+    let (at, (taken, out)) = h in
+    (segment_in es k p e there ∙ at, (taken, ap (slice_set es k) out ∙ set_is_put es k p e taken there))) c.take_part.ensures.out
 
 pub returns-clause-none : goal.returns-clause-none
 returns-clause-none c =

@@ -13,14 +13,14 @@ use Rattle.sms_bind.proofs.desk.Desk.read.Goals as goal
 
 pub returns-in-Some-clause-reads : goal.returns-in-Some-clause-reads
 returns-in-Some-clause-reads g c =
-    let w = c.in-Some.ensures.went in
+    let (left, went, whole) = c.in-Some.ensures.went in
     let a = c.args.self.now in
     let end : Option Cause = Some c.in-Some.cause in
-    reads_early (Worked a.session end a c.work_all.new.self) (concat c.args.frames.now) w.0 c.args.rest.items [] (g.R.Read.remaining c.args.reader.now.inner) (stretch_of end) w.1 c.in-Some.ensures.early
+    reads_early (Worked a.session end a c.work_all.new.self) (concat c.args.frames.now) left c.args.rest.items [] (g.R.Read.remaining c.args.reader.now.inner) (stretch_of end) went c.in-Some.ensures.early
 
 pub returns-then-is_bad-clause-reads : goal.returns-then-is_bad-clause-reads
 returns-then-is_bad-clause-reads g c =
-    let w = c.in_default.ensures.went in
+    let (left, went, whole) = c.in_default.ensures.went in
     let a = c.args.self.now in
     let b = c.work_all.new.self in
     let s = a.session in
@@ -28,11 +28,11 @@ returns-then-is_bad-clause-reads g c =
     let rest = c.args.rest.items in
     let bad : IsBad rest = search rules in
     let r = g.R.Read.remaining c.args.reader.now.inner in
-    reads_ends (Worked s None a b) (Worked s (Some Lost) a b) (before ++ rest) rest [] r r lost (reads_begun (Worked s None a b) before w.0 rest r w.1 (w.2 refl) c.requires.rest) (λ fs x. worked_ends s (Some Lost) a b fs refl refl x) bad
+    reads_ends (Worked s None a b) (Worked s (Some Lost) a b) (before ++ rest) rest [] r r lost (reads_begun (Worked s None a b) before left rest r went (whole refl) c.requires.rest) (λ fs x. worked_ends s (Some Lost) a b fs refl refl x) bad
 
 pub returns-clause-reads : goal.returns-clause-reads
 returns-clause-reads g c =
-    let w = c.in_default.ensures.went in
+    let (left, went, whole) = c.in_default.ensures.went in
     let a = c.args.self.now in
     let b = c.work_all.new.self in
     let d = c.read_turns.new.self in
@@ -43,7 +43,7 @@ returns-clause-reads g c =
     let r = g.R.Read.remaining c.args.reader.now.inner in
     let u = g.R.Read.remaining c.read_turns.new.reader.inner in
     let one = subst (λ x. Reads (Worked x end b d) rest r u (stretch_of end) []) (c.in_default.ensures.going refl) c.read_turns.ensures.reads in
-    reads_more (Worked s None a b) (Worked s end b d) (Worked s end a d) (before ++ rest) rest [] r r u (stretch_of end) (reads_begun (Worked s None a b) before w.0 rest r w.1 (w.2 refl) c.requires.rest) one (λ fs gs p q. worked_more s end a b d fs gs p q)
+    reads_more (Worked s None a b) (Worked s end b d) (Worked s end a d) (before ++ rest) rest [] r r u (stretch_of end) (reads_begun (Worked s None a b) before left rest r went (whole refl) c.requires.rest) one (λ fs gs p q. worked_more s end a b d fs gs p q)
 
 pub returns-in-Some-clause-turned : goal.returns-in-Some-clause-turned
 returns-in-Some-clause-turned g c =
