@@ -1,7 +1,7 @@
 //! Configs and what they say, and the first faulty key of those that are none.
 
-use crate::fault::Fault;
 use crate::setup::{Setup, setup_of};
+use crate::told::told_of;
 use std::alloc::{AllocError, Global};
 use std::process::Abort;
 use std::test::Fail;
@@ -10,10 +10,9 @@ use std::test::Fail;
 fn said(rt: &impl Abort, alloc: Global, config: &[u8]) -> Result<String, Fail> {
     match setup_of(alloc, config) {
         Ok(setup) => Ok(shown(alloc, &setup)?),
-        Err(Fault::OutOfMemory) => Err(Fail::from(AllocError)),
         Err(fault) => {
             assert_eq!(rt; fault.exit_status(), 1);
-            Ok(fault.to_string(alloc)?)
+            told_of(alloc, fault)
         }
     }
 }

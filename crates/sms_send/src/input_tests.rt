@@ -3,6 +3,7 @@
 use crate::broken::FailingInput;
 use crate::fault::{Fault, Source};
 use crate::input::{Input, read_input};
+use crate::told::told_of;
 use std::alloc::{AllocError, Global};
 use std::process::Abort;
 use std::test::Fail;
@@ -24,10 +25,9 @@ fn said(
 ) -> Result<String, Fail> {
     match read_input(alloc, b"window = 3", accounts, messages, tariff) {
         Ok(input) => Ok(shown(alloc, &input)?),
-        Err(Fault::OutOfMemory) => Err(Fail::from(AllocError)),
         Err(fault) => {
             assert_eq!(rt; fault.exit_status(), 1);
-            Ok(fault.to_string(alloc)?)
+            told_of(alloc, fault)
         }
     }
 }
@@ -189,8 +189,7 @@ fn told(
 ) -> Result<String, Fail> {
     match read_input(alloc, config, accounts, messages, tariff) {
         Ok(_) => Ok(String::from_str(alloc, "none")?),
-        Err(Fault::OutOfMemory) => Err(Fail::from(AllocError)),
-        Err(fault) => Ok(fault.to_string(alloc)?),
+        Err(fault) => told_of(alloc, fault),
     }
 }
 

@@ -60,6 +60,8 @@ mod tally;
 #[cfg(test)]
 mod tests;
 mod text;
+#[cfg(test)]
+mod told;
 mod toml_value;
 #[cfg(test)]
 mod trial;

@@ -3,6 +3,7 @@
 use crate::broken::{FailingInput, FailingOutput};
 use crate::fault::{Fault, Source};
 use crate::plan::run_plan;
+use crate::told::told_of;
 use std::alloc::{AllocError, Global};
 use std::process::Abort;
 use std::test::Fail;
@@ -12,11 +13,10 @@ fn planned(rt: &impl Abort, alloc: Global, input: &[u8], long: bool) -> Result<V
     let mut output = Vec::new(alloc);
     match run_plan(alloc, input, long, &mut output) {
         Ok(status) => assert_eq!(rt; status, 0),
-        Err(Fault::OutOfMemory) => return Err(Fail::from(AllocError)),
         Err(fault) => {
             assert!(rt; output.is_empty());
             assert_eq!(rt; fault.exit_status(), 1);
-            let text = fault.to_string(alloc)?;
+            let text = told_of(alloc, fault)?;
             output.extend_from_slice(text.as_bytes())?;
         }
     }

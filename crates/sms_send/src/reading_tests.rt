@@ -4,6 +4,7 @@ use crate::accounts::read_accounts;
 use crate::broken::FailingInput;
 use crate::fault::Fault;
 use crate::letters::read_messages;
+use crate::told::told_of;
 use std::alloc::{AllocError, Global};
 use std::test::Fail;
 
@@ -17,8 +18,7 @@ const MESSAGES: &[u8] =
 fn told<T: Drop>(alloc: Global, read: Result<T, Fault>) -> Result<String, Fail> {
     match read {
         Ok(_) => Ok(String::from_str(alloc, "no fault")?),
-        Err(Fault::OutOfMemory) => Err(Fail::from(AllocError)),
-        Err(fault) => Ok(fault.to_string(alloc)?),
+        Err(fault) => told_of(alloc, fault),
     }
 }
 

@@ -5,6 +5,7 @@ use crate::do_job;
 use crate::fault::Fault;
 use crate::job::{Job, job_of};
 use crate::replay::run_replay;
+use crate::told::told_of;
 use std::alloc::Global;
 use std::process::Abort;
 use std::test::Fail;
@@ -114,29 +115,36 @@ fn prints_schedules_and_faults(rt: HostRuntime) {
     }
 }
 
+/// The schedule of the tests of broken devices.
+const SCHEDULE: &[u8] = b"world,1,64,3\nclaim,1,0\n";
+
 #[test]
-fn tells_broken_devices(rt: HostRuntime) -> Result<(), Fail> {
-    let schedule = b"world,1,64,3\nclaim,1,0\n";
+fn tells_a_broken_output(rt: HostRuntime) -> Result<(), Fail> {
     // at the first octet, in mid-stream, and when it should go out
     for room in [0, 10, 1000] {
-        let output = run_replay(rt.alloc(), schedule.as_slice(), &mut FailingOutput { room })
+        let fault = run_replay(rt.alloc(), SCHEDULE, &mut FailingOutput { room })
             .err()
             .ok_or("no fault")?;
-        assert_eq!(rt; output.to_string(rt.alloc())?.as_str(), "fault: output");
-        assert_eq!(rt; output.exit_status(), 1);
+        assert_eq!(rt; fault.exit_status(), 1);
+        assert_eq!(rt; told_of(rt.alloc(), fault)?.as_str(), "fault: output");
     }
+    Ok(())
+}
+
+#[test]
+fn tells_a_broken_schedule(rt: HostRuntime) -> Result<(), Fail> {
     for given in [0, 5, 20] {
-        let left = &schedule[..given];
+        let left = &SCHEDULE[..given];
         let mut output = Vec::new(rt.alloc());
-        let input = run_replay(rt.alloc(), FailingInput { left }, &mut output)
+        let fault = run_replay(rt.alloc(), FailingInput { left }, &mut output)
             .err()
             .ok_or("no fault")?;
+        assert!(rt; output.is_empty());
+        assert_eq!(rt; fault.exit_status(), 1);
         assert_eq!(rt;
-            input.to_string(rt.alloc())?.as_str(),
+            told_of(rt.alloc(), fault)?.as_str(),
             "fault: file schedule"
         );
-        assert_eq!(rt; input.exit_status(), 1);
-        assert!(rt; output.is_empty());
     }
     Ok(())
 }
