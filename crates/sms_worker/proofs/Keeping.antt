@@ -6,7 +6,7 @@ use Rattle.sms_pdu.specs.declared.reply.Reply.{Reply}
 use Rattle.sms_segment.specs.declared.part.Part.{Part}
 use Rattle.std.proofs.lemmas.Option.{slice_get-map}
 use Rattle.sms_worker.specs.declared.user_data.UserData.{UserData}
-use Rattle.sms_worker.specs.UserData.{user_data, message_data}
+use Rattle.sms_worker.specs.UserData.{user_data}
 use Rattle.sms_session.specs.declared.policy.Decision.{Decision}
 use Rattle.sms_window.specs.SeatState.{SeatState}
 use Rattle.sms_window.specs.declared.view.View.{View}
@@ -34,7 +34,7 @@ use Rattle.sms_worker.specs.Steps.{GivesUp, Answers, with_outcome, outcome_after
 use Rattle.sms_worker.specs.declared.attempt.Tried.{Tried}
 use Rattle.sms_worker.specs.declared.attempt.Tried.TheVariants.{Sent, Later, Never}
 use Rattle.sms_worker.proofs.Changes.{told_put, ends_put, drew_same, drew_sent, drew_unused, grew_same, grew_settled, credit_held, length-settled, number-settled}
-use Rattle.sms_worker.proofs.Tries.{all_at, all_snoc, all_front, all_map, sent_state}
+use Rattle.sms_worker.proofs.Tries.{all_snoc, all_front, all_map, sent_state}
 use Rattle.sms_worker.proofs.EndLemmas.{get_more, get_last, total_none}
 
 -- one segment end changed, and with it the seat and the share

@@ -12,7 +12,7 @@ use Rattle.sms_core.specs.declared.request.Phase.TheVariants as phases
 use Rattle.sms_core.specs.declared.request.RequestState.{RequestState}
 use Rattle.sms_core.specs.CoreLaws.{MovesMark}
 use Rattle.sms_core.specs.Histories.{Moment, FromStart}
-use Rattle.sms_core.specs.Marks.{opened, replied, settled, expired}
+use Rattle.sms_core.specs.Marks.{opened, replied, expired}
 use Rattle.sms_core.specs.Replies.{is_charge, is_retry}
 use Rattle.sms_core.specs.State.{State, request_of, mark_of}
 use Rattle.sms_core.specs.Steps.{Steps, answered}
@@ -24,9 +24,9 @@ use Rattle.sms_slot.specs.declared.slot.Slot.{Slot}
 use Rattle.sms_slot.specs.declared.slot.Slot.TheVariants.{Answered}
 use Rattle.sms_worker.specs.declared.ends.Outcome.TheVariants.{Charged, Refused, Unanswered}
 use Rattle.sms_worker.specs.declared.ends.SegmentEnd.{SegmentEnd}
-use Rattle.sms_worker.specs.Events.{Parts, Sender, HasMark, HasPhase, StandFor, IsLeft, LeavingIsNoEvent}
+use Rattle.sms_worker.specs.Events.{Parts, HasMark, HasPhase, LeavingIsNoEvent}
 use Rattle.sms_worker.specs.Told.{IsSettled}
-use Rattle.sms_worker.proofs.Events.{empty_has, request_in, some_same, not_sent}
+use Rattle.sms_worker.proofs.Standing.{empty_has, request_in, some_same, not_sent}
 
 replied_mark : (request : ℕ) (slot : Slot) (answer : Option Reply) (mark : Mark) (worker number : ℕ) → slot ≡ Answered worker number → HasMark request slot answer mark
     → (r : Reply) × (mark ≡ Replied request number r.status r.nack)

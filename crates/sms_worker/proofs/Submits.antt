@@ -1,5 +1,5 @@
 -- The submit_sm that is encoded is the one that the rules say.
-use Rattle.std.proofs.Common.{◌≡◌, ℕ, List, []}
+use Rattle.std.proofs.Common.{◌≡◌, ℕ, []}
 use Rattle.sms_pdu.specs.declared.body.Pdu.{Pdu}
 use Rattle.sms_pdu.specs.declared.body.Body.TheVariants.{Submit}
 use Rattle.sms_segment.specs.declared.part.Part.{Part}
