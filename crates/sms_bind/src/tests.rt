@@ -70,8 +70,37 @@ impl Write for Sink {
 }
 
 fn settings_of(alloc: Global, mode: Mode, name: &[u8]) -> Result<Settings, PduError> {
-    let (system_id, password) = (Octets::copy(alloc, name)?, Octets::copy(alloc, b"pw")?);
-    Settings::new(mode, system_id, password, Octets::new(Vec::new(alloc)))
+    let system_id = Octets::copy(alloc, name)?;
+    let password = Octets::copy(alloc, b"pw")?;
+    made_of(mode, system_id, password, Octets::new(Vec::new(alloc)))
+}
+
+fn made_of(
+    mode: Mode,
+    system_id: Octets,
+    password: Octets,
+    system_type: Octets,
+) -> Result<Settings, PduError> {
+    Settings::new(mode, system_id, password, system_type)
+}
+
+// A wire that takes so many octets, which go behind these, and then fails.
+fn wire_to(room: usize, octets: Vec<u8>) -> Wire<Sink> {
+    Wire::new(Tap::new(Sink {
+        room,
+        octets,
+        fails: true,
+    }))
+}
+
+// Binds with number 1 over these devices.
+fn bound_over<R: Read, W: Write>(
+    alloc: Global,
+    reader: &mut Tap<R>,
+    wire: &mut Wire<W>,
+    settings: &Settings,
+) -> Result<Bound, BindFault> {
+    bind(alloc, reader, wire, settings, 1)
 }
 
 fn source_of(idle: u32, octets: &[u8], fails: bool) -> Tap<Source<'_>> {
@@ -92,7 +121,7 @@ fn bound_by(
         panic!(rt; "no settings")
     };
     let mut wire = Wire::new(Tap::new(Vec::<u8>::new(alloc)));
-    bind(alloc, &mut reader, &mut wire, &settings, 1)
+    bound_over(alloc, &mut reader, &mut wire, &settings)
 }
 
 fn frame(alloc: Global, octets: &[u8]) -> Result<Frame, Fail> {
@@ -171,7 +200,7 @@ fn a_bind_and_its_answer(rt: HostRuntime) -> Result<(), Fail> {
     stream.extend_from_slice(&ENQUIRE_LINK[..15])?;
     let mut reader = Tap::new(stream.as_slice());
     let mut wire = Wire::new(Tap::new(Vec::<u8>::new(alloc)));
-    let Ok(bound) = bind(alloc, &mut reader, &mut wire, &settings, 1) else {
+    let Ok(bound) = bound_over(alloc, &mut reader, &mut wire, &settings) else {
         panic!(rt; "not bound")
     };
     let written = wire.into_tap().into_inner();
@@ -232,13 +261,8 @@ fn a_bind_that_can_not_be_written(rt: HostRuntime) -> Result<(), Fail> {
         panic!(rt; "no settings")
     };
     let mut reader = source_of(0, ACCEPTED, false);
-    let sink = Sink {
-        room: 28,
-        octets: Vec::new(alloc),
-        fails: true,
-    };
-    let mut wire = Wire::new(Tap::new(sink));
-    let result = bind(alloc, &mut reader, &mut wire, &settings, 1);
+    let mut wire = wire_to(28, Vec::new(alloc));
+    let result = bound_over(alloc, &mut reader, &mut wire, &settings);
     assert_eq!(rt; result.err(), Some(BindFault::Write));
     assert!(rt; wire.broken());
     Ok(())

@@ -1,7 +1,7 @@
 //! Reads and writes that fail at each octet of what is read and written.
 use super::reader::{bound_as, counts, line_of, read_from, ring_of, want_written};
-use super::{ACCEPTED, BIND, Sink, bound_by, settings_of, source_of};
-use crate::{BindFault, Cause, Tap, Wire, bind};
+use super::{ACCEPTED, BIND, bound_by, bound_over, settings_of, source_of, wire_to};
+use crate::{BindFault, Cause};
 use sms_pdu::Mode;
 use std::test::Fail;
 
@@ -53,13 +53,8 @@ fn a_bind_that_is_cut_at_each_octet(rt: HostRuntime) -> Result<(), Fail> {
     };
     for room in 0..30usize {
         let mut reader = source_of(0, ACCEPTED, false);
-        let sink = Sink {
-            room,
-            octets: Vec::new(alloc),
-            fails: true,
-        };
-        let mut wire = Wire::new(Tap::new(sink));
-        let result = bind(alloc, &mut reader, &mut wire, &settings, 1);
+        let mut wire = wire_to(room, Vec::new(alloc));
+        let result = bound_over(alloc, &mut reader, &mut wire, &settings);
         let whole = room == 29;
         assert_eq!(rt; result.is_ok(), whole);
         assert!(rt; whole || matches!(result, Err(BindFault::Write)));

@@ -3,8 +3,8 @@
 //! there.
 use super::faults::{RESPONSES, STREAM};
 use super::reader::{bound_as, counts};
-use super::{ACCEPTED, BIND, Sink, settings_of, source_of};
-use crate::{BindFault, Cause, Line, Tap, Wire, bind, read_loop};
+use super::{ACCEPTED, BIND, Sink, bound_over, settings_of, source_of, wire_to};
+use crate::{BindFault, Cause, Line, Wire, read_loop};
 use rtrb::RingBuffer;
 use sms_pdu::Mode;
 use sms_session::State;
@@ -15,14 +15,10 @@ use std::sync::atomic::Ordering;
 
 // A wire that needs no memory for its first 100 octets.
 fn wire_of(alloc: Global) -> Option<Wire<Sink>> {
-    let Ok(octets) = Vec::with_capacity(alloc, 100) else {
-        return None;
-    };
-    Some(Wire::new(Tap::new(Sink {
-        room: 100,
-        octets,
-        fails: true,
-    })))
+    match Vec::with_capacity(alloc, 100) {
+        Ok(octets) => Some(wire_to(100, octets)),
+        Err(_) => None,
+    }
 }
 
 // The bind is written whole, or it isn't begun; nothing but memory is named.
@@ -36,7 +32,7 @@ fn memory_of_a_bind(rt: HostRuntime) {
         return;
     };
     let mut reader = source_of(0, ACCEPTED, true);
-    let result = bind(alloc, &mut reader, &mut wire, &settings, 1);
+    let result = bound_over(alloc, &mut reader, &mut wire, &settings);
     assert_eq!(rt; (reader.faults(), wire.broken()), (0, false));
     let is_read = reader.into_inner().octets.is_empty();
     let written = wire.into_tap().into_inner().octets;

@@ -2,8 +2,8 @@
 ghost use Rattle.std.specs.Prelude.{◌≡◌, ◌≤◌};
 ghost use Rattle.sms_core.specs.Limits.{most_slots};
 
-use super::{ACCEPTED, ENQUIRE_LINK, Sink, Source, settings_of, source_of};
-use crate::{Bound, Cause, Line, ReaderEnd, Tap, Wire, bind, read_loop};
+use super::{ACCEPTED, ENQUIRE_LINK, Sink, Source, bound_over, settings_of, source_of, wire_to};
+use crate::{Bound, Cause, Line, ReaderEnd, Tap, Wire, read_loop};
 use rtrb::{Consumer, Producer, RingBuffer};
 use sms_pdu::{BIND_TRANSCEIVER_RESP, BIND_TRANSMITTER_RESP, Framer, Frames, Header, Mode, Reply};
 use sms_session::Opened;
@@ -53,12 +53,7 @@ pub(crate) fn line_of<S: Abort + Wait>(
     for slot in 0..waiting {
         assert_eq!(rt; slots.post(rt, slot, 0, slot + 1), Ok(()));
     }
-    let sink = Sink {
-        room,
-        octets: Vec::new(alloc),
-        fails: true,
-    };
-    let line = Line::new(slots, Wire::new(Tap::new(sink)));
+    let line = Line::new(slots, wire_to(room, Vec::new(alloc)));
     assert!(rt; !line.down.load(Ordering::SeqCst));
     assert!(rt; !line.stop.load(Ordering::SeqCst));
     Ok(line)
@@ -198,7 +193,7 @@ fn bound_with(rt: &impl Abort, alloc: Global, behind: &[u8]) -> Result<Bound, Fa
     stream.extend_from_slice(behind)?;
     let mut reader = source_of(0, stream.as_slice(), false);
     let mut wire = Wire::new(Tap::new(Vec::<u8>::new(alloc)));
-    let Ok(bound) = bind(alloc, &mut reader, &mut wire, &settings, 1) else {
+    let Ok(bound) = bound_over(alloc, &mut reader, &mut wire, &settings) else {
         panic!(rt; "not bound")
     };
     Ok(bound)
