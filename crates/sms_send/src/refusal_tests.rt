@@ -160,22 +160,36 @@ fn an_output_fails_at_each_octet(rt: HostRuntime) -> Result<(), Fail> {
     Ok(())
 }
 
+// A report agrees to the credit, and the status tells whether a segment is open.
+fn want_report(rt: &impl Abort, alloc: Global, said: &Said, topped: u64) {
+    let text = text_of(rt, said);
+    if let Ok(balanced) = is_balanced(alloc, text, topped) {
+        assert!(rt; balanced, "{text}");
+    }
+    let open = count(text, ",unanswered,") != 0;
+    assert_eq!(rt; said.status, if open { 4 } else { 0 });
+}
+
+fn is_bind_fault(said: &Said) -> bool {
+    let fault = said.fault.as_str();
+    fault.starts_with("fault: bind ") && fault.ends_with(" failed") && said.status == 3
+}
+
+fn is_memory_fault(said: &Said) -> bool {
+    said.fault.as_str() == "fault: out of memory" && said.status == 1
+}
+
 /// A whole report that balances, or a fault that names memory or a bind that failed for want of it.
 fn want_report_or_fault(rt: &impl Abort, alloc: Global, said: &Said, topped: u64) {
     if said.fault.is_empty() {
-        let text = text_of(rt, said);
-        if let Ok(balanced) = is_balanced(alloc, text, topped) {
-            assert!(rt; balanced, "{text}");
-        }
-        let open = count(text, ",unanswered,") != 0;
-        assert_eq!(rt; said.status, if open { 4 } else { 0 });
+        want_report(rt, alloc, said, topped);
     } else {
         assert!(rt; said.printed.is_empty());
-        let is_memory = said.fault.as_str() == "fault: out of memory" && said.status == 1;
-        let is_bind = said.fault.as_str().starts_with("fault: bind ")
-            && said.fault.as_str().ends_with(" failed")
-            && said.status == 3;
-        assert!(rt; is_memory || is_bind, "{}", said.fault);
+        assert!(rt;
+            is_memory_fault(said) || is_bind_fault(said),
+            "{}",
+            said.fault
+        );
     }
 }
 

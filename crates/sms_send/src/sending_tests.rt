@@ -1,11 +1,17 @@
 //! Whole sendings: accounts, a tariff, credits that run short, two workers at once, and faults. What is
 //! printed is worked out by hand.
 
-use crate::trial::{OpenGate, PLAIN, REPORT, STATEMENT, Sending, messages_of, send, text_of};
+use crate::trial::{
+    OpenGate, PLAIN, REPORT, STATEMENT, Said, Sending, messages_of, send, sending_of, text_of,
+};
 use sms_worker::Gate;
+use std::alloc::{AllocError, Global};
+use std::process::Abort;
+use std::sync::Wait;
 use std::sync::atomic::{AtomicBool, Ordering};
 use std::test::Fail;
 use std::thread;
+use std::thread::Threads;
 
 /// Messages and who pays for them, and what is reported of both.
 #[derive(Clone, Copy)]
@@ -98,37 +104,38 @@ fn refuses_a_text_that_is_too_long(rt: HostRuntime) -> Result<(), Fail> {
     Ok(())
 }
 
+// This sending ends with this fault and prints nothing.
+fn faults(
+    rt: &(impl AllocGlobal + Abort + Threads + Wait + Sync),
+    sending: &Sending<'_>,
+    fault: &str,
+    status: u8,
+) -> Result<(), Fail> {
+    let said = send(rt, rt.alloc(), sending, &OpenGate)?;
+    assert_eq!(rt; (said.fault.as_str(), said.status), (fault, status));
+    assert!(rt; said.printed.is_empty());
+    Ok(())
+}
+
+// The plain sending by this config.
+fn by_config(config: &str) -> Sending<'_> {
+    sending_of(config, PLAIN.accounts, PLAIN.messages)
+}
+
 /// Nothing is printed where a bind fails or a file is faulty.
 #[test]
 fn prints_nothing_behind_a_fault(rt: HostRuntime) -> Result<(), Fail> {
-    let alloc = rt.alloc();
-    let rows = [
-        ("bind_status = 14", None, "fault: bind 0 refused 14", 3),
-        (
-            "bind_status = 4294967295",
-            None,
-            "fault: bind 0 refused 4294967295",
-            3,
-        ),
-        ("binds = 3", None, "fault: bind 2 failed", 3),
-        (
-            "",
-            Some("prefix,credits\n44,0\n"),
-            "fault: tariff record 2",
-            1,
-        ),
-    ];
-    for (config, tariff, fault, status) in rows {
-        let sending = Sending {
-            config,
-            tariff,
-            ..PLAIN
-        };
-        let said = send(&rt, alloc, &sending, &OpenGate)?;
-        assert_eq!(rt; (said.fault.as_str(), said.status), (fault, status));
-        assert!(rt; said.printed.is_empty());
-    }
-    Ok(())
+    let refused = by_config("bind_status = 14");
+    faults(&rt, &refused, "fault: bind 0 refused 14", 3)?;
+    let most = by_config("bind_status = 4294967295");
+    faults(&rt, &most, "fault: bind 0 refused 4294967295", 3)?;
+    let third = by_config("binds = 3");
+    faults(&rt, &third, "fault: bind 2 failed", 3)?;
+    let priced = Sending {
+        tariff: Some("prefix,credits\n44,0\n"),
+        ..PLAIN
+    };
+    faults(&rt, &priced, "fault: tariff record 2", 1)
 }
 
 /// Two workers and one credit: one message is charged, whichever it is.
@@ -178,28 +185,31 @@ impl Gate for Meeting {
     }
 }
 
+// What two workers say behind a gate that holds each for the other.
+fn met(rt: &(impl AllocGlobal + Threads + Wait + Sync), messages: &str) -> Result<Said, Fail> {
+    let config = "workers = 2\nanswer_ms = 600000";
+    let sending = sending_of(config, "account,credits\nmain,2\n", messages);
+    let gate = Meeting {
+        came: [AtomicBool::new(false), AtomicBool::new(false)],
+    };
+    Ok(send(rt, rt.alloc(), &sending, &gate)?)
+}
+
+// The report on two messages that are charged, and have these ids.
+fn both_charged(alloc: Global, first: &str, second: &str) -> Result<String, AllocError> {
+    format!(in alloc;
+        "{REPORT}0,1,1,charged,0,{first}\n1,1,1,charged,0,{second}\n{STATEMENT}main,2,0,0,2,0\n"
+    )
+}
+
 /// Neither worker's request goes on before the other has one: they work at once.
 #[test]
 fn workers_work_at_once(rt: HostRuntime) -> Result<(), Fail> {
     let alloc = rt.alloc();
-    let messages = messages_of(alloc, "Hi Ho")?;
-    let sending = Sending {
-        config: "workers = 2\nanswer_ms = 600000",
-        accounts: "account,credits\nmain,2\n",
-        messages: messages.as_str(),
-        ..PLAIN
-    };
-    let gate = Meeting {
-        came: [AtomicBool::new(false), AtomicBool::new(false)],
-    };
-    let said = send(&rt, alloc, &sending, &gate)?;
-    let first = format!(in alloc;
-        "{REPORT}0,1,1,charged,0,m1\n1,1,1,charged,0,m2\n{STATEMENT}main,2,0,0,2,0\n"
-    )?;
-    let second = format!(in alloc;
-        "{REPORT}0,1,1,charged,0,m2\n1,1,1,charged,0,m1\n{STATEMENT}main,2,0,0,2,0\n"
-    )?;
+    let said = met(&rt, messages_of(alloc, "Hi Ho")?.as_str())?;
     let text = text_of(&rt, &said);
+    let first = both_charged(alloc, "m1", "m2")?;
+    let second = both_charged(alloc, "m2", "m1")?;
     assert!(rt; text == first.as_str() || text == second.as_str(), "{text}");
     Ok(())
 }

@@ -7,6 +7,7 @@ use crate::job::{Job, job_of};
 use crate::replay::run_replay;
 use crate::told::told_of;
 use std::alloc::Global;
+use std::io::{Read, Write};
 use std::process::Abort;
 use std::test::Fail;
 
@@ -122,9 +123,9 @@ const SCHEDULE: &[u8] = b"world,1,64,3\nclaim,1,0\n";
 fn tells_a_broken_output(rt: HostRuntime) -> Result<(), Fail> {
     // at the first octet, in mid-stream, and when it should go out
     for room in [0, 10, 1000] {
-        let fault = run_replay(rt.alloc(), SCHEDULE, &mut FailingOutput { room })
-            .err()
-            .ok_or("no fault")?;
+        let fault = replay_fault(rt.alloc(), SCHEDULE, &mut FailingOutput { room }).ok_or(
+            "no fault",
+        )?;
         assert_eq!(rt; fault.exit_status(), 1);
         assert_eq!(rt; told_of(rt.alloc(), fault)?.as_str(), "fault: output");
     }
@@ -134,17 +135,7 @@ fn tells_a_broken_output(rt: HostRuntime) -> Result<(), Fail> {
 #[test]
 fn tells_a_broken_schedule(rt: HostRuntime) -> Result<(), Fail> {
     for given in [0, 5, 20] {
-        let left = &SCHEDULE[..given];
-        let mut output = Vec::new(rt.alloc());
-        let fault = run_replay(rt.alloc(), FailingInput { left }, &mut output)
-            .err()
-            .ok_or("no fault")?;
-        assert!(rt; output.is_empty());
-        assert_eq!(rt; fault.exit_status(), 1);
-        assert_eq!(rt;
-            told_of(rt.alloc(), fault)?.as_str(),
-            "fault: file schedule"
-        );
+        stops_at(&rt, &SCHEDULE[..given], "fault: file schedule")?;
     }
     Ok(())
 }
@@ -271,23 +262,30 @@ fn gives_help_and_version(rt: HostRuntime) -> Result<(), Fail> {
     Ok(())
 }
 
+// What a replay of these octets ends with, whose device then fails.
+fn stops_at(rt: &(impl AllocGlobal + Abort), left: &[u8], expected: &str) -> Result<(), Fail> {
+    let mut output = Vec::new(rt.alloc());
+    let fault = replay_fault(rt.alloc(), FailingInput { left }, &mut output).ok_or("no fault")?;
+    assert!(rt; output.is_empty());
+    assert_eq!(rt; fault.exit_status(), 1);
+    assert_eq!(rt; told_of(rt.alloc(), fault)?.as_str(), expected);
+    Ok(())
+}
+
+fn replay_fault<R: Read + Drop, W: Write>(
+    alloc: Global,
+    input: R,
+    output: &mut W,
+) -> Option<Fault> {
+    run_replay(alloc, input, output).err()
+}
+
 /// Behind a faulty record nothing more is read: the device fails there. (That nothing is read
 /// behind one past the limit is a test of the plan, whose limit is the lower one; both files are
 /// read by one function.)
 #[test]
 fn reads_no_further(rt: HostRuntime) -> Result<(), Fail> {
-    let alloc = rt.alloc();
-    let cases: [(&[u8], &str); 3] = [
-        (b"world,0,1,1\n", "fault: schedule record 1"),
-        (b"world,1,1,1\nclaim,1\n", "fault: schedule record 2"),
-        (b"world,1,1,1\nclaim,1,0\n", "fault: file schedule"),
-    ];
-    for (left, expected) in cases {
-        let mut output = Vec::new(alloc);
-        let fault = run_replay(alloc, FailingInput { left }, &mut output)
-            .err()
-            .ok_or("no fault")?;
-        assert_eq!(rt; fault.to_string(alloc)?.as_str(), expected);
-    }
-    Ok(())
+    stops_at(&rt, b"world,0,1,1\n", "fault: schedule record 1")?;
+    stops_at(&rt, b"world,1,1,1\nclaim,1\n", "fault: schedule record 2")?;
+    stops_at(&rt, b"world,1,1,1\nclaim,1,0\n", "fault: file schedule")
 }
