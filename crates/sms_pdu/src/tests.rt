@@ -1,6 +1,7 @@
 //! Tests of the PDUs, by values from outside.
 use super::*;
 use std::alloc::Global;
+use std::process::Abort;
 use std::test::*;
 
 mod bodies;
@@ -35,6 +36,35 @@ fn with_header(alloc: Global, command: u32, status: u32, body: &[u8]) -> Result<
     octets.extend_from_slice(&NUMBER.to_be_bytes())?;
     octets.extend_from_slice(body)?;
     Ok(octets)
+}
+
+// The PDU that these octets spell.
+fn decoded(alloc: Global, octets: &[u8]) -> Result<Pdu, Fail> {
+    Ok(decode(alloc, octets)?)
+}
+
+// What is written of what these octets spell.
+fn written_again(alloc: Global, octets: &[u8]) -> Result<Vec<u8>, Fail> {
+    Ok(laws::encode_of_decode(alloc, octets)?)
+}
+
+// These fields, written behind what is there: how many octets they have.
+fn written(out: &mut Vec<u8>, fields: &PduRef<'_>) -> Result<usize, PduError> {
+    encode_into(out, fields)
+}
+
+fn length_of(fields: &PduRef<'_>) -> Result<usize, PduError> {
+    encoded_length(fields)
+}
+
+// The error is the one that is wanted.
+fn want_error(rt: &impl Abort, error: Option<PduError>, wanted: Option<PduError>) {
+    assert_eq!(rt; error, wanted);
+}
+
+// These octets are those that are wanted.
+fn want_octets(rt: &impl Abort, octets: &[u8], wanted: &[u8]) {
+    assert_eq!(rt; octets, wanted);
 }
 
 // Why these octets spell no PDU, if they spell none.

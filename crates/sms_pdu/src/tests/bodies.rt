@@ -1,7 +1,10 @@
 //! Each kind of body, as chapter 4 of SMPP 3.4 lays it out, made of its fields and read as them.
 
 use super::super::*;
-use super::{ESME, HI, NUMBER, SUBMIT, esme, hi, one_parameter, pdu, with_header};
+use super::{
+    ESME, HI, NUMBER, SUBMIT, decoded, esme, hi, length_of, one_parameter, pdu, want_octets,
+    with_header, written, written_again,
+};
 use std::alloc::Global;
 use std::process::Abort;
 use std::test::*;
@@ -14,8 +17,8 @@ fn written_as(
     fields: &PduRef<'_>,
 ) -> Result<(), Fail> {
     let mut out = Vec::from_slice(alloc, b"before")?;
-    assert_eq!(rt; encoded_length(fields)?, octets.len());
-    assert_eq!(rt; encode_into(&mut out, fields)?, octets.len());
+    assert_eq!(rt; length_of(fields)?, octets.len());
+    assert_eq!(rt; written(&mut out, fields)?, octets.len());
     assert!(rt; out.as_slice().starts_with(b"before"));
     assert_eq!(rt; out.get(6..), Some(octets));
     Ok(())
@@ -33,7 +36,7 @@ fn both_ways(
     let octets = with_header(alloc, command, status, body)?;
     let fields = pdu(status, fields);
     written_as(rt, alloc, octets.as_slice(), &fields)?;
-    let again = laws::encode_of_decode(alloc, octets.as_slice())?;
+    let again = written_again(alloc, octets.as_slice())?;
     assert_eq!(rt; again.as_slice(), octets.as_slice());
     Ok(())
 }
@@ -166,7 +169,7 @@ fn an_owned_pdu(rt: HostRuntime) -> Result<(), Fail> {
 
 // The fields of a submit_sm.
 fn read_sm(alloc: Global, octets: &[u8]) -> Result<Sm, Fail> {
-    match decode(alloc, octets)?.body {
+    match decoded(alloc, octets)?.body {
         Body::Submit(sm) => Ok(sm),
         _ => Err("no submit_sm".into()),
     }
@@ -175,10 +178,10 @@ fn read_sm(alloc: Global, octets: &[u8]) -> Result<Sm, Fail> {
 #[test]
 fn fields_of_a_submit_sm(rt: HostRuntime) -> Result<(), Fail> {
     let sm = read_sm(rt.alloc(), SUBMIT)?;
-    assert_eq!(rt; sm.source_addr.as_slice(), b"12345".as_slice());
-    assert_eq!(rt; sm.dest_addr.as_slice(), b"447700900123".as_slice());
+    want_octets(&rt, sm.source_addr.as_slice(), b"12345");
+    want_octets(&rt, sm.dest_addr.as_slice(), b"447700900123");
     assert_eq!(rt; (sm.source_ton, sm.dest_npi, sm.data_coding), (1, 1, 0));
-    assert_eq!(rt; sm.short_message.as_slice(), b"Hi".as_slice());
+    want_octets(&rt, sm.short_message.as_slice(), b"Hi");
     Ok(())
 }
 
@@ -187,7 +190,7 @@ fn owned_text(alloc: Global, pdu: &Pdu) -> Result<String, Fail> {
 }
 
 fn decoded_text(alloc: Global, octets: &[u8]) -> Result<String, Fail> {
-    let pdu = decode(alloc, octets)?;
+    let pdu = decoded(alloc, octets)?;
     owned_text(alloc, &pdu)
 }
 

@@ -1,7 +1,7 @@
 //! PDUs of 70,000 octets, and of one more.
 
 use super::super::*;
-use super::{decode_error, pdu};
+use super::{decode_error, length_of, pdu, want_error, written, written_again};
 use std::alloc::Global;
 use std::test::*;
 
@@ -35,8 +35,8 @@ fn resp(params: &Params) -> PduRef<'_> {
 fn the_longest_pdu(rt: HostRuntime) -> Result<(), Fail> {
     let params = two_parameters(rt.alloc(), 9_975)?;
     let mut octets = Vec::new(rt.alloc());
-    assert_eq!(rt; encode_into(&mut octets, &resp(&params))?, 70_000);
-    let again = laws::encode_of_decode(rt.alloc(), octets.as_slice())?;
+    assert_eq!(rt; written(&mut octets, &resp(&params))?, 70_000);
+    let again = written_again(rt.alloc(), octets.as_slice())?;
     assert_eq!(rt; again.as_slice(), octets.as_slice());
     Ok(())
 }
@@ -45,11 +45,11 @@ fn the_longest_pdu(rt: HostRuntime) -> Result<(), Fail> {
 fn one_octet_more(rt: HostRuntime) -> Result<(), Fail> {
     let params = two_parameters(rt.alloc(), 9_976)?;
     let field = Field::Whole;
-    let error = encoded_length(&resp(&params)).err();
-    assert_eq!(rt; error, Some(PduError::TooLong { field }));
+    let error = length_of(&resp(&params)).err();
+    want_error(&rt, error, Some(PduError::TooLong { field }));
     let mut octets = Vec::from_slice(rt.alloc(), &[0x00, 0x01, 0x11, 0x71])?;
     octets.resize(70_001, 0)?;
     let error = decode_error(rt.alloc(), octets.as_slice());
-    assert_eq!(rt; error, Some(PduError::BadLength));
+    want_error(&rt, error, Some(PduError::BadLength));
     Ok(())
 }

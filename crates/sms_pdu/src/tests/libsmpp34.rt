@@ -2,6 +2,7 @@
 //! source package, test_pdu/NAME_test.c, print where they are built with that package; NAME stands at each. The fields
 //! are those that the program fills in. The library puts the parameters in the opposite order.
 
+use super::{decoded, want_octets};
 use crate::*;
 use std::alloc::Global;
 use std::process::Abort;
@@ -65,10 +66,6 @@ const BARE: [(&[u8], Command); 5] = [
 
 const NAME: &[u8] = b"Raul Antonio Tremsal";
 
-fn decoded(alloc: Global, octets: &[u8]) -> Result<Pdu, Fail> {
-    Ok(decode(alloc, octets)?)
-}
-
 // The PDU is the first of its library, and is written as these octets again.
 fn is_written(rt: &impl Abort, alloc: Global, pdu: &Pdu, octets: &[u8]) -> Result<(), Fail> {
     assert_eq!(rt; (pdu.status, pdu.number), (0, 1));
@@ -85,12 +82,13 @@ fn read(rt: &impl Abort, alloc: Global, octets: &[u8]) -> Result<Body, Fail> {
     Ok(body)
 }
 
-fn has_params(rt: &impl Abort, params: &Params, told: &[(u16, &[u8])]) {
-    assert_eq!(rt; params.as_slice().len(), told.len());
-    for (param, (tag, value)) in params.as_slice().iter().zip(told) {
-        assert_eq!(rt; param.tag, *tag);
-        assert_eq!(rt; param.value.as_slice(), *value);
-    }
+// The parameter at this place.
+fn has_param(rt: &impl Abort, params: &Params, place: usize, tag: u16, value: &[u8]) {
+    let Some(param) = params.as_slice().get(place) else {
+        panic!(rt; "no parameter {place}")
+    };
+    assert_eq!(rt; param.tag, tag);
+    want_octets(rt, param.value.as_slice(), value);
 }
 
 fn is_bind(rt: &impl Abort, body: &Body, told: Mode, secret: &[u8]) -> Result<(), Fail> {
@@ -98,21 +96,36 @@ fn is_bind(rt: &impl Abort, body: &Body, told: Mode, secret: &[u8]) -> Result<()
         return Err("no bind".into());
     };
     assert_eq!(rt; bind.mode, told);
-    assert_eq!(rt; bind.system_id, b"system_id".as_slice());
-    assert_eq!(rt; bind.password, secret);
-    assert_eq!(rt; bind.system_type, b"syst".as_slice());
+    want_octets(rt, bind.system_id, b"system_id");
+    want_octets(rt, bind.password, secret);
+    want_octets(rt, bind.system_type, b"syst");
     assert_eq!(rt; bind.interface_version, 0x34);
     assert_eq!(rt; (bind.addr_ton, bind.addr_npi), (2, 1));
-    assert_eq!(rt; bind.address_range, b"address_range".as_slice());
+    want_octets(rt, bind.address_range, b"address_range");
     Ok(())
+}
+
+fn reads_bind(
+    rt: &impl Abort,
+    alloc: Global,
+    octets: &[u8],
+    told: Mode,
+    secret: &[u8],
+) -> Result<(), Fail> {
+    let body = read(rt, alloc, octets)?;
+    is_bind(rt, &body, told, secret)
 }
 
 #[test]
 fn binds(rt: HostRuntime) -> Result<(), Fail> {
-    let body = read(&rt, rt.alloc(), BIND_TRANSMITTER)?;
-    is_bind(&rt, &body, Mode::Transmitter, b"pass")?;
-    let body = read(&rt, rt.alloc(), BIND_TRANSCEIVER)?;
-    is_bind(&rt, &body, Mode::Transceiver, b"pas")
+    reads_bind(
+        &rt,
+        rt.alloc(),
+        BIND_TRANSMITTER,
+        Mode::Transmitter,
+        b"pass",
+    )?;
+    reads_bind(&rt, rt.alloc(), BIND_TRANSCEIVER, Mode::Transceiver, b"pas")
 }
 
 fn is_bind_resp(rt: &impl Abort, body: &Body, told: Mode) -> Result<(), Fail> {
@@ -125,17 +138,21 @@ fn is_bind_resp(rt: &impl Abort, body: &Body, told: Mode) -> Result<(), Fail> {
         return Err("no answer to a bind".into());
     };
     assert_eq!(rt; *mode, told);
-    assert_eq!(rt; system_id.as_slice(), b"system_id".as_slice());
-    has_params(rt, params, &[(0x0210, &[0x34])]);
+    want_octets(rt, system_id.as_slice(), b"system_id");
+    assert_eq!(rt; params.as_slice().len(), 1);
+    has_param(rt, params, 0, 0x0210, &[0x34]);
     Ok(())
+}
+
+fn reads_bind_resp(rt: &impl Abort, alloc: Global, octets: &[u8], told: Mode) -> Result<(), Fail> {
+    let body = read(rt, alloc, octets)?;
+    is_bind_resp(rt, &body, told)
 }
 
 #[test]
 fn bind_resps(rt: HostRuntime) -> Result<(), Fail> {
-    let body = read(&rt, rt.alloc(), BIND_TRANSMITTER_RESP)?;
-    is_bind_resp(&rt, &body, Mode::Transmitter)?;
-    let body = read(&rt, rt.alloc(), BIND_TRANSCEIVER_RESP)?;
-    is_bind_resp(&rt, &body, Mode::Transceiver)
+    reads_bind_resp(&rt, rt.alloc(), BIND_TRANSMITTER_RESP, Mode::Transmitter)?;
+    reads_bind_resp(&rt, rt.alloc(), BIND_TRANSCEIVER_RESP, Mode::Transceiver)
 }
 
 // The fields that both messages have alike.
@@ -145,7 +162,15 @@ fn is_message(rt: &impl Abort, sm: &Sm) {
     assert!(rt; sm.schedule.is_empty() && sm.validity.is_empty());
     assert_eq!(rt; (sm.registered, sm.replace), (0, 0));
     assert_eq!(rt; (sm.data_coding, sm.default_msg), (0, 0));
-    assert_eq!(rt; sm.short_message.as_slice(), NAME);
+    want_octets(rt, sm.short_message.as_slice(), NAME);
+}
+
+// The fields in which they differ.
+fn is_between(rt: &impl Abort, sm: &Sm, service: &[u8], source: &[u8], dest_npi: u8, dest: &[u8]) {
+    want_octets(rt, sm.service_type.as_slice(), service);
+    want_octets(rt, sm.source_addr.as_slice(), source);
+    assert_eq!(rt; sm.dest_npi, dest_npi);
+    want_octets(rt, sm.dest_addr.as_slice(), dest);
 }
 
 fn submit_of(body: &Body) -> Result<&Sm, Fail> {
@@ -155,17 +180,20 @@ fn submit_of(body: &Body) -> Result<&Sm, Fail> {
     }
 }
 
+fn is_submit_sm(rt: &impl Abort, body: &Body) -> Result<(), Fail> {
+    let sm = submit_of(body)?;
+    is_message(rt, sm);
+    is_between(rt, sm, b"SMS", b"09000011111", 0, b"1121312309000");
+    assert_eq!(rt; sm.params.as_slice().len(), 2);
+    has_param(rt, &sm.params, 0, 0x0424, NAME);
+    has_param(rt, &sm.params, 1, 0x0204, &[0, 0x24]);
+    Ok(())
+}
+
 #[test]
 fn submit_sm(rt: HostRuntime) -> Result<(), Fail> {
     let body = read(&rt, rt.alloc(), SUBMIT_SM)?;
-    let sm = submit_of(&body)?;
-    is_message(&rt, sm);
-    assert_eq!(rt; sm.service_type.as_slice(), b"SMS".as_slice());
-    assert_eq!(rt; sm.source_addr.as_slice(), b"09000011111".as_slice());
-    assert_eq!(rt; sm.dest_npi, 0);
-    assert_eq!(rt; sm.dest_addr.as_slice(), b"1121312309000".as_slice());
-    has_params(&rt, &sm.params, &[(0x0424, NAME), (0x0204, &[0, 0x24])]);
-    Ok(())
+    is_submit_sm(&rt, &body)
 }
 
 fn deliver_of(body: &Body) -> Result<&Sm, Fail> {
@@ -175,18 +203,21 @@ fn deliver_of(body: &Body) -> Result<&Sm, Fail> {
     }
 }
 
+fn is_deliver_sm(rt: &impl Abort, body: &Body) -> Result<(), Fail> {
+    let sm = deliver_of(body)?;
+    is_message(rt, sm);
+    is_between(rt, sm, b"CMT", b"0900001111", 1, b"0900001111");
+    assert_eq!(rt; sm.params.as_slice().len(), 3);
+    has_param(rt, &sm.params, 0, 0x1501, NAME);
+    has_param(rt, &sm.params, 1, 0x0424, NAME);
+    has_param(rt, &sm.params, 2, 0x0204, &[0, 0x24]);
+    Ok(())
+}
+
 #[test]
 fn deliver_sm(rt: HostRuntime) -> Result<(), Fail> {
     let body = read(&rt, rt.alloc(), DELIVER_SM)?;
-    let sm = deliver_of(&body)?;
-    is_message(&rt, sm);
-    assert_eq!(rt; sm.service_type.as_slice(), b"CMT".as_slice());
-    assert_eq!(rt; sm.source_addr.as_slice(), b"0900001111".as_slice());
-    assert_eq!(rt; sm.dest_npi, 1);
-    assert_eq!(rt; sm.dest_addr.as_slice(), b"0900001111".as_slice());
-    let told: [(u16, &[u8]); 3] = [(0x1501, NAME), (0x0424, NAME), (0x0204, &[0, 0x24])];
-    has_params(&rt, &sm.params, &told);
-    Ok(())
+    is_deliver_sm(&rt, &body)
 }
 
 // The message_id of an answer to a submit_sm, or to a deliver_sm.
@@ -202,13 +233,22 @@ fn id_of(body: &Body, submitted: bool) -> Result<&[u8], Fail> {
     }
 }
 
+fn reads_id(
+    rt: &impl Abort,
+    alloc: Global,
+    octets: &[u8],
+    submitted: bool,
+    id: &[u8],
+) -> Result<(), Fail> {
+    let body = read(rt, alloc, octets)?;
+    want_octets(rt, id_of(&body, submitted)?, id);
+    Ok(())
+}
+
 #[test]
 fn message_ids(rt: HostRuntime) -> Result<(), Fail> {
-    let body = read(&rt, rt.alloc(), SUBMIT_SM_RESP)?;
-    assert_eq!(rt; id_of(&body, true)?, b"88898239379".as_slice());
-    let body = read(&rt, rt.alloc(), DELIVER_SM_RESP)?;
-    assert_eq!(rt; id_of(&body, false)?, b"".as_slice());
-    Ok(())
+    reads_id(&rt, rt.alloc(), SUBMIT_SM_RESP, true, b"88898239379")?;
+    reads_id(&rt, rt.alloc(), DELIVER_SM_RESP, false, b"")
 }
 
 fn bare_command(body: &Body) -> Option<Command> {
@@ -222,11 +262,16 @@ fn bare_command(body: &Body) -> Option<Command> {
     }
 }
 
+fn is_bare(rt: &impl Abort, alloc: Global, octets: &[u8], command: Command) -> Result<(), Fail> {
+    let body = read(rt, alloc, octets)?;
+    assert_eq!(rt; bare_command(&body), Some(command));
+    Ok(())
+}
+
 #[test]
 fn without_a_body(rt: HostRuntime) -> Result<(), Fail> {
     for (octets, command) in BARE {
-        let body = read(&rt, rt.alloc(), octets)?;
-        assert_eq!(rt; bare_command(&body), Some(command));
+        is_bare(&rt, rt.alloc(), octets, command)?;
     }
     Ok(())
 }

@@ -1,7 +1,7 @@
 //! Octets that spell no PDU: each field that ends too early, is too long or isn't what it has to be.
 
 use super::super::*;
-use super::{ESME, HI, decode_error, with_header};
+use super::{ESME, HI, decode_error, want_error, with_header};
 use std::alloc::Global;
 use std::process::Abort;
 use std::test::*;
@@ -35,7 +35,7 @@ fn ends_before(
 ) -> Result<(), Fail> {
     let short = with_letters(alloc, body, at, 0)?;
     let error = error_of(alloc, command, short.as_slice())?;
-    assert_eq!(rt; error, malformed(field));
+    want_error(rt, error, malformed(field));
     Ok(())
 }
 
@@ -53,10 +53,10 @@ fn string(
     ends_before(rt, alloc, command, body, at, field)?;
     let open = with_letters(alloc, body, at, maximum.saturating_sub(1))?;
     let error = error_of(alloc, command, open.as_slice())?;
-    assert_eq!(rt; error, malformed(field));
+    want_error(rt, error, malformed(field));
     let long = with_letters(alloc, body, at, maximum)?;
     let error = error_of(alloc, command, long.as_slice())?;
-    assert_eq!(rt; error, Some(PduError::TooLong { field }));
+    want_error(rt, error, Some(PduError::TooLong { field }));
     Ok(())
 }
 
@@ -123,11 +123,11 @@ fn times(rt: HostRuntime) -> Result<(), Fail> {
     let mut schedule = with_letters(rt.alloc(), HI, 27, 15)?;
     schedule.push(0)?;
     let error = error_of(rt.alloc(), 4, schedule.as_slice())?;
-    assert_eq!(rt; error, malformed(Field::Schedule));
+    want_error(&rt, error, malformed(Field::Schedule));
     let mut validity = with_letters(rt.alloc(), HI, 28, 1)?;
     validity.push(0)?;
     let error = error_of(rt.alloc(), 5, validity.as_slice())?;
-    assert_eq!(rt; error, malformed(Field::Validity));
+    want_error(&rt, error, malformed(Field::Validity));
     Ok(())
 }
 
@@ -142,10 +142,11 @@ fn message_of(alloc: Global, length: u8) -> Result<Option<PduError>, Fail> {
 #[test]
 fn messages_of_254_and_255_octets(rt: HostRuntime) -> Result<(), Fail> {
     let field = Field::ShortMessage;
-    assert_eq!(rt; message_of(rt.alloc(), 254)?, None);
-    assert_eq!(rt;
+    want_error(&rt, message_of(rt.alloc(), 254)?, None);
+    want_error(
+        &rt,
         message_of(rt.alloc(), 255)?,
-        Some(PduError::TooLong { field })
+        Some(PduError::TooLong { field }),
     );
     Ok(())
 }
@@ -161,9 +162,9 @@ fn behind(alloc: Global, command: u32, body: &[u8], more: &[u8]) -> Result<Optio
 fn octets_behind_a_body(rt: HostRuntime) -> Result<(), Fail> {
     let alloc = rt.alloc();
     let rest = malformed(Field::Rest);
-    assert_eq!(rt; behind(alloc, 0x15, b"", b"\x00")?, rest);
-    assert_eq!(rt; behind(alloc, 2, ESME, b"\x00")?, rest);
-    assert_eq!(rt; behind(alloc, 0x8000_0005, b"m\x00", b"\x00")?, rest);
+    want_error(&rt, behind(alloc, 0x15, b"", b"\x00")?, rest);
+    want_error(&rt, behind(alloc, 2, ESME, b"\x00")?, rest);
+    want_error(&rt, behind(alloc, 0x8000_0005, b"m\x00", b"\x00")?, rest);
     Ok(())
 }
 
@@ -172,9 +173,9 @@ fn octets_behind_a_body(rt: HostRuntime) -> Result<(), Fail> {
 fn parameters(rt: HostRuntime) -> Result<(), Fail> {
     let alloc = rt.alloc();
     let params = malformed(Field::Params);
-    assert_eq!(rt; behind(alloc, 4, HI, b"\x02\x10\x00\x01\x34")?, None);
-    assert_eq!(rt; behind(alloc, 4, HI, b"\x02\x10\x00\x02\x34")?, params);
-    assert_eq!(rt; behind(alloc, 4, HI, b"\x02\x10\x00")?, params);
+    want_error(&rt, behind(alloc, 4, HI, b"\x02\x10\x00\x01\x34")?, None);
+    want_error(&rt, behind(alloc, 4, HI, b"\x02\x10\x00\x02\x34")?, params);
+    want_error(&rt, behind(alloc, 4, HI, b"\x02\x10\x00")?, params);
     Ok(())
 }
 
@@ -184,12 +185,12 @@ fn headers(rt: HostRuntime) -> Result<(), Fail> {
     let mut octets = with_header(rt.alloc(), 4, 0, HI)?;
     octets.truncate(51);
     let cut = decode_error(rt.alloc(), octets.as_slice());
-    assert_eq!(rt; cut, Some(PduError::BadLength));
+    want_error(&rt, cut, Some(PduError::BadLength));
     octets.truncate(15);
     let short = decode_error(rt.alloc(), octets.as_slice());
-    assert_eq!(rt; short, Some(PduError::Short));
+    want_error(&rt, short, Some(PduError::Short));
     let unknown = Some(PduError::UnknownCommand);
-    assert_eq!(rt; error_of(rt.alloc(), 0x103, b"")?, unknown);
-    assert_eq!(rt; error_of(rt.alloc(), 0x102, b"")?, unknown);
+    want_error(&rt, error_of(rt.alloc(), 0x103, b"")?, unknown);
+    want_error(&rt, error_of(rt.alloc(), 0x102, b"")?, unknown);
     Ok(())
 }

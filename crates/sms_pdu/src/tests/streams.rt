@@ -7,6 +7,7 @@ ghost use Rattle.std.specs.Io.KnownBytes.{Keeps, WriteAppends};
 use super::{ENQUIRE_LINK, SUBMIT};
 use crate::*;
 use std::io::{self, Error, ErrorKind, Write};
+use std::process::Abort;
 use std::test::*;
 
 #[test]
@@ -72,17 +73,26 @@ fn pieces_of_each_length(rt: HostRuntime) -> Result<(), Fail> {
     Ok(())
 }
 
+// A piece with so many frames and a bad length behind them, or behind what came before.
+fn is_bad_behind(
+    rt: &impl Abort,
+    framer: &mut Framer,
+    piece: &[u8],
+    frames: usize,
+) -> Result<(), Fail> {
+    let fed = framer.feed(piece)?;
+    assert_eq!(rt; fed.frames.len(), frames);
+    assert_eq!(rt; fed.fault, Some(FrameFault::BadLength));
+    Ok(())
+}
+
 #[test]
 fn a_bad_length_ends_the_stream(rt: HostRuntime) -> Result<(), Fail> {
     let mut piece = Vec::from_slice(rt.alloc(), &ENQUIRE_LINK)?;
     piece.extend_from_slice(&[0, 0, 0, 15])?;
     let mut framer = Framer::new(rt.alloc());
-    let fed = framer.feed(&piece)?;
-    assert_eq!(rt; fed.frames.len(), 1);
-    assert_eq!(rt; fed.fault, Some(FrameFault::BadLength));
-    let fed = framer.feed(&ENQUIRE_LINK)?;
-    assert!(rt; fed.frames.is_empty());
-    assert_eq!(rt; fed.fault, Some(FrameFault::BadLength));
+    is_bad_behind(&rt, &mut framer, &piece, 1)?;
+    is_bad_behind(&rt, &mut framer, &ENQUIRE_LINK, 0)?;
     assert_eq!(rt; framer.fault(), Some(FrameFault::BadLength));
     Ok(())
 }
