@@ -8,25 +8,26 @@ use sms_bind::{Receipt, Tap, Wire};
 use sms_book::{Opening, Statement};
 use sms_centre::Fuse;
 use sms_core::Row;
-use sms_pdu::{Body, Frame, Pdu, Reply, encode, reply_of};
+use sms_pdu::{Frame, Reply, is_frame, reply_of};
 use sms_worker::{
     Attempt, Attempts, MessageEnd, MessageRefusal, MessageResult, Outcome, SegmentEnd, Segments,
 };
 use std::alloc::{AllocError, Global};
 use std::test::Fail;
 
+// An enquire_link.
+fn frame(alloc: Global) -> Result<Frame, Fail> {
+    let octets = Vec::from_slice(alloc, b"\0\0\0\x10\0\0\0\x15\0\0\0\0\0\0\0\x01")?;
+    if !is_frame(octets.as_slice()) {
+        return Err("no frame".into());
+    }
+    Ok(Frame::new(octets))
+}
+
 // A receipt of a frame that a wire in memory took.
 fn receipt(alloc: Global) -> Result<Receipt, Fail> {
-    let pdu = Pdu {
-        status: 0,
-        number: 1,
-        body: Body::EnquireLink,
-    };
-    let Ok(octets) = encode(alloc, &pdu) else {
-        return Err(Fail::from(AllocError));
-    };
     let mut wire = Wire::new(Tap::new(Vec::new(alloc)));
-    match wire.send(Frame::new(octets)) {
+    match wire.send(frame(alloc)?) {
         Ok(receipt) => Ok(receipt),
         Err(_) => Err(Fail::from(AllocError)),
     }
