@@ -102,11 +102,25 @@ fn letters(alloc: Global, count: usize) -> Result<String, AllocError> {
     Ok(text)
 }
 
+// One message more, of so many letters.
+fn push_message(
+    alloc: Global,
+    messages: &mut Vec<Message>,
+    index: u64,
+    account: Option<usize>,
+    dest: &str,
+    count: usize,
+) -> Result<(), AllocError> {
+    let text = letters(alloc, count)?;
+    messages.push(message(alloc, index, account, dest, text)?)?;
+    Ok(())
+}
+
 // As many messages of one part.
 fn messages_of(alloc: Global, count: u64) -> Result<Vec<Message>, AllocError> {
     let mut messages = Vec::new(alloc);
     for index in 0..count {
-        messages.push(message(alloc, index, Some(0), "+447700900123", letters(alloc, 1)?)?)?;
+        push_message(alloc, &mut messages, index, Some(0), "+447700900123", 1)?;
     }
     Ok(messages)
 }

@@ -1,7 +1,6 @@
 //! What becomes of a segment by its answers, and what it costs.
 use super::{
-    Case, Done, OK, PLAIN, SILENT, THROTTLED, letters, message, messages_of, run, want_row,
-    want_sent,
+    Case, Done, OK, PLAIN, SILENT, THROTTLED, messages_of, push_message, run, want_row, want_sent,
 };
 use crate::{MessageResult, Outcome};
 use std::process::Abort;
@@ -11,7 +10,7 @@ use std::test::Fail;
 fn both_parts_are_charged(rt: HostRuntime) -> Result<(), Fail> {
     let alloc = rt.alloc();
     let mut messages = Vec::new(alloc);
-    messages.push(message(alloc, 7, Some(0), "447700900123", letters(alloc, 161)?)?)?;
+    push_message(alloc, &mut messages, 7, Some(0), "447700900123", 161)?;
     let done = run(&rt, alloc, PLAIN, messages);
     want_sent(
         &rt,
@@ -103,7 +102,7 @@ fn without_an_answer_credits_stay_reserved(rt: HostRuntime) -> Result<(), Fail> 
 fn a_segment_costs_what_its_prefix_says(rt: HostRuntime) -> Result<(), Fail> {
     let alloc = rt.alloc();
     let mut messages = Vec::new(alloc);
-    messages.push(message(alloc, 0, Some(0), "+46700000000", letters(alloc, 161)?)?)?;
+    push_message(alloc, &mut messages, 0, Some(0), "+46700000000", 161)?;
     let done = run(
         &rt,
         alloc,

@@ -1,7 +1,7 @@
 //! What becomes of messages that can't be sent, or not any more.
 use super::{
-    Case, OK, PLAIN, SILENT, THROTTLED, letters, message, messages_of, run, want_refused, want_row,
-    want_sent,
+    Case, OK, PLAIN, SILENT, THROTTLED, letters, message, messages_of, push_message, run,
+    want_refused, want_row, want_sent,
 };
 use crate::{MessageRefusal, Outcome};
 use std::test::Fail;
@@ -68,13 +68,13 @@ fn numbers_are_used_up(rt: HostRuntime) -> Result<(), Fail> {
 fn messages_are_refused(rt: HostRuntime) -> Result<(), Fail> {
     let alloc = rt.alloc();
     let mut messages = Vec::new(alloc);
-    messages.push(message(alloc, 0, None, "abc", letters(alloc, 1)?)?)?;
-    messages.push(message(alloc, 1, Some(1), "447700900123", letters(alloc, 1)?)?)?;
-    messages.push(message(alloc, 2, Some(0), "abc", letters(alloc, 1)?)?)?;
-    messages.push(message(alloc, 3, Some(0), "+", letters(alloc, 1)?)?)?;
-    messages.push(message(alloc, 4, Some(0), "447700900123", letters(alloc, 39_016)?)?)?;
-    messages.push(message(alloc, 5, Some(0), "447700900123", letters(alloc, 460)?)?)?;
-    messages.push(message(alloc, 6, Some(0), "46700", letters(alloc, 1)?)?)?;
+    push_message(alloc, &mut messages, 0, None, "abc", 1)?;
+    push_message(alloc, &mut messages, 1, Some(1), "447700900123", 1)?;
+    push_message(alloc, &mut messages, 2, Some(0), "abc", 1)?;
+    push_message(alloc, &mut messages, 3, Some(0), "+", 1)?;
+    push_message(alloc, &mut messages, 4, Some(0), "447700900123", 39_016)?;
+    push_message(alloc, &mut messages, 5, Some(0), "447700900123", 460)?;
+    push_message(alloc, &mut messages, 6, Some(0), "46700", 1)?;
     let mut named = message(alloc, 7, Some(0), "447700900123", letters(alloc, 1)?)?;
     named.source = String::from_str(alloc, "TwelveLetter")?;
     messages.push(named)?;

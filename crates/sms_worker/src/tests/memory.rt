@@ -1,7 +1,9 @@
 //! Memory that is refused, one allocation a run (`tools/refuse-memory`): the call is refused whole, or each
 //! message has its end, and the row is what the ends add up to.
 use super::sums::sums;
-use super::{Case, Done, OK, PLAIN, THROTTLED, letters, message, messages_of, row_of, try_run};
+use super::{
+    Case, Done, OK, PLAIN, THROTTLED, message, messages_of, push_message, row_of, try_run,
+};
 use crate::{Message, MessageEnd, MessageRefusal, MessageResult};
 use std::alloc::{AllocError, Global};
 use std::process::Abort;
@@ -27,10 +29,10 @@ fn want_agreement(rt: &impl Abort, done: &Done, messages: usize, credits: u64) {
 // One of two parts, one in UCS2, and one to another prefix.
 fn three_messages(alloc: Global) -> Result<Vec<Message>, AllocError> {
     let mut messages = Vec::new(alloc);
-    messages.push(message(alloc, 7, Some(0), "447700900123", letters(alloc, 161)?)?)?;
+    push_message(alloc, &mut messages, 7, Some(0), "447700900123", 161)?;
     let text = String::from_str(alloc, "\u{436}")?;
     messages.push(message(alloc, 8, Some(0), "447700900123", text)?)?;
-    messages.push(message(alloc, 9, Some(0), "+46700", letters(alloc, 1)?)?)?;
+    push_message(alloc, &mut messages, 9, Some(0), "+46700", 1)?;
     Ok(messages)
 }
 

@@ -3,8 +3,8 @@ ghost use Rattle.std.specs.Prelude.{◌≡◌};
 
 use super::beside::{Beside, line_with_fuse};
 use super::{
-    Case, Done, OK, PLAIN, SILENT, THROTTLED, book_of, letters, message, messages_of, rings_of,
-    row_of, rules_of, run, seats_of, sends, want_row, want_sent,
+    Case, Done, OK, PLAIN, SILENT, THROTTLED, book_of, messages_of, push_message, rings_of, row_of,
+    rules_of, run, seats_of, sends, want_row, want_sent,
 };
 use crate::{MessageEnd, MessageRefusal, MessageResult, Outcome, Rules, Worker};
 use sms_book::{Blank, BookName};
@@ -73,7 +73,7 @@ fn want_parts(
     row: (u64, u64, u64, u64),
 ) -> Result<(), Fail> {
     let mut messages = Vec::new(alloc);
-    messages.push(message(alloc, 70_000, Some(0), "447700900123", letters(alloc, 305)?)?)?;
+    push_message(alloc, &mut messages, 70_000, Some(0), "447700900123", 305)?;
     let case = Case {
         long_reference,
         ..PLAIN
