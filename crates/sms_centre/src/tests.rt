@@ -26,9 +26,22 @@ fn bare(command: u32, status: u32, number: u32) -> [u8; 16] {
     ]
 }
 
+// The script that this text says.
+fn script_of(alloc: Global, text: &str) -> Result<Script, Fail> {
+    match Script::read(alloc, text) {
+        Ok(script) => Ok(script),
+        Err(_) => Err("no script".into()),
+    }
+}
+
+// The script of a centre that says yes to all.
+fn good(alloc: Global) -> Result<Script, Fail> {
+    script_of(alloc, "answers = [\"status 0\"]")
+}
+
 // What the centre of a script writes to this input, and how it ends.
 fn served(alloc: Global, script: &str, input: &[u8]) -> Result<(Vec<u8>, ServeEnd), Fail> {
-    let script = Script::read(alloc, script).map_err(|_| Fail::from("no script"))?;
+    let script = script_of(alloc, script)?;
     let mut reader = input;
     let mut out = Vec::<u8>::new(alloc);
     let end = serve(alloc, &mut reader, &mut out, script, 10);
@@ -38,36 +51,36 @@ fn served(alloc: Global, script: &str, input: &[u8]) -> Result<(Vec<u8>, ServeEn
 #[test]
 fn a_submit_and_its_answer(rt: HostRuntime) -> Result<(), Fail> {
     let alloc = rt.alloc();
-    let script = Script::read(alloc, "answers = [\"status 0\"]\n").map_err(|_| Fail::from(
-        "script",
-    ))?;
-    let mut centre = Centre::new(alloc, script)?;
+    let mut centre = Centre::new(alloc, good(alloc)?)?;
     let mut octets = Vec::new(alloc);
     octets.extend_from_slice(SUBMIT)?;
     let pieces = centre.answer(alloc, &Frame::new(octets))?;
     assert_eq!(rt; pieces.len(), 1);
     assert_eq!(rt; pieces[0].as_slice(), ANSWER.as_slice());
     assert_eq!(rt; centre.submits(), 1);
+    Ok(())
+}
+
+// The script of a list of answers.
+fn script_with(alloc: Global, answers: &[String]) -> Result<Script, Fail> {
+    match Script::of(alloc, 0, answers) {
+        Ok(script) => Ok(script),
+        Err(_) => Err("no script".into()),
+    }
+}
+
+#[test]
+fn a_list_of_answers(rt: HostRuntime) -> Result<(), Fail> {
+    let alloc = rt.alloc();
     let mut answers = Vec::new(alloc);
     answers.push(String::from_str(alloc, "status 0")?)?;
-    let script = Script::of(alloc, 0, answers.as_slice()).map_err(|_| Fail::from("script"))?;
+    let script = script_with(alloc, answers.as_slice())?;
     let mut reader = SUBMIT.as_slice();
     let mut out = Vec::<u8>::new(alloc);
     let end = serve(alloc, &mut reader, &mut out, script, 10);
-    assert_eq!(rt;
-        end,
-        ServeEnd {
-            submits: 1,
-            cause: Cause::Ended
-        }
-    );
+    assert_eq!(rt; (end.submits, end.cause), (1, Cause::Ended));
     assert_eq!(rt; out.as_slice(), ANSWER.as_slice());
-    answers.clear();
-    assert!(rt;
-        matches!(
-            Script::of(alloc, 0, answers.as_slice()),
-            Err(ScriptError::BadKey)
-        )
-    );
+    let none = Script::of(alloc, 0, &[]);
+    assert!(rt; matches!(none, Err(ScriptError::BadKey)));
     Ok(())
 }

@@ -1,6 +1,6 @@
 //! The pipe, from both ends, and the fuse.
-use super::{ANSWER, SUBMIT};
-use crate::{Cause, Fuse, Pipe, Script, ServeEnd, serve};
+use super::{ANSWER, SUBMIT, good};
+use crate::{Cause, Fuse, Pipe, ServeEnd, serve};
 use std::io::{ErrorKind, Read, Write};
 use std::test::Fail;
 
@@ -34,7 +34,7 @@ fn both_ends_of_a_pipe(rt: HostRuntime) -> Result<(), Fail> {
 #[test]
 fn a_centre_behind_pipes(rt: HostRuntime) -> Result<(), Fail> {
     let alloc = rt.alloc();
-    let script = Script::read(alloc, "answers = [\"status 0\"]").map_err(|_| Fail::from("script"))?;
+    let script = good(alloc)?;
     let there = Pipe::new(alloc, 100)?;
     let back = Pipe::new(alloc, 100)?;
     assert!(rt; matches!(there.end(&rt).write(SUBMIT), Ok(52)));

@@ -1,7 +1,6 @@
 //! How serving ends, and what is written then.
-use super::{ANSWER, SUBMIT, bare, served};
-use crate::{Cause, Fuse, Script, ServeEnd, serve};
-use std::alloc::Global;
+use super::{ANSWER, SUBMIT, bare, good, served};
+use crate::{Cause, Fuse, ServeEnd, serve};
 use std::io;
 use std::io::{Error, ErrorKind, Read, Write};
 use std::test::Fail;
@@ -41,10 +40,6 @@ impl Write for Counter {
     fn flush(&mut self) -> io::Result<()> {
         Ok(())
     }
-}
-
-fn good(alloc: Global) -> Result<Script, Fail> {
-    Script::read(alloc, "answers = [\"status 0\"]").map_err(|_| Fail::from("no script"))
 }
 
 #[test]
