@@ -75,6 +75,7 @@ fn settings_of(alloc: Global, mode: Mode, name: &[u8]) -> Result<Settings, PduEr
     made_of(mode, system_id, password, Octets::new(Vec::new(alloc)))
 }
 
+// What settings are made of these, or why none are.
 fn made_of(
     mode: Mode,
     system_id: Octets,
