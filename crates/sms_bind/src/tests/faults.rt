@@ -3,6 +3,9 @@ use super::reader::{bound_as, counts, line_of, read_from, ring_of, want_written}
 use super::{ACCEPTED, BIND, bound_by, bound_over, settings_of, source_of, wire_to};
 use crate::{BindFault, Cause};
 use sms_pdu::Mode;
+use std::alloc::Global;
+use std::process::Abort;
+use std::sync::Wait;
 use std::test::Fail;
 
 // An enquire_link, an answer, a deliver_sm, another answer and an unbind.
@@ -67,12 +70,35 @@ fn a_bind_that_is_cut_at_each_octet(rt: HostRuntime) -> Result<(), Fail> {
     Ok(())
 }
 
+// Reads so many octets of STREAM, over a writer with room for so many, and wants this cause, these
+// numbers of answers and of receipts, and so many octets of the responses.
+fn want_end<S: Abort + Wait>(
+    rt: &S,
+    alloc: Global,
+    octets: usize,
+    room: usize,
+    (cause, answered, delivered, written): (Cause, u64, u64, usize),
+) -> Result<(), Fail> {
+    let line = line_of(rt, alloc, room, 2)?;
+    let (producers, mut consumer) = ring_of(alloc, 64)?;
+    let source = source_of(0, &STREAM[..octets.min(80)], true);
+    let bound = bound_as(rt, alloc, Mode::Transceiver);
+    let end = read_from(rt, alloc, source, bound, producers, &line);
+    assert_eq!(rt; end.cause, cause);
+    assert_eq!(rt; counts(&end), [answered, 0, 0, delivered, 0, 0, 0]);
+    for _ in 0..answered {
+        assert!(rt; consumer.pop().is_ok());
+    }
+    assert!(rt; consumer.pop().is_err());
+    want_written(rt, line, &RESPONSES[..written.min(49)]);
+    Ok(())
+}
+
 // The reader fails at each octet: what was whole before is worked, and nothing else.
 #[test]
 fn a_reader_that_fails_at_each_octet(rt: HostRuntime) -> Result<(), Fail> {
-    let alloc = rt.alloc();
     for octets in 0..81usize {
-        let (cause, answered, delivered, written) = match octets / 16 {
+        let wanted = match octets / 16 {
             0 => (Cause::ReadFault, 0, 0, 0),
             1 => (Cause::ReadFault, 0, 0, 16),
             2 => (Cause::ReadFault, 1, 0, 16),
@@ -80,18 +106,7 @@ fn a_reader_that_fails_at_each_octet(rt: HostRuntime) -> Result<(), Fail> {
             4 => (Cause::ReadFault, 2, 1, 33),
             _ => (Cause::Unbound, 2, 1, 49),
         };
-        let line = line_of(&rt, alloc, 1000, 2)?;
-        let (producers, mut consumer) = ring_of(alloc, 64)?;
-        let source = source_of(0, &STREAM[..octets], true);
-        let bound = bound_as(&rt, alloc, Mode::Transceiver);
-        let end = read_from(&rt, alloc, source, bound, producers, &line);
-        assert_eq!(rt; end.cause, cause);
-        assert_eq!(rt; counts(&end), [answered, 0, 0, delivered, 0, 0, 0]);
-        for _ in 0..answered {
-            assert!(rt; consumer.pop().is_ok());
-        }
-        assert!(rt; consumer.pop().is_err());
-        want_written(&rt, line, &RESPONSES[..written.min(49)]);
+        want_end(&rt, rt.alloc(), octets, 1000, wanted)?;
     }
     Ok(())
 }
@@ -100,26 +115,14 @@ fn a_reader_that_fails_at_each_octet(rt: HostRuntime) -> Result<(), Fail> {
 // is out.
 #[test]
 fn a_writer_that_fails_at_each_octet(rt: HostRuntime) -> Result<(), Fail> {
-    let alloc = rt.alloc();
     for room in 0..50usize {
-        let (cause, answered, delivered) = match room {
-            0..16 => (Cause::WriteFault, 0, 0),
-            16..33 => (Cause::WriteFault, 1, 1),
-            33..49 => (Cause::WriteFault, 2, 1),
-            _ => (Cause::Unbound, 2, 1),
+        let wanted = match room {
+            0..16 => (Cause::WriteFault, 0, 0, room),
+            16..33 => (Cause::WriteFault, 1, 1, room),
+            33..49 => (Cause::WriteFault, 2, 1, room),
+            _ => (Cause::Unbound, 2, 1, 49),
         };
-        let line = line_of(&rt, alloc, room, 2)?;
-        let (producers, mut consumer) = ring_of(alloc, 64)?;
-        let source = source_of(0, STREAM, true);
-        let bound = bound_as(&rt, alloc, Mode::Transceiver);
-        let end = read_from(&rt, alloc, source, bound, producers, &line);
-        assert_eq!(rt; end.cause, cause);
-        assert_eq!(rt; counts(&end), [answered, 0, 0, delivered, 0, 0, 0]);
-        for _ in 0..answered {
-            assert!(rt; consumer.pop().is_ok());
-        }
-        assert!(rt; consumer.pop().is_err());
-        want_written(&rt, line, &RESPONSES[..room.min(49)]);
+        want_end(&rt, rt.alloc(), 80, room, wanted)?;
     }
     Ok(())
 }
