@@ -34,7 +34,7 @@ record-takes cfg s fields field (c ∷ xs) p e =
         inl (omega arith)
     by false h q more = elim (more (rw h at q)) [
       | inl less ↦ inl (omega arith)
-      | inr end ↦ let none : length p.2 ≡ 0 = ap length end.1 in inl (omega arith)
+      | inr end ↦ let (_, empty) = end in let none : length p.2 ≡ 0 = ap length empty in inl (omega arith)
     ]
 
 -- no record is left at the end of a text between records
@@ -57,7 +57,7 @@ far-enough (suc n) (suc m) s xs a b = by (next_record default_config s [] [] xs)
     by None e more = rw e refl
     by (Some p) e more = rw e (ap (λ (rest : List Record). p.0 ∷ rest) (elim (record-takes default_config s [] [] xs p e) [
       | inl less ↦ more p (omega arith) (omega arith)
-      | inr end ↦ rw (end.0, end.1) (none-left n ∙ sym (none-left m))
+      | inr end ↦ let (begun, empty) = end in rw (begun, empty) (none-left n ∙ sym (none-left m))
     ]))
 
 after-read : (s : State) (xs : List ℕ) (o : Option Read) (found : Bool) (fields : Record) (s2 : State) (ys : List ℕ)
@@ -71,7 +71,7 @@ after-read s xs (Some p) found fields s2 ys e (is_found, fields_are, state_is, r
       fields_are,
       rw (state_is, rest_is) (ap Some (elim (record-takes default_config s [] [] xs p e) [
         | inl less ↦ far-enough (length p.2 + 1) (length xs) p.1 p.2 (omega arith) (omega arith)
-        | inr end ↦ rw (end.0, end.1) (none-left (length {A = ℕ} [] + 1) ∙ sym (none-left (length xs)))
+        | inr end ↦ let (begun, empty) = end in rw (begun, empty) (none-left (length {A = ℕ} [] + 1) ∙ sym (none-left (length xs)))
       ])),
     )
 
@@ -93,6 +93,6 @@ pub first-left : {R : Type 0} (remaining : R → Option (List ℕ)) (a b : Reade
     → a.config ≡ default_config → ReadRecord remaining a b found fields
     → IfSome (records_left remaining a) (λ left. GivesFirst left found fields (records_left remaining b))
 first-left remaining a b found fields plain r =
-    let begun = r.1 in
+    let (read, begun, _, _, _, _) = r in
     let after : source_of remaining b ≡ pending_of (remaining b.rdr) b = rw begun refl in
-    from-source remaining a b (source_of remaining a) (pending_of (remaining b.rdr) b) found fields refl after (rw plain at r.0)
+    from-source remaining a b (source_of remaining a) (pending_of (remaining b.rdr) b) found fields refl after (rw plain at read)
