@@ -37,17 +37,8 @@ impl Octets {
                 octets: Vec::new(alloc),
             });
         }
-        Octets::allocated(alloc, octets)
-    }
-
-    /// A copy of these octets, in one allocation.
-    #[inline(never)]
-    fn allocated(alloc: Global, octets: &[u8]) -> Result<Octets, AllocError>
-        ensures { IfOk result (λ copy. copy ≡ octets.now) }
-    {
-        let mut copy = Vec::with_capacity(alloc, octets.len())?;
-        copy.extend_from_slice(octets)?;
-        Ok(Octets { octets: copy })
+        let octets = Vec::from_slice(alloc, octets)?;
+        Ok(Octets { octets })
     }
 
     /// How many octets there are.
