@@ -69,9 +69,13 @@ impl Write for Sink {
     }
 }
 
+fn string_of(alloc: Global, octets: &[u8]) -> Result<Octets, PduError> {
+    Ok(Octets::copy(alloc, octets)?)
+}
+
 fn settings_of(alloc: Global, mode: Mode, name: &[u8]) -> Result<Settings, PduError> {
-    let system_id = Octets::copy(alloc, name)?;
-    let password = Octets::copy(alloc, b"pw")?;
+    let system_id = string_of(alloc, name)?;
+    let password = string_of(alloc, b"pw")?;
     made_of(mode, system_id, password, Octets::new(Vec::new(alloc)))
 }
 

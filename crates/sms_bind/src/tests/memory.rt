@@ -10,15 +10,14 @@ use sms_pdu::Mode;
 use sms_session::State;
 use sms_slot::SlotRow;
 use sms_window::Window;
-use std::alloc::Global;
+use std::alloc::{AllocError, Global};
+use std::process::Abort;
 use std::sync::atomic::Ordering;
 
 // A wire that needs no memory for its first 100 octets.
-fn wire_of(alloc: Global) -> Option<Wire<Sink>> {
-    match Vec::with_capacity(alloc, 100) {
-        Ok(octets) => Some(wire_to(100, octets)),
-        Err(_) => None,
-    }
+fn wire_of(alloc: Global) -> Result<Wire<Sink>, AllocError> {
+    let octets = Vec::with_capacity(alloc, 100)?;
+    Ok(wire_to(100, octets))
 }
 
 // The bind is written whole, or it isn't begun; nothing but memory is named.
@@ -28,7 +27,7 @@ fn memory_of_a_bind(rt: HostRuntime) {
     let Ok(settings) = settings_of(alloc, Mode::Transmitter, b"esme") else {
         return;
     };
-    let Some(mut wire) = wire_of(alloc) else {
+    let Ok(mut wire) = wire_of(alloc) else {
         return;
     };
     let mut reader = source_of(0, ACCEPTED, true);
@@ -50,11 +49,33 @@ fn memory_of_a_bind(rt: HostRuntime) {
     }
 }
 
+// What a reader counts that ended so, and how many octets of the responses are written then: both
+// answers and the note were worked, and of the three responses one at the most wasn't written; or
+// nothing was worked.
+fn all_or_nothing(cause: Cause, unreplied: u64, written: usize) -> ([u64; 7], bool) {
+    match (cause, unreplied) {
+        (Cause::Unbound, 0) => ([2, 0, 0, 1, 0, 0, 0], written == 49),
+        (Cause::Unbound, _) => ([2, 0, 0, 1, 0, 0, 1], written == 33 || written == 32),
+        _ => (
+            [0, 0, 0, 0, 0, 0, 0],
+            cause == Cause::OutOfMemory && written == 0,
+        ),
+    }
+}
+
+fn want_all_or_nothing(rt: &impl Abort, cause: Cause, said: [u64; 7], written: &[u8]) {
+    let [.., unreplied] = said;
+    let (wanted, is_long) = all_or_nothing(cause, unreplied, written.len());
+    assert_eq!(rt; said, wanted);
+    assert!(rt; is_long);
+    assert!(rt; written.len() < 49 || written == RESPONSES.as_slice());
+}
+
 // All is worked but for one response, or nothing is; the ring and the seat come back.
 #[test]
 fn memory_of_a_reader(rt: HostRuntime) {
     let alloc = rt.alloc();
-    let (Ok(slots), Some(wire)) = (SlotRow::new(alloc), wire_of(alloc)) else {
+    let (Ok(slots), Ok(wire)) = (SlotRow::new(alloc), wire_of(alloc)) else {
         return;
     };
     assert!(rt; slots.post(&rt, 0, 0, 1).is_ok() && slots.post(&rt, 1, 0, 2).is_ok());
@@ -97,22 +118,6 @@ fn memory_of_a_reader(rt: HostRuntime) {
         stop: _,
     } = line;
     let written = wire.into_inner().into_tap().into_inner().octets;
-    let said = counts(&end);
-    match end.cause {
-        Cause::Unbound => {
-            assert_eq!(rt; said, [2, 0, 0, 1, 0, 0, end.unreplied]);
-            match end.unreplied {
-                0 => assert_eq!(rt; written.as_slice(), RESPONSES.as_slice()),
-                _ => assert!(rt;
-                    end.unreplied == 1 && (written.len() == 33 || written.len() == 32)
-                ),
-            }
-        }
-        cause => {
-            assert_eq!(rt; cause, Cause::OutOfMemory);
-            assert_eq!(rt; said, [0, 0, 0, 0, 0, 0, 0]);
-            assert!(rt; written.is_empty());
-        }
-    }
+    want_all_or_nothing(&rt, end.cause, counts(&end), &written);
     assert_eq!(rt; window.close(end.seat).held, 0xFFFF_FFFF_FFFF_FFF0);
 }

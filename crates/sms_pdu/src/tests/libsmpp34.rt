@@ -66,20 +66,16 @@ const BARE: [(&[u8], Command); 5] = [
 
 const NAME: &[u8] = b"Raul Antonio Tremsal";
 
+fn encoded(alloc: Global, pdu: &Pdu) -> Result<Vec<u8>, Fail> {
+    Ok(encode(alloc, pdu)?)
+}
+
 // The PDU is the first of its library, and is written as these octets again.
 fn is_written(rt: &impl Abort, alloc: Global, pdu: &Pdu, octets: &[u8]) -> Result<(), Fail> {
     assert_eq!(rt; (pdu.status, pdu.number), (0, 1));
-    let again = encode(alloc, pdu)?;
-    assert_eq!(rt; again.as_slice(), octets);
+    let again = encoded(alloc, pdu)?;
+    want_octets(rt, &again, octets);
     Ok(())
-}
-
-// What is read of the octets, which are written again from it.
-fn read(rt: &impl Abort, alloc: Global, octets: &[u8]) -> Result<Body, Fail> {
-    let pdu = decoded(alloc, octets)?;
-    is_written(rt, alloc, &pdu, octets)?;
-    let Pdu { body, .. } = pdu;
-    Ok(body)
 }
 
 // The parameter at this place.
@@ -105,29 +101,6 @@ fn is_bind(rt: &impl Abort, body: &Body, told: Mode, secret: &[u8]) -> Result<()
     Ok(())
 }
 
-fn reads_bind(
-    rt: &impl Abort,
-    alloc: Global,
-    octets: &[u8],
-    told: Mode,
-    secret: &[u8],
-) -> Result<(), Fail> {
-    let body = read(rt, alloc, octets)?;
-    is_bind(rt, &body, told, secret)
-}
-
-#[test]
-fn binds(rt: HostRuntime) -> Result<(), Fail> {
-    reads_bind(
-        &rt,
-        rt.alloc(),
-        BIND_TRANSMITTER,
-        Mode::Transmitter,
-        b"pass",
-    )?;
-    reads_bind(&rt, rt.alloc(), BIND_TRANSCEIVER, Mode::Transceiver, b"pas")
-}
-
 fn is_bind_resp(rt: &impl Abort, body: &Body, told: Mode) -> Result<(), Fail> {
     let Body::BindResp {
         mode,
@@ -144,24 +117,27 @@ fn is_bind_resp(rt: &impl Abort, body: &Body, told: Mode) -> Result<(), Fail> {
     Ok(())
 }
 
-fn reads_bind_resp(rt: &impl Abort, alloc: Global, octets: &[u8], told: Mode) -> Result<(), Fail> {
-    let body = read(rt, alloc, octets)?;
-    is_bind_resp(rt, &body, told)
+// The fields of one octet that both messages have alike, from left to right.
+fn numbers_of(sm: &Sm) -> [u8; 10] {
+    [
+        sm.source_ton,
+        sm.source_npi,
+        sm.dest_ton,
+        sm.esm_class,
+        sm.protocol_id,
+        sm.priority,
+        sm.registered,
+        sm.replace,
+        sm.data_coding,
+        sm.default_msg,
+    ]
 }
 
-#[test]
-fn bind_resps(rt: HostRuntime) -> Result<(), Fail> {
-    reads_bind_resp(&rt, rt.alloc(), BIND_TRANSMITTER_RESP, Mode::Transmitter)?;
-    reads_bind_resp(&rt, rt.alloc(), BIND_TRANSCEIVER_RESP, Mode::Transceiver)
-}
-
-// The fields that both messages have alike.
+// What both messages have alike.
 fn is_message(rt: &impl Abort, sm: &Sm) {
-    assert_eq!(rt; (sm.source_ton, sm.source_npi, sm.dest_ton), (2, 1, 2));
-    assert_eq!(rt; (sm.esm_class, sm.protocol_id, sm.priority), (0, 0, 0));
-    assert!(rt; sm.schedule.is_empty() && sm.validity.is_empty());
-    assert_eq!(rt; (sm.registered, sm.replace), (0, 0));
-    assert_eq!(rt; (sm.data_coding, sm.default_msg), (0, 0));
+    want_octets(rt, &numbers_of(sm), &[2, 1, 2, 0, 0, 0, 0, 0, 0, 0]);
+    want_octets(rt, sm.schedule.as_slice(), b"");
+    want_octets(rt, sm.validity.as_slice(), b"");
     want_octets(rt, sm.short_message.as_slice(), NAME);
 }
 
@@ -190,12 +166,6 @@ fn is_submit_sm(rt: &impl Abort, body: &Body) -> Result<(), Fail> {
     Ok(())
 }
 
-#[test]
-fn submit_sm(rt: HostRuntime) -> Result<(), Fail> {
-    let body = read(&rt, rt.alloc(), SUBMIT_SM)?;
-    is_submit_sm(&rt, &body)
-}
-
 fn deliver_of(body: &Body) -> Result<&Sm, Fail> {
     match body {
         Body::Deliver(sm) => Ok(sm),
@@ -214,12 +184,6 @@ fn is_deliver_sm(rt: &impl Abort, body: &Body) -> Result<(), Fail> {
     Ok(())
 }
 
-#[test]
-fn deliver_sm(rt: HostRuntime) -> Result<(), Fail> {
-    let body = read(&rt, rt.alloc(), DELIVER_SM)?;
-    is_deliver_sm(&rt, &body)
-}
-
 // The message_id of an answer to a submit_sm, or to a deliver_sm.
 fn id_of(body: &Body, submitted: bool) -> Result<&[u8], Fail> {
     match body {
@@ -233,22 +197,9 @@ fn id_of(body: &Body, submitted: bool) -> Result<&[u8], Fail> {
     }
 }
 
-fn reads_id(
-    rt: &impl Abort,
-    alloc: Global,
-    octets: &[u8],
-    submitted: bool,
-    id: &[u8],
-) -> Result<(), Fail> {
-    let body = read(rt, alloc, octets)?;
-    want_octets(rt, id_of(&body, submitted)?, id);
+fn is_id(rt: &impl Abort, body: &Body, submitted: bool, id: &[u8]) -> Result<(), Fail> {
+    want_octets(rt, id_of(body, submitted)?, id);
     Ok(())
-}
-
-#[test]
-fn message_ids(rt: HostRuntime) -> Result<(), Fail> {
-    reads_id(&rt, rt.alloc(), SUBMIT_SM_RESP, true, b"88898239379")?;
-    reads_id(&rt, rt.alloc(), DELIVER_SM_RESP, false, b"")
 }
 
 fn bare_command(body: &Body) -> Option<Command> {
@@ -262,16 +213,76 @@ fn bare_command(body: &Body) -> Option<Command> {
     }
 }
 
-fn is_bare(rt: &impl Abort, alloc: Global, octets: &[u8], command: Command) -> Result<(), Fail> {
-    let body = read(rt, alloc, octets)?;
-    assert_eq!(rt; bare_command(&body), Some(command));
+fn is_bare(rt: &impl Abort, body: &Body, command: Command) -> Result<(), Fail> {
+    assert_eq!(rt; bare_command(body), Some(command));
     Ok(())
+}
+
+// What a body has to be.
+#[derive(Clone, Copy)]
+enum Wanted {
+    Bind(Mode, &'static [u8]),
+    BindResp(Mode),
+    SubmitSm,
+    DeliverSm,
+    SubmitSmResp(&'static [u8]),
+    DeliverSmResp(&'static [u8]),
+    Bare(Command),
+}
+
+fn is_wanted(rt: &impl Abort, body: &Body, wanted: Wanted) -> Result<(), Fail> {
+    match wanted {
+        Wanted::Bind(mode, secret) => is_bind(rt, body, mode, secret),
+        Wanted::BindResp(mode) => is_bind_resp(rt, body, mode),
+        Wanted::SubmitSm => is_submit_sm(rt, body),
+        Wanted::DeliverSm => is_deliver_sm(rt, body),
+        Wanted::SubmitSmResp(id) => is_id(rt, body, true, id),
+        Wanted::DeliverSmResp(id) => is_id(rt, body, false, id),
+        Wanted::Bare(command) => is_bare(rt, body, command),
+    }
+}
+
+// The octets are read as this, and written again from it.
+fn reads(rt: &impl Abort, alloc: Global, octets: &[u8], wanted: Wanted) -> Result<(), Fail> {
+    let pdu = decoded(alloc, octets)?;
+    is_written(rt, alloc, &pdu, octets)?;
+    is_wanted(rt, &pdu.body, wanted)
+}
+
+#[test]
+fn binds(rt: HostRuntime) -> Result<(), Fail> {
+    let transmitter = Wanted::Bind(Mode::Transmitter, b"pass");
+    reads(&rt, rt.alloc(), BIND_TRANSMITTER, transmitter)?;
+    let transceiver = Wanted::Bind(Mode::Transceiver, b"pas");
+    reads(&rt, rt.alloc(), BIND_TRANSCEIVER, transceiver)
+}
+
+#[test]
+fn bind_resps(rt: HostRuntime) -> Result<(), Fail> {
+    let transmitter = Wanted::BindResp(Mode::Transmitter);
+    reads(&rt, rt.alloc(), BIND_TRANSMITTER_RESP, transmitter)?;
+    let transceiver = Wanted::BindResp(Mode::Transceiver);
+    reads(&rt, rt.alloc(), BIND_TRANSCEIVER_RESP, transceiver)
+}
+
+#[test]
+fn messages(rt: HostRuntime) -> Result<(), Fail> {
+    reads(&rt, rt.alloc(), SUBMIT_SM, Wanted::SubmitSm)?;
+    reads(&rt, rt.alloc(), DELIVER_SM, Wanted::DeliverSm)
+}
+
+#[test]
+fn message_ids(rt: HostRuntime) -> Result<(), Fail> {
+    let submitted = Wanted::SubmitSmResp(b"88898239379");
+    reads(&rt, rt.alloc(), SUBMIT_SM_RESP, submitted)?;
+    let delivered = Wanted::DeliverSmResp(b"");
+    reads(&rt, rt.alloc(), DELIVER_SM_RESP, delivered)
 }
 
 #[test]
 fn without_a_body(rt: HostRuntime) -> Result<(), Fail> {
     for (octets, command) in BARE {
-        is_bare(&rt, rt.alloc(), octets, command)?;
+        reads(&rt, rt.alloc(), octets, Wanted::Bare(command))?;
     }
     Ok(())
 }
