@@ -1,6 +1,6 @@
 //! Tests of the PDUs, by values from outside.
 use super::*;
-use std::alloc::Global;
+use std::alloc::{AllocError, Global};
 use std::process::Abort;
 use std::test::*;
 
@@ -26,15 +26,18 @@ const ESME: &[u8; 13] = b"esme\x00pw\x00\x00\x34\x00\x00\x00";
 
 const NUMBER: u32 = 0x0102_0304;
 
+fn put(octets: &mut Vec<u8>, more: &[u8]) -> Result<(), AllocError> {
+    octets.extend_from_slice(more)
+}
+
 // The header of SMPP 3.4 3.2 before a body.
 fn with_header(alloc: Global, command: u32, status: u32, body: &[u8]) -> Result<Vec<u8>, Fail> {
     let length = u32::try_from(body.len())?.saturating_add(16);
     let mut octets = Vec::new(alloc);
-    octets.extend_from_slice(&length.to_be_bytes())?;
-    octets.extend_from_slice(&command.to_be_bytes())?;
-    octets.extend_from_slice(&status.to_be_bytes())?;
-    octets.extend_from_slice(&NUMBER.to_be_bytes())?;
-    octets.extend_from_slice(body)?;
+    for number in [length, command, status, NUMBER] {
+        put(&mut octets, &number.to_be_bytes())?;
+    }
+    put(&mut octets, body)?;
     Ok(octets)
 }
 

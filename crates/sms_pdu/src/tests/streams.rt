@@ -4,8 +4,9 @@ ghost use Rattle.std.specs.Prelude.{None};
 ghost use Rattle.std.specs.Io.{WritesAtMost};
 ghost use Rattle.std.specs.Io.KnownBytes.{Keeps, WriteAppends};
 
-use super::{ENQUIRE_LINK, SUBMIT};
+use super::{ENQUIRE_LINK, SUBMIT, put, want_octets};
 use crate::*;
+use std::alloc::{AllocError, Global};
 use std::io::{self, Error, ErrorKind, Write};
 use std::process::Abort;
 use std::test::*;
@@ -48,27 +49,41 @@ fn replies(rt: HostRuntime) -> Result<(), Fail> {
     Ok(())
 }
 
+fn fed(framer: &mut Framer, piece: &[u8]) -> Result<Fed, AllocError> {
+    framer.feed(piece)
+}
+
+// How many frames come of a piece, each of which is the submit_sm.
+fn submits_in(rt: &impl Abort, framer: &mut Framer, piece: &[u8]) -> Result<usize, Fail> {
+    let fed = fed(framer, piece)?;
+    assert!(rt; fed.fault.is_none());
+    for frame in fed.frames.as_slice() {
+        want_octets(rt, frame.as_slice(), SUBMIT);
+    }
+    Ok(fed.frames.len())
+}
+
+// The submit_sm comes of these pieces once, and most of an enquire_link stays.
+fn is_cut(rt: &impl Abort, alloc: Global, stream: &[u8], length: usize) -> Result<(), Fail> {
+    let mut framer = Framer::new(alloc);
+    let mut count = 0usize;
+    for piece in stream.chunks(length.max(1)) {
+        count = count.saturating_add(submits_in(rt, &mut framer, piece)?);
+    }
+    assert_eq!(rt; count, 1, "pieces of {length}");
+    assert!(rt; framer.fault().is_none());
+    want_octets(rt, framer.rest(), &ENQUIRE_LINK[..15]);
+    want_octets(rt, &framer.into_rest(), &ENQUIRE_LINK[..15]);
+    Ok(())
+}
+
 // A whole frame and most of another, in pieces of each length.
 #[test]
 fn pieces_of_each_length(rt: HostRuntime) -> Result<(), Fail> {
     let mut stream = Vec::from_slice(rt.alloc(), SUBMIT)?;
-    stream.extend_from_slice(&ENQUIRE_LINK[..15])?;
+    put(&mut stream, &ENQUIRE_LINK[..15])?;
     for length in 1..68usize {
-        let mut framer = Framer::new(rt.alloc());
-        let mut count = 0usize;
-        for piece in stream.as_slice().chunks(length) {
-            let fed = framer.feed(piece)?;
-            assert!(rt; fed.fault.is_none());
-            for frame in fed.frames.as_slice() {
-                assert_eq!(rt; frame.as_slice(), SUBMIT.as_slice());
-                count = count.saturating_add(1);
-            }
-        }
-        assert_eq!(rt; count, 1, "pieces of {length}");
-        assert!(rt; framer.fault().is_none());
-        assert_eq!(rt; framer.rest(), &ENQUIRE_LINK[..15]);
-        let rest = framer.into_rest();
-        assert_eq!(rt; rest.as_slice(), &ENQUIRE_LINK[..15]);
+        is_cut(&rt, rt.alloc(), &stream, length)?;
     }
     Ok(())
 }
@@ -80,7 +95,7 @@ fn is_bad_behind(
     piece: &[u8],
     frames: usize,
 ) -> Result<(), Fail> {
-    let fed = framer.feed(piece)?;
+    let fed = fed(framer, piece)?;
     assert_eq!(rt; fed.frames.len(), frames);
     assert_eq!(rt; fed.fault, Some(FrameFault::BadLength));
     Ok(())
@@ -97,49 +112,71 @@ fn a_bad_length_ends_the_stream(rt: HostRuntime) -> Result<(), Fail> {
     Ok(())
 }
 
-// 70,000 octets are a frame, whole and in pieces; 70,001 are none.
+// How many frames come of these octets in pieces of this length.
+fn frames_of(rt: &impl Abort, alloc: Global, octets: &[u8], length: usize) -> Result<usize, Fail> {
+    let mut framer = Framer::new(alloc);
+    let mut count = 0usize;
+    for piece in octets.chunks(length.max(1)) {
+        let fed = fed(&mut framer, piece)?;
+        assert!(rt; fed.fault.is_none());
+        count = count.saturating_add(fed.frames.len());
+    }
+    Ok(count)
+}
+
+// 70,000 octets are a frame, whole and in pieces.
 #[test]
 fn the_longest_frame(rt: HostRuntime) -> Result<(), Fail> {
     let mut octets = Vec::from_slice(rt.alloc(), &[0x00, 0x01, 0x11, 0x70])?;
     octets.resize(70_000, 0)?;
     assert!(rt; is_frame(&octets));
     for length in [3usize, 69_999, 70_000] {
-        let mut framer = Framer::new(rt.alloc());
-        let mut count = 0usize;
-        for piece in octets.as_slice().chunks(length.max(1)) {
-            let fed = framer.feed(piece)?;
-            assert!(rt; fed.fault.is_none());
-            count = count.saturating_add(fed.frames.len());
-        }
-        assert_eq!(rt; count, 1, "pieces of {length}");
+        assert_eq!(rt;
+            frames_of(&rt, rt.alloc(), &octets, length)?,
+            1,
+            "pieces of {length}"
+        );
     }
-    let mut longer = Vec::from_slice(rt.alloc(), &[0x00, 0x01, 0x11, 0x71])?;
-    longer.resize(70_001, 0)?;
-    assert!(rt; is_bad(&longer));
-    assert!(rt; !is_frame(&longer));
-    let fed = Framer::new(rt.alloc()).feed(&longer)?;
-    assert!(rt; fed.frames.is_empty());
-    assert_eq!(rt; fed.fault, Some(FrameFault::BadLength));
     Ok(())
+}
+
+// 70,001 octets are no frame.
+#[test]
+fn a_frame_too_long(rt: HostRuntime) -> Result<(), Fail> {
+    let mut octets = Vec::from_slice(rt.alloc(), &[0x00, 0x01, 0x11, 0x71])?;
+    octets.resize(70_001, 0)?;
+    assert!(rt; is_bad(&octets));
+    assert!(rt; !is_frame(&octets));
+    is_bad_behind(&rt, &mut Framer::new(rt.alloc()), &octets, 0)
+}
+
+#[test]
+fn the_first_frame(rt: HostRuntime) -> Result<(), Fail> {
+    let mut stream = Vec::from_slice(rt.alloc(), SUBMIT)?;
+    put(&mut stream, &ENQUIRE_LINK)?;
+    assert_eq!(rt; first_frame(&stream), Some(SUBMIT.len()));
+    assert_eq!(rt; first_frame(&SUBMIT[..51]), None);
+    assert!(rt; !is_bad(&stream));
+    Ok(())
+}
+
+fn frames_in(alloc: Global, stream: &[u8]) -> Result<Frames, AllocError> {
+    let fed = fed(&mut Framer::new(alloc), stream)?;
+    Ok(fed.frames)
 }
 
 #[test]
 fn frames_in_order(rt: HostRuntime) -> Result<(), Fail> {
     let mut stream = Vec::from_slice(rt.alloc(), SUBMIT)?;
-    stream.extend_from_slice(&ENQUIRE_LINK)?;
-    assert_eq!(rt; first_frame(&stream), Some(SUBMIT.len()));
-    assert_eq!(rt; first_frame(&SUBMIT[..51]), None);
-    assert!(rt; !is_bad(&stream));
-    let fed = Framer::new(rt.alloc()).feed(&stream)?;
-    let mut frames = Frames::new(fed.frames.into_vec());
+    put(&mut stream, &ENQUIRE_LINK)?;
+    let mut frames = Frames::new(frames_in(rt.alloc(), &stream)?.into_vec());
     let first = frames.take_first().ok_or("a first frame")?;
     assert_eq!(rt; first.header().number, 2);
-    assert_eq!(rt; first.as_slice(), SUBMIT.as_slice());
+    want_octets(&rt, first.as_slice(), SUBMIT);
     assert_eq!(rt; frames.len(), 1);
-    let second = frames.take_first().ok_or("a second frame")?;
-    let octets = second.into_vec();
-    assert!(rt; is_frame(&octets));
-    assert_eq!(rt; octets.as_slice(), ENQUIRE_LINK.as_slice());
+    let second = frames.take_first().ok_or("a second frame")?.into_vec();
+    assert!(rt; is_frame(&second));
+    want_octets(&rt, &second, &ENQUIRE_LINK);
     assert!(rt; frames.take_first().is_none());
     Ok(())
 }
