@@ -63,10 +63,7 @@ fn a_submit_and_its_answer(rt: HostRuntime) -> Result<(), Fail> {
 
 // The script of a list of answers.
 fn script_with(alloc: Global, answers: &[String]) -> Result<Script, Fail> {
-    match Script::of(alloc, 0, answers) {
-        Ok(script) => Ok(script),
-        Err(_) => Err("no script".into()),
-    }
+    Ok(Script::of(alloc, 0, answers)?)
 }
 
 #[test]

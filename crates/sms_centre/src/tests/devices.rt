@@ -2,7 +2,25 @@
 use super::{ANSWER, SUBMIT, good};
 use crate::{Cause, Fuse, Pipe, ServeEnd, serve};
 use std::io::{ErrorKind, Read, Write};
+use std::process::Abort;
 use std::test::Fail;
+
+// A writer takes these four octets, and then the first of them.
+fn fills(rt: &impl Abort, writer: &mut impl Write, octets: &[u8; 4]) {
+    assert!(rt; matches!(writer.write(octets), Ok(4)));
+    assert!(rt; matches!(writer.write(octets), Ok(1)));
+    assert!(rt; writer.write(octets).is_err());
+    assert!(rt; matches!(writer.write(&[]), Ok(0)));
+}
+
+// A reader with room for at most eight octets gives these.
+fn reads(rt: &impl Abort, reader: &mut impl Read, room: usize, wanted: &[u8]) {
+    let mut buf = [0u8; 8];
+    let Ok(n) = reader.read(&mut buf[..room.min(8)]) else {
+        panic!(rt; "nothing is read")
+    };
+    assert_eq!(rt; &buf[..n.min(8)], wanted);
+}
 
 #[test]
 fn both_ends_of_a_pipe(rt: HostRuntime) -> Result<(), Fail> {
@@ -14,19 +32,13 @@ fn both_ends_of_a_pipe(rt: HostRuntime) -> Result<(), Fail> {
     assert!(rt; matches!(reader.read(&mut buf), Err(e) if e.kind() == ErrorKind::WouldBlock));
     for round in 0..4u8 {
         let octets = [round, 10, 20, 30];
-        assert!(rt; matches!(writer.write(&octets), Ok(4)));
-        assert!(rt; matches!(writer.write(&octets), Ok(1)));
-        assert!(rt; writer.write(&octets).is_err());
-        assert!(rt; matches!(writer.write(&[]), Ok(0)));
-        assert!(rt; matches!(reader.read(&mut buf[..3]), Ok(3)));
-        assert_eq!(rt; &buf[..3], [round, 10, 20].as_slice());
-        assert!(rt; matches!(reader.read(&mut buf), Ok(2)));
-        assert_eq!(rt; &buf[..2], [30, round].as_slice());
+        fills(&rt, &mut writer, &octets);
+        reads(&rt, &mut reader, 3, &[round, 10, 20]);
+        reads(&rt, &mut reader, 8, &[30, round]);
     }
     assert!(rt; matches!(writer.write(&[7]), Ok(1)));
     pipe.close(&rt);
-    assert!(rt; matches!(reader.read(&mut buf), Ok(1)));
-    assert_eq!(rt; buf[0], 7);
+    reads(&rt, &mut reader, 8, &[7]);
     assert!(rt; matches!(reader.read(&mut buf), Ok(0)));
     Ok(())
 }

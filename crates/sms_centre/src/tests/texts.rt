@@ -1,7 +1,8 @@
 //! Scripts: what each text makes the centre write, and which texts and keys are refused.
 use super::{ANSWER, bare, served};
 use crate::{Cause, Script, ScriptError, ServeEnd};
-use std::alloc::Global;
+use std::alloc::{AllocError, Global};
+use std::process::Abort;
 use std::test::Fail;
 
 // Two submit_sm with the numbers 2 and 3.
@@ -87,51 +88,57 @@ fn what_each_text_says(rt: HostRuntime) -> Result<(), Fail> {
     Ok(())
 }
 
+// Bare headers of these commands and statuses, each with the number 7.
+fn bares(alloc: Global, headers: &[(u32, u32)]) -> Result<Vec<u8>, AllocError> {
+    let mut octets = Vec::new(alloc);
+    for (command, status) in headers {
+        octets.extend_from_slice(&bare(*command, *status, 7))?;
+    }
+    Ok(octets)
+}
+
+// Two binds, and then an enquire_link, a command that there isn't, a submit_sm_resp and an unbind.
+const REQUESTS: &[(u32, u32)] = &[
+    (2, 0),
+    (9, 0),
+    (0x15, 0),
+    (0x103, 0),
+    (0x8000_0004, 0),
+    (6, 0),
+];
+
+// The answers to the others.
+const OTHERS: &[(u32, u32)] = &[(0x8000_0015, 0), (0x8000_0000, 3), (0x8000_0006, 0)];
+
+// By this script the requests get these answers to the binds, and then the others.
+fn want_answers(rt: &impl Abort, alloc: Global, script: &str, binds: &[u8]) -> Result<(), Fail> {
+    let (out, end) = served(alloc, script, &bares(alloc, REQUESTS)?)?;
+    assert_eq!(rt; (end.submits, end.cause), (0, Cause::Unbound));
+    assert!(rt; out.starts_with(binds));
+    assert_eq!(rt;
+        &out[binds.len().min(out.len())..],
+        bares(alloc, OTHERS)?.as_slice()
+    );
+    Ok(())
+}
+
 #[test]
 fn what_other_requests_get(rt: HostRuntime) -> Result<(), Fail> {
-    let alloc = rt.alloc();
-    let mut stream = Vec::new(alloc);
-    for command in [2, 9, 0x15, 0x103, 0x8000_0004, 6] {
-        stream.extend_from_slice(&bare(command, 0, 7))?;
-    }
-    let tail: [[u8; 16]; 3] = [
-        bare(0x8000_0015, 0, 7),
-        bare(0x8000_0000, 3, 7),
-        bare(0x8000_0006, 0, 7),
-    ];
-    let (out, end) = served(alloc, "answers = [\"silent\"]", stream.as_slice())?;
-    let mut expected = Vec::new(alloc);
-    expected.extend_from_slice(
-        b"\x00\x00\x00\x15\x80\x00\x00\x02\x00\x00\x00\x00\x00\x00\x00\x07TEST\x00",
-    )?;
-    expected.extend_from_slice(
-        b"\x00\x00\x00\x15\x80\x00\x00\x09\x00\x00\x00\x00\x00\x00\x00\x07TEST\x00",
-    )?;
-    for answer in &tail {
-        expected.extend_from_slice(answer)?;
-    }
-    assert_eq!(rt; out.as_slice(), expected.as_slice());
-    assert_eq!(rt;
-        end,
-        ServeEnd {
-            submits: 0,
-            cause: Cause::Unbound
-        }
-    );
-    let (out, end) = served(
-        alloc,
-        "bind_status = 14\nanswers = [\"silent\"]",
-        stream.as_slice(),
-    )?;
-    expected.clear();
-    expected.extend_from_slice(&bare(0x8000_0002, 14, 7))?;
-    expected.extend_from_slice(&bare(0x8000_0009, 14, 7))?;
-    for answer in &tail {
-        expected.extend_from_slice(answer)?;
-    }
-    assert_eq!(rt; out.as_slice(), expected.as_slice());
-    assert_eq!(rt; end.cause, Cause::Unbound);
-    Ok(())
+    let binds =
+        b"\x00\x00\x00\x15\x80\x00\x00\x02\x00\x00\x00\x00\x00\x00\x00\x07TEST\x00\x00\x00\x00\x15\x80\x00\x00\x09\x00\x00\x00\x00\x00\x00\x00\x07TEST\x00";
+    want_answers(&rt, rt.alloc(), "answers = [\"silent\"]", binds)
+}
+
+#[test]
+fn what_binds_get_by_a_status(rt: HostRuntime) -> Result<(), Fail> {
+    let binds = bares(rt.alloc(), &[(0x8000_0002, 14), (0x8000_0009, 14)])?;
+    let script = "bind_status = 14\nanswers = [\"silent\"]";
+    want_answers(&rt, rt.alloc(), script, &binds)
+}
+
+// Why this text says no script, if it says none.
+fn refusal_of(alloc: Global, text: &str) -> Option<ScriptError> {
+    Script::read(alloc, text).err()
 }
 
 #[test]
@@ -142,7 +149,7 @@ fn which_scripts_are_refused(rt: HostRuntime) -> Result<(), Fail> {
         "= 1",
         "answers = [\"cut\"]\nanswers = [\"cut\"]",
     ] {
-        assert!(rt; matches!(Script::read(alloc, text), Err(ScriptError::NotToml)));
+        assert!(rt; matches!(refusal_of(alloc, text), Some(ScriptError::NotToml)));
     }
     for text in [
         "",
@@ -156,7 +163,7 @@ fn which_scripts_are_refused(rt: HostRuntime) -> Result<(), Fail> {
         "bind_status = 0",
         "answer = 1\nanswers = [\"what\"]",
     ] {
-        assert!(rt; matches!(Script::read(alloc, text), Err(ScriptError::BadKey)));
+        assert!(rt; matches!(refusal_of(alloc, text), Some(ScriptError::BadKey)));
     }
     for text in [
         "what",
