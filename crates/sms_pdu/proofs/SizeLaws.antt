@@ -1,10 +1,9 @@
 -- A PDU has a size exactly where it has a spelling, and the size is the spelling's length.
 use Rattle.std.proofs.Common.{◌≡◌, ◌≢◌, ℕ, ◌+◌, ◌^◌, ◌<◌, ◌≤◌, ◌⊎◌, true, false, cond, ltb, leb, eqb, List, [], ◌∷◌, ◌++◌, length, Option, Some, None, Result, Ok, Err, refl, sym, ap, ◌∙◌, arith, inl, inr}
-use Rattle.std.specs.Prelude.{position, ◌||◌}
-use Rattle.std.specs.List.{position_from}
+use Rattle.std.specs.Prelude.{◌||◌}
+use Rattle.std.specs.List.{list_any}
 use Rattle.std.proofs.lemmas.Bool.{ltb-true, lt-ltb, eqb-true, eqb-false, leb-true, le-leb}
 use Rattle.std.proofs.lemmas.List.{length-append}
-use Rattle.std.proofs.lemmas.Iterator.Adapters.{position_from-zero}
 use Rattle.sms_pdu.specs.declared.field.Field.{Field}
 use Rattle.sms_pdu.specs.declared.field.Field.TheVariants as fields
 use Rattle.sms_pdu.specs.declared.error.PduError.{PduError}
@@ -16,7 +15,7 @@ use Rattle.sms_pdu.specs.declared.body.Body.TheVariants as body
 use Rattle.sms_pdu.specs.Layout.{Kind, Number, Text, Time, Message, Row, Value, Values, spelling, spellings, HasNoZero, Fits, AllFit, bind_fields, sm_fields, parameters_spelling, ParametersFit}
 use Rattle.sms_pdu.specs.Grammar.{sm_values, sm_spelling, SmFits, bind_resp_spelling, sm_resp_spelling, body_spelling, BindRespFits, SmRespFits, BodyFits}
 use Rattle.sms_pdu.specs.Reading.{◌>>=◌}
-use Rattle.sms_pdu.specs.Size.{without_zero, text_size, time_size, message_size, value_size, values_size, parameters_fit, parameters_checked, whole_size, tail_size, sm_size, absent_size, bind_resp_size, message_id_size, bind_size, body_size}
+use Rattle.sms_pdu.specs.Size.{text_size, time_size, message_size, value_size, values_size, parameters_fit, parameters_checked, whole_size, tail_size, sm_size, absent_size, bind_resp_size, message_id_size, bind_size, body_size}
 use Rattle.sms_pdu.specs.Writing.{SmWritable, RespWritable, Writable, RespFit, TagsFit}
 use Rattle.sms_pdu.proofs.Parameters.{bind_ok, guard_ok, guard_then, ok_is}
 use Rattle.sms_pdu.proofs.Values.{zero_test, bool_cases, ne_test, guard_ended, or_true}
@@ -27,21 +26,17 @@ sized_ok n = Ok n
 
 -- ---- texts
 
-no_zero : (i : ℕ) (text : List ℕ) → position_from zero_test i text ≡ None → HasNoZero text
-no_zero i [] e = tt
-no_zero i (x ∷ xs) e =
+no_zero : (text : List ℕ) → list_any zero_test text ≡ false → HasNoZero text
+no_zero [] e = tt
+no_zero (x ∷ xs) e =
     elim (bool_cases (eqb x 0)) [
       | inl is ↦ absurd (let no = rw is at e in cc)
-      | inr isnt ↦ (eqb-false x 0 isnt, no_zero (i + 1) xs (rw isnt at e))
+      | inr isnt ↦ (eqb-false x 0 isnt, no_zero xs (rw isnt at e))
     ]
 
-none_found : (i : ℕ) (text : List ℕ) → HasNoZero text → position_from zero_test i text ≡ None
-none_found i [] clean = refl
-none_found i (x ∷ xs) clean = rw (ne_test x clean.0) (none_found (i + 1) xs clean.1)
-
-without_ok : (o : Option ℕ) (f : Field) (size n : ℕ) → without_zero o f size ≡ Ok n → (o ≡ None) × (size ≡ n)
-without_ok None f size n e = (refl, ok_is size n e)
-without_ok (Some place) f size n e = absurd cc
+none_found : (text : List ℕ) → HasNoZero text → list_any zero_test text ≡ false
+none_found [] clean = refl
+none_found (x ∷ xs) clean = rw (ne_test x clean.0) (none_found xs clean.1)
 
 -- the size of a text, and what it says of its length
 record TextSized (text : List ℕ) (n : ℕ) (P : Type 0) : Type 0 where
@@ -52,15 +47,13 @@ record TextSized (text : List ℕ) (n : ℕ) (P : Type 0) : Type 0 where
 text_sized : (f : Field) (m : ℕ) (text : List ℕ) (n : ℕ) → text_size f m text ≡ Ok n → TextSized text n (length text < m)
 unfolding text_size
 text_sized f m text n e =
-    let g = chosen_then (ltb (length text) m) (without_zero (position zero_test text) f (length text + 1)) (errors.TooLong f) n e in
-    let w = without_ok (position zero_test text) f (length text + 1) n g.1 in
-    record { len = sym w.1; clean = no_zero 0 text (sym (position_from-zero zero_test text) ∙ w.0); short = ltb-true _ _ g.0 }
+    let g = chosen_then (ltb (length text) m) (cond (list_any zero_test text) (Err (errors.Malformed f)) (sized_ok (length text + 1))) (errors.TooLong f) n e in
+    let w = guard_ok (list_any zero_test text) (errors.Malformed f) (length text + 1) n g.1 in
+    record { len = sym w.1; clean = no_zero text w.0; short = ltb-true _ _ g.0 }
 
 text_size_is : (f : Field) (m : ℕ) (text : List ℕ) → HasNoZero text → length text < m → text_size f m text ≡ Ok (length text + 1)
 unfolding text_size
-text_size_is f m text clean lt =
-    let place : position zero_test text ≡ None = position_from-zero zero_test text ∙ none_found 0 text clean in
-    rw (lt-ltb _ _ lt, place) refl
+text_size_is f m text clean lt = rw (lt-ltb _ _ lt, none_found text clean) refl
 
 time_sized : (f : Field) (text : List ℕ) (n : ℕ) → time_size f text ≡ Ok n → TextSized text n ((length text ≡ 0) ⊎ (length text ≡ 16))
 unfolding time_size

@@ -1,6 +1,6 @@
 -- The length of a PDU's spelling, or its first fault: fields from left to right, then the whole.
-use Rattle.std.specs.Prelude.{ℕ, ◌+◌, ◌^◌, List, [], ◌∷◌, length, position, Bool, Option, Some, None, Result, Ok, Err, nat_lt, nat_le, ◌==◌, ◌||◌, if◌then◌else◌}
-use Rattle.std.specs.List.{list_all}
+use Rattle.std.specs.Prelude.{ℕ, ◌+◌, ◌^◌, List, [], ◌∷◌, length, Bool, Option, Some, None, Result, Ok, Err, nat_lt, nat_le, ◌==◌, ◌||◌, if◌then◌else◌}
+use Rattle.std.specs.List.{list_all, list_any}
 use Rattle.sms_pdu.specs.declared.field.Field.{Field}
 use Rattle.sms_pdu.specs.declared.field.Field.TheVariants as fields
 use Rattle.sms_pdu.specs.declared.error.PduError.{PduError}
@@ -14,13 +14,9 @@ use Rattle.sms_pdu.specs.Layout.{Kind, Number, Text, Time, Message, Row, Value, 
 use Rattle.sms_pdu.specs.Grammar.{sm_values}
 use Rattle.sms_pdu.specs.Reading.{◌>>=◌}
 
--- a text holds no 0
-abbrev pub without_zero : Option ℕ → Field → ℕ → Result ℕ PduError
-without_zero None field size = Ok size
-without_zero (Some place) field size = Err (errors.Malformed field)
-
+-- a text is shorter than its maximum, which counts its 0, and holds no 0
 unfoldable pub text_size : Field → ℕ → List ℕ → Result ℕ PduError
-text_size field maximum text = if nat_lt (length text) maximum then without_zero (position (λ octet. octet == 0) text) field (length text + 1) else Err (errors.TooLong field)
+text_size field maximum text = if nat_lt (length text) maximum then (if list_any (λ octet. octet == 0) text then Err (errors.Malformed field) else Ok (length text + 1)) else Err (errors.TooLong field)
 
 unfoldable pub time_size : Field → List ℕ → Result ℕ PduError
 time_size field text = do

@@ -104,6 +104,7 @@ macro_rules! write_text {
 }
 
 /// The optional parameters.
+#[inline(always)]
 fn put_parameters(out: &mut Vec<u8>, params: &[Parameter])
     requires fit { parameters_fit params.now ≡ true }
     requires room { vec_len out.old + length (parameters_spelling params.now) ≤ vec_capacity out.old }

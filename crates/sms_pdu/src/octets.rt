@@ -1,6 +1,7 @@
 //! Octets: the strings of a PDU, and small readings of a slice.
 
 ghost use Rattle.std.specs.Prelude.{List, ℕ, [], ◌≡◌, ◌==◌, ◌<◌, ◌≤◌, take, length, position, IfSome, IfOk, IsOk};
+ghost use Rattle.std.specs.List.{list_any};
 
 use std::alloc::{AllocError, Global};
 use std::marker::Model;
@@ -89,4 +90,19 @@ pub(crate) fn first_zero(octets: &[u8]) -> Option<usize>
     ensures within { IfSome result (λ place. place < length octets.now) }
 {
     octets.iter().position(|octet| *octet == 0)
+}
+
+/// Whether there is a 0. Four octets are looked at a turn.
+#[inline(always)]
+pub(crate) fn has_zero(octets: &[u8]) -> bool
+    ensures { result ≡ list_any (λ octet. octet == 0) octets.now }
+{
+    let mut left = octets;
+    while let [a, b, c, d, rest @ ..] = left {
+        if *a == 0 || *b == 0 || *c == 0 || *d == 0 {
+            return true;
+        }
+        left = rest;
+    }
+    left.iter().any(|octet| *octet == 0)
 }

@@ -13,7 +13,7 @@ use crate::header::{HEADER_LENGTH, MOST_LENGTH};
 use crate::layout::{
     MESSAGE_MAXIMUM, TIME_LENGTH, bind_fields, bind_resp_fields, sm_fields, sm_resp_fields,
 };
-use crate::octets::first_zero;
+use crate::octets::has_zero;
 use crate::parameter::Parameter;
 
 /// The length of a C-Octet String with its 0.
@@ -25,10 +25,10 @@ fn text(field: Field, maximum: u8, text: &[u8]) -> Result<u8, PduError>
     if text.len() >= maximum as usize {
         return Err(PduError::TooLong { field });
     }
-    match first_zero(text) {
-        None => Ok(text.len() as u8 + 1),
-        Some(_) => Err(PduError::Malformed { field }),
+    if has_zero(text) {
+        return Err(PduError::Malformed { field });
     }
+    Ok(text.len() as u8 + 1)
 }
 
 /// The length of a time with its 0.
