@@ -20,6 +20,7 @@ pub mod Addressing
 pub mod Toml
 pub mod GoodTexts
 pub mod NewAccounts
+pub mod Tallies
 pub mod Tariffs
 pub mod Conclusions
 pub mod Dealings

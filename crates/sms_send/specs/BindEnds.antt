@@ -1,8 +1,10 @@
 -- What becomes of the binds of a sending.
-use Rattle.std.specs.Prelude.{◌≡◌, ℕ, List, length}
+use Rattle.std.specs.Prelude.{◌≡◌, ℕ, List, [], ◌∷◌, length, Option, Some, None}
 use Rattle.std.specs.List.{AllByRecursion}
 use Rattle.sms_pdu.specs.Grammar.{Spells}
 use Rattle.sms_pdu.specs.declared.body.Body.TheVariants.{Unbind}
+use Rattle.sms_window.specs.declared.view.View.{View}
+use Rattle.sms_window.specs.Drawing.{HasDrawn}
 use Rattle.sms_send.specs.declared.driver.bind_end.BindEnd.{BindEnd}
 use Rattle.sms_send.specs.declared.driver.bind_end.Unbinding.{Unbinding}
 use Rattle.sms_send.specs.declared.driver.bind_end.Unbinding.TheVariants.{NotYet, Sent, Failed, Unasked}
@@ -17,6 +19,18 @@ IsTried NotYet = ⊥
 IsTried (Sent receipt) = (number : ℕ) × SpellsUnbind number receipt
 IsTried (Failed receipt) = (number : ℕ) × SpellsUnbind number receipt
 IsTried (Unasked why) = Unit {0}
+
+-- the number that was drawn, where one was
+abbrev pub drawn_in : Option ℕ → List ℕ
+drawn_in None = []
+drawn_in (Some number) = number ∷ []
+
+-- what was handed to the wire is an unbind with the number that the seat drew
+abbrev pub HasAsked : View → Unbinding → View → Type 0
+HasAsked before NotYet after = ⊥
+HasAsked before (Sent receipt) after = (number : ℕ) × SpellsUnbind number receipt × HasDrawn before (number ∷ []) after
+HasAsked before (Failed receipt) after = (number : ℕ) × SpellsUnbind number receipt × HasDrawn before (number ∷ []) after
+HasAsked before (Unasked why) after = Unit {0}
 
 -- the end of a bind of so many workers
 pub record IsBindEnd (workers : ℕ) (b : BindEnd) : Type 0 where

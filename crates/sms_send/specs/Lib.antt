@@ -19,6 +19,7 @@ pub mod Sending
 pub mod Inputs
 pub mod Report
 pub mod Summary
+pub mod Tally
 pub mod Deals
 pub mod BindEnds
 pub mod SendFaults

@@ -1,6 +1,9 @@
 //! What a person sees of a sending on standard error: how far it is, on a terminal, and what it came
 //! to.
 
+ghost use Rattle.std.specs.Prelude.{◌≡◌};
+ghost use Rattle.sms_send.specs.Tally.{telling_of};
+
 use crate::sender::Ended;
 use crate::summary::{EndLine, summary_of};
 use crate::tally::{Tally, WayLine, tally_of};
@@ -27,7 +30,9 @@ pub enum Telling {
 
 impl Telling {
     /// What is told to a terminal or elsewhere, by someone who was asked to be quiet or wasn't.
-    pub fn new(quiet: bool, terminal: bool) -> Telling {
+    pub fn new(quiet: bool, terminal: bool) -> Telling
+        ensures { result ≡ telling_of quiet terminal }
+    {
         if quiet {
             Telling::Nothing
         } else if terminal {

@@ -25,6 +25,33 @@ pub struct Summary {
     pub credits: Credits,
 }
 
+impl fmt::Display for Credits {
+    ghost use Rattle.std.specs.Prelude.{Some};
+    ghost use Rattle.sms_send.specs.Summary.{credits_text};
+
+    ghost output = { λ credits. Some (credits_text credits) };
+
+    fn fmt<W: fmt::Write>(&self, f: &mut fmt::Formatter<W>) -> fmt::Result {
+        let (charged, returned, reserved) = (self.charged, self.returned, self.reserved);
+        write!(
+            f,
+            "credits charged {charged}, returned {returned}, still reserved {reserved}"
+        )
+    }
+}
+
+impl fmt::Display for Summary {
+    ghost use Rattle.std.specs.Prelude.{Some};
+    ghost use Rattle.sms_send.specs.Summary.{summary_text};
+
+    ghost output = { λ summary. Some (summary_text summary) };
+
+    fn fmt<W: fmt::Write>(&self, f: &mut fmt::Formatter<W>) -> fmt::Result {
+        let (messages, segments, credits) = (self.messages, self.segments, self.credits);
+        write!(f, "messages {messages}, segments {segments}, {credits}")
+    }
+}
+
 impl Credits {
     /// These and an account's.
     fn with(self, row: &Row) -> Credits
@@ -96,16 +123,13 @@ pub struct EndLine {
 }
 
 impl fmt::Display for EndLine {
+    ghost use Rattle.std.specs.Prelude.{Some};
+    ghost use Rattle.sms_send.specs.Summary.{done_text};
+
+    ghost output = { λ line. Some (done_text line) };
+
     fn fmt<W: fmt::Write>(&self, f: &mut fmt::Formatter<W>) -> fmt::Result {
-        let (messages, segments) = (self.summary.messages, self.summary.segments);
-        let charged = self.summary.credits.charged;
-        let returned = self.summary.credits.returned;
-        let reserved = self.summary.credits.reserved;
-        let seconds = self.ms / 1000;
-        let tenths = self.ms % 1000 / 100;
-        write!(
-            f,
-            "done: messages {messages}, segments {segments}, credits charged {charged}, returned {returned}, still reserved {reserved}, seconds {seconds}.{tenths}"
-        )
+        let (summary, seconds, tenths) = (self.summary, self.ms / 1000, self.ms % 1000 / 100);
+        write!(f, "done: {summary}, seconds {seconds}.{tenths}")
     }
 }

@@ -1,5 +1,8 @@
 //! How far the messages of a sending are.
 
+ghost use Rattle.std.specs.Prelude.{◌≡◌, ◌||◌};
+ghost use Rattle.sms_send.specs.Tally.{both, counted, ended_in, is_refused, is_unanswered, is_waiting, left_of, message_standing as standing_of_message, rate_of, segment_standing as standing_of_segment, standing_where, tally_of as tally_in};
+
 use sms_worker::{MessageEnd, MessageResult, Outcome, SegmentEnd};
 use std::fmt;
 
@@ -25,7 +28,11 @@ enum Standing {
 
 impl Tally {
     /// No message has ended.
-    pub fn none() -> Tally {
+    pub fn none() -> Tally
+        ensures charged { result.charged ≡ 0 }
+        ensures refused { result.refused ≡ 0 }
+        ensures unanswered { result.unanswered ≡ 0 }
+    {
         Tally {
             charged: 0,
             refused: 0,
@@ -34,14 +41,18 @@ impl Tally {
     }
 
     /// How many messages have ended.
-    pub fn ended(&self) -> u64 {
+    pub fn ended(&self) -> u64
+        ensures { result ≡ ended_in self.now }
+    {
         self.charged
             .saturating_add(self.refused)
             .saturating_add(self.unanswered)
     }
 
     /// Both together.
-    pub fn with(&self, other: &Tally) -> Tally {
+    pub fn with(&self, other: &Tally) -> Tally
+        ensures { result ≡ both self.now other.now }
+    {
         Tally {
             charged: self.charged.saturating_add(other.charged),
             refused: self.refused.saturating_add(other.refused),
@@ -50,7 +61,9 @@ impl Tally {
     }
 
     /// Counts a message.
-    fn count(&mut self, standing: Standing) {
+    fn count(&mut self, standing: Standing)
+        ensures { self.new ≡ counted standing self.old }
+    {
         match standing {
             Standing::Waiting => {}
             Standing::Charged => self.charged = self.charged.saturating_add(1),
@@ -61,7 +74,9 @@ impl Tally {
 }
 
 /// How far a segment is. While it isn't settled its outcome is `Unanswered`.
-fn segment_standing(segment: &SegmentEnd) -> Standing {
+fn segment_standing(segment: &SegmentEnd) -> Standing
+    ensures { result ≡ standing_of_segment segment.now }
+{
     match segment.outcome {
         Outcome::Charged => Standing::Charged,
         Outcome::Refused | Outcome::Unsent => Standing::Refused,
@@ -73,7 +88,9 @@ fn segment_standing(segment: &SegmentEnd) -> Standing {
 }
 
 /// What two segments of one message come to.
-fn joined(one: Standing, other: Standing) -> Standing {
+fn joined(one: Standing, other: Standing) -> Standing
+    ensures { result ≡ standing_where (is_waiting one || is_waiting other) (is_unanswered one || is_unanswered other) (is_refused one || is_refused other) }
+{
     match (one, other) {
         (Standing::Waiting, _) | (_, Standing::Waiting) => Standing::Waiting,
         (Standing::Unanswered, _) | (_, Standing::Unanswered) => Standing::Unanswered,
@@ -83,7 +100,9 @@ fn joined(one: Standing, other: Standing) -> Standing {
 }
 
 /// How far a message is.
-fn message_standing(end: &MessageEnd) -> Standing {
+fn message_standing(end: &MessageEnd) -> Standing
+    ensures { result ≡ standing_of_message end.now }
+{
     let MessageResult::Sent(segments) = &end.result else {
         return Standing::Refused;
     };
@@ -96,7 +115,9 @@ fn message_standing(end: &MessageEnd) -> Standing {
 
 /// What has become of these messages, so many segments of which still wait for an answer. Such a
 /// segment looks like one that had none.
-pub fn tally_of(ends: &[MessageEnd], open: usize) -> Tally {
+pub fn tally_of(ends: &[MessageEnd], open: usize) -> Tally
+    ensures { result ≡ tally_in ends.now «open» }
+{
     let mut tally = Tally::none();
     for end in ends {
         tally.count(message_standing(end));
@@ -117,7 +138,9 @@ pub struct WayLine {
 
 impl WayLine {
     /// How many messages ended in a second.
-    fn rate(&self) -> u64 {
+    fn rate(&self) -> u64
+        ensures { result ≡ rate_of self.now }
+    {
         if self.ms == 0 {
             return 0;
         }
@@ -125,7 +148,9 @@ impl WayLine {
     }
 
     /// In how many seconds the others end at this rate, where one has ended.
-    fn left(&self) -> Option<u64> {
+    fn left(&self) -> Option<u64>
+        ensures { result ≡ left_of self.now }
+    {
         let ended = self.tally.ended();
         if ended == 0 {
             return None;
@@ -135,21 +160,57 @@ impl WayLine {
     }
 }
 
-impl fmt::Display for WayLine {
+/// How quickly messages end.
+#[derive(Clone, Copy, Debug, PartialEq, Eq)]
+struct Pace {
+    /// How many in a second.
+    rate: u64,
+    /// In how many seconds the others do.
+    left: Option<u64>,
+}
+
+impl fmt::Display for Pace {
+    ghost use Rattle.std.specs.Prelude.{Some};
+    ghost use Rattle.sms_send.specs.Tally.{pace_text};
+
+    ghost output = { λ pace. Some (pace_text pace) };
+
     fn fmt<W: fmt::Write>(&self, f: &mut fmt::Formatter<W>) -> fmt::Result {
-        let (ended, all, rate) = (self.tally.ended(), self.all, self.rate());
-        let Tally {
-            charged,
-            refused,
-            unanswered,
-        } = self.tally;
+        let rate = self.rate;
+        match self.left {
+            Some(left) => write!(f, "{rate} a second, {left} s left"),
+            None => write!(f, "{rate} a second"),
+        }
+    }
+}
+
+impl fmt::Display for Tally {
+    ghost use Rattle.std.specs.Prelude.{Some};
+    ghost use Rattle.sms_send.specs.Tally.{tally_text};
+
+    ghost output = { λ tally. Some (tally_text tally) };
+
+    fn fmt<W: fmt::Write>(&self, f: &mut fmt::Formatter<W>) -> fmt::Result {
+        let (charged, refused, unanswered) = (self.charged, self.refused, self.unanswered);
         write!(
             f,
-            "messages {ended} of {all}, charged {charged}, refused {refused}, unanswered {unanswered}, {rate} a second"
-        )?;
-        match self.left() {
-            Some(left) => write!(f, ", {left} s left"),
-            None => Ok(()),
-        }
+            "charged {charged}, refused {refused}, unanswered {unanswered}"
+        )
+    }
+}
+
+impl fmt::Display for WayLine {
+    ghost use Rattle.std.specs.Prelude.{Some};
+    ghost use Rattle.sms_send.specs.Tally.{way_text};
+
+    ghost output = { λ line. Some (way_text line) };
+
+    fn fmt<W: fmt::Write>(&self, f: &mut fmt::Formatter<W>) -> fmt::Result {
+        let (ended, all, tally) = (self.tally.ended(), self.all, self.tally);
+        let pace = Pace {
+            rate: self.rate(),
+            left: self.left(),
+        };
+        write!(f, "messages {ended} of {all}, {tally}, {pace}")
     }
 }

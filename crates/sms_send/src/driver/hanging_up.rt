@@ -1,7 +1,8 @@
 //! How binds are ended (SMPP 3.4 4.2).
 ghost use Rattle.std.specs.Prelude.{◌≡◌, IfSome, map, length};
 ghost use Rattle.std.specs.List.{AllByRecursion};
-ghost use Rattle.sms_send.specs.BindEnds.{IsTried, SpellsUnbind};
+ghost use Rattle.sms_window.specs.Drawing.{HasDrawn};
+ghost use Rattle.sms_send.specs.BindEnds.{drawn_in, HasAsked, IsTried, SpellsUnbind};
 
 use crate::driver::bind_end::{Unasked, Unbinding};
 use crate::driver::seating::{Own, Post};
@@ -18,6 +19,7 @@ use std::sync::atomic::Ordering;
 pub(crate) fn draw(window: &Window, seat: &mut WindowSeat) -> Option<u32>
     requires own { seat.old.window ≡ window.now }
     ensures window { seat.new.window ≡ seat.old.window }
+    ensures drawn { HasDrawn seat.old.view (drawn_in result) seat.new.view }
 {
     for _try in 0u32..1_000 {
         match window.try_draw(seat) {
@@ -51,6 +53,7 @@ fn ask<W: Write, R: Wait>(rt: &R, alloc: Global, post: &Post<W>, seat: &mut Wind
     requires own { seat.old.window ≡ post.now.window }
     ensures window { seat.new.window ≡ seat.old.window }
     ensures tried { IsTried result }
+    ensures asked { HasAsked seat.old.view result seat.new.view }
 {
     if post.line.down.load(Ordering::SeqCst) {
         return Unbinding::Unasked(Unasked::Down);
