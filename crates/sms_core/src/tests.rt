@@ -1,6 +1,7 @@
 //! A few schedules worked out by hand, and each call with memory at hand.
 
 use crate::*;
+use std::process::Abort;
 use std::test::Fail;
 
 fn top_up(account: u32, amount: u64) -> Event {
@@ -60,12 +61,51 @@ fn state(cost: u32, attempts: u32, phase: Phase) -> Option<RequestState> {
 
 const DONE: Step = Step::Done;
 
+const UNKNOWN: Step = Step::Ignored(Cause::UnknownNumber);
+
+// The events have these steps.
+fn want_steps(rt: &impl Abort, world: &mut World, events: &[Event], wanted: &[Step]) {
+    let Ok(answers) = world.run(events) else {
+        panic!(rt; "no memory")
+    };
+    assert_eq!(rt; answers.as_slice(), wanted);
+}
+
+// The request stands so.
+fn want_request(rt: &impl Abort, world: &World, id: u32, wanted: Option<RequestState>) {
+    assert_eq!(rt; world.request(id), wanted);
+}
+
+// The first account's row, and the next number.
+fn want_row(rt: &impl Abort, world: &World, wanted: Option<Row>, next: u64) {
+    assert_eq!(rt; world.row(0), wanted);
+    assert_eq!(rt; world.next(), next);
+}
+
+// How many requests there are, and who holds the first slot.
+fn want_held(rt: &impl Abort, world: &World, requests: usize, holder: Option<u32>) {
+    assert_eq!(rt; world.requests().len(), requests);
+    assert_eq!(rt; world.holder(0), holder);
+}
+
 #[test]
-fn refuses_limits_and_events(rt: HostRuntime) -> Result<(), Fail> {
+fn refuses_limits(rt: HostRuntime) {
     for (accounts, limit, attempts) in [(1, 65, 3), (0, 1, 1)] {
         let made = World::new(rt.alloc(), accounts, limit, attempts);
         assert!(rt; matches!(made, Err(CoreError::BadLimit)));
     }
+}
+
+// The event changes nothing, and this is why.
+fn want_ignored(rt: &impl Abort, world: &mut World, event: Event, cause: Cause) {
+    let Ok(step) = world.step(event) else {
+        panic!(rt; "no memory")
+    };
+    assert_eq!(rt; step, Step::Ignored(cause));
+}
+
+#[test]
+fn ignores_events(rt: HostRuntime) -> Result<(), Fail> {
     let mut world = World::new(rt.alloc(), 1, 1, 1)?;
     let release = Event::Release { worker: 1, slot: 0 };
     for (event, cause) in [
@@ -74,18 +114,17 @@ fn refuses_limits_and_events(rt: HostRuntime) -> Result<(), Fail> {
         (release, Cause::NotHolder),
         (Event::Discard { request: 9 }, Cause::NoRequest),
     ] {
-        assert_eq!(rt; world.step(event)?, Step::Ignored(cause));
+        want_ignored(&rt, &mut world, event, cause);
     }
     assert_eq!(rt; world.accounts(), 1);
-    assert_eq!(rt; world.next(), 1);
+    want_row(&rt, &world, row(0, 0, 0, 0, 0), 1);
     Ok(())
 }
 
 #[test]
 fn late_answer_changes_nothing(rt: HostRuntime) -> Result<(), Fail> {
     let mut world = World::new(rt.alloc(), 1, 1, 1)?;
-    let unknown = Step::Ignored(Cause::UnknownNumber);
-    let answers = world.run(&[
+    let events = [
         top_up(0, 2),
         reserve(1, 1),
         reserve(2, 1),
@@ -97,44 +136,45 @@ fn late_answer_changes_nothing(rt: HostRuntime) -> Result<(), Fail> {
         respond(2, 0, false),
         settle(7),
         Event::Release { worker: 7, slot: 0 },
-    ])?;
-    let wanted = [
-        DONE, DONE, DONE, DONE, DONE, DONE, DONE, unknown, DONE, DONE, DONE,
     ];
-    assert_eq!(rt; answers.as_slice(), wanted.as_slice());
-    assert_eq!(rt; world.row(0), row(2, 0, 1, 1, 0));
-    assert_eq!(rt; world.request(1), state(1, 1, Phase::Unanswered));
-    assert_eq!(rt; world.request(2), state(1, 1, Phase::Charged));
-    assert_eq!(rt; world.requests().len(), 2);
-    assert_eq!(rt; world.holder(0), None);
-    assert_eq!(rt; world.next(), 3);
+    let wanted = [
+        DONE, DONE, DONE, DONE, DONE, DONE, DONE, UNKNOWN, DONE, DONE, DONE,
+    ];
+    want_steps(&rt, &mut world, &events, &wanted);
+    want_row(&rt, &world, row(2, 0, 1, 1, 0), 3);
+    want_request(&rt, &world, 1, state(1, 1, Phase::Unanswered));
+    want_request(&rt, &world, 2, state(1, 1, Phase::Charged));
+    want_held(&rt, &world, 2, None);
     Ok(())
+}
+
+// A request is answered with ESME_ROK, which a generic_nack may have, and then once more.
+fn answered_once(rt: &impl Abort, world: &mut World, nack: bool) {
+    let events = [
+        top_up(0, 1),
+        reserve(1, 1),
+        claim(1),
+        post(1, 1),
+        respond(1, 0, nack),
+        respond(1, 0, false),
+        settle(1),
+        respond(1, 0, false),
+    ];
+    let wanted = [DONE, DONE, DONE, DONE, DONE, UNKNOWN, DONE, UNKNOWN];
+    want_steps(rt, world, &events, &wanted);
+    want_held(rt, world, 1, Some(1));
 }
 
 #[test]
 fn answers_end_a_request_once(rt: HostRuntime) -> Result<(), Fail> {
-    let unknown = Step::Ignored(Cause::UnknownNumber);
     for (nack, balance, phase) in [
         (false, row(1, 0, 0, 1, 0), Phase::Charged),
         (true, row(1, 1, 0, 0, 1), Phase::Refused),
     ] {
         let mut world = World::new(rt.alloc(), 1, 1, 3)?;
-        let answers = world.run(&[
-            top_up(0, 1),
-            reserve(1, 1),
-            claim(1),
-            post(1, 1),
-            respond(1, 0, nack),
-            respond(1, 0, false),
-            settle(1),
-            respond(1, 0, false),
-        ])?;
-        let wanted = [DONE, DONE, DONE, DONE, DONE, unknown, DONE, unknown];
-        assert_eq!(rt; answers.as_slice(), wanted.as_slice());
-        assert_eq!(rt; world.row(0), balance);
-        assert_eq!(rt; world.request(1), state(1, 1, phase));
-        assert_eq!(rt; world.holder(0), Some(1));
-        assert_eq!(rt; world.next(), 2);
+        answered_once(&rt, &mut world, nack);
+        want_row(&rt, &world, balance, 2);
+        want_request(&rt, &world, 1, state(1, 1, phase));
     }
     Ok(())
 }
@@ -142,32 +182,39 @@ fn answers_end_a_request_once(rt: HostRuntime) -> Result<(), Fail> {
 #[test]
 fn a_cost_is_1_to_1_000(rt: HostRuntime) -> Result<(), Fail> {
     let mut world = World::new(rt.alloc(), 1, 1, 1)?;
-    let answers = world.run(&[
+    let events = [
         top_up(0, 2_000),
         reserve(1, 1_000),
         reserve(2, 1_001),
         reserve(3, 0),
         reserve(4, 1_000),
         reserve(5, 1),
-    ])?;
+    ];
     let bad = Step::Ignored(Cause::BadCost);
     let wanted = [DONE, DONE, bad, bad, DONE, Step::Ignored(Cause::NoCredit)];
-    assert_eq!(rt; answers.as_slice(), wanted.as_slice());
-    assert_eq!(rt; world.row(0), row(2_000, 0, 2_000, 0, 0));
-    assert_eq!(rt; world.request(4), state(1_000, 0, Phase::Ready));
+    want_steps(&rt, &mut world, &events, &wanted);
+    want_row(&rt, &world, row(2_000, 0, 2_000, 0, 0), 1);
+    want_request(&rt, &world, 4, state(1_000, 0, Phase::Ready));
     Ok(())
 }
 
 #[test]
-fn discards_and_retries(rt: HostRuntime) -> Result<(), Fail> {
+fn discards_a_request_once(rt: HostRuntime) -> Result<(), Fail> {
     let mut world = World::new(rt.alloc(), 1, 1, 2)?;
     let discard = Event::Discard { request: 1 };
-    let answers = world.run(&[top_up(0, 5), reserve(1, 1), discard, discard])?;
+    let events = [top_up(0, 5), reserve(1, 1), discard, discard];
     let wanted = [DONE, DONE, DONE, Step::Ignored(Cause::NoRequest)];
-    assert_eq!(rt; answers.as_slice(), wanted.as_slice());
-    assert_eq!(rt; world.row(0), row(5, 5, 0, 0, 1));
-    assert_eq!(rt; world.request(1), state(1, 0, Phase::Unsent));
-    let answers = world.run(&[
+    want_steps(&rt, &mut world, &events, &wanted);
+    want_row(&rt, &world, row(5, 5, 0, 0, 1), 1);
+    want_request(&rt, &world, 1, state(1, 0, Phase::Unsent));
+    Ok(())
+}
+
+#[test]
+fn retries_until_the_attempts_are_used_up(rt: HostRuntime) -> Result<(), Fail> {
+    let mut world = World::new(rt.alloc(), 1, 1, 2)?;
+    let events = [
+        top_up(0, 5),
         reserve(2, 3),
         claim(1),
         post(1, 2),
@@ -176,11 +223,15 @@ fn discards_and_retries(rt: HostRuntime) -> Result<(), Fail> {
         post(1, 2),
         respond(2, ESME_RTHROTTLED, false),
         settle(1),
-    ])?;
-    assert_eq!(rt; answers.as_slice(), [DONE; 8].as_slice());
-    assert_eq!(rt; world.row(0), row(5, 5, 0, 0, 4));
-    assert_eq!(rt; world.request(2), state(3, 2, Phase::Refused));
-    assert_eq!(rt; world.next(), 3);
+    ];
+    want_steps(&rt, &mut world, &events, &[DONE; 9]);
+    want_row(&rt, &world, row(5, 5, 0, 0, 3), 3);
+    want_request(&rt, &world, 2, state(3, 2, Phase::Refused));
+    Ok(())
+}
+
+#[test]
+fn which_replies_charge_and_which_are_tried_again(rt: HostRuntime) {
     for (status, nack, charge, retry) in [
         (0x00, false, true, false),
         (0x00, true, false, false),
@@ -192,23 +243,22 @@ fn discards_and_retries(rt: HostRuntime) -> Result<(), Fail> {
         assert_eq!(rt; is_charge(status, nack), charge);
         assert_eq!(rt; is_retry(status, nack), retry);
     }
-    Ok(())
 }
 
 #[test]
-fn reads_decimal_numbers(rt: HostRuntime) -> Result<(), Fail> {
-    assert_eq!(rt; decimal_of(b"0", 0), Some(0));
-    assert_eq!(rt; decimal_of(b"00000000000000000007", 9), Some(7));
-    assert_eq!(rt; decimal_of(b"000000000000000000007", 9), None);
-    assert_eq!(rt; decimal_of(b"4294967295", 0xFFFF_FFFF), Some(0xFFFF_FFFF));
-    assert_eq!(rt; decimal_of(b"4294967296", 0xFFFF_FFFF), None);
-    assert_eq!(rt;
-        decimal_of(b"18446744073709551615", u64::MAX),
-        Some(u64::MAX)
-    );
-    assert_eq!(rt; decimal_of(b"18446744073709551616", u64::MAX), None);
+fn reads_decimal_numbers(rt: HostRuntime) {
+    for (text, most, wanted) in [
+        ("0", 0, Some(0)),
+        ("00000000000000000007", 9, Some(7)),
+        ("000000000000000000007", 9, None),
+        ("4294967295", 0xFFFF_FFFF, Some(0xFFFF_FFFF)),
+        ("4294967296", 0xFFFF_FFFF, None),
+        ("18446744073709551615", u64::MAX, Some(u64::MAX)),
+        ("18446744073709551616", u64::MAX, None),
+    ] {
+        assert_eq!(rt; decimal_of(text.as_bytes(), most), wanted);
+    }
     for text in ["", " 1", "1 ", "+1", "-1", "1e3", "0x10", "1_000"] {
         assert_eq!(rt; decimal_of(text.as_bytes(), u64::MAX), None);
     }
-    Ok(())
 }
