@@ -2,9 +2,10 @@
 
 ghost use Rattle.std.specs.Prelude.{◌≡◌, ◌≢◌, true, IfOk};
 ghost use Rattle.std.specs.Io.KnownBytes.{Appends};
+ghost use Rattle.sms_pdu.specs.Borrowed.{owned_body, owned_pdu};
 ghost use Rattle.sms_pdu.specs.Grammar.{Spells};
 ghost use Rattle.sms_bind.specs.Devices.{writer, is_broken};
-ghost use Rattle.sms_bind.specs.Deeds.{bad_length_response, pdu_for};
+ghost use Rattle.sms_bind.specs.Deeds.{bad_length_response, body_for, pdu_for};
 ghost use Rattle.sms_bind.specs.declared.deed.Written.TheVariants.{Sent, Broken};
 
 use crate::deed::Written;
@@ -12,8 +13,8 @@ use crate::line::Line;
 use crate::wire::Wire;
 use sms_core::ESME_RINVCMDLEN;
 use sms_pdu::{
-    Body, DELIVER_SM_RESP, ENQUIRE_LINK_RESP, Frame, GENERIC_NACK, Octets, Pdu, PduError,
-    UNBIND_RESP, encode,
+    BodyRef, DELIVER_SM_RESP, ENQUIRE_LINK_RESP, Frame, GENERIC_NACK, PduError, PduRef,
+    UNBIND_RESP, encode_into,
 };
 use sms_session::Response;
 use std::alloc::Global;
@@ -56,28 +57,36 @@ fn bad_length() -> Response
 fn frame_of(alloc: Global, response: &Response) -> Result<Frame, PduError>
     ensures { IfOk result (λ frame. Spells (pdu_for response.now) frame) }
 {
-    match encode(alloc, &pdu_of(alloc, response)) {
-        Ok(octets) => Ok(Frame::new(octets)),
+    let mut octets = Vec::new(alloc);
+    match encode_into(&mut octets, &pdu_of(response)) {
+        Ok(_size) => Ok(Frame::new(octets)),
         Err(e) => Err(e),
     }
 }
 
-/// The PDU of a response. A deliver_sm_resp has an empty message_id (SMPP 3.4 4.6.2).
-fn pdu_of(alloc: Global, response: &Response) -> Pdu
-    ensures { result ≡ pdu_for response.now }
+/// The PDU of a response.
+fn pdu_of(response: &Response) -> PduRef<'_>
+    ensures { owned_pdu result ≡ pdu_for response.now }
 {
-    let body = match response.command {
-        DELIVER_SM_RESP => Body::DeliverResp {
-            message_id: Some(Octets::new(Vec::new(alloc))),
-        },
-        ENQUIRE_LINK_RESP => Body::EnquireLinkResp,
-        UNBIND_RESP => Body::UnbindResp,
-        _ => Body::GenericNack,
-    };
-    Pdu {
+    PduRef {
         status: response.status,
         number: response.number,
-        body,
+        body: body_of(response.command),
+    }
+}
+
+/// The body of a response with this command. A deliver_sm_resp has an empty message_id (SMPP 3.4
+/// 4.6.2).
+fn body_of(command: u32) -> BodyRef<'static>
+    ensures { owned_body result ≡ body_for command }
+{
+    match command {
+        DELIVER_SM_RESP => BodyRef::DeliverResp {
+            message_id: Some(b""),
+        },
+        ENQUIRE_LINK_RESP => BodyRef::EnquireLinkResp,
+        UNBIND_RESP => BodyRef::UnbindResp,
+        _ => BodyRef::GenericNack,
     }
 }
 

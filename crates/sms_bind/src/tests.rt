@@ -70,7 +70,10 @@ impl Write for Sink {
 }
 
 fn string_of(alloc: Global, octets: &[u8]) -> Result<Octets, PduError> {
-    Ok(Octets::copy(alloc, octets)?)
+    match Octets::copy(alloc, octets) {
+        Ok(copy) => Ok(copy),
+        Err(_e) => Err(PduError::OutOfMemory),
+    }
 }
 
 fn settings_of(alloc: Global, mode: Mode, name: &[u8]) -> Result<Settings, PduError> {
@@ -133,7 +136,10 @@ fn frame(alloc: Global, octets: &[u8]) -> Result<Frame, Fail> {
     if !is_frame(octets) {
         return Err("no frame".into());
     }
-    Ok(Frame::new(Vec::from_slice(alloc, octets)?))
+    match Vec::from_slice(alloc, octets) {
+        Ok(copy) => Ok(Frame::new(copy)),
+        Err(e) => Err(e.into()),
+    }
 }
 
 #[test]
@@ -154,27 +160,39 @@ fn refuses_settings(rt: HostRuntime) {
     );
 }
 
+// The device took 10 octets of the enquire_link, and its one fault was counted.
+fn want_ten_octets(rt: &impl Abort, wire: Wire<Sink>) {
+    let tap = wire.into_tap();
+    assert_eq!(rt; tap.faults(), 1);
+    let sink = tap.into_inner();
+    assert_eq!(rt; sink.octets.as_slice(), &ENQUIRE_LINK[..10]);
+}
+
+// The first frame breaks a wire that takes 10 octets, and the second one is not written.
+fn want_broken(rt: &impl Abort, mut wire: Wire<Sink>, first: Frame, second: Frame) {
+    assert!(rt; !wire.broken());
+    let Err(WireFault::Write(_receipt)) = wire.send(first) else {
+        panic!(rt; "no write fault")
+    };
+    assert!(rt; wire.broken());
+    let Err(WireFault::Broken) = wire.send(second) else {
+        panic!(rt; "not broken")
+    };
+    want_ten_octets(rt, wire);
+}
+
 #[test]
 fn a_broken_wire_writes_nothing_more(rt: HostRuntime) -> Result<(), Fail> {
+    let alloc = rt.alloc();
     for fails in [false, true] {
+        let first = frame(alloc, ENQUIRE_LINK)?;
+        let second = frame(alloc, ENQUIRE_LINK)?;
         let sink = Sink {
             room: 10,
-            octets: Vec::new(rt.alloc()),
+            octets: Vec::new(alloc),
             fails,
         };
-        let mut wire = Wire::new(Tap::new(sink));
-        assert!(rt; !wire.broken());
-        let Err(WireFault::Write(_receipt)) = wire.send(frame(rt.alloc(), ENQUIRE_LINK)?) else {
-            panic!(rt; "no write fault")
-        };
-        assert!(rt; wire.broken());
-        let Err(WireFault::Broken) = wire.send(frame(rt.alloc(), ENQUIRE_LINK)?) else {
-            panic!(rt; "not broken")
-        };
-        let tap = wire.into_tap();
-        assert_eq!(rt; tap.faults(), 1);
-        let sink = tap.into_inner();
-        assert_eq!(rt; sink.octets.as_slice(), &ENQUIRE_LINK[..10]);
+        want_broken(&rt, Wire::new(Tap::new(sink)), first, second);
     }
     Ok(())
 }
@@ -194,25 +212,34 @@ fn a_write_that_takes_nothing_is_counted(rt: HostRuntime) {
     assert!(rt; tap.flush().is_ok());
 }
 
-#[test]
-fn a_bind_and_its_answer(rt: HostRuntime) -> Result<(), Fail> {
-    let alloc = rt.alloc();
+// What a transmitter keeps of its answer, an enquire_link, and 15 octets of another one.
+fn want_kept(rt: &impl Abort, bound: Bound) {
+    assert_eq!(rt; bound.session.state(), State::BoundTx);
+    assert_eq!(rt; bound.frames.as_slice().len(), 1);
+    assert_eq!(rt; bound.framer.rest(), &ENQUIRE_LINK[..15]);
+}
+
+// A transmitter that reads this writes its bind.
+fn want_bound(rt: &impl Abort, alloc: Global, stream: &[u8]) {
     let Ok(settings) = settings_of(alloc, Mode::Transmitter, b"esme") else {
         panic!(rt; "no settings")
     };
-    let mut stream = Vec::from_slice(alloc, ACCEPTED)?;
-    stream.extend_from_slice(ENQUIRE_LINK)?;
-    stream.extend_from_slice(&ENQUIRE_LINK[..15])?;
-    let mut reader = Tap::new(stream.as_slice());
+    let mut reader = Tap::new(stream);
     let mut wire = Wire::new(Tap::new(Vec::<u8>::new(alloc)));
     let Ok(bound) = bound_over(alloc, &mut reader, &mut wire, &settings) else {
         panic!(rt; "not bound")
     };
+    want_kept(rt, bound);
     let written = wire.into_tap().into_inner();
     assert_eq!(rt; written.as_slice(), BIND.as_slice());
-    assert_eq!(rt; bound.session.state(), State::BoundTx);
-    assert_eq!(rt; bound.frames.as_slice().len(), 1);
-    assert_eq!(rt; bound.framer.rest(), &ENQUIRE_LINK[..15]);
+}
+
+#[test]
+fn a_bind_and_its_answer(rt: HostRuntime) -> Result<(), Fail> {
+    let mut stream = Vec::from_slice(rt.alloc(), ACCEPTED)?;
+    stream.extend_from_slice(ENQUIRE_LINK)?;
+    stream.extend_from_slice(&ENQUIRE_LINK[..15])?;
+    want_bound(&rt, rt.alloc(), stream.as_slice());
     Ok(())
 }
 
@@ -256,19 +283,5 @@ fn reads_that_give_nothing(rt: HostRuntime) -> Result<(), Fail> {
         bound_by(&rt, rt.alloc(), tired).err(),
         Some(BindFault::Read)
     );
-    Ok(())
-}
-
-#[test]
-fn a_bind_that_can_not_be_written(rt: HostRuntime) -> Result<(), Fail> {
-    let alloc = rt.alloc();
-    let Ok(settings) = settings_of(alloc, Mode::Transmitter, b"esme") else {
-        panic!(rt; "no settings")
-    };
-    let mut reader = source_of(0, ACCEPTED, false);
-    let mut wire = wire_to(28, Vec::new(alloc));
-    let result = bound_over(alloc, &mut reader, &mut wire, &settings);
-    assert_eq!(rt; result.err(), Some(BindFault::Write));
-    assert!(rt; wire.broken());
     Ok(())
 }

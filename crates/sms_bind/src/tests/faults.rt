@@ -1,7 +1,7 @@
 //! Reads and writes that fail at each octet of what is read and written.
 use super::reader::{bound_as, counts, line_of, read_from, ring_of, want_written};
-use super::{ACCEPTED, BIND, bound_by, bound_over, settings_of, source_of, wire_to};
-use crate::{BindFault, Cause};
+use super::{ACCEPTED, BIND, Sink, bound_by, bound_over, settings_of, source_of, wire_to};
+use crate::{BindFault, Cause, Settings, Wire};
 use sms_pdu::Mode;
 use std::alloc::Global;
 use std::process::Abort;
@@ -47,6 +47,31 @@ fn an_answer_that_is_cut_at_each_octet(rt: HostRuntime) {
     }
 }
 
+// These first octets of the bind were taken, and a device that took no more failed once.
+fn want_taken(rt: &impl Abort, wire: Wire<Sink>, octets: usize) {
+    let whole = octets == 29;
+    assert_eq!(rt; wire.broken(), !whole);
+    let tap = wire.into_tap();
+    assert_eq!(rt; tap.faults(), if whole { 0 } else { 1 });
+    assert_eq!(rt; tap.into_inner().octets.as_slice(), &BIND[..octets.min(29)]);
+}
+
+// A bind over a writer with room for so many octets.
+fn want_cut(rt: &impl Abort, alloc: Global, settings: &Settings, room: usize) {
+    let mut reader = source_of(0, ACCEPTED, false);
+    let mut wire = wire_to(room, Vec::new(alloc));
+    let result = bound_over(alloc, &mut reader, &mut wire, settings);
+    let whole = room == 29;
+    assert!(rt;
+        match result {
+            Ok(_bound) => whole,
+            Err(fault) => !whole && fault == BindFault::Write,
+        }
+    );
+    assert_eq!(rt; reader.into_inner().octets.is_empty(), whole);
+    want_taken(rt, wire, room);
+}
+
 // The writer fails at each octet of the bind. Then nothing is read.
 #[test]
 fn a_bind_that_is_cut_at_each_octet(rt: HostRuntime) -> Result<(), Fail> {
@@ -55,17 +80,7 @@ fn a_bind_that_is_cut_at_each_octet(rt: HostRuntime) -> Result<(), Fail> {
         panic!(rt; "no settings")
     };
     for room in 0..30usize {
-        let mut reader = source_of(0, ACCEPTED, false);
-        let mut wire = wire_to(room, Vec::new(alloc));
-        let result = bound_over(alloc, &mut reader, &mut wire, &settings);
-        let whole = room == 29;
-        assert_eq!(rt; result.is_ok(), whole);
-        assert!(rt; whole || matches!(result, Err(BindFault::Write)));
-        assert_eq!(rt; wire.broken(), !whole);
-        assert_eq!(rt; reader.into_inner().octets.is_empty(), whole);
-        let tap = wire.into_tap();
-        assert_eq!(rt; tap.faults(), if whole { 0 } else { 1 });
-        assert_eq!(rt; tap.into_inner().octets.as_slice(), &BIND[..room.min(29)]);
+        want_cut(&rt, alloc, &settings, room);
     }
     Ok(())
 }
@@ -79,7 +94,7 @@ fn want_end<S: Abort + Wait>(
     room: usize,
     (cause, answered, delivered, written): (Cause, u64, u64, usize),
 ) -> Result<(), Fail> {
-    let line = line_of(rt, alloc, room, 2)?;
+    let line = line_of(rt, alloc, room, 2);
     let (producers, mut consumer) = ring_of(alloc, 64)?;
     let source = source_of(0, &STREAM[..octets.min(80)], true);
     let bound = bound_as(rt, alloc, Mode::Transceiver);
@@ -136,7 +151,7 @@ fn a_nack_that_is_cut_at_each_octet(rt: HostRuntime) -> Result<(), Fail> {
             0..16 => (Cause::WriteFault, 0),
             _ => (Cause::Lost, 1),
         };
-        let line = line_of(&rt, alloc, room, 0)?;
+        let line = line_of(&rt, alloc, room, 0);
         let source = source_of(0, STRANGE, true);
         let bound = bound_as(&rt, alloc, Mode::Transceiver);
         let end = read_from(&rt, alloc, source, bound, Vec::new(alloc), &line);

@@ -2,8 +2,8 @@
 ghost use Rattle.std.specs.Prelude.{◌≡◌, ◌≤◌};
 ghost use Rattle.sms_core.specs.Limits.{most_slots};
 
-use super::{ACCEPTED, ENQUIRE_LINK, Sink, Source, bound_over, settings_of, source_of, wire_to};
-use crate::{Bound, Cause, Line, ReaderEnd, Tap, Wire, read_loop};
+use super::{ACCEPTED, ENQUIRE_LINK, Sink, Source, bound_by, source_of, wire_to};
+use crate::{Bound, Cause, Line, ReaderEnd, Tap, read_loop};
 use rtrb::{Consumer, Producer, RingBuffer};
 use sms_pdu::{BIND_TRANSCEIVER_RESP, BIND_TRANSMITTER_RESP, Framer, Frames, Header, Mode, Reply};
 use sms_session::Opened;
@@ -46,17 +46,19 @@ pub(crate) fn line_of<S: Abort + Wait>(
     alloc: Global,
     room: usize,
     waiting: u32,
-) -> Result<Line<Sink>, Fail>
+) -> Line<Sink>
     requires { waiting ≤ most_slots }
 {
-    let slots = SlotRow::new(alloc)?;
+    let Ok(slots) = SlotRow::new(alloc) else {
+        panic!(rt; "no row")
+    };
     for slot in 0..waiting {
         assert_eq!(rt; slots.post(rt, slot, 0, slot + 1), Ok(()));
     }
     let line = Line::new(slots, wire_to(room, Vec::new(alloc)));
     assert!(rt; !line.down.load(Ordering::SeqCst));
     assert!(rt; !line.stop.load(Ordering::SeqCst));
-    Ok(line)
+    line
 }
 
 // A ring of this room, for the one worker.
@@ -64,10 +66,13 @@ pub(crate) fn ring_of(
     alloc: Global,
     room: usize,
 ) -> Result<(Vec<Producer<Reply>>, Consumer<Reply>), Fail> {
-    let (producer, consumer) = RingBuffer::new(alloc, room)?;
-    let mut producers = Vec::new(alloc);
-    producers.push(producer)?;
-    Ok((producers, consumer))
+    match (RingBuffer::new(alloc, room), Vec::with_capacity(alloc, 1)) {
+        (Ok((producer, consumer)), Ok(mut producers)) => {
+            producers.push_reserved(producer);
+            Ok((producers, consumer))
+        }
+        _ => Err("no ring".into()),
+    }
 }
 
 // Reads in 10 turns, and follows nothing.
@@ -164,7 +169,7 @@ fn streams_that_are_read(rt: HostRuntime) -> Result<(), Fail> {
     ];
     for (octets, cause, wanted, written) in cases {
         let alloc = rt.alloc();
-        let line = line_of(&rt, alloc, 1000, 1)?;
+        let line = line_of(&rt, alloc, 1000, 1);
         let (producers, mut consumer) = ring_of(alloc, 64)?;
         let bound = bound_as(&rt, alloc, Mode::Transceiver);
         let end = read_from(
@@ -185,18 +190,15 @@ fn streams_that_are_read(rt: HostRuntime) -> Result<(), Fail> {
 }
 
 // Binds as a transmitter over the answer and these octets behind it.
-fn bound_with(rt: &impl Abort, alloc: Global, behind: &[u8]) -> Result<Bound, Fail> {
-    let Ok(settings) = settings_of(alloc, Mode::Transmitter, b"esme") else {
-        panic!(rt; "no settings")
+fn bound_with(rt: &impl Abort, alloc: Global, behind: &[u8]) -> Bound {
+    let Ok(mut stream) = Vec::from_slice(alloc, ACCEPTED) else {
+        panic!(rt; "no memory")
     };
-    let mut stream = Vec::from_slice(alloc, ACCEPTED)?;
-    stream.extend_from_slice(behind)?;
-    let mut reader = source_of(0, stream.as_slice(), false);
-    let mut wire = Wire::new(Tap::new(Vec::<u8>::new(alloc)));
-    let Ok(bound) = bound_over(alloc, &mut reader, &mut wire, &settings) else {
+    assert!(rt; stream.extend_from_slice(behind).is_ok());
+    let Ok(bound) = bound_by(rt, alloc, source_of(0, stream.as_slice(), false)) else {
         panic!(rt; "not bound")
     };
-    Ok(bound)
+    bound
 }
 
 // What was read with the bind's answer is worked first; a transmitter is sent no deliver_sm.
@@ -218,8 +220,8 @@ fn what_came_with_the_answer(rt: HostRuntime) -> Result<(), Fail> {
     ];
     for (behind, cause, delivered, written) in cases {
         let alloc = rt.alloc();
-        let bound = bound_with(&rt, alloc, behind)?;
-        let line = line_of(&rt, alloc, 1000, 0)?;
+        let bound = bound_with(&rt, alloc, behind);
+        let line = line_of(&rt, alloc, 1000, 0);
         let later = source_of(3, b"\x00\x00\x00\x00\x00\x00\x09", false);
         let end = read_from(&rt, alloc, later, bound, Vec::new(alloc), &line);
         assert_eq!(rt; end.cause, cause);
@@ -235,7 +237,7 @@ fn answers_that_overrun(rt: HostRuntime) -> Result<(), Fail> {
     let octets =
         b"\x00\x00\x00\x10\x80\x00\x00\x04\x00\x00\x00\x00\x00\x00\x00\x01\x00\x00\x00\x10\x80\x00\x00\x04\x00\x00\x00\x00\x00\x00\x00\x02";
     let alloc = rt.alloc();
-    let line = line_of(&rt, alloc, 0, 2)?;
+    let line = line_of(&rt, alloc, 0, 2);
     let bound = bound_as(&rt, alloc, Mode::Transceiver);
     let end = read_from(
         &rt,
@@ -271,7 +273,7 @@ fn readers_that_end_early(rt: HostRuntime) -> Result<(), Fail> {
     ];
     for (room, idle, stop, cause) in cases {
         let alloc = rt.alloc();
-        let line = line_of(&rt, alloc, room, 0)?;
+        let line = line_of(&rt, alloc, room, 0);
         line.stop.store(stop, Ordering::SeqCst);
         let bound = bound_as(&rt, alloc, Mode::Transmitter);
         let source = source_of(idle, ENQUIRE_LINK, true);
@@ -313,7 +315,7 @@ fn throttling_is_followed(rt: HostRuntime) -> Result<(), Fail> {
     for (limit, throttled, good, held) in cases {
         let alloc = rt.alloc();
         let octets = answers(alloc, throttled, good)?;
-        let line = line_of(&rt, alloc, 0, 18)?;
+        let line = line_of(&rt, alloc, 0, 18);
         let (producers, _consumer) = ring_of(alloc, 64)?;
         let Ok((window, seat)) = Window::make(alloc, limit) else {
             panic!(rt; "no window")
@@ -360,7 +362,7 @@ fn release(rt: &impl Abort, window: &Window, seat: &mut WindowSeat, slot: u32)
 fn throttling_beside_a_worker(rt: HostRuntime) -> Result<(), Fail> {
     let alloc = rt.alloc();
     let octets = answers(alloc, 3, 0)?;
-    let line = line_of(&rt, alloc, 0, 3)?;
+    let line = line_of(&rt, alloc, 0, 3);
     let (producers, _consumer) = ring_of(alloc, 64)?;
     let Ok((window, mut seat)) = Window::make(alloc, 4) else {
         panic!(rt; "no window")
