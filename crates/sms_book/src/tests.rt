@@ -62,7 +62,7 @@ fn only_row<N: BookName>(
     row
 }
 
-fn moves<N: BookName>(rt: &impl Abort, alloc: Global, blank: Blank) -> Result<(), Fail>
+fn moves<N: BookName>(rt: &impl Abort, alloc: Global, blank: Blank)
     requires { blank.book ≡ N.book }
 {
     let Ok((mut book, mut till, mut shares)) = blank.into_book::<N>(alloc) else {
@@ -71,8 +71,8 @@ fn moves<N: BookName>(rt: &impl Abort, alloc: Global, blank: Blank) -> Result<()
     let Some(mut share) = shares.pop() else {
         panic!(rt; "no share")
     };
-    book.top_up(&mut till, 0, 5)?;
-    book.reserve(&mut share, 0, 2)?;
+    assert!(rt; book.top_up(&mut till, 0, 5) == Ok(()));
+    assert!(rt; book.reserve(&mut share, 0, 2) == Ok(()));
     assert!(rt; share.reserved(0) == 2 && share.reserved(1) == 0);
     assert_eq!(rt; share.accounts(), 1);
     book.charge(&mut share, 0, 1);
@@ -80,61 +80,70 @@ fn moves<N: BookName>(rt: &impl Abort, alloc: Global, blank: Blank) -> Result<()
     assert!(rt; book.look(&mut share, 0) == Some(row) && book.look(&mut share, 1) == None);
     assert!(rt; share.reserved(0) == 1);
     book.give_back(&mut share, 0, 1);
-    shares.push(share)?;
+    let Ok(()) = shares.push(share) else {
+        panic!(rt; "no memory")
+    };
     let row = row_of([5, 4, 0, 1, 1]);
     assert_eq!(rt; only_row(rt, book, till, shares), row);
-    Ok(())
 }
 
 #[test]
 fn money_moves(rt: HostRuntime) -> Result<(), Fail> {
     let blank = blank_of(rt.alloc(), 0, 1)?;
-    moves::<Brand>(&rt, rt.alloc(), blank)
+    moves::<Brand>(&rt, rt.alloc(), blank);
+    Ok(())
 }
 
-// Which refusal an opening has, and 9 where it has none.
-fn refusal(
+// A book of these accounts for so many workers is refused so, or opens.
+fn want_opening(
+    rt: &impl Abort,
     alloc: Global,
     accounts: &[(&str, u64)],
     workers: usize,
-) -> Result<(u8, usize, usize), Fail> {
+    wanted: Option<BookError>,
+) -> Result<(), Fail> {
     let openings = openings_of(alloc, accounts)?;
-    Ok(match open_book(alloc, openings.as_slice(), workers) {
-        Err(BookError::BadCount) => (0, 0, 0),
-        Err(BookError::Duplicate { first, second }) => (1, first, second),
-        Err(BookError::AmountTooLarge) => (2, 0, 0),
-        Err(other) => return Err(other.into()),
-        Ok(_) => (9, 0, 0),
-    })
+    let fault = match open_book(alloc, openings.as_slice(), workers) {
+        Err(fault) => Some(fault),
+        Ok(_) => None,
+    };
+    assert_eq!(rt; fault, wanted);
+    Ok(())
 }
 
 #[test]
 fn openings_are_refused(rt: HostRuntime) -> Result<(), Fail> {
-    let alloc = rt.alloc();
     let over = MOST_TOPPED + 1;
+    let first = BookError::Duplicate {
+        first: 0,
+        second: 1,
+    };
+    let earliest = BookError::Duplicate {
+        first: 1,
+        second: 3,
+    };
     let many = [("a", over); 65];
-    assert_eq!(rt; refusal(alloc, &[("a", 0), ("a", over)], 1)?, (1, 0, 1));
-    assert_eq!(rt;
-        refusal(
-            alloc,
+    let cases: [(&[(&str, u64)], usize, Option<BookError>); 8] = [
+        (&[("a", 0), ("a", over)], 1, Some(first)),
+        (
             &[("a", 0), ("b", 0), ("c", 0), ("b", 0), ("a", 0), ("b", 0)],
-            1
-        )?,
-        (1, 1, 3)
-    );
-    assert_eq!(rt; refusal(alloc, &many, 1)?, (0, 0, 0));
-    assert_eq!(rt; refusal(alloc, &[], 1)?, (0, 0, 0));
-    assert_eq!(rt; refusal(alloc, &[("a", over)], 0)?, (0, 0, 0));
-    assert_eq!(rt; refusal(alloc, &[("a", over)], 33)?, (0, 0, 0));
-    assert_eq!(rt; refusal(alloc, &[("a", over)], 32)?, (2, 0, 0));
-    assert_eq!(rt;
-        refusal(alloc, &[("a", MOST_TOPPED), ("b", 1)], 32)?,
-        (9, 0, 0)
-    );
+            1,
+            Some(earliest),
+        ),
+        (&many, 1, Some(BookError::BadCount)),
+        (&[], 1, Some(BookError::BadCount)),
+        (&[("a", over)], 0, Some(BookError::BadCount)),
+        (&[("a", over)], 33, Some(BookError::BadCount)),
+        (&[("a", over)], 32, Some(BookError::AmountTooLarge)),
+        (&[("a", MOST_TOPPED), ("b", 1)], 32, None),
+    ];
+    for (accounts, workers, wanted) in cases {
+        want_opening(&rt, rt.alloc(), accounts, workers, wanted)?;
+    }
     Ok(())
 }
 
-fn calls_refused<N: BookName>(rt: &impl Abort, alloc: Global, blank: Blank) -> Result<(), Fail>
+fn calls_refused<N: BookName>(rt: &impl Abort, alloc: Global, blank: Blank)
     requires { blank.book ≡ N.book }
 {
     let Ok((mut book, mut till, mut shares)) = blank.into_book::<N>(alloc) else {
@@ -152,19 +161,21 @@ fn calls_refused<N: BookName>(rt: &impl Abort, alloc: Global, blank: Blank) -> R
     };
     assert!(rt; fault == GatherFault::MissingShare && shares.len() == 1);
     // The second share before the first.
-    shares.insert(0, share)?;
+    let Ok(()) = shares.insert(0, share) else {
+        panic!(rt; "no memory")
+    };
     let row = row_of([1, 1, 0, 0, 0]);
     assert_eq!(rt; only_row(rt, book, till, shares), row);
-    Ok(())
 }
 
 #[test]
 fn calls_are_refused(rt: HostRuntime) -> Result<(), Fail> {
     let blank = blank_of(rt.alloc(), 1, 2)?;
-    calls_refused::<Brand>(&rt, rt.alloc(), blank)
+    calls_refused::<Brand>(&rt, rt.alloc(), blank);
+    Ok(())
 }
 
-fn returns<N: BookName>(rt: &impl Abort, alloc: Global, blank: Blank) -> Result<(), Fail>
+fn returns<N: BookName>(rt: &impl Abort, alloc: Global, blank: Blank)
     requires { blank.book ≡ N.book }
 {
     let Ok((mut book, mut till, mut shares)) = blank.into_book::<N>(alloc) else {
@@ -175,7 +186,7 @@ fn returns<N: BookName>(rt: &impl Abort, alloc: Global, blank: Blank) -> Result<
     };
     assert!(rt; book.top_up(&mut till, 0, 1) == Err(BookError::AmountTooLarge));
     for _ in 0..1_048_576 {
-        book.reserve(&mut share, 0, MOST_TOPPED)?;
+        assert!(rt; book.reserve(&mut share, 0, MOST_TOPPED) == Ok(()));
         assert!(rt; share.reserved(0) == MOST_TOPPED);
         book.give_back(&mut share, 0, MOST_TOPPED);
     }
@@ -184,16 +195,18 @@ fn returns<N: BookName>(rt: &impl Abort, alloc: Global, blank: Blank) -> Result<
     let free = MOST_TOPPED;
     let needed = free + 1;
     assert!(rt; book.reserve(&mut share, 0, needed) == Err(BookError::NoCredit { free, needed }));
-    shares.push(share)?;
+    let Ok(()) = shares.push(share) else {
+        panic!(rt; "no memory")
+    };
     let row = row_of([MOST_TOPPED, MOST_TOPPED, 0, 0, 1 << 60]);
     assert_eq!(rt; only_row(rt, book, till, shares), row);
-    Ok(())
 }
 
 #[test]
 fn returned_credits_are_bounded(rt: HostRuntime) -> Result<(), Fail> {
     let blank = blank_of(rt.alloc(), MOST_TOPPED, 1)?;
-    returns::<Brand>(&rt, rt.alloc(), blank)
+    returns::<Brand>(&rt, rt.alloc(), blank);
+    Ok(())
 }
 
 fn opens<N: BookName>(rt: &impl Abort, alloc: Global, blank: Blank) -> Result<(), Fail>
@@ -228,10 +241,16 @@ fn a_blank_comes_back(rt: HostRuntime) -> Result<(), Fail> {
     opens::<Brand>(&rt, alloc, blank)
 }
 
+// A refusal says this.
+fn want_text(rt: &impl Abort, alloc: Global, fault: BookError, wanted: &str) -> Result<(), Fail> {
+    let text = format!(in alloc; "{fault}")?;
+    assert_eq!(rt; text.as_str(), wanted);
+    Ok(())
+}
+
 // What each refusal says, with its numbers in their places.
 #[test]
 fn refusals_say_their_numbers(rt: HostRuntime) -> Result<(), Fail> {
-    let alloc = rt.alloc();
     let rows = [
         (
             BookError::BadCount,
@@ -252,13 +271,16 @@ fn refusals_say_their_numbers(rt: HostRuntime) -> Result<(), Fail> {
         (BookError::NoAccount, "there is no such account"),
         (BookError::OutOfMemory, "out of memory"),
     ];
-    for (fault, text) in rows.as_slice() {
-        assert_eq!(rt; format!(in alloc; "{fault}")?.as_str(), *text);
+    for (fault, text) in rows {
+        want_text(&rt, rt.alloc(), fault, text)?;
     }
+    Ok(())
+}
+
+#[test]
+fn a_missing_share_is_told(rt: HostRuntime) -> Result<(), Fail> {
     let missing = GatherFault::MissingShare;
-    assert_eq!(rt;
-        format!(in alloc; "{missing}")?.as_str(),
-        "a worker's share is missing"
-    );
+    let text = format!(in rt.alloc(); "{missing}")?;
+    assert_eq!(rt; text.as_str(), "a worker's share is missing");
     Ok(())
 }

@@ -3,6 +3,7 @@ use crate::error::TariffError;
 use crate::rate::Rate;
 use crate::tariff::Tariff;
 use std::alloc::Global;
+use std::process::Abort;
 use std::test::Fail;
 
 fn tariff_of(alloc: Global, rates: &[(&str, u32)]) -> Result<Result<Tariff, TariffError>, Fail> {
@@ -47,10 +48,15 @@ fn the_longest_prefix_costs(rt: HostRuntime) -> Result<(), Fail> {
 fn no_prefix_costs_one(rt: HostRuntime) -> Result<(), Fail> {
     let alloc = rt.alloc();
     let tariff = tariff_of(alloc, &[("4477", 5), ("44", 3)])??;
-    assert_eq!(rt; tariff.cost("33"), 1);
-    assert_eq!(rt; tariff.cost("+4"), 1);
-    assert_eq!(rt; tariff.cost(""), 1);
-    let empty = tariff_of(alloc, &[])??;
+    for destination in ["33", "+4", ""] {
+        assert_eq!(rt; tariff.cost(destination), 1);
+    }
+    Ok(())
+}
+
+#[test]
+fn no_rate_costs_one(rt: HostRuntime) -> Result<(), Fail> {
+    let empty = tariff_of(rt.alloc(), &[])??;
     assert_eq!(rt; empty.cost("+447700900123"), 1);
     Ok(())
 }
@@ -66,44 +72,60 @@ fn a_prefix_has_20_digits(rt: HostRuntime) -> Result<(), Fail> {
     Ok(())
 }
 
-fn refusal(alloc: Global, rates: &[(&str, u32)]) -> Result<Option<TariffError>, Fail> {
-    match tariff_of(alloc, rates)? {
-        Err(TariffError::OutOfMemory) => Err(TariffError::OutOfMemory.into()),
-        Err(fault) => Ok(Some(fault)),
-        Ok(_) => Ok(None),
-    }
+// These rates are refused so, or make a tariff.
+fn want_refusal(
+    rt: &impl Abort,
+    alloc: Global,
+    rates: &[(&str, u32)],
+    wanted: Option<TariffError>,
+) -> Result<(), Fail> {
+    let fault = match tariff_of(alloc, rates)? {
+        Err(fault) => Some(fault),
+        Ok(_) => None,
+    };
+    assert_eq!(rt; fault, wanted);
+    Ok(())
+}
+
+const fn prefix(place: usize) -> Option<TariffError> {
+    Some(TariffError::BadPrefix { place })
+}
+
+const fn credits(place: usize) -> Option<TariffError> {
+    Some(TariffError::BadCredits { place })
+}
+
+const fn double(first: usize, second: usize) -> Option<TariffError> {
+    Some(TariffError::Duplicate { first, second })
 }
 
 #[test]
 fn rates_are_refused(rt: HostRuntime) -> Result<(), Fail> {
-    let alloc = rt.alloc();
-    let prefix = |place| Some(TariffError::BadPrefix { place });
-    let credits = |place| Some(TariffError::BadCredits { place });
-    let double = |first, second| Some(TariffError::Duplicate { first, second });
-    assert_eq!(rt; refusal(alloc, &[("44", 3), ("44", 3)])?, double(0, 1));
-    assert_eq!(rt; refusal(alloc, &[("4a", 3)])?, prefix(0));
-    assert_eq!(rt; refusal(alloc, &[("44", 0)])?, credits(0));
-    assert_eq!(rt; refusal(alloc, &[("44", 1_001)])?, credits(0));
-    assert_eq!(rt; refusal(alloc, &[("44", 1), ("+44", 1)])?, prefix(1));
-    assert_eq!(rt; refusal(alloc, &[("012345678901234567890", 1)])?, prefix(0));
-    // Of one rate the prefix comes first, then the credits; of two the earlier one.
-    assert_eq!(rt; refusal(alloc, &[("4a", 0)])?, prefix(0));
-    assert_eq!(rt;
-        refusal(alloc, &[("44", 1), ("44", 0), ("4a", 1)])?,
-        credits(1)
-    );
-    assert_eq!(rt;
-        refusal(alloc, &[("", 1), ("1", 1), ("", 2), ("x", 0)])?,
-        double(0, 2)
-    );
-    assert_eq!(rt; refusal(alloc, &[("44", 1), ("4", 1_000)])?, None);
-    // Too many rates come before any fault of a single one.
-    assert_eq!(rt;
-        refusal(alloc, &[("x", 0); 1_001])?,
-        Some(TariffError::TooMany)
-    );
-    assert_eq!(rt; refusal(alloc, &[("x", 0); 1_000])?, prefix(0));
+    let cases: [(&[(&str, u32)], Option<TariffError>); 10] = [
+        (&[("44", 3), ("44", 3)], double(0, 1)),
+        (&[("4a", 3)], prefix(0)),
+        (&[("44", 0)], credits(0)),
+        (&[("44", 1_001)], credits(0)),
+        (&[("44", 1), ("+44", 1)], prefix(1)),
+        (&[("012345678901234567890", 1)], prefix(0)),
+        // Of one rate the prefix comes first, then the credits; of two the earlier one.
+        (&[("4a", 0)], prefix(0)),
+        (&[("44", 1), ("44", 0), ("4a", 1)], credits(1)),
+        (&[("", 1), ("1", 1), ("", 2), ("x", 0)], double(0, 2)),
+        (&[("44", 1), ("4", 1_000)], None),
+    ];
+    for (rates, wanted) in cases {
+        want_refusal(&rt, rt.alloc(), rates, wanted)?;
+    }
     Ok(())
+}
+
+// Too many rates come before any fault of a single one.
+#[test]
+fn at_most_a_thousand_rates(rt: HostRuntime) -> Result<(), Fail> {
+    let many = [("x", 0); 1_001];
+    want_refusal(&rt, rt.alloc(), &many, Some(TariffError::TooMany))?;
+    want_refusal(&rt, rt.alloc(), &many[1..], prefix(0))
 }
 
 // The largest tariff, whose rates come in no order of their prefixes.
@@ -127,9 +149,15 @@ fn a_thousand_rates(rt: HostRuntime) -> Result<(), Fail> {
     Ok(())
 }
 
+// A refusal of rates says this.
+fn want_text(rt: &impl Abort, alloc: Global, fault: TariffError, wanted: &str) -> Result<(), Fail> {
+    let text = format!(in alloc; "{fault}")?;
+    assert_eq!(rt; text.as_str(), wanted);
+    Ok(())
+}
+
 #[test]
 fn refusals_of_rates_say_their_places(rt: HostRuntime) -> Result<(), Fail> {
-    let alloc = rt.alloc();
     let rows = [
         (TariffError::TooMany, "a tariff has at most 1000 rates"),
         (
@@ -149,8 +177,8 @@ fn refusals_of_rates_say_their_places(rt: HostRuntime) -> Result<(), Fail> {
         ),
         (TariffError::OutOfMemory, "out of memory"),
     ];
-    for (fault, text) in rows.as_slice() {
-        assert_eq!(rt; format!(in alloc; "{fault}")?.as_str(), *text);
+    for (fault, text) in rows {
+        want_text(&rt, rt.alloc(), fault, text)?;
     }
     Ok(())
 }
