@@ -91,8 +91,10 @@ fn late_behind(behind: Option<&[u8]>) -> Option<Treatment>
 fn number(rest: &[u8]) -> Option<u32>
     ensures { result ≡ number_in rest.now }
 {
-    let number = decimal_of(rest, u64::from(u32::MAX))?;
-    Some(number as u32)
+    match decimal_of(rest, u64::from(u32::MAX)) {
+        Some(number) => Some(number as u32),
+        None => None,
+    }
 }
 
 /// How many submit_sm later, and with which status.

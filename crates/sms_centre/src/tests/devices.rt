@@ -1,16 +1,21 @@
 //! The pipe, from both ends, and the fuse.
 use super::{ANSWER, SUBMIT, good};
-use crate::{Cause, Fuse, Pipe, ServeEnd, serve};
+use crate::{Cause, Fuse, Pipe, serve};
 use std::io::{ErrorKind, Read, Write};
 use std::process::Abort;
 use std::test::Fail;
 
+// A writer takes so many of these octets.
+fn takes(rt: &impl Abort, writer: &mut impl Write, octets: &[u8], count: usize) {
+    assert!(rt; matches!(writer.write(octets), Ok(n) if n == count));
+}
+
 // A writer takes these four octets, and then the first of them.
 fn fills(rt: &impl Abort, writer: &mut impl Write, octets: &[u8; 4]) {
-    assert!(rt; matches!(writer.write(octets), Ok(4)));
-    assert!(rt; matches!(writer.write(octets), Ok(1)));
+    takes(rt, writer, octets, 4);
+    takes(rt, writer, octets, 1);
     assert!(rt; writer.write(octets).is_err());
-    assert!(rt; matches!(writer.write(&[]), Ok(0)));
+    takes(rt, writer, &[], 0);
 }
 
 // A reader with room for at most eight octets gives these.
@@ -49,16 +54,10 @@ fn a_centre_behind_pipes(rt: HostRuntime) -> Result<(), Fail> {
     let script = good(alloc)?;
     let there = Pipe::new(alloc, 100)?;
     let back = Pipe::new(alloc, 100)?;
-    assert!(rt; matches!(there.end(&rt).write(SUBMIT), Ok(52)));
+    takes(&rt, &mut there.end(&rt), SUBMIT, 52);
     there.close(&rt);
     let end = serve(alloc, &mut there.end(&rt), &mut back.end(&rt), script, 10);
-    assert_eq!(rt;
-        end,
-        ServeEnd {
-            submits: 1,
-            cause: Cause::Ended
-        }
-    );
+    assert_eq!(rt; (end.submits, end.cause), (1, Cause::Ended));
     let mut buf = [0u8; 32];
     assert!(rt; matches!(back.end(&rt).read(&mut buf), Ok(19)));
     assert_eq!(rt; &buf[..19], ANSWER.as_slice());
@@ -70,13 +69,13 @@ fn a_fuse_passes_so_many_octets(rt: HostRuntime) -> Result<(), Fail> {
     let alloc = rt.alloc();
     let mut buf = [0u8; 4];
     let mut fuse = Fuse::new(SUBMIT.as_slice(), 6);
-    assert!(rt; matches!(fuse.read(&mut buf), Ok(4)));
-    assert!(rt; matches!(fuse.read(&mut buf), Ok(2)));
+    reads(&rt, &mut fuse, 4, b"\x00\x00\x00\x34");
+    reads(&rt, &mut fuse, 4, b"\x00\x00");
     assert!(rt; fuse.read(&mut buf).is_err());
     let mut out = Vec::<u8>::new(alloc);
     let mut fuse = Fuse::new(&mut out, 3);
-    assert!(rt; matches!(fuse.write(b"ab"), Ok(2)));
-    assert!(rt; matches!(fuse.write(b"cd"), Ok(1)));
+    takes(&rt, &mut fuse, b"ab", 2);
+    takes(&rt, &mut fuse, b"cd", 1);
     assert!(rt; fuse.write(b"e").is_err());
     assert!(rt; fuse.flush().is_ok());
     assert_eq!(rt; out.as_slice(), b"abc".as_slice());

@@ -1,8 +1,10 @@
 //! How serving ends, and what is written then.
 use super::{ANSWER, SUBMIT, bare, good, served};
 use crate::{Cause, Fuse, ServeEnd, serve};
+use std::alloc::Global;
 use std::io;
 use std::io::{Error, ErrorKind, Read, Write};
+use std::process::Abort;
 use std::test::Fail;
 
 // Gives one octet in every second read, and nothing in the others.
@@ -102,41 +104,46 @@ fn one_write_for_one_read(rt: HostRuntime) -> Result<(), Fail> {
     Ok(())
 }
 
+// Reading fails after so many octets of a submit_sm.
+fn want_read_fault(rt: &impl Abort, alloc: Global, octets: u64) -> Result<(), Fail> {
+    let mut reader = Fuse::new(SUBMIT.as_slice(), octets);
+    let mut out = Vec::<u8>::new(alloc);
+    let end = serve(alloc, &mut reader, &mut out, good(alloc)?, 100);
+    let cause = if octets < 53 {
+        Cause::ReadFault
+    } else {
+        Cause::Ended
+    };
+    assert_eq!(rt; end.cause, cause);
+    let written = if octets < 52 { 0 } else { 19 };
+    assert_eq!(rt; out.as_slice(), &ANSWER[..written]);
+    Ok(())
+}
+
+// Writing fails after so many octets of the answer.
+fn want_write_fault(rt: &impl Abort, alloc: Global, octets: usize) -> Result<(), Fail> {
+    let mut reader = SUBMIT.as_slice();
+    let mut out = Vec::<u8>::new(alloc);
+    let mut writer = Fuse::new(&mut out, octets as u64);
+    let end = serve(alloc, &mut reader, &mut writer, good(alloc)?, 100);
+    let cause = if octets < 19 {
+        Cause::WriteFault
+    } else {
+        Cause::Ended
+    };
+    assert_eq!(rt; (end.submits, end.cause), (1, cause));
+    let most = octets.min(19);
+    assert_eq!(rt; out.as_slice(), &ANSWER[..most]);
+    Ok(())
+}
+
 #[test]
 fn a_fault_at_each_octet(rt: HostRuntime) -> Result<(), Fail> {
-    let alloc = rt.alloc();
     for octets in 0..54u64 {
-        let mut reader = Fuse::new(SUBMIT.as_slice(), octets);
-        let mut out = Vec::<u8>::new(alloc);
-        let end = serve(alloc, &mut reader, &mut out, good(alloc)?, 100);
-        let cause = if octets < 53 {
-            Cause::ReadFault
-        } else {
-            Cause::Ended
-        };
-        assert_eq!(rt; end.cause, cause);
-        assert_eq!(rt;
-            out.as_slice(),
-            if octets < 52 {
-                b"".as_slice()
-            } else {
-                ANSWER.as_slice()
-            }
-        );
+        want_read_fault(&rt, rt.alloc(), octets)?;
     }
     for octets in 0..21usize {
-        let mut reader = SUBMIT.as_slice();
-        let mut out = Vec::<u8>::new(alloc);
-        let mut writer = Fuse::new(&mut out, octets as u64);
-        let end = serve(alloc, &mut reader, &mut writer, good(alloc)?, 100);
-        let cause = if octets < 19 {
-            Cause::WriteFault
-        } else {
-            Cause::Ended
-        };
-        assert_eq!(rt; end, ServeEnd { submits: 1, cause });
-        let most = octets.min(19);
-        assert_eq!(rt; out.as_slice(), &ANSWER[..most]);
+        want_write_fault(&rt, rt.alloc(), octets)?;
     }
     Ok(())
 }

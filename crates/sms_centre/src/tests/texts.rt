@@ -1,6 +1,6 @@
 //! Scripts: what each text makes the centre write, and which texts and keys are refused.
 use super::{ANSWER, bare, served};
-use crate::{Cause, Script, ScriptError, ServeEnd};
+use crate::{Cause, Script, ScriptError};
 use std::alloc::{AllocError, Global};
 use std::process::Abort;
 use std::test::Fail;
@@ -15,77 +15,75 @@ fn two_submits(alloc: Global) -> Result<Vec<u8>, Fail> {
 
 const SECOND: &[u8; 19] = b"\x00\x00\x00\x13\x80\x00\x00\x04\x00\x00\x00\x00\x00\x00\x00\x03m2\x00";
 
+// The first text of a script, and what is written for it before the answers with status 0.
+const TEXTS: &[(&str, &[u8])] = &[
+    ("status 0", b""),
+    (
+        "status 20",
+        b"\x00\x00\x00\x10\x80\x00\x00\x04\x00\x00\x00\x14\x00\x00\x00\x02",
+    ),
+    (
+        "nack 0",
+        b"\x00\x00\x00\x10\x80\x00\x00\x00\x00\x00\x00\x00\x00\x00\x00\x02",
+    ),
+    ("silent", b""),
+    (
+        "unbind",
+        b"\x00\x00\x00\x10\x00\x00\x00\x06\x00\x00\x00\x00\x00\x00\x00\x01",
+    ),
+    (
+        "twice 8",
+        b"\x00\x00\x00\x10\x80\x00\x00\x04\x00\x00\x00\x08\x00\x00\x00\x02\x00\x00\x00\x10\x80\x00\x00\x04\x00\x00\x00\x08\x00\x00\x00\x02",
+    ),
+    (
+        "stray 0",
+        b"\x00\x00\x00\x13\x80\x00\x00\x04\x00\x00\x00\x00\x00\x0f\x42\x42m1\x00",
+    ),
+    ("late 1 0", b""),
+    ("late 2 0", b""),
+    (
+        "deliver",
+        b"\x00\x00\x00\x21\x00\x00\x00\x05\x00\x00\x00\x00\x00\x00\x00\x02\x00\x00\x00\x00\x00\x00\x00\x00\x00\x00\x00\x00\x00\x00\x00\x00\x00",
+    ),
+];
+
+// By this script the two submit_sm get these octets, and so many of them came.
+fn want_octets(
+    rt: &impl Abort,
+    alloc: Global,
+    script: &str,
+    wanted: &[u8],
+    submits: u64,
+) -> Result<(), Fail> {
+    let (out, end) = served(alloc, script, &two_submits(alloc)?)?;
+    assert_eq!(rt; out.as_slice(), wanted);
+    assert_eq!(rt; end.submits, submits);
+    assert_eq!(rt; end.cause, Cause::Ended);
+    Ok(())
+}
+
+// By this text and a status 0 behind it the two submit_sm get these octets, and then their answers
+// with status 0.
+fn want_first(rt: &impl Abort, alloc: Global, text: &str, first: &[u8]) -> Result<(), Fail> {
+    let mut wanted = Vec::new(alloc);
+    wanted.extend_from_slice(first)?;
+    if text == "status 0" || text == "deliver" || text == "late 1 0" {
+        wanted.extend_from_slice(ANSWER)?;
+    }
+    wanted.extend_from_slice(SECOND)?;
+    let script = format!(in alloc; "answers = [\"{}\", \"status 0\"]", text)?;
+    want_octets(rt, alloc, script.as_str(), wanted.as_slice(), 2)
+}
+
 #[test]
 fn what_each_text_says(rt: HostRuntime) -> Result<(), Fail> {
     let alloc = rt.alloc();
-    let stream = two_submits(alloc)?;
-    let rows: [(&str, &[u8]); 10] = [
-        ("status 0", b""),
-        (
-            "status 20",
-            b"\x00\x00\x00\x10\x80\x00\x00\x04\x00\x00\x00\x14\x00\x00\x00\x02",
-        ),
-        (
-            "nack 0",
-            b"\x00\x00\x00\x10\x80\x00\x00\x00\x00\x00\x00\x00\x00\x00\x00\x02",
-        ),
-        ("silent", b""),
-        (
-            "unbind",
-            b"\x00\x00\x00\x10\x00\x00\x00\x06\x00\x00\x00\x00\x00\x00\x00\x01",
-        ),
-        (
-            "twice 8",
-            b"\x00\x00\x00\x10\x80\x00\x00\x04\x00\x00\x00\x08\x00\x00\x00\x02\x00\x00\x00\x10\x80\x00\x00\x04\x00\x00\x00\x08\x00\x00\x00\x02",
-        ),
-        (
-            "stray 0",
-            b"\x00\x00\x00\x13\x80\x00\x00\x04\x00\x00\x00\x00\x00\x0f\x42\x42m1\x00",
-        ),
-        ("late 1 0", b""),
-        ("late 2 0", b""),
-        (
-            "deliver",
-            b"\x00\x00\x00\x21\x00\x00\x00\x05\x00\x00\x00\x00\x00\x00\x00\x02\x00\x00\x00\x00\x00\x00\x00\x00\x00\x00\x00\x00\x00\x00\x00\x00\x00",
-        ),
-    ];
-    for row in &rows {
-        let script = format!(in alloc; "answers = [\"{}\", \"status 0\"]", row.0)?;
-        let (out, end) = served(alloc, script.as_str(), stream.as_slice())?;
-        let mut expected = Vec::new(alloc);
-        expected.extend_from_slice(row.1)?;
-        if row.0 == "status 0" || row.0 == "deliver" || row.0 == "late 1 0" {
-            expected.extend_from_slice(ANSWER)?;
-        }
-        expected.extend_from_slice(SECOND)?;
-        assert_eq!(rt; out.as_slice(), expected.as_slice());
-        assert_eq!(rt;
-            end,
-            ServeEnd {
-                submits: 2,
-                cause: Cause::Ended
-            }
-        );
+    for (text, first) in TEXTS {
+        want_first(&rt, alloc, text, first)?;
     }
-    for row in [
-        (
-            "cut",
-            b"\x00\x00\x00\x13\x80\x00\x00\x04\x00\x00".as_slice(),
-        ),
-        ("huge", b"\x00\x01\x11\x71".as_slice()),
-    ] {
-        let script = format!(in alloc; "answers = [\"{}\"]", row.0)?;
-        let (out, end) = served(alloc, script.as_str(), stream.as_slice())?;
-        assert_eq!(rt; out.as_slice(), row.1);
-        assert_eq!(rt;
-            end,
-            ServeEnd {
-                submits: 1,
-                cause: Cause::Ended
-            }
-        );
-    }
-    Ok(())
+    let cut = b"\x00\x00\x00\x13\x80\x00\x00\x04\x00\x00";
+    want_octets(&rt, alloc, "answers = [\"cut\"]", cut, 1)?;
+    want_octets(&rt, alloc, "answers = [\"huge\"]", b"\x00\x01\x11\x71", 1)
 }
 
 // Bare headers of these commands and statuses, each with the number 7.
@@ -141,73 +139,102 @@ fn refusal_of(alloc: Global, text: &str) -> Option<ScriptError> {
     Script::read(alloc, text).err()
 }
 
+// This text is refused so.
+fn want_refused(rt: &impl Abort, alloc: Global, text: &str, why: ScriptError) {
+    assert!(rt; refusal_of(alloc, text) == Some(why));
+}
+
+// This text says no answer: of three the second is the first that is bad.
+fn want_no_answer(rt: &impl Abort, alloc: Global, text: &str) -> Result<(), Fail> {
+    let script = format!(in alloc; "answers = [\"cut\", \"{}\", \"what\"]", text)?;
+    want_refused(
+        rt,
+        alloc,
+        script.as_str(),
+        ScriptError::BadAnswer { place: 1 },
+    );
+    Ok(())
+}
+
+// This text says an answer.
+fn want_answer(rt: &impl Abort, alloc: Global, text: &str) -> Result<(), Fail> {
+    let script = format!(in alloc; "bind_status = 4294967295\nanswers = [\"{}\"]", text)?;
+    assert!(rt; Script::read(alloc, script.as_str()).is_ok());
+    Ok(())
+}
+
+// Texts that aren't TOML.
+const NOT_TOML: &[&str] = &[
+    "answers = [",
+    "= 1",
+    "answers = [\"cut\"]\nanswers = [\"cut\"]",
+];
+
+// TOML texts without the keys of a script.
+const BAD_KEYS: &[&str] = &[
+    "",
+    "answers = []",
+    "answers = \"cut\"",
+    "answers = [\"cut\", 1]",
+    "answers = [\"cut\"]\nbind_status = 4294967296",
+    "answers = [\"cut\"]\nbind_status = -1",
+    "answers = [\"cut\"]\nbind_status = \"0\"",
+    "answers = [\"cut\"]\nanswer = 1",
+    "bind_status = 0",
+    "answer = 1\nanswers = [\"what\"]",
+];
+
+// Texts that say no answer.
+const NO_ANSWERS: &[&str] = &[
+    "what",
+    "",
+    " ",
+    "status",
+    "status ",
+    "status -1",
+    "status  1",
+    "status 1 ",
+    "status 4294967296",
+    "status 000000000000000000001",
+    "Status 1",
+    "nack",
+    "silent 1",
+    "cut ",
+    "late",
+    "late 1",
+    "late 1 ",
+    "late 0 0",
+    "late 1 0 0",
+    "late 4294967296 0",
+    "twice",
+    "stray x",
+    "deliver 0",
+    "huge 1",
+    "unbind 1",
+];
+
+// Texts that say an answer.
+const ANSWERS: &[&str] = &[
+    "status 00000000000000000001",
+    "status 4294967295",
+    "late 4294967295 4294967295",
+    "nack 0",
+];
+
 #[test]
 fn which_scripts_are_refused(rt: HostRuntime) -> Result<(), Fail> {
     let alloc = rt.alloc();
-    for text in [
-        "answers = [",
-        "= 1",
-        "answers = [\"cut\"]\nanswers = [\"cut\"]",
-    ] {
-        assert!(rt; matches!(refusal_of(alloc, text), Some(ScriptError::NotToml)));
+    for text in NOT_TOML {
+        want_refused(&rt, alloc, text, ScriptError::NotToml);
     }
-    for text in [
-        "",
-        "answers = []",
-        "answers = \"cut\"",
-        "answers = [\"cut\", 1]",
-        "answers = [\"cut\"]\nbind_status = 4294967296",
-        "answers = [\"cut\"]\nbind_status = -1",
-        "answers = [\"cut\"]\nbind_status = \"0\"",
-        "answers = [\"cut\"]\nanswer = 1",
-        "bind_status = 0",
-        "answer = 1\nanswers = [\"what\"]",
-    ] {
-        assert!(rt; matches!(refusal_of(alloc, text), Some(ScriptError::BadKey)));
+    for text in BAD_KEYS {
+        want_refused(&rt, alloc, text, ScriptError::BadKey);
     }
-    for text in [
-        "what",
-        "",
-        " ",
-        "status",
-        "status ",
-        "status -1",
-        "status  1",
-        "status 1 ",
-        "status 4294967296",
-        "status 000000000000000000001",
-        "Status 1",
-        "nack",
-        "silent 1",
-        "cut ",
-        "late",
-        "late 1",
-        "late 1 ",
-        "late 0 0",
-        "late 1 0 0",
-        "late 4294967296 0",
-        "twice",
-        "stray x",
-        "deliver 0",
-        "huge 1",
-        "unbind 1",
-    ] {
-        let script = format!(in alloc; "answers = [\"cut\", \"{}\", \"what\"]", text)?;
-        assert!(rt;
-            matches!(
-                Script::read(alloc, script.as_str()),
-                Err(ScriptError::BadAnswer { place: 1 })
-            )
-        );
+    for text in NO_ANSWERS {
+        want_no_answer(&rt, alloc, text)?;
     }
-    for text in [
-        "status 00000000000000000001",
-        "status 4294967295",
-        "late 4294967295 4294967295",
-        "nack 0",
-    ] {
-        let script = format!(in alloc; "bind_status = 4294967295\nanswers = [\"{}\"]", text)?;
-        assert!(rt; Script::read(alloc, script.as_str()).is_ok());
+    for text in ANSWERS {
+        want_answer(&rt, alloc, text)?;
     }
     Ok(())
 }
