@@ -4,10 +4,13 @@ pub mod Divisions
 pub mod Told
 pub mod Parameters
 pub mod Values
+pub mod Fields
+pub mod Messages
 pub mod ParameterTexts
 pub mod Bodies
 pub mod Wholes
 pub mod Lengths
+pub mod FieldSizes
 pub mod SizeLaws
 pub mod Writings
 pub mod Spellings

@@ -76,6 +76,16 @@ short_rest r (inr (inr bad)) good = absurd (good bad)
 pub rest_divided : (left : List ℕ) (gs : List (List ℕ)) (rest : List ℕ) → IsRest left → Division left gs rest → (gs ≡ []) × (rest ≡ left)
 rest_divided left gs rest h d = one_division left gs [] rest left d (record { whole = refl; each = tt; ended = h })
 
+-- what came where nothing was held, and its frames
+pub divided_alone : (held piece : List ℕ) (fs gs : List (List ℕ)) (rest : List ℕ) → held ≡ [] → gs ≡ fs → Division piece fs rest → Division (held ++ piece) gs rest
+divided_alone held piece fs gs rest none same d = rw (none, same) d
+
+-- what was held and came, in the pieces that it was cut into
+pub divided_joined : (held old piece last after : List ℕ) (n : ℕ) (fs : List (List ℕ)) (rest : List ℕ) → old ≡ held → last ≡ take n piece → after ≡ drop n piece → Division ((old ++ last) ++ after) fs rest → Division (held ++ piece) fs rest
+divided_joined held old piece last after n fs rest same front back d =
+    let cut : last ++ after ≡ piece = ap (λ l. l ++ after) front ∙ ap (λ l. take n piece ++ l) back ∙ take-append-drop n piece in
+    subst (λ s. Division s fs rest) (append_assoc old last after ∙ ap (λ l. old ++ l) cut ∙ ap (λ l. l ++ piece) same) d
+
 -- frames at the front, and the division of what is left
 pub division_after : (stream left : List ℕ) (fs gs : List (List ℕ)) (rest : List ℕ) → stream ≡ concat fs ++ left → AllByRecursion IsFrame fs → Division left gs rest → Division stream (fs ++ gs) rest
 division_after stream left fs gs rest e each d =

@@ -80,6 +80,9 @@ added_to_none p q none new same empty added =
 
 -- ---- runs
 
+pub and_put : {next new done : List ℕ} (more : List ℕ) → next ≡ new ++ more → new ≡ done → next ≡ done ++ more
+and_put more put before = put ∙ ap (λ (x : List ℕ). x ++ more) before
+
 -- the strings of a message, and the octets between them
 pub sm_runs : (out type source dest schedule validity text params : List ℕ) (a b c d e f g h i j k n : ℕ)
     → (((((((((((out ++ type) ++ 0 ∷ a ∷ b ∷ []) ++ source) ++ 0 ∷ c ∷ d ∷ []) ++ dest) ++ 0 ∷ e ∷ f ∷ g ∷ []) ++ schedule) ++ 0 ∷ []) ++ validity) ++ 0 ∷ h ∷ i ∷ j ∷ k ∷ n ∷ []) ++ text) ++ params

@@ -50,7 +50,6 @@ macro_rules! read_fields {
 }
 
 /// The fields of a bind.
-#[tactic(auto, unfolding(crate::specs::Reading::bind_at))]
 fn bind_parts(mode: Mode, octets: &[u8]) -> Result<BindRef<'_>, PduError>
     ensures { Says owned_bind result (bind_at mode octets.now) }
 {
@@ -191,8 +190,10 @@ fn other(
 fn bare(body: Body, octets: &[u8]) -> Result<Body, PduError>
     ensures { result ≡ bare_at body octets.now }
 {
-    end(octets)?;
-    Ok(body)
+    match end(octets) {
+        Ok(()) => Ok(body),
+        Err(fault) => Err(fault),
+    }
 }
 
 /// The command of a PDU and its header, or the first fault of the header.

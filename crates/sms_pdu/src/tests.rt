@@ -43,7 +43,10 @@ fn with_header(alloc: Global, command: u32, status: u32, body: &[u8]) -> Result<
 
 // The PDU that these octets spell.
 fn decoded(alloc: Global, octets: &[u8]) -> Result<Pdu, Fail> {
-    Ok(decode(alloc, octets)?)
+    match decode(alloc, octets) {
+        Ok(pdu) => Ok(pdu),
+        Err(fault) => Err(fault.into()),
+    }
 }
 
 // What is written of what these octets spell.
