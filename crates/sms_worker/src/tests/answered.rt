@@ -136,6 +136,10 @@ fn number_of(rt: &impl Abort, done: &Done, place: usize, attempt: usize) -> u32 
     panic!(rt; "message {place} has no attempt {attempt}")
 }
 
+fn want_number(rt: &impl Abort, done: &Done, place: usize, attempt: usize, wanted: usize) {
+    assert_eq!(rt; number_of(rt, done, place, attempt) as usize, wanted);
+}
+
 // A pause takes 10 ms, in which the open request is answered, and a retry waits for 100. Until then new
 // messages are begun, in their order, and once its time has come the retry goes before the next.
 #[test]
@@ -148,13 +152,13 @@ fn a_retry_that_is_due_comes_first(rt: HostRuntime) -> Result<(), Fail> {
         ..PLAIN
     };
     let done = run(&rt, alloc, case, messages_of(alloc, 15)?);
-    assert_eq!(&rt; number_of(&rt, &done, 0, 0), 1);
+    want_number(&rt, &done, 0, 0, 1);
     for place in 1..11usize {
-        assert_eq!(&rt; number_of(&rt, &done, place, 0) as usize, place + 1);
+        want_number(&rt, &done, place, 0, place + 1);
     }
-    assert_eq!(&rt; number_of(&rt, &done, 0, 1), 12);
+    want_number(&rt, &done, 0, 1, 12);
     for place in 11..15usize {
-        assert_eq!(&rt; number_of(&rt, &done, place, 0) as usize, place + 2);
+        want_number(&rt, &done, place, 0, place + 2);
     }
     want_row(&rt, &done, (0, 0, 15, 0));
     Ok(())

@@ -1,9 +1,12 @@
 //! What becomes of messages that can't be sent, or not any more.
 use super::{
-    Case, OK, PLAIN, SILENT, THROTTLED, letters, message, messages_of, push_message, run,
+    Case, Done, OK, PLAIN, SILENT, THROTTLED, letters, message, messages_of, push_message, run,
     want_refused, want_row, want_sent,
 };
-use crate::{MessageRefusal, Outcome};
+use crate::{Message, MessageRefusal, Outcome};
+use std::alloc::{AllocError, Global};
+use std::process::Abort;
+use std::sync::Wait;
 use std::test::Fail;
 
 #[test]
@@ -64,24 +67,35 @@ fn numbers_are_used_up(rt: HostRuntime) -> Result<(), Fail> {
     Ok(())
 }
 
-#[test]
-fn messages_are_refused(rt: HostRuntime) -> Result<(), Fail> {
-    let alloc = rt.alloc();
-    let mut messages = Vec::new(alloc);
-    push_message(alloc, &mut messages, 0, None, "abc", 1)?;
-    push_message(alloc, &mut messages, 1, Some(1), "447700900123", 1)?;
-    push_message(alloc, &mut messages, 2, Some(0), "abc", 1)?;
-    push_message(alloc, &mut messages, 3, Some(0), "+", 1)?;
-    push_message(alloc, &mut messages, 4, Some(0), "447700900123", 39_016)?;
-    push_message(alloc, &mut messages, 5, Some(0), "447700900123", 460)?;
-    push_message(alloc, &mut messages, 6, Some(0), "46700", 1)?;
-    let mut named = message(alloc, 7, Some(0), "447700900123", letters(alloc, 1)?)?;
-    named.source = String::from_str(alloc, "TwelveLetter")?;
-    messages.push(named)?;
-    let mut empty = message(alloc, 8, Some(0), "447700900123", letters(alloc, 1)?)?;
-    empty.source = String::new(alloc);
-    messages.push(empty)?;
-    let done = run(&rt, alloc, PLAIN, messages);
+// One message more, of one letter and from another source.
+fn push_from(
+    alloc: Global,
+    messages: &mut Vec<Message>,
+    index: u64,
+    source: &str,
+) -> Result<(), AllocError> {
+    let mut from = message(alloc, index, Some(0), "447700900123", letters(alloc, 1)?)?;
+    from.source = String::from_str(alloc, source)?;
+    messages.push(from)?;
+    Ok(())
+}
+
+// Messages without a good account or a good destination.
+fn push_unknown(alloc: Global, messages: &mut Vec<Message>) -> Result<(), AllocError> {
+    push_message(alloc, messages, 0, None, "abc", 1)?;
+    push_message(alloc, messages, 1, Some(1), "447700900123", 1)?;
+    push_message(alloc, messages, 2, Some(0), "abc", 1)?;
+    push_message(alloc, messages, 3, Some(0), "+", 1)
+}
+
+// Messages that are too long or cost too much.
+fn push_large(alloc: Global, messages: &mut Vec<Message>) -> Result<(), AllocError> {
+    push_message(alloc, messages, 4, Some(0), "447700900123", 39_016)?;
+    push_message(alloc, messages, 5, Some(0), "447700900123", 460)?;
+    push_message(alloc, messages, 6, Some(0), "46700", 1)
+}
+
+fn want_all_refused(rt: &impl Abort, done: &Done) {
     let wanted = [
         MessageRefusal::NoAccount,
         MessageRefusal::NoAccount,
@@ -93,21 +107,34 @@ fn messages_are_refused(rt: HostRuntime) -> Result<(), Fail> {
         MessageRefusal::BadAddress,
     ];
     for place in 0..wanted.len() {
-        want_refused(&rt, &done, place, wanted[place]);
+        want_refused(rt, done, place, wanted[place]);
     }
+}
+
+// Where the line is down from the start.
+fn want_closed(rt: &(impl Abort + Wait), alloc: Global) -> Result<(), Fail> {
+    let case = Case {
+        down: true,
+        ..PLAIN
+    };
+    let done = run(rt, alloc, case, messages_of(alloc, 1)?);
+    want_refused(rt, &done, 0, MessageRefusal::BindClosed);
+    Ok(())
+}
+
+#[test]
+fn messages_are_refused(rt: HostRuntime) -> Result<(), Fail> {
+    let alloc = rt.alloc();
+    let mut messages = Vec::new(alloc);
+    push_unknown(alloc, &mut messages)?;
+    push_large(alloc, &mut messages)?;
+    push_from(alloc, &mut messages, 7, "TwelveLetter")?;
+    push_from(alloc, &mut messages, 8, "")?;
+    let done = run(&rt, alloc, PLAIN, messages);
+    want_all_refused(&rt, &done);
     want_sent(&rt, &done, 8, &[(1, Outcome::Charged)]);
     want_row(&rt, &done, (2, 0, 1, 0));
-    let done = run(
-        &rt,
-        alloc,
-        Case {
-            down: true,
-            ..PLAIN
-        },
-        messages_of(alloc, 1)?,
-    );
-    want_refused(&rt, &done, 0, MessageRefusal::BindClosed);
-    Ok(())
+    want_closed(&rt, alloc)
 }
 
 // The attempt whose frame was begun is made; no later one is.

@@ -35,31 +35,37 @@ pub fn sums(ends: &[MessageEnd]) -> (u64, u64, u64) {
     (reserved, charged, returned)
 }
 
+// The row is what the ends add up to, where the writer takes so many octets.
+fn want_balance(rt: &(impl Abort + Wait), alloc: Global, room: u64) -> Result<(), Fail> {
+    let case = Case {
+        room,
+        attempts: 2,
+        answers: &[THROTTLED, OK],
+        ..PLAIN
+    };
+    let done = run(rt, alloc, case, messages_of(alloc, 2)?);
+    let row = done.row;
+    assert_eq!(rt;
+        (row.reserved, row.charged, row.returned),
+        sums(done.ends.as_slice()),
+        "room {room}"
+    );
+    assert_eq!(rt;
+        row.free
+            .wrapping_add(row.reserved)
+            .wrapping_add(row.charged),
+        3,
+        "room {room}"
+    );
+    Ok(())
+}
+
 // Wherever the writer fails, the row is what the ends add up to.
 #[test]
 fn a_wire_may_fail_at_any_octet(rt: HostRuntime) -> Result<(), Fail> {
     let alloc = rt.alloc();
     for room in 0..110u64 {
-        let case = Case {
-            room,
-            attempts: 2,
-            answers: &[THROTTLED, OK],
-            ..PLAIN
-        };
-        let done = run(&rt, alloc, case, messages_of(alloc, 2)?);
-        let row = done.row;
-        assert_eq!(&rt;
-            (row.reserved, row.charged, row.returned),
-            sums(done.ends.as_slice()),
-            "room {room}"
-        );
-        assert_eq!(&rt;
-            row.free
-                .wrapping_add(row.reserved)
-                .wrapping_add(row.charged),
-            3,
-            "room {room}"
-        );
+        want_balance(&rt, alloc, room)?;
     }
     Ok(())
 }

@@ -1,6 +1,16 @@
-use Rattle.std.proofs.Common.{rules}
+use Rattle.std.proofs.Common.{◌∙◌, ap, map, rules}
+use Rattle.sms_worker.specs.UserData.{user_data}
 use Rattle.sms_worker.proofs.Beginnings.{not_cut}
 use Rattle.sms_worker.proofs.begin.prepare.Goals as goal
 
 pub returns-in-Err-clause-refused : goal.returns-in-Err-clause-refused
-returns-in-Err-clause-refused c = not_cut c.args.rules.now c.args.accounts c.args.message.now c.in-Err.refusal (search rules) (search rules) c.in-Err.ensures.refused
+returns-in-Err-clause-refused c = not_cut c.args.rules.now c.args.accounts c.args.message.now c.in-Err.refusal (c.is_known.ensures.0 (search rules)) (c.has_addresses.ensures.0 (search rules)) c.in-Err.ensures.refused
+
+pub returns-in-Ok-waiting_ends-clause-known : goal.returns-in-Ok-waiting_ends-clause-known
+returns-in-Ok-waiting_ends-clause-known c = (c.is_known.ensures.0 (search rules), c.has_addresses.ensures.0 (search rules))
+
+pub returns-in-Ok-waiting_ends-clause-short : goal.returns-in-Ok-waiting_ends-clause-short
+returns-in-Ok-waiting_ends-clause-short c = c.in-Ok.ensures.short
+
+pub returns-in-Ok-waiting_ends-clause-texts : goal.returns-in-Ok-waiting_ends-clause-texts
+returns-in-Ok-waiting_ends-clause-texts c = c.in-Ok-of.ensures ∙ ap (map user_data) (c.as_slice.ensures.value ∙ c.in-Ok.ensures.parts)

@@ -1,5 +1,6 @@
-use Rattle.std.proofs.Common.{length, sym, subst}
-use Rattle.sms_worker.specs.Told.{AllTold}
+use Rattle.std.proofs.Common.{length, sym, ap, ◌∙◌, subst}
+use Rattle.rtrb.specs.Ring.{received, SameConsumer}
+use Rattle.sms_worker.specs.Told.{AllTold, Drew, Grew}
 use Rattle.sms_worker.specs.Sweeps.{SettledTo}
 use Rattle.sms_worker.proofs.Keeping.{keeps_opening}
 use Rattle.sms_worker.proofs.Sweeping.{settled_all}
@@ -46,3 +47,52 @@ returns-clause-places g c =
     rw (c.into_end-end.ensures.ends, c.into_end-end.ensures.consumer)
     (subst (λ h. PlacesApart h c.finish.new.self.ends) c.finish.ensures.heard
     (places_apart start.rules (length start.received) c.finish.new.self.heard start.seat.view c.into_end-end.result.seat.view start.messages c.finish.new.self.ends within c.into_end-end.ensures.numbers c.into_end-end.ensures.told))
+
+pub returns-clause-numbers : goal.returns-clause-numbers
+returns-clause-numbers g c =
+    let start = g.C.Call.start in
+    subst (Drew start.seat.view c.into_end-end.result.seat.view start.messages) (sym c.into_end-end.ensures.ends) c.into_end-end.ensures.numbers
+
+pub returns-clause-credits : goal.returns-clause-credits
+returns-clause-credits g c =
+    let start = g.C.Call.start in
+    subst (Grew start.share.amounts c.into_end-end.result.shares.amounts start.messages) (sym c.into_end-end.ensures.ends) c.into_end-end.ensures.credits
+
+pub returns-clause-slots : goal.returns-clause-slots
+returns-clause-slots g c = c.into_end-end.ensures.slots
+
+pub returns-clause-number : goal.returns-clause-number
+returns-clause-number g c = c.into_end-end.ensures.number
+
+pub returns-clause-heard : goal.returns-clause-heard
+returns-clause-heard g c =
+    let h = c.into_end-end.ensures.heard in
+    (h.0, ap received c.into_end-end.ensures.consumer ∙ sym c.finish.ensures.heard ∙ h.1)
+
+pub returns-clause-ring : goal.returns-clause-ring
+returns-clause-ring g c =
+    let turns = c.take_turns.ensures.ring in
+    let end = c.finish.ensures.ring in
+    subst (SameConsumer c.args.worker.consumer) (sym c.into_end-end.ensures.consumer)
+    ((end.0.0 ∙ turns.0.0, end.0.1 ∙ turns.0.1, end.0.2 ∙ turns.0.2, end.0.3 ∙ turns.0.3), end.1 ∙ turns.1)
+
+pub take_turns-requires-clause-window : goal.take_turns-requires-clause-window
+take_turns-requires-clause-window g c = c.requires.window
+
+pub take_turns-requires-clause-rules : goal.take_turns-requires-clause-rules
+take_turns-requires-clause-rules g c = c.requires.rules
+
+pub take_turns-requires-clause-heard : goal.take_turns-requires-clause-heard
+take_turns-requires-clause-heard g c = ap received c.of-heard.ensures
+
+pub finish-requires-clause-window : goal.finish-requires-clause-window
+finish-requires-clause-window g c = c.requires.window
+
+pub finish-requires-clause-rules : goal.finish-requires-clause-rules
+finish-requires-clause-rules g c = c.requires.rules
+
+pub finish-requires-clause-heard : goal.finish-requires-clause-heard
+finish-requires-clause-heard g c = c.take_turns.ensures.heard
+
+pub into_end-end-requires : goal.into_end-end-requires
+into_end-end-requires g c = record { window = c.requires.window }

@@ -6,6 +6,7 @@ use Rattle.sms_worker.specs.declared.ends.SegmentEnd.{SegmentEnd}
 use Rattle.sms_worker.specs.Steps.{Tries}
 use Rattle.sms_worker.proofs.EndLemmas.{back_there, given_same, given_other}
 use Rattle.sms_worker.proofs.Keeping.{keeps_same, keeps_tried, part_there, told_there}
+use Rattle.sms_worker.specs.RunState.{RunState}
 use Rattle.sms_worker.proofs.run.Run.attempt.Goals as goal
 
 pub give-requires : goal.give-requires
@@ -57,3 +58,12 @@ invariant_of-self-2 g c =
       ends_fit = (let r = i.ends_fit in omega arith);
       texts_fit = i.texts_fit;
     }
+
+pub returns-then-not-is_waiting : goal.returns-then-not-is_waiting
+returns-then-not-is_waiting g c = record { heard = ap (λ (x : RunState). x.heard) c.self.view_is }
+
+pub returns : goal.returns
+returns g c = record { heard = ap (λ (x : RunState). x.heard) c.self.view_is }
+
+pub start-tried-requires-clause-own : goal.start-tried-requires-clause-own
+start-tried-requires-clause-own g c = c.self.invariant.keeps.window ∙ sym c.requires.window

@@ -1,4 +1,5 @@
-use Rattle.std.proofs.Common.{rules, arith}
+use Rattle.std.proofs.Common.{◌≤◌, sym, subst, rules}
+use Rattle.std.specs.Vec.{vec_len}
 use Rattle.sms_worker.proofs.Keeping.{keeps_texts}
 use Rattle.sms_worker.proofs.run.Run.forget.Goals as goal
 
@@ -9,5 +10,8 @@ invariant_of-self g c =
     record {
       keeps = keeps_texts _ _ _ _ _ _ _ _ _ i.keeps (c.settle_text.ensures.kept g.C.Call.start.rules g.C.Call.start.messages i.keeps.texts_kept) (search rules);
       ends_fit = i.ends_fit;
-      texts_fit = (let r = i.texts_fit in omega arith);
+      texts_fit = subst (λ n. vec_len c.self.inside.messages ≤ n) (sym room.1) i.texts_fit;
     }
+
+pub returns : goal.returns
+returns g c = c.self.view_is

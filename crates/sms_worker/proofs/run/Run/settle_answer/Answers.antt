@@ -79,3 +79,9 @@ invariant_of-self-2 g c =
       ends_fit = (let q = i.ends_fit in omega arith);
       texts_fit = i.texts_fit;
     }
+
+pub returns-in-None : goal.returns-in-None
+returns-in-None g c = record { heard = ap (λ (x : RunState). x.heard) c.self.view_is }
+
+pub returns : goal.returns
+returns g c = record { heard = ap (λ (x : RunState). x.heard) c.self.view_is }
