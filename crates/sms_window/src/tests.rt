@@ -56,6 +56,11 @@ fn window_of(rt: &impl Abort, alloc: Global, limit: u32, first: u32) -> (Window,
     made
 }
 
+// What a window ends with: the slots that are held, and the number that comes next.
+fn want_closed(rt: &impl Abort, closed: Closed, held: u64, next: u64) {
+    assert_eq!(rt; (closed.held, closed.next), (held, next));
+}
+
 // Up to `count` new seats.
 fn seats_of(
     alloc: Global,
@@ -76,6 +81,14 @@ fn seats_of(
     Ok(seats)
 }
 
+// There is no window of this limit and first number, and this is why.
+fn want_refusal(rt: &impl Abort, alloc: Global, limit: u32, first: u32, wanted: WindowError) {
+    let Err(fault) = Window::make_from(alloc, limit, first) else {
+        panic!(rt; "a window")
+    };
+    assert_eq!(rt; fault, wanted, "limit {limit}, first {first}");
+}
+
 #[test]
 fn refuses_bad_windows(rt: HostRuntime) {
     for (limit, first, wanted) in [
@@ -85,16 +98,13 @@ fn refuses_bad_windows(rt: HostRuntime) {
         (1, 0, WindowError::BadFirst),
         (1, 0x8000_0000, WindowError::BadFirst),
     ] {
-        let Err(fault) = Window::make_from(rt.alloc(), limit, first) else {
-            panic!(rt; "a window")
-        };
-        assert_eq!(rt; fault, wanted, "limit {limit}, first {first}");
+        want_refusal(&rt, rt.alloc(), limit, first, wanted);
     }
     for limit in [0, 65] {
         let Err(fault) = Window::make(rt.alloc(), limit) else {
             panic!(rt; "a window")
         };
-        assert_eq!(rt; fault, WindowError::BadLimit, "limit {limit}");
+        assert_eq!(rt; fault, WindowError::BadLimit);
     }
 }
 
@@ -112,14 +122,7 @@ fn one_slot_by_turns(rt: HostRuntime) {
     release_slot(&rt, &window, &mut b, 0);
     window.join(&mut keeper, a);
     window.join(&mut keeper, b);
-    let closed = window.close(keeper);
-    assert_eq!(rt;
-        closed,
-        Closed {
-            held: 0xFFFF_FFFF_FFFF_FFFE,
-            next: 1
-        }
-    );
+    want_closed(&rt, window.close(keeper), 0xFFFF_FFFF_FFFF_FFFE, 1);
 }
 
 #[test]
@@ -133,8 +136,7 @@ fn sixty_four_slots(rt: HostRuntime) {
     release_slot(&rt, &window, &mut b, 1);
     window.join(&mut keeper, a);
     window.join(&mut keeper, b);
-    let closed = window.close(keeper);
-    assert_eq!(rt; closed, Closed { held: 0, next: 1 });
+    want_closed(&rt, window.close(keeper), 0, 1);
 }
 
 #[test]
@@ -150,14 +152,7 @@ fn all_sixty_four_held(rt: HostRuntime) {
     claim_slot(&rt, &window, &mut keeper, 40);
     claim_slot(&rt, &window, &mut keeper, 63);
     window.join(&mut keeper, a);
-    let closed = window.close(keeper);
-    assert_eq!(rt;
-        closed,
-        Closed {
-            held: 0xFFFF_FFFF_FFFF_FFFF,
-            next: 1
-        }
-    );
+    want_closed(&rt, window.close(keeper), 0xFFFF_FFFF_FFFF_FFFF, 1);
 }
 
 #[test]
@@ -176,14 +171,7 @@ fn two_slots_for_three_seats(rt: HostRuntime) {
     window.join(&mut keeper, c);
     window.join(&mut keeper, b);
     window.join(&mut keeper, a);
-    let closed = window.close(keeper);
-    assert_eq!(rt;
-        closed,
-        Closed {
-            held: 0xFFFF_FFFF_FFFF_FFFC,
-            next: 1
-        }
-    );
+    want_closed(&rt, window.close(keeper), 0xFFFF_FFFF_FFFF_FFFC, 1);
 }
 
 #[test]
@@ -192,14 +180,7 @@ fn a_dropped_seat_keeps_its_slot(rt: HostRuntime) {
     let mut a = seat_of(&rt, &window, &mut keeper);
     claim_slot(&rt, &window, &mut a, 0);
     drop(a);
-    let closed = window.close(keeper);
-    assert_eq!(rt;
-        closed,
-        Closed {
-            held: 0xFFFF_FFFF_FFFF_FFFF,
-            next: 1
-        }
-    );
+    want_closed(&rt, window.close(keeper), 0xFFFF_FFFF_FFFF_FFFF, 1);
 }
 
 // A seat that took another in has its slots and names, and can give these on. It needn't be the
@@ -223,14 +204,7 @@ fn names_and_slots_go_on(rt: HostRuntime) {
     window.join(&mut a, c);
     assert!(rt; a.can_split());
     window.join(&mut keeper, a);
-    let closed = window.close(keeper);
-    assert_eq!(rt;
-        closed,
-        Closed {
-            held: 0xFFFF_FFFF_FFFF_FFFC,
-            next: 2
-        }
-    );
+    want_closed(&rt, window.close(keeper), 0xFFFF_FFFF_FFFF_FFFC, 2);
 }
 
 // The words are told whichever seat is handed in, with the slots and numbers of the others.
@@ -242,14 +216,7 @@ fn closed_with_another_seat(rt: HostRuntime) {
     claim_slot(&rt, &window, &mut a, 0);
     claim_slot(&rt, &window, &mut b, 1);
     assert_eq!(rt; window.try_draw(&mut b), Draw::Number(1));
-    let closed = window.close(a);
-    assert_eq!(rt;
-        closed,
-        Closed {
-            held: 0xFFFF_FFFF_FFFF_FFFB,
-            next: 2
-        }
-    );
+    want_closed(&rt, window.close(a), 0xFFFF_FFFF_FFFF_FFFB, 2);
 }
 
 #[test]
@@ -260,14 +227,7 @@ fn numbers_by_turns(rt: HostRuntime) {
     assert_eq!(rt; window.try_draw(&mut a), Draw::Number(8));
     assert_eq!(rt; window.try_draw(&mut keeper), Draw::Number(9));
     drop(a);
-    let closed = window.close(keeper);
-    assert_eq!(rt;
-        closed,
-        Closed {
-            held: 0xFFFF_FFFF_FFFF_FFFC,
-            next: 10
-        }
-    );
+    want_closed(&rt, window.close(keeper), 0xFFFF_FFFF_FFFF_FFFC, 10);
 }
 
 #[test]
@@ -275,14 +235,7 @@ fn the_last_number(rt: HostRuntime) {
     let (window, mut keeper) = window_of(&rt, rt.alloc(), 64, 0x7FFF_FFFF);
     assert_eq!(rt; window.try_draw(&mut keeper), Draw::Number(2147483647));
     assert_eq!(rt; window.try_draw(&mut keeper), Draw::UsedUp);
-    let closed = window.close(keeper);
-    assert_eq!(rt;
-        closed,
-        Closed {
-            held: 0,
-            next: 2147483648
-        }
-    );
+    want_closed(&rt, window.close(keeper), 0, 2147483648);
 }
 
 // The keeper holds the slots from the limit on, and no seat one from 64 on. Each of the 64 names

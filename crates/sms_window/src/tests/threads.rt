@@ -5,6 +5,7 @@ ghost use Rattle.sms_window.specs.Seats.{Holds, met_with, with_slots};
 use super::seats_of;
 use crate::{Claim, Draw, Window, WindowSeat};
 use std::alloc::{AllocError, Global};
+use std::process::Abort;
 use std::snapshot::Snapshot;
 use std::sync::Wait;
 use std::sync::atomic::{AtomicBool, Ordering};
@@ -130,41 +131,53 @@ fn join_all(
     Ok(all)
 }
 
+// The numbers are 1 to their count, and so many; gives the one that comes next.
+fn want_all_numbers(rt: &impl Abort, numbers: &[u32], count: usize) -> u32 {
+    let mut next = 1u32;
+    for number in numbers {
+        assert_eq!(rt; *number, next, "of {count}");
+        next = next.wrapping_add(1);
+    }
+    assert_eq!(rt; numbers.len(), count);
+    next
+}
+
+// So many threads work on a window of this limit; at its end these slots are held.
+fn want_each_once<R: Abort + Threads + Wait + Sync>(
+    rt: &R,
+    alloc: Global,
+    (limit, threads, rounds, held): (u32, usize, u32, u64),
+) {
+    let Ok((window, mut keeper)) = Window::make(alloc, limit) else {
+        panic!(rt; "no window")
+    };
+    let Ok(seats) = seats_of(alloc, &window, &mut keeper, threads) else {
+        panic!(rt; "no seats")
+    };
+    let Some(worked) = work_in_threads(rt, alloc, &window, seats, rounds) else {
+        panic!(rt; "no thread")
+    };
+    let Ok(mut numbers) = join_all(alloc, &window, &mut keeper, worked) else {
+        panic!(rt; "no memory")
+    };
+    let Ok(()) = numbers.sort() else {
+        panic!(rt; "no memory")
+    };
+    let next = want_all_numbers(rt, &numbers, threads.wrapping_mul(rounds as usize));
+    let closed = window.close(keeper);
+    assert_eq!(rt; (closed.held, closed.next), (held, u64::from(next)));
+}
+
 #[test]
-fn each_number_once(rt: HostRuntime) -> Result<(), Fail> {
-    for (limit, threads, rounds, held) in [
+fn each_number_once(rt: HostRuntime) {
+    for case in [
         (2, 2, 1_000, 0xFFFF_FFFF_FFFF_FFFC),
         (2, 4, 500, 0xFFFF_FFFF_FFFF_FFFC),
         (2, 8, 250, 0xFFFF_FFFF_FFFF_FFFC),
         (1, 2, 10_000, 0xFFFF_FFFF_FFFF_FFFE),
     ] {
-        let Ok((window, mut keeper)) = Window::make(rt.alloc(), limit) else {
-            panic!(rt; "no window")
-        };
-        let seats = seats_of(rt.alloc(), &window, &mut keeper, threads)?;
-        let Some(worked) = work_in_threads(&rt, rt.alloc(), &window, seats, rounds) else {
-            panic!(rt; "no thread")
-        };
-        let mut numbers = join_all(rt.alloc(), &window, &mut keeper, worked)?;
-        numbers.sort()?;
-        let mut next = 1u32;
-        for &number in numbers.iter() {
-            assert_eq!(rt; number, next, "{threads} threads");
-            next = next.wrapping_add(1);
-        }
-        let closed = window.close(keeper);
-        assert!(rt;
-            closed.held == held && closed.next == u64::from(next),
-            "{threads} threads: held {}, next {}",
-            closed.held,
-            closed.next
-        );
-        assert!(rt;
-            numbers.len() == threads * rounds as usize,
-            "{threads} threads"
-        );
+        want_each_once(&rt, rt.alloc(), case);
     }
-    Ok(())
 }
 
 // A seat, and whether a claim and a draw of it were contended.
