@@ -3,7 +3,7 @@ use crate::{
     Action, Decision, Mode, OpenFault, Opened, Policy, PolicyError, Response, Session, State,
     decide,
 };
-use sms_pdu::{Body, Header, Octets, Pdu, Reply, encode, header_of, reply_of};
+use sms_pdu::{BodyRef, Header, PduRef, Reply, encode_into, header_of, reply_of};
 use std::alloc::Global;
 use std::process::Abort;
 use std::test::Fail;
@@ -36,25 +36,28 @@ fn session_of(rt: &impl Abort, mode: Mode) -> Session {
     session
 }
 
-// The octets of a response, where its command is deliver_sm_resp or has no body.
-fn spelled(rt: &impl Abort, alloc: Global, response: Response) -> Vec<u8> {
-    let body = match response.command {
-        0x8000_0005 => Body::DeliverResp {
-            message_id: Some(Octets::new(Vec::new(alloc))),
+// The body of a response that is deliver_sm_resp or has none.
+fn body_of(rt: &impl Abort, command: u32) -> BodyRef<'static> {
+    match command {
+        0x8000_0005 => BodyRef::DeliverResp {
+            message_id: Some(b""),
         },
-        0x8000_0006 => Body::UnbindResp,
-        0x8000_0015 => Body::EnquireLinkResp,
-        0x8000_0000 => Body::GenericNack,
+        0x8000_0006 => BodyRef::UnbindResp,
+        0x8000_0015 => BodyRef::EnquireLinkResp,
+        0x8000_0000 => BodyRef::GenericNack,
         _ => panic!(rt; "no such response"),
-    };
-    let pdu = Pdu {
+    }
+}
+
+// The octets of such a response.
+fn spelled(rt: &impl Abort, alloc: Global, response: Response) -> Vec<u8> {
+    let pdu = PduRef {
         status: response.status,
         number: response.number,
-        body,
+        body: body_of(rt, response.command),
     };
-    let Ok(octets) = encode(alloc, &pdu) else {
-        panic!(rt; "no memory")
-    };
+    let mut octets = Vec::new(alloc);
+    assert!(rt; encode_into(&mut octets, &pdu).is_ok());
     octets
 }
 
@@ -97,39 +100,45 @@ fn what_may_be_sent(rt: HostRuntime) {
 }
 
 // Requests of the message centre, number 9, and the octets that answer them.
+const RESPONSES: [(Mode, u32, &[u8]); 4] = [
+    (
+        Mode::Transceiver,
+        5,
+        b"\x00\x00\x00\x11\x80\x00\x00\x05\x00\x00\x00\x00\x00\x00\x00\x09\x00",
+    ),
+    (
+        Mode::Transmitter,
+        5,
+        b"\x00\x00\x00\x11\x80\x00\x00\x05\x00\x00\x00\x04\x00\x00\x00\x09\x00",
+    ),
+    (
+        Mode::Transmitter,
+        0x15,
+        b"\x00\x00\x00\x10\x80\x00\x00\x15\x00\x00\x00\x00\x00\x00\x00\x09",
+    ),
+    (
+        Mode::Transmitter,
+        0x103,
+        b"\x00\x00\x00\x10\x80\x00\x00\x00\x00\x00\x00\x03\x00\x00\x00\x09",
+    ),
+];
+
+// A request with this command gets these octets, and the session stays as it is.
+fn want_response(rt: &impl Abort, alloc: Global, mode: Mode, command: u32, wanted: &[u8]) {
+    let mut session = session_of(rt, mode);
+    let before = session.state();
+    let Action::Reply(response) = session.on(&header(rt, command, 0, 9)) else {
+        panic!(rt; "no reply to {command:x}")
+    };
+    let octets = spelled(rt, alloc, response);
+    assert_eq!(rt; octets.as_slice(), wanted, "command {command:x}");
+    assert_eq!(rt; session.state(), before, "command {command:x}");
+}
+
 #[test]
 fn octets_of_responses(rt: HostRuntime) {
-    let cases = [
-        (
-            Mode::Transceiver,
-            5,
-            b"\x00\x00\x00\x11\x80\x00\x00\x05\x00\x00\x00\x00\x00\x00\x00\x09\x00".as_slice(),
-        ),
-        (
-            Mode::Transmitter,
-            5,
-            b"\x00\x00\x00\x11\x80\x00\x00\x05\x00\x00\x00\x04\x00\x00\x00\x09\x00".as_slice(),
-        ),
-        (
-            Mode::Transmitter,
-            0x15,
-            b"\x00\x00\x00\x10\x80\x00\x00\x15\x00\x00\x00\x00\x00\x00\x00\x09".as_slice(),
-        ),
-        (
-            Mode::Transmitter,
-            0x103,
-            b"\x00\x00\x00\x10\x80\x00\x00\x00\x00\x00\x00\x03\x00\x00\x00\x09".as_slice(),
-        ),
-    ];
-    for (mode, command, wanted) in cases {
-        let mut session = session_of(&rt, mode);
-        let before = session.state();
-        let Action::Reply(response) = session.on(&header(&rt, command, 0, 9)) else {
-            panic!(rt; "no reply to {command:x}")
-        };
-        let octets = spelled(&rt, rt.alloc(), response);
-        assert_eq!(rt; octets.as_slice(), wanted, "command {command:x}");
-        assert_eq!(rt; session.state(), before, "command {command:x}");
+    for (mode, command, wanted) in RESPONSES {
+        want_response(&rt, rt.alloc(), mode, command, wanted);
     }
 }
 
@@ -168,40 +177,42 @@ fn reply(rt: &impl Abort, command: u32, status: u32) -> Reply {
     reply
 }
 
-// Base 1,000 ms, 10 attempts.
-#[test]
-fn what_answers_decide(rt: HostRuntime) {
+// What the answer to this attempt decides under base 1,000 ms and 10 attempts.
+fn want_decision(rt: &impl Abort, reply: Reply, attempt: u32, wanted: Decision) {
     let Ok(policy) = Policy::new(10, 1000) else {
         panic!(rt; "no policy")
     };
-    for status in [0x58, 0x14] {
-        for (attempt, wanted) in [
-            (1, Decision::RetryAfter(1_000)),
-            (2, Decision::RetryAfter(2_000)),
-            (6, Decision::RetryAfter(32_000)),
-            (7, Decision::RetryAfter(60_000)),
-            (10, Decision::Refuse),
-        ] {
-            assert!(rt; attempt <= policy.attempts);
-            let decision = decide(&reply(&rt, 0x8000_0004, status), attempt, &policy);
-            assert_eq!(rt; decision, wanted, "attempt {attempt}");
-        }
+    assert!(rt; 1 <= attempt && attempt <= policy.attempts);
+    let decision = decide(&reply, attempt, &policy);
+    assert_eq!(rt; decision, wanted, "attempt {attempt}");
+}
+
+#[test]
+fn what_answers_decide(rt: HostRuntime) {
+    for (attempt, wanted) in [
+        (1, Decision::RetryAfter(1_000)),
+        (2, Decision::RetryAfter(2_000)),
+        (6, Decision::RetryAfter(32_000)),
+        (7, Decision::RetryAfter(60_000)),
+        (10, Decision::Refuse),
+    ] {
+        want_decision(&rt, reply(&rt, 0x8000_0004, 0x58), attempt, wanted);
+        want_decision(&rt, reply(&rt, 0x8000_0004, 0x14), attempt, wanted);
     }
-    assert!(rt; 1 <= policy.attempts);
     for (command, status, wanted) in [
         (0x8000_0004, 0x45, Decision::Refuse),
         (0x8000_0004, 0, Decision::Charge),
         (0x8000_0000, 0, Decision::Refuse),
         (0x8000_0000, 0x58, Decision::Refuse),
     ] {
-        let decision = decide(&reply(&rt, command, status), 1, &policy);
-        assert_eq!(rt; decision, wanted, "status {status:x}");
+        want_decision(&rt, reply(&rt, command, status), 1, wanted);
     }
+}
+
+#[test]
+fn policies_that_are_refused(rt: HostRuntime) {
     for (attempts, base_ms) in [(0, 1), (11, 1), (1, 60_001)] {
-        assert_eq!(rt;
-            Policy::new(attempts, base_ms),
-            Err(PolicyError::BadPolicy),
-            "{attempts} attempts"
-        );
+        let made = Policy::new(attempts, base_ms);
+        assert_eq!(rt; made, Err(PolicyError::BadPolicy), "{attempts} attempts");
     }
 }

@@ -1,9 +1,13 @@
 //! What the calls of a slot and of a row answer, one after another, and where the answers go.
+ghost use Rattle.std.specs.Prelude.{◌<◌};
+ghost use Rattle.sms_core.specs.Limits.{most_slots};
+
 use crate::{Answer, Expired, Search, Slot, SlotError, SlotRow, Taken};
 use rtrb::{Consumer, Producer, RingBuffer};
 use sms_pdu::{Reply, reply_of};
 use std::alloc::{AllocError, Global};
 use std::process::Abort;
+use std::sync::Wait;
 use std::test::Fail;
 
 mod threads;
@@ -51,6 +55,18 @@ fn want_in_ring(
     assert!(rt; consumer.pop().is_err(), "ring {place}");
 }
 
+// What a slot says to the answer to a number.
+fn hears(
+    rt: &impl Abort,
+    slot: &mut Slot,
+    producers: &mut [Producer<Reply>],
+    number: u32,
+    wanted: Answer,
+) {
+    let answer = slot.answer(reply_to(rt, number), producers);
+    assert_eq!(rt; answer, wanted, "number {number}");
+}
+
 #[test]
 fn a_late_answer_is_unknown(rt: HostRuntime) -> Result<(), Fail> {
     let (mut producers, mut consumers) = rings(rt.alloc(), 2)?;
@@ -58,20 +74,28 @@ fn a_late_answer_is_unknown(rt: HostRuntime) -> Result<(), Fail> {
     assert_eq!(rt; slot.post(1, 5), Ok(()));
     assert_eq!(rt; slot.expire(5), Expired::Done);
     assert_eq!(rt; slot.post(1, 6), Ok(()));
-    assert_eq!(rt;
-        slot.answer(reply_to(&rt, 5), &mut producers),
-        Answer::Unknown
+    hears(&rt, &mut slot, &mut producers, 5, Answer::Unknown);
+    hears(
+        &rt,
+        &mut slot,
+        &mut producers,
+        6,
+        Answer::Matched { worker: 1 },
     );
-    assert_eq!(rt;
-        slot.answer(reply_to(&rt, 6), &mut producers),
-        Answer::Matched { worker: 1 }
-    );
-    assert_eq!(rt; slot.take(6), Taken::Got);
-    assert_eq!(rt; slot.take(6), Taken::Unknown);
+    assert_eq!(rt; (slot.take(6), slot.take(6)), (Taken::Got, Taken::Unknown));
     assert_eq!(rt; slot, Slot::Empty);
     want_in_ring(&rt, &mut consumers, 0, &[]);
     want_in_ring(&rt, &mut consumers, 1, &[reply_to(&rt, 6)]);
     Ok(())
+}
+
+// A request of this worker, whose answer can't be handed on.
+fn want_overrun(rt: &impl Abort, producers: &mut [Producer<Reply>], worker: usize) {
+    let mut slot = Slot::Empty;
+    assert_eq!(rt; slot.post(worker, 5), Ok(()));
+    hears(rt, &mut slot, producers, 5, Answer::Overrun { worker });
+    assert_eq!(rt; slot, Slot::Waiting { worker, number: 5 });
+    assert_eq!(rt; slot.expire(5), Expired::Done);
 }
 
 // A ring without room, and a worker without a ring: the request waits on, and can be given up.
@@ -84,37 +108,64 @@ fn an_overrun_leaves_the_request_waiting(rt: HostRuntime) -> Result<(), Fail> {
         };
         assert!(rt; producer.push(reply_to(&rt, 4)).is_ok());
     }
-    for worker in [0, 1] {
-        let mut slot = Slot::Empty;
-        assert_eq!(rt; slot.post(worker, 5), Ok(()));
-        assert_eq!(rt;
-            slot.answer(reply_to(&rt, 5), &mut producers),
-            Answer::Overrun { worker }
-        );
-        assert_eq!(rt; slot, Slot::Waiting { worker, number: 5 });
-        assert_eq!(rt; slot.expire(5), Expired::Done);
-    }
+    want_overrun(&rt, &mut producers, 0);
+    want_overrun(&rt, &mut producers, 1);
     want_in_ring(&rt, &mut consumers, 0, &[reply_to(&rt, 4); 64]);
     Ok(())
+}
+
+// What a row says to a request.
+fn posts(
+    rt: &(impl Abort + Wait),
+    row: &SlotRow,
+    slot: u32,
+    worker: usize,
+    number: u32,
+    wanted: Result<(), SlotError>,
+)
+    requires { slot < most_slots }
+{
+    assert_eq!(rt; row.post(rt, slot, worker, number), wanted, "slot {slot}");
+}
+
+// What a row says where the answer is looked for.
+fn takes(rt: &(impl Abort + Wait), row: &SlotRow, slot: u32, number: u32, wanted: Taken)
+    requires { slot < most_slots }
+{
+    assert_eq!(rt; row.take(rt, slot, number), wanted, "slot {slot}");
+}
+
+// What a row says where a request is given up.
+fn expires(rt: &(impl Abort + Wait), row: &SlotRow, slot: u32, number: u32, wanted: Expired)
+    requires { slot < most_slots }
+{
+    assert_eq!(rt; row.expire(rt, slot, number), wanted, "slot {slot}");
+}
+
+// What a row says to the answer to a number.
+fn answers(
+    rt: &(impl Abort + Wait),
+    row: &SlotRow,
+    producers: &mut [Producer<Reply>],
+    number: u32,
+    wanted: Search,
+) {
+    let found = row.answer(rt, reply_to(rt, number), producers);
+    assert_eq!(rt; found, wanted, "number {number}");
 }
 
 #[test]
 fn one_slot_of_a_row(rt: HostRuntime) -> Result<(), Fail> {
     let row = SlotRow::new(rt.alloc())?;
     let (mut producers, mut consumers) = rings(rt.alloc(), 2)?;
-    assert_eq!(rt; row.post(&rt, 3, 1, 5), Ok(()));
-    assert_eq!(rt; row.post(&rt, 3, 0, 6), Err(SlotError::Busy));
-    assert_eq!(rt; row.take(&rt, 3, 5), Taken::NotYet);
-    assert_eq!(rt;
-        row.answer(&rt, reply_to(&rt, 5), &mut producers),
-        Search::Found { slot: 3, worker: 1 }
-    );
-    assert_eq!(rt;
-        row.answer(&rt, reply_to(&rt, 5), &mut producers),
-        Search::Unknown
-    );
-    assert_eq!(rt; row.expire(&rt, 3, 5), Expired::Answered);
-    assert_eq!(rt; row.take(&rt, 3, 5), Taken::Got);
+    posts(&rt, &row, 3, 1, 5, Ok(()));
+    posts(&rt, &row, 3, 0, 6, Err(SlotError::Busy));
+    takes(&rt, &row, 3, 5, Taken::NotYet);
+    let found = Search::Found { slot: 3, worker: 1 };
+    answers(&rt, &row, &mut producers, 5, found);
+    answers(&rt, &row, &mut producers, 5, Search::Unknown);
+    expires(&rt, &row, 3, 5, Expired::Answered);
+    takes(&rt, &row, 3, 5, Taken::Got);
     want_in_ring(&rt, &mut consumers, 0, &[]);
     want_in_ring(&rt, &mut consumers, 1, &[reply_to(&rt, 5)]);
     Ok(())
@@ -125,28 +176,45 @@ fn one_slot_of_a_row(rt: HostRuntime) -> Result<(), Fail> {
 fn other_numbers_of_a_row(rt: HostRuntime) -> Result<(), Fail> {
     let row = SlotRow::new(rt.alloc())?;
     let (mut producers, mut consumers) = rings(rt.alloc(), 3)?;
-    assert_eq!(rt; row.take(&rt, 0, 5), Taken::Unknown);
-    assert_eq!(rt; row.expire(&rt, 0, 5), Expired::Unknown);
-    assert_eq!(rt;
-        row.answer(&rt, reply_to(&rt, 5), &mut producers),
-        Search::Unknown
-    );
-    assert_eq!(rt; row.post(&rt, 0, 2, 5), Ok(()));
-    assert_eq!(rt; row.take(&rt, 0, 6), Taken::Unknown);
-    assert_eq!(rt; row.expire(&rt, 0, 6), Expired::Unknown);
-    assert_eq!(rt; row.take(&rt, 1, 5), Taken::Unknown);
-    let found = row.answer(&rt, reply_to(&rt, 5), &mut producers);
-    assert_eq!(rt; found, Search::Found { slot: 0, worker: 2 });
-    assert_eq!(rt; row.take(&rt, 0, 6), Taken::Unknown);
-    assert_eq!(rt; row.expire(&rt, 0, 6), Expired::Unknown);
-    assert_eq!(rt; row.take(&rt, 0, 5), Taken::Got);
-    assert_eq!(rt; row.post(&rt, 0, 3, 6), Ok(()));
-    let overrun = row.answer(&rt, reply_to(&rt, 6), &mut producers);
-    assert_eq!(rt; overrun, Search::Overrun { slot: 0, worker: 3 });
-    assert_eq!(rt; row.expire(&rt, 0, 6), Expired::Done);
-    assert_eq!(rt; row.post(&rt, 0, 3, 7), Ok(()));
+    takes(&rt, &row, 0, 5, Taken::Unknown);
+    expires(&rt, &row, 0, 5, Expired::Unknown);
+    answers(&rt, &row, &mut producers, 5, Search::Unknown);
+    posts(&rt, &row, 0, 2, 5, Ok(()));
+    takes(&rt, &row, 0, 6, Taken::Unknown);
+    expires(&rt, &row, 0, 6, Expired::Unknown);
+    takes(&rt, &row, 1, 5, Taken::Unknown);
+    let found = Search::Found { slot: 0, worker: 2 };
+    answers(&rt, &row, &mut producers, 5, found);
+    takes(&rt, &row, 0, 6, Taken::Unknown);
+    expires(&rt, &row, 0, 6, Expired::Unknown);
+    takes(&rt, &row, 0, 5, Taken::Got);
+    posts(&rt, &row, 0, 3, 6, Ok(()));
+    let overrun = Search::Overrun { slot: 0, worker: 3 };
+    answers(&rt, &row, &mut producers, 6, overrun);
+    expires(&rt, &row, 0, 6, Expired::Done);
+    posts(&rt, &row, 0, 3, 7, Ok(()));
     want_in_ring(&rt, &mut consumers, 2, &[reply_to(&rt, 5)]);
     Ok(())
+}
+
+// Two slots wait for this number: the lower one gets the answer, and the other one is given up.
+fn want_lower(
+    rt: &(impl Abort + Wait),
+    row: &SlotRow,
+    producers: &mut [Producer<Reply>],
+    consumers: &mut Vec<Consumer<Reply>>,
+    number: u32,
+)
+    requires { number < 32 }
+{
+    let slot = number * 2;
+    let worker = slot as usize;
+    answers(rt, row, producers, number, Search::Found { slot, worker });
+    takes(rt, row, slot, number, Taken::Got);
+    expires(rt, row, slot + 1, number, Expired::Done);
+    answers(rt, row, producers, number, Search::Unknown);
+    want_in_ring(rt, consumers, worker, &[reply_to(rt, number)]);
+    want_in_ring(rt, consumers, worker + 1, &[]);
 }
 
 // Each slot has its own request. Where two wait for one number, the lower slot gets the answer.
@@ -155,31 +223,17 @@ fn every_slot_of_a_row(rt: HostRuntime) -> Result<(), Fail> {
     let row = SlotRow::new(rt.alloc())?;
     let (mut producers, mut consumers) = rings(rt.alloc(), 64)?;
     for slot in 0u32..64 {
-        let posted = row.post(&rt, slot, slot as usize, slot / 2);
-        assert_eq!(rt; posted, Ok(()), "slot {slot}");
+        posts(&rt, &row, slot, slot as usize, slot / 2, Ok(()));
     }
     for number in 0u32..32 {
-        let slot = number * 2;
-        let worker = slot as usize;
-        let found = row.answer(&rt, reply_to(&rt, number), &mut producers);
-        assert_eq!(rt; found, Search::Found { slot, worker });
-        assert_eq!(rt; row.take(&rt, slot, number), Taken::Got);
-        assert_eq!(rt; row.expire(&rt, slot + 1, number), Expired::Done);
-        assert_eq!(rt;
-            row.answer(&rt, reply_to(&rt, number), &mut producers),
-            Search::Unknown
-        );
-        want_in_ring(&rt, &mut consumers, worker, &[reply_to(&rt, number)]);
-        want_in_ring(&rt, &mut consumers, worker + 1, &[]);
+        want_lower(&rt, &row, &mut producers, &mut consumers, number);
     }
-    assert_eq!(rt; row.post(&rt, 63, 9, 64), Ok(()));
-    assert_eq!(rt;
-        row.answer(&rt, reply_to(&rt, 64), &mut producers),
-        Search::Found {
-            slot: 63,
-            worker: 9
-        }
-    );
+    posts(&rt, &row, 63, 9, 64, Ok(()));
+    let last = Search::Found {
+        slot: 63,
+        worker: 9,
+    };
+    answers(&rt, &row, &mut producers, 64, last);
     want_in_ring(&rt, &mut consumers, 9, &[reply_to(&rt, 64)]);
     Ok(())
 }
