@@ -107,18 +107,28 @@ fn two_work<N: BookName, R: Abort + Wait>(
     blank: Blank,
     rules: &Rules,
     case: Case<'_>,
-) -> Option<(Done, Done)>
+) -> (Done, Done)
     requires { blank.book ≡ N.book }
 {
-    let (window, one, other, _keeper) = seats_of(rt, alloc, case.first)?;
-    let (producers, consumer, other_consumer) = rings_of(alloc)?;
-    let line = line_with_fuse(alloc, case.room)?;
+    let Some((window, one, other, _keeper)) = seats_of(rt, alloc, case.first) else {
+        panic!(rt; "no seats")
+    };
+    let (Some((producers, consumer, other_consumer)), Some(line)) = (
+        rings_of(alloc),
+        line_with_fuse(alloc, case.room),
+    ) else {
+        panic!(rt; "no line")
+    };
     let beside = Beside::new(rt, alloc, &line, producers, case);
     let Ok((book, _till, mut all)) = blank.open::<N>(alloc) else {
-        return None;
+        panic!(rt; "no book")
     };
-    let shares = all.pop()?;
-    let messages = messages_of(alloc, 1).ok()?;
+    let (Some(shares), Some(other_shares)) = (all.pop(), all.pop()) else {
+        panic!(rt; "no shares")
+    };
+    let (Ok(its), Ok(others)) = (messages_of(alloc, 1), messages_of(alloc, 1)) else {
+        panic!(rt; "no messages")
+    };
     let worker = Worker {
         index: 0,
         place: 0,
@@ -127,26 +137,31 @@ fn two_work<N: BookName, R: Abort + Wait>(
         consumer,
     };
     let first = sends(
-        rt, alloc, worker, messages, &line, &window, &book, rules, &beside,
-    )?;
-    let shares = all.pop()?;
-    let messages = messages_of(alloc, 1).ok()?;
+        rt, alloc, worker, its, &line, &window, &book, rules, &beside,
+    );
     let worker = Worker {
         index: 1,
         place: 1,
         seat: other,
-        shares,
+        shares: other_shares,
         consumer: other_consumer,
     };
     let second = sends(
-        rt, alloc, worker, messages, &line, &window, &book, rules, &beside,
-    )?;
-    Some((first, second))
+        rt, alloc, worker, others, &line, &window, &book, rules, &beside,
+    );
+    match (first, second) {
+        (Some(first), Some(second)) => (first, second),
+        _ => panic!(rt; "no memory"),
+    }
 }
 
-fn two_run(rt: &(impl Abort + Wait), alloc: Global, case: Case<'_>) -> Option<(Done, Done)> {
-    let rules = rules_of(alloc, case)?;
-    let blank = book_of(alloc, case.credits, 2)?;
+fn two_run(rt: &(impl Abort + Wait), alloc: Global, case: Case<'_>) -> (Done, Done) {
+    let Some(rules) = rules_of(alloc, case) else {
+        panic!(rt; "no rules")
+    };
+    let Some(blank) = book_of(alloc, case.credits, 2) else {
+        panic!(rt; "no book")
+    };
     two_work::<Brand, _>(rt, alloc, blank, &rules, case)
 }
 
@@ -197,9 +212,7 @@ fn two_workers_have_one_credit(rt: HostRuntime) {
             answers,
             ..PLAIN
         };
-        let Some((one, other)) = two_run(&rt, alloc, case) else {
-            panic!(rt; "no memory")
-        };
+        let (one, other) = two_run(&rt, alloc, case);
         assert!(rt; came_to(one.ends.as_slice(), first), "{first:?}");
         match second {
             Some(outcome) => assert!(rt; came_to(other.ends.as_slice(), outcome), "{first:?}"),

@@ -168,26 +168,67 @@ fn gathered<N: BookName>(
     statement.rows().first().copied()
 }
 
+// What came of both workers and of the reader, with the row that the shares add up to.
+fn came_of<N: BookName>(
+    rt: &impl Abort,
+    alloc: Global,
+    book: Mutex<Book<N>>,
+    till: Till<N>,
+    ends: Both<N>,
+    end: Option<ReaderEnd>,
+) -> Came {
+    let (first, second) = ends;
+    let Some(first) = first else {
+        panic!(rt; "no memory of the first")
+    };
+    let Some(second) = second else {
+        panic!(rt; "no memory of the second")
+    };
+    let Some(end) = end else {
+        panic!(rt; "no memory of the reader")
+    };
+    let Some(row) = gathered(alloc, book, till, first.shares, second.shares) else {
+        panic!(rt; "not gathered")
+    };
+    Came {
+        row,
+        first: first.ends,
+        second: second.ends,
+        end,
+    }
+}
+
 fn work_together<N: BookName + Send + Sync, R: Abort + Threads + Wait + Sync>(
     rt: &R,
     alloc: Global,
     blank: Blank,
     rules: &Rules,
     threaded: Threaded<'_>,
-) -> Option<Came>
+) -> Came
     requires { blank.book ≡ N.book }
 {
-    let its = messages_of(alloc, threaded.messages.0).ok()?;
-    let others = messages_of(alloc, threaded.messages.1).ok()?;
-    let statuses = Vec::from_slice(alloc, threaded.case.answers).ok()?;
-    let (window, seat, other_seat, keeper) = seats_of(rt, alloc, threaded.case.first)?;
-    let (line, requests) = line_to_centre(alloc)?;
-    let (producers, consumer, other_consumer) = rings_of(alloc)?;
-    let Ok((book, till, mut all)) = blank.open::<N>(alloc) else {
-        return None;
+    let (Ok(its), Ok(others), Ok(statuses)) = (
+        messages_of(alloc, threaded.messages.0),
+        messages_of(alloc, threaded.messages.1),
+        Vec::from_slice(alloc, threaded.case.answers),
+    ) else {
+        panic!(rt; "no messages")
     };
-    let shares = all.pop()?;
-    let other_shares = all.pop()?;
+    let Some((window, seat, other_seat, keeper)) = seats_of(rt, alloc, threaded.case.first) else {
+        panic!(rt; "no seats")
+    };
+    let (Some((line, requests)), Some((producers, consumer, other_consumer))) = (
+        line_to_centre(alloc),
+        rings_of(alloc),
+    ) else {
+        panic!(rt; "no line")
+    };
+    let Ok((book, till, mut all)) = blank.open::<N>(alloc) else {
+        panic!(rt; "no book")
+    };
+    let (Some(shares), Some(other_shares)) = (all.pop(), all.pop()) else {
+        panic!(rt; "no shares")
+    };
     let one = Worker {
         index: 0,
         place: 0,
@@ -221,24 +262,16 @@ fn work_together<N: BookName + Send + Sync, R: Abort + Threads + Wait + Sync>(
         producers,
         keeper,
     );
-    let (first, second) = ends;
-    let first = first?;
-    let second = second?;
-    Some(Came {
-        row: gathered(alloc, book, till, first.shares, second.shares)?,
-        first: first.ends,
-        second: second.ends,
-        end: end?,
-    })
+    came_of(rt, alloc, book, till, ends, end)
 }
 
-fn go(
-    rt: &(impl Abort + Threads + Wait + Sync),
-    alloc: Global,
-    threaded: Threaded<'_>,
-) -> Option<Came> {
-    let rules = rules_of(alloc, threaded.case)?;
-    let blank = book_of(alloc, threaded.case.credits, 2)?;
+fn go(rt: &(impl Abort + Threads + Wait + Sync), alloc: Global, threaded: Threaded<'_>) -> Came {
+    let Some(rules) = rules_of(alloc, threaded.case) else {
+        panic!(rt; "no rules")
+    };
+    let Some(blank) = book_of(alloc, threaded.case.credits, 2) else {
+        panic!(rt; "no book")
+    };
     work_together::<Brand, _>(rt, alloc, blank, &rules, threaded)
 }
 
@@ -287,9 +320,7 @@ fn replies(ends: &[MessageEnd]) -> u64 {
 #[test]
 fn two_workers_work_at_once(rt: HostRuntime) {
     let held = 1_000_000_000;
-    let Some(came) = go(&rt, rt.alloc(), Threaded { held, ..FAR }) else {
-        panic!(rt; "no memory")
-    };
+    let came = go(&rt, rt.alloc(), Threaded { held, ..FAR });
     assert!(&rt; came_to(came.first.as_slice(), Outcome::Charged));
     assert!(&rt; came_to(came.second.as_slice(), Outcome::Charged));
     want_agreement(&rt, &came, 3, 0);
@@ -298,9 +329,7 @@ fn two_workers_work_at_once(rt: HostRuntime) {
         at_once: false,
         ..FAR
     };
-    let Some(came) = go(&rt, rt.alloc(), in_turn) else {
-        panic!(rt; "no memory")
-    };
+    let came = go(&rt, rt.alloc(), in_turn);
     assert!(&rt; came_to(came.first.as_slice(), Outcome::Unsent));
     assert!(&rt; came_to(came.second.as_slice(), Outcome::Charged));
     want_agreement(&rt, &came, 3, 1);
@@ -317,9 +346,7 @@ fn one_gets_the_last_credit(rt: HostRuntime) {
         ..FAR
     };
     for round in 0..20u64 {
-        let Some(came) = go(&rt, rt.alloc(), threaded) else {
-            panic!(rt; "no memory")
-        };
+        let came = go(&rt, rt.alloc(), threaded);
         let first = came_to(came.first.as_slice(), Outcome::Charged);
         let second = came_to(came.second.as_slice(), Outcome::Charged);
         assert!(&rt; first != second, "round {round}");
@@ -345,9 +372,7 @@ fn a_centre_answers_two_workers(rt: HostRuntime) {
         messages: (200, 200),
         ..FAR
     };
-    let Some(came) = go(&rt, rt.alloc(), threaded) else {
-        panic!(rt; "no memory")
-    };
+    let came = go(&rt, rt.alloc(), threaded);
     want_agreement(&rt, &came, 400, 0);
     assert_eq!(&rt; (came.row.charged, came.end.answered), (400, 403));
     assert_eq!(&rt; came.end.cause, Cause::Stopped);
@@ -371,9 +396,7 @@ fn the_reader_may_go_at_any_octet(rt: HostRuntime) {
                 messages: (2, 1),
                 ..FAR
             };
-            let Some(came) = go(&rt, rt.alloc(), threaded) else {
-                panic!(rt; "no memory")
-            };
+            let came = go(&rt, rt.alloc(), threaded);
             want_agreement(&rt, &came, 3, left);
             assert!(&rt; came.end.answered <= left / 17, "octet {left}");
         }
