@@ -15,10 +15,6 @@ missing takes view e told y out h t = rw h (out, t)
 
 -- ---- of a value that was told
 
-pub value_same : {X Y : Type 0} (view : X → Y) (r : Result X PduError) (y : Y) → Gives view r (Ok y) → IfOk r (λ x. view x ≡ y)
-value_same view (Ok x) y gives = let is : y ≡ view x = cc in sym is
-value_same view (Err e) y gives = tt
-
 pub only_memory : {X Y : Type 0} (view : X → Y) (r : Result X PduError) (y : Y) → Gives view r (Ok y) → IfErr r (λ e. e ≡ errors.OutOfMemory)
 only_memory view (Ok x) y gives = tt
 only_memory view (Err e) y gives = gives.0

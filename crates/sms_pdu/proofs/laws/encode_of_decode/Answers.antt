@@ -1,5 +1,5 @@
 use Rattle.std.proofs.Common.{sym, ◌∙◌}
-use Rattle.sms_pdu.proofs.Told.{value_same, only_memory, no_value, same_fault, fault_is}
+use Rattle.sms_pdu.proofs.Told.{only_memory, no_value, same_fault, fault_is}
 use Rattle.sms_pdu.proofs.laws.encode_of_decode.Goals as goal
 
 pub returns-in_err-pdu-clause-same : goal.returns-in_err-pdu-clause-same
@@ -10,9 +10,6 @@ returns-in_err-pdu-clause-memory c = λ p spelled. same_fault c.from_residual.re
 
 pub returns-in_err-pdu-clause-refused : goal.returns-in_err-pdu-clause-refused
 returns-in_err-pdu-clause-refused c = λ e told. fault_is c.from_residual.result _ e c.from_residual.ensures.1 (rw told at c.in_err-pdu.ensures.exact)
-
-pub returns-clause-same : goal.returns-clause-same
-returns-clause-same c = value_same (λ v. v.items) c.encode.result c.args.octets.now (c.encode.ensures.only c.args.octets.now c.in_ok-pdu.ensures.found)
 
 pub returns-clause-memory : goal.returns-clause-memory
 returns-clause-memory c = λ p spelled. only_memory (λ v. v.items) c.encode.result c.args.octets.now (c.encode.ensures.only c.args.octets.now c.in_ok-pdu.ensures.found)
