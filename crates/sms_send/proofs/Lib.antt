@@ -32,3 +32,4 @@ pub mod Sums
 pub mod Takes
 pub mod Windows
 pub mod Inputs
+pub mod Moves

@@ -103,10 +103,14 @@ bad-next Says total rest place left items now after found r so h e bad =
 pub device-tells : (source : Source) (o : Option (List Record)) (faulty : List Record → Option ℕ) (f : Fault) → IsDevice source f → IfSome o (λ left. TellsRecords source (faulty left) f)
 device-tells source o faulty f h = if_known o (λ left. TellsRecords source (faulty left) f) (λ left known. inl h)
 
--- memory that was refused
+-- what holds of a fault holds of it when it is told
+pub told_so : {T E : Type 0} (r : Result T E) (e : E) (P : E → Type 0) → IsErrAnd r (λ f. f ≡ e) → P e → IfErr r P
+told_so (Ok x) e P h p = tt
+told_so (Err f) e P h p = rw h p
+
+-- so of memory that was refused
 pub refused : {T : Type 0} (r : Result T Fault) (P : Fault → Type 0) → IsErrAnd r (λ f. f ≡ OutOfMemory) → P OutOfMemory → IfErr r P
-refused (Ok x) P h p = tt
-refused (Err f) P h p = rw h p
+refused r P h p = told_so r OutOfMemory P h p
 
 -- what was read of a record, by cases
 pub not-read : {T : Type 0} (is_good : Record → Bool) (Says : Record → T → Type 0) (r : Record) (o : Option T) → IsReadAs is_good Says r o → o ≡ None → is_good r ≡ false

@@ -1,7 +1,10 @@
 //! What is reported of messages by what a message centre answers (SMPP 3.4 4.4.2, 4.3.1, 5.1.3), well
 //! or badly: worked out by hand.
 
-use crate::trial::{LONG, OpenGate, REPORT, STATEMENT, messages_of, send, sending_of, text_of};
+use crate::trial::{
+    LONG, OpenGate, REPORT, STATEMENT, Said, messages_of, send, sending_of, text_of,
+};
+use std::process::Abort;
 use std::test::Fail;
 
 /// Messages of the account `main` with these texts, which are words, and its credits; and what is reported of the
@@ -227,18 +230,25 @@ const ROWS: [Row<'static>; 23] = [
     },
 ];
 
+// That this is said of the row's messages.
+fn want_said(rt: &(impl AllocGlobal + Abort), said: &Said, row: &Row<'_>) {
+    let Ok(wanted) = format!(in rt.alloc(); "{REPORT}{}{STATEMENT}{}\n", row.report, row.row) else {
+        panic!(rt; "no memory")
+    };
+    assert_eq!(rt; (row.name, said.fault.as_str()), (row.name, ""));
+    assert_eq!(rt; (row.name, text_of(rt, said)), (row.name, wanted.as_str()));
+    assert_eq!(rt; (row.name, said.status), (row.name, row.status));
+}
+
 #[test]
 fn reports_what_becomes_of_messages(rt: HostRuntime) -> Result<(), Fail> {
     let alloc = rt.alloc();
-    for row in ROWS {
+    for row in &ROWS {
         let accounts = format!(in alloc; "account,credits\nmain,{}\n", row.credits)?;
         let messages = messages_of(alloc, row.texts)?;
         let sending = sending_of(row.config, accounts.as_str(), messages.as_str());
         let said = send(&rt, alloc, &sending, &OpenGate)?;
-        let wanted = format!(in alloc; "{REPORT}{}{STATEMENT}{}\n", row.report, row.row)?;
-        assert_eq!(rt; said.fault.as_str(), "", "{}", row.name);
-        assert_eq!(rt; text_of(&rt, &said), wanted.as_str(), "{}", row.name);
-        assert_eq!(rt; said.status, row.status, "{}", row.name);
+        want_said(&rt, &said, row);
     }
     Ok(())
 }

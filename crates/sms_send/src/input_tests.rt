@@ -217,26 +217,28 @@ fn tells_the_first_fault_of_all_inputs(rt: HostRuntime) -> Result<(), Fail> {
     Ok(())
 }
 
-// The parts of an input are those that it shows.
-#[test]
-fn gives_its_parts(rt: HostRuntime) -> Result<(), Fail> {
-    let alloc = rt.alloc();
-    let input = match read_input(
-        alloc,
+// An input of all three files.
+fn rated(rt: &(impl AllocGlobal + Abort)) -> Input {
+    match read_input(
+        rt.alloc(),
         b"depth = 2",
         ACCOUNTS.as_bytes(),
         MESSAGES.as_bytes(),
         Some(RATES.as_bytes()),
     ) {
         Ok(input) => input,
-        Err(_) => return Err(Fail::from(AllocError)),
-    };
-    let (config, openings, messages, tariff) = input.into_parts();
+        Err(_) => panic!(rt; "the input is refused"),
+    }
+}
+
+// The parts of an input are those that it shows.
+#[test]
+fn gives_its_parts(rt: HostRuntime) {
+    let (config, openings, messages, tariff) = rated(&rt).into_parts();
     assert_eq!(rt; config.limits.depth, 2);
     assert_eq!(rt; openings.len(), 2);
     assert_eq!(rt; messages.len(), 3);
     assert_eq!(rt; tariff.cost("4420"), 3);
-    Ok(())
 }
 
 // The fault says that this source can't be read.

@@ -58,20 +58,20 @@ fn command_line<'a>(alloc: Global) -> Result<Command<'a>, AllocError>
 {
     let program = program_command(alloc)?;
     let replay = replay_command(alloc)?;
+    let replaying = program.subcommand(replay)?;
     let plan = plan_command(alloc)?;
+    let planning = replaying.subcommand(plan)?;
     let looping = sender_command(
         alloc,
         "loop",
         "Sends the messages that the config names through a test centre in this process, and prints a report",
     )?;
+    let either = planning.subcommand(looping)?;
     let sending = sender_command(
         alloc,
         "send",
         "Sends the messages that the config names to its message centre, and prints a report",
     )?;
-    let replaying = program.subcommand(replay)?;
-    let planning = replaying.subcommand(plan)?;
-    let either = planning.subcommand(looping)?;
     either.subcommand(sending)
 }
 

@@ -5,7 +5,10 @@ use crate::broken::FailingInput;
 use crate::fault::Fault;
 use crate::letters::read_messages;
 use crate::told::told_of;
-use std::alloc::{AllocError, Global};
+use sms_book::Opening;
+use sms_worker::Message;
+use std::alloc::Global;
+use std::process::Abort;
 use std::test::Fail;
 
 const ACCOUNTS: &[u8] =
@@ -22,39 +25,58 @@ fn told<T: Drop>(alloc: Global, read: Result<T, Fault>) -> Result<String, Fail> 
     }
 }
 
+// The accounts of the file.
+fn openings(rt: &(impl AllocGlobal + Abort)) -> Vec<Opening> {
+    let Ok(openings) = read_accounts(rt.alloc(), ACCOUNTS) else {
+        panic!(rt; "the accounts are refused")
+    };
+    openings
+}
+
+// The messages of the file, of these accounts.
+fn messages(rt: &(impl AllocGlobal + Abort), openings: &[Opening]) -> Vec<Message> {
+    let Ok(messages) = read_messages(rt.alloc(), MESSAGES, openings) else {
+        panic!(rt; "the messages are refused")
+    };
+    messages
+}
+
+fn want_opening(rt: &impl Abort, opening: &Opening, name: &str, credits: u64) {
+    assert_eq!(rt; opening.name.as_str(), name);
+    assert_eq!(rt; opening.credits, credits);
+}
+
+fn want_message(rt: &impl Abort, message: &Message, index: u64, account: Option<usize>) {
+    assert_eq!(rt; message.index, index);
+    assert_eq!(rt; message.account, account);
+}
+
+fn want_texts(rt: &impl Abort, message: &Message, source: &str, dest: &str, text: &str) {
+    assert_eq!(rt; message.source.as_str(), source);
+    assert_eq!(rt; message.dest.as_str(), dest);
+    assert_eq!(rt; message.text.as_str(), text);
+}
+
 #[test]
-fn reads_names_in_quotes(rt: HostRuntime) -> Result<(), Fail> {
-    let alloc = rt.alloc();
-    let Ok(openings) = read_accounts(alloc, ACCOUNTS) else {
-        return Err(Fail::from(AllocError));
-    };
-    let accounts = [
-        ("a \"b\", c", 7),
-        ("", 0),
-        ("two\nlines", 1_099_511_627_776),
-    ];
-    assert_eq!(rt; openings.len(), accounts.len());
-    for (opening, (name, credits)) in openings.iter().zip(accounts) {
-        assert_eq!(rt; opening.name.as_str(), name);
-        assert_eq!(rt; opening.credits, credits);
-    }
-    let Ok(messages) = read_messages(alloc, MESSAGES, openings.as_slice()) else {
-        return Err(Fail::from(AllocError));
-    };
-    let wanted = [
-        (0, Some(2), "ab", "1", "x, \"y\""),
-        (1, Some(1), "c", "2", ""),
-        (2, None, "d", "3", "z"),
-    ];
-    assert_eq!(rt; messages.len(), wanted.len());
-    for (message, (index, account, source, dest, text)) in messages.iter().zip(wanted) {
-        assert_eq!(rt; message.index, index);
-        assert_eq!(rt; message.account, account);
-        assert_eq!(rt; message.source.as_str(), source);
-        assert_eq!(rt; message.dest.as_str(), dest);
-        assert_eq!(rt; message.text.as_str(), text);
-    }
-    Ok(())
+fn reads_accounts_in_quotes(rt: HostRuntime) {
+    let openings = openings(&rt);
+    assert_eq!(rt; openings.len(), 3);
+    want_opening(&rt, &openings[0], "a \"b\", c", 7);
+    want_opening(&rt, &openings[1], "", 0);
+    want_opening(&rt, &openings[2], "two\nlines", 1_099_511_627_776);
+}
+
+#[test]
+fn reads_messages_in_quotes(rt: HostRuntime) {
+    let openings = openings(&rt);
+    let messages = messages(&rt, openings.as_slice());
+    assert_eq!(rt; messages.len(), 3);
+    want_message(&rt, &messages[0], 0, Some(2));
+    want_message(&rt, &messages[1], 1, Some(1));
+    want_message(&rt, &messages[2], 2, None);
+    want_texts(&rt, &messages[0], "ab", "1", "x, \"y\"");
+    want_texts(&rt, &messages[1], "c", "2", "");
+    want_texts(&rt, &messages[2], "d", "3", "z");
 }
 
 #[test]

@@ -69,9 +69,8 @@ pub fn segment(
     })
 }
 
-#[test]
-fn prints_every_segment_and_every_account(rt: HostRuntime) -> Result<(), Fail> {
-    let alloc = rt.alloc();
+// Segments of all outcomes.
+fn all_outcomes(alloc: Global) -> Result<Vec<SegmentEnd>, Fail> {
     let mut segments = Vec::new(alloc);
     let throttled = reply(88, b"");
     segments.push(segment(alloc, Outcome::Charged, &[throttled, reply(0, b"m1")])?)?;
@@ -79,27 +78,29 @@ fn prints_every_segment_and_every_account(rt: HostRuntime) -> Result<(), Fail> {
     segments.push(segment(alloc, Outcome::Unanswered, &[throttled, None])?)?;
     segments.push(segment(alloc, Outcome::Unsent, &[])?)?;
     segments.push(segment(alloc, Outcome::Charged, &[reply(0, b"a, \"\xff~\x7f!")])?)?;
-    let mut ends = Vec::new(alloc);
-    ends.push(MessageEnd {
-        index: 0,
-        result: MessageResult::Sent(Segments::new(segments)),
-    })?;
-    for (index, refusal) in [
+    Ok(segments)
+}
+
+// Adds a message for each refusal.
+fn push_refusals(ends: &mut Vec<MessageEnd>) -> Result<(), Fail> {
+    for refusal in [
         MessageRefusal::NoAccount,
         MessageRefusal::NoCredit,
         MessageRefusal::TooLong,
         MessageRefusal::BadAddress,
         MessageRefusal::BindClosed,
         MessageRefusal::OutOfMemory,
-    ]
-    .into_iter()
-    .enumerate()
-    {
+    ] {
         ends.push(MessageEnd {
-            index: index as u64 + 1,
+            index: ends.len() as u64,
             result: MessageResult::Refused(refusal),
         })?;
     }
+    Ok(())
+}
+
+// The text of these ends, of two accounts.
+fn text_of_ends(alloc: Global, ends: &[MessageEnd]) -> Result<String, Fail> {
     let mut openings = Vec::new(alloc);
     let mut rows = Vec::new(alloc);
     for name in ["main", "a \"b\", c"] {
@@ -107,16 +108,18 @@ fn prints_every_segment_and_every_account(rt: HostRuntime) -> Result<(), Fail> {
             name: String::from_str(alloc, name)?,
             credits: 9,
         })?;
-        rows.push(Row {
-            topped: 9,
-            free: 4,
-            reserved: 3,
-            charged: 2,
-            returned: 1,
-        })?;
+        rows.push(row(9, 4, 3, 2, 1))?;
     }
     let statement = Statement::new(rows);
-    let text = report_text(alloc, openings.as_slice(), ends.as_slice(), &statement)?;
+    Ok(report_text(alloc, openings.as_slice(), ends, &statement)?)
+}
+
+#[test]
+fn prints_every_segment_and_every_account(rt: HostRuntime) -> Result<(), Fail> {
+    let alloc = rt.alloc();
+    let mut ends = sent(alloc, all_outcomes(alloc)?)?;
+    push_refusals(&mut ends)?;
+    let text = text_of_ends(alloc, ends.as_slice())?;
     assert_eq!(rt;
         text.as_str(),
         "message,part,attempts,outcome,status,id\n0,1,2,charged,0,m1\n0,2,1,refused,88,\n0,3,2,unanswered,,\n0,4,0,unsent,,\n0,5,1,charged,0,\"a,?\"\"?~?!\"\n1,0,0,no-account,,\n2,0,0,no-credit,,\n3,0,0,too-long,,\n4,0,0,bad-address,,\n5,0,0,bind-closed,,\n6,0,0,out-of-memory,,\naccount,topped,free,reserved,charged,returned\nmain,9,4,3,2,1\n\"a \"\"b\"\", c\",9,4,3,2,1\n"

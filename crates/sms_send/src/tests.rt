@@ -140,99 +140,156 @@ fn tells_a_broken_schedule(rt: HostRuntime) -> Result<(), Fail> {
     Ok(())
 }
 
-/// Files that can't be opened, and a folder, which opens and can't be read.
+// The job of this word and file.
+fn job_with(word: &str, name: String) -> Job {
+    match word {
+        "plan" => Job::Plan(name, false),
+        "loop" => Job::Loop(name, true),
+        "send" => Job::Send(name, true),
+        _ => Job::Replay(Some(name)),
+    }
+}
+
+// That a fault is told, of this text, with the status 1.
+fn want_fault(rt: &(impl AllocGlobal + Abort), done: Result<u8, Fault>, wanted: &str) {
+    let Err(fault) = done else {
+        panic!(rt; "no fault")
+    };
+    assert_eq!(rt; fault.exit_status(), 1);
+    match fault.to_string(rt.alloc()) {
+        Ok(text) => assert_eq!(rt; text.as_str(), wanted),
+        Err(_) => panic!(rt; "no memory"),
+    }
+}
+
+// A subcommand, a file that can't be opened or a folder, which opens and can't be read, and the fault.
+const UNREAD: [(&str, &str, &str); 8] = [
+    ("replay", "nowhere.csv", "fault: file nowhere.csv"),
+    ("plan", "nowhere.csv", "fault: file nowhere.csv"),
+    ("replay", "/", "fault: file schedule"),
+    ("plan", "/", "fault: file messages"),
+    ("loop", "nowhere.toml", "fault: file nowhere.toml"),
+    ("send", "nowhere.toml", "fault: file nowhere.toml"),
+    ("loop", "/", "fault: file /"),
+    ("send", "/", "fault: file /"),
+];
+
 #[test]
 fn tells_files_that_cannot_be_read(rt: HostRuntime) -> Result<(), Fail> {
-    let cases = [
-        ("replay", "nowhere.csv", "fault: file nowhere.csv"),
-        ("plan", "nowhere.csv", "fault: file nowhere.csv"),
-        ("replay", "/", "fault: file schedule"),
-        ("plan", "/", "fault: file messages"),
-        ("loop", "nowhere.toml", "fault: file nowhere.toml"),
-        ("send", "nowhere.toml", "fault: file nowhere.toml"),
-        ("loop", "/", "fault: file /"),
-        ("send", "/", "fault: file /"),
-    ];
-    for (word, name, expected) in cases {
-        let name = String::from_str(rt.alloc(), name)?;
-        let job = match word {
-            "plan" => Job::Plan(name, false),
-            "loop" => Job::Loop(name, true),
-            "send" => Job::Send(name, true),
-            _ => Job::Replay(Some(name)),
-        };
+    for (word, name, wanted) in UNREAD {
+        let job = job_with(word, String::from_str(rt.alloc(), name)?);
         let mut output = Vec::new(rt.alloc());
-        let fault = do_job(&rt, job, &mut output).err().ok_or("no fault")?;
-        assert_eq!(rt; fault.to_string(rt.alloc())?.as_str(), expected);
-        assert_eq!(rt; fault.exit_status(), 1);
+        want_fault(&rt, do_job(&rt, job, &mut output), wanted);
         assert!(rt; output.is_empty());
     }
     Ok(())
 }
 
-/// The words, each the file of the job, or the text of the fault.
-#[test]
-fn reads_the_words(rt: HostRuntime) -> Result<(), Fail> {
-    let cases = [
-        ("", "standard input"),
-        ("replay -", "standard input"),
-        ("replay events.csv", "events.csv"),
-        ("replay", "fault: words"),
-        ("plan --messages x", "plan of x"),
-        ("plan --messages -", "plan of -"),
-        ("plan --messages x --long", "long plan of x"),
-        ("plan --long --messages x", "long plan of x"),
-        ("plan --long", "fault: words"),
-        ("plan --messages x --long=true", "fault: words"),
-        ("replay --long x", "fault: words"),
-        ("plan", "fault: words"),
-        ("plan x", "fault: words"),
-        ("plan --messages", "fault: words"),
-        ("plan --messages x y", "fault: words"),
-        ("replay a b", "fault: words"),
-        ("frob", "fault: words"),
-        ("plan --version", "fault: words"),
-        ("loop --config c.toml", "loop of c.toml"),
-        ("loop --config c.toml --quiet", "quiet loop of c.toml"),
-        ("loop --quiet --config=-", "quiet loop of -"),
-        ("send --config c.toml", "send of c.toml"),
-        ("send --quiet --config c.toml", "quiet send of c.toml"),
-        ("loop", "fault: words"),
-        ("loop --quiet", "fault: words"),
-        ("loop --config", "fault: words"),
-        ("loop c.toml", "fault: words"),
-        ("loop --config a b", "fault: words"),
-        ("loop --config a --config b", "fault: words"),
-        ("loop --config a --quiet=true", "fault: words"),
-        ("loop --config a --long", "fault: words"),
-        ("send", "fault: words"),
-        ("send --messages x", "fault: words"),
-        ("send --config a --quiet --quiet", "fault: words"),
-        ("plan --config x", "fault: words"),
-        ("plan --messages x --quiet", "fault: words"),
-        ("replay --quiet x", "fault: words"),
-        ("Loop --config a", "fault: words"),
-        ("loop send --config a", "fault: words"),
-    ];
-    for (line, expected) in cases {
-        let mut words = Vec::new(rt.alloc());
-        for word in line.split_whitespace() {
-            words.push(String::from_str(rt.alloc(), word)?)?;
-        }
-        let read = match job_of(rt.alloc(), words.as_slice()) {
-            Ok(Job::Replay(None)) => String::from_str(rt.alloc(), "standard input")?,
-            Ok(Job::Replay(Some(name))) => name,
-            Ok(Job::Plan(name, true)) => format!(in rt.alloc(); "long plan of {name}")?,
-            Ok(Job::Plan(name, false)) => format!(in rt.alloc(); "plan of {name}")?,
-            Ok(Job::Loop(name, true)) => format!(in rt.alloc(); "quiet loop of {name}")?,
-            Ok(Job::Loop(name, false)) => format!(in rt.alloc(); "loop of {name}")?,
-            Ok(Job::Send(name, true)) => format!(in rt.alloc(); "quiet send of {name}")?,
-            Ok(Job::Send(name, false)) => format!(in rt.alloc(); "send of {name}")?,
-            Err(fault) => fault.to_string(rt.alloc())?,
+/// Words, and the file of the job, or the text of the fault.
+const READ: [(&str, &str); 39] = [
+    ("", "standard input"),
+    ("replay -", "standard input"),
+    ("replay events.csv", "events.csv"),
+    ("replay", "fault: words"),
+    ("plan --messages x", "plan of x"),
+    ("plan --messages -", "plan of -"),
+    ("plan --messages x --long", "long plan of x"),
+    ("plan --long --messages x", "long plan of x"),
+    ("plan --long", "fault: words"),
+    ("plan --messages x --long=true", "fault: words"),
+    ("replay --long x", "fault: words"),
+    ("plan", "fault: words"),
+    ("plan x", "fault: words"),
+    ("plan --messages", "fault: words"),
+    ("plan --messages x y", "fault: words"),
+    ("replay a b", "fault: words"),
+    ("frob", "fault: words"),
+    ("plan --version", "fault: words"),
+    ("loop --config c.toml", "loop of c.toml"),
+    ("loop --config c.toml --quiet", "quiet loop of c.toml"),
+    ("loop --quiet --config=-", "quiet loop of -"),
+    ("send --config c.toml", "send of c.toml"),
+    ("send --quiet --config c.toml", "quiet send of c.toml"),
+    ("loop", "fault: words"),
+    ("loop --quiet", "fault: words"),
+    ("loop --config", "fault: words"),
+    ("loop c.toml", "fault: words"),
+    ("loop --config a b", "fault: words"),
+    ("loop --config a --config b", "fault: words"),
+    ("loop --config a --quiet=true", "fault: words"),
+    ("loop --config a --long", "fault: words"),
+    ("send", "fault: words"),
+    ("send --messages x", "fault: words"),
+    ("send --config a --quiet --quiet", "fault: words"),
+    ("plan --config x", "fault: words"),
+    ("plan --messages x --quiet", "fault: words"),
+    ("replay --quiet x", "fault: words"),
+    ("Loop --config a", "fault: words"),
+    ("loop send --config a", "fault: words"),
+];
+
+// The words of a line.
+fn words_of(rt: &(impl AllocGlobal + Abort), line: &str) -> Vec<String> {
+    let mut words = Vec::new(rt.alloc());
+    for word in line.split_whitespace() {
+        let Ok(word) = String::from_str(rt.alloc(), word) else {
+            panic!(rt; "no memory")
         };
-        assert_eq!(rt; read.as_str(), expected);
+        if words.push(word).is_err() {
+            panic!(rt; "no memory")
+        }
     }
-    Ok(())
+    words
+}
+
+// What a job is called, before its file.
+fn called(job: &Job) -> &str {
+    match job {
+        Job::Replay(None) => "standard input",
+        Job::Replay(Some(_)) => "",
+        Job::Plan(_, true) => "long plan of ",
+        Job::Plan(_, false) => "plan of ",
+        Job::Loop(_, true) => "quiet loop of ",
+        Job::Loop(_, false) => "loop of ",
+        Job::Send(_, true) => "quiet send of ",
+        Job::Send(_, false) => "send of ",
+    }
+}
+
+// The file of a job.
+fn file_of(job: &Job) -> &str {
+    match job {
+        Job::Replay(None) => "",
+        Job::Replay(Some(name)) => name.as_str(),
+        Job::Plan(name, _) | Job::Loop(name, _) | Job::Send(name, _) => name.as_str(),
+    }
+}
+
+// That the job is called so, with its file.
+fn want_job(rt: &impl Abort, job: &Job, wanted: &str) {
+    match wanted.strip_prefix(called(job)) {
+        Some(file) => assert_eq!(rt; file_of(job), file),
+        None => panic!(rt; "another job"),
+    }
+}
+
+// That this is read of the words.
+fn want_read(rt: &(impl AllocGlobal + Abort), words: &[String], wanted: &str) {
+    match job_of(rt.alloc(), words) {
+        Ok(job) => want_job(rt, &job, wanted),
+        Err(fault) => match fault.to_string(rt.alloc()) {
+            Ok(text) => assert_eq!(rt; text.as_str(), wanted),
+            Err(_) => panic!(rt; "no memory"),
+        },
+    }
+}
+
+#[test]
+fn reads_the_words(rt: HostRuntime) {
+    for (line, wanted) in READ {
+        let words = words_of(&rt, line);
+        want_read(&rt, words.as_slice(), wanted);
+    }
 }
 
 /// The fault that these words are answered with.

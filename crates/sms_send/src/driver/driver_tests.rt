@@ -1,12 +1,12 @@
 //! Whole sendings, over pipes in memory.
-use crate::driver::bind_end::Unbinding;
+use crate::driver::bind_end::{BindEnd, Unbinding};
 use crate::driver::{Dial, Habits, SendFault, Sending, drive_all};
 use sms_bind::Settings;
-use sms_book::{Opening, Tariff};
+use sms_book::{Opening, Statement, Tariff};
 use sms_centre::{Cause, Pipe, PipeEnd, Script, ServeEnd, serve};
 use sms_pdu::{Mode, Octets};
 use sms_session::Policy;
-use sms_worker::{Clock, Gate, Message, MessageResult, Outcome, Pause, Rules};
+use sms_worker::{Clock, Gate, Message, MessageEnd, MessageResult, Outcome, Pause, Rules};
 use std::alloc::Global;
 use std::process::Abort;
 use std::sync::Wait;
@@ -216,6 +216,51 @@ const GOOD: &str = "answers = [\"status 0\"]";
 
 const REFUSES: &str = "bind_status = 14\nanswers = [\"status 0\"]";
 
+// That a bind had two workers and was unbound.
+fn want_unbound(rt: &impl Abort, bind: &BindEnd) {
+    assert_eq!(rt; bind.workers, 2);
+    match bind.unbinding {
+        Unbinding::Sent(_) => {}
+        Unbinding::NotYet | Unbinding::Failed(_) | Unbinding::Unasked(_) => {
+            panic!(rt; "not unbound")
+        }
+    }
+}
+
+// That the message of this place was charged.
+fn want_charged(rt: &impl Abort, end: &MessageEnd, place: usize) {
+    assert_eq!(rt; end.index, place as u64);
+    match &end.result {
+        MessageResult::Sent(segments) => match segments.as_slice().first() {
+            Some(segment) => assert_eq!(rt; segment.outcome, Outcome::Charged),
+            None => panic!(rt; "no segment"),
+        },
+        MessageResult::Refused(_) => panic!(rt; "refused"),
+    }
+}
+
+// That the one account had 20 credits, of which 9 were charged.
+fn want_9_charged(rt: &impl Abort, statement: &Statement) {
+    let Some(row) = statement.rows().first() else {
+        panic!(rt; "no row")
+    };
+    assert_eq!(rt; (row.topped, row.free, row.reserved), (20, 11, 0));
+    assert_eq!(rt; (row.charged, row.returned), (9, 0));
+}
+
+// That all nine messages were charged over two binds.
+fn want_all_charged(rt: &impl Abort, sending: &Sending) {
+    assert_eq!(rt; sending.ends.len(), 9);
+    for place in 0..sending.ends.len() {
+        want_charged(rt, &sending.ends[place], place);
+    }
+    want_9_charged(rt, &sending.statement);
+    assert_eq!(rt; sending.binds.len(), 2);
+    for bind in &sending.binds {
+        want_unbound(rt, bind);
+    }
+}
+
 #[test]
 fn two_binds_of_two_workers(rt: HostRuntime) -> Result<(), Fail> {
     let case = Case {
@@ -229,40 +274,10 @@ fn two_binds_of_two_workers(rt: HostRuntime) -> Result<(), Fail> {
         second,
         ended,
     } = sent(&rt, rt.alloc(), case)?;
-    let Sending {
-        ends,
-        statement,
-        binds,
-    } = match ended {
-        Ok(ended) => ended,
+    match ended {
+        Ok(sending) => want_all_charged(&rt, &sending),
         Err(fault) => return Err(Fail::new(fault)),
-    };
-    assert_eq!(rt; ends.len(), 9);
-    assert_eq!(rt; binds.len(), 2);
-    for bind in binds {
-        assert_eq!(rt; bind.workers, 2);
-        match bind.unbinding {
-            Unbinding::Sent(_) => {}
-            Unbinding::NotYet | Unbinding::Failed(_) | Unbinding::Unasked(_) => {
-                panic!(&rt; "not unbound")
-            }
-        }
     }
-    for place in 0..ends.len() {
-        assert_eq!(rt; ends[place].index, place as u64);
-        match &ends[place].result {
-            MessageResult::Sent(segments) => match segments.as_slice().first() {
-                Some(segment) => assert_eq!(rt; segment.outcome, Outcome::Charged),
-                None => panic!(&rt; "no segment"),
-            },
-            MessageResult::Refused(_) => panic!(&rt; "refused"),
-        }
-    }
-    let Some(row) = statement.rows().first() else {
-        panic!(&rt; "no row")
-    };
-    assert_eq!(rt; (row.topped, row.free, row.reserved), (20, 11, 0));
-    assert_eq!(rt; (row.charged, row.returned), (9, 0));
     // messages 0, 1, 4, 5 and 8 went over the first bind
     assert_eq!(rt; (first.submits, second.submits), (5, 4));
     assert_eq!(rt;

@@ -1,15 +1,16 @@
-use Rattle.std.proofs.Common.{◌≡◌, ◌∙◌, ◌<◌, sym, refl, inr, [], length, None, rules, arith}
+use Rattle.std.proofs.Common.{◌≡◌, ◌∙◌, ◌<◌, sym, refl, inl, inr, [], length, None, rules, arith}
 use Rattle.std.specs.List.{AllZip}
 use Rattle.std.specs.Prelude.{vec_len}
 use Rattle.std.proofs.lemmas.Bool.{eqb-false}
 use Rattle.csv.specs.Records.{fields_of}
 use Rattle.sms_send.specs.Accounts.{AreAccounts, SaysAccount, accounts_fault, rest_fault}
+use Rattle.sms_send.specs.Fields.{records_of}
 use Rattle.sms_send.specs.Records.{TellsRecords, records_left}
 use Rattle.sms_send.specs.declared.fault.Fault.TheVariants.{BadRecord}
 use Rattle.sms_send.specs.declared.fault.Source.TheVariants.{Accounts}
 use Rattle.sms_send.proofs.Files.{told-empty, told-first}
 use Rattle.sms_send.proofs.NewAccounts.{are-accounts, bad-header, no-accounts, tells-rest}
-use Rattle.sms_send.proofs.Runs.{if_known}
+use Rattle.sms_send.proofs.Runs.{if_known, told_so}
 use Rattle.sms_send.proofs.accounts.read_accounts.Goals as goal
 
 pub returns-then-not-branch-clause-faulty : goal.returns-then-not-branch-clause-faulty
@@ -61,3 +62,9 @@ returns-clause-faulty g c =
     (records_left remaining c.read_all-reader.result) c.in_ok-next_record.field-0 row (records_left remaining c.next_record.new.reader)
     c.read_all-reader.ensures.whole c.in_ok-next_record.ensures.first c.if-not-branch.false
     c.in-Err.ensures.faulty (λ rs h. tells-rest row rs c.in-Err.fault good h)
+
+pub returns-in_err-next_record-clause-faulty : goal.returns-in_err-next_record-clause-faulty
+returns-in_err-next_record-clause-faulty g c =
+    let remaining = g.R.Read.remaining in
+    told_so c.from_residual.result _ _ c.from_residual.ensures.1
+    (if_known (remaining c.args.input) (λ bytes. TellsRecords Accounts (accounts_fault (records_of bytes)) c.in_err-next_record.field-0.0) (λ bytes known. inl c.in_err-next_record.ensures.device))

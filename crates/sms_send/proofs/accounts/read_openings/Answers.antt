@@ -9,7 +9,7 @@ use Rattle.sms_send.specs.Records.{TellsRecords, records_left}
 use Rattle.sms_send.specs.declared.fault.Fault.TheVariants.{BadRecord}
 use Rattle.sms_send.specs.declared.fault.Source.TheVariants.{Accounts}
 use Rattle.sms_send.proofs.NewAccounts.{one-account, read-new, read-none, stops-bad, stops-many}
-use Rattle.sms_send.proofs.Runs.{bad-next, if_known, no-more, one-more}
+use Rattle.sms_send.proofs.Runs.{bad-next, device-tells, if_known, no-more, one-more, told_so}
 use Rattle.sms_send.proofs.accounts.read_openings.Goals as goal
 
 pub returns-then-not-branch-clause-accounts : goal.returns-then-not-branch-clause-accounts
@@ -79,3 +79,13 @@ returns-clause-accounts g c =
     no-more SaysAccount (rest_fault [] 1 left) (rest_fault (names_of openings) c.loop-before.before) left openings (records_left g.R.Read.remaining c.loop-before.reader)
     (records_left g.R.Read.remaining c.next_record-2.new.reader) c.in_ok-next_record-2.field-0 (fields_of c.next_record-2.new.row)
     (c.loop-before.invariant.rest left known) c.in_ok-next_record-2.ensures.first c.if-branch.false refl)
+
+pub returns-in_err-next_record-clause-faulty : goal.returns-in_err-next_record-clause-faulty
+returns-in_err-next_record-clause-faulty g c =
+    told_so c.from_residual.result _ _ c.from_residual.ensures.1
+    (device-tells Accounts (records_left g.R.Read.remaining c.args.reader.now) (rest_fault [] 1) c.in_err-next_record.field-0.0 c.in_err-next_record.ensures.device)
+
+pub returns-in_err-next_record-2-clause-faulty : goal.returns-in_err-next_record-2-clause-faulty
+returns-in_err-next_record-2-clause-faulty g c =
+    told_so c.from_residual-in_err-next_record-2.result _ _ c.from_residual-in_err-next_record-2.ensures.1
+    (device-tells Accounts (records_left g.R.Read.remaining c.args.reader.now) (rest_fault [] 1) c.in_err-next_record-2.field-0.0 c.in_err-next_record-2.ensures.device)

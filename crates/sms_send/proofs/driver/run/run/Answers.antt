@@ -1,4 +1,4 @@
-use Rattle.std.proofs.Common.{◌≡◌, ◌*◌, ℕ, List, length, map, rules, arith, sym, ap, ◌∙◌, subst}
+use Rattle.std.proofs.Common.{◌≡◌, ◌*◌, ℕ, List, length, map, rules, arith, sym, ap, ◌∙◌, subst, inl, refl}
 use Rattle.std.specs.List.{AllZip}
 use Rattle.sms_book.specs.Name.{BookId}
 use Rattle.sms_book.specs.Portions.{row_at}
@@ -11,6 +11,7 @@ use Rattle.sms_send.specs.Statements.{AreRows}
 use Rattle.sms_worker.specs.EndOf.{IsEndOf}
 use Rattle.sms_send.proofs.Sums.{length-opening}
 use Rattle.sms_send.proofs.Conclusions.{rows_of}
+use Rattle.sms_send.proofs.Runs.{told_so}
 use Rattle.sms_send.proofs.driver.run.run.Goals as goal
 
 pub deal_out-requires-clause-shares : goal.deal_out-requires-clause-shares
@@ -19,12 +20,6 @@ deal_out-requires-clause-shares g c =
 
 pub send_over-requires-clause-count : goal.send_over-requires-clause-count
 send_over-requires-clause-count g c lives held =
-    let slice : length c.as_slice-2.result.now ≡ length c.in_ok-made.made.posts.items = search rules in
-    let posts = slice ∙ c.in_ok-made.ensures.long ∙ c.in_ok-rings.ensures.binds in
-    ap (λ (b : BookId). b.workers) (sym c.requires.name) ∙ c.requires.count.1 ∙ ap (λ n. n * c.args.workers) (sym posts)
-
-try_two : goal.send_over-requires-clause-count
-try_two g c κs held =
     let slice : length c.as_slice-2.result.now ≡ length c.in_ok-made.made.posts.items = search rules in
     let posts = slice ∙ c.in_ok-made.ensures.long ∙ c.in_ok-rings.ensures.binds in
     ap (λ (b : BookId). b.workers) (sym c.requires.name) ∙ c.requires.count.1 ∙ ap (λ n. n * c.args.workers) (sym posts)
@@ -61,3 +56,15 @@ returns-clause-rows g c =
     subst (λ (x : List MessageEnd). AreRows opened ms x rows) (sym e)
     (rows_of opened ms s.es shares rows s.sums (c.in_ok-ended.ensures.accounts ∙ accounts)
     (λ i low. subst (λ (t : List ℕ). IsSumOf (row_at rows i) i t shares) c.in-Ok.ensures.till (c.in_ok-ended.ensures.sums i low)))
+
+pub returns-in_err-hands-clause-refused : goal.returns-in_err-hands-clause-refused
+returns-in_err-hands-clause-refused g c = told_so c.from_residual.result _ _ c.from_residual.ensures.1 (inl refl)
+
+pub returns-in_err-rings-clause-refused : goal.returns-in_err-rings-clause-refused
+returns-in_err-rings-clause-refused g c = told_so c.from_residual-in_err-rings.result _ _ c.from_residual-in_err-rings.ensures.1 (inl refl)
+
+pub returns-in_err-over-clause-refused : goal.returns-in_err-over-clause-refused
+returns-in_err-over-clause-refused g c = told_so c.from_residual-in_err-over.result _ _ c.from_residual-in_err-over.ensures.1 (inl refl)
+
+pub returns-in_err-ended-clause-refused : goal.returns-in_err-ended-clause-refused
+returns-in_err-ended-clause-refused g c = told_so c.from_residual-in_err-ended.result _ _ c.from_residual-in_err-ended.ensures.1 (inl refl)
