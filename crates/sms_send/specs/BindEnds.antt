@@ -1,6 +1,8 @@
--- What becomes of the binds of a sending.
+-- How the binds of a sending begin, and what becomes of them.
 use Rattle.std.specs.Prelude.{◌≡◌, ℕ, List, [], ◌∷◌, length, Option, Some, None}
+use Rattle.std.specs.Io.KnownBytes.{Appends}
 use Rattle.std.specs.List.{AllByRecursion}
+use Rattle.sms_bind.specs.Binds.{Setting, bind_pdu}
 use Rattle.sms_pdu.specs.Grammar.{Spells}
 use Rattle.sms_pdu.specs.declared.body.Body.TheVariants.{Unbind}
 use Rattle.sms_window.specs.declared.view.View.{View}
@@ -8,6 +10,11 @@ use Rattle.sms_window.specs.Drawing.{HasDrawn}
 use Rattle.sms_send.specs.declared.driver.bind_end.BindEnd.{BindEnd}
 use Rattle.sms_send.specs.declared.driver.bind_end.Unbinding.{Unbinding}
 use Rattle.sms_send.specs.declared.driver.bind_end.Unbinding.TheVariants.{NotYet, Sent, Failed, Unasked}
+
+-- the bind of the settings went out, with a number that the seat drew (SMPP 3.4 4.1)
+abbrev pub HasBound : View → Setting → Option (List ℕ) → Option (List ℕ) → View → Type 0
+HasBound before settings old new after =
+    (number : ℕ) × HasDrawn before (number ∷ []) after × ((octets : List ℕ) → Spells (bind_pdu settings number) octets → Appends old new octets)
 
 -- the octets spell the unbind with this number (SMPP 3.4 4.2.1)
 abbrev pub SpellsUnbind : ℕ → List ℕ → Type 0

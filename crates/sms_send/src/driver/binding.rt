@@ -2,6 +2,8 @@
 ghost use Rattle.std.specs.Prelude.{◌≡◌, ℕ, ◌<◌, ◌≤◌, [], length, map, vec_capacity, Some, None, if◌then◌else◌, IfErr, IfOk, OnOk};
 ghost use Rattle.std.specs.List.{AllByRecursion, AllZip};
 ghost use Rattle.sms_core.specs.Limits.{most_slots};
+ghost use Rattle.sms_bind.specs.Devices.{writer};
+ghost use Rattle.sms_send.specs.BindEnds.{HasBound};
 ghost use Rattle.sms_send.specs.Seated.{IsSeated};
 ghost use Rattle.sms_send.specs.SendFaults.{fault_in, IsFaultOf, IsFaultOfOne};
 
@@ -12,9 +14,9 @@ use crate::driver::rings::Rings;
 use crate::driver::seating::{Guest, Own, Post};
 use crate::driver::seats::split_seats;
 use crate::driver::threads::Following;
-use sms_bind::{BindFault, Line, Settings, Tap, Wire, bind};
+use sms_bind::{BindFault, Bound, Line, Settings, Tap, Wire, bind};
 use sms_slot::SlotRow;
-use sms_window::Window;
+use sms_window::{Window, WindowSeat};
 use std::alloc::Global;
 use std::io::{Read, Write};
 use std::sync::Wait;
@@ -83,6 +85,30 @@ fn following(habits: &Habits) -> Following
     }
 }
 
+/// Binds with a number that the seat draws.
+fn bind_with<Rd: Read, W: Write>(
+    alloc: Global,
+    window: &Window,
+    seat: &mut WindowSeat,
+    reader: &mut Tap<Rd>,
+    wire: &mut Wire<W>,
+    settings: &Settings,
+    bind_place: u32,
+) -> Result<Bound, SendFault>
+    requires own { seat.old.window ≡ window.now }
+    ensures window { seat.new.window ≡ seat.old.window }
+    ensures bound { OnOk result (HasBound seat.old.view settings.now (W.contents (writer wire.old)) (W.contents (writer wire.new)) seat.new.view) }
+    ensures refused { IfErr result (IsFaultOf bind_place) }
+{
+    let Some(number) = draw(window, seat) else {
+        return Err(SendFault::BindFailed(bind_place));
+    };
+    match bind(alloc, reader, wire, settings, number) {
+        Ok(bound) => Ok(bound),
+        Err(fault) => Err(fault_of(bind_place, fault)),
+    }
+}
+
 /// Dials and binds; splits off a seat for each worker and one for the driver.
 fn make_bind<D: Dial>(
     alloc: Global,
@@ -112,18 +138,20 @@ fn make_bind<D: Dial>(
     let Ok(slots) = SlotRow::new(alloc) else {
         return Err(SendFault::OutOfMemory);
     };
-    let Some(number) = draw(&window, &mut seat) else {
-        return Err(SendFault::BindFailed(bind_place));
-    };
     let Some((reader, writer)) = dial.dial(bind_place) else {
         return Err(SendFault::BindFailed(bind_place));
     };
     let mut reader = Tap::new(reader);
     let mut wire = Wire::new(Tap::new(writer));
-    let bound = match bind(alloc, &mut reader, &mut wire, &habits.settings, number) {
-        Ok(bound) => bound,
-        Err(fault) => return Err(fault_of(bind_place, fault)),
-    };
+    let bound = bind_with(
+        alloc,
+        &window,
+        &mut seat,
+        &mut reader,
+        &mut wire,
+        &habits.settings,
+        bind_place,
+    )?;
     Ok(Made {
         post: Post {
             line: Line::new(slots, wire),
