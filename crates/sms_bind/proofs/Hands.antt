@@ -3,7 +3,7 @@ use Rattle.std.proofs.Common.{◌≡◌, ◌≢◌, ◌↔◌, ℕ, List, [], �
 use Rattle.std.proofs.KnownBytes.{Consumes-nil}
 use Rattle.rtrb.specs.Ring.{sent}
 use Rattle.sms_pdu.specs.declared.reply.Reply.{Reply}
-use Rattle.sms_pdu.specs.Frame.{IsRest, IsBad, Division}
+use Rattle.sms_pdu.specs.Frame.{IsRest, IsBad}
 use Rattle.sms_pdu.specs.Reply.{answers}
 use Rattle.sms_pdu.specs.Streams.{Stretch, Reads, Leaves, going, complete, lost, early}
 use Rattle.sms_pdu.proofs.Divisions.{each_divided, answers_join}

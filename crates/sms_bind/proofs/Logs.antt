@@ -68,7 +68,7 @@ breaks d = of_response (λ response written. is_broken written) d
 -- the next state is the same, or closed; what the reader ends with says so
 pub reached : (s t : State) (d : Deed) → (t ≡ s) ⊎ (t ≡ StateClosed) → Reaches (cause_after d t) s t
 reached s t (Brought reply search) h = (ends_by s t h (Brought reply search) refl).0
-reached s t (Replied response Sent) h = (ends_by s t h (Replied response Sent) refl).0
+reached s t (Replied response (Sent octets)) h = (ends_by s t h (Replied response (Sent octets)) refl).0
 reached s t (Replied response NoMemory) h = (ends_by s t h (Replied response NoMemory) refl).0
 reached s t (Replied response Broken) h = tt
 reached s t Noted h = (ends_by s t h Noted refl).0
@@ -76,7 +76,7 @@ reached s t Closed h = (ends_by s t h Closed refl).0
 
 pub broke : (s t : State) (d : Deed) → (t ≡ s) ⊎ (t ≡ StateClosed) → counted (of_response (λ response written. is_broken written)) (d ∷ []) ≡ broken_at (cause_after d t)
 broke s t (Brought reply search) h = sym (ends_by s t h (Brought reply search) refl).1
-broke s t (Replied response Sent) h = sym (ends_by s t h (Replied response Sent) refl).1
+broke s t (Replied response (Sent octets)) h = sym (ends_by s t h (Replied response (Sent octets)) refl).1
 broke s t (Replied response NoMemory) h = sym (ends_by s t h (Replied response NoMemory) refl).1
 broke s t (Replied response Broken) h = refl
 broke s t Noted h = sym (ends_by s t h Noted refl).1
@@ -86,8 +86,8 @@ broke s t Closed h = sym (ends_by s t h Closed refl).1
 
 entry_by : (a : Action) (f : List ℕ) (d : Deed) (rest : List Reply) → (a ≢ action.Answer → reply_in f ≡ None) → Does a f d → map first (entry d) ++ rest ≡ cons_option (reply_in f) rest
 entry_by action.Answer f d rest other (reply, search, is, deed) = rw (deed, is) refl
-entry_by (action.Reply response) f d rest other does = rw (does.1, other (λ e. absurd cc)) refl
-entry_by (action.ReplyClose response) f d rest other does = rw (does.1, other (λ e. absurd cc)) refl
+entry_by (action.Reply response) f d rest other (written, deed, how) = rw (deed, other (λ e. absurd cc)) refl
+entry_by (action.ReplyClose response) f d rest other (written, deed, how) = rw (deed, other (λ e. absurd cc)) refl
 entry_by action.Note f d rest other does = rw (does, other (λ e. absurd cc)) refl
 entry_by action.Close f d rest other does = rw (does, other (λ e. absurd cc)) refl
 entry_by action.Drop f d rest other does = rw (does, other (λ e. absurd cc)) refl
@@ -122,7 +122,7 @@ one_added : (c : Counts) (d : Deed) → Adds (d ∷ []) c (tally c d)
 one_added c (Brought reply (Found slot worker)) = record { answered = omega arith; unknown = omega arith; overrun = omega arith; all = omega arith; delivered = omega arith; noted = omega arith; nacked = omega arith; unreplied = omega arith }
 one_added c (Brought reply (Overrun slot worker)) = record { answered = omega arith; unknown = omega arith; overrun = omega arith; all = omega arith; delivered = omega arith; noted = omega arith; nacked = omega arith; unreplied = omega arith }
 one_added c (Brought reply Unknown) = record { answered = omega arith; unknown = omega arith; overrun = omega arith; all = omega arith; delivered = omega arith; noted = omega arith; nacked = omega arith; unreplied = omega arith }
-one_added c (Replied response Sent) = record { answered = omega arith; unknown = omega arith; overrun = omega arith; all = omega arith; delivered = omega arith; noted = omega arith; nacked = omega arith; unreplied = omega arith }
+one_added c (Replied response (Sent octets)) = record { answered = omega arith; unknown = omega arith; overrun = omega arith; all = omega arith; delivered = omega arith; noted = omega arith; nacked = omega arith; unreplied = omega arith }
 one_added c (Replied response NoMemory) = record { answered = omega arith; unknown = omega arith; overrun = omega arith; all = omega arith; delivered = omega arith; noted = omega arith; nacked = omega arith; unreplied = omega arith }
 one_added c (Replied response Broken) = record { answered = omega arith; unknown = omega arith; overrun = omega arith; all = omega arith; delivered = omega arith; noted = omega arith; nacked = omega arith; unreplied = omega arith }
 one_added c Noted = record { answered = omega arith; unknown = omega arith; overrun = omega arith; all = omega arith; delivered = omega arith; noted = omega arith; nacked = omega arith; unreplied = omega arith }

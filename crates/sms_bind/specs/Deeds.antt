@@ -7,6 +7,7 @@ use Rattle.sms_pdu.specs.declared.body.Body.TheVariants as body
 use Rattle.sms_pdu.specs.declared.reply.Reply.{Reply}
 use Rattle.sms_pdu.specs.declared.command.Command.TheVariants as command
 use Rattle.sms_pdu.specs.Command.{id_of}
+use Rattle.sms_pdu.specs.Grammar.{Spells}
 use Rattle.sms_pdu.specs.Header.{header_at_front}
 use Rattle.sms_pdu.specs.Reply.{reply_in}
 use Rattle.sms_pdu.specs.Streams.{Stretch, going, complete, lost, early}
@@ -45,11 +46,17 @@ pdu_for r = record { status = r.status; number = r.number; body = body_for r.com
 abbrev pub bad_length_response : Response
 bad_length_response = record { command = id_of command.GenericNack; status = bad_command_length; number = 0 }
 
+-- what was handed to the wire spells the response
+abbrev pub IsWritten : Response → Written → Type 0
+IsWritten response (Sent octets) = Spells (pdu_for response) octets
+IsWritten response NoMemory = Unit {0}
+IsWritten response Broken = Unit {0}
+
 -- ---- what is done with one frame
 
--- the response was tried
+-- the response was tried, and what was handed to the wire for it spells it
 abbrev pub Responded : Response → Deed → Type 0
-Responded response deed = (written : Written) × (deed ≡ Replied response written)
+Responded response deed = (written : Written) × (deed ≡ Replied response written) × IsWritten response written
 
 -- what an action asks for is done with the frame
 abbrev pub Does : Action → List ℕ → Deed → Type 0
@@ -103,7 +110,7 @@ cause_by StateClosed = Some cause.Unbound
 -- why the reader ends after a deed that left the session in this state
 abbrev pub cause_after : Deed → State → Option Cause
 cause_after (Brought reply search) state = cause_by state
-cause_after (Replied response Sent) state = cause_by state
+cause_after (Replied response (Sent octets)) state = cause_by state
 cause_after (Replied response NoMemory) state = cause_by state
 cause_after (Replied response Broken) state = Some cause.WriteFault
 cause_after Noted state = cause_by state
@@ -177,17 +184,17 @@ abbrev pub delivers : Response → Bool
 delivers response = response.command == id_of command.DeliverSmResp
 
 abbrev pub nacks : Response → Written → Bool
-nacks response Sent = response.command == id_of command.GenericNack
+nacks response (Sent octets) = response.command == id_of command.GenericNack
 nacks response NoMemory = false
 nacks response Broken = false
 
 abbrev pub is_silent : Written → Bool
-is_silent Sent = false
+is_silent (Sent octets) = false
 is_silent NoMemory = true
 is_silent Broken = false
 
 abbrev pub is_broken : Written → Bool
-is_broken Sent = false
+is_broken (Sent octets) = false
 is_broken NoMemory = false
 is_broken Broken = true
 

@@ -47,8 +47,8 @@ impl Counts {
         ensures frames { self.new.frames ≡ self.old.frames + 1 }
     {
         self.frames += 1;
-        match *deed {
-            Deed::Brought { reply: _, search } => self.add_answer(search),
+        match deed {
+            Deed::Brought { reply: _, search } => self.add_answer(*search),
             Deed::Replied { response, written } => self.add_response(response, written),
             Deed::Noted => self.noted += 1,
             Deed::Closed => {}
@@ -68,15 +68,15 @@ impl Counts {
     }
 
     /// One response more. A request that has a deliver_sm_resp is a deliver_sm.
-    fn add_response(&mut self, response: Response, written: Written)
+    fn add_response(&mut self, response: &Response, written: &Written)
         requires { (self.old.delivered + 1 < 2 ^ 64) × (self.old.nacked + 1 < 2 ^ 64) × (self.old.unreplied + 1 < 2 ^ 64) }
-        ensures { self.new ≡ with_reply self.old response written }
+        ensures { self.new ≡ with_reply self.old response.now written.now }
     {
         if response.command == DELIVER_SM_RESP {
             self.delivered += 1;
         }
         match written {
-            Written::Sent => {
+            Written::Sent(_receipt) => {
                 if response.command == GENERIC_NACK {
                     self.nacked += 1;
                 }

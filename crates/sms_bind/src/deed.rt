@@ -5,14 +5,16 @@ ghost use Rattle.sms_bind.specs.Deeds.{cause_after};
 ghost use Rattle.sms_bind.specs.declared.ending.Cause.TheVariants.{OutOfMemory};
 
 use crate::ending::Cause;
+use crate::wire::Receipt;
 use sms_pdu::Reply;
 use sms_session::{Response, State};
 use sms_slot::Search;
 
 /// What became of a response.
-#[derive(Clone, Copy, Debug, PartialEq, Eq)]
+#[derive(Drop)]
 pub(crate) enum Written {
-    Sent,
+    /// It was handed to the wire, which took it whole.
+    Sent(Receipt),
     /// No memory was left to encode it.
     NoMemory,
     /// The wire took no more.
@@ -20,7 +22,7 @@ pub(crate) enum Written {
 }
 
 /// What was done with a frame.
-#[derive(Clone, Copy, Debug, PartialEq, Eq)]
+#[derive(Drop)]
 pub(crate) enum Deed {
     /// It is an answer, and was brought to the slot that waits for it.
     Brought {

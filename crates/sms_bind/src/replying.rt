@@ -1,11 +1,11 @@
 //! Responses on the wire.
 
-ghost use Rattle.std.specs.Prelude.{◌≡◌, ◌≢◌, true, IfOk};
+ghost use Rattle.std.specs.Prelude.{◌≡◌, ◌⊎◌, ℕ, List, true, IfOk};
 ghost use Rattle.std.specs.Io.KnownBytes.{Appends};
 ghost use Rattle.sms_pdu.specs.Borrowed.{owned_body, owned_pdu};
 ghost use Rattle.sms_pdu.specs.Grammar.{Spells};
 ghost use Rattle.sms_bind.specs.Devices.{writer, is_broken};
-ghost use Rattle.sms_bind.specs.Deeds.{bad_length_response, body_for, pdu_for};
+ghost use Rattle.sms_bind.specs.Deeds.{bad_length_response, body_for, pdu_for, IsWritten};
 ghost use Rattle.sms_bind.specs.declared.deed.Written.TheVariants.{Sent, Broken};
 
 use crate::deed::Written;
@@ -27,7 +27,9 @@ pub(crate) fn reply<W: Write, S: Wait>(
     alloc: Global,
     line: &Line<W>,
     response: &Response,
-) -> Written {
+) -> Written
+    ensures { IsWritten response.now result }
+{
     let Ok(frame) = frame_of(alloc, response) else {
         return Written::NoMemory;
     };
@@ -92,11 +94,11 @@ fn body_of(command: u32) -> BodyRef<'static>
 
 /// Writes a response's frame.
 fn write_frame<W: Write>(wire: &mut Wire<W>, frame: Frame) -> Written
-    ensures sent { result ≡ Sent → Appends (W.contents (writer wire.old)) (W.contents (writer wire.new)) frame }
-    ensures broken { result ≢ Sent → (result ≡ Broken) × (is_broken wire.new ≡ true) }
+    ensures sent { (octets : List ℕ) → result ≡ Sent octets → (octets ≡ frame) × Appends (W.contents (writer wire.old)) (W.contents (writer wire.new)) frame }
+    ensures broken { ((octets : List ℕ) × (result ≡ Sent octets)) ⊎ ((result ≡ Broken) × (is_broken wire.new ≡ true)) }
 {
     match wire.send(frame) {
-        Ok(_receipt) => Written::Sent,
+        Ok(receipt) => Written::Sent(receipt),
         Err(_fault) => Written::Broken,
     }
 }
