@@ -3,9 +3,11 @@ ghost use Rattle.std.specs.Prelude.{◌≡◌, ℕ, ◌+◌, ◌<◌, ◌≤◌,
 ghost use Rattle.sms_core.specs.Limits.{most_slots};
 ghost use Rattle.sms_segment.specs.declared.part.Part.{Part};
 ghost use Rattle.sms_window.specs.OpenSlots.{IsOpen};
+ghost use Rattle.sms_window.specs.Seats.{used_up};
 ghost use Rattle.sms_worker.specs.Keeps.{slots_of};
 ghost use Rattle.sms_worker.specs.Submits.{SpellsSubmit};
 ghost use Rattle.sms_worker.specs.Steps.{Tries, Draws};
+ghost use Rattle.sms_worker.specs.declared.attempt.Number.TheVariants.{UsedUp};
 ghost use Rattle.sms_worker.specs.UserData.{user_data};
 
 use crate::address::{destination, source};
@@ -39,16 +41,19 @@ pub enum Tried {
 #[derive(Clone, Copy, Debug, PartialEq, Eq)]
 pub enum Number {
     Drawn(u32),
+    /// The window has given all its numbers.
     UsedUp,
+    /// Each try met another seat's step.
     Contended,
 }
 
-/// Draws a number, in at most 1,000 tries.
-fn draw(window: &Window, seat: &mut WindowSeat) -> Number
+/// Draws a sequence_number of the seat's window, in at most 1,000 tries.
+pub fn draw(window: &Window, seat: &mut WindowSeat) -> Number
     requires own { seat.old.window ≡ window.now }
     ensures window { seat.new.window ≡ seat.old.window }
     ensures slots { seat.new.view.slots ≡ seat.old.view.slots }
     ensures drawn { Draws seat.old.view result seat.new.view }
+    ensures used_up { result ≡ UsedUp → seat.new.view.seen ≡ used_up }
 {
     for _ in 0u32..1000 {
         match window.try_draw(seat) {

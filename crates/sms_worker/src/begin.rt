@@ -1,5 +1,5 @@
 //! Beginning a message: its parts, its credits, and its end so far.
-ghost use Rattle.std.specs.Prelude.{◌≡◌, ℕ, ◌<◌, ◌≤◌, ◌↔◌, All, IsTrue, IfOk, IfErr, OnOk, length, vec_len};
+ghost use Rattle.std.specs.Prelude.{◌≡◌, ℕ, ◌<◌, ◌≤◌, ◌↔◌, All, IsTrue, Err, IfOk, IfErr, OnOk, length, vec_len};
 ghost use Rattle.sms_worker.specs.Begins.{ready, Begins};
 ghost use Rattle.sms_book.specs.Tariffs.{cost_of};
 ghost use Rattle.sms_segment.specs.Message.{IsTooLong};
@@ -8,6 +8,8 @@ ghost use Rattle.sms_worker.specs.Submits.{HasAddresses, coded_text, message_par
 ghost use Rattle.sms_worker.specs.Told.{IsKnown, IsNotCut, IsRefusalOf, IsResultOf, IsShort};
 ghost use Rattle.sms_worker.specs.UserData.{message_data};
 ghost use Rattle.std.specs.Prelude.{string_bytes};
+ghost use Rattle.sms_worker.specs.declared.ends.MessageRefusal.TheVariants.{BindClosed};
+ghost use Rattle.sms_worker.specs.declared.ends.MessageResult.TheVariants.{Refused};
 
 use crate::address::{destination, source};
 use crate::ends::{
@@ -100,6 +102,8 @@ fn prepare(
     ensures texts { IfOk result (λ r. r.0 ≡ message_data rules.now message.now) }
     ensures ends { IfOk result (λ r. r.1.items ≡ ready (cost_of rules.now.tariff (string_bytes message.now.dest)) (length (message_parts rules.now message.now))) }
     ensures refused { IfErr result (λ e. IsRefusalOf rules.now accounts message.now e) }
+    ensures closed { IfErr result (λ e. e ≡ BindClosed → IsTrue down) }
+    ensures down { IsTrue down → result ≡ Err BindClosed }
 {
     if down {
         return Err(MessageRefusal::BindClosed);
@@ -133,7 +137,8 @@ fn refused<N: BookName>(
     refusal: MessageRefusal,
 ) -> (Texts, MessageEnd)
     requires { IsRefusalOf rules.now (length shares.now.amounts) message.now refusal }
-    ensures { Begins rules.now message.now shares.now shares.now result.0 result.1 }
+    ensures begins { Begins rules.now message.now shares.now shares.now result.0 result.1 }
+    ensures refused { result.1.result ≡ Refused refusal }
 {
     let texts = Texts::none(alloc);
     let end = MessageEnd {
@@ -153,7 +158,9 @@ pub(crate) fn begun<N: BookName, R: Wait>(
     down: bool,
     message: &Message,
 ) -> (Texts, MessageEnd)
-    ensures { Begins rules.now message.now shares.old shares.new result.0 result.1 }
+    ensures begins { Begins rules.now message.now shares.old shares.new result.0 result.1 }
+    ensures closed { result.1.result ≡ Refused BindClosed → IsTrue down }
+    ensures down { IsTrue down → result.1.result ≡ Refused BindClosed }
 {
     let accounts = shares.accounts();
     let (texts, ends) = match prepare(alloc, rules, accounts, down, message) {

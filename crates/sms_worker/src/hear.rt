@@ -1,5 +1,6 @@
 //! Taking the answers that the ring shows, and giving up those that wait too long.
-ghost use Rattle.std.specs.Prelude.{◌≡◌, ℕ, ◌∷◌, ◌++◌, [], List, length};
+ghost use Rattle.std.specs.Prelude.{◌≡◌, ℕ, ◌<◌, ◌∷◌, ◌++◌, [], List, length, slice_get, Some, IfSome};
+ghost use Rattle.std.specs.Option.{option_map};
 ghost use Rattle.rtrb.specs.Ring.{received, SameConsumer};
 ghost use Rattle.sms_pdu.specs.declared.reply.Reply.{Reply};
 ghost use Rattle.sms_worker.specs.Told.{HeardSince};
@@ -17,12 +18,15 @@ use std::sync::Wait;
 
 /// Where the open request with this number is. They stand in the order of their numbers, since a
 /// seat's numbers rise.
-fn find(open: &[Open], number: u32) -> Option<usize> {
+fn find(opened: &[Open], number: u32) -> Option<usize>
+    ensures within { IfSome result (λ place. place < length opened.now) }
+    ensures number { IfSome result (λ place. option_map (λ o. o.number) (slice_get opened.now place) ≡ Some number) }
+{
     let mut low = 0;
-    let mut high = open.len();
+    let mut high = opened.len();
     while low < high {
         let middle = low + (high - low) / 2;
-        let found = open[middle].number;
+        let found = opened[middle].number;
         if found == number {
             return Some(middle);
         }
@@ -56,9 +60,6 @@ impl<N: BookName, C: Call> Run<N, C> {
         let Some(i) = find(self.opened.as_slice(), reply.number) else {
             return;
         };
-        if i >= self.opened.len() {
-            return;
-        }
         let open = self.opened[i];
         if desk.line.slots.take(desk.rt, open.slot, open.number) != Taken::Got {
             return;

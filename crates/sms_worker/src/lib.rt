@@ -25,6 +25,7 @@ mod turns;
 mod user_data;
 mod work;
 
+pub use attempt::{Number, draw};
 pub use desk::{Clock, Gate, Pause};
 pub use ends::{
     Attempt, Attempts, MessageEnd, MessageRefusal, MessageResult, Outcome, SegmentEnd, Segments,

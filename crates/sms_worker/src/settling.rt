@@ -1,6 +1,9 @@
 //! Steps on one segment of a run: an answer, an attempt, the end.
-ghost use Rattle.std.specs.Prelude.{◌≡◌, ℕ, ◌+◌, ◌≤◌, ◌<◌, ◌⊎◌, true, false, Some, None, length};
+ghost use Rattle.std.specs.Prelude.{◌≡◌, ℕ, ◌+◌, ◌≤◌, ◌<◌, ◌⊎◌, ◌++◌, ◌∷◌, [], true, false, IsTrue, Some, None, length};
 ghost use Rattle.sms_book.specs.Portions.{amounts_at};
+ghost use Rattle.sms_worker.specs.declared.ends.MessageEnd.{MessageEnd};
+ghost use Rattle.sms_worker.specs.declared.ends.MessageRefusal.TheVariants.{BindClosed};
+ghost use Rattle.sms_worker.specs.declared.ends.MessageResult.TheVariants.{Refused};
 ghost use Rattle.sms_worker.specs.declared.ends.SegmentEnd.{SegmentEnd};
 ghost use Rattle.sms_worker.specs.Ends.{segment_at};
 ghost use Rattle.sms_worker.specs.Steps.{settled_to, outcome_after};
@@ -242,6 +245,7 @@ impl<N: BookName, C: Call> Run<N, C> {
         requires rules { desk.now.rules.now ≡ C.start.rules }
         ensures heard { self.new.heard ≡ self.old.heard }
         ensures all { result ≡ false → length self.new.ends ≡ length C.start.messages }
+        ensures closed { (end : MessageEnd) → self.new.ends ≡ self.old.ends ++ end ∷ [] → end.result ≡ Refused BindClosed → IsTrue down }
         ensures more { result ≡ true → (length self.new.ends ≡ length self.old.ends + 1) × (length self.new.ends ≤ length C.start.messages) }
     {
         let place = self.ends.len();

@@ -112,7 +112,7 @@ struct Lists {
 
 fn grow(alloc: Global, messages: usize, depth: usize) -> Result<Lists, AllocError>
     ensures empty { IfOk result (λ l. (l.ends.items ≡ []) × (l.texts.items ≡ []) × (l.opened.items ≡ [])) }
-    ensures room { IfOk result (λ l. (messages ≤ vec_capacity l.ends) × (messages ≤ vec_capacity l.texts)) }
+    ensures room { IfOk result (λ l. (messages ≤ vec_capacity l.ends) × (messages ≤ vec_capacity l.texts) × (depth ≤ vec_capacity l.opened)) }
 {
     let ends = Vec::with_capacity(alloc, messages)?;
     let texts = Vec::with_capacity(alloc, messages)?;

@@ -13,8 +13,8 @@ use Rattle.sms_worker.specs.Told.{IsKnown}
 use Rattle.sms_worker.proofs.Beginnings.{length-ready, reserved_ready, other_ready}
 use Rattle.sms_worker.proofs.begin.begun.Goals as goal
 
-pub returns-in-Ok-reserve : goal.returns-in-Ok-reserve
-returns-in-Ok-reserve g c =
+pub returns-in-Ok-reserve-clause-begins : goal.returns-in-Ok-reserve-clause-begins
+returns-in-Ok-reserve-clause-begins g c =
     let m = c.args.message.now in
     let old = c.args.shares.now in
     let a = c.in-Some.account in

@@ -14,7 +14,7 @@ invariant_of-self g c =
     let at : n ≡ length c.self.inside.ends.items = search rules in
     let low' : n < length c.self.inside.messages.items = search rules in
     let there = ap (slice_get c.self.inside.messages.items) (sym at) ∙ slice_get-get_or c.self.inside.messages.items n c.index-message.result.now low' ∙ ap Some (sym c.index-message.ensures) in
-    let b = subst (λ (x : Rules). Begins x c.index-message.result.now c.self.inside.shares c.begun-texts.new.shares c.begun-texts.result.0 c.begun-texts.result.1) c.requires.rules c.begun-texts.ensures in
+    let b = subst (λ (x : Rules). Begins x c.index-message.result.now c.self.inside.shares c.begun-texts.new.shares c.begun-texts.result.0 c.begun-texts.result.1) c.requires.rules c.begun-texts.ensures.begins in
     let done = keeps_begun _ _ _ _ _ _ _ _ _ c.index-message.result.now c.begun-texts.result.0 c.begun-texts.result.1 i.keeps there low b in
     record {
       keeps = rw (c.push_reserved.ensures.items, c.push_reserved-2.ensures.items) done;
