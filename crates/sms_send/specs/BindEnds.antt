@@ -1,5 +1,5 @@
 -- How the binds of a sending begin, and what becomes of them.
-use Rattle.std.specs.Prelude.{◌≡◌, ℕ, List, [], ◌∷◌, length, Option, Some, None}
+use Rattle.std.specs.Prelude.{◌≡◌, ℕ, List, [], ◌∷◌, length, Option}
 use Rattle.std.specs.Io.KnownBytes.{Appends}
 use Rattle.std.specs.List.{AllByRecursion}
 use Rattle.sms_bind.specs.Binds.{Setting, bind_pdu}
@@ -26,11 +26,6 @@ IsTried NotYet = ⊥
 IsTried (Sent receipt) = (number : ℕ) × SpellsUnbind number receipt
 IsTried (Failed receipt) = (number : ℕ) × SpellsUnbind number receipt
 IsTried (Unasked why) = Unit {0}
-
--- the number that was drawn, where one was
-abbrev pub drawn_in : Option ℕ → List ℕ
-drawn_in None = []
-drawn_in (Some number) = number ∷ []
 
 -- what was handed to the wire is an unbind with the number that the seat drew
 abbrev pub HasAsked : View → Unbinding → View → Type 0

@@ -26,6 +26,8 @@ mod letters;
 mod limits;
 mod messages;
 mod network;
+#[cfg(test)]
+mod network_tests;
 mod opened;
 mod outbox;
 mod output;

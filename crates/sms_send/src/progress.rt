@@ -1,7 +1,7 @@
 //! What a person sees of a sending on standard error: how far it is, on a terminal, and what it came
 //! to.
 
-ghost use Rattle.std.specs.Prelude.{◌≡◌};
+ghost use Rattle.std.specs.Prelude.{◌≡◌, ◌-◌};
 ghost use Rattle.sms_send.specs.Tally.{telling_of};
 
 use crate::sender::Ended;
@@ -177,7 +177,9 @@ impl<'r, S: Eprint, K: Clock> Progress<'r, S, K> {
     }
 
     /// How long the messages are being sent.
-    fn passed_ms(&self, now_ms: u64) -> u64 {
+    fn passed_ms(&self, now_ms: u64) -> u64
+        ensures { result ≡ now_ms - self.now.begun_ms }
+    {
         now_ms.saturating_sub(self.begun_ms)
     }
 

@@ -9,7 +9,7 @@ ghost use Rattle.sms_send.specs.SendFaults.{fault_in, IsFaultOf, IsFaultOfOne};
 
 use crate::driver::bind_end::Unbinding;
 use crate::driver::fault::SendFault;
-use crate::driver::hanging_up::{draw, unbind_all};
+use crate::driver::hanging_up::unbind_all;
 use crate::driver::rings::Rings;
 use crate::driver::seating::{Guest, Own, Post};
 use crate::driver::seats::split_seats;
@@ -17,6 +17,7 @@ use crate::driver::threads::Following;
 use sms_bind::{BindFault, Bound, Line, Settings, Tap, Wire, bind};
 use sms_slot::SlotRow;
 use sms_window::{Window, WindowSeat};
+use sms_worker::{Number, draw};
 use std::alloc::Global;
 use std::io::{Read, Write};
 use std::sync::Wait;
@@ -100,7 +101,7 @@ fn bind_with<Rd: Read, W: Write>(
     ensures bound { OnOk result (HasBound seat.old.view settings.now (W.contents (writer wire.old)) (W.contents (writer wire.new)) seat.new.view) }
     ensures refused { IfErr result (IsFaultOf bind_place) }
 {
-    let Some(number) = draw(window, seat) else {
+    let Number::Drawn(number) = draw(window, seat) else {
         return Err(SendFault::BindFailed(bind_place));
     };
     match bind(alloc, reader, wire, settings, number) {

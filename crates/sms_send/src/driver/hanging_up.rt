@@ -1,35 +1,18 @@
 //! How binds are ended (SMPP 3.4 4.2).
 ghost use Rattle.std.specs.Prelude.{◌≡◌, IfSome, map, length};
 ghost use Rattle.std.specs.List.{AllByRecursion};
-ghost use Rattle.sms_window.specs.Drawing.{HasDrawn};
-ghost use Rattle.sms_send.specs.BindEnds.{drawn_in, HasAsked, IsTried, SpellsUnbind};
+ghost use Rattle.sms_send.specs.BindEnds.{HasAsked, IsTried, SpellsUnbind};
 
 use crate::driver::bind_end::{Unasked, Unbinding};
 use crate::driver::seating::{Own, Post};
 use sms_bind::WireFault;
 use sms_pdu::{BodyRef, Frame, PduRef, encode_into};
-use sms_window::{Draw, Window, WindowSeat};
-use sms_worker::{Clock, Pause, Rules};
+use sms_window::WindowSeat;
+use sms_worker::{Clock, Number, Pause, Rules, draw};
 use std::alloc::Global;
 use std::io::Write;
 use std::sync::Wait;
 use std::sync::atomic::Ordering;
-
-/// Draws a number, in at most 1,000 tries.
-pub(crate) fn draw(window: &Window, seat: &mut WindowSeat) -> Option<u32>
-    requires own { seat.old.window ≡ window.now }
-    ensures window { seat.new.window ≡ seat.old.window }
-    ensures drawn { HasDrawn seat.old.view (drawn_in result) seat.new.view }
-{
-    for _try in 0u32..1_000 {
-        match window.try_draw(seat) {
-            Draw::Number(number) => return Some(number),
-            Draw::UsedUp => return None,
-            Draw::Contended(_) => {}
-        }
-    }
-    None
-}
 
 /// The frame of the unbind with this number; none where memory runs out.
 fn unbind_frame(alloc: Global, number: u32) -> Option<Frame>
@@ -58,7 +41,7 @@ fn ask<W: Write, R: Wait>(rt: &R, alloc: Global, post: &Post<W>, seat: &mut Wind
     if post.line.down.load(Ordering::SeqCst) {
         return Unbinding::Unasked(Unasked::Down);
     }
-    let Some(number) = draw(&post.window, seat) else {
+    let Number::Drawn(number) = draw(&post.window, seat) else {
         return Unbinding::Unasked(Unasked::NoNumber);
     };
     let Some(frame) = unbind_frame(alloc, number) else {
