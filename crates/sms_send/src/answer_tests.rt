@@ -5,7 +5,8 @@ use crate::trial::{
     LONG, OpenGate, REPORT, STATEMENT, Said, messages_of, send, sending_of, text_of,
 };
 use std::process::Abort;
-use std::test::Fail;
+use std::sync::Wait;
+use std::thread::Threads;
 
 /// Messages of the account `main` with these texts, which are words, and its credits; and what is reported of the
 /// messages and of the account, and the exit status.
@@ -240,15 +241,31 @@ fn want_said(rt: &(impl AllocGlobal + Abort), said: &Said, row: &Row<'_>) {
     assert_eq!(rt; (row.name, said.status), (row.name, row.status));
 }
 
+// The row's accounts file and its messages file.
+fn files_of(rt: &(impl AllocGlobal + Abort), row: &Row<'_>) -> (String, String) {
+    let Ok(accounts) = format!(in rt.alloc(); "account,credits\nmain,{}\n", row.credits) else {
+        panic!(rt; "no memory")
+    };
+    let Ok(messages) = messages_of(rt.alloc(), row.texts) else {
+        panic!(rt; "no memory")
+    };
+    (accounts, messages)
+}
+
+// What is said of the row's messages.
+fn said_of<R: AllocGlobal + Abort + Threads + Wait + Sync>(rt: &R, row: &Row<'_>) -> Said {
+    let (accounts, messages) = files_of(rt, row);
+    let sending = sending_of(row.config, accounts.as_str(), messages.as_str());
+    match send(rt, rt.alloc(), &sending, &OpenGate) {
+        Ok(said) => said,
+        Err(_) => panic!(rt; "no memory"),
+    }
+}
+
 #[test]
-fn reports_what_becomes_of_messages(rt: HostRuntime) -> Result<(), Fail> {
-    let alloc = rt.alloc();
+fn reports_what_becomes_of_messages(rt: HostRuntime) {
     for row in &ROWS {
-        let accounts = format!(in alloc; "account,credits\nmain,{}\n", row.credits)?;
-        let messages = messages_of(alloc, row.texts)?;
-        let sending = sending_of(row.config, accounts.as_str(), messages.as_str());
-        let said = send(&rt, alloc, &sending, &OpenGate)?;
+        let said = said_of(&rt, row);
         want_said(&rt, &said, row);
     }
-    Ok(())
 }

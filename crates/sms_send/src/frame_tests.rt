@@ -2,7 +2,10 @@
 //! 9.2.3.24), worked out by hand.
 
 use crate::trial::{LONG, OpenGate, PLAIN, Sending, messages_of, send, sending_of};
+use std::process::Abort;
+use std::sync::Wait;
 use std::test::Fail;
+use std::thread::Threads;
 
 /// Configs, messages, and what is written.
 const ROWS: [(&str, &str, &[u8]); 6] = [
@@ -44,18 +47,29 @@ const ROWS: [(&str, &str, &[u8]); 6] = [
     ),
 ];
 
-#[test]
-fn writes_the_frames_of_a_sending(rt: HostRuntime) -> Result<(), Fail> {
-    for (config, messages, octets) in ROWS {
-        let sending = Sending {
-            config,
-            messages,
-            ..PLAIN
-        };
-        let said = send(&rt, rt.alloc(), &sending, &OpenGate)?;
-        assert_eq!(rt; said.heard.as_slice(), octets, "{config}");
+/// What is written on the first connection of a sending by this config, of these messages.
+fn heard_of<'a, R: AllocGlobal + Abort + Threads + Wait + Sync>(
+    rt: &R,
+    config: &'a str,
+    messages: &'a str,
+) -> Vec<u8> {
+    let sending = Sending {
+        config,
+        messages,
+        ..PLAIN
+    };
+    match send(rt, rt.alloc(), &sending, &OpenGate) {
+        Ok(said) => said.heard,
+        Err(_) => panic!(rt; "no memory"),
     }
-    Ok(())
+}
+
+#[test]
+fn writes_the_frames_of_a_sending(rt: HostRuntime) {
+    for (config, messages, octets) in &ROWS {
+        let heard = heard_of(&rt, config, messages);
+        assert_eq!(rt; heard.as_slice(), *octets, "{config}");
+    }
 }
 
 /// How many octets are written of a bind, of `Hi`, of a text of two parts and of an unbind; and what

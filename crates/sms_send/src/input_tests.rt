@@ -4,7 +4,9 @@ use crate::broken::FailingInput;
 use crate::fault::{Fault, Source};
 use crate::input::{Input, read_input};
 use crate::told::told_of;
+use sms_worker::Message;
 use std::alloc::{AllocError, Global};
+use std::fmt::Write;
 use std::process::Abort;
 use std::test::Fail;
 
@@ -32,26 +34,31 @@ fn said(
     }
 }
 
+// Writes a message: its index, its account's place or none, its addresses and its text.
+fn show_message(text: &mut String, message: &Message) -> Result<(), AllocError> {
+    match message.account {
+        Some(account) => write!(text, " / {} {account}", message.index)?,
+        None => write!(text, " / {} none", message.index)?,
+    }
+    write!(
+        text,
+        " {} {} {}",
+        message.source, message.dest, message.text
+    )
+}
+
 // The accounts, the messages, and what three destinations cost.
 fn shown(alloc: Global, input: &Input) -> Result<String, AllocError> {
-    let mut text = format!(in alloc; "window {}", input.config().limits.window)?;
+    let mut text = String::new(alloc);
+    write!(text, "window {}", input.config().limits.window)?;
     for opening in input.openings() {
-        text.push_str(format!(in alloc; " / {} {}", opening.name, opening.credits)?.as_str())?;
+        write!(text, " / {} {}", opening.name, opening.credits)?;
     }
     for message in input.messages() {
-        let account = match message.account {
-            Some(account) => format!(in alloc; "{account}")?,
-            None => String::from_str(alloc, "none")?,
-        };
-        let line = format!(in alloc;
-            " / {} {} {} {} {}",
-            message.index, account, message.source, message.dest, message.text
-        )?;
-        text.push_str(line.as_str())?;
+        show_message(&mut text, message)?;
     }
     for destination in ["+447700900123", "4420", "33"] {
-        let cost = input.tariff().cost(destination);
-        text.push_str(format!(in alloc; " / {cost}")?.as_str())?;
+        write!(text, " / {}", input.tariff().cost(destination))?;
     }
     Ok(text)
 }
@@ -75,76 +82,85 @@ fn reads_the_files_of_a_run(rt: HostRuntime) -> Result<(), Fail> {
     Ok(())
 }
 
+/// Files, each with the fault that is told of it.
+type Faulty = (&'static [u8], &'static str);
+
+const FAULTY_ACCOUNTS: [Faulty; 11] = [
+    (b"", "fault: accounts record 1"),
+    (b"account\nmain,1\n", "fault: accounts record 1"),
+    (b"account,credits\n", "fault: accounts record 2"),
+    (b"account,credits\nmain\n", "fault: accounts record 2"),
+    (b"account,credits\nmain,1,2\n", "fault: accounts record 2"),
+    (b"account,credits\nmain,-1\n", "fault: accounts record 2"),
+    (
+        b"account,credits\nmain,1\nmain,2\n",
+        "fault: accounts record 3",
+    ),
+    (
+        b"account,credits\na,1\nb,1\na,x\nc,y\n",
+        "fault: accounts record 4",
+    ),
+    (
+        b"account,credits\na,1\na,1\nc,y\n",
+        "fault: accounts record 3",
+    ),
+    (
+        b"account,credits\nmain,1099511627777\n",
+        "fault: accounts record 2",
+    ),
+    (b"account,credits\nm\xff,1\n", "fault: accounts record 2"),
+];
+
+const FAULTY_MESSAGES: [Faulty; 3] = [
+    (b"", "fault: messages record 1"),
+    (b"account,source,destination\n", "fault: messages record 1"),
+    (
+        b"account,source,destination,text\na,b,c,d\na,b,c\n",
+        "fault: messages record 3",
+    ),
+];
+
+const FAULTY_RATES: [Faulty; 9] = [
+    (b"", "fault: tariff record 1"),
+    (b"credits,prefix\n", "fault: tariff record 1"),
+    (b"prefix,credits\n44\n", "fault: tariff record 2"),
+    (b"prefix,credits\n44,3\n44,3\n", "fault: tariff record 3"),
+    (b"prefix,credits\n4a,3\n", "fault: tariff record 2"),
+    (b"prefix,credits\n44,0\n", "fault: tariff record 2"),
+    (b"prefix,credits\n44,1001\n", "fault: tariff record 2"),
+    (
+        b"prefix,credits\n44,3\n123456789012345678901,3\n",
+        "fault: tariff record 3",
+    ),
+    (b"prefix,credits\n4a,1\n44,x\n", "fault: tariff record 3"),
+];
+
+// That these files are refused with this fault.
+fn want_refused(
+    rt: &(impl AllocGlobal + Abort),
+    accounts: &[u8],
+    messages: &[u8],
+    tariff: Option<&[u8]>,
+    wanted: &str,
+) {
+    match said(rt, rt.alloc(), accounts, messages, tariff) {
+        Ok(told) => assert_eq!(rt; told.as_str(), wanted),
+        Err(_) => panic!(rt; "no memory"),
+    }
+}
+
 #[test]
-fn names_the_first_faulty_record(rt: HostRuntime) -> Result<(), Fail> {
-    let alloc = rt.alloc();
-    let accounts: [(&[u8], &str); 11] = [
-        (b"", "fault: accounts record 1"),
-        (b"account\nmain,1\n", "fault: accounts record 1"),
-        (b"account,credits\n", "fault: accounts record 2"),
-        (b"account,credits\nmain\n", "fault: accounts record 2"),
-        (b"account,credits\nmain,1,2\n", "fault: accounts record 2"),
-        (b"account,credits\nmain,-1\n", "fault: accounts record 2"),
-        (
-            b"account,credits\nmain,1\nmain,2\n",
-            "fault: accounts record 3",
-        ),
-        (
-            b"account,credits\na,1\nb,1\na,x\nc,y\n",
-            "fault: accounts record 4",
-        ),
-        (
-            b"account,credits\na,1\na,1\nc,y\n",
-            "fault: accounts record 3",
-        ),
-        (
-            b"account,credits\nmain,1099511627777\n",
-            "fault: accounts record 2",
-        ),
-        (b"account,credits\nm\xff,1\n", "fault: accounts record 2"),
-    ];
-    for (file, wanted) in accounts {
-        assert_eq!(rt; said(&rt, alloc, file, b"", None)?.as_str(), wanted);
+fn names_the_first_faulty_record(rt: HostRuntime) {
+    for (file, wanted) in &FAULTY_ACCOUNTS {
+        want_refused(&rt, file, b"", None, wanted);
     }
-    let messages: [(&[u8], &str); 3] = [
-        (b"", "fault: messages record 1"),
-        (b"account,source,destination\n", "fault: messages record 1"),
-        (
-            b"account,source,destination,text\na,b,c,d\na,b,c\n",
-            "fault: messages record 3",
-        ),
-    ];
-    for (file, wanted) in messages {
-        assert_eq!(rt;
-            said(&rt, alloc, ACCOUNTS.as_bytes(), file, Some(b""))?.as_str(),
-            wanted
-        );
+    let accounts = ACCOUNTS.as_bytes();
+    for (file, wanted) in &FAULTY_MESSAGES {
+        want_refused(&rt, accounts, file, Some(b""), wanted);
     }
-    let rates: [(&[u8], &str); 9] = [
-        (b"", "fault: tariff record 1"),
-        (b"credits,prefix\n", "fault: tariff record 1"),
-        (b"prefix,credits\n44\n", "fault: tariff record 2"),
-        (b"prefix,credits\n44,3\n44,3\n", "fault: tariff record 3"),
-        (b"prefix,credits\n4a,3\n", "fault: tariff record 2"),
-        (b"prefix,credits\n44,0\n", "fault: tariff record 2"),
-        (b"prefix,credits\n44,1001\n", "fault: tariff record 2"),
-        (
-            b"prefix,credits\n44,3\n123456789012345678901,3\n",
-            "fault: tariff record 3",
-        ),
-        (b"prefix,credits\n4a,1\n44,x\n", "fault: tariff record 3"),
-    ];
-    for (file, wanted) in rates {
-        let told = said(
-            &rt,
-            alloc,
-            ACCOUNTS.as_bytes(),
-            MESSAGES.as_bytes(),
-            Some(file),
-        )?;
-        assert_eq!(rt; told.as_str(), wanted);
+    for (file, wanted) in &FAULTY_RATES {
+        want_refused(&rt, accounts, MESSAGES.as_bytes(), Some(*file), wanted);
     }
-    Ok(())
 }
 
 // A file of a header and so many records, each with its number.

@@ -287,57 +287,70 @@ fn two_binds_of_two_workers(rt: HostRuntime) -> Result<(), Fail> {
     Ok(())
 }
 
+// Two binds of which one fails: which script each centre has, how many connections there are, what is
+// told, and why each centre ends.
+#[derive(Clone, Copy)]
+struct Refusal<'a> {
+    scripts: [&'a str; 2],
+    most: usize,
+    fault: SendFault,
+    causes: (Cause, Cause),
+}
+
+const REFUSALS: [Refusal<'static>; 4] = [
+    Refusal {
+        scripts: [REFUSES, GOOD],
+        most: 2,
+        fault: SendFault::BindRefused(0, 14),
+        causes: (Cause::Ended, Cause::Ended),
+    },
+    Refusal {
+        scripts: [GOOD, REFUSES],
+        most: 2,
+        fault: SendFault::BindRefused(1, 14),
+        causes: (Cause::Unbound, Cause::Ended),
+    },
+    Refusal {
+        scripts: [GOOD, GOOD],
+        most: 0,
+        fault: SendFault::BindFailed(0),
+        causes: (Cause::Ended, Cause::Ended),
+    },
+    Refusal {
+        scripts: [GOOD, GOOD],
+        most: 1,
+        fault: SendFault::BindFailed(1),
+        causes: (Cause::Unbound, Cause::Ended),
+    },
+];
+
+// That the sending failed with this fault.
+fn want_fault(rt: &impl Abort, ended: &Result<Sending, SendFault>, fault: SendFault) {
+    match ended {
+        Ok(_ended) => panic!(rt; "no fault"),
+        Err(told) => assert_eq!(rt; *told, fault),
+    }
+}
+
+// That nothing was sent, and that the centres ended for these causes.
+fn want_none_sent(rt: &impl Abort, done: &Done, causes: (Cause, Cause)) {
+    assert_eq!(rt; (done.first.submits, done.second.submits), (0, 0));
+    assert_eq!(rt; (done.first.cause, done.second.cause), causes);
+}
+
 // Nothing is sent where a bind fails, and those made before it are unbound.
 #[test]
 fn a_bind_is_refused(rt: HostRuntime) -> Result<(), Fail> {
-    let cases = [
-        (
-            [REFUSES, GOOD],
-            2,
-            SendFault::BindRefused(0, 14),
-            Cause::Ended,
-            Cause::Ended,
-        ),
-        (
-            [GOOD, REFUSES],
-            2,
-            SendFault::BindRefused(1, 14),
-            Cause::Unbound,
-            Cause::Ended,
-        ),
-        (
-            [GOOD, GOOD],
-            0,
-            SendFault::BindFailed(0),
-            Cause::Ended,
-            Cause::Ended,
-        ),
-        (
-            [GOOD, GOOD],
-            1,
-            SendFault::BindFailed(1),
-            Cause::Unbound,
-            Cause::Ended,
-        ),
-    ];
-    for (scripts, most, fault, first, second) in cases {
+    for refusal in &REFUSALS {
         let case = Case {
             count: 3,
             credits: 3,
-            scripts,
-            most,
+            scripts: refusal.scripts,
+            most: refusal.most,
         };
-        let Done {
-            first: one,
-            second: other,
-            ended,
-        } = sent(&rt, rt.alloc(), case)?;
-        match ended {
-            Ok(_ended) => panic!(&rt; "no fault"),
-            Err(told) => assert_eq!(rt; told, fault),
-        }
-        assert_eq!(rt; (one.submits, other.submits), (0, 0));
-        assert_eq!(rt; (one.cause, other.cause), (first, second));
+        let done = sent(&rt, rt.alloc(), case)?;
+        want_fault(&rt, &done.ended, refusal.fault);
+        want_none_sent(&rt, &done, refusal.causes);
     }
     Ok(())
 }
