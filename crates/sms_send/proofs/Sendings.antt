@@ -1,13 +1,43 @@
--- A sending beside the octets of a config that was read.
-use Rattle.std.proofs.Common.{◌≡◌, ◌∙◌, subst, ℕ, List, Option}
+-- What was sent, or why it wasn't, from a part of the sender to the whole.
+use Rattle.std.proofs.Common.{◌≡◌, ◌∙◌, ◌⊎◌, inl, inr, refl, subst, ℕ, List, Option}
 use Rattle.std.proofs.lemmas.Option.{IfSome_then}
-use Rattle.sms_send.specs.Inputs.{Told}
-use Rattle.sms_send.specs.Jobs.{OfInput}
-use Rattle.sms_send.specs.Sent.{SendsFiles}
+use Rattle.sms_send.specs.ConfigFaults.{IsConfig}
+use Rattle.sms_send.specs.Inputs.{OfInput, Told}
+use Rattle.sms_send.specs.Output.{WritesFront}
+use Rattle.sms_send.specs.Sent.{IsSent, TellsSending, report_in}
+use Rattle.sms_send.specs.Setups.{names_in, setup_in}
+use Rattle.sms_send.specs.declared.config.Config.{Config}
+use Rattle.sms_send.specs.declared.config.FileNames.{FileNames}
+use Rattle.sms_send.specs.declared.driver.fault.SendFault.TheVariants as send
+use Rattle.sms_send.specs.declared.fault.Fault.{Fault}
+use Rattle.sms_send.specs.declared.fault.Fault.TheVariants.{Output, OutOfMemory}
+use Rattle.sms_send.specs.declared.input.Input.{Input}
+use Rattle.sms_send.specs.declared.sender.Ended.{Ended}
+use Rattle.sms_send.specs.declared.setup.Setup.{Setup}
 
--- where the config's octets are an input's, what was sent beside them was sent beside the input's
-pub sent_beside : {F : Type 0} (remaining : F → Told) (items config : List ℕ) (old new : Option (List ℕ)) (status : ℕ)
-    → OfInput remaining (λ bytes. items ≡ bytes) → config ≡ items → SendsFiles remaining config old new status
-    → OfInput remaining (λ bytes. SendsFiles remaining bytes old new status)
-sent_beside remaining items config old new status (input, told) same sent =
-    (input, IfSome_then (remaining input) told (λ bytes is. subst (λ (octets : List ℕ). SendsFiles remaining octets old new status) (same ∙ is) sent))
+-- what holds of octets holds of the input that they are
+pub beside : {F : Type 0} (remaining : F → Told) (items octets : List ℕ) (P : List ℕ → Type 0)
+    → OfInput remaining (λ bytes. items ≡ bytes) → octets ≡ items → P octets → OfInput remaining P
+beside remaining items octets P (input, told) same holds =
+    (input, IfSome_then (remaining input) told (λ bytes is. subst P (same ∙ is) holds))
+
+-- what holds of the files that a setup names holds of those of the config that it is of
+pub of_config : {F : Type 0} (remaining : F → Told) (items read handed : List ℕ) (setup : Setup) (Q : FileNames → List ℕ → Type 0) (P : List ℕ → Type 0)
+    → OfInput remaining (λ bytes. items ≡ bytes) → read ≡ items → handed ≡ items
+    → ((config : Config) × IsConfig read config × (setup ≡ setup_in config))
+    → ((octets : List ℕ) → ((config : Config) × IsConfig octets config × Q config.files octets) → P octets)
+    → Q (names_in setup) handed → OfInput remaining P
+of_config remaining items read handed setup Q P input one two (config, says, same) into holds =
+    beside remaining items items P input refl
+    (into items (config, subst (λ (octets : List ℕ). IsConfig octets config) one says, subst (λ (octets : List ℕ). Q config.files octets) two (subst (λ (s : Setup). Q (names_in s) handed) same holds)))
+
+-- the report wasn't written: the output failed behind a front of it, or memory ran out
+pub unwritten_told : (input : Input) (ended : Ended) (old new : Option (List ℕ)) (fault : Fault) → IsSent input ended
+    → (fault ≡ Output) ⊎ (fault ≡ OutOfMemory) → (fault ≡ Output → WritesFront old new (report_in ended)) → TellsSending input old new fault
+unwritten_told input ended old new fault sent (inl out) front = inr (out, ended, sent, front out)
+unwritten_told input ended old new fault sent (inr memory) front = inl (send.OutOfMemory, inl refl, memory)
+
+-- one of three, from two of them
+pub of_two : {A B C : Type 0} → A ⊎ B → A ⊎ (B ⊎ C)
+of_two (inl a) = inl a
+of_two (inr b) = inr (inl b)

@@ -1,25 +1,43 @@
 -- What a run of the sender reads: the config, the accounts, the messages and maybe a tariff, and the first fault of these.
 use Rattle.std.specs.Prelude.{◌≡◌, ◌⊎◌, ℕ, List, [], Option, Some, None, IfSome}
+use Rattle.sms_book.specs.Openings.{names_of}
 use Rattle.sms_book.specs.Tariffs.{Price}
-use Rattle.sms_send.specs.Accounts.{accounts_fault}
+use Rattle.sms_send.specs.Accounts.{AreAccounts, accounts_fault}
 use Rattle.sms_send.specs.ConfigFaults.{IsConfig, TellsConfig}
 use Rattle.sms_send.specs.Fields.{records_of}
 use Rattle.sms_send.specs.Messages.{messages_fault}
 use Rattle.sms_send.specs.Rates.{IsTariffFile, TellsTariff}
 use Rattle.sms_send.specs.Records.{TellsRecords}
+use Rattle.sms_send.specs.Sending.{AreMessages}
 use Rattle.sms_send.specs.declared.config.Config.{Config}
 use Rattle.sms_send.specs.declared.fault.Fault.{Fault}
 use Rattle.sms_send.specs.declared.fault.Fault.TheVariants.{OutOfMemory}
 use Rattle.sms_send.specs.declared.fault.Source.TheVariants.{Accounts, Messages}
+use Rattle.sms_send.specs.declared.input.Input.{Input}
 
 -- the bytes that a reader gives, where they are told
 abbrev pub Told : Type 0
 Told = Option (List ℕ)
 
+-- it holds of an input's bytes, where they are told
+abbrev pub OfInput : {I : Type 0} → (I → Told) → (List ℕ → Type 0) → Type 0
+OfInput {I} remaining P = (input : I) × IfSome (remaining input) P
+
+-- a file is there just where it has a name
+abbrev pub IsNamed : {F : Type 0} → List ℕ → Option F → Type 0
+IsNamed name file = (file ≡ None → name ≡ []) × (name ≡ [] → file ≡ None)
+
 -- the tariff is that of the file; without a file there are no rates
 abbrev pub IsTariffOf : Option Told → List Price → Type 0
 IsTariffOf None tariff = tariff ≡ []
 IsTariffOf (Some told) tariff = IfSome told (λ bytes. IsTariffFile (records_of bytes) tariff)
+
+-- the input is what these octets of the config and of the files say
+pub record IsInput (config : List ℕ) (accounts messages : Told) (tariff : Option Told) (input : Input) : Type 0 where
+  pub config_says : IsConfig config input.config
+  pub openings : IfSome accounts (λ bytes. AreAccounts (records_of bytes) input.openings.items)
+  pub messages_are : IfSome messages (λ bytes. AreMessages (names_of input.openings.items) (records_of bytes) input.messages.items)
+  pub tariff_is : IsTariffOf tariff input.tariff
 
 -- the config, the accounts and the messages have no fault
 abbrev pub HasConfig : List ℕ → Type 0

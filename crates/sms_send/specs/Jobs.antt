@@ -1,20 +1,19 @@
 -- What the program does: a job, of an input of the kind that the job names.
-use Rattle.std.specs.Prelude.{◌≡◌, ◌⊎◌, Bool, ℕ, List, Option, None, Some, IfSome}
+use Rattle.std.specs.Prelude.{◌≡◌, ◌⊎◌, Bool, ℕ, List, Option, None, Some}
 use Rattle.std.specs.Io.KnownBytes.{Appends}
 use Rattle.clap.specs.Words.{Text}
 use Rattle.sms_send.specs.CommandLine.{IsJob, TellsWords, subcommand_in}
 use Rattle.sms_send.specs.Fields.{records_of}
+use Rattle.sms_send.specs.Inputs.{OfInput, Told}
 use Rattle.sms_send.specs.Messages.{messages_fault}
 use Rattle.sms_send.specs.PlanText.{TellsPlan, kind_of, plan_of}
 use Rattle.sms_send.specs.Replays.{Replays, TellsReplay}
+use Rattle.sms_send.specs.Sent.{SendsFiles, TellsSent}
 use Rattle.sms_send.specs.declared.fault.Fault.{Fault}
 use Rattle.sms_send.specs.declared.fault.Fault.TheVariants.{File}
 use Rattle.sms_send.specs.declared.job.Job.{Job}
 use Rattle.sms_send.specs.declared.job.Job.TheVariants.{Loop, Plan, Replay, Send}
-
--- it holds of an input's bytes, where they are told
-abbrev pub OfInput : {I : Type 0} → (I → Option (List ℕ)) → (List ℕ → Type 0) → Type 0
-OfInput {I} remaining P = (input : I) × IfSome (remaining input) P
+use Rattle.sms_send.specs.declared.sending.Centre.TheVariants.{Named, Own}
 
 -- the bytes are a messages file, and its plan with references of 16 bits or of 8 was written and nothing else
 abbrev pub Plans : Bool → List ℕ → Option (List ℕ) → Option (List ℕ) → Type 0
@@ -30,26 +29,26 @@ IsStatusOf (Plan name long) status = status ≡ 0
 IsStatusOf (Loop name quiet) status = IsStatus status
 IsStatusOf (Send name quiet) status = IsStatus status
 
--- the job was done: standard input or a file was replayed, or a file planned; what the sender does is said where it is called
-abbrev pub Does : {S F : Type 0} → (S → Option (List ℕ)) → (F → Option (List ℕ)) → Job → Option (List ℕ) → Option (List ℕ) → Type 0
-Does standard file (Replay None) old new = OfInput standard (λ bytes. Replays bytes old new)
-Does standard file (Replay (Some name)) old new = OfInput file (λ bytes. Replays bytes old new)
-Does standard file (Plan name long) old new = OfInput file (λ bytes. Plans long bytes old new)
-Does standard file (Loop name quiet) old new = Unit {0}
-Does standard file (Send name quiet) old new = Unit {0}
+-- the job was done with this status: standard input or a file was replayed, a file planned, or the files that a config names sent
+abbrev pub Does : {S F : Type 0} → (S → Told) → (F → Told) → Job → Option (List ℕ) → Option (List ℕ) → ℕ → Type 0
+Does standard file (Replay None) old new status = OfInput standard (λ bytes. Replays bytes old new)
+Does standard file (Replay (Some name)) old new status = OfInput file (λ bytes. Replays bytes old new)
+Does standard file (Plan name long) old new status = OfInput file (λ bytes. Plans long bytes old new)
+Does standard file (Loop name quiet) old new status = OfInput file (λ octets. SendsFiles file octets old new status)
+Does standard file (Send name quiet) old new status = OfInput file (λ octets. SendsFiles file octets old new status)
 
 -- what a fault of a job says: its file can't be opened, or what the fault says of the input
-abbrev pub TellsJob : {S F : Type 0} → (S → Option (List ℕ)) → (F → Option (List ℕ)) → Job → Fault → Type 0
-TellsJob standard file (Replay None) fault = OfInput standard (λ bytes. TellsReplay (records_of bytes) fault)
-TellsJob standard file (Replay (Some name)) fault = (fault ≡ File name) ⊎ OfInput file (λ bytes. TellsReplay (records_of bytes) fault)
-TellsJob standard file (Plan name long) fault = (fault ≡ File name) ⊎ OfInput file (λ bytes. TellsPlan (records_of bytes) fault)
-TellsJob standard file (Loop name quiet) fault = Unit {0}
-TellsJob standard file (Send name quiet) fault = Unit {0}
+abbrev pub TellsJob : {S F : Type 0} → (S → Told) → (F → Told) → Job → Option (List ℕ) → Option (List ℕ) → Fault → Type 0
+TellsJob standard file (Replay None) old new fault = OfInput standard (λ bytes. TellsReplay (records_of bytes) fault)
+TellsJob standard file (Replay (Some name)) old new fault = (fault ≡ File name) ⊎ OfInput file (λ bytes. TellsReplay (records_of bytes) fault)
+TellsJob standard file (Plan name long) old new fault = (fault ≡ File name) ⊎ OfInput file (λ bytes. TellsPlan (records_of bytes) fault)
+TellsJob standard file (Loop name quiet) old new fault = TellsSent file Own name old new fault
+TellsJob standard file (Send name quiet) old new fault = TellsSent file Named name old new fault
 
 -- these words ask for a job, and it was done
-abbrev pub Works : {S F : Type 0} → (S → Option (List ℕ)) → (F → Option (List ℕ)) → List Text → ℕ → Option (List ℕ) → Option (List ℕ) → Type 0
-Works standard file words status old new = (job : Job) × IsJob (subcommand_in words) job × IsStatusOf job status × Does standard file job old new
+abbrev pub Works : {S F : Type 0} → (S → Told) → (F → Told) → List Text → ℕ → Option (List ℕ) → Option (List ℕ) → Type 0
+Works standard file words status old new = (job : Job) × IsJob (subcommand_in words) job × IsStatusOf job status × Does standard file job old new status
 
 -- what a fault says of the words: they are refused, or what it says of the job that they ask for
-abbrev pub TellsRun : {S F : Type 0} → (S → Option (List ℕ)) → (F → Option (List ℕ)) → List Text → Fault → Type 0
-TellsRun standard file words fault = TellsWords words fault ⊎ ((job : Job) × IsJob (subcommand_in words) job × TellsJob standard file job fault)
+abbrev pub TellsRun : {S F : Type 0} → (S → Told) → (F → Told) → List Text → Option (List ℕ) → Option (List ℕ) → Fault → Type 0
+TellsRun standard file words old new fault = TellsWords words fault ⊎ ((job : Job) × IsJob (subcommand_in words) job × TellsJob standard file job old new fault)

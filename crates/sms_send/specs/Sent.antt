@@ -1,26 +1,33 @@
 -- What a sending promises of what was read.
-use Rattle.std.specs.Prelude.{◌≡◌, ℕ, List, Option, IfSome, length, option_map}
+use Rattle.std.specs.Prelude.{◌≡◌, ◌≢◌, ◌⊎◌, ℕ, List, [], Option, String, length, option_map, string_bytes}
 use Rattle.std.specs.Io.KnownBytes.{Appends}
 use Rattle.std.specs.List.{AllZip}
-use Rattle.sms_book.specs.Openings.{credits_of, names_of}
+use Rattle.std.specs.declared.alloc.Global.{Global}
+use Rattle.sms_book.specs.Openings.{credits_of}
 use Rattle.sms_worker.specs.EndOf.{IsEndOf}
 use Rattle.sms_worker.specs.declared.rules.Rules.{Rules}
-use Rattle.sms_send.specs.Accounts.{AreAccounts}
 use Rattle.sms_send.specs.BindEnds.{AreBinds}
-use Rattle.sms_send.specs.ConfigFaults.{IsConfig}
-use Rattle.sms_send.specs.Fields.{records_of}
-use Rattle.sms_send.specs.Inputs.{Told, IsTariffOf}
+use Rattle.sms_send.specs.ConfigFaults.{IsConfig, TellsConfig}
+use Rattle.sms_send.specs.Inputs.{IsInput, IsNamed, OfInput, Told, TellsInput}
+use Rattle.sms_send.specs.Output.{WritesFront}
 use Rattle.sms_send.specs.Report.{report_of, ends_status}
-use Rattle.sms_send.specs.Sending.{AreMessages}
+use Rattle.sms_send.specs.SendFaults.{IsFaultOfOne, told}
 use Rattle.sms_send.specs.Statements.{AreRows}
 use Rattle.sms_book.specs.Tariffs.{Price}
+use Rattle.sms_send.specs.declared.config.Config.{Config}
 use Rattle.sms_send.specs.declared.config.Connection.{Connection}
+use Rattle.sms_send.specs.declared.config.FileNames.{FileNames}
 use Rattle.sms_send.specs.declared.config.Flags.{Flags}
 use Rattle.sms_send.specs.declared.config.Retry.{Retry}
 use Rattle.sms_send.specs.declared.driver.binding.Habits.{Habits}
+use Rattle.sms_send.specs.declared.driver.fault.SendFault.{SendFault}
+use Rattle.sms_send.specs.declared.fault.Fault.{Fault}
+use Rattle.sms_send.specs.declared.fault.Fault.TheVariants.{BindFailed, File, OutOfMemory, Output}
 use Rattle.sms_send.specs.declared.input.Input.{Input}
 use Rattle.sms_send.specs.declared.limits.Limits.{Limits}
 use Rattle.sms_send.specs.declared.sender.Ended.{Ended}
+use Rattle.sms_send.specs.declared.sending.Centre.{Centre}
+use Rattle.sms_send.specs.declared.sending.Centre.TheVariants.{Own}
 
 -- the rules say what the config and the tariff say
 pub record IsRulesOf (retry : Retry) (limits : Limits) (flags : Flags) (tariff : List Price) (rules : Rules) : Type 0 where
@@ -48,20 +55,61 @@ pub record IsSent (input : Input) (ended : Ended) : Type 0 where
   pub rows : AreRows (credits_of input.openings.items) input.messages.items ended.ends.items ended.statement
   pub binds : AreBinds input.config.limits.binds input.config.limits.workers ended.binds.items
 
+-- the report of what was sent
+abbrev pub report_in : Ended → List ℕ
+report_in ended = report_of ended.openings.items ended.ends.items ended.statement
+
 -- the config, the accounts, the messages and the tariff were read, and sent; the report of that was written and nothing
 -- else, and the status is by the ends
 pub record RunsSender (config : List ℕ) (accounts messages : Told) (tariff : Option Told) (old new : Option (List ℕ)) (status : ℕ) : Type 0 where
   pub input : Input
-  pub config_says : IsConfig config input.config
-  pub openings : IfSome accounts (λ bytes. AreAccounts (records_of bytes) input.openings.items)
-  pub messages_are : IfSome messages (λ bytes. AreMessages (names_of input.openings.items) (records_of bytes) input.messages.items)
-  pub tariff_is : IsTariffOf tariff input.tariff
+  pub read : IsInput config accounts messages tariff input
   pub ended : Ended
   pub sent : IsSent input ended
-  pub written : Appends old new (report_of ended.openings.items ended.ends.items ended.statement)
+  pub written : Appends old new (report_in ended)
   pub status_is : status ≡ ends_status ended.ends.items
 
--- some files were read beside a config of these octets, and sent so
+-- what a fault says once the input was read: it is of one of the config's binds, or of memory; or all was sent, and the
+-- output failed behind a front of the report of that
+abbrev pub TellsSending : Input → Option (List ℕ) → Option (List ℕ) → Fault → Type 0
+TellsSending input old new fault =
+    ((f : SendFault) × IsFaultOfOne input.config.limits.binds f × (fault ≡ told f))
+    ⊎ ((fault ≡ Output) × (ended : Ended) × IsSent input ended × WritesFront old new (report_in ended))
+
+-- what a fault says of these octets: it is of the first that have one, or of the sending of what they all say
+abbrev pub TellsSender : List ℕ → Told → Told → Option Told → Option (List ℕ) → Option (List ℕ) → Fault → Type 0
+TellsSender config accounts messages tariff old new fault =
+    TellsInput config accounts messages tariff fault
+    ⊎ ((input : Input) × IsInput config accounts messages tariff input × TellsSending input old new fault)
+
+-- some files were read beside a config of these octets, that of the tariff just where it has a name, and sent so
+abbrev pub SendsNamed : {F : Type 0} → (F → Told) → FileNames → List ℕ → Option (List ℕ) → Option (List ℕ) → ℕ → Type 0
+SendsNamed {F} remaining names config old new status =
+    (accounts : F) × (messages : F) × (tariff : Option F) × IsNamed (string_bytes names.tariff) tariff
+    × RunsSender config (remaining accounts) (remaining messages) (option_map remaining tariff) old new status
+
+-- what a fault says of files of these names: one can't be opened, or what it says of the sending of them all
+abbrev pub TellsNamed : {F : Type 0} → (F → Told) → FileNames → List ℕ → Option (List ℕ) → Option (List ℕ) → Fault → Type 0
+TellsNamed {F} remaining names config old new fault =
+    (fault ≡ File names.accounts)
+    ⊎ (fault ≡ File names.messages)
+    ⊎ ((fault ≡ File names.tariff) × (string_bytes names.tariff ≢ []))
+    ⊎ ((accounts : F) × (messages : F) × (tariff : Option F) × IsNamed (string_bytes names.tariff) tariff
+    × TellsSender config (remaining accounts) (remaining messages) (option_map remaining tariff) old new fault)
+
+-- the octets are a config's, and the files that it names were read and sent
 abbrev pub SendsFiles : {F : Type 0} → (F → Told) → List ℕ → Option (List ℕ) → Option (List ℕ) → ℕ → Type 0
-SendsFiles {F} remaining config old new status =
-    (accounts : F) × (messages : F) × (tariff : Option F) × RunsSender config (remaining accounts) (remaining messages) (option_map remaining tariff) old new status
+SendsFiles remaining octets old new status = (config : Config) × IsConfig octets config × SendsNamed remaining config.files octets old new status
+
+-- what a fault says of a config's octets: they are none, a centre of the program's own can't listen, or what it says of
+-- the files that the config names
+abbrev pub TellsFiles : {F : Type 0} → (F → Told) → Centre → List ℕ → Option (List ℕ) → Option (List ℕ) → Fault → Type 0
+TellsFiles remaining centre octets old new fault =
+    TellsConfig octets fault
+    ⊎ ((config : Config) × IsConfig octets config × (((centre ≡ Own) × (fault ≡ BindFailed 0)) ⊎ TellsNamed remaining config.files octets old new fault))
+
+-- what a fault of a sending by the config of this name says: its file can't be read, memory ran out, or what it says of
+-- the octets of some file
+abbrev pub TellsSent : {F : Type 0} → (F → Told) → Centre → String Global → Option (List ℕ) → Option (List ℕ) → Fault → Type 0
+TellsSent remaining centre name old new fault =
+    (fault ≡ OutOfMemory) ⊎ (fault ≡ File name) ⊎ OfInput remaining (λ octets. TellsFiles remaining centre octets old new fault)

@@ -1,5 +1,6 @@
 -- What the program needs of a config before it sends.
 use Rattle.sms_send.specs.declared.config.Config.{Config}
+use Rattle.sms_send.specs.declared.config.FileNames.{FileNames}
 use Rattle.sms_send.specs.declared.setup.Setup.{Setup}
 
 abbrev pub setup_in : Config → Setup
@@ -12,3 +13,7 @@ setup_in c = record {
   bind_status = c.answers.bind_status;
   answers = c.answers.texts;
 }
+
+-- the names of the files to open
+abbrev pub names_in : Setup → FileNames
+names_in s = record { accounts = s.accounts; messages = s.messages; tariff = s.tariff }

@@ -1,12 +1,7 @@
 //! All that the sender reads before it sends: the config, the accounts, the messages and the tariff.
 
-ghost use Rattle.std.specs.Prelude.{◌≡◌, IfErr, IfOk, IfSome, option_map};
-ghost use Rattle.sms_book.specs.Openings.{names_of};
-ghost use Rattle.sms_send.specs.Accounts.{AreAccounts};
-ghost use Rattle.sms_send.specs.ConfigFaults.{IsConfig};
-ghost use Rattle.sms_send.specs.Fields.{records_of};
-ghost use Rattle.sms_send.specs.Inputs.{IsTariffOf, TellsInput, TellsTariffOf};
-ghost use Rattle.sms_send.specs.Sending.{AreMessages};
+ghost use Rattle.std.specs.Prelude.{◌≡◌, IfErr, IfOk, option_map};
+ghost use Rattle.sms_send.specs.Inputs.{IsInput, IsTariffOf, TellsInput, TellsTariffOf};
 
 use crate::accounts::read_accounts;
 use crate::config::{Config, config_of};
@@ -82,11 +77,7 @@ pub fn read_input<A: Read + Drop, M: Read + Drop, T: Read + Drop>(
     messages: M,
     tariff: Option<T>,
 ) -> Result<Input, Fault>
-    // Each part is what its octets say.
-    ensures config { IfOk result (λ input. IsConfig config.now input.config) }
-    ensures openings { IfOk result (λ input. IfSome (A.remaining accounts) (λ bytes. AreAccounts (records_of bytes) input.openings.items)) }
-    ensures messages { IfOk result (λ input. IfSome (M.remaining messages) (λ bytes. AreMessages (names_of input.openings.items) (records_of bytes) input.messages.items)) }
-    ensures tariff { IfOk result (λ input. IsTariffOf (option_map T.remaining tariff) input.tariff) }
+    ensures read { IfOk result (IsInput config.now (A.remaining accounts) (M.remaining messages) (option_map T.remaining tariff)) }
 
     // A fault is of the first that has one.
     ensures refused { IfErr result (TellsInput config.now (A.remaining accounts) (M.remaining messages) (option_map T.remaining tariff)) }

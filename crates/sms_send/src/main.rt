@@ -68,7 +68,7 @@ mod toml_value;
 #[cfg(test)]
 mod trial;
 
-ghost use Rattle.std.specs.Prelude.{◌≡◌, ◌≢◌, ◌⊎◌, List, IfErr, IfOk, OnOk, is_ok, map, string_bytes, if◌then◌else◌};
+ghost use Rattle.std.specs.Prelude.{◌≡◌, ◌≢◌, ◌⊎◌, List, IfErr, IfOk, is_ok, map, string_bytes, if◌then◌else◌};
 ghost use Rattle.clap.specs.Words.{Text};
 ghost use Rattle.sms_send.specs.Faults.{status_of};
 ghost use Rattle.sms_send.specs.Jobs.{Does, IsStatusOf, TellsJob, TellsRun, Works};
@@ -146,7 +146,7 @@ fn do_words<
     W: Write,
 >(rt: &R, words: &[String], output: &mut W) -> Result<u8, Fault>
     ensures done { IfOk result (λ status. Works R.Reader.remaining R.File.remaining (map string_bytes words.now) status (W.contents output.old) (W.contents output.new)) }
-    ensures refused { IfErr result (TellsRun R.Reader.remaining R.File.remaining (map string_bytes words.now)) }
+    ensures refused { IfErr result (TellsRun R.Reader.remaining R.File.remaining (map string_bytes words.now) (W.contents output.old) (W.contents output.new)) }
     ensures unwritten { IfErr result (λ fault. fault ≢ Output → output.new ≡ output.old) }
 {
     match job_of(rt.alloc(), words) {
@@ -170,8 +170,8 @@ fn do_job<
     W: Write,
 >(rt: &R, job: Job, output: &mut W) -> Result<u8, Fault>
     ensures status { IfOk result (IsStatusOf job) }
-    ensures done { OnOk result (Does R.Reader.remaining R.File.remaining job (W.contents output.old) (W.contents output.new)) }
-    ensures refused { IfErr result (TellsJob R.Reader.remaining R.File.remaining job) }
+    ensures done { IfOk result (Does R.Reader.remaining R.File.remaining job (W.contents output.old) (W.contents output.new)) }
+    ensures refused { IfErr result (TellsJob R.Reader.remaining R.File.remaining job (W.contents output.old) (W.contents output.new)) }
     ensures unwritten { IfErr result (λ fault. fault ≢ Output → output.new ≡ output.old) }
 {
     match job {

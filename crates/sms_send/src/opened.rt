@@ -1,7 +1,7 @@
 //! The files that the program reads, by their names.
 
-ghost use Rattle.std.specs.Prelude.{◌≡◌, ◌≢◌, ◌⊎◌, [], None, IfErr, IfOk, string_bytes};
-ghost use Rattle.sms_send.specs.Jobs.{OfInput};
+ghost use Rattle.std.specs.Prelude.{◌≡◌, ◌≢◌, ◌⊎◌, [], IfErr, IfOk, string_bytes};
+ghost use Rattle.sms_send.specs.Inputs.{IsNamed, OfInput};
 ghost use Rattle.sms_send.specs.declared.fault.Fault.TheVariants.{File, OutOfMemory};
 
 use crate::fault::Fault;
@@ -21,9 +21,7 @@ pub fn open<R: Files>(rt: &R, name: String) -> Result<R::File, Fault>
 
 /// The file of this name, opened to be read; none where the name is empty.
 pub fn open_named<R: Files>(rt: &R, name: String) -> Result<Option<R::File>, Fault>
-    // A file that has a name is never passed over.
-    ensures nameless { IfOk result (λ file. file ≡ None → string_bytes name ≡ []) }
-    ensures none { IfOk result (λ file. string_bytes name ≡ [] → file ≡ None) }
+    ensures named { IfOk result (IsNamed (string_bytes name)) }
     ensures refused { IfErr result (λ fault. (fault ≡ File name) × (string_bytes name ≢ [])) }
 {
     if name.is_empty() {

@@ -1,8 +1,9 @@
 //! The job of `loop` and `send`: the files that the config names are opened and read, and sent.
 
 ghost use Rattle.std.specs.Prelude.{◌≡◌, ◌≢◌, IfErr, IfOk, option_map};
-ghost use Rattle.sms_send.specs.Jobs.{IsStatus, OfInput};
-ghost use Rattle.sms_send.specs.Sent.{RunsSender, SendsFiles};
+ghost use Rattle.sms_send.specs.Inputs.{OfInput};
+ghost use Rattle.sms_send.specs.Jobs.{IsStatus};
+ghost use Rattle.sms_send.specs.Sent.{RunsSender, SendsFiles, SendsNamed, TellsNamed, TellsSender, TellsSent};
 ghost use Rattle.sms_send.specs.declared.fault.Fault.TheVariants.{Output};
 
 use crate::bell::{Bell, Rest};
@@ -61,6 +62,8 @@ pub fn run_sender<
     output: &mut W,
 ) -> Result<u8, Fault>
     ensures sent { IfOk result (λ status. RunsSender config.now (A.remaining accounts) (M.remaining messages) (option_map T.remaining tariff) (W.contents output.old) (W.contents output.new) status) }
+    // A fault is of the first of these that has one, or of the sending of what they say.
+    ensures refused { IfErr result (TellsSender config.now (A.remaining accounts) (M.remaining messages) (option_map T.remaining tariff) (W.contents output.old) (W.contents output.new)) }
     ensures unwritten { IfErr result (λ fault. fault ≢ Output → output.new ≡ output.old) }
 {
     let input = read_input(alloc, config, accounts, messages, tariff)?;
@@ -84,6 +87,7 @@ pub fn send_job<
 >(rt: &R, centre: Centre, config: String, quiet: bool, output: &mut W) -> Result<u8, Fault>
     ensures sent { IfOk result (λ status. OfInput R.File.remaining (λ octets. SendsFiles R.File.remaining octets (W.contents output.old) (W.contents output.new) status)) }
     ensures status { IfOk result IsStatus }
+    ensures refused { IfErr result (TellsSent R.File.remaining centre config (W.contents output.old) (W.contents output.new)) }
     ensures unwritten { IfErr result (λ fault. fault ≢ Output → output.new ≡ output.old) }
 {
     let config = octets_of(rt, config)?;
@@ -155,8 +159,9 @@ fn send_files<
     telling: Telling,
     output: &mut W,
 ) -> Result<u8, Fault>
-    ensures sent { IfOk result (SendsFiles R.File.remaining config.now (W.contents output.old) (W.contents output.new)) }
+    ensures sent { IfOk result (SendsNamed R.File.remaining files config.now (W.contents output.old) (W.contents output.new)) }
     ensures status { IfOk result IsStatus }
+    ensures refused { IfErr result (TellsNamed R.File.remaining files config.now (W.contents output.old) (W.contents output.new)) }
     ensures unwritten { IfErr result (λ fault. fault ≢ Output → output.new ≡ output.old) }
 {
     let accounts = open(rt, files.accounts)?;

@@ -1,6 +1,20 @@
-use Rattle.std.proofs.Common.{inl, inr}
+use Rattle.std.proofs.Common.{inl, inr, subst, List, IfSome}
+use Rattle.sms_book.specs.Openings.{names_of}
+use Rattle.sms_book.specs.declared.opening.Opening.{Opening}
+use Rattle.sms_send.specs.Fields.{records_of}
+use Rattle.sms_send.specs.Sending.{AreMessages}
 use Rattle.sms_send.proofs.Inputs.{has_accounts, has_messages}
 use Rattle.sms_send.proofs.input.read_input.Goals as goal
+
+pub returns-clause-read : goal.returns-clause-read
+returns-clause-read g c =
+    record {
+      config_says = c.in-Ok.ensures.config;
+      openings = c.in-Ok-read_accounts.ensures.accounts;
+      messages_are = subst (λ (os : List Opening). IfSome (g.M.Read.remaining c.args.messages) (λ bytes. AreMessages (names_of os) (records_of bytes) c.in-Ok-read_messages.messages.items))
+          c.as_slice.ensures.value c.in-Ok-read_messages.ensures.messages;
+      tariff_is = c.in-Ok-tariff_in.ensures.tariff;
+    }
 
 pub returns-in-Err-read_accounts-clause-refused : goal.returns-in-Err-read_accounts-clause-refused
 returns-in-Err-read_accounts-clause-refused g c =
