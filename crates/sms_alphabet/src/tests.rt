@@ -1,7 +1,14 @@
 //! What no contract says: that the calls succeed, and that the table is the standard's.
 use crate::{Coded, Coding, TextError, Units, choose, laws, septets, text_of, ucs2};
+use std::fmt::Debug;
 use std::process::Abort;
 use std::test::Fail;
+
+// Both are the same. A test that compares by a call has a short proof: what is printed where they
+// differ stands here alone.
+fn same<T: PartialEq + Debug + Drop>(rt: &impl Abort, got: T, wanted: T) {
+    assert_eq!(rt; got, wanted);
+}
 
 // 3GPP TS 23.038 6.2.1, in the order of the codes from 0x00 on. The escape stands as U+001B.
 const DEFAULT_ALPHABET: &str =
@@ -15,16 +22,20 @@ const EXTENSION_CODES: [u8; 10] = [0x0a, 0x14, 0x28, 0x29, 0x2f, 0x3c, 0x3d, 0x3
 // The text is written as these codes, and they are read as the text.
 fn writes_and_reads<R: Abort + AllocGlobal>(rt: &R, text: &str, codes: &[u8]) -> Result<(), Fail> {
     let found = septets(rt.alloc(), text)?.ok_or("no codes")?;
-    assert_eq!(rt; found.as_slice(), codes, "of {text:?}");
+    same(rt, (text, found.as_slice()), (text, codes));
     let units: Vec<u16> = codes
         .iter()
         .map(|code| u16::from(*code))
         .collect(rt.alloc())?;
     let chosen = choose(rt.alloc(), text)?;
-    assert_eq!(rt; chosen.coding, Coding::Gsm, "of {text:?}");
-    assert_eq!(rt; chosen.units.as_slice(), units.as_slice(), "of {text:?}");
+    same(rt, (text, chosen.coding), (text, Coding::Gsm));
+    same(
+        rt,
+        (text, chosen.units.as_slice()),
+        (text, units.as_slice()),
+    );
     let back = text_of(rt.alloc(), &chosen)?;
-    assert_eq!(rt; back.as_str(), text);
+    same(rt, back.as_str(), text);
     Ok(())
 }
 
@@ -38,7 +49,7 @@ fn every_character_of_the_alphabet(rt: HostRuntime) -> Result<(), Fail> {
         }
         code = code.checked_add(1).ok_or("too many")?;
     }
-    assert_eq!(rt; code, 128);
+    same(&rt, code, 128);
     for (c, code) in EXTENSION_TABLE.chars().zip(EXTENSION_CODES.iter()) {
         let text = c.to_string(rt.alloc())?;
         writes_and_reads(&rt, text.as_str(), &[0x1b, *code])?;
@@ -60,13 +71,21 @@ fn texts_in_ucs2(rt: HostRuntime) -> Result<(), Fail> {
         ),
     ];
     for (text, units) in rows {
-        assert!(rt; septets(rt.alloc(), text)?.is_none(), "{text:?}");
-        assert_eq!(rt; ucs2(rt.alloc(), text)?.as_slice(), units, "of {text:?}");
+        same(
+            &rt,
+            (text, septets(rt.alloc(), text)?.is_none()),
+            (text, true),
+        );
+        same(
+            &rt,
+            (text, ucs2(rt.alloc(), text)?.as_slice()),
+            (text, units),
+        );
         let chosen = choose(rt.alloc(), text)?;
-        assert_eq!(rt; chosen.coding, Coding::Ucs2, "of {text:?}");
-        assert_eq!(rt; chosen.units.as_slice(), units, "of {text:?}");
+        same(&rt, (text, chosen.coding), (text, Coding::Ucs2));
+        same(&rt, (text, chosen.units.as_slice()), (text, units));
         let back = text_of(rt.alloc(), &chosen)?;
-        assert_eq!(rt; back.as_str(), text);
+        same(&rt, back.as_str(), text);
     }
     Ok(())
 }
@@ -92,10 +111,10 @@ fn units_that_are_no_text(rt: HostRuntime) -> Result<(), Fail> {
             units: Units::new(items),
         };
         let told = text_of(rt.alloc(), &coded);
-        assert_eq!(rt; told.err(), Some(TextError::NotText), "of {coded:?}");
-        assert_eq!(rt; coded.units.len(), units.len());
+        same(&rt, told.err(), Some(TextError::NotText));
+        same(&rt, coded.units.len(), units.len());
         assert!(rt; !coded.units.is_empty());
-        assert_eq!(rt; coded.units.into_vec().as_slice(), units);
+        same(&rt, coded.units.into_vec().as_slice(), units);
     }
     Ok(())
 }
@@ -103,9 +122,9 @@ fn units_that_are_no_text(rt: HostRuntime) -> Result<(), Fail> {
 #[test]
 fn what_failures_say(rt: HostRuntime) -> Result<(), Fail> {
     let not_text = TextError::NotText.to_string(rt.alloc())?;
-    assert_eq!(rt; not_text.as_str(), "the units spell no text");
+    same(&rt, not_text.as_str(), "the units spell no text");
     let out_of_memory = TextError::OutOfMemory.to_string(rt.alloc())?;
-    assert_eq!(rt; out_of_memory.as_str(), "out of memory");
+    same(&rt, out_of_memory.as_str(), "out of memory");
     let letters = choose(rt.alloc(), "AB")?;
     let same = choose(rt.alloc(), "AB")?;
     let other = choose(rt.alloc(), "A")?;

@@ -3,6 +3,7 @@ use crate::{BindFault, Bound, Settings, Tap, Wire, WireFault, bind};
 use sms_pdu::{Field, Frame, Mode, Octets, PduError, is_frame};
 use sms_session::State;
 use std::alloc::Global;
+use std::fmt::Debug;
 use std::io;
 use std::io::{Error, ErrorKind, Read, Write};
 use std::process::Abort;
@@ -11,6 +12,12 @@ use std::test::Fail;
 mod faults;
 mod memory;
 mod reader;
+
+// Both are the same. A test that compares by a call has a short proof: what is printed where they
+// differ stands here alone.
+fn same<T: PartialEq + Debug + Drop>(rt: &impl Abort, got: T, wanted: T) {
+    assert_eq!(rt; got, wanted);
+}
 
 // bind_transmitter number 1 of `esme` with the password `pw` and no system_type.
 const BIND: &[u8; 29] =
@@ -145,27 +152,29 @@ fn frame(alloc: Global, octets: &[u8]) -> Result<Frame, Fail> {
 #[test]
 fn refuses_settings(rt: HostRuntime) {
     let long = settings_of(rt.alloc(), Mode::Transmitter, b"sixteen letters!");
-    assert_eq!(rt;
+    same(
+        &rt,
         long.err(),
         Some(PduError::TooLong {
-            field: Field::SystemId
-        })
+            field: Field::SystemId,
+        }),
     );
     let cut = settings_of(rt.alloc(), Mode::Transceiver, b"es\x00me");
-    assert_eq!(rt;
+    same(
+        &rt,
         cut.err(),
         Some(PduError::Malformed {
-            field: Field::SystemId
-        })
+            field: Field::SystemId,
+        }),
     );
 }
 
 // The device took 10 octets of the enquire_link, and its one fault was counted.
 fn want_ten_octets(rt: &impl Abort, wire: Wire<Sink>) {
     let tap = wire.into_tap();
-    assert_eq!(rt; tap.faults(), 1);
+    same(rt, tap.faults(), 1);
     let sink = tap.into_inner();
-    assert_eq!(rt; sink.octets.as_slice(), &ENQUIRE_LINK[..10]);
+    same(rt, sink.octets.as_slice(), &ENQUIRE_LINK[..10]);
 }
 
 // The first frame breaks a wire that takes 10 octets, and the second one is not written.
@@ -204,19 +213,19 @@ fn a_write_that_takes_nothing_is_counted(rt: HostRuntime) {
         octets: Vec::new(rt.alloc()),
         fails: false,
     });
-    assert_eq!(rt; tap.faults(), 0);
+    same(&rt, tap.faults(), 0);
     assert!(rt; tap.write(&[]).is_ok());
-    assert_eq!(rt; tap.faults(), 0);
+    same(&rt, tap.faults(), 0);
     assert!(rt; tap.write(&[1]).is_err());
-    assert_eq!(rt; tap.faults(), 1);
+    same(&rt, tap.faults(), 1);
     assert!(rt; tap.flush().is_ok());
 }
 
 // What a transmitter keeps of its answer, an enquire_link, and 15 octets of another one.
 fn want_kept(rt: &impl Abort, bound: Bound) {
-    assert_eq!(rt; bound.session.state(), State::BoundTx);
-    assert_eq!(rt; bound.frames.as_slice().len(), 1);
-    assert_eq!(rt; bound.framer.rest(), &ENQUIRE_LINK[..15]);
+    same(rt, bound.session.state(), State::BoundTx);
+    same(rt, bound.frames.as_slice().len(), 1);
+    same(rt, bound.framer.rest(), &ENQUIRE_LINK[..15]);
 }
 
 // A transmitter that reads this writes its bind.
@@ -231,7 +240,7 @@ fn want_bound(rt: &impl Abort, alloc: Global, stream: &[u8]) {
     };
     want_kept(rt, bound);
     let written = wire.into_tap().into_inner();
-    assert_eq!(rt; written.as_slice(), BIND.as_slice());
+    same(rt, written.as_slice(), BIND.as_slice());
 }
 
 #[test]
@@ -263,12 +272,13 @@ fn answers_that_refuse(rt: HostRuntime) -> Result<(), Fail> {
     for (octets, wanted) in cases {
         let reader = source_of(0, octets, false);
         let result = bound_by(&rt, rt.alloc(), reader);
-        assert_eq!(rt; result.err(), Some(wanted));
+        same(&rt, result.err(), Some(wanted));
     }
     let failing = source_of(0, &[], true);
-    assert_eq!(rt;
+    same(
+        &rt,
         bound_by(&rt, rt.alloc(), failing).err(),
-        Some(BindFault::Read)
+        Some(BindFault::Read),
     );
     Ok(())
 }
@@ -279,9 +289,10 @@ fn reads_that_give_nothing(rt: HostRuntime) -> Result<(), Fail> {
     let patient = source_of(599, ACCEPTED, false);
     assert!(rt; bound_by(&rt, rt.alloc(), patient).is_ok());
     let tired = source_of(600, ACCEPTED, false);
-    assert_eq!(rt;
+    same(
+        &rt,
         bound_by(&rt, rt.alloc(), tired).err(),
-        Some(BindFault::Read)
+        Some(BindFault::Read),
     );
     Ok(())
 }

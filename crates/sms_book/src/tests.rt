@@ -11,12 +11,19 @@ use crate::share::Shares;
 use crate::till::Till;
 use sms_core::{MOST_TOPPED, Row};
 use std::alloc::Global;
+use std::fmt::Debug;
 use std::marker::Brand;
 use std::process::Abort;
 use std::test::Fail;
 
 mod tariffs;
 mod threads;
+
+// Both are the same. A test that compares by a call has a short proof: what is printed where they
+// differ stands here alone.
+fn same<T: PartialEq + Debug + Drop>(rt: &impl Abort, got: T, wanted: T) {
+    assert_eq!(rt; got, wanted);
+}
 
 fn openings_of(alloc: Global, accounts: &[(&str, u64)]) -> Result<Vec<Opening>, Fail> {
     let mut openings = Vec::new(alloc);
@@ -56,9 +63,9 @@ fn only_row<N: BookName>(
     let Ok(statement) = gather(book, till, shares) else {
         panic!(rt; "not gathered")
     };
-    assert_eq!(rt; statement.rows().len(), 1);
+    assert!(rt; statement.rows().len() == 1);
     let row = statement.rows()[0];
-    assert_eq!(rt; statement.into_rows().len(), 1);
+    same(rt, statement.into_rows().len(), 1);
     row
 }
 
@@ -74,7 +81,7 @@ fn moves<N: BookName>(rt: &impl Abort, alloc: Global, blank: Blank)
     assert!(rt; book.top_up(&mut till, 0, 5) == Ok(()));
     assert!(rt; book.reserve(&mut share, 0, 2) == Ok(()));
     assert!(rt; share.reserved(0) == 2 && share.reserved(1) == 0);
-    assert_eq!(rt; share.accounts(), 1);
+    same(rt, share.accounts(), 1);
     book.charge(&mut share, 0, 1);
     let row = row_of([5, 3, 1, 1, 0]);
     assert!(rt; book.look(&mut share, 0) == Some(row) && book.look(&mut share, 1) == None);
@@ -84,7 +91,7 @@ fn moves<N: BookName>(rt: &impl Abort, alloc: Global, blank: Blank)
         panic!(rt; "no memory")
     };
     let row = row_of([5, 4, 0, 1, 1]);
-    assert_eq!(rt; only_row(rt, book, till, shares), row);
+    same(rt, only_row(rt, book, till, shares), row);
 }
 
 #[test]
@@ -107,7 +114,7 @@ fn want_opening(
         Err(fault) => Some(fault),
         Ok(_) => None,
     };
-    assert_eq!(rt; fault, wanted);
+    same(rt, fault, wanted);
     Ok(())
 }
 
@@ -165,7 +172,7 @@ fn calls_refused<N: BookName>(rt: &impl Abort, alloc: Global, blank: Blank)
         panic!(rt; "no memory")
     };
     let row = row_of([1, 1, 0, 0, 0]);
-    assert_eq!(rt; only_row(rt, book, till, shares), row);
+    same(rt, only_row(rt, book, till, shares), row);
 }
 
 #[test]
@@ -199,7 +206,7 @@ fn returns<N: BookName>(rt: &impl Abort, alloc: Global, blank: Blank)
         panic!(rt; "no memory")
     };
     let row = row_of([MOST_TOPPED, MOST_TOPPED, 0, 0, 1 << 60]);
-    assert_eq!(rt; only_row(rt, book, till, shares), row);
+    same(rt, only_row(rt, book, till, shares), row);
 }
 
 #[test]
@@ -220,7 +227,7 @@ fn opens<N: BookName>(rt: &impl Abort, alloc: Global, blank: Blank) -> Result<()
         },
     };
     let (book, till, mut shares) = opened;
-    assert_eq!(rt; shares.len(), 3);
+    same(rt, shares.len(), 3);
     for share in shares.iter_mut() {
         assert!(rt; share.reserved(0) == 0 && share.reserved(1) == 0);
     }
@@ -244,7 +251,7 @@ fn a_blank_comes_back(rt: HostRuntime) -> Result<(), Fail> {
 // A refusal says this.
 fn want_text(rt: &impl Abort, alloc: Global, fault: BookError, wanted: &str) -> Result<(), Fail> {
     let text = format!(in alloc; "{fault}")?;
-    assert_eq!(rt; text.as_str(), wanted);
+    same(rt, text.as_str(), wanted);
     Ok(())
 }
 
@@ -281,6 +288,6 @@ fn refusals_say_their_numbers(rt: HostRuntime) -> Result<(), Fail> {
 fn a_missing_share_is_told(rt: HostRuntime) -> Result<(), Fail> {
     let missing = GatherFault::MissingShare;
     let text = format!(in rt.alloc(); "{missing}")?;
-    assert_eq!(rt; text.as_str(), "a worker's share is missing");
+    same(&rt, text.as_str(), "a worker's share is missing");
     Ok(())
 }

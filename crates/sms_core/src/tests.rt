@@ -1,8 +1,15 @@
 //! A few schedules worked out by hand, and each call with memory at hand.
 
 use crate::*;
+use std::fmt::Debug;
 use std::process::Abort;
 use std::test::Fail;
+
+// Both are the same. A test that compares by a call has a short proof: what is printed where they
+// differ stands here alone.
+fn same<T: PartialEq + Debug + Drop>(rt: &impl Abort, got: T, wanted: T) {
+    assert_eq!(rt; got, wanted);
+}
 
 fn top_up(account: u32, amount: u64) -> Event {
     Event::TopUp { account, amount }
@@ -68,24 +75,24 @@ fn want_steps(rt: &impl Abort, world: &mut World, events: &[Event], wanted: &[St
     let Ok(answers) = world.run(events) else {
         panic!(rt; "no memory")
     };
-    assert_eq!(rt; answers.as_slice(), wanted);
+    same(rt, answers.as_slice(), wanted);
 }
 
 // The request stands so.
 fn want_request(rt: &impl Abort, world: &World, id: u32, wanted: Option<RequestState>) {
-    assert_eq!(rt; world.request(id), wanted);
+    same(rt, world.request(id), wanted);
 }
 
 // The first account's row, and the next number.
 fn want_row(rt: &impl Abort, world: &World, wanted: Option<Row>, next: u64) {
-    assert_eq!(rt; world.row(0), wanted);
-    assert_eq!(rt; world.next(), next);
+    same(rt, world.row(0), wanted);
+    same(rt, world.next(), next);
 }
 
 // How many requests there are, and who holds the first slot.
 fn want_held(rt: &impl Abort, world: &World, requests: usize, holder: Option<u32>) {
-    assert_eq!(rt; world.requests().len(), requests);
-    assert_eq!(rt; world.holder(0), holder);
+    same(rt, world.requests().len(), requests);
+    same(rt, world.holder(0), holder);
 }
 
 #[test]
@@ -101,7 +108,7 @@ fn want_ignored(rt: &impl Abort, world: &mut World, event: Event, cause: Cause) 
     let Ok(step) = world.step(event) else {
         panic!(rt; "no memory")
     };
-    assert_eq!(rt; step, Step::Ignored(cause));
+    same(rt, step, Step::Ignored(cause));
 }
 
 #[test]
@@ -116,7 +123,7 @@ fn ignores_events(rt: HostRuntime) -> Result<(), Fail> {
     ] {
         want_ignored(&rt, &mut world, event, cause);
     }
-    assert_eq!(rt; world.accounts(), 1);
+    same(&rt, world.accounts(), 1);
     want_row(&rt, &world, row(0, 0, 0, 0, 0), 1);
     Ok(())
 }
@@ -240,8 +247,8 @@ fn which_replies_charge_and_which_are_tried_again(rt: HostRuntime) {
         (0x58, true, false, false),
         (0x45, false, false, false),
     ] {
-        assert_eq!(rt; is_charge(status, nack), charge);
-        assert_eq!(rt; is_retry(status, nack), retry);
+        same(&rt, is_charge(status, nack), charge);
+        same(&rt, is_retry(status, nack), retry);
     }
 }
 
@@ -256,9 +263,9 @@ fn reads_decimal_numbers(rt: HostRuntime) {
         ("18446744073709551615", u64::MAX, Some(u64::MAX)),
         ("18446744073709551616", u64::MAX, None),
     ] {
-        assert_eq!(rt; decimal_of(text.as_bytes(), most), wanted);
+        same(&rt, decimal_of(text.as_bytes(), most), wanted);
     }
     for text in ["", " 1", "1 ", "+1", "-1", "1e3", "0x10", "1_000"] {
-        assert_eq!(rt; decimal_of(text.as_bytes(), u64::MAX), None);
+        same(&rt, decimal_of(text.as_bytes(), u64::MAX), None);
     }
 }

@@ -1,6 +1,7 @@
 //! Tests of the PDUs, by values from outside.
 use super::*;
 use std::alloc::{AllocError, Global};
+use std::fmt::Debug;
 use std::process::Abort;
 use std::test::*;
 
@@ -10,6 +11,12 @@ mod libsmpp34;
 mod read_refusals;
 mod streams;
 mod write_refusals;
+
+// Both are the same. A test that compares by a call has a short proof: what is printed where they
+// differ stands here alone.
+fn same<T: PartialEq + Debug + Drop>(rt: &impl Abort, got: T, wanted: T) {
+    assert_eq!(rt; got, wanted);
+}
 
 const ENQUIRE_LINK: [u8; 16] = [0, 0, 0, 16, 0, 0, 0, 0x15, 0, 0, 0, 0, 0, 0, 0, 2];
 
@@ -65,12 +72,12 @@ fn length_of(fields: &PduRef<'_>) -> Result<usize, PduError> {
 
 // The error is the one that is wanted.
 fn want_error(rt: &impl Abort, error: Option<PduError>, wanted: Option<PduError>) {
-    assert_eq!(rt; error, wanted);
+    same(rt, error, wanted);
 }
 
 // These octets are those that are wanted.
 fn want_octets(rt: &impl Abort, octets: &[u8], wanted: &[u8]) {
-    assert_eq!(rt; octets, wanted);
+    same(rt, octets, wanted);
 }
 
 // Why these octets spell no PDU, if they spell none.

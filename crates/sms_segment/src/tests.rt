@@ -2,8 +2,15 @@
 use crate::{CutError, JoinError, Part, Place, Reference, cut, join, laws};
 use sms_alphabet::{Coded, Coding, Units, choose};
 use std::alloc::{AllocError, Global};
+use std::fmt::Debug;
 use std::process::Abort;
 use std::test::Fail;
+
+// Both are the same. A test that compares by a call has a short proof: what is printed where they
+// differ stands here alone.
+fn same<T: PartialEq + Debug + Drop>(rt: &impl Abort, got: T, wanted: T) {
+    assert_eq!(rt; got, wanted);
+}
 
 // `total` units: letters, with a pair at `place` where there is room for one.
 fn text_with_pair(
@@ -39,13 +46,9 @@ fn letters(alloc: Global, total: usize) -> Result<Coded, AllocError> {
 }
 
 fn assert_sizes(rt: &impl Abort, parts: &[Part], sizes: &[usize], total: usize, place: usize) {
-    assert_eq!(rt;
-        parts.len(),
-        sizes.len(),
-        "{total} units, a pair at {place}"
-    );
+    same(rt, (total, place, parts.len()), (total, place, sizes.len()));
     for (part, size) in parts.iter().zip(sizes) {
-        assert_eq!(rt; part.units.len(), *size, "{total} units, a pair at {place}");
+        same(rt, (total, place, part.units.len()), (total, place, *size));
     }
 }
 
@@ -91,7 +94,7 @@ fn cuts_no_pair_and_joins_again(rt: HostRuntime) -> Result<(), Fail> {
         let text = text_with_pair(alloc, coding, total, place)?;
         let parts = cut(alloc, &text, reference)?;
         assert_sizes(&rt, parts.as_slice(), sizes, total, place);
-        assert_eq!(rt; join(alloc, parts.as_slice())?, text);
+        same(&rt, join(alloc, parts.as_slice())?, text);
     }
     Ok(())
 }
@@ -154,14 +157,14 @@ fn spells_what_was_cut(rt: HostRuntime) -> Result<(), Fail> {
     for (total, reference, wanted) in rows {
         let text = "a".repeat(alloc, total)?;
         let parts = spelled(alloc, text.as_str(), reference)?;
-        assert_eq!(rt; parts.len(), wanted.len());
+        same(&rt, parts.len(), wanted.len());
         for ((esm_class, octets), (header, count)) in parts.iter().zip(wanted) {
             let mut all = Vec::from_slice(alloc, header)?;
             for _ in 0..*count {
                 all.push(0x61)?;
             }
-            assert_eq!(rt; octets.as_slice(), all.as_slice());
-            assert_eq!(rt; *esm_class, if header.is_empty() { 0x00 } else { 0x40 });
+            same(&rt, octets.as_slice(), all.as_slice());
+            same(&rt, *esm_class, if header.is_empty() { 0x00 } else { 0x40 });
         }
     }
     Ok(())
@@ -179,20 +182,22 @@ fn spells_pairs(rt: HostRuntime) -> Result<(), Fail> {
         }),
         units: Units::new(vec![in alloc; 0x41, 0x1B, 0x65]?),
     };
-    assert_eq!(rt;
+    same(
+        &rt,
         escaped.short_message(alloc)?.as_slice(),
-        [5, 0, 3, 7, 2, 2, 0x41, 0x1B, 0x65].as_slice()
+        [5, 0, 3, 7, 2, 2, 0x41, 0x1B, 0x65].as_slice(),
     );
     let wide = Part {
         coding: Coding::Ucs2,
         place: None,
         units: Units::new(vec![in alloc; 0x0436, 0xD83D, 0xDE00]?),
     };
-    assert_eq!(rt;
+    same(
+        &rt,
         wide.short_message(alloc)?.as_slice(),
-        [0x04, 0x36, 0xD8, 0x3D, 0xDE, 0x00].as_slice()
+        [0x04, 0x36, 0xD8, 0x3D, 0xDE, 0x00].as_slice(),
     );
-    assert_eq!(rt; (wide.esm_class(), wide.data_coding()), (0x00, 0x08));
+    same(&rt, (wide.esm_class(), wide.data_coding()), (0x00, 0x08));
     Ok(())
 }
 
@@ -204,17 +209,18 @@ fn counts_to_255_parts(rt: HostRuntime) -> Result<(), Fail> {
         (Reference::Long(65_535), 38_760),
     ] {
         let parts = cut(alloc, &letters(alloc, most)?, reference)?;
-        assert_eq!(rt; parts.len(), 255);
+        same(&rt, parts.len(), 255);
         let last = parts.as_slice().last().ok_or("a last part")?;
         let place = Place {
             reference,
             count: 255,
             number: 255,
         };
-        assert_eq!(rt; last.place, Some(place));
-        assert_eq!(rt;
+        same(&rt, last.place, Some(place));
+        same(
+            &rt,
             cut(alloc, &letters(alloc, most + 1)?, reference).err(),
-            Some(CutError::TooLong)
+            Some(CutError::TooLong),
         );
     }
     Ok(())
@@ -224,7 +230,7 @@ fn counts_to_255_parts(rt: HostRuntime) -> Result<(), Fail> {
 fn joins_whole_messages_alone(rt: HostRuntime) -> Result<(), Fail> {
     let alloc = rt.alloc();
     let text = letters(alloc, 161)?;
-    assert_eq!(rt; join(alloc, &[]).err(), Some(JoinError::NotWhole));
+    same(&rt, join(alloc, &[]).err(), Some(JoinError::NotWhole));
     // The references of the first part and of the second, which were cut from one text.
     for (first, second) in [
         (Reference::Short(7), Reference::Short(8)),
@@ -232,18 +238,19 @@ fn joins_whole_messages_alone(rt: HostRuntime) -> Result<(), Fail> {
         (Reference::Long(263), Reference::Short(7)),
     ] {
         let mut parts = cut(alloc, &text, first)?;
-        assert_eq!(rt; join(alloc, parts.as_slice())?, text);
+        same(&rt, &join(alloc, parts.as_slice())?, &text);
         parts.reverse();
-        assert_eq!(rt;
+        same(
+            &rt,
             join(alloc, parts.as_slice()).err(),
-            Some(JoinError::NotWhole)
+            Some(JoinError::NotWhole),
         );
         let mut others = cut(alloc, &text, second)?;
         let parts = [
             parts.pop().ok_or("a first part")?,
             others.pop().ok_or("a second part")?,
         ];
-        assert_eq!(rt; join(alloc, &parts).err(), Some(JoinError::NotWhole));
+        same(&rt, join(alloc, &parts).err(), Some(JoinError::NotWhole));
     }
     Ok(())
 }
@@ -255,13 +262,13 @@ fn what_failures_say(rt: HostRuntime) -> Result<(), Fail> {
         (CutError::TooLong, "the text needs more than 255 parts"),
         (CutError::OutOfMemory, "out of memory"),
     ] {
-        assert_eq!(rt; error.to_string(alloc)?.as_str(), said);
+        same(&rt, error.to_string(alloc)?.as_str(), said);
     }
     for (error, said) in [
         (JoinError::NotWhole, "the parts are not one whole message"),
         (JoinError::OutOfMemory, "out of memory"),
     ] {
-        assert_eq!(rt; error.to_string(alloc)?.as_str(), said);
+        same(&rt, error.to_string(alloc)?.as_str(), said);
     }
     Ok(())
 }

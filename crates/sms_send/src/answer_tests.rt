@@ -1,6 +1,7 @@
 //! What is reported of messages by what a message centre answers (SMPP 3.4 4.4.2, 4.3.1, 5.1.3), well
 //! or badly: worked out by hand.
 
+use crate::same::same;
 use crate::trial::{
     LONG, OpenGate, REPORT, STATEMENT, Said, messages_of, send, sending_of, text_of,
 };
@@ -236,9 +237,13 @@ fn want_said(rt: &(impl AllocGlobal + Abort), said: &Said, row: &Row<'_>) {
     let Ok(wanted) = format!(in rt.alloc(); "{REPORT}{}{STATEMENT}{}\n", row.report, row.row) else {
         panic!(rt; "no memory")
     };
-    assert_eq!(rt; (row.name, said.fault.as_str()), (row.name, ""));
-    assert_eq!(rt; (row.name, text_of(rt, said)), (row.name, wanted.as_str()));
-    assert_eq!(rt; (row.name, said.status), (row.name, row.status));
+    same(rt, (row.name, said.fault.as_str()), (row.name, ""));
+    same(
+        rt,
+        (row.name, text_of(rt, said)),
+        (row.name, wanted.as_str()),
+    );
+    same(rt, (row.name, said.status), (row.name, row.status));
 }
 
 // The row's accounts file and its messages file.

@@ -1,5 +1,6 @@
 //! Configs and what they say, and the first faulty key of those that are none.
 
+use crate::same::same;
 use crate::setup::{Setup, setup_of};
 use crate::told::told_of;
 use std::alloc::{AllocError, Global};
@@ -11,7 +12,7 @@ fn said(rt: &impl Abort, alloc: Global, config: &[u8]) -> Result<String, Fail> {
     match setup_of(alloc, config) {
         Ok(setup) => Ok(shown(alloc, &setup)?),
         Err(fault) => {
-            assert_eq!(rt; fault.exit_status(), 1);
+            same(rt, fault.exit_status(), 1);
             told_of(alloc, fault)
         }
     }
@@ -36,7 +37,7 @@ fn shown(alloc: Global, setup: &Setup) -> Result<String, AllocError> {
 // That this is what is told of the config.
 fn want_said(rt: &(impl AllocGlobal + Abort), config: &[u8], wanted: &str) {
     match said(rt, rt.alloc(), config) {
-        Ok(told) => assert_eq!(rt; told.as_str(), wanted),
+        Ok(told) => same(rt, told.as_str(), wanted),
         Err(_) => panic!(rt; "no memory"),
     }
 }

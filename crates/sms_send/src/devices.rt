@@ -1,5 +1,7 @@
 //! The program's clock.
 
+ghost use Rattle.std.specs.Prelude.{◌≡◌, None};
+
 use sms_worker::Clock;
 use std::time;
 use std::time::Instant;
@@ -23,7 +25,9 @@ impl<'r, R: time::Clock> Ticks<'r, R> {
 }
 
 impl<'r, R: time::Clock> Clock for Ticks<'r, R> {
-    fn now_ms(&self) -> u64 {
+    fn now_ms(&self) -> u64
+        ensures stopped { self.now.start ≡ None → result ≡ 0 }
+    {
         let Some(start) = self.start else {
             return 0;
         };

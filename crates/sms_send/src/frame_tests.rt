@@ -1,6 +1,7 @@
 //! The octets that a sending writes on a connection (SMPP 3.4 4.1, 4.2, 4.4, 4.6; 3GPP TS 23.040
 //! 9.2.3.24), worked out by hand.
 
+use crate::same::same;
 use crate::trial::{LONG, OpenGate, PLAIN, Sending, messages_of, send, sending_of};
 use std::process::Abort;
 use std::sync::Wait;
@@ -68,7 +69,7 @@ fn heard_of<'a, R: AllocGlobal + Abort + Threads + Wait + Sync>(
 fn writes_the_frames_of_a_sending(rt: HostRuntime) {
     for (config, messages, octets) in &ROWS {
         let heard = heard_of(&rt, config, messages);
-        assert_eq!(rt; heard.as_slice(), *octets, "{config}");
+        same(&rt, (config, heard.as_slice()), (config, *octets));
     }
 }
 
@@ -107,9 +108,9 @@ fn writes_the_parts_of_a_long_text(rt: HostRuntime) -> Result<(), Fail> {
         let sending = sending_of(config, "account,credits\nmain,3\n", messages.as_str());
         let said = send(&rt, alloc, &sending, &OpenGate)?;
         let octets = said.heard.as_slice();
-        assert_eq!(rt; octets.len(), length, "{config}");
-        assert!(rt; stand_at(octets, 119, first), "{config}");
-        assert!(rt; stand_at(octets, 328, second), "{config}");
+        same(&rt, (config, octets.len()), (config, length));
+        same(&rt, (config, stand_at(octets, 119, first)), (config, true));
+        same(&rt, (config, stand_at(octets, 328, second)), (config, true));
     }
     Ok(())
 }

@@ -3,6 +3,7 @@
 use crate::broken::FailingInput;
 use crate::fault::{Fault, Source};
 use crate::input::{Input, read_input};
+use crate::same::same;
 use crate::told::told_of;
 use sms_worker::Message;
 use std::alloc::{AllocError, Global};
@@ -28,7 +29,7 @@ fn said(
     match read_input(alloc, b"window = 3", accounts, messages, tariff) {
         Ok(input) => Ok(shown(alloc, &input)?),
         Err(fault) => {
-            assert_eq!(rt; fault.exit_status(), 1);
+            same(rt, fault.exit_status(), 1);
             told_of(alloc, fault)
         }
     }
@@ -70,14 +71,16 @@ fn reads_the_files_of_a_run(rt: HostRuntime) -> Result<(), Fail> {
     let messages = MESSAGES.as_bytes();
     let read = "window 3 / main 3 / a,b 1099511627776 / 0 1 1 2 x / 1 0  +44  / 2 none a b \u{436}";
     let plain = said(&rt, alloc, accounts, messages, None)?;
-    assert_eq!(rt;
+    same(
+        &rt,
         plain.as_str(),
-        format!(in alloc; "{read} / 1 / 1 / 1")?.as_str()
+        format!(in alloc; "{read} / 1 / 1 / 1")?.as_str(),
     );
     let rated = said(&rt, alloc, accounts, messages, Some(RATES.as_bytes()))?;
-    assert_eq!(rt;
+    same(
+        &rt,
         rated.as_str(),
-        format!(in alloc; "{read} / 5 / 3 / 2")?.as_str()
+        format!(in alloc; "{read} / 5 / 3 / 2")?.as_str(),
     );
     Ok(())
 }
@@ -144,7 +147,7 @@ fn want_refused(
     wanted: &str,
 ) {
     match said(rt, rt.alloc(), accounts, messages, tariff) {
-        Ok(told) => assert_eq!(rt; told.as_str(), wanted),
+        Ok(told) => same(rt, told.as_str(), wanted),
         Err(_) => panic!(rt; "no memory"),
     }
 }
@@ -179,7 +182,7 @@ fn takes_so_many_records_and_no_more(rt: HostRuntime) -> Result<(), Fail> {
     for (count, good) in [(64, true), (65, false)] {
         let file = numbered(alloc, "account,credits\n", count, ",1")?;
         let told = said(&rt, alloc, file.as_bytes(), messages, None)?;
-        assert_eq!(rt; told.as_str() == "fault: accounts record 66", !good);
+        same(&rt, told.as_str() == "fault: accounts record 66", !good);
     }
     for (count, good) in [(1_000, true), (1_001, false)] {
         let file = numbered(alloc, "prefix,credits\n", count, ",1")?;
@@ -190,7 +193,7 @@ fn takes_so_many_records_and_no_more(rt: HostRuntime) -> Result<(), Fail> {
             messages,
             Some(file.as_bytes()),
         )?;
-        assert_eq!(rt; told.as_str() == "fault: tariff record 1002", !good);
+        same(&rt, told.as_str() == "fault: tariff record 1002", !good);
     }
     Ok(())
 }
@@ -228,7 +231,7 @@ fn tells_the_first_fault_of_all_inputs(rt: HostRuntime) -> Result<(), Fail> {
     ];
     for (config, accounts, messages, tariff, wanted) in rows {
         let fault = told(alloc, config, accounts, messages, tariff)?;
-        assert_eq!(rt; fault.as_str(), wanted);
+        same(&rt, fault.as_str(), wanted);
     }
     Ok(())
 }
@@ -251,10 +254,10 @@ fn rated(rt: &(impl AllocGlobal + Abort)) -> Input {
 #[test]
 fn gives_its_parts(rt: HostRuntime) {
     let (config, openings, messages, tariff) = rated(&rt).into_parts();
-    assert_eq!(rt; config.limits.depth, 2);
-    assert_eq!(rt; openings.len(), 2);
-    assert_eq!(rt; messages.len(), 3);
-    assert_eq!(rt; tariff.cost("4420"), 3);
+    same(&rt, config.limits.depth, 2);
+    same(&rt, openings.len(), 2);
+    same(&rt, messages.len(), 3);
+    same(&rt, tariff.cost("4420"), 3);
 }
 
 // The fault says that this source can't be read.

@@ -49,6 +49,8 @@ mod report;
 #[cfg(test)]
 mod report_tests;
 mod rows;
+#[cfg(test)]
+mod same;
 mod schedule;
 mod sender;
 mod sending;

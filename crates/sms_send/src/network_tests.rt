@@ -5,6 +5,7 @@ use crate::bell::{Bell, Rest};
 use crate::driver::Dial;
 use crate::network::{TcpDial, listen};
 use crate::outbox::Outboxes;
+use crate::same::same;
 use sms_worker::Pause;
 use std::io::{Read, Write};
 use std::net::{IpAddr, Ipv4Addr, Net, TcpListener, TcpStream};
@@ -34,7 +35,7 @@ fn want_set_up(rt: &impl Abort, stream: &TcpStream) {
         Err(_) => panic!(rt; "no option"),
     }
     match stream.read_timeout() {
-        Ok(most) => assert_eq!(rt; most, Some(Duration::from_millis(100))),
+        Ok(most) => same(rt, most, Some(Duration::from_millis(100))),
         Err(_) => panic!(rt; "no option"),
     }
 }
@@ -78,7 +79,7 @@ fn accepted(rt: &impl Abort, listener: &TcpListener) -> TcpStream {
 fn want(rt: &impl Abort, far: &mut TcpStream, wanted: &[u8]) {
     let mut octets = [0u8; 8];
     match far.read(&mut octets) {
-        Ok(count) if count <= 8 => assert_eq!(rt; &octets[..count], wanted),
+        Ok(count) if count <= 8 => same(rt, &octets[..count], wanted),
         _ => panic!(rt; "nothing came"),
     }
 }

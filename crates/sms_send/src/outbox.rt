@@ -1,7 +1,7 @@
 //! What the wires have written and the connections haven't taken yet: the requests of a turn go out
 //! together, and not by a write each.
 
-ghost use Rattle.std.specs.Prelude.{None};
+ghost use Rattle.std.specs.Prelude.{◌≡◌, None, is_err, option_copied, slice_get, true};
 ghost use Rattle.std.specs.Io.{WritesAtMost};
 ghost use Rattle.std.specs.Io.KnownBytes.{WriteAppends};
 
@@ -23,9 +23,11 @@ struct Held {
 }
 
 impl Held {
-    /// Keeps octets to be written later, and writes what has no room.
+    /// Keeps octets to be written later, and writes what has no room. After a failure it takes nothing.
     fn put(&mut self, octets: &[u8]) -> io::Result<usize>
         ensures bound { WritesAtMost result octets.now }
+        ensures broken { self.new.is_broken ≡ is_err result }
+        ensures lost { self.old.is_broken ≡ true → self.new ≡ self.old }
     {
         if self.is_broken {
             return Err(Error::from(ErrorKind::BrokenPipe));
@@ -36,7 +38,9 @@ impl Held {
     }
 
     /// Writes what waits.
-    fn flush(&mut self) {
+    fn flush(&mut self)
+        ensures lost { self.old.is_broken ≡ true → self.new ≡ self.old }
+    {
         if !self.is_broken {
             self.is_broken = self.writer.flush().is_err();
         }
@@ -103,7 +107,9 @@ impl Outboxes {
     }
 
     /// The outbox of a bind.
-    pub fn get(&self, bind: u32) -> Option<&Outbox> {
+    pub fn get(&self, bind: u32) -> Option<&Outbox>
+        ensures { option_copied result ≡ slice_get self.now.of_binds bind }
+    {
         self.of_binds.get(bind as usize)
     }
 

@@ -3,6 +3,7 @@
 use crate::broken::{FailingInput, FailingOutput};
 use crate::fault::{Fault, Source};
 use crate::plan::run_plan;
+use crate::same::same;
 use crate::told::told_of;
 use std::alloc::{AllocError, Global};
 use std::process::Abort;
@@ -12,10 +13,10 @@ use std::test::Fail;
 fn planned(rt: &impl Abort, alloc: Global, input: &[u8], long: bool) -> Result<Vec<u8>, Fail> {
     let mut output = Vec::new(alloc);
     match run_plan(alloc, input, long, &mut output) {
-        Ok(status) => assert_eq!(rt; status, 0),
+        Ok(status) => same(rt, status, 0),
         Err(fault) => {
             assert!(rt; output.is_empty());
-            assert_eq!(rt; fault.exit_status(), 1);
+            same(rt, fault.exit_status(), 1);
             let text = told_of(alloc, fault)?;
             output.extend_from_slice(text.as_bytes())?;
         }
@@ -61,7 +62,7 @@ fn plans_the_texts_of_a_file(rt: HostRuntime) -> Result<(), Fail> {
     for (count, long, wanted) in rows {
         let input = letters(alloc, count)?;
         let output = planned(&rt, alloc, input.as_bytes(), long)?;
-        assert_eq!(rt; output.as_slice(), wanted.as_bytes(), "{count} letters");
+        same(&rt, (count, output.as_slice()), (count, wanted.as_bytes()));
     }
     Ok(())
 }
@@ -104,7 +105,7 @@ fn names_the_first_faulty_record(rt: HostRuntime) -> Result<(), Fail> {
     ];
     for (input, wanted) in rows {
         let output = planned(&rt, alloc, input, false)?;
-        assert_eq!(rt; output.as_slice(), wanted.as_bytes());
+        same(&rt, output.as_slice(), wanted.as_bytes());
     }
     Ok(())
 }
@@ -117,7 +118,7 @@ fn want_plan_fault(rt: &(impl AllocGlobal + Abort), left: &[u8], wanted: &str) {
         panic!(rt; "no fault")
     };
     match told_of(alloc, fault) {
-        Ok(told) => assert_eq!(rt; told.as_str(), wanted),
+        Ok(told) => same(rt, told.as_str(), wanted),
         Err(_) => panic!(rt; "no memory"),
     }
 }

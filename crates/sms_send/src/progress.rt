@@ -1,7 +1,7 @@
 //! What a person sees of a sending on standard error: how far it is, on a terminal, and what it came
 //! to.
 
-ghost use Rattle.std.specs.Prelude.{◌≡◌, ◌-◌};
+ghost use Rattle.std.specs.Prelude.{◌≡◌, ◌≤◌, ◌-◌, false, true};
 ghost use Rattle.sms_send.specs.Tally.{telling_of};
 
 use crate::sender::Ended;
@@ -115,7 +115,9 @@ impl Board {
     }
 
     /// Looks at how far a worker is, where it is time to. Whether this thread is to show it then.
-    fn look(&self, worker: usize, ends: &[MessageEnd], open: usize, now_ms: u64) -> bool {
+    fn look(&self, worker: usize, ends: &[MessageEnd], open: usize, now_ms: u64) -> bool
+        ensures beyond { 32 ≤ worker → result ≡ false }
+    {
         if worker >= MOST_WORKERS {
             return false;
         }
@@ -159,12 +161,10 @@ pub struct Progress<'r, S, K> {
 
 impl<'r, S: Eprint, K: Clock> Progress<'r, S, K> {
     /// So many messages are sent from now on.
-    pub fn new(
-        screen: &'r S,
-        clock: &'r K,
-        telling: Telling,
-        messages: usize,
-    ) -> Progress<'r, S, K> {
+    pub fn new(screen: &'r S, clock: &'r K, telling: Telling, messages: usize) -> Progress<'r, S, K>
+        ensures telling { result.telling ≡ telling }
+        ensures all { result.all ≡ messages }
+    {
         let begun_ms = clock.now_ms();
         Progress {
             screen,
@@ -214,7 +214,9 @@ impl<'r, S: Eprint, K: Clock> Progress<'r, S, K> {
 }
 
 impl<'r, S: Eprint, K: Clock> Gate for Progress<'r, S, K> {
-    fn pass(&self, _worker: usize, _number: u32) -> bool {
+    fn pass(&self, _worker: usize, _number: u32) -> bool
+        ensures { result ≡ true }
+    {
         true
     }
 

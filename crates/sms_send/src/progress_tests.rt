@@ -2,6 +2,7 @@
 
 use crate::progress::{Progress, Telling};
 use crate::report_tests::{reply, row, segment};
+use crate::same::same;
 use crate::summary::{EndLine, summary_of};
 use crate::tally::{Tally, WayLine, tally_of};
 use sms_book::Statement;
@@ -67,7 +68,7 @@ fn sums_up_a_sending(rt: HostRuntime) -> Result<(), Fail> {
         ),
     ] {
         let line = EndLine { summary, ms };
-        assert_eq!(rt; line.to_string(alloc)?.as_str(), wanted);
+        same(&rt, line.to_string(alloc)?.as_str(), wanted);
     }
     Ok(())
 }
@@ -81,9 +82,10 @@ fn sums_up_to_the_greatest_number(rt: HostRuntime) -> Result<(), Fail> {
     rows.push(row(0, 0, 4, 5, 0))?;
     let summary = summary_of(&[], &Statement::new(rows));
     let line = EndLine { summary, ms: 1000 };
-    assert_eq!(rt;
+    same(
+        &rt,
         line.to_string(alloc)?.as_str(),
-        "done: messages 0, segments 0, credits charged 18446744073709551615, returned 0, still reserved 7, seconds 1.0"
+        "done: messages 0, segments 0, credits charged 18446744073709551615, returned 0, still reserved 7, seconds 1.0",
     );
     Ok(())
 }
@@ -131,9 +133,9 @@ fn tells_how_far_messages_are(rt: HostRuntime) -> Result<(), Fail> {
             refused: 3,
             unanswered,
         };
-        assert_eq!(rt; tally_of(ends.as_slice(), open), wanted);
+        same(&rt, tally_of(ends.as_slice(), open), wanted);
     }
-    assert_eq!(rt; tally_of(&[], 0), Tally::none());
+    same(&rt, tally_of(&[], 0), Tally::none());
     Ok(())
 }
 
@@ -182,7 +184,7 @@ fn tells_the_rate_and_the_time_left(rt: HostRuntime) -> Result<(), Fail> {
             unanswered,
         };
         let line = WayLine { tally, all, ms };
-        assert_eq!(rt; line.to_string(alloc)?.as_str(), wanted);
+        same(&rt, line.to_string(alloc)?.as_str(), wanted);
     }
     Ok(())
 }
@@ -273,10 +275,10 @@ fn renews_the_line_in_turns(rt: HostRuntime) -> Result<(), Fail> {
             return Err("no so many ends".into());
         };
         progress.see(worker, first, open);
-        assert_eq!(rt; paper.take().as_str(), wanted);
+        same(&rt, paper.take().as_str(), wanted);
     }
     progress.clear();
-    assert_eq!(rt; paper.take().as_str(), "\r\x1b[K");
+    same(&rt, paper.take().as_str(), "\r\x1b[K");
     Ok(())
 }
 
@@ -295,7 +297,7 @@ fn is_quiet_in_a_pipe(rt: HostRuntime) -> Result<(), Fail> {
         progress.see(0, ends.as_slice(), 0);
         progress.see_last(0, ends.as_slice());
         progress.clear();
-        assert_eq!(rt; paper.take().as_str(), "");
+        same(&rt, paper.take().as_str(), "");
     }
     for (quiet, terminal, telling) in [
         (true, true, Telling::Nothing),
@@ -303,7 +305,7 @@ fn is_quiet_in_a_pipe(rt: HostRuntime) -> Result<(), Fail> {
         (false, true, Telling::Way),
         (false, false, Telling::End),
     ] {
-        assert_eq!(rt; Telling::new(quiet, terminal), telling);
+        same(&rt, Telling::new(quiet, terminal), telling);
     }
     Ok(())
 }

@@ -3,6 +3,7 @@
 //! runs each test named `memory_` once for each of its allocations; where memory is refused before the
 //! sending begins, it ends there.
 
+use crate::same::same;
 use crate::trial::{
     LONG, OpenGate, PLAIN, REPORT, STATEMENT, Said, Sending, messages_of, send, text_of,
 };
@@ -85,12 +86,12 @@ fn said_of<R: Threads + Wait + Sync>(
 
 /// Nothing is printed, and this fault is told.
 fn want_fault(rt: &impl Abort, said: &Said, fault: &str, status: u8, at: u64) {
-    assert_eq!(rt;
-        (said.fault.as_str(), said.status),
-        (fault, status),
-        "octet {at}"
+    same(
+        rt,
+        (at, (said.fault.as_str(), said.status)),
+        (at, (fault, status)),
     );
-    assert!(rt; said.printed.is_empty(), "octet {at}");
+    same(rt, (at, said.printed.is_empty()), (at, true));
 }
 
 #[test]
@@ -114,8 +115,8 @@ fn a_writer_fails_at_each_octet(rt: HostRuntime) -> Result<(), Fail> {
         } else {
             (CHARGED, 0)
         };
-        assert_eq!(rt; text_of(&rt, &said), text, "octet {octets}");
-        assert_eq!(rt; said.status, status, "octet {octets}");
+        same(&rt, (octets, text_of(&rt, &said)), (octets, text));
+        same(&rt, (octets, said.status), (octets, status));
     }
     Ok(())
 }
@@ -131,12 +132,24 @@ fn a_reader_fails_at_each_octet(rt: HostRuntime) -> Result<(), Fail> {
         } else {
             let text = text_of(&rt, &said);
             let answers = ((octets - BOUND) / ANSWER).min(2);
-            assert!(rt; is_balanced(alloc, text, 3)?, "octet {octets}: {text}");
-            assert_eq!(rt; count(text, ",charged,0,m"), answers, "octet {octets}");
+            same(
+                &rt,
+                (octets, text, is_balanced(alloc, text, 3)?),
+                (octets, text, true),
+            );
+            same(
+                &rt,
+                (octets, count(text, ",charged,0,m")),
+                (octets, answers),
+            );
             let open = count(text, ",unanswered,") != 0;
-            assert_eq!(rt; said.status, if open { 4 } else { 0 }, "octet {octets}");
+            same(
+                &rt,
+                (octets, said.status),
+                (octets, if open { 4 } else { 0 }),
+            );
             if answers == 2 {
-                assert_eq!(rt; text, CHARGED, "octet {octets}");
+                same(&rt, (octets, text), (octets, CHARGED));
             }
         }
     }
@@ -148,15 +161,15 @@ fn an_output_fails_at_each_octet(rt: HostRuntime) -> Result<(), Fail> {
     let alloc = rt.alloc();
     for octets in 0..CHARGED.len() {
         let said = said_of(&rt, alloc, PLAIN.reads, PLAIN.writes, octets as u64)?;
-        assert_eq!(rt;
-            (said.fault.as_str(), said.status),
-            ("fault: output", 1),
-            "octet {octets}"
+        same(
+            &rt,
+            (octets, (said.fault.as_str(), said.status)),
+            (octets, ("fault: output", 1)),
         );
-        assert_eq!(rt; said.printed.as_slice(), &CHARGED.as_bytes()[..octets]);
+        same(&rt, said.printed.as_slice(), &CHARGED.as_bytes()[..octets]);
     }
     let said = said_of(&rt, alloc, PLAIN.reads, PLAIN.writes, CHARGED.len() as u64)?;
-    assert_eq!(rt; (text_of(&rt, &said), said.status), (CHARGED, 0));
+    same(&rt, (text_of(&rt, &said), said.status), (CHARGED, 0));
     Ok(())
 }
 
@@ -164,10 +177,10 @@ fn an_output_fails_at_each_octet(rt: HostRuntime) -> Result<(), Fail> {
 fn want_report(rt: &impl Abort, alloc: Global, said: &Said, topped: u64) {
     let text = text_of(rt, said);
     if let Ok(balanced) = is_balanced(alloc, text, topped) {
-        assert!(rt; balanced, "{text}");
+        same(rt, (text, balanced), (text, true));
     }
     let open = count(text, ",unanswered,") != 0;
-    assert_eq!(rt; said.status, if open { 4 } else { 0 });
+    same(rt, said.status, if open { 4 } else { 0 });
 }
 
 fn is_bind_fault(said: &Said) -> bool {
@@ -185,10 +198,13 @@ fn want_report_or_fault(rt: &impl Abort, alloc: Global, said: &Said, topped: u64
         want_report(rt, alloc, said, topped);
     } else {
         assert!(rt; said.printed.is_empty());
-        assert!(rt;
-            is_memory_fault(said) || is_bind_fault(said),
-            "{}",
-            said.fault
+        same(
+            rt,
+            (
+                said.fault.as_str(),
+                is_memory_fault(said) || is_bind_fault(said),
+            ),
+            (said.fault.as_str(), true),
         );
     }
 }
@@ -207,7 +223,7 @@ fn a_writer_fails_among_many_requests(rt: HostRuntime) -> Result<(), Fail> {
             ..PLAIN
         };
         let said = send(&rt, alloc, &sending, &OpenGate)?;
-        assert!(rt; said.fault.is_empty(), "octet {octets}");
+        same(&rt, (octets, said.fault.is_empty()), (octets, true));
         want_report_or_fault(&rt, alloc, &said, 5);
     }
     Ok(())

@@ -1,6 +1,7 @@
 //! Whole sendings: accounts, a tariff, credits that run short, two workers at once, and faults. What is
 //! printed is worked out by hand.
 
+use crate::same::same;
 use crate::trial::{
     OpenGate, PLAIN, REPORT, STATEMENT, Said, Sending, messages_of, send, sending_of, text_of,
 };
@@ -76,8 +77,8 @@ fn reports_messages_and_accounts(rt: HostRuntime) -> Result<(), Fail> {
         };
         let said = send(&rt, alloc, &sending, &OpenGate)?;
         let wanted = format!(in alloc; "{REPORT}{}{STATEMENT}{}", row.report, row.rows)?;
-        assert_eq!(rt; text_of(&rt, &said), wanted.as_str());
-        assert_eq!(rt; said.status, 0);
+        same(&rt, text_of(&rt, &said), wanted.as_str());
+        same(&rt, said.status, 0);
     }
     Ok(())
 }
@@ -100,7 +101,7 @@ fn refuses_a_text_that_is_too_long(rt: HostRuntime) -> Result<(), Fail> {
     let wanted = format!(in alloc;
         "{REPORT}0,1,1,charged,0,m1\n1,0,0,too-long,,\n{STATEMENT}main,300,299,0,1,0\n"
     )?;
-    assert_eq!(rt; text_of(&rt, &said), wanted.as_str());
+    same(&rt, text_of(&rt, &said), wanted.as_str());
     Ok(())
 }
 
@@ -112,7 +113,7 @@ fn faults(
     status: u8,
 ) -> Result<(), Fail> {
     let said = send(rt, rt.alloc(), sending, &OpenGate)?;
-    assert_eq!(rt; (said.fault.as_str(), said.status), (fault, status));
+    same(rt, (said.fault.as_str(), said.status), (fault, status));
     assert!(rt; said.printed.is_empty());
     Ok(())
 }
@@ -157,8 +158,12 @@ fn charges_the_last_credit_once(rt: HostRuntime) -> Result<(), Fail> {
     for _round in 0..20 {
         let said = send(&rt, alloc, &sending, &OpenGate)?;
         let text = text_of(&rt, &said);
-        assert!(rt; text == first.as_str() || text == second.as_str(), "{text}");
-        assert_eq!(rt; said.status, 0);
+        same(
+            &rt,
+            (text, text == first.as_str() || text == second.as_str()),
+            (text, true),
+        );
+        same(&rt, said.status, 0);
     }
     Ok(())
 }
@@ -210,6 +215,10 @@ fn workers_work_at_once(rt: HostRuntime) -> Result<(), Fail> {
     let text = text_of(&rt, &said);
     let first = both_charged(alloc, "m1", "m2")?;
     let second = both_charged(alloc, "m2", "m1")?;
-    assert!(rt; text == first.as_str() || text == second.as_str(), "{text}");
+    same(
+        &rt,
+        (text, text == first.as_str() || text == second.as_str()),
+        (text, true),
+    );
     Ok(())
 }

@@ -5,6 +5,7 @@ use crate::do_job;
 use crate::fault::Fault;
 use crate::job::{Job, job_of};
 use crate::replay::run_replay;
+use crate::same::same;
 use crate::told::told_of;
 use std::alloc::Global;
 use std::io::{Read, Write};
@@ -95,7 +96,7 @@ fn printed(rt: &(impl AllocGlobal + Abort), schedule: &str) -> String {
     let mut output = Vec::new(rt.alloc());
     let text = match run_replay(rt.alloc(), schedule.as_bytes(), &mut output) {
         Ok(status) => {
-            assert_eq!(rt; status, 0);
+            same(rt, status, 0);
             String::from_utf8(output).expect(rt, "text")
         }
         Err(fault) => {
@@ -109,10 +110,10 @@ fn printed(rt: &(impl AllocGlobal + Abort), schedule: &str) -> String {
 #[test]
 fn prints_schedules_and_faults(rt: HostRuntime) {
     for (schedule, expected) in REPLAYED {
-        assert_eq!(rt; printed(&rt, schedule).as_str(), expected);
+        same(&rt, printed(&rt, schedule).as_str(), expected);
     }
     for (schedule, expected) in REFUSED {
-        assert_eq!(rt; printed(&rt, schedule).as_str(), expected);
+        same(&rt, printed(&rt, schedule).as_str(), expected);
     }
 }
 
@@ -126,8 +127,8 @@ fn tells_a_broken_output(rt: HostRuntime) -> Result<(), Fail> {
         let fault = replay_fault(rt.alloc(), SCHEDULE, &mut FailingOutput { room }).ok_or(
             "no fault",
         )?;
-        assert_eq!(rt; fault.exit_status(), 1);
-        assert_eq!(rt; told_of(rt.alloc(), fault)?.as_str(), "fault: output");
+        same(&rt, fault.exit_status(), 1);
+        same(&rt, told_of(rt.alloc(), fault)?.as_str(), "fault: output");
     }
     Ok(())
 }
@@ -155,9 +156,9 @@ fn want_fault(rt: &(impl AllocGlobal + Abort), done: Result<u8, Fault>, wanted: 
     let Err(fault) = done else {
         panic!(rt; "no fault")
     };
-    assert_eq!(rt; fault.exit_status(), 1);
+    same(rt, fault.exit_status(), 1);
     match fault.to_string(rt.alloc()) {
-        Ok(text) => assert_eq!(rt; text.as_str(), wanted),
+        Ok(text) => same(rt, text.as_str(), wanted),
         Err(_) => panic!(rt; "no memory"),
     }
 }
@@ -268,7 +269,7 @@ fn file_of(job: &Job) -> &str {
 // That the job is called so, with its file.
 fn want_job(rt: &impl Abort, job: &Job, wanted: &str) {
     match wanted.strip_prefix(called(job)) {
-        Some(file) => assert_eq!(rt; file_of(job), file),
+        Some(file) => same(rt, file_of(job), file),
         None => panic!(rt; "another job"),
     }
 }
@@ -278,7 +279,7 @@ fn want_read(rt: &(impl AllocGlobal + Abort), words: &[String], wanted: &str) {
     match job_of(rt.alloc(), words) {
         Ok(job) => want_job(rt, &job, wanted),
         Err(fault) => match fault.to_string(rt.alloc()) {
-            Ok(text) => assert_eq!(rt; text.as_str(), wanted),
+            Ok(text) => same(rt, text.as_str(), wanted),
             Err(_) => panic!(rt; "no memory"),
         },
     }
@@ -324,8 +325,8 @@ fn stops_at(rt: &(impl AllocGlobal + Abort), left: &[u8], expected: &str) -> Res
     let mut output = Vec::new(rt.alloc());
     let fault = replay_fault(rt.alloc(), FailingInput { left }, &mut output).ok_or("no fault")?;
     assert!(rt; output.is_empty());
-    assert_eq!(rt; fault.exit_status(), 1);
-    assert_eq!(rt; told_of(rt.alloc(), fault)?.as_str(), expected);
+    same(rt, fault.exit_status(), 1);
+    same(rt, told_of(rt.alloc(), fault)?.as_str(), expected);
     Ok(())
 }
 

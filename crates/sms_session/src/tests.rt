@@ -5,8 +5,15 @@ use crate::{
 };
 use sms_pdu::{BodyRef, Header, PduRef, Reply, encode_into, header_of, reply_of};
 use std::alloc::Global;
+use std::fmt::Debug;
 use std::process::Abort;
 use std::test::Fail;
+
+// Both are the same. A test that compares by a call has a short proof: what is printed where they
+// differ stands here alone.
+fn same<T: PartialEq + Debug + Drop>(rt: &impl Abort, got: T, wanted: T) {
+    assert_eq!(rt; got, wanted);
+}
 
 // The header of a PDU that has nothing else.
 fn header(rt: &impl Abort, command: u32, status: u32, number: u32) -> Header {
@@ -75,27 +82,27 @@ fn answers_to_a_bind(rt: HostRuntime) {
         let Err((again, fault)) = opened.bound(&answer) else {
             panic!(rt; "bound by {command:x}")
         };
-        assert_eq!(rt; fault, wanted, "command {command:x}");
+        same(&rt, (command, fault), (command, wanted));
         opened = again;
     }
     let Ok(session) = opened.bound(&header(&rt, 0x8000_0002, 0, 1)) else {
         panic!(rt; "not bound")
     };
-    assert_eq!(rt; session.state(), State::BoundTx);
+    same(&rt, session.state(), State::BoundTx);
     let transceiver = session_of(&rt, Mode::Transceiver);
-    assert_eq!(rt; transceiver.state(), State::BoundTrx);
+    same(&rt, transceiver.state(), State::BoundTrx);
 }
 
 #[test]
 fn what_may_be_sent(rt: HostRuntime) {
     let mut session = session_of(&rt, Mode::Transmitter);
     for (command, wanted) in [(4, true), (6, true), (0x15, true), (5, false), (2, false)] {
-        assert_eq!(rt; session.may_send(command), wanted, "command {command}");
+        same(&rt, (command, session.may_send(command)), (command, wanted));
     }
     session.lost();
-    assert_eq!(rt; session.state(), State::Closed);
+    same(&rt, session.state(), State::Closed);
     for command in [4, 6, 0x15, 5, 2] {
-        assert!(rt; !session.may_send(command), "command {command}");
+        same(&rt, (command, !session.may_send(command)), (command, true));
     }
 }
 
@@ -131,8 +138,8 @@ fn want_response(rt: &impl Abort, alloc: Global, mode: Mode, command: u32, wante
         panic!(rt; "no reply to {command:x}")
     };
     let octets = spelled(rt, alloc, response);
-    assert_eq!(rt; octets.as_slice(), wanted, "command {command:x}");
-    assert_eq!(rt; session.state(), before, "command {command:x}");
+    same(rt, (command, octets.as_slice()), (command, wanted));
+    same(rt, (command, session.state()), (command, before));
 }
 
 #[test]
@@ -152,21 +159,25 @@ fn what_closes_a_session(rt: HostRuntime) {
         (0x8000_0002, Action::Note),
     ] {
         let action = session.on(&header(&rt, command, 0, 9));
-        assert_eq!(rt; action, wanted, "command {command:x}");
+        same(&rt, (command, action), (command, wanted));
     }
     let Action::ReplyClose(response) = session.on(&header(&rt, 6, 0, 9)) else {
         panic!(rt; "not closed")
     };
     let octets = spelled(&rt, rt.alloc(), response);
-    assert_eq!(rt; octets.as_slice(), octets_of(0x8000_0006, 0, 9).as_slice());
+    same(
+        &rt,
+        octets.as_slice(),
+        octets_of(0x8000_0006, 0, 9).as_slice(),
+    );
     for command in [4, 5, 6, 0x15, 0x102, 0x103, 0x8000_0004, 0x8000_0006] {
         let action = session.on(&header(&rt, command, 0, 9));
-        assert_eq!(rt; action, Action::Drop, "command {command:x}");
+        same(&rt, (command, action), (command, Action::Drop));
     }
     let mut session = session_of(&rt, Mode::Transceiver);
     let action = session.on(&header(&rt, 0x8000_0006, 0, 9));
-    assert_eq!(rt; action, Action::Close);
-    assert_eq!(rt; session.state(), State::Closed);
+    same(&rt, action, Action::Close);
+    same(&rt, session.state(), State::Closed);
 }
 
 // The answer to a submit_sm, or a generic_nack.
@@ -184,7 +195,7 @@ fn want_decision(rt: &impl Abort, reply: Reply, attempt: u32, wanted: Decision) 
     };
     assert!(rt; 1 <= attempt && attempt <= policy.attempts);
     let decision = decide(&reply, attempt, &policy);
-    assert_eq!(rt; decision, wanted, "attempt {attempt}");
+    same(rt, (attempt, decision), (attempt, wanted));
 }
 
 #[test]
@@ -213,6 +224,10 @@ fn what_answers_decide(rt: HostRuntime) {
 fn policies_that_are_refused(rt: HostRuntime) {
     for (attempts, base_ms) in [(0, 1), (11, 1), (1, 60_001)] {
         let made = Policy::new(attempts, base_ms);
-        assert_eq!(rt; made, Err(PolicyError::BadPolicy), "{attempts} attempts");
+        same(
+            &rt,
+            (attempts, made),
+            (attempts, Err(PolicyError::BadPolicy)),
+        );
     }
 }

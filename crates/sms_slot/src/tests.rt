@@ -6,11 +6,18 @@ use crate::{Answer, Expired, Search, Slot, SlotError, SlotRow, Taken};
 use rtrb::{Consumer, Producer, RingBuffer};
 use sms_pdu::{Reply, reply_of};
 use std::alloc::{AllocError, Global};
+use std::fmt::Debug;
 use std::process::Abort;
 use std::sync::Wait;
 use std::test::Fail;
 
 mod threads;
+
+// Both are the same. A test that compares by a call has a short proof: what is printed where they
+// differ stands here alone.
+fn same<T: PartialEq + Debug + Drop>(rt: &impl Abort, got: T, wanted: T) {
+    assert_eq!(rt; got, wanted);
+}
 
 // The rings' ends of a reader and of its workers.
 type Ends = (Vec<Producer<Reply>>, Vec<Consumer<Reply>>);
@@ -50,9 +57,9 @@ fn want_in_ring(
         panic!(rt; "no ring {place}")
     };
     for reply in wanted {
-        assert_eq!(rt; consumer.pop().ok(), Some(*reply), "ring {place}");
+        same(rt, (place, consumer.pop().ok()), (place, Some(*reply)));
     }
-    assert!(rt; consumer.pop().is_err(), "ring {place}");
+    same(rt, (place, consumer.pop().is_err()), (place, true));
 }
 
 // What a slot says to the answer to a number.
@@ -64,16 +71,16 @@ fn hears(
     wanted: Answer,
 ) {
     let answer = slot.answer(reply_to(rt, number), producers);
-    assert_eq!(rt; answer, wanted, "number {number}");
+    same(rt, (number, answer), (number, wanted));
 }
 
 #[test]
 fn a_late_answer_is_unknown(rt: HostRuntime) -> Result<(), Fail> {
     let (mut producers, mut consumers) = rings(rt.alloc(), 2)?;
     let mut slot = Slot::Empty;
-    assert_eq!(rt; slot.post(1, 5), Ok(()));
-    assert_eq!(rt; slot.expire(5), Expired::Done);
-    assert_eq!(rt; slot.post(1, 6), Ok(()));
+    same(&rt, slot.post(1, 5), Ok(()));
+    same(&rt, slot.expire(5), Expired::Done);
+    same(&rt, slot.post(1, 6), Ok(()));
     hears(&rt, &mut slot, &mut producers, 5, Answer::Unknown);
     hears(
         &rt,
@@ -82,8 +89,12 @@ fn a_late_answer_is_unknown(rt: HostRuntime) -> Result<(), Fail> {
         6,
         Answer::Matched { worker: 1 },
     );
-    assert_eq!(rt; (slot.take(6), slot.take(6)), (Taken::Got, Taken::Unknown));
-    assert_eq!(rt; slot, Slot::Empty);
+    same(
+        &rt,
+        (slot.take(6), slot.take(6)),
+        (Taken::Got, Taken::Unknown),
+    );
+    same(&rt, slot, Slot::Empty);
     want_in_ring(&rt, &mut consumers, 0, &[]);
     want_in_ring(&rt, &mut consumers, 1, &[reply_to(&rt, 6)]);
     Ok(())
@@ -92,10 +103,10 @@ fn a_late_answer_is_unknown(rt: HostRuntime) -> Result<(), Fail> {
 // A request of this worker, whose answer can't be handed on.
 fn want_overrun(rt: &impl Abort, producers: &mut [Producer<Reply>], worker: usize) {
     let mut slot = Slot::Empty;
-    assert_eq!(rt; slot.post(worker, 5), Ok(()));
+    same(rt, slot.post(worker, 5), Ok(()));
     hears(rt, &mut slot, producers, 5, Answer::Overrun { worker });
-    assert_eq!(rt; slot, Slot::Waiting { worker, number: 5 });
-    assert_eq!(rt; slot.expire(5), Expired::Done);
+    same(rt, slot, Slot::Waiting { worker, number: 5 });
+    same(rt, slot.expire(5), Expired::Done);
 }
 
 // A ring without room, and a worker without a ring: the request waits on, and can be given up.
@@ -125,21 +136,25 @@ fn posts(
 )
     requires { slot < most_slots }
 {
-    assert_eq!(rt; row.post(rt, slot, worker, number), wanted, "slot {slot}");
+    same(
+        rt,
+        (slot, row.post(rt, slot, worker, number)),
+        (slot, wanted),
+    );
 }
 
 // What a row says where the answer is looked for.
 fn takes(rt: &(impl Abort + Wait), row: &SlotRow, slot: u32, number: u32, wanted: Taken)
     requires { slot < most_slots }
 {
-    assert_eq!(rt; row.take(rt, slot, number), wanted, "slot {slot}");
+    same(rt, (slot, row.take(rt, slot, number)), (slot, wanted));
 }
 
 // What a row says where a request is given up.
 fn expires(rt: &(impl Abort + Wait), row: &SlotRow, slot: u32, number: u32, wanted: Expired)
     requires { slot < most_slots }
 {
-    assert_eq!(rt; row.expire(rt, slot, number), wanted, "slot {slot}");
+    same(rt, (slot, row.expire(rt, slot, number)), (slot, wanted));
 }
 
 // What a row says to the answer to a number.
@@ -151,7 +166,7 @@ fn answers(
     wanted: Search,
 ) {
     let found = row.answer(rt, reply_to(rt, number), producers);
-    assert_eq!(rt; found, wanted, "number {number}");
+    same(rt, (number, found), (number, wanted));
 }
 
 #[test]

@@ -3,10 +3,17 @@ ghost use Rattle.std.specs.Prelude.{◌≡◌, All, IfOk};
 
 use crate::{Claim, Closed, Draw, Window, WindowError, WindowSeat};
 use std::alloc::{AllocError, Global};
+use std::fmt::Debug;
 use std::process::Abort;
 use std::test::Fail;
 
 mod threads;
+
+// Both are the same. A test that compares by a call has a short proof: what is printed where they
+// differ stands here alone.
+fn same<T: PartialEq + Debug + Drop>(rt: &impl Abort, got: T, wanted: T) {
+    assert_eq!(rt; got, wanted);
+}
 
 // A new seat of the window.
 fn seat_of(rt: &impl Abort, window: &Window, keeper: &mut WindowSeat) -> WindowSeat
@@ -24,7 +31,7 @@ fn claim_slot(rt: &impl Abort, window: &Window, seat: &mut WindowSeat, wanted: u
     ensures window { seat.new.window ≡ seat.old.window }
 {
     let claim = window.try_claim(seat);
-    assert_eq!(rt; claim, Claim::Got(wanted));
+    same(rt, claim, Claim::Got(wanted));
 }
 
 // Claims the slots from 0 to below `count`, and wants them in turn.
@@ -58,7 +65,7 @@ fn window_of(rt: &impl Abort, alloc: Global, limit: u32, first: u32) -> (Window,
 
 // What a window ends with: the slots that are held, and the number that comes next.
 fn want_closed(rt: &impl Abort, closed: Closed, held: u64, next: u64) {
-    assert_eq!(rt; (closed.held, closed.next), (held, next));
+    same(rt, (closed.held, closed.next), (held, next));
 }
 
 // Up to `count` new seats.
@@ -86,7 +93,7 @@ fn want_refusal(rt: &impl Abort, alloc: Global, limit: u32, first: u32, wanted: 
     let Err(fault) = Window::make_from(alloc, limit, first) else {
         panic!(rt; "a window")
     };
-    assert_eq!(rt; fault, wanted, "limit {limit}, first {first}");
+    same(rt, (limit, first, fault), (limit, first, wanted));
 }
 
 #[test]
@@ -104,7 +111,7 @@ fn refuses_bad_windows(rt: HostRuntime) {
         let Err(fault) = Window::make(rt.alloc(), limit) else {
             panic!(rt; "a window")
         };
-        assert_eq!(rt; fault, WindowError::BadLimit);
+        same(&rt, fault, WindowError::BadLimit);
     }
 }
 
@@ -116,7 +123,7 @@ fn one_slot_by_turns(rt: HostRuntime) {
     let mut a = seat_of(&rt, &window, &mut keeper);
     let mut b = seat_of(&rt, &window, &mut keeper);
     claim_slot(&rt, &window, &mut a, 0);
-    assert_eq!(rt; window.try_claim(&mut b), Claim::Full);
+    same(&rt, window.try_claim(&mut b), Claim::Full);
     release_slot(&rt, &window, &mut a, 0);
     claim_slot(&rt, &window, &mut b, 0);
     release_slot(&rt, &window, &mut b, 0);
@@ -146,7 +153,7 @@ fn all_sixty_four_held(rt: HostRuntime) {
     };
     let mut a = seat_of(&rt, &window, &mut keeper);
     claim_all(&rt, &window, &mut a, 64);
-    assert_eq!(rt; window.try_claim(&mut keeper), Claim::Full);
+    same(&rt, window.try_claim(&mut keeper), Claim::Full);
     release_slot(&rt, &window, &mut a, 63);
     release_slot(&rt, &window, &mut a, 40);
     claim_slot(&rt, &window, &mut keeper, 40);
@@ -163,7 +170,7 @@ fn two_slots_for_three_seats(rt: HostRuntime) {
     let mut c = seat_of(&rt, &window, &mut keeper);
     claim_slot(&rt, &window, &mut a, 0);
     claim_slot(&rt, &window, &mut b, 1);
-    assert_eq!(rt; window.try_claim(&mut c), Claim::Full);
+    same(&rt, window.try_claim(&mut c), Claim::Full);
     release_slot(&rt, &window, &mut a, 0);
     claim_slot(&rt, &window, &mut c, 0);
     release_slot(&rt, &window, &mut c, 0);
@@ -191,7 +198,7 @@ fn names_and_slots_go_on(rt: HostRuntime) {
     let mut a = seat_of(&rt, &window, &mut keeper);
     let mut b = seat_of(&rt, &window, &mut keeper);
     claim_slot(&rt, &window, &mut b, 0);
-    assert_eq!(rt; window.try_draw(&mut b), Draw::Number(1));
+    same(&rt, window.try_draw(&mut b), Draw::Number(1));
     assert!(rt; !a.can_split());
     window.join(&mut a, b);
     assert!(rt; a.holds(0));
@@ -215,7 +222,7 @@ fn closed_with_another_seat(rt: HostRuntime) {
     let mut b = seat_of(&rt, &window, &mut keeper);
     claim_slot(&rt, &window, &mut a, 0);
     claim_slot(&rt, &window, &mut b, 1);
-    assert_eq!(rt; window.try_draw(&mut b), Draw::Number(1));
+    same(&rt, window.try_draw(&mut b), Draw::Number(1));
     want_closed(&rt, window.close(a), 0xFFFF_FFFF_FFFF_FFFB, 2);
 }
 
@@ -223,9 +230,9 @@ fn closed_with_another_seat(rt: HostRuntime) {
 fn numbers_by_turns(rt: HostRuntime) {
     let (window, mut keeper) = window_of(&rt, rt.alloc(), 2, 7);
     let mut a = seat_of(&rt, &window, &mut keeper);
-    assert_eq!(rt; window.try_draw(&mut keeper), Draw::Number(7));
-    assert_eq!(rt; window.try_draw(&mut a), Draw::Number(8));
-    assert_eq!(rt; window.try_draw(&mut keeper), Draw::Number(9));
+    same(&rt, window.try_draw(&mut keeper), Draw::Number(7));
+    same(&rt, window.try_draw(&mut a), Draw::Number(8));
+    same(&rt, window.try_draw(&mut keeper), Draw::Number(9));
     drop(a);
     want_closed(&rt, window.close(keeper), 0xFFFF_FFFF_FFFF_FFFC, 10);
 }
@@ -233,8 +240,8 @@ fn numbers_by_turns(rt: HostRuntime) {
 #[test]
 fn the_last_number(rt: HostRuntime) {
     let (window, mut keeper) = window_of(&rt, rt.alloc(), 64, 0x7FFF_FFFF);
-    assert_eq!(rt; window.try_draw(&mut keeper), Draw::Number(2147483647));
-    assert_eq!(rt; window.try_draw(&mut keeper), Draw::UsedUp);
+    same(&rt, window.try_draw(&mut keeper), Draw::Number(2147483647));
+    same(&rt, window.try_draw(&mut keeper), Draw::UsedUp);
     want_closed(&rt, window.close(keeper), 0, 2147483648);
 }
 
@@ -251,10 +258,10 @@ fn slots_and_names(rt: HostRuntime) -> Result<(), Fail> {
         (64, false),
         (u32::MAX, false),
     ] {
-        assert_eq!(rt; keeper.holds(slot), wanted, "slot {slot}");
+        same(&rt, (slot, keeper.holds(slot)), (slot, wanted));
     }
     let seats = seats_of(rt.alloc(), &window, &mut keeper, 64)?;
-    assert_eq!(rt; seats.len(), 63);
+    same(&rt, seats.len(), 63);
     let can_split = keeper.can_split() || seats.iter().any(|seat| seat.can_split());
     assert!(rt; !can_split);
     Ok(())

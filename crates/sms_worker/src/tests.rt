@@ -14,6 +14,7 @@ use sms_pdu::Reply;
 use sms_session::Policy;
 use sms_window::{Window, WindowSeat};
 use std::alloc::{AllocError, Global};
+use std::fmt::Debug;
 use std::io::Write;
 use std::marker::Brand;
 use std::process::Abort;
@@ -27,6 +28,12 @@ mod ended;
 mod memory;
 mod sums;
 mod threads;
+
+// Both are the same. A test that compares by a call has a short proof: what is printed where they
+// differ stands here alone.
+fn same<T: PartialEq + Debug + Drop>(rt: &impl Abort, got: T, wanted: T) {
+    assert_eq!(rt; got, wanted);
+}
 
 /// A request that gets no answer.
 const SILENT: u32 = 0xFFFF_FFFF;
@@ -206,7 +213,7 @@ fn sends<N: BookName, W: Write, B: Gate + Clock + Pause, R: Abort + Wait>(
             })
         }
         Err((_refused, _worker, messages)) => {
-            assert_eq!(rt; messages.len(), count);
+            same(rt, messages.len(), count);
             None
         }
     }
@@ -271,13 +278,13 @@ fn want_sent(rt: &impl Abort, done: &Done, place: usize, wanted: &[(usize, Outco
     let MessageResult::Sent(segments) = &end.result else {
         panic!(rt; "message {place} is refused")
     };
-    assert_eq!(rt; segments.len(), wanted.len());
+    same(rt, segments.len(), wanted.len());
     for i in 0..wanted.len() {
         if let Some(segment) = segments.as_slice().get(i) {
-            assert_eq!(rt;
-                (segment.attempts.as_slice().len(), segment.outcome),
-                wanted[i],
-                "message {place}"
+            same(
+                rt,
+                (place, (segment.attempts.as_slice().len(), segment.outcome)),
+                (place, wanted[i]),
             );
         }
     }
@@ -290,7 +297,7 @@ fn want_refused(rt: &impl Abort, done: &Done, place: usize, wanted: MessageRefus
     let MessageResult::Refused(refusal) = &end.result else {
         panic!(rt; "message {place} is sent")
     };
-    assert_eq!(rt; *refusal, wanted, "message {place}");
+    same(rt, (place, *refusal), (place, wanted));
 }
 
 // The account's credits: free, reserved, charged, returned.
@@ -300,5 +307,5 @@ fn row_of(done: &Done) -> (u64, u64, u64, u64) {
 }
 
 fn want_row(rt: &impl Abort, done: &Done, wanted: (u64, u64, u64, u64)) {
-    assert_eq!(rt; row_of(done), wanted);
+    same(rt, row_of(done), wanted);
 }

@@ -1,6 +1,6 @@
 //! Reads and writes that fail at each octet of what is read and written.
 use super::reader::{bound_as, counts, line_of, read_from, ring_of, want_written};
-use super::{ACCEPTED, BIND, Sink, bound_by, bound_over, settings_of, source_of, wire_to};
+use super::{ACCEPTED, BIND, Sink, bound_by, bound_over, same, settings_of, source_of, wire_to};
 use crate::{BindFault, Cause, Settings, Wire};
 use sms_pdu::Mode;
 use std::alloc::Global;
@@ -42,7 +42,7 @@ fn an_answer_that_is_cut_at_each_octet(rt: HostRuntime) {
                 26 => None,
                 _ => Some(fault),
             };
-            assert_eq!(rt; result.err(), wanted);
+            same(&rt, result.err(), wanted);
         }
     }
 }
@@ -50,10 +50,14 @@ fn an_answer_that_is_cut_at_each_octet(rt: HostRuntime) {
 // These first octets of the bind were taken, and a device that took no more failed once.
 fn want_taken(rt: &impl Abort, wire: Wire<Sink>, octets: usize) {
     let whole = octets == 29;
-    assert_eq!(rt; wire.broken(), !whole);
+    same(rt, wire.broken(), !whole);
     let tap = wire.into_tap();
-    assert_eq!(rt; tap.faults(), if whole { 0 } else { 1 });
-    assert_eq!(rt; tap.into_inner().octets.as_slice(), &BIND[..octets.min(29)]);
+    same(rt, tap.faults(), if whole { 0 } else { 1 });
+    same(
+        rt,
+        tap.into_inner().octets.as_slice(),
+        &BIND[..octets.min(29)],
+    );
 }
 
 // A bind over a writer with room for so many octets.
@@ -68,7 +72,7 @@ fn want_cut(rt: &impl Abort, alloc: Global, settings: &Settings, room: usize) {
             Err(fault) => !whole && fault == BindFault::Write,
         }
     );
-    assert_eq!(rt; reader.into_inner().octets.is_empty(), whole);
+    same(rt, reader.into_inner().octets.is_empty(), whole);
     want_taken(rt, wire, room);
 }
 
@@ -99,8 +103,8 @@ fn want_end<S: Abort + Wait>(
     let source = source_of(0, &STREAM[..octets.min(80)], true);
     let bound = bound_as(rt, alloc, Mode::Transceiver);
     let end = read_from(rt, alloc, source, bound, producers, &line);
-    assert_eq!(rt; end.cause, cause);
-    assert_eq!(rt; counts(&end), [answered, 0, 0, delivered, 0, 0, 0]);
+    same(rt, end.cause, cause);
+    same(rt, counts(&end), [answered, 0, 0, delivered, 0, 0, 0]);
     for _ in 0..answered {
         assert!(rt; consumer.pop().is_ok());
     }
@@ -155,8 +159,8 @@ fn a_nack_that_is_cut_at_each_octet(rt: HostRuntime) -> Result<(), Fail> {
         let source = source_of(0, STRANGE, true);
         let bound = bound_as(&rt, alloc, Mode::Transceiver);
         let end = read_from(&rt, alloc, source, bound, Vec::new(alloc), &line);
-        assert_eq!(rt; end.cause, cause);
-        assert_eq!(rt; counts(&end), [0, 0, 0, 0, 0, nacked, 0]);
+        same(&rt, end.cause, cause);
+        same(&rt, counts(&end), [0, 0, 0, 0, 0, nacked, 0]);
         want_written(&rt, line, &NACKS[..room.min(32)]);
     }
     Ok(())

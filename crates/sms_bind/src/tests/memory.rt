@@ -3,7 +3,7 @@
 //! there.
 use super::faults::{RESPONSES, STREAM};
 use super::reader::{bound_as, counts};
-use super::{ACCEPTED, BIND, Sink, bound_over, settings_of, source_of, wire_to};
+use super::{ACCEPTED, BIND, Sink, bound_over, same, settings_of, source_of, wire_to};
 use crate::{BindFault, Cause, Line, Wire, read_loop};
 use rtrb::RingBuffer;
 use sms_pdu::Mode;
@@ -34,20 +34,25 @@ fn memory_of_a_bind(rt: HostRuntime) {
     };
     let mut reader = source_of(0, ACCEPTED, true);
     let result = bound_over(alloc, &mut reader, &mut wire, &settings);
-    assert_eq!(rt; (reader.faults(), wire.broken()), (0, false));
+    same(&rt, (reader.faults(), wire.broken()), (0, false));
     let is_read = reader.into_inner().octets.is_empty();
     let written = wire.into_tap().into_inner().octets;
-    assert_eq!(rt;
+    same(
+        &rt,
         written.as_slice(),
         if is_read {
             BIND.as_slice()
         } else {
             b"".as_slice()
-        }
+        },
     );
     match result {
-        Ok(bound) => assert_eq!(rt; (bound.session.state(), is_read), (State::BoundTx, true)),
-        Err(fault) => assert_eq!(rt; fault, BindFault::OutOfMemory),
+        Ok(bound) => same(
+            &rt,
+            (bound.session.state(), is_read),
+            (State::BoundTx, true),
+        ),
+        Err(fault) => same(&rt, fault, BindFault::OutOfMemory),
     }
 }
 
@@ -67,7 +72,7 @@ fn all_or_nothing(cause: Cause, unreplied: u64, written: usize) -> ([u64; 7], bo
 
 fn want_all_or_nothing(rt: &impl Abort, cause: Cause, said: [u64; 7], written: &[u8]) {
     let (wanted, is_long) = all_or_nothing(cause, said[6], written.len());
-    assert_eq!(rt; said, wanted);
+    same(rt, said, wanted);
     assert!(rt; is_long);
     assert!(rt; written.len() < 49 || written == RESPONSES.as_slice());
 }
@@ -106,10 +111,11 @@ fn memory_of_a_reader(rt: HostRuntime) {
         10,
     );
     assert!(rt; line.down.load(Ordering::SeqCst));
-    assert_eq!(rt; end.producers.len(), 1);
-    assert_eq!(rt;
+    same(&rt, end.producers.len(), 1);
+    same(
+        &rt,
         consumer.pop().is_ok() && consumer.pop().is_ok(),
-        end.answered == 2
+        end.answered == 2,
     );
     assert!(rt; consumer.pop().is_err());
     let Line {
@@ -120,5 +126,5 @@ fn memory_of_a_reader(rt: HostRuntime) {
     } = line;
     let written = wire.into_inner().into_tap().into_inner().octets;
     want_all_or_nothing(&rt, end.cause, counts(&end), &written);
-    assert_eq!(rt; window.close(end.seat).held, 0xFFFF_FFFF_FFFF_FFF0);
+    same(&rt, window.close(end.seat).held, 0xFFFF_FFFF_FFFF_FFF0);
 }

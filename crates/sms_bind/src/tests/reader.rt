@@ -2,7 +2,7 @@
 ghost use Rattle.std.specs.Prelude.{◌≡◌, ◌≤◌};
 ghost use Rattle.sms_core.specs.Limits.{most_slots};
 
-use super::{ACCEPTED, ENQUIRE_LINK, Sink, Source, bound_by, source_of, wire_to};
+use super::{ACCEPTED, ENQUIRE_LINK, Sink, Source, bound_by, same, source_of, wire_to};
 use crate::{Bound, Cause, Line, ReaderEnd, Tap, read_loop};
 use rtrb::{Consumer, Producer, RingBuffer};
 use sms_pdu::{BIND_TRANSCEIVER_RESP, BIND_TRANSMITTER_RESP, Framer, Frames, Header, Mode, Reply};
@@ -53,7 +53,7 @@ pub(crate) fn line_of<S: Abort + Wait>(
         panic!(rt; "no row")
     };
     for slot in 0..waiting {
-        assert_eq!(rt; slots.post(rt, slot, 0, slot + 1), Ok(()));
+        same(rt, slots.post(rt, slot, 0, slot + 1), Ok(()));
     }
     let line = Line::new(slots, wire_to(room, Vec::new(alloc)));
     assert!(rt; !line.down.load(Ordering::SeqCst));
@@ -124,7 +124,7 @@ pub(crate) fn want_written(rt: &impl Abort, line: Line<Sink>, wanted: &[u8]) {
         stop: _,
     } = line;
     let sink = wire.into_inner().into_tap().into_inner();
-    assert_eq!(rt; sink.octets.as_slice(), wanted);
+    same(rt, sink.octets.as_slice(), wanted);
 }
 
 // Streams and what comes of them: the cause, the counts, and what is written.
@@ -180,9 +180,9 @@ fn streams_that_are_read(rt: HostRuntime) -> Result<(), Fail> {
             producers,
             &line,
         );
-        assert_eq!(rt; end.cause, cause);
-        assert_eq!(rt; counts(&end), wanted);
-        assert_eq!(rt; consumer.pop().is_ok(), end.answered == 1);
+        same(&rt, end.cause, cause);
+        same(&rt, counts(&end), wanted);
+        same(&rt, consumer.pop().is_ok(), end.answered == 1);
         assert!(rt; consumer.pop().is_err());
         want_written(&rt, line, written);
     }
@@ -224,8 +224,8 @@ fn what_came_with_the_answer(rt: HostRuntime) -> Result<(), Fail> {
         let line = line_of(&rt, alloc, 1000, 0);
         let later = source_of(3, b"\x00\x00\x00\x00\x00\x00\x09", false);
         let end = read_from(&rt, alloc, later, bound, Vec::new(alloc), &line);
-        assert_eq!(rt; end.cause, cause);
-        assert_eq!(rt; counts(&end), [0, 0, 0, delivered, 0, 0, 0]);
+        same(&rt, end.cause, cause);
+        same(&rt, counts(&end), [0, 0, 0, delivered, 0, 0, 0]);
         want_written(&rt, line, written);
     }
     Ok(())
@@ -247,7 +247,7 @@ fn answers_that_overrun(rt: HostRuntime) -> Result<(), Fail> {
         Vec::new(alloc),
         &line,
     );
-    assert_eq!(rt; counts(&end), [0, 0, 2, 0, 0, 0, 0]);
+    same(&rt, counts(&end), [0, 0, 2, 0, 0, 0, 0]);
     let bound = bound_as(&rt, alloc, Mode::Transceiver);
     let (producers, _consumer) = ring_of(alloc, 1)?;
     let end = read_from(
@@ -258,7 +258,7 @@ fn answers_that_overrun(rt: HostRuntime) -> Result<(), Fail> {
         producers,
         &line,
     );
-    assert_eq!(rt; counts(&end), [1, 0, 1, 0, 0, 0, 0]);
+    same(&rt, counts(&end), [1, 0, 1, 0, 0, 0, 0]);
     Ok(())
 }
 
@@ -278,7 +278,7 @@ fn readers_that_end_early(rt: HostRuntime) -> Result<(), Fail> {
         let bound = bound_as(&rt, alloc, Mode::Transmitter);
         let source = source_of(idle, ENQUIRE_LINK, true);
         let end = read_from(&rt, alloc, source, bound, Vec::new(alloc), &line);
-        assert_eq!(rt; end.cause, cause);
+        same(&rt, end.cause, cause);
         let written: &[u8] = match cause {
             Cause::WriteFault => &ENQUIRE_LINK_RESP[..10],
             Cause::ReadFault => ENQUIRE_LINK_RESP.as_slice(),
@@ -334,8 +334,8 @@ fn throttling_is_followed(rt: HostRuntime) -> Result<(), Fail> {
             Some(limit),
             10,
         );
-        assert_eq!(rt; end.answered, u64::from(throttled) + u64::from(good));
-        assert_eq!(rt; window.close(end.seat).held, held);
+        same(&rt, end.answered, u64::from(throttled) + u64::from(good));
+        same(&rt, window.close(end.seat).held, held);
     }
     Ok(())
 }
@@ -345,7 +345,7 @@ fn claim(rt: &impl Abort, window: &Window, seat: &mut WindowSeat, slot: u32)
     requires own { seat.old.window ≡ window.now }
     ensures own { seat.new.window ≡ seat.old.window }
 {
-    assert_eq!(rt; window.try_claim(seat), Claim::Got(slot));
+    same(rt, window.try_claim(seat), Claim::Got(slot));
 }
 
 // The seat holds this slot, and releases it.
@@ -392,6 +392,6 @@ fn throttling_beside_a_worker(rt: HostRuntime) -> Result<(), Fail> {
     release(&rt, &window, &mut worker, 1);
     release(&rt, &window, &mut worker, 2);
     window.join(&mut seat, worker);
-    assert_eq!(rt; window.close(seat).held, 0xFFFF_FFFF_FFFF_FFF8);
+    same(&rt, window.close(seat).held, 0xFFFF_FFFF_FFFF_FFF8);
     Ok(())
 }

@@ -1,4 +1,5 @@
 //! Tariffs and what they charge, by worked rows.
+use super::same;
 use crate::error::TariffError;
 use crate::rate::Rate;
 use crate::tariff::Tariff;
@@ -38,7 +39,7 @@ fn the_longest_prefix_costs(rt: HostRuntime) -> Result<(), Fail> {
         ("44+77", 3),
     ];
     for (destination, credits) in rows.as_slice() {
-        assert_eq!(rt; tariff.cost(destination), *credits);
+        same(&rt, tariff.cost(destination), *credits);
     }
     Ok(())
 }
@@ -49,7 +50,7 @@ fn no_prefix_costs_one(rt: HostRuntime) -> Result<(), Fail> {
     let alloc = rt.alloc();
     let tariff = tariff_of(alloc, &[("4477", 5), ("44", 3)])??;
     for destination in ["33", "+4", ""] {
-        assert_eq!(rt; tariff.cost(destination), 1);
+        same(&rt, tariff.cost(destination), 1);
     }
     Ok(())
 }
@@ -57,7 +58,7 @@ fn no_prefix_costs_one(rt: HostRuntime) -> Result<(), Fail> {
 #[test]
 fn no_rate_costs_one(rt: HostRuntime) -> Result<(), Fail> {
     let empty = tariff_of(rt.alloc(), &[])??;
-    assert_eq!(rt; empty.cost("+447700900123"), 1);
+    same(&rt, empty.cost("+447700900123"), 1);
     Ok(())
 }
 
@@ -66,9 +67,9 @@ fn no_rate_costs_one(rt: HostRuntime) -> Result<(), Fail> {
 fn a_prefix_has_20_digits(rt: HostRuntime) -> Result<(), Fail> {
     let alloc = rt.alloc();
     let tariff = tariff_of(alloc, &[("01234567890123456789", 1_000), ("0", 2)])??;
-    assert_eq!(rt; tariff.cost("01234567890123456789"), 1_000);
-    assert_eq!(rt; tariff.cost("+0123456789012345678999"), 1_000);
-    assert_eq!(rt; tariff.cost("0123456789012345678"), 2);
+    same(&rt, tariff.cost("01234567890123456789"), 1_000);
+    same(&rt, tariff.cost("+0123456789012345678999"), 1_000);
+    same(&rt, tariff.cost("0123456789012345678"), 2);
     Ok(())
 }
 
@@ -83,7 +84,7 @@ fn want_refusal(
         Err(fault) => Some(fault),
         Ok(_) => None,
     };
-    assert_eq!(rt; fault, wanted);
+    same(rt, fault, wanted);
     Ok(())
 }
 
@@ -143,16 +144,16 @@ fn a_thousand_rates(rt: HostRuntime) -> Result<(), Fail> {
     let tariff = Tariff::new(alloc, rates.as_slice())?;
     for number in 0..1_000u32 {
         let destination = format!(in alloc; "+{number}")?;
-        assert_eq!(rt; tariff.cost(destination.as_str()), 1 + number);
+        same(&rt, tariff.cost(destination.as_str()), 1 + number);
     }
-    assert_eq!(rt; tariff.cost("9990"), 1_000);
+    same(&rt, tariff.cost("9990"), 1_000);
     Ok(())
 }
 
 // A refusal of rates says this.
 fn want_text(rt: &impl Abort, alloc: Global, fault: TariffError, wanted: &str) -> Result<(), Fail> {
     let text = format!(in alloc; "{fault}")?;
-    assert_eq!(rt; text.as_str(), wanted);
+    same(rt, text.as_str(), wanted);
     Ok(())
 }
 

@@ -1,7 +1,7 @@
 //! Money that several threads move under the book's lock.
 ghost use Rattle.std.specs.Prelude.{◌≡◌};
 
-use super::{blank_of, only_row, row_of};
+use super::{blank_of, only_row, row_of, same};
 use crate::blank::Blank;
 use crate::book::Book;
 use crate::error::BookError;
@@ -100,14 +100,15 @@ fn many<N: BookName + Send + Sync, R: Abort + Threads + Wait + Sync>(
             && row.returned == returned
             && charged > 0
     );
-    assert_eq!(rt;
+    same(
+        rt,
         (
             row.topped,
             row.free
                 .wrapping_add(row.reserved)
-                .wrapping_add(row.charged)
+                .wrapping_add(row.charged),
         ),
-        (5000, 5000)
+        (5000, 5000),
     );
     Ok(())
 }
@@ -156,9 +157,9 @@ fn last<N: BookName + Send + Sync, R: Abort + Threads + Wait + Sync>(
         winners = winners.wrapping_add(won as usize);
         shares.push(share)?;
     }
-    assert_eq!(rt; winners, 1);
+    same(rt, winners, 1);
     let row = row_of([1, 0, 0, 1, 0]);
-    assert_eq!(rt; only_row(rt, book.into_inner(), till, shares), row);
+    same(rt, only_row(rt, book.into_inner(), till, shares), row);
     Ok(())
 }
 

@@ -1,5 +1,5 @@
 //! The pipe, from both ends, and the fuse.
-use super::{ANSWER, SUBMIT, good};
+use super::{ANSWER, SUBMIT, good, same};
 use crate::{Cause, Fuse, Pipe, serve};
 use std::io::{ErrorKind, Read, Write};
 use std::process::Abort;
@@ -24,7 +24,7 @@ fn reads(rt: &impl Abort, reader: &mut impl Read, room: usize, wanted: &[u8]) {
     let Ok(n) = reader.read(&mut buf[..room.min(8)]) else {
         panic!(rt; "nothing is read")
     };
-    assert_eq!(rt; &buf[..n.min(8)], wanted);
+    same(rt, &buf[..n.min(8)], wanted);
 }
 
 #[test]
@@ -57,10 +57,10 @@ fn a_centre_behind_pipes(rt: HostRuntime) -> Result<(), Fail> {
     takes(&rt, &mut there.end(&rt), SUBMIT, 52);
     there.close(&rt);
     let end = serve(alloc, &mut there.end(&rt), &mut back.end(&rt), script, 10);
-    assert_eq!(rt; (end.submits, end.cause), (1, Cause::Ended));
+    same(&rt, (end.submits, end.cause), (1, Cause::Ended));
     let mut buf = [0u8; 32];
     assert!(rt; matches!(back.end(&rt).read(&mut buf), Ok(19)));
-    assert_eq!(rt; &buf[..19], ANSWER.as_slice());
+    same(&rt, &buf[..19], ANSWER.as_slice());
     Ok(())
 }
 
@@ -78,6 +78,6 @@ fn a_fuse_passes_so_many_octets(rt: HostRuntime) -> Result<(), Fail> {
     takes(&rt, &mut fuse, b"cd", 1);
     assert!(rt; fuse.write(b"e").is_err());
     assert!(rt; fuse.flush().is_ok());
-    assert_eq!(rt; out.as_slice(), b"abc".as_slice());
+    same(&rt, out.as_slice(), b"abc".as_slice());
     Ok(())
 }

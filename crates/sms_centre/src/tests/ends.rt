@@ -1,5 +1,5 @@
 //! How serving ends, and what is written then.
-use super::{ANSWER, SUBMIT, bare, good, served};
+use super::{ANSWER, SUBMIT, bare, good, same, served};
 use crate::{Cause, Fuse, ServeEnd, serve};
 use std::alloc::Global;
 use std::io;
@@ -52,14 +52,15 @@ fn a_bad_length_and_the_turns(rt: HostRuntime) -> Result<(), Fail> {
         stream.extend_from_slice(&bare(0x15, 0, 9))?;
         stream.extend_from_slice(&length.to_be_bytes())?;
         let (out, end) = served(alloc, "answers = [\"cut\"]", stream.as_slice())?;
-        assert_eq!(rt;
+        same(
+            &rt,
             end,
             ServeEnd {
                 submits: 0,
-                cause: Cause::Lost
-            }
+                cause: Cause::Lost,
+            },
         );
-        assert_eq!(rt; out.as_slice(), bare(0x8000_0015, 0, 9).as_slice());
+        same(&rt, out.as_slice(), bare(0x8000_0015, 0, 9).as_slice());
     }
     for turns in [0u64, 1, 103, 104, 105, 106] {
         let mut reader = Drops {
@@ -74,8 +75,8 @@ fn a_bad_length_and_the_turns(rt: HostRuntime) -> Result<(), Fail> {
         } else {
             Cause::Ended
         };
-        assert_eq!(rt; end, ServeEnd { submits, cause });
-        assert_eq!(rt; out.len(), 19 * submits as usize);
+        same(&rt, end, ServeEnd { submits, cause });
+        same(&rt, out.len(), 19 * submits as usize);
     }
     Ok(())
 }
@@ -93,14 +94,19 @@ fn one_write_for_one_read(rt: HostRuntime) -> Result<(), Fail> {
         octets: 0,
     };
     let end = serve(alloc, &mut reader, &mut writer, good(alloc)?, 10);
-    assert_eq!(rt;
+    same(
+        &rt,
         end,
         ServeEnd {
             submits: 100,
-            cause: Cause::Ended
-        }
+            cause: Cause::Ended,
+        },
     );
-    assert_eq!(rt; (writer.writes, writer.octets), (1, 9 * 19 + 90 * 20 + 21));
+    same(
+        &rt,
+        (writer.writes, writer.octets),
+        (1, 9 * 19 + 90 * 20 + 21),
+    );
     Ok(())
 }
 
@@ -114,9 +120,9 @@ fn want_read_fault(rt: &impl Abort, alloc: Global, octets: u64) -> Result<(), Fa
     } else {
         Cause::Ended
     };
-    assert_eq!(rt; end.cause, cause);
+    same(rt, end.cause, cause);
     let written = if octets < 52 { 0 } else { 19 };
-    assert_eq!(rt; out.as_slice(), &ANSWER[..written]);
+    same(rt, out.as_slice(), &ANSWER[..written]);
     Ok(())
 }
 
@@ -131,9 +137,9 @@ fn want_write_fault(rt: &impl Abort, alloc: Global, octets: usize) -> Result<(),
     } else {
         Cause::Ended
     };
-    assert_eq!(rt; (end.submits, end.cause), (1, cause));
+    same(rt, (end.submits, end.cause), (1, cause));
     let most = octets.min(19);
-    assert_eq!(rt; out.as_slice(), &ANSWER[..most]);
+    same(rt, out.as_slice(), &ANSWER[..most]);
     Ok(())
 }
 

@@ -1,7 +1,7 @@
 //! Memory that is refused, one allocation after another: `tools/refuse-memory` runs each of these once
 //! for each of its allocations, and where memory is refused before the call that is tested, it ends
 //! there.
-use super::{ANSWER, SUBMIT};
+use super::{ANSWER, SUBMIT, same};
 use crate::{Cause, Centre, Script, ScriptError, serve};
 use sms_pdu::Frame;
 
@@ -47,14 +47,14 @@ fn memory_of_an_answer(rt: HostRuntime) {
     let pieces = match centre.answer(alloc, &frame) {
         Ok(pieces) => pieces,
         Err(_refused) => {
-            assert_eq!(rt; centre.submits(), 0);
+            same(&rt, centre.submits(), 0);
             let Ok(pieces) = centre.answer(alloc, &frame) else {
                 panic!(rt; "no memory twice")
             };
             pieces
         }
     };
-    assert_eq!(rt; centre.submits(), 1);
+    same(&rt, centre.submits(), 1);
     assert!(rt; pieces.len() == 1 && pieces[0].as_slice() == ANSWER.as_slice());
 }
 
@@ -78,10 +78,14 @@ fn memory_of_serving(rt: HostRuntime) {
     let mut reader = input.as_slice();
     let end = serve(alloc, &mut reader, &mut out, script, 10);
     match end.cause {
-        Cause::Ended => assert_eq!(rt; (end.submits, out.len()), (2, 38)),
+        Cause::Ended => same(&rt, (end.submits, out.len()), (2, 38)),
         cause => {
-            assert_eq!(rt; cause, Cause::OutOfMemory);
-            assert_eq!(rt; (out.len() / 19, out.len() % 19), (end.submits as usize, 0));
+            same(&rt, cause, Cause::OutOfMemory);
+            same(
+                &rt,
+                (out.len() / 19, out.len() % 19),
+                (end.submits as usize, 0),
+            );
         }
     }
     assert!(rt; wanted.starts_with(out.as_slice()));

@@ -1,5 +1,5 @@
 //! Scripts: what each text makes the centre write, and which texts and keys are refused.
-use super::{ANSWER, bare, served};
+use super::{ANSWER, bare, same, served};
 use crate::{Cause, Script, ScriptError};
 use std::alloc::{AllocError, Global};
 use std::process::Abort;
@@ -56,9 +56,9 @@ fn want_octets(
     submits: u64,
 ) -> Result<(), Fail> {
     let (out, end) = served(alloc, script, &two_submits(alloc)?)?;
-    assert_eq!(rt; out.as_slice(), wanted);
-    assert_eq!(rt; end.submits, submits);
-    assert_eq!(rt; end.cause, Cause::Ended);
+    same(rt, out.as_slice(), wanted);
+    same(rt, end.submits, submits);
+    same(rt, end.cause, Cause::Ended);
     Ok(())
 }
 
@@ -111,11 +111,12 @@ const OTHERS: &[(u32, u32)] = &[(0x8000_0015, 0), (0x8000_0000, 3), (0x8000_0006
 // By this script the requests get these answers to the binds, and then the others.
 fn want_answers(rt: &impl Abort, alloc: Global, script: &str, binds: &[u8]) -> Result<(), Fail> {
     let (out, end) = served(alloc, script, &bares(alloc, REQUESTS)?)?;
-    assert_eq!(rt; (end.submits, end.cause), (0, Cause::Unbound));
+    same(rt, (end.submits, end.cause), (0, Cause::Unbound));
     assert!(rt; out.starts_with(binds));
-    assert_eq!(rt;
+    same(
+        rt,
         &out[binds.len().min(out.len())..],
-        bares(alloc, OTHERS)?.as_slice()
+        bares(alloc, OTHERS)?.as_slice(),
     );
     Ok(())
 }

@@ -2,7 +2,7 @@
 
 use super::super::*;
 use super::{
-    ESME, HI, NUMBER, SUBMIT, decoded, esme, hi, length_of, one_parameter, pdu, want_octets,
+    ESME, HI, NUMBER, SUBMIT, decoded, esme, hi, length_of, one_parameter, pdu, same, want_octets,
     with_header, written, written_again,
 };
 use std::alloc::Global;
@@ -17,10 +17,10 @@ fn written_as(
     fields: &PduRef<'_>,
 ) -> Result<(), Fail> {
     let mut out = Vec::from_slice(alloc, b"before")?;
-    assert_eq!(rt; length_of(fields)?, octets.len());
-    assert_eq!(rt; written(&mut out, fields)?, octets.len());
+    same(rt, length_of(fields)?, octets.len());
+    same(rt, written(&mut out, fields)?, octets.len());
     assert!(rt; out.as_slice().starts_with(b"before"));
-    assert_eq!(rt; out.get(6..), Some(octets));
+    same(rt, out.get(6..), Some(octets));
     Ok(())
 }
 
@@ -37,7 +37,7 @@ fn both_ways(
     let fields = pdu(status, fields);
     written_as(rt, alloc, octets.as_slice(), &fields)?;
     let again = written_again(alloc, octets.as_slice())?;
-    assert_eq!(rt; again.as_slice(), octets.as_slice());
+    same(rt, again.as_slice(), octets.as_slice());
     Ok(())
 }
 
@@ -163,7 +163,7 @@ fn an_owned_pdu(rt: HostRuntime) -> Result<(), Fail> {
     let message_id = Octets::copy(rt.alloc(), b"m1")?;
     let written = resp_octets(rt.alloc(), message_id)?;
     let octets = b"\x00\x00\x00\x13\x80\x00\x00\x05\x00\x00\x00\x58\x01\x02\x03\x04m1\x00";
-    assert_eq!(rt; written.as_slice(), octets.as_slice());
+    same(&rt, written.as_slice(), octets.as_slice());
     Ok(())
 }
 
@@ -180,7 +180,7 @@ fn fields_of_a_submit_sm(rt: HostRuntime) -> Result<(), Fail> {
     let sm = read_sm(rt.alloc(), SUBMIT)?;
     want_octets(&rt, sm.source_addr.as_slice(), b"12345");
     want_octets(&rt, sm.dest_addr.as_slice(), b"447700900123");
-    assert_eq!(rt; (sm.source_ton, sm.dest_npi, sm.data_coding), (1, 1, 0));
+    same(&rt, (sm.source_ton, sm.dest_npi, sm.data_coding), (1, 1, 0));
     want_octets(&rt, sm.short_message.as_slice(), b"Hi");
     Ok(())
 }

@@ -1,7 +1,7 @@
 //! PDUs of 70,000 octets, and of one more.
 
 use super::super::*;
-use super::{decode_error, length_of, pdu, want_error, written, written_again};
+use super::{decode_error, length_of, pdu, same, want_error, written, written_again};
 use std::alloc::Global;
 use std::test::*;
 
@@ -35,9 +35,9 @@ fn resp(params: &Params) -> PduRef<'_> {
 fn the_longest_pdu(rt: HostRuntime) -> Result<(), Fail> {
     let params = two_parameters(rt.alloc(), 9_975)?;
     let mut octets = Vec::new(rt.alloc());
-    assert_eq!(rt; written(&mut octets, &resp(&params))?, 70_000);
+    same(&rt, written(&mut octets, &resp(&params))?, 70_000);
     let again = written_again(rt.alloc(), octets.as_slice())?;
-    assert_eq!(rt; again.as_slice(), octets.as_slice());
+    same(&rt, again.as_slice(), octets.as_slice());
     Ok(())
 }
 

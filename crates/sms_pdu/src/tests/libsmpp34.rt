@@ -2,7 +2,7 @@
 //! source package, test_pdu/NAME_test.c, print where they are built with that package; NAME stands at each. The fields
 //! are those that the program fills in. The library puts the parameters in the opposite order.
 
-use super::{decoded, want_octets};
+use super::{decoded, same, want_octets};
 use crate::*;
 use std::alloc::Global;
 use std::process::Abort;
@@ -72,7 +72,7 @@ fn encoded(alloc: Global, pdu: &Pdu) -> Result<Vec<u8>, Fail> {
 
 // The PDU is the first of its library, and is written as these octets again.
 fn is_written(rt: &impl Abort, alloc: Global, pdu: &Pdu, octets: &[u8]) -> Result<(), Fail> {
-    assert_eq!(rt; (pdu.status, pdu.number), (0, 1));
+    same(rt, (pdu.status, pdu.number), (0, 1));
     let again = encoded(alloc, pdu)?;
     want_octets(rt, &again, octets);
     Ok(())
@@ -83,7 +83,7 @@ fn has_param(rt: &impl Abort, params: &Params, place: usize, tag: u16, value: &[
     let Some(param) = params.as_slice().get(place) else {
         panic!(rt; "no parameter {place}")
     };
-    assert_eq!(rt; param.tag, tag);
+    same(rt, param.tag, tag);
     want_octets(rt, param.value.as_slice(), value);
 }
 
@@ -91,12 +91,12 @@ fn is_bind(rt: &impl Abort, body: &Body, told: Mode, secret: &[u8]) -> Result<()
     let BodyRef::Bind(bind) = body.as_ref() else {
         return Err("no bind".into());
     };
-    assert_eq!(rt; bind.mode, told);
+    same(rt, bind.mode, told);
     want_octets(rt, bind.system_id, b"system_id");
     want_octets(rt, bind.password, secret);
     want_octets(rt, bind.system_type, b"syst");
-    assert_eq!(rt; bind.interface_version, 0x34);
-    assert_eq!(rt; (bind.addr_ton, bind.addr_npi), (2, 1));
+    same(rt, bind.interface_version, 0x34);
+    same(rt, (bind.addr_ton, bind.addr_npi), (2, 1));
     want_octets(rt, bind.address_range, b"address_range");
     Ok(())
 }
@@ -110,9 +110,9 @@ fn is_bind_resp(rt: &impl Abort, body: &Body, told: Mode) -> Result<(), Fail> {
     else {
         return Err("no answer to a bind".into());
     };
-    assert_eq!(rt; *mode, told);
+    same(rt, *mode, told);
     want_octets(rt, system_id.as_slice(), b"system_id");
-    assert_eq!(rt; params.as_slice().len(), 1);
+    same(rt, params.as_slice().len(), 1);
     has_param(rt, params, 0, 0x0210, &[0x34]);
     Ok(())
 }
@@ -145,7 +145,7 @@ fn is_message(rt: &impl Abort, sm: &Sm) {
 fn is_between(rt: &impl Abort, sm: &Sm, service: &[u8], source: &[u8], dest_npi: u8, dest: &[u8]) {
     want_octets(rt, sm.service_type.as_slice(), service);
     want_octets(rt, sm.source_addr.as_slice(), source);
-    assert_eq!(rt; sm.dest_npi, dest_npi);
+    same(rt, sm.dest_npi, dest_npi);
     want_octets(rt, sm.dest_addr.as_slice(), dest);
 }
 
@@ -160,7 +160,7 @@ fn is_submit_sm(rt: &impl Abort, body: &Body) -> Result<(), Fail> {
     let sm = submit_of(body)?;
     is_message(rt, sm);
     is_between(rt, sm, b"SMS", b"09000011111", 0, b"1121312309000");
-    assert_eq!(rt; sm.params.as_slice().len(), 2);
+    same(rt, sm.params.as_slice().len(), 2);
     has_param(rt, &sm.params, 0, 0x0424, NAME);
     has_param(rt, &sm.params, 1, 0x0204, &[0, 0x24]);
     Ok(())
@@ -177,7 +177,7 @@ fn is_deliver_sm(rt: &impl Abort, body: &Body) -> Result<(), Fail> {
     let sm = deliver_of(body)?;
     is_message(rt, sm);
     is_between(rt, sm, b"CMT", b"0900001111", 1, b"0900001111");
-    assert_eq!(rt; sm.params.as_slice().len(), 3);
+    same(rt, sm.params.as_slice().len(), 3);
     has_param(rt, &sm.params, 0, 0x1501, NAME);
     has_param(rt, &sm.params, 1, 0x0424, NAME);
     has_param(rt, &sm.params, 2, 0x0204, &[0, 0x24]);
@@ -214,7 +214,7 @@ fn bare_command(body: &Body) -> Option<Command> {
 }
 
 fn is_bare(rt: &impl Abort, body: &Body, command: Command) -> Result<(), Fail> {
-    assert_eq!(rt; bare_command(body), Some(command));
+    same(rt, bare_command(body), Some(command));
     Ok(())
 }
 

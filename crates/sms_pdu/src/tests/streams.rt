@@ -4,7 +4,7 @@ ghost use Rattle.std.specs.Prelude.{None};
 ghost use Rattle.std.specs.Io.{WritesAtMost};
 ghost use Rattle.std.specs.Io.KnownBytes.{Keeps, WriteAppends};
 
-use super::{ENQUIRE_LINK, SUBMIT, put, want_octets};
+use super::{ENQUIRE_LINK, SUBMIT, put, same, want_octets};
 use crate::*;
 use std::alloc::{AllocError, Global};
 use std::io::{self, Error, ErrorKind, Write};
@@ -16,16 +16,18 @@ fn headers(rt: HostRuntime) -> Result<(), Fail> {
     assert!(rt; header_of(&ENQUIRE_LINK[..15]).is_none());
     let octets = b"\x00\x00\x00\x10\x00\x00\x01\x03\x00\x00\x00\x07\x01\x02\x03\x04";
     let header = header_of(octets).ok_or("16 octets are a header")?;
-    assert_eq!(rt;
+    same(
+        &rt,
         (header.length, header.command, header.status, header.number),
-        (16, 0x103, 7, 0x0102_0304)
+        (16, 0x103, 7, 0x0102_0304),
     );
-    assert_eq!(rt; Command::of(header.command), None);
-    assert_eq!(rt;
+    same(&rt, Command::of(header.command), None);
+    same(
+        &rt,
         Command::of(0x8000_0009),
-        Some(Command::BindTransceiverResp)
+        Some(Command::BindTransceiverResp),
     );
-    assert_eq!(rt; Command::EnquireLink.id(), 0x15);
+    same(&rt, Command::EnquireLink.id(), 0x15);
     Ok(())
 }
 
@@ -42,8 +44,8 @@ fn replies(rt: HostRuntime) -> Result<(), Fail> {
     ];
     for (octets, numbers, id) in table {
         let reply = reply_of(octets).ok_or("an answer")?;
-        assert_eq!(rt; (reply.number, reply.status, reply.nack), numbers);
-        assert_eq!(rt; reply.id.as_slice(), id);
+        same(&rt, (reply.number, reply.status, reply.nack), numbers);
+        same(&rt, reply.id.as_slice(), id);
     }
     assert!(rt; reply_of(&ENQUIRE_LINK).is_none());
     Ok(())
@@ -70,7 +72,7 @@ fn is_cut(rt: &impl Abort, alloc: Global, stream: &[u8], length: usize) -> Resul
     for piece in stream.chunks(length.max(1)) {
         count = count.saturating_add(submits_in(rt, &mut framer, piece)?);
     }
-    assert_eq!(rt; count, 1, "pieces of {length}");
+    same(rt, (length, count), (length, 1));
     assert!(rt; framer.fault().is_none());
     want_octets(rt, framer.rest(), &ENQUIRE_LINK[..15]);
     want_octets(rt, &framer.into_rest(), &ENQUIRE_LINK[..15]);
@@ -96,8 +98,8 @@ fn is_bad_behind(
     frames: usize,
 ) -> Result<(), Fail> {
     let fed = fed(framer, piece)?;
-    assert_eq!(rt; fed.frames.len(), frames);
-    assert_eq!(rt; fed.fault, Some(FrameFault::BadLength));
+    same(rt, fed.frames.len(), frames);
+    same(rt, fed.fault, Some(FrameFault::BadLength));
     Ok(())
 }
 
@@ -108,7 +110,7 @@ fn a_bad_length_ends_the_stream(rt: HostRuntime) -> Result<(), Fail> {
     let mut framer = Framer::new(rt.alloc());
     is_bad_behind(&rt, &mut framer, &piece, 1)?;
     is_bad_behind(&rt, &mut framer, &ENQUIRE_LINK, 0)?;
-    assert_eq!(rt; framer.fault(), Some(FrameFault::BadLength));
+    same(&rt, framer.fault(), Some(FrameFault::BadLength));
     Ok(())
 }
 
@@ -131,10 +133,10 @@ fn the_longest_frame(rt: HostRuntime) -> Result<(), Fail> {
     octets.resize(70_000, 0)?;
     assert!(rt; is_frame(&octets));
     for length in [3usize, 69_999, 70_000] {
-        assert_eq!(rt;
-            frames_of(&rt, rt.alloc(), &octets, length)?,
-            1,
-            "pieces of {length}"
+        same(
+            &rt,
+            (length, frames_of(&rt, rt.alloc(), &octets, length)?),
+            (length, 1),
         );
     }
     Ok(())
@@ -154,8 +156,8 @@ fn a_frame_too_long(rt: HostRuntime) -> Result<(), Fail> {
 fn the_first_frame(rt: HostRuntime) -> Result<(), Fail> {
     let mut stream = Vec::from_slice(rt.alloc(), SUBMIT)?;
     put(&mut stream, &ENQUIRE_LINK)?;
-    assert_eq!(rt; first_frame(&stream), Some(SUBMIT.len()));
-    assert_eq!(rt; first_frame(&SUBMIT[..51]), None);
+    same(&rt, first_frame(&stream), Some(SUBMIT.len()));
+    same(&rt, first_frame(&SUBMIT[..51]), None);
     assert!(rt; !is_bad(&stream));
     Ok(())
 }
@@ -171,9 +173,9 @@ fn frames_in_order(rt: HostRuntime) -> Result<(), Fail> {
     put(&mut stream, &ENQUIRE_LINK)?;
     let mut frames = Frames::new(frames_in(rt.alloc(), &stream)?.into_vec());
     let first = frames.take_first().ok_or("a first frame")?;
-    assert_eq!(rt; first.header().number, 2);
+    same(&rt, first.header().number, 2);
     want_octets(&rt, first.as_slice(), SUBMIT);
-    assert_eq!(rt; frames.len(), 1);
+    same(&rt, frames.len(), 1);
     let second = frames.take_first().ok_or("a second frame")?.into_vec();
     assert!(rt; is_frame(&second));
     want_octets(&rt, &second, &ENQUIRE_LINK);
@@ -220,8 +222,8 @@ fn written_whole_or_in_part(rt: HostRuntime) -> Result<(), Fail> {
         writes: 8,
     };
     assert!(rt; write_octets(&mut writer, &ENQUIRE_LINK).is_ok());
-    assert_eq!(rt; writer.written.as_slice(), ENQUIRE_LINK.as_slice());
+    same(&rt, writer.written.as_slice(), ENQUIRE_LINK.as_slice());
     assert!(rt; write_octets(&mut writer, &ENQUIRE_LINK).is_err());
-    assert_eq!(rt; writer.written.len(), 22);
+    same(&rt, writer.written.len(), 22);
     Ok(())
 }

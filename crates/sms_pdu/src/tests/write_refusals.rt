@@ -1,7 +1,7 @@
 //! Values that no PDU has: each is refused by its field, and nothing is written.
 
 use super::super::*;
-use super::{esme, hi, length_of, one_parameter, pdu, want_error, written};
+use super::{esme, hi, length_of, one_parameter, pdu, same, want_error, written};
 use std::alloc::Global;
 use std::process::Abort;
 use std::test::*;
@@ -18,7 +18,7 @@ fn refused(
     let mut out = Vec::from_slice(alloc, b"before")?;
     want_error(rt, length_of(&fields).err(), Some(error));
     want_error(rt, written(&mut out, &fields).err(), Some(error));
-    assert_eq!(rt; out.as_slice(), b"before".as_slice());
+    same(rt, out.as_slice(), b"before".as_slice());
     Ok(())
 }
 

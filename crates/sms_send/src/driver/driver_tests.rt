@@ -1,6 +1,7 @@
 //! Whole sendings, over pipes in memory.
 use crate::driver::bind_end::{BindEnd, Unbinding};
 use crate::driver::{Dial, Habits, SendFault, Sending, drive_all};
+use crate::same::same;
 use sms_bind::Settings;
 use sms_book::{Opening, Statement, Tariff};
 use sms_centre::{Cause, Pipe, PipeEnd, Script, ServeEnd, serve};
@@ -218,7 +219,7 @@ const REFUSES: &str = "bind_status = 14\nanswers = [\"status 0\"]";
 
 // That a bind had two workers and was unbound.
 fn want_unbound(rt: &impl Abort, bind: &BindEnd) {
-    assert_eq!(rt; bind.workers, 2);
+    same(rt, bind.workers, 2);
     match bind.unbinding {
         Unbinding::Sent(_) => {}
         Unbinding::NotYet | Unbinding::Failed(_) | Unbinding::Unasked(_) => {
@@ -229,10 +230,10 @@ fn want_unbound(rt: &impl Abort, bind: &BindEnd) {
 
 // That the message of this place was charged.
 fn want_charged(rt: &impl Abort, end: &MessageEnd, place: usize) {
-    assert_eq!(rt; end.index, place as u64);
+    same(rt, end.index, place as u64);
     match &end.result {
         MessageResult::Sent(segments) => match segments.as_slice().first() {
-            Some(segment) => assert_eq!(rt; segment.outcome, Outcome::Charged),
+            Some(segment) => same(rt, segment.outcome, Outcome::Charged),
             None => panic!(rt; "no segment"),
         },
         MessageResult::Refused(_) => panic!(rt; "refused"),
@@ -244,18 +245,18 @@ fn want_9_charged(rt: &impl Abort, statement: &Statement) {
     let Some(row) = statement.rows().first() else {
         panic!(rt; "no row")
     };
-    assert_eq!(rt; (row.topped, row.free, row.reserved), (20, 11, 0));
-    assert_eq!(rt; (row.charged, row.returned), (9, 0));
+    same(rt, (row.topped, row.free, row.reserved), (20, 11, 0));
+    same(rt, (row.charged, row.returned), (9, 0));
 }
 
 // That all nine messages were charged over two binds.
 fn want_all_charged(rt: &impl Abort, sending: &Sending) {
-    assert_eq!(rt; sending.ends.len(), 9);
+    same(rt, sending.ends.len(), 9);
     for place in 0..sending.ends.len() {
         want_charged(rt, &sending.ends[place], place);
     }
     want_9_charged(rt, &sending.statement);
-    assert_eq!(rt; sending.binds.len(), 2);
+    assert!(rt; sending.binds.len() == 2);
     for bind in &sending.binds {
         want_unbound(rt, bind);
     }
@@ -279,10 +280,11 @@ fn two_binds_of_two_workers(rt: HostRuntime) -> Result<(), Fail> {
         Err(fault) => return Err(Fail::new(fault)),
     }
     // messages 0, 1, 4, 5 and 8 went over the first bind
-    assert_eq!(rt; (first.submits, second.submits), (5, 4));
-    assert_eq!(rt;
+    same(&rt, (first.submits, second.submits), (5, 4));
+    same(
+        &rt,
         (first.cause, second.cause),
-        (Cause::Unbound, Cause::Unbound)
+        (Cause::Unbound, Cause::Unbound),
     );
     Ok(())
 }
@@ -328,14 +330,14 @@ const REFUSALS: [Refusal<'static>; 4] = [
 fn want_fault(rt: &impl Abort, ended: &Result<Sending, SendFault>, fault: SendFault) {
     match ended {
         Ok(_ended) => panic!(rt; "no fault"),
-        Err(told) => assert_eq!(rt; *told, fault),
+        Err(told) => same(rt, *told, fault),
     }
 }
 
 // That nothing was sent, and that the centres ended for these causes.
 fn want_none_sent(rt: &impl Abort, done: &Done, causes: (Cause, Cause)) {
-    assert_eq!(rt; (done.first.submits, done.second.submits), (0, 0));
-    assert_eq!(rt; (done.first.cause, done.second.cause), causes);
+    same(rt, (done.first.submits, done.second.submits), (0, 0));
+    same(rt, (done.first.cause, done.second.cause), causes);
 }
 
 // Nothing is sent where a bind fails, and those made before it are unbound.

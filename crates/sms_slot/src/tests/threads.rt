@@ -1,5 +1,5 @@
 //! A reader of answers and a worker on one row.
-use super::{reply_to, rings};
+use super::{reply_to, rings, same};
 use crate::{Search, SlotRow, Taken};
 use rtrb::{Consumer, Producer};
 use sms_pdu::Reply;
@@ -50,12 +50,13 @@ fn take_some<R: Wait>(rt: &R, row: &SlotRow, slot: u32, number: u32) -> Taken {
 fn answer_all<R: Wait + Abort>(rt: &R, row: &SlotRow, producers: &mut [Producer<Reply>]) {
     for number in 0..ROUNDS {
         let search = answer_some(rt, row, reply_to(rt, number), producers);
-        assert_eq!(rt;
+        same(
+            rt,
             search,
             Search::Found {
                 slot: number % 64,
-                worker: 0
-            }
+                worker: 0,
+            },
         );
     }
 }
@@ -65,9 +66,9 @@ fn answer_all<R: Wait + Abort>(rt: &R, row: &SlotRow, producers: &mut [Producer<
 fn work_all<R: Wait + Abort>(rt: &R, row: &SlotRow, mut consumer: Consumer<Reply>) {
     for number in 0..ROUNDS {
         let slot = number % 64;
-        assert_eq!(rt; row.post(rt, slot, 0, number), Ok(()));
-        assert_eq!(rt; take_some(rt, row, slot, number), Taken::Got);
-        assert_eq!(rt; consumer.pop().ok(), Some(reply_to(rt, number)));
+        same(rt, row.post(rt, slot, 0, number), Ok(()));
+        same(rt, take_some(rt, row, slot, number), Taken::Got);
+        same(rt, consumer.pop().ok(), Some(reply_to(rt, number)));
     }
 }
 

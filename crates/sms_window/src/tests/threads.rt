@@ -2,7 +2,7 @@
 ghost use Rattle.std.specs.Prelude.{◌≡◌, ◌+◌, ◌^◌, [], ◌∷◌, ◌++◌, All, IfOk, IfSome, IfNone};
 ghost use Rattle.sms_window.specs.Seats.{Holds, met_with, with_slots};
 
-use super::seats_of;
+use super::{same, seats_of};
 use crate::{Claim, Draw, Window, WindowSeat};
 use std::alloc::{AllocError, Global};
 use std::process::Abort;
@@ -135,10 +135,10 @@ fn join_all(
 fn want_all_numbers(rt: &impl Abort, numbers: &[u32], count: usize) -> u32 {
     let mut next = 1u32;
     for number in numbers {
-        assert_eq!(rt; *number, next, "of {count}");
+        same(rt, (count, *number), (count, next));
         next = next.wrapping_add(1);
     }
-    assert_eq!(rt; numbers.len(), count);
+    same(rt, numbers.len(), count);
     next
 }
 
@@ -165,7 +165,7 @@ fn want_each_once<R: Abort + Threads + Wait + Sync>(
     };
     let next = want_all_numbers(rt, &numbers, threads.wrapping_mul(rounds as usize));
     let closed = window.close(keeper);
-    assert_eq!(rt; (closed.held, closed.next), (held, u64::from(next)));
+    same(rt, (closed.held, closed.next), (held, u64::from(next)));
 }
 
 #[test]
@@ -239,6 +239,6 @@ fn claims_and_draws_contend(rt: HostRuntime) -> Result<(), Fail> {
     window.join(&mut keeper, first.0);
     window.join(&mut keeper, second.0);
     let closed = window.close(keeper);
-    assert_eq!(rt; closed.held, 0xFFFF_FFFF_FFFF_FFFC);
+    same(&rt, closed.held, 0xFFFF_FFFF_FFFF_FFFC);
     Ok(())
 }

@@ -1,6 +1,7 @@
 //! What becomes of a segment by its answers, and what it costs.
 use super::{
-    Case, Done, OK, PLAIN, SILENT, THROTTLED, messages_of, push_message, run, want_row, want_sent,
+    Case, Done, OK, PLAIN, SILENT, THROTTLED, messages_of, push_message, run, same, want_row,
+    want_sent,
 };
 use crate::{MessageResult, Outcome};
 use std::process::Abort;
@@ -77,7 +78,7 @@ fn many_throttled_messages_are_charged(rt: HostRuntime) -> Result<(), Fail> {
                 .as_slice()
                 .iter()
                 .all(|segment| segment.outcome == Outcome::Charged);
-            assert!(rt; charged, "message {place}");
+            same(&rt, (place, charged), (place, true));
         }
     }
     want_row(&rt, &done, (0, 0, 30, 0));
@@ -137,7 +138,7 @@ fn number_of(rt: &impl Abort, done: &Done, place: usize, attempt: usize) -> u32 
 }
 
 fn want_number(rt: &impl Abort, done: &Done, place: usize, attempt: usize, wanted: usize) {
-    assert_eq!(rt; number_of(rt, done, place, attempt) as usize, wanted);
+    same(rt, number_of(rt, done, place, attempt) as usize, wanted);
 }
 
 // A pause takes 10 ms, in which the open request is answered, and a retry waits for 100. Until then new

@@ -2,7 +2,7 @@
 //! message has its end, and the row is what the ends add up to.
 use super::sums::sums;
 use super::{
-    Case, Done, OK, PLAIN, THROTTLED, message, messages_of, push_message, row_of, try_run,
+    Case, Done, OK, PLAIN, THROTTLED, message, messages_of, push_message, row_of, same, try_run,
 };
 use crate::{Message, MessageEnd, MessageRefusal, MessageResult};
 use std::alloc::{AllocError, Global};
@@ -17,13 +17,13 @@ fn is_named(end: &MessageEnd) -> bool {
 }
 
 fn want_agreement(rt: &impl Abort, done: &Done, messages: usize, credits: u64) {
-    assert_eq!(rt; done.ends.len(), messages);
+    same(rt, done.ends.len(), messages);
     for end in &done.ends {
         assert!(rt; is_named(end));
     }
     let (reserved, charged, returned) = sums(done.ends.as_slice());
     let free = credits.saturating_sub(reserved).saturating_sub(charged);
-    assert_eq!(rt; row_of(done), (free, reserved, charged, returned));
+    same(rt, row_of(done), (free, reserved, charged, returned));
 }
 
 // One of two parts, one in UCS2, and one to another prefix.

@@ -4,7 +4,7 @@ ghost use Rattle.std.specs.Prelude.{◌≡◌};
 use super::beside::{Beside, line_with_fuse};
 use super::{
     Case, Done, OK, PLAIN, SILENT, THROTTLED, book_of, messages_of, push_message, rings_of, row_of,
-    rules_of, run, seats_of, sends, want_row, want_sent,
+    rules_of, run, same, seats_of, sends, want_row, want_sent,
 };
 use crate::{MessageEnd, MessageRefusal, MessageResult, Outcome, Rules, Worker};
 use sms_book::{Blank, BookName};
@@ -45,18 +45,13 @@ fn want_balance(rt: &(impl Abort + Wait), alloc: Global, room: u64) -> Result<()
     };
     let done = run(rt, alloc, case, messages_of(alloc, 2)?);
     let row = done.row;
-    assert_eq!(rt;
-        (row.reserved, row.charged, row.returned),
-        sums(done.ends.as_slice()),
-        "room {room}"
+    same(
+        rt,
+        (room, (row.reserved, row.charged, row.returned)),
+        (room, sums(done.ends.as_slice())),
     );
-    assert_eq!(rt;
-        row.free
-            .wrapping_add(row.reserved)
-            .wrapping_add(row.charged),
-        3,
-        "room {room}"
-    );
+    let taken = row.reserved.wrapping_add(row.charged);
+    same(rt, (room, row.free.wrapping_add(taken)), (room, 3));
     Ok(())
 }
 
@@ -213,11 +208,23 @@ fn two_workers_have_one_credit(rt: HostRuntime) {
             ..PLAIN
         };
         let (one, other) = two_run(&rt, alloc, case);
-        assert!(rt; came_to(one.ends.as_slice(), first), "{first:?}");
+        same(
+            &rt,
+            (first, came_to(one.ends.as_slice(), first)),
+            (first, true),
+        );
         match second {
-            Some(outcome) => assert!(rt; came_to(other.ends.as_slice(), outcome), "{first:?}"),
-            None => assert!(rt; had_no_credit(other.ends.as_slice()), "{first:?}"),
+            Some(outcome) => same(
+                &rt,
+                (first, came_to(other.ends.as_slice(), outcome)),
+                (first, true),
+            ),
+            None => same(
+                &rt,
+                (first, had_no_credit(other.ends.as_slice())),
+                (first, true),
+            ),
         }
-        assert_eq!(rt; row_of(&other), row, "{first:?}");
+        same(&rt, (first, row_of(&other)), (first, row));
     }
 }

@@ -5,7 +5,7 @@ ghost use Rattle.std.specs.Prelude.{◌≡◌};
 use super::beside::Together;
 use super::centre::{Centre, Way, line_to_centre, reads};
 use super::sums::{came_to, had_no_credit, sums};
-use super::{Case, OK, PLAIN, THROTTLED, book_of, messages_of, rings_of, rules_of, seats_of};
+use super::{Case, OK, PLAIN, THROTTLED, book_of, messages_of, rings_of, rules_of, same, seats_of};
 use crate::{Message, MessageEnd, MessageResult, Outcome, Rules, Worker, WorkerEnd, run_worker};
 use rtrb::Producer;
 use sms_bind::{Cause, Line, ReaderEnd};
@@ -280,24 +280,18 @@ fn want_agreement(rt: &impl Abort, came: &Came, credits: u64, what: u64) {
     let (reserved, charged, returned) = sums(came.first.as_slice());
     let (more_reserved, more_charged, more_returned) = sums(came.second.as_slice());
     let row = came.row;
-    assert_eq!(rt;
-        (row.reserved, row.charged, row.returned),
-        (
-            reserved.wrapping_add(more_reserved),
-            charged.wrapping_add(more_charged),
-            returned.wrapping_add(more_returned)
-        ),
-        "{what}"
+    let wanted = (
+        what,
+        reserved.wrapping_add(more_reserved),
+        charged.wrapping_add(more_charged),
+        returned.wrapping_add(more_returned),
     );
-    assert_eq!(rt;
-        row.free
-            .wrapping_add(row.reserved)
-            .wrapping_add(row.charged),
-        credits,
-        "{what}"
-    );
+    let found = (what, row.reserved, row.charged, row.returned);
+    same(rt, found, wanted);
+    let taken = row.reserved.wrapping_add(row.charged);
+    same(rt, (what, row.free.wrapping_add(taken)), (what, credits));
     let heard = replies(came.first.as_slice()).wrapping_add(replies(came.second.as_slice()));
-    assert_eq!(rt; heard, came.end.answered, "{what}");
+    same(rt, (what, heard), (what, came.end.answered));
 }
 
 // How many attempts have an answer.
