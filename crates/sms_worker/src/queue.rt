@@ -1,5 +1,6 @@
 //! The segments that wait to be sent again, in the order in which their times come.
-ghost use Rattle.std.specs.Prelude.{◌≡◌, vec_len, vec_capacity};
+ghost use Rattle.std.specs.Prelude.{◌≡◌, ◌≢◌, ◌≤◌, ◌+◌, ◌-◌, ℕ, Some, true, IfSome, IsSome, is_none, option_and_then, slice_get, vec_len, vec_capacity};
+ghost use Rattle.std.specs.List.{list_all};
 
 use crate::open::Place;
 use crate::texts::{Link, NO_LINK, Texts};
@@ -40,7 +41,9 @@ fn set_link_at(texts: &mut Vec<Texts>, place: Place, link: Link)
 
 impl Queues {
     /// No segment waits.
-    pub fn none() -> Queues {
+    pub fn none() -> Queues
+        ensures { list_all (λ q. is_none q.first) result.all ≡ true }
+    {
         let none = Queue {
             first: None,
             last: None,
@@ -49,7 +52,9 @@ impl Queues {
     }
 
     /// Whether no segment waits.
-    pub fn is_empty(&self) -> bool {
+    pub fn is_empty(&self) -> bool
+        ensures { result ≡ list_all (λ q. is_none q.first) self.now.all }
+    {
         self.all.iter().all(|queue| queue.first.is_none())
     }
 
@@ -57,6 +62,8 @@ impl Queues {
     pub fn push(&mut self, texts: &mut Vec<Texts>, attempts: usize, place: Place, due_ms: u64)
         ensures same { texts.new.items ≡ texts.old.items }
         ensures room { (vec_len texts.new ≡ vec_len texts.old) × (vec_capacity texts.new ≡ vec_capacity texts.old) }
+        ensures last { 1 ≤ attempts → attempts ≤ 10 → option_and_then (λ q. q.last) (slice_get self.new.all (attempts - 1)) ≡ Some place }
+        ensures others { (k : ℕ) → k + 1 ≢ attempts → slice_get self.new.all k ≡ slice_get self.old.all k }
     {
         if attempts < 1 || attempts > 10 {
             return;
@@ -79,7 +86,9 @@ impl Queues {
     }
 
     /// The queue whose first segment is due before those of the others, if its time has come.
-    pub fn due(&self, texts: &[Texts], now_ms: u64) -> Option<usize> {
+    pub fn due(&self, texts: &[Texts], now_ms: u64) -> Option<usize>
+        ensures { IfSome result (λ k. IsSome (option_and_then (λ q. q.first) (slice_get self.now.all k))) }
+    {
         let mut best = None;
         let mut best_ms = now_ms;
         for i in 0..10 {
@@ -95,7 +104,9 @@ impl Queues {
     }
 
     /// The first segment of a queue.
-    pub fn first(&self, queue: usize) -> Option<Place> {
+    pub fn first(&self, queue: usize) -> Option<Place>
+        ensures { result ≡ option_and_then (λ q. q.first) (slice_get self.now.all queue) }
+    {
         if queue < 10 {
             return self.all[queue].first;
         }
@@ -103,7 +114,9 @@ impl Queues {
     }
 
     /// Takes the first segment of a queue out.
-    pub fn pop(&mut self, texts: &[Texts], queue: usize) {
+    pub fn pop(&mut self, texts: &[Texts], queue: usize)
+        ensures others { (k : ℕ) → k ≢ queue → slice_get self.new.all k ≡ slice_get self.old.all k }
+    {
         if queue >= 10 {
             return;
         }

@@ -1,8 +1,8 @@
 //! The turns of a call, and its end.
-ghost use Rattle.std.specs.Prelude.{◌≡◌, ℕ, ◌+◌, ◌<◌, ◌≤◌, Some, false, length};
+ghost use Rattle.std.specs.Prelude.{◌≡◌, ℕ, ◌+◌, ◌<◌, ◌≤◌, None, Some, IfSome, IsSome, false, length, slice_get};
 ghost use Rattle.rtrb.specs.Ring.{received, SameConsumer};
 ghost use Rattle.sms_worker.specs.declared.ends.SegmentEnd.{SegmentEnd};
-ghost use Rattle.sms_worker.specs.Ends.{segment_at};
+ghost use Rattle.sms_worker.specs.Ends.{segment_at, segments_in};
 ghost use Rattle.sms_worker.specs.Sweeps.{SettledTo};
 
 use crate::attempt::Tried;
@@ -41,7 +41,9 @@ enum Source {
 impl<N: BookName, C: Call> Run<N, C> {
     // How many segments a message has.
     fn count(&self, message: usize) -> usize
-        ensures { (q : ℕ) (s : SegmentEnd) → segment_at self.now.ends message q ≡ Some s → q < result }
+        ensures within { (q : ℕ) (s : SegmentEnd) → segment_at self.now.ends message q ≡ Some s → q < result }
+        ensures exact { IfSome (slice_get self.now.ends message) (λ e. result ≡ length (segments_in e.result)) }
+        ensures none { slice_get self.now.ends message ≡ None → result ≡ 0 }
     {
         if message >= self.ends.len() {
             return 0;
@@ -54,7 +56,9 @@ impl<N: BookName, C: Call> Run<N, C> {
     }
 
     // The segment of the last message that is to be sent next.
-    fn next_part(&self) -> Option<Place> {
+    fn next_part(&self) -> Option<Place>
+        ensures { IfSome result (λ p. length self.now.ends ≡ p.message + 1) }
+    {
         let begun = self.ends.len();
         if begun == 0 || self.next >= self.count(begun - 1) {
             return None;

@@ -7,15 +7,15 @@ use Rattle.sms_worker.specs.Ends.{segments_in, segment_at}
 use Rattle.sms_worker.proofs.EndLemmas.{no_segment, segment_in, get_low}
 use Rattle.sms_worker.proofs.run.Run.count.Goals as goal
 
-pub returns-then-message-len : goal.returns-then-message-len
-returns-then-message-len g c q s got =
+pub returns-then-message-len-clause-within : goal.returns-then-message-len-clause-within
+returns-then-message-len-clause-within g c q s got =
     let e = ap (λ (x : RunState). segment_at x.ends c.args.message q) c.self.view_is in
     let low : length c.self.inside.ends.items ≤ c.args.message = search rules in
     let z = no_segment c.self.inside.ends.items c.args.message q low in
     absurd (cc)
 
-pub returns-in-Sent : goal.returns-in-Sent
-returns-in-Sent g c q s got =
+pub returns-in-Sent-clause-within : goal.returns-in-Sent-clause-within
+returns-in-Sent-clause-within g c q s got =
     let es = c.self.inside.ends.items in
     let k = c.args.message in
     let e = ap (λ (x : RunState). segment_at x.ends k q) c.self.view_is in
@@ -27,8 +27,8 @@ returns-in-Sent g c q s got =
     let n = c.len-in-Sent.ensures in
     omega arith
 
-pub returns-in-Refused : goal.returns-in-Refused
-returns-in-Refused g c q s got =
+pub returns-in-Refused-clause-within : goal.returns-in-Refused-clause-within
+returns-in-Refused-clause-within g c q s got =
     let es = c.self.inside.ends.items in
     let k = c.args.message in
     let e = ap (λ (x : RunState). segment_at x.ends k q) c.self.view_is in
