@@ -31,6 +31,8 @@ struct Connection {
     closed: bool,
     /// Whether a read came in vain since the last write.
     idle: bool,
+    /// Whether the sender let go of an end of it, so that nobody reads it any more.
+    left: bool,
 }
 
 impl Connection {
@@ -56,9 +58,9 @@ impl Connection {
         Ok(())
     }
 
-    /// Whether all that was said is read, and what was read is worked.
+    /// Whether all that was said is read, and what was read is worked, or nobody will.
     fn is_at_rest(&self) -> bool {
-        self.idle || (self.closed && self.said.is_empty())
+        self.idle || self.left || (self.closed && self.said.is_empty())
     }
 
     /// Gives what is said, as much as fits; no octets at the end; `None` where there is nothing yet.
@@ -102,6 +104,12 @@ impl State {
         }
     }
 
+    fn leave(&mut self, place: usize) {
+        if let Some(connection) = self.connections.get_mut(place) {
+            connection.left = true;
+        }
+    }
+
     /// Lets time pass, unless some octets are still to be read or worked.
     fn pass_time(&mut self, ms: u32) -> bool {
         for connection in self.connections.as_slice() {
@@ -139,6 +147,7 @@ impl Simulator {
                 said: Vec::new(alloc),
                 closed: false,
                 idle: true,
+                left: false,
             })?;
         }
         let state = State {
@@ -160,13 +169,24 @@ impl Simulator {
     }
 }
 
-/// An end of a connection.
-#[derive(Drop)]
-pub struct Near<'a, S> {
+/// An end of a connection, which is left once the end is let go.
+pub struct Near<'a, S: Wait> {
     rt: &'a S,
     alloc: Global,
     simulator: &'a Simulator,
     place: usize,
+}
+
+impl<'a, S: Wait> Drop for Near<'a, S> {
+    fn drop(self) {
+        let Near {
+            rt,
+            alloc: _,
+            simulator,
+            place,
+        } = self;
+        simulator.state.lock(rt).leave(place);
+    }
 }
 
 impl<'a, S: Wait> Read for Near<'a, S> {
@@ -208,7 +228,7 @@ pub struct Beside<'a, S> {
     pub writes: u64,
 }
 
-impl<'a, S> Beside<'a, S> {
+impl<'a, S: Wait> Beside<'a, S> {
     fn near(&self, bind: u32) -> Near<'a, S> {
         Near {
             rt: self.rt,

@@ -38,6 +38,10 @@ pub struct Said {
 /// Octets enough for each run.
 pub const ALL: u64 = 1 << 40;
 
+/// The room that is made for what is printed, before the sending begins: no test prints more, so its
+/// own output never wants memory.
+const PRINTED: usize = 4_096;
+
 /// A message to one who can pay for it.
 pub const PLAIN: Sending<'static> = Sending {
     config: "",
@@ -95,7 +99,7 @@ pub fn send<R: Threads + Wait + Sync, G: Gate + Sync>(
         reads: sending.reads,
         writes: sending.writes,
     };
-    let mut printed = Vec::new(alloc);
+    let mut printed = Vec::with_capacity(alloc, PRINTED)?;
     let ended = run_sender(
         rt,
         alloc,
