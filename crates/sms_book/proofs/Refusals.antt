@@ -9,7 +9,7 @@ use Rattle.sms_book.specs.declared.error.TariffError.{TariffError}
 use Rattle.sms_book.specs.declared.error.TariffError.TheVariants.{TooMany, BadPrefix, BadCredits, Duplicate, OutOfMemory}
 use Rattle.sms_book.specs.Limits.{most_rates}
 use Rattle.sms_book.specs.Openings.{HaveOneName}
-use Rattle.sms_book.specs.Tariffs.{Price, price_of, prices_of, no_price, price_at, prefixes, IsPrefix, IsCredits, IsGoodAt, IsTariff, IsReached, HasBadCredits, IsDuplicate, IsFault, Refuses}
+use Rattle.sms_book.specs.Tariffs.{Price, price_of, prices_of, no_price, price_at, prefixes, IsPrefix, IsGoodAt, IsTariff, IsReached, HasBadCredits, IsDuplicate, IsFault, Refuses}
 
 pub price_read : (rates : List Rate) (place : ℕ) (r : Rate) → place < length rates → price_at (prices_of rates) place ≡ price_of (slice_index_or rates place r)
 price_read rates place r low = get_or-map price_of rates place r no_price low

@@ -1,5 +1,5 @@
 -- How serving stands between its steps.
-use Rattle.std.specs.Prelude.{◌≡◌, ℕ, List, ◌++◌, Bool, true, false, Option, Some, None}
+use Rattle.std.specs.Prelude.{◌≡◌, ℕ, List, ◌++◌, Bool, false, Option, Some, None}
 use Rattle.std.specs.List.{AllZip, concat}
 use Rattle.sms_pdu.specs.Streams.{Stretch, going, complete, lost, early}
 use Rattle.sms_centre.specs.declared.serving.Cause.{Cause}

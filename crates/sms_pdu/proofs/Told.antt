@@ -1,5 +1,5 @@
 -- What was told, and what was returned of it.
-use Rattle.std.proofs.Common.{◌≡◌, Result, Ok, Err, refl, sym, ◌∙◌}
+use Rattle.std.proofs.Common.{◌≡◌, Result, Ok, Err, refl, ◌∙◌}
 use Rattle.std.specs.Result.{IfOk, IfErr, IsErrAnd}
 use Rattle.sms_pdu.specs.declared.error.PduError.{PduError}
 use Rattle.sms_pdu.specs.declared.error.PduError.TheVariants as errors

@@ -6,7 +6,7 @@ use native.Mathlib.Decide.{ℕ_discrete, dec_lt}
 use Rattle.std.proofs.lemmas.Nat.{pow_below, pow-add}
 use Rattle.std.proofs.lemmas.Nat.Bits.{bit_at_mask_inside, bit_at_mask_above}
 use Rattle.sms_window.specs.declared.view.View.{View}
-use Rattle.sms_window.specs.Seats.{other_names, CanSplit, name_to_give, met_with, giver, given}
+use Rattle.sms_window.specs.Seats.{other_names, CanSplit, name_to_give, met_with, giver}
 use Rattle.sms_window.specs.Names.{HasNames, gave, KeeperHasAll, GivesGreatestOf, GivesInTurn, GivesAll}
 use Rattle.sms_window.proofs.Seats.{top_bit}
 
