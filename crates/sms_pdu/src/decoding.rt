@@ -1,6 +1,6 @@
 //! Octets read as a PDU: first its fields, which takes no memory, and then copies of its strings.
 
-ghost use Rattle.std.specs.Prelude.{◌≡◌, ◌≢◌, ◌≤◌, ℕ, List, [], ◌∷◌, length, Option, Result, Ok, IfOk};
+ghost use Rattle.std.specs.Prelude.{◌≡◌, ◌≢◌, ◌≤◌, false, true, length, Option, Result, Ok, IfOk};
 ghost use Rattle.sms_pdu.specs.declared.body.Pdu.{Pdu};
 ghost use Rattle.sms_pdu.specs.declared.command.Command.TheVariants.{SubmitSm, DeliverSm};
 ghost use Rattle.sms_pdu.specs.Layout.{sm_fields};
@@ -74,37 +74,37 @@ fn sm_parts(octets: &[u8]) -> Result<(SmRef<'_>, &[u8]), PduError>
     Ok(sm_fields!(read_fields!(octets => SmRef { params: &[], .. })))
 }
 
-/// The PDU of a message, made where it is returned: to move it costs more than to copy its strings.
-macro_rules! message_pdu {
-    ($variant:ident, $alloc:ident, $status:ident, $number:ident, $octets:ident) => {{
-        let (parts, rest) = sm_parts($octets)?;
-        let params = parameters($alloc, rest)?;
-        Ok(Pdu {
-            status: $status,
-            number: $number,
-            body: Body::$variant(sm_fields!(copy_fields!(
-                $alloc, parts => Sm { params: params, .. }
-            ))),
-        })
-    }};
-}
-
-/// A submit_sm.
+/// A message: a deliver_sm, or else a submit_sm. It is made where it is returned: to move it costs
+/// more than to copy its strings.
 #[inline(never)]
 #[tactic(auto, unfolding(crate::specs::Reading::sm_at))]
-fn submit_sm(alloc: Global, status: u32, number: u32, octets: &[u8]) -> Result<Pdu, PduError>
-    ensures { Gives (λ p. p) result (pdu_of status number (submit_at octets.now)) }
+fn message_pdu(
+    alloc: Global,
+    deliver: bool,
+    status: u32,
+    number: u32,
+    octets: &[u8],
+) -> Result<Pdu, PduError>
+    ensures submitted { deliver ≡ false → Gives (λ p. p) result (pdu_of status number (submit_at octets.now)) }
+    ensures delivered { deliver ≡ true → Gives (λ p. p) result (pdu_of status number (deliver_at octets.now)) }
 {
-    message_pdu!(Submit, alloc, status, number, octets)
-}
-
-/// A deliver_sm.
-#[inline(never)]
-#[tactic(auto, unfolding(crate::specs::Reading::sm_at))]
-fn deliver_sm(alloc: Global, status: u32, number: u32, octets: &[u8]) -> Result<Pdu, PduError>
-    ensures { Gives (λ p. p) result (pdu_of status number (deliver_at octets.now)) }
-{
-    message_pdu!(Deliver, alloc, status, number, octets)
+    let (parts, rest) = sm_parts(octets)?;
+    let params = parameters(alloc, rest)?;
+    let sm = sm_fields!(copy_fields!(alloc, parts => Sm { params: params, .. }));
+    if deliver {
+        let body = Body::Deliver(sm);
+        return Ok(Pdu {
+            status,
+            number,
+            body,
+        });
+    }
+    let body = Body::Submit(sm);
+    Ok(Pdu {
+        status,
+        number,
+        body,
+    })
 }
 
 /// The body of a bind's response.
@@ -192,7 +192,10 @@ fn bare(body: Body, octets: &[u8]) -> Result<Body, PduError>
 {
     match end(octets) {
         Ok(()) => Ok(body),
-        Err(fault) => Err(fault),
+        Err(fault) => {
+            drop(body);
+            Err(fault)
+        }
     }
 }
 
@@ -228,8 +231,20 @@ pub fn decode(alloc: Global, octets: &[u8]) -> Result<Pdu, PduError>
 {
     // (One flat match, whose calls are the result: each join on the way moves the PDU once more.)
     match known_header(octets) {
-        Ok((Command::SubmitSm, h)) => submit_sm(alloc, h.status, h.number, body_of(octets)),
-        Ok((Command::DeliverSm, h)) => deliver_sm(alloc, h.status, h.number, body_of(octets)),
+        Ok((Command::SubmitSm, h)) => message_pdu(
+            alloc,
+            false,
+            h.status,
+            h.number,
+            body_of(octets),
+        ),
+        Ok((Command::DeliverSm, h)) => message_pdu(
+            alloc,
+            true,
+            h.status,
+            h.number,
+            body_of(octets),
+        ),
         Ok((command, h)) => other(alloc, command, h.status, h.number, body_of(octets)),
         Err(fault) => Err(fault),
     }

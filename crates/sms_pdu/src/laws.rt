@@ -94,5 +94,7 @@ pub fn encode_of_decode(alloc: Global, octets: &[u8]) -> Result<Vec<u8>, PduErro
     ensures refused { (e : PduError) → reading octets.now ≡ Err e → result ≡ Err e }
 {
     let pdu = decode(alloc, octets)?;
-    encode(alloc, &pdu)
+    let again = encode(alloc, &pdu);
+    drop(pdu);
+    again
 }

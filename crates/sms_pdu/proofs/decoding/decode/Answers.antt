@@ -30,18 +30,18 @@ returns-in-Ok-SubmitSm-default c =
     let octets = c.args.octets.now in
     let h = c.in-Ok-SubmitSm-default.h in
     let told : header_told octets ≡ Ok (SubmitSm, h) = cc in
-    let given = message_given h.status h.number (λ sm. body.Submit sm) (sm_at (drop 16 octets)) c.submit_sm.result (λ sm. tt) (rw c.body_of.ensures at c.submit_sm.ensures) in
-    let tells = behind_header octets SubmitSm h c.submit_sm.result told given in
-    record { found = is_found octets c.submit_sm.result (λ i. omega (arith, c.type_inv.octets i)) tells; only = only_told octets c.submit_sm.result tells; exact = tells }
+    let given = message_given h.status h.number (λ sm. body.Submit sm) (sm_at (drop 16 octets)) c.message_pdu.result (λ sm. tt) (rw c.body_of.ensures at (c.message_pdu.ensures.submitted refl)) in
+    let tells = behind_header octets SubmitSm h c.message_pdu.result told given in
+    record { found = is_found octets c.message_pdu.result (λ i. omega (arith, c.type_inv.octets i)) tells; only = only_told octets c.message_pdu.result tells; exact = tells }
 
 pub returns-in-Ok-DeliverSm-default : goal.returns-in-Ok-DeliverSm-default
 returns-in-Ok-DeliverSm-default c =
     let octets = c.args.octets.now in
     let h = c.in-Ok-DeliverSm-default.h in
     let told : header_told octets ≡ Ok (DeliverSm, h) = cc in
-    let given = message_given h.status h.number (λ sm. body.Deliver sm) (sm_at (drop 16 octets)) c.deliver_sm.result (λ sm. tt) (rw c.body_of-in-Ok-DeliverSm-default.ensures at c.deliver_sm.ensures) in
-    let tells = behind_header octets DeliverSm h c.deliver_sm.result told given in
-    record { found = is_found octets c.deliver_sm.result (λ i. omega (arith, c.type_inv.octets i)) tells; only = only_told octets c.deliver_sm.result tells; exact = tells }
+    let given = message_given h.status h.number (λ sm. body.Deliver sm) (sm_at (drop 16 octets)) c.message_pdu-in-Ok-DeliverSm-default.result (λ sm. tt) (rw c.body_of-in-Ok-DeliverSm-default.ensures at (c.message_pdu-in-Ok-DeliverSm-default.ensures.delivered refl)) in
+    let tells = behind_header octets DeliverSm h c.message_pdu-in-Ok-DeliverSm-default.result told given in
+    record { found = is_found octets c.message_pdu-in-Ok-DeliverSm-default.result (λ i. omega (arith, c.type_inv.octets i)) tells; only = only_told octets c.message_pdu-in-Ok-DeliverSm-default.result tells; exact = tells }
 
 pub returns-in-Ok : goal.returns-in-Ok
 returns-in-Ok c =

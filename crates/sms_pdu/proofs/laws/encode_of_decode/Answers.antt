@@ -12,7 +12,7 @@ pub returns-in_err-pdu-clause-refused : goal.returns-in_err-pdu-clause-refused
 returns-in_err-pdu-clause-refused c = λ e told. fault_is c.from_residual.result _ e c.from_residual.ensures.1 (rw told at c.in_err-pdu.ensures.exact)
 
 pub returns-clause-memory : goal.returns-clause-memory
-returns-clause-memory c = λ p spelled. only_memory (λ v. v.items) c.encode.result c.args.octets.now (c.encode.ensures.only c.args.octets.now c.in_ok-pdu.ensures.found)
+returns-clause-memory c = λ p spelled. only_memory (λ v. v.items) c.encode-again.result c.args.octets.now (c.encode-again.ensures.only c.args.octets.now c.in_ok-pdu.ensures.found)
 
 pub returns-clause-refused : goal.returns-clause-refused
 returns-clause-refused c = λ e told. let never = sym c.in_ok-pdu.ensures.exact ∙ told in absurd cc
