@@ -26,13 +26,17 @@ told-first P Q (Some bytes) left found r after whole h e rest make =
     let made = make others (rw left_are at rest) in
     rw stood made
 
+-- what holds of the records that a reader has before it reads holds of those of its input
+pub of-input : (P : List Record → Type 0) (o : Option (List ℕ)) (left : Option (List Record)) → left ≡ option_map records_of o → IfSome left P → IfSome o (λ bytes. P (records_of bytes))
+of-input P None left whole h = tt
+of-input P (Some bytes) left whole h = rw whole at h
+
 -- there is no first record
-pub no-record : (source : Source) (is_first is_good : Record → Bool) (most : ℕ) (o : Option (List ℕ)) (left : Option (List Record)) (found : Bool) (r : Record) (after : Option (List Record))
-    → left ≡ option_map records_of o → IfSome left (λ rs. GivesFirst rs found r after) → found ≡ false
-    → IfSome o (λ bytes. TellsRecords source (file_fault is_first is_good most (records_of bytes)) (BadRecord source 1))
-no-record source is_first is_good most None left found r after whole h e = tt
-no-record source is_first is_good most (Some bytes) left found r after whole h e =
-    inr (1, refl, ap (file_fault is_first is_good most) (none-found (records_of bytes) found r after (rw whole at h) e))
+pub no-record : (source : Source) (is_first is_good : Record → Bool) (most : ℕ) (left : Option (List Record)) (found : Bool) (r : Record) (after : Option (List Record))
+    → IfSome left (λ rs. GivesFirst rs found r after) → found ≡ false → IfSome left (λ rs. TellsRecords source (file_fault is_first is_good most rs) (BadRecord source 1))
+no-record source is_first is_good most None found r after h e = tt
+no-record source is_first is_good most (Some rs) found r after h e =
+    inr (1, refl, ap (file_fault is_first is_good most) (none-found rs found r after h e))
 
 stops : (is_first is_good : Record → Bool) (most : ℕ) (r : Record) (rs : List Record) → is_first r ≡ false → file_fault is_first is_good most (r ∷ rs) ≡ Some 1
 stops is_first is_good most r rs e = rw e refl
@@ -41,22 +45,22 @@ goes-on : (is_first is_good : Record → Bool) (most : ℕ) (r : Record) (rs : L
 goes-on is_first is_good most r rs e = rw e refl
 
 -- the first record is another
-pub bad-first : (source : Source) (is_first is_good : Record → Bool) (most : ℕ) (o : Option (List ℕ)) (left : Option (List Record)) (found : Bool) (r : Record) (after : Option (List Record))
-    → left ≡ option_map records_of o → IfSome left (λ rs. GivesFirst rs found r after) → found ≡ true → is_first r ≡ false
-    → IfSome o (λ bytes. TellsRecords source (file_fault is_first is_good most (records_of bytes)) (BadRecord source 1))
-bad-first source is_first is_good most None left found r after whole h e bad = tt
-bad-first source is_first is_good most (Some bytes) left found r after whole h e bad =
-    let (others, stood, _) = first-found (records_of bytes) found r after (rw whole at h) e in
+pub bad-first : (source : Source) (is_first is_good : Record → Bool) (most : ℕ) (left : Option (List Record)) (found : Bool) (r : Record) (after : Option (List Record))
+    → IfSome left (λ rs. GivesFirst rs found r after) → found ≡ true → is_first r ≡ false
+    → IfSome left (λ rs. TellsRecords source (file_fault is_first is_good most rs) (BadRecord source 1))
+bad-first source is_first is_good most None found r after h e bad = tt
+bad-first source is_first is_good most (Some rs) found r after h e bad =
+    let (others, stood, _) = first-found rs found r after h e in
     inr (1, refl, ap (file_fault is_first is_good most) stood ∙ stops is_first is_good most r others bad)
 
 -- what is told of the records after the first is told of the file
-pub bad-rest : (source : Source) (is_first is_good : Record → Bool) (most : ℕ) (o : Option (List ℕ)) (left : Option (List Record)) (found : Bool) (r : Record) (after : Option (List Record)) (f : Fault)
-    → left ≡ option_map records_of o → IfSome left (λ rs. GivesFirst rs found r after) → found ≡ true → is_first r ≡ true
+pub bad-rest : (source : Source) (is_first is_good : Record → Bool) (most : ℕ) (left : Option (List Record)) (found : Bool) (r : Record) (after : Option (List Record)) (f : Fault)
+    → IfSome left (λ rs. GivesFirst rs found r after) → found ≡ true → is_first r ≡ true
     → IfSome after (λ rs. TellsRecords source (record_fault is_good most 1 rs) f)
-    → IfSome o (λ bytes. TellsRecords source (file_fault is_first is_good most (records_of bytes)) f)
-bad-rest source is_first is_good most None left found r after f whole h e good tells = tt
-bad-rest source is_first is_good most (Some bytes) left found r after f whole h e good tells =
-    let (others, stood, left_are) = first-found (records_of bytes) found r after (rw whole at h) e in
+    → IfSome left (λ rs. TellsRecords source (file_fault is_first is_good most rs) f)
+bad-rest source is_first is_good most None found r after f h e good tells = tt
+bad-rest source is_first is_good most (Some rs) found r after f h e good tells =
+    let (others, stood, left_are) = first-found rs found r after h e in
     elim (rw left_are at tells) [
       | inl device ↦ inl device
       | inr bad ↦
@@ -65,14 +69,14 @@ bad-rest source is_first is_good most (Some bytes) left found r after f whole h 
     ]
 
 -- what follows of a first record and of those after it holds of the file
-pub whole-file : (is_first is_good : Record → Bool) (most : ℕ) (P Q : List Record → Type 0) (o : Option (List ℕ)) (left : Option (List Record)) (found : Bool) (r : Record) (after : Option (List Record))
-    → left ≡ option_map records_of o → IfSome left (λ rs. GivesFirst rs found r after) → found ≡ true → is_first r ≡ true
+pub whole-file : (is_first is_good : Record → Bool) (most : ℕ) (P Q : List Record → Type 0) (left : Option (List Record)) (found : Bool) (r : Record) (after : Option (List Record))
+    → IfSome left (λ rs. GivesFirst rs found r after) → found ≡ true → is_first r ≡ true
     → IfSome after (λ rs. P rs × (record_fault is_good most 1 rs ≡ None))
     → ((rs : List Record) → P rs → file_fault is_first is_good most (r ∷ rs) ≡ None → Q (r ∷ rs))
-    → IfSome o (λ bytes. Q (records_of bytes))
-whole-file is_first is_good most P Q None left found r after whole h e good rest make = tt
-whole-file is_first is_good most P Q (Some bytes) left found r after whole h e good rest make =
-    let (others, stood, left_are) = first-found (records_of bytes) found r after (rw whole at h) e in
+    → IfSome left Q
+whole-file is_first is_good most P Q None found r after h e good rest make = tt
+whole-file is_first is_good most P Q (Some rs) found r after h e good rest make =
+    let (others, stood, left_are) = first-found rs found r after h e in
     let (says, faultless) = rw left_are at rest in
     let made = make others says (goes-on is_first is_good most r others good ∙ faultless) in
     rw stood made

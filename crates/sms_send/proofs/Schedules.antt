@@ -1,10 +1,10 @@
 -- The worlds and events that the records of a schedule stand for.
 use Rattle.std.proofs.Common.{◌≡◌, sym, refl, ℕ, ◌≤◌, inl, inr, Bool, true, false, List, Option, Some, None, IfSome, arith}
-use Rattle.std.specs.Prelude.{◌&&◌, nat_le, option_map}
+use Rattle.std.specs.Prelude.{◌&&◌, nat_le}
 use Rattle.std.proofs.lemmas.Bool.Decides.{nat_tests}
 use Rattle.sms_core.specs.declared.event.Event.{Event}
 use Rattle.sms_core.specs.State.{State, AreLimits, new_world}
-use Rattle.sms_send.specs.Fields.{Record, records_of}
+use Rattle.sms_send.specs.Fields.{Record}
 use Rattle.sms_send.specs.Records.{GivesFirst, IsReadAs, TellsRecords}
 use Rattle.sms_send.specs.Schedule.{Spells, TellsWorld, are_limits, event_of, is_event, is_world, limits_of, most_events, schedule_fault, world_of}
 use Rattle.sms_send.specs.declared.fault.Fault.{Fault}
@@ -63,13 +63,13 @@ pub sets-none : (r : Record) → world_of r ≡ None → is_world r ≡ false
 sets-none r e = rw e refl
 
 -- a fault of the first record is one of the schedule
-pub bad-world : (o : Option (List ℕ)) (left : Option (List Record)) (found : Bool) (r : Record) (after : Option (List Record)) (f : Fault)
-    → left ≡ option_map records_of o → IfSome left (λ rs. GivesFirst rs found r after) → found ≡ true → TellsWorld r f
-    → IfSome o (λ bytes. TellsRecords Schedule (schedule_fault (records_of bytes)) f)
-bad-world o left found r after f whole h e (inl memory) =
-    if_known o (λ bytes. TellsRecords Schedule (schedule_fault (records_of bytes)) f) (λ bytes known. inl (inr memory))
-bad-world o left found r after f whole h e (inr bad) =
-    let named = bad-first Schedule is_world is_event most_events o left found r after whole h e (sets-none r bad.1) in
+pub bad-world : (left : Option (List Record)) (found : Bool) (r : Record) (after : Option (List Record)) (f : Fault)
+    → IfSome left (λ rs. GivesFirst rs found r after) → found ≡ true → TellsWorld r f
+    → IfSome left (λ rs. TellsRecords Schedule (schedule_fault rs) f)
+bad-world left found r after f h e (inl memory) =
+    if_known left (λ rs. TellsRecords Schedule (schedule_fault rs) f) (λ rs known. inl (inr memory))
+bad-world left found r after f h e (inr bad) =
+    let named = bad-first Schedule is_world is_event most_events left found r after h e (sets-none r bad.1) in
     rw bad.0 named
 
 -- an event that a record spells, or none

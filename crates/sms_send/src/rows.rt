@@ -3,12 +3,12 @@
 ghost use Rattle.std.specs.Prelude.{◌≡◌, ◌≤◌, ◌+◌, Bool, List, ℕ, IfErr, IfOk, IfSome, length};
 ghost use Rattle.csv.specs.Records.{fields_of};
 ghost use Rattle.sms_send.specs.Fields.{records_of};
-ghost use Rattle.sms_send.specs.Records.{TellsRecords, file_fault};
+ghost use Rattle.sms_send.specs.Records.{ReadsAll, TellsRecords, file_fault, records_left};
 ghost use Rattle.sms_send.specs.Rows.{AreRows, field_is, is_pair as are_pair};
 
 use crate::fault::{Fault, Source};
 use crate::records::{FromRecord, next_record, read_all, read_records};
-use csv::ByteRecord;
+use csv::{ByteRecord, Reader};
 use std::alloc::Global;
 use std::io::Read;
 
@@ -37,13 +37,33 @@ pub fn read_rows<T: Headed, R: Read + Drop>(
 {
     let mut reader = read_all(alloc, input);
     let mut row = ByteRecord::new(alloc);
-    if !next_record(&mut reader, &mut row, source)? {
+    let rows = rows_left(alloc, &mut reader, &mut row, source, most);
+    drop(row);
+    drop(reader);
+    rows
+}
+
+/// The same of the records that a reader has left, which are all of a file.
+fn rows_left<T: Headed, R: Read>(
+    alloc: Global,
+    reader: &mut Reader<R>,
+    row: &mut ByteRecord,
+    source: Source,
+    most: usize,
+) -> Result<Vec<T>, Fault>
+    requires reads { ReadsAll reader.old }
+    requires countable { most + 2 ≤ usize.MAX }
+    ensures rows { IfOk result (λ rows. IfSome (records_left R.remaining reader.old) (λ left. AreRows T.is_header T.is_good T.Says most left rows.items)) }
+    ensures limit { IfOk result (λ rows. length rows.items ≤ most) }
+    ensures faulty { IfErr result (λ fault. IfSome (records_left R.remaining reader.old) (λ left. TellsRecords source (file_fault T.is_header T.is_good most left) fault)) }
+{
+    if !next_record(reader, row, source)? {
         return Err(Fault::BadRecord(source, 1));
     }
-    if !T::is_header(&row) {
+    if !T::is_header(row) {
         return Err(Fault::BadRecord(source, 1));
     }
-    read_records(alloc, &mut reader, &mut row, source, most)
+    read_records(alloc, reader, row, source, most)
 }
 
 /// Whether the record has just these two fields.

@@ -3,13 +3,13 @@
 ghost use Rattle.std.specs.Prelude.{◌≡◌, None, Some, IfErr, IfOk, IfSome};
 ghost use Rattle.csv.specs.Records.{fields_of};
 ghost use Rattle.sms_send.specs.Fields.{records_of};
-ghost use Rattle.sms_send.specs.Records.{TellsRecords};
+ghost use Rattle.sms_send.specs.Records.{ReadsAll, TellsRecords, records_left};
 ghost use Rattle.sms_send.specs.Schedule.{one_number as one_spelled, two_numbers as two_spelled, three_numbers as three_spelled, event_of as event_spelled, limits_of as limits_spelled, world_of as world_spelled, AreSchedule, Spells, TellsWorld, is_event, made_by, respond_form, schedule_fault, slot_forms};
 
 use crate::fault::{Fault, Source};
 use crate::field::{number_at, u32_at};
 use crate::records::{FromRecord, next_record, read_all, read_records};
-use csv::ByteRecord;
+use csv::{ByteRecord, Reader};
 use sms_core::{CoreError, Event, World};
 use std::alloc::{AllocError, Global};
 use std::io::Read;
@@ -184,12 +184,32 @@ pub fn read_schedule<R: Read + Drop>(alloc: Global, input: R) -> Result<Schedule
 {
     let mut reader = read_all(alloc, input);
     let mut row = ByteRecord::new(alloc);
-    if !next_record(&mut reader, &mut row, Source::Schedule)? {
+    let schedule = schedule_left(alloc, &mut reader, &mut row);
+    drop(row);
+    drop(reader);
+    schedule
+}
+
+/// The same of the records that a reader has left, which are all of a file.
+fn schedule_left<R: Read>(
+    alloc: Global,
+    reader: &mut Reader<R>,
+    row: &mut ByteRecord,
+) -> Result<Schedule, Fault>
+    requires { ReadsAll reader.old }
+    ensures schedule { IfOk result (λ schedule. IfSome (records_left R.remaining reader.old) (λ left.
+        AreSchedule left schedule.world schedule.events.items × (schedule_fault left ≡ None))) }
+    ensures faulty { IfErr result (λ fault. IfSome (records_left R.remaining reader.old) (λ left. TellsRecords Source.Schedule (schedule_fault left) fault)) }
+{
+    if !next_record(reader, row, Source::Schedule)? {
         return Err(Fault::BadRecord(Source::Schedule, 1));
     }
-    let world = world_of(alloc, &row)?;
-    match read_records(alloc, &mut reader, &mut row, Source::Schedule, MOST_EVENTS) {
+    let world = world_of(alloc, row)?;
+    match read_records(alloc, reader, row, Source::Schedule, MOST_EVENTS) {
         Ok(events) => Ok(Schedule { world, events }),
-        Err(fault) => Err(fault),
+        Err(fault) => {
+            drop(world);
+            Err(fault)
+        }
     }
 }

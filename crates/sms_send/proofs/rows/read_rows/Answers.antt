@@ -1,31 +1,19 @@
-use Rattle.std.proofs.Common.{sym, ◌∙◌}
-use Rattle.std.specs.List.{AllZip}
 use Rattle.std.proofs.lemmas.Result.{IfErr-weaker, IfOk-weaker}
-use Rattle.csv.specs.Records.{fields_of}
-use Rattle.sms_send.specs.Records.{records_left}
+use Rattle.sms_send.specs.Records.{TellsRecords, file_fault, records_left}
 use Rattle.sms_send.specs.Rows.{AreRows}
-use Rattle.sms_send.proofs.Files.{bad-rest, whole-file}
+use Rattle.sms_send.proofs.Files.{of-input}
 use Rattle.sms_send.proofs.rows.read_rows.Goals as goal
 
 pub returns-clause-rows : goal.returns-clause-rows
 returns-clause-rows g c =
     let remaining = g.R.Read.remaining in
-    let is_header = g.T.Headed.is_header in
-    let is_good = g.T.FromRecord.is_good in
-    let Says = g.T.FromRecord.Says in
-    let most = c.args.most in
-    IfOk-weaker c.read_records.result _ _ (λ rows h.
-    whole-file is_header is_good most (λ rs. AllZip Says rs rows.items) (λ rs. AreRows is_header is_good Says most rs rows.items)
-    (remaining c.args.input) (records_left remaining c.read_all-reader.result) c.in_ok-next_record.field-0 (fields_of c.next_record.new.row)
-    (records_left remaining c.next_record.new.reader) c.read_all-reader.ensures.whole c.in_ok-next_record.ensures.first c.if-not-branch.false
-    (sym c.is_header.ensures ∙ c.if-not-is_header.false) h (λ rs rows good. (good, rows))) c.read_records.ensures.records
+    IfOk-weaker c.rows_left-rows.result _ _ (λ rows h.
+    of-input (λ rs. AreRows g.T.Headed.is_header g.T.FromRecord.is_good g.T.FromRecord.Says c.args.most rs rows.items)
+    (remaining c.args.input) (records_left remaining c.read_all-reader.result) c.read_all-reader.ensures.whole h) c.rows_left-rows.ensures.rows
 
 pub returns-clause-faulty : goal.returns-clause-faulty
 returns-clause-faulty g c =
     let remaining = g.R.Read.remaining in
-    let is_header = g.T.Headed.is_header in
-    let is_good = g.T.FromRecord.is_good in
-    IfErr-weaker c.read_records.result _ _ (λ fault h.
-    bad-rest c.args.source is_header is_good c.args.most (remaining c.args.input) (records_left remaining c.read_all-reader.result) c.in_ok-next_record.field-0 (fields_of c.next_record.new.row)
-    (records_left remaining c.next_record.new.reader) fault c.read_all-reader.ensures.whole c.in_ok-next_record.ensures.first c.if-not-branch.false
-    (sym c.is_header.ensures ∙ c.if-not-is_header.false) h) c.read_records.ensures.faulty
+    IfErr-weaker c.rows_left-rows.result _ _ (λ fault h.
+    of-input (λ rs. TellsRecords c.args.source (file_fault g.T.Headed.is_header g.T.FromRecord.is_good c.args.most rs) fault)
+    (remaining c.args.input) (records_left remaining c.read_all-reader.result) c.read_all-reader.ensures.whole h) c.rows_left-rows.ensures.faulty

@@ -1,24 +1,21 @@
 use Rattle.std.proofs.Common.{None, ◌≡◌}
-use Rattle.std.specs.List.{AllZip}
-use Rattle.csv.specs.Records.{fields_of}
-use Rattle.sms_send.specs.Records.{records_left}
-use Rattle.sms_send.specs.Schedule.{AreSchedule, Spells, is_event, is_world, most_events, schedule_fault}
+use Rattle.std.proofs.lemmas.Result.{IfErr-weaker, IfOk-weaker}
+use Rattle.sms_send.specs.Records.{TellsRecords, records_left}
+use Rattle.sms_send.specs.Schedule.{AreSchedule, schedule_fault}
 use Rattle.sms_send.specs.declared.fault.Source.TheVariants.{Schedule}
-use Rattle.sms_send.proofs.Files.{bad-rest, whole-file}
-use Rattle.sms_send.proofs.Schedules.{sets-up}
+use Rattle.sms_send.proofs.Files.{of-input}
 use Rattle.sms_send.proofs.schedule.read_schedule.Goals as goal
+
+pub returns-clause-schedule : goal.returns-clause-schedule
+returns-clause-schedule g c =
+    let remaining = g.R.Read.remaining in
+    IfOk-weaker c.schedule_left-schedule.result _ _ (λ schedule h.
+    of-input (λ rs. AreSchedule rs schedule.world schedule.events.items × (schedule_fault rs ≡ None))
+    (remaining c.args.input) (records_left remaining c.read_all-reader.result) c.read_all-reader.ensures.whole h) c.schedule_left-schedule.ensures.schedule
 
 pub returns-clause-faulty : goal.returns-clause-faulty
 returns-clause-faulty g c =
-    bad-rest Schedule is_world is_event most_events (g.R.Read.remaining c.args.input) (records_left g.R.Read.remaining c.read_all-reader.result) c.in_ok-next_record.field-0 (fields_of c.next_record.new.row)
-    (records_left g.R.Read.remaining c.next_record.new.reader) c.in-Err.fault c.read_all-reader.ensures.whole c.in_ok-next_record.ensures.first c.if-not-branch.false
-    (sets-up (fields_of c.next_record.new.row) c.in_ok-world.world c.in_ok-world.ensures.world) c.in-Err.ensures.faulty
-
-pub returns-in-Ok-clause-schedule : goal.returns-in-Ok-clause-schedule
-returns-in-Ok-clause-schedule g c =
-    whole-file is_world is_event most_events (λ rs. AllZip Spells rs c.in-Ok.events.items)
-    (λ rs. AreSchedule rs c.in_ok-world.world c.in-Ok.events.items × (schedule_fault rs ≡ None))
-    (g.R.Read.remaining c.args.input) (records_left g.R.Read.remaining c.read_all-reader.result) c.in_ok-next_record.field-0 (fields_of c.next_record.new.row)
-    (records_left g.R.Read.remaining c.next_record.new.reader) c.read_all-reader.ensures.whole c.in_ok-next_record.ensures.first c.if-not-branch.false
-    (sets-up (fields_of c.next_record.new.row) c.in_ok-world.world c.in_ok-world.ensures.world) c.in-Ok.ensures.records
-    (λ rs events good. ((c.in_ok-world.ensures.world, events, c.in-Ok.ensures.limit), good))
+    let remaining = g.R.Read.remaining in
+    IfErr-weaker c.schedule_left-schedule.result _ _ (λ fault h.
+    of-input (λ rs. TellsRecords Schedule (schedule_fault rs) fault)
+    (remaining c.args.input) (records_left remaining c.read_all-reader.result) c.read_all-reader.ensures.whole h) c.schedule_left-schedule.ensures.faulty
