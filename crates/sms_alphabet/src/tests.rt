@@ -1,8 +1,8 @@
 //! What no contract says: that the calls succeed, and that the table is the standard's.
 use crate::{Coded, Coding, TextError, Units, choose, laws, septets, text_of, ucs2};
+use std::alloc::Global;
 use std::fmt::Debug;
 use std::process::Abort;
-use std::test::Fail;
 
 // Both are the same. A test that compares by a call has a short proof: what is printed where they
 // differ stands here alone.
@@ -14,121 +14,188 @@ fn same<T: PartialEq + Debug + Drop>(rt: &impl Abort, got: T, wanted: T) {
 const DEFAULT_ALPHABET: &str =
     "@£$¥èéùìòÇ\nØø\rÅåΔ_ΦΓΛΩΠΨΣΘΞ\u{1b}ÆæßÉ !\"#¤%&'()*+,-./0123456789:;<=>?¡ABCDEFGHIJKLMNOPQRSTUVWXYZÄÖÑÜ§¿abcdefghijklmnopqrstuvwxyzäöñüà";
 
-// 3GPP TS 23.038 6.2.1.1: the characters of the extension table, and their codes in that order.
-const EXTENSION_TABLE: &str = "\u{c}^{}\\[~]|€";
+// 3GPP TS 23.038 6.2.1.1: the characters of the extension table with their codes.
+const EXTENSION_TABLE: [(char, u8); 10] = [
+    ('\u{c}', 0x0a),
+    ('^', 0x14),
+    ('{', 0x28),
+    ('}', 0x29),
+    ('\\', 0x2f),
+    ('[', 0x3c),
+    ('~', 0x3d),
+    (']', 0x3e),
+    ('|', 0x40),
+    ('€', 0x65),
+];
 
-const EXTENSION_CODES: [u8; 10] = [0x0a, 0x14, 0x28, 0x29, 0x2f, 0x3c, 0x3d, 0x3e, 0x40, 0x65];
+// Texts that the default alphabet can't spell, and their units in UCS2.
+const IN_UCS2: [(&str, &[u16]); 5] = [
+    ("ç", &[0x00e7]),
+    ("\u{1b}", &[0x001b]),
+    ("😀", &[0xd83d, 0xde00]),
+    ("A€ж", &[0x0041, 0x20ac, 0x0436]),
+    (
+        "\u{ffff}\u{10000}\u{10ffff}",
+        &[0xffff, 0xd800, 0xdc00, 0xdbff, 0xdfff],
+    ),
+];
+
+// Units that no text is spelled by.
+const NO_TEXT: [(Coding, &[u16]); 10] = [
+    (Coding::Gsm, &[0x80]),
+    (Coding::Gsm, &[0x41, 0xffff]),
+    (Coding::Gsm, &[0x1b]),
+    (Coding::Gsm, &[0x41, 0x1b]),
+    (Coding::Gsm, &[0x1b, 0x41]),
+    (Coding::Gsm, &[0x1b, 0x1b, 0x65]),
+    (Coding::Ucs2, &[0xd83d]),
+    (Coding::Ucs2, &[0xde00]),
+    (Coding::Ucs2, &[0xd83d, 0x41]),
+    (Coding::Ucs2, &[0xde00, 0xd83d]),
+];
+
+// What a call gives where memory is there.
+fn had<T: Drop, E: Drop>(rt: &impl Abort, got: Result<T, E>) -> T {
+    let Ok(it) = got else { panic!(rt; "no memory") };
+    it
+}
+
+// The text has these codes in the default alphabet.
+fn want_septets(rt: &impl Abort, alloc: Global, text: &str, codes: &[u8]) {
+    let Some(found) = had(rt, septets(alloc, text)) else {
+        panic!(rt; "no codes")
+    };
+    same(rt, (text, found.as_slice()), (text, codes));
+}
+
+// The text has no codes in the default alphabet.
+fn want_no_septets(rt: &impl Abort, alloc: Global, text: &str) {
+    let found = had(rt, septets(alloc, text));
+    same(rt, (text, found.is_none()), (text, true));
+}
+
+// The text has these units in UCS2.
+fn want_ucs2(rt: &impl Abort, alloc: Global, text: &str, units: &[u16]) {
+    let found = had(rt, ucs2(alloc, text));
+    same(rt, (text, found.as_slice()), (text, units));
+}
+
+// The spelling of the text has this coding and these units.
+fn want_spelling(rt: &impl Abort, text: &str, chosen: &Coded, coding: Coding, units: &[u16]) {
+    same(rt, (text, chosen.coding), (text, coding));
+    same(rt, (text, chosen.units.as_slice()), (text, units));
+}
+
+// The spelling is read as this text.
+fn want_text(rt: &impl Abort, alloc: Global, coded: &Coded, text: &str) {
+    let back = had(rt, text_of(alloc, coded));
+    same(rt, back.as_str(), text);
+}
+
+// This spelling is chosen for the text, and is read as the text.
+fn want_chosen(rt: &impl Abort, alloc: Global, text: &str, coding: Coding, units: &[u16]) {
+    let chosen = had(rt, choose(alloc, text));
+    want_spelling(rt, text, &chosen, coding, units);
+    want_text(rt, alloc, &chosen, text);
+}
+
+// The codes, each as a unit.
+fn units_of(rt: &impl Abort, alloc: Global, codes: &[u8]) -> Vec<u16> {
+    let mut units = had(rt, Vec::with_capacity(alloc, codes.len()));
+    for code in codes {
+        had(rt, units.push(u16::from(*code)));
+    }
+    units
+}
 
 // The text is written as these codes, and they are read as the text.
-fn writes_and_reads<R: Abort + AllocGlobal>(rt: &R, text: &str, codes: &[u8]) -> Result<(), Fail> {
-    let found = septets(rt.alloc(), text)?.ok_or("no codes")?;
-    same(rt, (text, found.as_slice()), (text, codes));
-    let units: Vec<u16> = codes
-        .iter()
-        .map(|code| u16::from(*code))
-        .collect(rt.alloc())?;
-    let chosen = choose(rt.alloc(), text)?;
-    same(rt, (text, chosen.coding), (text, Coding::Gsm));
-    same(
-        rt,
-        (text, chosen.units.as_slice()),
-        (text, units.as_slice()),
-    );
-    let back = text_of(rt.alloc(), &chosen)?;
-    same(rt, back.as_str(), text);
-    Ok(())
+fn writes_and_reads(rt: &impl Abort, alloc: Global, text: &str, codes: &[u8]) {
+    want_septets(rt, alloc, text, codes);
+    let units = units_of(rt, alloc, codes);
+    want_chosen(rt, alloc, text, Coding::Gsm, units.as_slice());
+}
+
+// The character alone is written as these codes, and they are read as the character.
+fn writes_character(rt: &impl Abort, alloc: Global, c: char, codes: &[u8]) {
+    let text = had(rt, c.to_string(alloc));
+    writes_and_reads(rt, alloc, text.as_str(), codes);
 }
 
 #[test]
-fn every_character_of_the_alphabet(rt: HostRuntime) -> Result<(), Fail> {
+fn every_character_of_the_alphabet(rt: HostRuntime) {
     let mut code = 0u8;
     for c in DEFAULT_ALPHABET.chars() {
         if c != '\u{1b}' {
-            let text = c.to_string(rt.alloc())?;
-            writes_and_reads(&rt, text.as_str(), &[code])?;
+            writes_character(&rt, rt.alloc(), c, &[code]);
         }
-        code = code.checked_add(1).ok_or("too many")?;
+        let Some(next) = code.checked_add(1) else {
+            panic!(rt; "too many")
+        };
+        code = next;
     }
     same(&rt, code, 128);
-    for (c, code) in EXTENSION_TABLE.chars().zip(EXTENSION_CODES.iter()) {
-        let text = c.to_string(rt.alloc())?;
-        writes_and_reads(&rt, text.as_str(), &[0x1b, *code])?;
+    for (c, code) in &EXTENSION_TABLE {
+        writes_character(&rt, rt.alloc(), *c, &[0x1b, *code]);
     }
-    writes_and_reads(&rt, "", &[])?;
-    writes_and_reads(&rt, "A€", &[0x41, 0x1b, 0x65])
+    writes_and_reads(&rt, rt.alloc(), "", &[]);
+    writes_and_reads(&rt, rt.alloc(), "A€", &[0x41, 0x1b, 0x65]);
+}
+
+// The text is spelled in UCS2, as these units.
+fn want_in_ucs2(rt: &impl Abort, alloc: Global, text: &str, units: &[u16]) {
+    want_no_septets(rt, alloc, text);
+    want_ucs2(rt, alloc, text, units);
+    want_chosen(rt, alloc, text, Coding::Ucs2, units);
 }
 
 #[test]
-fn texts_in_ucs2(rt: HostRuntime) -> Result<(), Fail> {
-    let rows: [(&str, &[u16]); 5] = [
-        ("ç", &[0x00e7]),
-        ("\u{1b}", &[0x001b]),
-        ("😀", &[0xd83d, 0xde00]),
-        ("A€ж", &[0x0041, 0x20ac, 0x0436]),
-        (
-            "\u{ffff}\u{10000}\u{10ffff}",
-            &[0xffff, 0xd800, 0xdc00, 0xdbff, 0xdfff],
-        ),
-    ];
-    for (text, units) in rows {
-        same(
-            &rt,
-            (text, septets(rt.alloc(), text)?.is_none()),
-            (text, true),
-        );
-        same(
-            &rt,
-            (text, ucs2(rt.alloc(), text)?.as_slice()),
-            (text, units),
-        );
-        let chosen = choose(rt.alloc(), text)?;
-        same(&rt, (text, chosen.coding), (text, Coding::Ucs2));
-        same(&rt, (text, chosen.units.as_slice()), (text, units));
-        let back = text_of(rt.alloc(), &chosen)?;
-        same(&rt, back.as_str(), text);
+fn texts_in_ucs2(rt: HostRuntime) {
+    for (text, units) in &IN_UCS2 {
+        want_in_ucs2(&rt, rt.alloc(), *text, *units);
     }
-    Ok(())
+}
+
+// There is no text of this spelling, and that is what is told.
+fn want_not_text(rt: &impl Abort, alloc: Global, coded: &Coded) {
+    let told = text_of(alloc, coded);
+    same(rt, told.err(), Some(TextError::NotText));
+}
+
+// No text is spelled by these units, which are kept as they are.
+fn want_no_text(rt: &impl Abort, alloc: Global, coding: Coding, units: &[u16]) {
+    let items = had(rt, Vec::from_slice(alloc, units));
+    let coded = Coded {
+        coding,
+        units: Units::new(items),
+    };
+    want_not_text(rt, alloc, &coded);
+    same(rt, coded.units.len(), units.len());
+    same(rt, coded.units.is_empty(), false);
+    same(rt, coded.units.into_vec().as_slice(), units);
 }
 
 #[test]
-fn units_that_are_no_text(rt: HostRuntime) -> Result<(), Fail> {
-    let rows: [(Coding, &[u16]); 10] = [
-        (Coding::Gsm, &[0x80]),
-        (Coding::Gsm, &[0x41, 0xffff]),
-        (Coding::Gsm, &[0x1b]),
-        (Coding::Gsm, &[0x41, 0x1b]),
-        (Coding::Gsm, &[0x1b, 0x41]),
-        (Coding::Gsm, &[0x1b, 0x1b, 0x65]),
-        (Coding::Ucs2, &[0xd83d]),
-        (Coding::Ucs2, &[0xde00]),
-        (Coding::Ucs2, &[0xd83d, 0x41]),
-        (Coding::Ucs2, &[0xde00, 0xd83d]),
-    ];
-    for (coding, units) in rows {
-        let items = Vec::from_slice(rt.alloc(), units)?;
-        let coded = Coded {
-            coding,
-            units: Units::new(items),
-        };
-        let told = text_of(rt.alloc(), &coded);
-        same(&rt, told.err(), Some(TextError::NotText));
-        same(&rt, coded.units.len(), units.len());
-        assert!(rt; !coded.units.is_empty());
-        same(&rt, coded.units.into_vec().as_slice(), units);
+fn units_that_are_no_text(rt: HostRuntime) {
+    for (coding, units) in &NO_TEXT {
+        want_no_text(&rt, rt.alloc(), *coding, *units);
     }
-    Ok(())
 }
 
-#[test]
-fn what_failures_say(rt: HostRuntime) -> Result<(), Fail> {
-    let not_text = TextError::NotText.to_string(rt.alloc())?;
-    same(&rt, not_text.as_str(), "the units spell no text");
-    let out_of_memory = TextError::OutOfMemory.to_string(rt.alloc())?;
-    same(&rt, out_of_memory.as_str(), "out of memory");
-    let letters = choose(rt.alloc(), "AB")?;
-    let same = choose(rt.alloc(), "AB")?;
-    let other = choose(rt.alloc(), "A")?;
-    assert!(rt; letters == same && letters != other);
+// The failure is told in these words.
+fn want_said(rt: &impl Abort, alloc: Global, failure: TextError, words: &str) {
+    let said = had(rt, failure.to_string(alloc));
+    same(rt, said.as_str(), words);
+}
+
+// Whether the spelling that is chosen for the texts is the same.
+fn want_equal(rt: &impl Abort, alloc: Global, text: &str, other: &str, equal: bool) {
+    let chosen = had(rt, choose(alloc, text));
+    let also = had(rt, choose(alloc, other));
+    same(rt, (chosen == also, chosen != also), (equal, !equal));
+}
+
+// Each law, called once.
+fn call_laws() {
     laws::one_spelling();
     laws::one_character();
     laws::look_up();
@@ -136,5 +203,18 @@ fn what_failures_say(rt: HostRuntime) -> Result<(), Fail> {
     laws::chosen_is_lawful();
     laws::comes_back();
     laws::units_fit();
-    Ok(())
+}
+
+#[test]
+fn what_failures_say(rt: HostRuntime) {
+    want_said(
+        &rt,
+        rt.alloc(),
+        TextError::NotText,
+        "the units spell no text",
+    );
+    want_said(&rt, rt.alloc(), TextError::OutOfMemory, "out of memory");
+    want_equal(&rt, rt.alloc(), "AB", "AB", true);
+    want_equal(&rt, rt.alloc(), "AB", "A", false);
+    call_laws();
 }

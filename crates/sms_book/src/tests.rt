@@ -1,21 +1,24 @@
 //! Money that moves, gathered and compared.
 ghost use Rattle.std.specs.Prelude.{◌≡◌};
 
+use self::calls::{
+    charge_one, gathered, give_back, last_share, not_gathered, only_row, opened, opened_at_last,
+    put_first, want_look, want_reserve, want_rows, want_top_up,
+};
 use crate::blank::Blank;
 use crate::book::Book;
 use crate::error::{BookError, GatherFault};
-use crate::gathering::gather;
 use crate::name::BookName;
 use crate::opening::{Opening, open_book};
 use crate::share::Shares;
 use crate::till::Till;
 use sms_core::{MOST_TOPPED, Row};
 use std::alloc::Global;
-use std::fmt::Debug;
+use std::fmt::{Debug, Display};
 use std::marker::Brand;
 use std::process::Abort;
-use std::test::Fail;
 
+mod calls;
 mod tariffs;
 mod threads;
 
@@ -25,25 +28,43 @@ fn same<T: PartialEq + Debug + Drop>(rt: &impl Abort, got: T, wanted: T) {
     assert_eq!(rt; got, wanted);
 }
 
-fn openings_of(alloc: Global, accounts: &[(&str, u64)]) -> Result<Vec<Opening>, Fail> {
+// What was asked for is there.
+fn had<T: Drop, E: Drop>(rt: &impl Abort, got: Result<T, E>) -> T {
+    match got {
+        Ok(it) => it,
+        Err(_) => panic!(rt; "refused"),
+    }
+}
+
+fn push_opening(
+    rt: &impl Abort,
+    alloc: Global,
+    openings: &mut Vec<Opening>,
+    name: &str,
+    credits: u64,
+) {
+    let name = had(rt, String::from_str(alloc, name));
+    had(rt, openings.push(Opening { name, credits }));
+}
+
+fn openings_of(rt: &impl Abort, alloc: Global, accounts: &[(&str, u64)]) -> Vec<Opening> {
     let mut openings = Vec::new(alloc);
     for (name, credits) in accounts {
-        openings.push(Opening {
-            name: String::from_str(alloc, name)?,
-            credits: *credits,
-        })?;
+        push_opening(rt, alloc, &mut openings, name, *credits);
     }
-    Ok(openings)
+    openings
 }
 
-fn blank_of(alloc: Global, credits: u64, workers: usize) -> Result<Blank, Fail> {
-    let openings = openings_of(alloc, &[("main", credits)])?;
-    Ok(open_book(alloc, openings.as_slice(), workers)?)
+fn blank_for(rt: &impl Abort, alloc: Global, accounts: &[(&str, u64)], workers: usize) -> Blank {
+    let openings = openings_of(rt, alloc, accounts);
+    had(rt, open_book(alloc, openings.as_slice(), workers))
 }
 
-// A row with these amounts: topped, free, reserved, charged, returned.
-fn row_of(amounts: [u64; 5]) -> Row {
-    let [topped, free, reserved, charged, returned] = amounts;
+fn blank_of(rt: &impl Abort, alloc: Global, credits: u64, workers: usize) -> Blank {
+    blank_for(rt, alloc, &[("main", credits)], workers)
+}
+
+fn row_of(topped: u64, free: u64, reserved: u64, charged: u64, returned: u64) -> Row {
     Row {
         topped,
         free,
@@ -53,52 +74,38 @@ fn row_of(amounts: [u64; 5]) -> Row {
     }
 }
 
-// The only row of a book whose till and shares all come back.
-fn only_row<N: BookName>(
+// Of 5 credits 2 are reserved, of which one is charged and one comes back.
+fn move_credits<N: BookName>(
     rt: &impl Abort,
-    book: Book<N>,
-    till: Till<N>,
-    shares: Vec<Shares<N>>,
-) -> Row {
-    let Ok(statement) = gather(book, till, shares) else {
-        panic!(rt; "not gathered")
-    };
-    assert!(rt; statement.rows().len() == 1);
-    let row = statement.rows()[0];
-    same(rt, statement.into_rows().len(), 1);
-    row
+    book: &mut Book<N>,
+    till: &mut Till<N>,
+    share: &mut Shares<N>,
+) {
+    want_top_up(rt, book, till, 0, 5, Ok(()));
+    want_reserve(rt, book, share, 0, 2, Ok(()));
+    same(rt, share.reserved(1), 0);
+    same(rt, share.accounts(), 1);
+    charge_one(rt, book, share, 2);
+    want_look(rt, book, share, 0, Some(row_of(5, 3, 1, 1, 0)));
+    want_look(rt, book, share, 1, None);
+    give_back(rt, book, share, 1, 1);
 }
 
 fn moves<N: BookName>(rt: &impl Abort, alloc: Global, blank: Blank)
     requires { blank.book ≡ N.book }
 {
-    let Ok((mut book, mut till, mut shares)) = blank.into_book::<N>(alloc) else {
-        panic!(rt; "no book")
-    };
-    let Some(mut share) = shares.pop() else {
-        panic!(rt; "no share")
-    };
-    assert!(rt; book.top_up(&mut till, 0, 5) == Ok(()));
-    assert!(rt; book.reserve(&mut share, 0, 2) == Ok(()));
-    assert!(rt; share.reserved(0) == 2 && share.reserved(1) == 0);
-    same(rt, share.accounts(), 1);
-    book.charge(&mut share, 0, 1);
-    let row = row_of([5, 3, 1, 1, 0]);
-    assert!(rt; book.look(&mut share, 0) == Some(row) && book.look(&mut share, 1) == None);
-    assert!(rt; share.reserved(0) == 1);
-    book.give_back(&mut share, 0, 1);
-    let Ok(()) = shares.push(share) else {
-        panic!(rt; "no memory")
-    };
-    let row = row_of([5, 4, 0, 1, 1]);
+    let (mut book, mut till, mut shares) = opened::<N>(rt, alloc, blank);
+    let mut share = last_share(rt, &mut shares);
+    move_credits(rt, &mut book, &mut till, &mut share);
+    had(rt, shares.push(share));
+    let row = row_of(5, 4, 0, 1, 1);
     same(rt, only_row(rt, book, till, shares), row);
 }
 
 #[test]
-fn money_moves(rt: HostRuntime) -> Result<(), Fail> {
-    let blank = blank_of(rt.alloc(), 0, 1)?;
+fn money_moves(rt: HostRuntime) {
+    let blank = blank_of(&rt, rt.alloc(), 0, 1);
     moves::<Brand>(&rt, rt.alloc(), blank);
-    Ok(())
 }
 
 // A book of these accounts for so many workers is refused so, or opens.
@@ -108,186 +115,196 @@ fn want_opening(
     accounts: &[(&str, u64)],
     workers: usize,
     wanted: Option<BookError>,
-) -> Result<(), Fail> {
-    let openings = openings_of(alloc, accounts)?;
-    let fault = match open_book(alloc, openings.as_slice(), workers) {
-        Err(fault) => Some(fault),
-        Ok(_) => None,
-    };
-    same(rt, fault, wanted);
-    Ok(())
+) {
+    let openings = openings_of(rt, alloc, accounts);
+    same(
+        rt,
+        open_book(alloc, openings.as_slice(), workers).err(),
+        wanted,
+    );
 }
 
+const OVER: u64 = MOST_TOPPED + 1;
+
+// Accounts, for so many workers, and why they make no book.
+const OPENINGS: [(&[(&str, u64)], usize, Option<BookError>); 8] = [
+    (
+        &[("a", 0), ("a", OVER)],
+        1,
+        Some(BookError::Duplicate {
+            first: 0,
+            second: 1,
+        }),
+    ),
+    (
+        &[("a", 0), ("b", 0), ("c", 0), ("b", 0), ("a", 0), ("b", 0)],
+        1,
+        Some(BookError::Duplicate {
+            first: 1,
+            second: 3,
+        }),
+    ),
+    (&[("a", OVER); 65], 1, Some(BookError::BadCount)),
+    (&[], 1, Some(BookError::BadCount)),
+    (&[("a", OVER)], 0, Some(BookError::BadCount)),
+    (&[("a", OVER)], 33, Some(BookError::BadCount)),
+    (&[("a", OVER)], 32, Some(BookError::AmountTooLarge)),
+    (&[("a", MOST_TOPPED), ("b", 1)], 32, None),
+];
+
 #[test]
-fn openings_are_refused(rt: HostRuntime) -> Result<(), Fail> {
-    let over = MOST_TOPPED + 1;
-    let first = BookError::Duplicate {
-        first: 0,
-        second: 1,
-    };
-    let earliest = BookError::Duplicate {
-        first: 1,
-        second: 3,
-    };
-    let many = [("a", over); 65];
-    let cases: [(&[(&str, u64)], usize, Option<BookError>); 8] = [
-        (&[("a", 0), ("a", over)], 1, Some(first)),
-        (
-            &[("a", 0), ("b", 0), ("c", 0), ("b", 0), ("a", 0), ("b", 0)],
-            1,
-            Some(earliest),
-        ),
-        (&many, 1, Some(BookError::BadCount)),
-        (&[], 1, Some(BookError::BadCount)),
-        (&[("a", over)], 0, Some(BookError::BadCount)),
-        (&[("a", over)], 33, Some(BookError::BadCount)),
-        (&[("a", over)], 32, Some(BookError::AmountTooLarge)),
-        (&[("a", MOST_TOPPED), ("b", 1)], 32, None),
-    ];
-    for (accounts, workers, wanted) in cases {
-        want_opening(&rt, rt.alloc(), accounts, workers, wanted)?;
+fn openings_are_refused(rt: HostRuntime) {
+    for (accounts, workers, wanted) in OPENINGS {
+        want_opening(&rt, rt.alloc(), accounts, workers, wanted);
     }
-    Ok(())
+}
+
+// One credit is free, and two shares are dealt out, of which this one isn't in the list.
+fn refuse_moves<N: BookName>(
+    rt: &impl Abort,
+    book: &mut Book<N>,
+    till: &mut Till<N>,
+    share: &mut Shares<N>,
+) {
+    want_reserve(rt, book, share, 1, 1, Err(BookError::NoAccount));
+    let credit = BookError::NoCredit { free: 1, needed: 2 };
+    want_reserve(rt, book, share, 0, 2, Err(credit));
+    want_top_up(rt, book, till, 1, 1, Err(BookError::NoAccount));
+    want_top_up(
+        rt,
+        book,
+        till,
+        0,
+        MOST_TOPPED,
+        Err(BookError::AmountTooLarge),
+    );
 }
 
 fn calls_refused<N: BookName>(rt: &impl Abort, alloc: Global, blank: Blank)
     requires { blank.book ≡ N.book }
 {
-    let Ok((mut book, mut till, mut shares)) = blank.into_book::<N>(alloc) else {
-        panic!(rt; "no book")
-    };
-    let Some(mut share) = shares.pop() else {
-        panic!(rt; "no share")
-    };
-    assert!(rt; book.reserve(&mut share, 1, 1) == Err(BookError::NoAccount));
-    assert!(rt; book.reserve(&mut share, 0, 2) == Err(BookError::NoCredit { free: 1, needed: 2 }));
-    assert!(rt; book.top_up(&mut till, 1, 1) == Err(BookError::NoAccount));
-    assert!(rt; book.top_up(&mut till, 0, MOST_TOPPED) == Err(BookError::AmountTooLarge));
-    let Err((fault, book, till, mut shares)) = gather(book, till, shares) else {
-        panic!(rt; "a share is missing")
-    };
-    assert!(rt; fault == GatherFault::MissingShare && shares.len() == 1);
+    let (mut book, mut till, mut shares) = opened::<N>(rt, alloc, blank);
+    let mut share = last_share(rt, &mut shares);
+    refuse_moves(rt, &mut book, &mut till, &mut share);
+    let (book, till, mut shares) = not_gathered(rt, book, till, shares);
     // The second share before the first.
-    let Ok(()) = shares.insert(0, share) else {
-        panic!(rt; "no memory")
-    };
-    let row = row_of([1, 1, 0, 0, 0]);
+    put_first(rt, &mut shares, share);
+    let row = row_of(1, 1, 0, 0, 0);
     same(rt, only_row(rt, book, till, shares), row);
 }
 
 #[test]
-fn calls_are_refused(rt: HostRuntime) -> Result<(), Fail> {
-    let blank = blank_of(rt.alloc(), 1, 2)?;
+fn calls_are_refused(rt: HostRuntime) {
+    let blank = blank_of(&rt, rt.alloc(), 1, 2);
     calls_refused::<Brand>(&rt, rt.alloc(), blank);
-    Ok(())
+}
+
+// All credits are reserved and come back, 2^20 times.
+fn reserve_and_return<N: BookName>(rt: &impl Abort, book: &mut Book<N>, share: &mut Shares<N>) {
+    for _ in 0..1_048_576 {
+        want_reserve(rt, book, share, 0, MOST_TOPPED, Ok(()));
+        give_back(rt, book, share, MOST_TOPPED, MOST_TOPPED);
+    }
+}
+
+// What was returned has its bound; where the credits are wanting too, that is told.
+fn return_to_the_bound<N: BookName>(
+    rt: &impl Abort,
+    book: &mut Book<N>,
+    till: &mut Till<N>,
+    share: &mut Shares<N>,
+) {
+    want_top_up(rt, book, till, 0, 1, Err(BookError::AmountTooLarge));
+    reserve_and_return(rt, book, share);
+    want_reserve(rt, book, share, 0, 1, Err(BookError::AmountTooLarge));
+    let free = MOST_TOPPED;
+    let needed = free + 1;
+    let credit = BookError::NoCredit { free, needed };
+    want_reserve(rt, book, share, 0, needed, Err(credit));
 }
 
 fn returns<N: BookName>(rt: &impl Abort, alloc: Global, blank: Blank)
     requires { blank.book ≡ N.book }
 {
-    let Ok((mut book, mut till, mut shares)) = blank.into_book::<N>(alloc) else {
-        panic!(rt; "no book")
-    };
-    let Some(mut share) = shares.pop() else {
-        panic!(rt; "no share")
-    };
-    assert!(rt; book.top_up(&mut till, 0, 1) == Err(BookError::AmountTooLarge));
-    for _ in 0..1_048_576 {
-        assert!(rt; book.reserve(&mut share, 0, MOST_TOPPED) == Ok(()));
-        assert!(rt; share.reserved(0) == MOST_TOPPED);
-        book.give_back(&mut share, 0, MOST_TOPPED);
-    }
-    assert!(rt; book.reserve(&mut share, 0, 1) == Err(BookError::AmountTooLarge));
-    // Where both hold, the want of credit is told.
-    let free = MOST_TOPPED;
-    let needed = free + 1;
-    assert!(rt; book.reserve(&mut share, 0, needed) == Err(BookError::NoCredit { free, needed }));
-    let Ok(()) = shares.push(share) else {
-        panic!(rt; "no memory")
-    };
-    let row = row_of([MOST_TOPPED, MOST_TOPPED, 0, 0, 1 << 60]);
+    let (mut book, mut till, mut shares) = opened::<N>(rt, alloc, blank);
+    let mut share = last_share(rt, &mut shares);
+    return_to_the_bound(rt, &mut book, &mut till, &mut share);
+    had(rt, shares.push(share));
+    let row = row_of(MOST_TOPPED, MOST_TOPPED, 0, 0, 1 << 60);
     same(rt, only_row(rt, book, till, shares), row);
 }
 
 #[test]
-fn returned_credits_are_bounded(rt: HostRuntime) -> Result<(), Fail> {
-    let blank = blank_of(rt.alloc(), MOST_TOPPED, 1)?;
+fn returned_credits_are_bounded(rt: HostRuntime) {
+    let blank = blank_of(&rt, rt.alloc(), MOST_TOPPED, 1);
     returns::<Brand>(&rt, rt.alloc(), blank);
-    Ok(())
 }
 
-fn opens<N: BookName>(rt: &impl Abort, alloc: Global, blank: Blank) -> Result<(), Fail>
-    requires { blank.book ≡ N.book }
-{
-    let opened = match blank.open::<N>(alloc) {
-        Ok(opened) => opened,
-        Err((_no_memory, same)) => match same.open::<N>(alloc) {
-            Ok(opened) => opened,
-            Err(_) => panic!(rt; "no memory twice"),
-        },
-    };
-    let (book, till, mut shares) = opened;
+// There are three shares, and they have nothing of two accounts.
+fn want_nothing<N: BookName>(rt: &impl Abort, shares: &[Shares<N>]) {
     same(rt, shares.len(), 3);
-    for share in shares.iter_mut() {
+    for share in shares {
         assert!(rt; share.reserved(0) == 0 && share.reserved(1) == 0);
     }
-    let Ok(statement) = gather(book.into_inner(), till, shares) else {
-        panic!(rt; "not gathered")
-    };
-    let rows = [7, 9].map(|credits| row_of([credits, credits, 0, 0, 0]));
-    assert!(rt; statement.rows() == rows.as_slice());
-    Ok(())
+}
+
+fn opens<N: BookName>(rt: &impl Abort, alloc: Global, blank: Blank)
+    requires { blank.book ≡ N.book }
+{
+    let (book, till, shares) = opened_at_last::<N>(rt, alloc, blank);
+    want_nothing(rt, shares.as_slice());
+    let statement = gathered(rt, book.into_inner(), till, shares);
+    want_rows(
+        rt,
+        &statement,
+        &[row_of(7, 7, 0, 0, 0), row_of(9, 9, 0, 0, 0)],
+    );
 }
 
 // Where one allocation fails, the blank comes back as it was, and opens at the second try.
 #[test]
-fn a_blank_comes_back(rt: HostRuntime) -> Result<(), Fail> {
-    let alloc = rt.alloc();
-    let openings = openings_of(alloc, &[("main", 7), ("other", 9)])?;
-    let blank = open_book(alloc, openings.as_slice(), 3)?;
-    opens::<Brand>(&rt, alloc, blank)
+fn a_blank_comes_back(rt: HostRuntime) {
+    let blank = blank_for(&rt, rt.alloc(), &[("main", 7), ("other", 9)], 3);
+    opens::<Brand>(&rt, rt.alloc(), blank);
 }
 
 // A refusal says this.
-fn want_text(rt: &impl Abort, alloc: Global, fault: BookError, wanted: &str) -> Result<(), Fail> {
-    let text = format!(in alloc; "{fault}")?;
+fn want_text<T: Display + Drop>(rt: &impl Abort, alloc: Global, fault: T, wanted: &str) {
+    let text = had(rt, format!(in alloc; "{fault}"));
     same(rt, text.as_str(), wanted);
-    Ok(())
 }
 
-// What each refusal says, with its numbers in their places.
+// Each refusal, with its numbers in their places.
+const TEXTS: [(BookError, &str); 6] = [
+    (
+        BookError::BadCount,
+        "a book has 1 to 64 accounts and 1 to 32 workers",
+    ),
+    (
+        BookError::Duplicate {
+            first: 3,
+            second: 4,
+        },
+        "accounts 3 and 4 have the same name",
+    ),
+    (BookError::AmountTooLarge, "the amount is too large"),
+    (
+        BookError::NoCredit { free: 1, needed: 2 },
+        "1 credits are free, and 2 are needed",
+    ),
+    (BookError::NoAccount, "there is no such account"),
+    (BookError::OutOfMemory, "out of memory"),
+];
+
 #[test]
-fn refusals_say_their_numbers(rt: HostRuntime) -> Result<(), Fail> {
-    let rows = [
-        (
-            BookError::BadCount,
-            "a book has 1 to 64 accounts and 1 to 32 workers",
-        ),
-        (
-            BookError::Duplicate {
-                first: 3,
-                second: 4,
-            },
-            "accounts 3 and 4 have the same name",
-        ),
-        (BookError::AmountTooLarge, "the amount is too large"),
-        (
-            BookError::NoCredit { free: 1, needed: 2 },
-            "1 credits are free, and 2 are needed",
-        ),
-        (BookError::NoAccount, "there is no such account"),
-        (BookError::OutOfMemory, "out of memory"),
-    ];
-    for (fault, text) in rows {
-        want_text(&rt, rt.alloc(), fault, text)?;
+fn refusals_say_their_numbers(rt: HostRuntime) {
+    for (fault, text) in TEXTS {
+        want_text(&rt, rt.alloc(), fault, text);
     }
-    Ok(())
 }
 
 #[test]
-fn a_missing_share_is_told(rt: HostRuntime) -> Result<(), Fail> {
+fn a_missing_share_is_told(rt: HostRuntime) {
     let missing = GatherFault::MissingShare;
-    let text = format!(in rt.alloc(); "{missing}")?;
-    same(&rt, text.as_str(), "a worker's share is missing");
-    Ok(())
+    want_text(&rt, rt.alloc(), missing, "a worker's share is missing");
 }

@@ -1,9 +1,9 @@
 //! A few schedules worked out by hand, and each call with memory at hand.
 
 use crate::*;
+use std::alloc::Global;
 use std::fmt::Debug;
 use std::process::Abort;
-use std::test::Fail;
 
 // Both are the same. A test that compares by a call has a short proof: what is printed where they
 // differ stands here alone.
@@ -95,12 +95,24 @@ fn want_held(rt: &impl Abort, world: &World, requests: usize, holder: Option<u32
     same(rt, world.holder(0), holder);
 }
 
+// A world with one account and a limit of one.
+fn world_of(rt: &impl Abort, alloc: Global, attempts: u32) -> World {
+    match World::new(alloc, 1, 1, attempts) {
+        Ok(world) => world,
+        Err(_) => panic!(rt; "no world"),
+    }
+}
+
+// No world has these limits.
+fn want_no_world(rt: &impl Abort, alloc: Global, accounts: u32, limit: u32, attempts: u32) {
+    let made = World::new(alloc, accounts, limit, attempts);
+    assert!(rt; matches!(made, Err(CoreError::BadLimit)));
+}
+
 #[test]
 fn refuses_limits(rt: HostRuntime) {
-    for (accounts, limit, attempts) in [(1, 65, 3), (0, 1, 1)] {
-        let made = World::new(rt.alloc(), accounts, limit, attempts);
-        assert!(rt; matches!(made, Err(CoreError::BadLimit)));
-    }
+    want_no_world(&rt, rt.alloc(), 1, 65, 3);
+    want_no_world(&rt, rt.alloc(), 0, 1, 1);
 }
 
 // The event changes nothing, and this is why.
@@ -111,26 +123,55 @@ fn want_ignored(rt: &impl Abort, world: &mut World, event: Event, cause: Cause) 
     same(rt, step, Step::Ignored(cause));
 }
 
-#[test]
-fn ignores_events(rt: HostRuntime) -> Result<(), Fail> {
-    let mut world = World::new(rt.alloc(), 1, 1, 1)?;
+// A new world with one account ignores these events, and stays as it is.
+fn ignored(rt: &impl Abort, world: &mut World) {
+    want_ignored(rt, world, reserve(1, 1), Cause::NoCredit);
+    let second = Event::Claim { worker: 1, slot: 1 };
+    want_ignored(rt, world, second, Cause::SlotHeld);
     let release = Event::Release { worker: 1, slot: 0 };
-    for (event, cause) in [
-        (reserve(1, 1), Cause::NoCredit),
-        (Event::Claim { worker: 1, slot: 1 }, Cause::SlotHeld),
-        (release, Cause::NotHolder),
-        (Event::Discard { request: 9 }, Cause::NoRequest),
-    ] {
-        want_ignored(&rt, &mut world, event, cause);
-    }
-    same(&rt, world.accounts(), 1);
-    want_row(&rt, &world, row(0, 0, 0, 0, 0), 1);
-    Ok(())
+    want_ignored(rt, world, release, Cause::NotHolder);
+    let discard = Event::Discard { request: 9 };
+    want_ignored(rt, world, discard, Cause::NoRequest);
+    same(rt, world.accounts(), 1);
+    want_row(rt, world, row(0, 0, 0, 0, 0), 1);
 }
 
 #[test]
-fn late_answer_changes_nothing(rt: HostRuntime) -> Result<(), Fail> {
-    let mut world = World::new(rt.alloc(), 1, 1, 1)?;
+fn ignores_events(rt: HostRuntime) {
+    let mut world = world_of(&rt, rt.alloc(), 1);
+    ignored(&rt, &mut world);
+}
+
+// What comes of events: their steps, the first account's row, the next number, how the requests of
+// these numbers stand, how many requests there are, and who holds the first slot.
+#[derive(Clone, Copy)]
+struct Wanted<'a> {
+    steps: &'a [Step],
+    row: Option<Row>,
+    next: u64,
+    states: &'a [(u32, Option<RequestState>)],
+    requests: usize,
+    holder: Option<u32>,
+}
+
+// The requests stand so.
+fn want_requests(rt: &impl Abort, world: &World, states: &[(u32, Option<RequestState>)]) {
+    for (id, wanted) in states {
+        want_request(rt, world, *id, *wanted);
+    }
+}
+
+// In a new world this comes of the events.
+fn want_run(rt: &impl Abort, alloc: Global, attempts: u32, events: &[Event], wanted: Wanted) {
+    let mut world = world_of(rt, alloc, attempts);
+    want_steps(rt, &mut world, events, wanted.steps);
+    want_row(rt, &world, wanted.row, wanted.next);
+    want_requests(rt, &world, wanted.states);
+    want_held(rt, &world, wanted.requests, wanted.holder);
+}
+
+#[test]
+fn late_answer_changes_nothing(rt: HostRuntime) {
     let events = [
         top_up(0, 2),
         reserve(1, 1),
@@ -144,19 +185,26 @@ fn late_answer_changes_nothing(rt: HostRuntime) -> Result<(), Fail> {
         settle(7),
         Event::Release { worker: 7, slot: 0 },
     ];
-    let wanted = [
+    let steps = [
         DONE, DONE, DONE, DONE, DONE, DONE, DONE, UNKNOWN, DONE, DONE, DONE,
     ];
-    want_steps(&rt, &mut world, &events, &wanted);
-    want_row(&rt, &world, row(2, 0, 1, 1, 0), 3);
-    want_request(&rt, &world, 1, state(1, 1, Phase::Unanswered));
-    want_request(&rt, &world, 2, state(1, 1, Phase::Charged));
-    want_held(&rt, &world, 2, None);
-    Ok(())
+    let wanted = Wanted {
+        steps: &steps,
+        row: row(2, 0, 1, 1, 0),
+        next: 3,
+        states: &[
+            (1, state(1, 1, Phase::Unanswered)),
+            (2, state(1, 1, Phase::Charged)),
+        ],
+        requests: 2,
+        holder: None,
+    };
+    want_run(&rt, rt.alloc(), 1, &events, wanted);
 }
 
-// A request is answered with ESME_ROK, which a generic_nack may have, and then once more.
-fn answered_once(rt: &impl Abort, world: &mut World, nack: bool) {
+// A request is answered with ESME_ROK, which a generic_nack may have, and then once more. It ends in
+// this phase, and the account's row is this.
+fn want_end(rt: &impl Abort, alloc: Global, nack: bool, row: Option<Row>, phase: Phase) {
     let events = [
         top_up(0, 1),
         reserve(1, 1),
@@ -167,28 +215,26 @@ fn answered_once(rt: &impl Abort, world: &mut World, nack: bool) {
         settle(1),
         respond(1, 0, false),
     ];
-    let wanted = [DONE, DONE, DONE, DONE, DONE, UNKNOWN, DONE, UNKNOWN];
-    want_steps(rt, world, &events, &wanted);
-    want_held(rt, world, 1, Some(1));
+    let steps = [DONE, DONE, DONE, DONE, DONE, UNKNOWN, DONE, UNKNOWN];
+    let wanted = Wanted {
+        steps: &steps,
+        row,
+        next: 2,
+        states: &[(1, state(1, 1, phase))],
+        requests: 1,
+        holder: Some(1),
+    };
+    want_run(rt, alloc, 3, &events, wanted);
 }
 
 #[test]
-fn answers_end_a_request_once(rt: HostRuntime) -> Result<(), Fail> {
-    for (nack, balance, phase) in [
-        (false, row(1, 0, 0, 1, 0), Phase::Charged),
-        (true, row(1, 1, 0, 0, 1), Phase::Refused),
-    ] {
-        let mut world = World::new(rt.alloc(), 1, 1, 3)?;
-        answered_once(&rt, &mut world, nack);
-        want_row(&rt, &world, balance, 2);
-        want_request(&rt, &world, 1, state(1, 1, phase));
-    }
-    Ok(())
+fn answers_end_a_request_once(rt: HostRuntime) {
+    want_end(&rt, rt.alloc(), false, row(1, 0, 0, 1, 0), Phase::Charged);
+    want_end(&rt, rt.alloc(), true, row(1, 1, 0, 0, 1), Phase::Refused);
 }
 
 #[test]
-fn a_cost_is_1_to_1_000(rt: HostRuntime) -> Result<(), Fail> {
-    let mut world = World::new(rt.alloc(), 1, 1, 1)?;
+fn a_cost_is_1_to_1_000(rt: HostRuntime) {
     let events = [
         top_up(0, 2_000),
         reserve(1, 1_000),
@@ -198,28 +244,36 @@ fn a_cost_is_1_to_1_000(rt: HostRuntime) -> Result<(), Fail> {
         reserve(5, 1),
     ];
     let bad = Step::Ignored(Cause::BadCost);
-    let wanted = [DONE, DONE, bad, bad, DONE, Step::Ignored(Cause::NoCredit)];
-    want_steps(&rt, &mut world, &events, &wanted);
-    want_row(&rt, &world, row(2_000, 0, 2_000, 0, 0), 1);
-    want_request(&rt, &world, 4, state(1_000, 0, Phase::Ready));
-    Ok(())
+    let steps = [DONE, DONE, bad, bad, DONE, Step::Ignored(Cause::NoCredit)];
+    let wanted = Wanted {
+        steps: &steps,
+        row: row(2_000, 0, 2_000, 0, 0),
+        next: 1,
+        states: &[(4, state(1_000, 0, Phase::Ready))],
+        requests: 2,
+        holder: None,
+    };
+    want_run(&rt, rt.alloc(), 1, &events, wanted);
 }
 
 #[test]
-fn discards_a_request_once(rt: HostRuntime) -> Result<(), Fail> {
-    let mut world = World::new(rt.alloc(), 1, 1, 2)?;
+fn discards_a_request_once(rt: HostRuntime) {
     let discard = Event::Discard { request: 1 };
     let events = [top_up(0, 5), reserve(1, 1), discard, discard];
-    let wanted = [DONE, DONE, DONE, Step::Ignored(Cause::NoRequest)];
-    want_steps(&rt, &mut world, &events, &wanted);
-    want_row(&rt, &world, row(5, 5, 0, 0, 1), 1);
-    want_request(&rt, &world, 1, state(1, 0, Phase::Unsent));
-    Ok(())
+    let steps = [DONE, DONE, DONE, Step::Ignored(Cause::NoRequest)];
+    let wanted = Wanted {
+        steps: &steps,
+        row: row(5, 5, 0, 0, 1),
+        next: 1,
+        states: &[(1, state(1, 0, Phase::Unsent))],
+        requests: 1,
+        holder: None,
+    };
+    want_run(&rt, rt.alloc(), 2, &events, wanted);
 }
 
 #[test]
-fn retries_until_the_attempts_are_used_up(rt: HostRuntime) -> Result<(), Fail> {
-    let mut world = World::new(rt.alloc(), 1, 1, 2)?;
+fn retries_until_the_attempts_are_used_up(rt: HostRuntime) {
     let events = [
         top_up(0, 5),
         reserve(2, 3),
@@ -231,41 +285,63 @@ fn retries_until_the_attempts_are_used_up(rt: HostRuntime) -> Result<(), Fail> {
         respond(2, ESME_RTHROTTLED, false),
         settle(1),
     ];
-    want_steps(&rt, &mut world, &events, &[DONE; 9]);
-    want_row(&rt, &world, row(5, 5, 0, 0, 3), 3);
-    want_request(&rt, &world, 2, state(3, 2, Phase::Refused));
-    Ok(())
+    let wanted = Wanted {
+        steps: &[DONE; 9],
+        row: row(5, 5, 0, 0, 3),
+        next: 3,
+        states: &[(2, state(3, 2, Phase::Refused))],
+        requests: 1,
+        holder: Some(1),
+    };
+    want_run(&rt, rt.alloc(), 2, &events, wanted);
 }
+
+// Statuses, whether a generic_nack has them, whether they charge, and whether they are tried again.
+const REPLIES: [(u32, bool, bool, bool); 6] = [
+    (0x00, false, true, false),
+    (0x00, true, false, false),
+    (0x14, false, false, true),
+    (0x58, false, false, true),
+    (0x58, true, false, false),
+    (0x45, false, false, false),
+];
 
 #[test]
 fn which_replies_charge_and_which_are_tried_again(rt: HostRuntime) {
-    for (status, nack, charge, retry) in [
-        (0x00, false, true, false),
-        (0x00, true, false, false),
-        (0x14, false, false, true),
-        (0x58, false, false, true),
-        (0x58, true, false, false),
-        (0x45, false, false, false),
-    ] {
+    for (status, nack, charge, retry) in REPLIES {
         same(&rt, is_charge(status, nack), charge);
         same(&rt, is_retry(status, nack), retry);
     }
 }
 
+// Texts, the largest number that is asked for, and the number.
+const NUMBERS: [(&str, u64, Option<u64>); 7] = [
+    ("0", 0, Some(0)),
+    ("00000000000000000007", 9, Some(7)),
+    ("000000000000000000007", 9, None),
+    ("4294967295", 0xFFFF_FFFF, Some(0xFFFF_FFFF)),
+    ("4294967296", 0xFFFF_FFFF, None),
+    ("18446744073709551615", u64::MAX, Some(u64::MAX)),
+    ("18446744073709551616", u64::MAX, None),
+];
+
+const NO_NUMBERS: [&str; 8] = ["", " 1", "1 ", "+1", "-1", "1e3", "0x10", "1_000"];
+
+// The text is this number, or none that is at most so large.
+fn want_decimal(rt: &impl Abort, text: &str, most: u64, wanted: Option<u64>) {
+    same(rt, decimal_of(text.as_bytes(), most), wanted);
+}
+
+fn want_no_numbers(rt: &impl Abort) {
+    for text in NO_NUMBERS {
+        want_decimal(rt, text, u64::MAX, None);
+    }
+}
+
 #[test]
 fn reads_decimal_numbers(rt: HostRuntime) {
-    for (text, most, wanted) in [
-        ("0", 0, Some(0)),
-        ("00000000000000000007", 9, Some(7)),
-        ("000000000000000000007", 9, None),
-        ("4294967295", 0xFFFF_FFFF, Some(0xFFFF_FFFF)),
-        ("4294967296", 0xFFFF_FFFF, None),
-        ("18446744073709551615", u64::MAX, Some(u64::MAX)),
-        ("18446744073709551616", u64::MAX, None),
-    ] {
-        same(&rt, decimal_of(text.as_bytes(), most), wanted);
+    for (text, most, wanted) in NUMBERS {
+        want_decimal(&rt, text, most, wanted);
     }
-    for text in ["", " 1", "1 ", "+1", "-1", "1e3", "0x10", "1_000"] {
-        same(&rt, decimal_of(text.as_bytes(), u64::MAX), None);
-    }
+    want_no_numbers(&rt);
 }

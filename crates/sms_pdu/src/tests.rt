@@ -1,6 +1,6 @@
 //! Tests of the PDUs, by values from outside.
 use super::*;
-use std::alloc::{AllocError, Global};
+use std::alloc::Global;
 use std::fmt::Debug;
 use std::process::Abort;
 use std::test::*;
@@ -18,56 +18,95 @@ fn same<T: PartialEq + Debug + Drop>(rt: &impl Abort, got: T, wanted: T) {
     assert_eq!(rt; got, wanted);
 }
 
-const ENQUIRE_LINK: [u8; 16] = [0, 0, 0, 16, 0, 0, 0, 0x15, 0, 0, 0, 0, 0, 0, 0, 2];
+const ENQUIRE_LINK: &[u8] = &[0, 0, 0, 16, 0, 0, 0, 0x15, 0, 0, 0, 0, 0, 0, 0, 2];
 
 // submit_sm number 2 of `Hi` from 12345 to 447700900123.
-const SUBMIT: &[u8; 52] =
+const SUBMIT: &[u8] =
     b"\x00\x00\x00\x34\x00\x00\x00\x04\x00\x00\x00\x00\x00\x00\x00\x02\x00\x01\x0112345\x00\x01\x01447700900123\x00\x00\x00\x00\x00\x00\x00\x00\x00\x00\x02Hi";
 
 // Its body.
-const HI: &[u8; 36] =
+const HI: &[u8] =
     b"\x00\x01\x0112345\x00\x01\x01447700900123\x00\x00\x00\x00\x00\x00\x00\x00\x00\x00\x02Hi";
 
 // The body of a bind of esme with the password pw.
-const ESME: &[u8; 13] = b"esme\x00pw\x00\x00\x34\x00\x00\x00";
+const ESME: &[u8] = b"esme\x00pw\x00\x00\x34\x00\x00\x00";
 
 const NUMBER: u32 = 0x0102_0304;
 
-fn put(octets: &mut Vec<u8>, more: &[u8]) -> Result<(), AllocError> {
-    octets.extend_from_slice(more)
+// What was got; a test that got an error has failed.
+fn had<T: Drop, E: Debug + Drop>(rt: &impl Abort, got: Result<T, E>) -> T {
+    match got {
+        Ok(it) => it,
+        Err(error) => panic!(rt; "{error:?}"),
+    }
+}
+
+fn put(rt: &impl Abort, octets: &mut Vec<u8>, more: &[u8]) {
+    had(rt, octets.extend_from_slice(more));
+}
+
+// These octets, and these behind them.
+fn joined(rt: &impl Abort, alloc: Global, octets: &[u8], more: &[u8]) -> Vec<u8> {
+    let mut both = had(rt, Vec::from_slice(alloc, octets));
+    put(rt, &mut both, more);
+    both
+}
+
+fn put_number(rt: &impl Abort, octets: &mut Vec<u8>, number: u32) {
+    put(rt, octets, &number.to_be_bytes());
+}
+
+// Octets that begin so, with 0 up to this length.
+fn zeros_behind(rt: &impl Abort, alloc: Global, front: &[u8], length: usize) -> Vec<u8> {
+    let mut octets = had(rt, Vec::from_slice(alloc, front));
+    had(rt, octets.resize(length, 0));
+    octets
 }
 
 // The header of SMPP 3.4 3.2 before a body.
-fn with_header(alloc: Global, command: u32, status: u32, body: &[u8]) -> Result<Vec<u8>, Fail> {
-    let length = u32::try_from(body.len())?.saturating_add(16);
+fn with_header(rt: &impl Abort, alloc: Global, command: u32, status: u32, body: &[u8]) -> Vec<u8> {
+    let length = had(rt, u32::try_from(body.len())).saturating_add(16);
     let mut octets = Vec::new(alloc);
-    for number in [length, command, status, NUMBER] {
-        put(&mut octets, &number.to_be_bytes())?;
-    }
-    put(&mut octets, body)?;
-    Ok(octets)
+    put_number(rt, &mut octets, length);
+    put_number(rt, &mut octets, command);
+    put_number(rt, &mut octets, status);
+    put_number(rt, &mut octets, NUMBER);
+    put(rt, &mut octets, body);
+    octets
 }
 
 // The PDU that these octets spell.
-fn decoded(alloc: Global, octets: &[u8]) -> Result<Pdu, Fail> {
-    match decode(alloc, octets) {
-        Ok(pdu) => Ok(pdu),
-        Err(fault) => Err(fault.into()),
+fn decoded(rt: &impl Abort, alloc: Global, octets: &[u8]) -> Pdu {
+    had(rt, decode(alloc, octets))
+}
+
+// The message of a submit_sm or a deliver_sm, and whether it is a submit_sm.
+fn message_of<'a>(rt: &impl Abort, body: &'a Body) -> (bool, &'a Sm) {
+    match body {
+        Body::Submit(sm) => (true, sm),
+        Body::Deliver(sm) => (false, sm),
+        _ => panic!(rt; "no message"),
     }
 }
 
-// What is written of what these octets spell.
-fn written_again(alloc: Global, octets: &[u8]) -> Result<Vec<u8>, Fail> {
-    Ok(laws::encode_of_decode(alloc, octets)?)
+// What is read of these octets is written as they are.
+fn again_as(rt: &impl Abort, alloc: Global, octets: &[u8]) {
+    let again = had(rt, laws::encode_of_decode(alloc, octets));
+    want_octets(rt, again.as_slice(), octets);
 }
 
-// These fields, written behind what is there: how many octets they have.
-fn written(out: &mut Vec<u8>, fields: &PduRef<'_>) -> Result<usize, PduError> {
-    encode_into(out, fields)
+// These fields are written behind what is there: how many octets they have, or why they aren't.
+fn is_written(
+    rt: &impl Abort,
+    out: &mut Vec<u8>,
+    fields: &PduRef<'_>,
+    wanted: Result<usize, PduError>,
+) {
+    same(rt, encode_into(out, fields), wanted);
 }
 
-fn length_of(fields: &PduRef<'_>) -> Result<usize, PduError> {
-    encoded_length(fields)
+fn has_length(rt: &impl Abort, fields: &PduRef<'_>, wanted: Result<usize, PduError>) {
+    same(rt, encoded_length(fields), wanted);
 }
 
 // The error is the one that is wanted.
@@ -131,10 +170,15 @@ fn pdu(status: u32, body: BodyRef<'_>) -> PduRef<'_> {
     }
 }
 
+// A parameter of so many such octets.
+fn filled(rt: &impl Abort, alloc: Global, tag: u16, octet: u8, length: usize) -> Parameter {
+    let value = Octets::new(had(rt, vec![in alloc; octet; length]));
+    Parameter { tag, value }
+}
+
 // One parameter of so many octets 0x34.
-fn one_parameter(alloc: Global, tag: u16, length: usize) -> Result<Params, Fail> {
-    let value = Octets::new(vec![in alloc; 0x34; length]?);
+fn one_parameter(rt: &impl Abort, alloc: Global, tag: u16, length: usize) -> Params {
     let mut params = Vec::new(alloc);
-    params.push(Parameter { tag, value })?;
-    Ok(Params::new(params))
+    had(rt, params.push(filled(rt, alloc, tag, 0x34, length)));
+    Params::new(params)
 }

@@ -5,11 +5,10 @@ ghost use Rattle.sms_core.specs.Limits.{most_slots};
 use crate::{Answer, Expired, Search, Slot, SlotError, SlotRow, Taken};
 use rtrb::{Consumer, Producer, RingBuffer};
 use sms_pdu::{Reply, reply_of};
-use std::alloc::{AllocError, Global};
+use std::alloc::Global;
 use std::fmt::Debug;
 use std::process::Abort;
 use std::sync::Wait;
-use std::test::Fail;
 
 mod threads;
 
@@ -22,16 +21,26 @@ fn same<T: PartialEq + Debug + Drop>(rt: &impl Abort, got: T, wanted: T) {
 // The rings' ends of a reader and of its workers.
 type Ends = (Vec<Producer<Reply>>, Vec<Consumer<Reply>>);
 
+// What a call gives where memory is there.
+fn had<T: Drop, E: Drop>(rt: &impl Abort, got: Result<T, E>) -> T {
+    let Ok(it) = got else { panic!(rt; "no memory") };
+    it
+}
+
 // As many rings of 64 answers.
-fn rings(alloc: Global, count: usize) -> Result<Ends, AllocError> {
+fn rings(rt: &impl Abort, alloc: Global, count: usize) -> Ends {
     let mut producers = Vec::new(alloc);
     let mut consumers = Vec::new(alloc);
     for _ in 0..count {
-        let (producer, consumer) = RingBuffer::new(alloc, 64)?;
-        producers.push(producer)?;
-        consumers.push(consumer)?;
+        let (producer, consumer) = had(rt, RingBuffer::new(alloc, 64));
+        had(rt, producers.push(producer));
+        had(rt, consumers.push(consumer));
     }
-    Ok((producers, consumers))
+    (producers, consumers)
+}
+
+fn row_of(rt: &impl Abort, alloc: Global) -> SlotRow {
+    had(rt, SlotRow::new(alloc))
 }
 
 // The answer of a submit_sm_resp with status 0 and the message_id `m`.
@@ -46,7 +55,15 @@ fn reply_to(rt: &impl Abort, number: u32) -> Reply {
     reply
 }
 
-// What the ring at a place has: the answers, in order, and nothing else.
+// What the ring has: the answers, in order, and nothing else.
+fn want_popped(rt: &impl Abort, consumer: &mut Consumer<Reply>, place: usize, wanted: &[Reply]) {
+    for reply in wanted {
+        same(rt, (place, consumer.pop().ok()), (place, Some(*reply)));
+    }
+    same(rt, (place, consumer.pop().is_err()), (place, true));
+}
+
+// What the ring at a place has.
 fn want_in_ring(
     rt: &impl Abort,
     consumers: &mut Vec<Consumer<Reply>>,
@@ -56,10 +73,17 @@ fn want_in_ring(
     let Some(consumer) = consumers.get_mut(place) else {
         panic!(rt; "no ring {place}")
     };
-    for reply in wanted {
-        same(rt, (place, consumer.pop().ok()), (place, Some(*reply)));
-    }
-    same(rt, (place, consumer.pop().is_err()), (place, true));
+    want_popped(rt, consumer, place, wanted);
+}
+
+// The ring at a place has the answer to a number alone.
+fn want_one_in_ring(
+    rt: &impl Abort,
+    consumers: &mut Vec<Consumer<Reply>>,
+    place: usize,
+    number: u32,
+) {
+    want_in_ring(rt, consumers, place, &[reply_to(rt, number)]);
 }
 
 // What a slot says to the answer to a number.
@@ -74,55 +98,77 @@ fn hears(
     same(rt, (number, answer), (number, wanted));
 }
 
-#[test]
-fn a_late_answer_is_unknown(rt: HostRuntime) -> Result<(), Fail> {
-    let (mut producers, mut consumers) = rings(rt.alloc(), 2)?;
-    let mut slot = Slot::Empty;
-    same(&rt, slot.post(1, 5), Ok(()));
-    same(&rt, slot.expire(5), Expired::Done);
-    same(&rt, slot.post(1, 6), Ok(()));
-    hears(&rt, &mut slot, &mut producers, 5, Answer::Unknown);
-    hears(
-        &rt,
-        &mut slot,
-        &mut producers,
-        6,
-        Answer::Matched { worker: 1 },
-    );
+// A request waits in the slot.
+fn opens(rt: &impl Abort, slot: &mut Slot, worker: usize, number: u32) {
+    same(rt, slot.post(worker, number), Ok(()));
+}
+
+// A request of the slot is given up.
+fn closes(rt: &impl Abort, slot: &mut Slot, number: u32) {
+    same(rt, slot.expire(number), Expired::Done);
+}
+
+// An answer is taken once.
+fn taken_once(rt: &impl Abort, slot: &mut Slot, number: u32) {
     same(
-        &rt,
-        (slot.take(6), slot.take(6)),
+        rt,
+        (slot.take(number), slot.take(number)),
         (Taken::Got, Taken::Unknown),
     );
-    same(&rt, slot, Slot::Empty);
+}
+
+// The answer to a request that was given up is unknown, and the one to the next is not.
+fn want_late(rt: &impl Abort, producers: &mut [Producer<Reply>]) {
+    let mut slot = Slot::Empty;
+    opens(rt, &mut slot, 1, 5);
+    closes(rt, &mut slot, 5);
+    opens(rt, &mut slot, 1, 6);
+    hears(rt, &mut slot, producers, 5, Answer::Unknown);
+    hears(rt, &mut slot, producers, 6, Answer::Matched { worker: 1 });
+    taken_once(rt, &mut slot, 6);
+    same(rt, slot, Slot::Empty);
+}
+
+#[test]
+fn a_late_answer_is_unknown(rt: HostRuntime) {
+    let (mut producers, mut consumers) = rings(&rt, rt.alloc(), 2);
+    want_late(&rt, &mut producers);
     want_in_ring(&rt, &mut consumers, 0, &[]);
-    want_in_ring(&rt, &mut consumers, 1, &[reply_to(&rt, 6)]);
-    Ok(())
+    want_one_in_ring(&rt, &mut consumers, 1, 6);
 }
 
 // A request of this worker, whose answer can't be handed on.
 fn want_overrun(rt: &impl Abort, producers: &mut [Producer<Reply>], worker: usize) {
     let mut slot = Slot::Empty;
-    same(rt, slot.post(worker, 5), Ok(()));
+    opens(rt, &mut slot, worker, 5);
     hears(rt, &mut slot, producers, 5, Answer::Overrun { worker });
     same(rt, slot, Slot::Waiting { worker, number: 5 });
-    same(rt, slot.expire(5), Expired::Done);
+    closes(rt, &mut slot, 5);
+}
+
+// The first ring has room for one answer, and gets it.
+fn push_first(rt: &impl Abort, producers: &mut [Producer<Reply>]) {
+    let Some(producer) = producers.first_mut() else {
+        panic!(rt; "no ring")
+    };
+    same(rt, producer.push(reply_to(rt, 4)).is_ok(), true);
+}
+
+// The first ring has the 64 answers that were pushed, and nothing else.
+fn want_full(rt: &impl Abort, consumers: &mut Vec<Consumer<Reply>>) {
+    want_in_ring(rt, consumers, 0, &[reply_to(rt, 4); 64]);
 }
 
 // A ring without room, and a worker without a ring: the request waits on, and can be given up.
 #[test]
-fn an_overrun_leaves_the_request_waiting(rt: HostRuntime) -> Result<(), Fail> {
-    let (mut producers, mut consumers) = rings(rt.alloc(), 1)?;
+fn an_overrun_leaves_the_request_waiting(rt: HostRuntime) {
+    let (mut producers, mut consumers) = rings(&rt, rt.alloc(), 1);
     for _ in 0..64 {
-        let Some(producer) = producers.first_mut() else {
-            panic!(rt; "no ring")
-        };
-        assert!(rt; producer.push(reply_to(&rt, 4)).is_ok());
+        push_first(&rt, &mut producers);
     }
     want_overrun(&rt, &mut producers, 0);
     want_overrun(&rt, &mut producers, 1);
-    want_in_ring(&rt, &mut consumers, 0, &[reply_to(&rt, 4); 64]);
-    Ok(())
+    want_full(&rt, &mut consumers);
 }
 
 // What a row says to a request.
@@ -169,47 +215,65 @@ fn answers(
     same(rt, (number, found), (number, wanted));
 }
 
-#[test]
-fn one_slot_of_a_row(rt: HostRuntime) -> Result<(), Fail> {
-    let row = SlotRow::new(rt.alloc())?;
-    let (mut producers, mut consumers) = rings(rt.alloc(), 2)?;
-    posts(&rt, &row, 3, 1, 5, Ok(()));
-    posts(&rt, &row, 3, 0, 6, Err(SlotError::Busy));
-    takes(&rt, &row, 3, 5, Taken::NotYet);
+// A slot holds one request, whose answer is found and taken once.
+fn want_one_slot(rt: &(impl Abort + Wait), row: &SlotRow, producers: &mut [Producer<Reply>]) {
+    posts(rt, row, 3, 1, 5, Ok(()));
+    posts(rt, row, 3, 0, 6, Err(SlotError::Busy));
+    takes(rt, row, 3, 5, Taken::NotYet);
     let found = Search::Found { slot: 3, worker: 1 };
-    answers(&rt, &row, &mut producers, 5, found);
-    answers(&rt, &row, &mut producers, 5, Search::Unknown);
-    expires(&rt, &row, 3, 5, Expired::Answered);
-    takes(&rt, &row, 3, 5, Taken::Got);
+    answers(rt, row, producers, 5, found);
+    answers(rt, row, producers, 5, Search::Unknown);
+    expires(rt, row, 3, 5, Expired::Answered);
+    takes(rt, row, 3, 5, Taken::Got);
+}
+
+#[test]
+fn one_slot_of_a_row(rt: HostRuntime) {
+    let row = row_of(&rt, rt.alloc());
+    let (mut producers, mut consumers) = rings(&rt, rt.alloc(), 2);
+    want_one_slot(&rt, &row, &mut producers);
     want_in_ring(&rt, &mut consumers, 0, &[]);
-    want_in_ring(&rt, &mut consumers, 1, &[reply_to(&rt, 5)]);
-    Ok(())
+    want_one_in_ring(&rt, &mut consumers, 1, 5);
+}
+
+// An empty slot has nothing to take or to give up, and its row knows no number.
+fn want_empty(rt: &(impl Abort + Wait), row: &SlotRow, producers: &mut [Producer<Reply>]) {
+    takes(rt, row, 0, 5, Taken::Unknown);
+    expires(rt, row, 0, 5, Expired::Unknown);
+    answers(rt, row, producers, 5, Search::Unknown);
+}
+
+// A request is neither taken nor given up by another number or in another slot, and its answer is found.
+fn want_others(rt: &(impl Abort + Wait), row: &SlotRow, producers: &mut [Producer<Reply>]) {
+    posts(rt, row, 0, 2, 5, Ok(()));
+    takes(rt, row, 0, 6, Taken::Unknown);
+    expires(rt, row, 0, 6, Expired::Unknown);
+    takes(rt, row, 1, 5, Taken::Unknown);
+    let found = Search::Found { slot: 0, worker: 2 };
+    answers(rt, row, producers, 5, found);
+    takes(rt, row, 0, 6, Taken::Unknown);
+    expires(rt, row, 0, 6, Expired::Unknown);
+    takes(rt, row, 0, 5, Taken::Got);
+}
+
+// A request of a worker without a ring waits on, and can be given up.
+fn want_no_ring(rt: &(impl Abort + Wait), row: &SlotRow, producers: &mut [Producer<Reply>]) {
+    posts(rt, row, 0, 3, 6, Ok(()));
+    let overrun = Search::Overrun { slot: 0, worker: 3 };
+    answers(rt, row, producers, 6, overrun);
+    expires(rt, row, 0, 6, Expired::Done);
+    posts(rt, row, 0, 3, 7, Ok(()));
 }
 
 // A call that names another number or an empty slot finds nothing, and leaves what is there.
 #[test]
-fn other_numbers_of_a_row(rt: HostRuntime) -> Result<(), Fail> {
-    let row = SlotRow::new(rt.alloc())?;
-    let (mut producers, mut consumers) = rings(rt.alloc(), 3)?;
-    takes(&rt, &row, 0, 5, Taken::Unknown);
-    expires(&rt, &row, 0, 5, Expired::Unknown);
-    answers(&rt, &row, &mut producers, 5, Search::Unknown);
-    posts(&rt, &row, 0, 2, 5, Ok(()));
-    takes(&rt, &row, 0, 6, Taken::Unknown);
-    expires(&rt, &row, 0, 6, Expired::Unknown);
-    takes(&rt, &row, 1, 5, Taken::Unknown);
-    let found = Search::Found { slot: 0, worker: 2 };
-    answers(&rt, &row, &mut producers, 5, found);
-    takes(&rt, &row, 0, 6, Taken::Unknown);
-    expires(&rt, &row, 0, 6, Expired::Unknown);
-    takes(&rt, &row, 0, 5, Taken::Got);
-    posts(&rt, &row, 0, 3, 6, Ok(()));
-    let overrun = Search::Overrun { slot: 0, worker: 3 };
-    answers(&rt, &row, &mut producers, 6, overrun);
-    expires(&rt, &row, 0, 6, Expired::Done);
-    posts(&rt, &row, 0, 3, 7, Ok(()));
-    want_in_ring(&rt, &mut consumers, 2, &[reply_to(&rt, 5)]);
-    Ok(())
+fn other_numbers_of_a_row(rt: HostRuntime) {
+    let row = row_of(&rt, rt.alloc());
+    let (mut producers, mut consumers) = rings(&rt, rt.alloc(), 3);
+    want_empty(&rt, &row, &mut producers);
+    want_others(&rt, &row, &mut producers);
+    want_no_ring(&rt, &row, &mut producers);
+    want_one_in_ring(&rt, &mut consumers, 2, 5);
 }
 
 // Two slots wait for this number: the lower one gets the answer, and the other one is given up.
@@ -228,27 +292,31 @@ fn want_lower(
     takes(rt, row, slot, number, Taken::Got);
     expires(rt, row, slot + 1, number, Expired::Done);
     answers(rt, row, producers, number, Search::Unknown);
-    want_in_ring(rt, consumers, worker, &[reply_to(rt, number)]);
+    want_one_in_ring(rt, consumers, worker, number);
     want_in_ring(rt, consumers, worker + 1, &[]);
+}
+
+// The last slot is free again for a request, whose answer goes into the ring at 9.
+fn want_last(rt: &(impl Abort + Wait), row: &SlotRow, producers: &mut [Producer<Reply>]) {
+    posts(rt, row, 63, 9, 64, Ok(()));
+    let last = Search::Found {
+        slot: 63,
+        worker: 9,
+    };
+    answers(rt, row, producers, 64, last);
 }
 
 // Each slot has its own request. Where two wait for one number, the lower slot gets the answer.
 #[test]
-fn every_slot_of_a_row(rt: HostRuntime) -> Result<(), Fail> {
-    let row = SlotRow::new(rt.alloc())?;
-    let (mut producers, mut consumers) = rings(rt.alloc(), 64)?;
+fn every_slot_of_a_row(rt: HostRuntime) {
+    let row = row_of(&rt, rt.alloc());
+    let (mut producers, mut consumers) = rings(&rt, rt.alloc(), 64);
     for slot in 0u32..64 {
         posts(&rt, &row, slot, slot as usize, slot / 2, Ok(()));
     }
     for number in 0u32..32 {
         want_lower(&rt, &row, &mut producers, &mut consumers, number);
     }
-    posts(&rt, &row, 63, 9, 64, Ok(()));
-    let last = Search::Found {
-        slot: 63,
-        worker: 9,
-    };
-    answers(&rt, &row, &mut producers, 64, last);
-    want_in_ring(&rt, &mut consumers, 9, &[reply_to(&rt, 64)]);
-    Ok(())
+    want_last(&rt, &row, &mut producers);
+    want_one_in_ring(&rt, &mut consumers, 9, 64);
 }

@@ -2,7 +2,7 @@
 //! source package, test_pdu/NAME_test.c, print where they are built with that package; NAME stands at each. The fields
 //! are those that the program fills in. The library puts the parameters in the opposite order.
 
-use super::{decoded, same, want_octets};
+use super::{decoded, had, message_of, same, want_octets};
 use crate::*;
 use std::alloc::Global;
 use std::process::Abort;
@@ -40,81 +40,81 @@ const SUBMIT_SM_RESP: &[u8] =
 const DELIVER_SM_RESP: &[u8] =
     b"\x00\x00\x00\x11\x80\x00\x00\x05\x00\x00\x00\x00\x00\x00\x00\x01\x00";
 
-// unbind, unbind_resp, enquire_link, enquire_link_resp, generic_nack
-const BARE: [(&[u8], Command); 5] = [
-    (
-        b"\x00\x00\x00\x10\x00\x00\x00\x06\x00\x00\x00\x00\x00\x00\x00\x01",
-        Command::Unbind,
-    ),
-    (
-        b"\x00\x00\x00\x10\x80\x00\x00\x06\x00\x00\x00\x00\x00\x00\x00\x01",
-        Command::UnbindResp,
-    ),
-    (
-        b"\x00\x00\x00\x10\x00\x00\x00\x15\x00\x00\x00\x00\x00\x00\x00\x01",
-        Command::EnquireLink,
-    ),
-    (
-        b"\x00\x00\x00\x10\x80\x00\x00\x15\x00\x00\x00\x00\x00\x00\x00\x01",
-        Command::EnquireLinkResp,
-    ),
-    (
-        b"\x00\x00\x00\x10\x80\x00\x00\x00\x00\x00\x00\x00\x00\x00\x00\x01",
-        Command::GenericNack,
-    ),
-];
+// unbind
+const UNBIND: &[u8] = b"\x00\x00\x00\x10\x00\x00\x00\x06\x00\x00\x00\x00\x00\x00\x00\x01";
+
+// unbind_resp
+const UNBIND_RESP: &[u8] = b"\x00\x00\x00\x10\x80\x00\x00\x06\x00\x00\x00\x00\x00\x00\x00\x01";
+
+// enquire_link
+const ENQUIRE_LINK: &[u8] = b"\x00\x00\x00\x10\x00\x00\x00\x15\x00\x00\x00\x00\x00\x00\x00\x01";
+
+// enquire_link_resp
+const ENQUIRE_LINK_RESP: &[u8] =
+    b"\x00\x00\x00\x10\x80\x00\x00\x15\x00\x00\x00\x00\x00\x00\x00\x01";
+
+// generic_nack
+const GENERIC_NACK: &[u8] = b"\x00\x00\x00\x10\x80\x00\x00\x00\x00\x00\x00\x00\x00\x00\x00\x01";
 
 const NAME: &[u8] = b"Raul Antonio Tremsal";
 
-fn encoded(alloc: Global, pdu: &Pdu) -> Result<Vec<u8>, Fail> {
-    Ok(encode(alloc, pdu)?)
+fn encoded(rt: &impl Abort, alloc: Global, pdu: &Pdu) -> Vec<u8> {
+    had(rt, encode(alloc, pdu))
 }
 
 // The PDU is the first of its library, and is written as these octets again.
-fn is_written(rt: &impl Abort, alloc: Global, pdu: &Pdu, octets: &[u8]) -> Result<(), Fail> {
+fn is_written(rt: &impl Abort, alloc: Global, pdu: &Pdu, octets: &[u8]) {
     same(rt, (pdu.status, pdu.number), (0, 1));
-    let again = encoded(alloc, pdu)?;
-    want_octets(rt, &again, octets);
-    Ok(())
+    let again = encoded(rt, alloc, pdu);
+    want_octets(rt, again.as_slice(), octets);
 }
 
-// The parameter at this place.
+// The parameter at this place: its tag and its value.
+fn param_at<'a>(params: &'a Params, place: usize) -> Option<(u16, &'a [u8])> {
+    match params.as_slice().get(place) {
+        Some(param) => Some((param.tag, param.value.as_slice())),
+        None => None,
+    }
+}
+
 fn has_param(rt: &impl Abort, params: &Params, place: usize, tag: u16, value: &[u8]) {
-    let Some(param) = params.as_slice().get(place) else {
-        panic!(rt; "no parameter {place}")
-    };
-    same(rt, param.tag, tag);
-    want_octets(rt, param.value.as_slice(), value);
+    same(rt, param_at(params, place), Some((tag, value)));
 }
 
-fn is_bind(rt: &impl Abort, body: &Body, told: Mode, secret: &[u8]) -> Result<(), Fail> {
-    let BodyRef::Bind(bind) = body.as_ref() else {
-        return Err("no bind".into());
-    };
-    same(rt, bind.mode, told);
+fn bind_of<'a>(rt: &impl Abort, body: &'a Body) -> BindRef<'a> {
+    match body.as_ref() {
+        BodyRef::Bind(bind) => bind,
+        _ => panic!(rt; "no bind"),
+    }
+}
+
+fn is_bind(rt: &impl Abort, body: &Body, told: Mode, secret: &[u8]) {
+    let bind = bind_of(rt, body);
+    same(rt, (bind.mode, bind.interface_version), (told, 0x34));
+    same(rt, (bind.addr_ton, bind.addr_npi), (2, 1));
     want_octets(rt, bind.system_id, b"system_id");
     want_octets(rt, bind.password, secret);
     want_octets(rt, bind.system_type, b"syst");
-    same(rt, bind.interface_version, 0x34);
-    same(rt, (bind.addr_ton, bind.addr_npi), (2, 1));
     want_octets(rt, bind.address_range, b"address_range");
-    Ok(())
 }
 
-fn is_bind_resp(rt: &impl Abort, body: &Body, told: Mode) -> Result<(), Fail> {
-    let Body::BindResp {
-        mode,
-        system_id: Some(system_id),
-        params,
-    } = body
-    else {
-        return Err("no answer to a bind".into());
-    };
-    same(rt, *mode, told);
-    want_octets(rt, system_id.as_slice(), b"system_id");
-    same(rt, params.as_slice().len(), 1);
+// An answer to a bind: the mode, the system_id and the parameters.
+fn bind_resp_of<'a>(rt: &impl Abort, body: &'a Body) -> (Mode, &'a [u8], &'a Params) {
+    match body {
+        Body::BindResp {
+            mode,
+            system_id: Some(system_id),
+            params,
+        } => (*mode, system_id.as_slice(), params),
+        _ => panic!(rt; "no answer to a bind"),
+    }
+}
+
+fn is_bind_resp(rt: &impl Abort, body: &Body, told: Mode) {
+    let (mode, system_id, params) = bind_resp_of(rt, body);
+    same(rt, (mode, params.as_slice().len()), (told, 1));
+    want_octets(rt, system_id, b"system_id");
     has_param(rt, params, 0, 0x0210, &[0x34]);
-    Ok(())
 }
 
 // The fields of one octet that both messages have alike, from left to right.
@@ -149,57 +149,40 @@ fn is_between(rt: &impl Abort, sm: &Sm, service: &[u8], source: &[u8], dest_npi:
     want_octets(rt, sm.dest_addr.as_slice(), dest);
 }
 
-fn submit_of(body: &Body) -> Result<&Sm, Fail> {
-    match body {
-        Body::Submit(sm) => Ok(sm),
-        _ => Err("no submit_sm".into()),
-    }
-}
-
-fn is_submit_sm(rt: &impl Abort, body: &Body) -> Result<(), Fail> {
-    let sm = submit_of(body)?;
+fn is_submit_sm(rt: &impl Abort, body: &Body) {
+    let (submitted, sm) = message_of(rt, body);
     is_message(rt, sm);
     is_between(rt, sm, b"SMS", b"09000011111", 0, b"1121312309000");
-    same(rt, sm.params.as_slice().len(), 2);
+    same(rt, (submitted, sm.params.as_slice().len()), (true, 2));
     has_param(rt, &sm.params, 0, 0x0424, NAME);
     has_param(rt, &sm.params, 1, 0x0204, &[0, 0x24]);
-    Ok(())
 }
 
-fn deliver_of(body: &Body) -> Result<&Sm, Fail> {
-    match body {
-        Body::Deliver(sm) => Ok(sm),
-        _ => Err("no deliver_sm".into()),
-    }
-}
-
-fn is_deliver_sm(rt: &impl Abort, body: &Body) -> Result<(), Fail> {
-    let sm = deliver_of(body)?;
+fn is_deliver_sm(rt: &impl Abort, body: &Body) {
+    let (submitted, sm) = message_of(rt, body);
     is_message(rt, sm);
     is_between(rt, sm, b"CMT", b"0900001111", 1, b"0900001111");
-    same(rt, sm.params.as_slice().len(), 3);
+    same(rt, (submitted, sm.params.as_slice().len()), (false, 3));
     has_param(rt, &sm.params, 0, 0x1501, NAME);
     has_param(rt, &sm.params, 1, 0x0424, NAME);
     has_param(rt, &sm.params, 2, 0x0204, &[0, 0x24]);
-    Ok(())
 }
 
-// The message_id of an answer to a submit_sm, or to a deliver_sm.
-fn id_of(body: &Body, submitted: bool) -> Result<&[u8], Fail> {
+// The message_id of an answer to a message, and whether that was a submit_sm.
+fn id_of<'a>(rt: &impl Abort, body: &'a Body) -> (bool, &'a [u8]) {
     match body {
         Body::SubmitResp {
             message_id: Some(id),
-        } if submitted => Ok(id.as_slice()),
+        } => (true, id.as_slice()),
         Body::DeliverResp {
             message_id: Some(id),
-        } if !submitted => Ok(id.as_slice()),
-        _ => Err("no such answer".into()),
+        } => (false, id.as_slice()),
+        _ => panic!(rt; "no answer to a message"),
     }
 }
 
-fn is_id(rt: &impl Abort, body: &Body, submitted: bool, id: &[u8]) -> Result<(), Fail> {
-    want_octets(rt, id_of(body, submitted)?, id);
-    Ok(())
+fn is_id(rt: &impl Abort, body: &Body, submitted: bool, id: &[u8]) {
+    same(rt, id_of(rt, body), (submitted, id));
 }
 
 fn bare_command(body: &Body) -> Option<Command> {
@@ -213,9 +196,8 @@ fn bare_command(body: &Body) -> Option<Command> {
     }
 }
 
-fn is_bare(rt: &impl Abort, body: &Body, command: Command) -> Result<(), Fail> {
+fn is_bare(rt: &impl Abort, body: &Body, command: Command) {
     same(rt, bare_command(body), Some(command));
-    Ok(())
 }
 
 // What a body has to be.
@@ -230,7 +212,7 @@ enum Wanted {
     Bare(Command),
 }
 
-fn is_wanted(rt: &impl Abort, body: &Body, wanted: Wanted) -> Result<(), Fail> {
+fn is_wanted(rt: &impl Abort, body: &Body, wanted: Wanted) {
     match wanted {
         Wanted::Bind(mode, secret) => is_bind(rt, body, mode, secret),
         Wanted::BindResp(mode) => is_bind_resp(rt, body, mode),
@@ -243,46 +225,58 @@ fn is_wanted(rt: &impl Abort, body: &Body, wanted: Wanted) -> Result<(), Fail> {
 }
 
 // The octets are read as this, and written again from it.
-fn reads(rt: &impl Abort, alloc: Global, octets: &[u8], wanted: Wanted) -> Result<(), Fail> {
-    let pdu = decoded(alloc, octets)?;
-    is_written(rt, alloc, &pdu, octets)?;
-    is_wanted(rt, &pdu.body, wanted)
+fn reads(rt: &impl Abort, alloc: Global, octets: &[u8], wanted: Wanted) {
+    let pdu = decoded(rt, alloc, octets);
+    is_written(rt, alloc, &pdu, octets);
+    is_wanted(rt, &pdu.body, wanted);
+    drop(pdu);
 }
 
 #[test]
-fn binds(rt: HostRuntime) -> Result<(), Fail> {
+fn binds(rt: HostRuntime) {
+    let rt = &rt;
     let transmitter = Wanted::Bind(Mode::Transmitter, b"pass");
-    reads(&rt, rt.alloc(), BIND_TRANSMITTER, transmitter)?;
+    reads(rt, rt.alloc(), BIND_TRANSMITTER, transmitter);
     let transceiver = Wanted::Bind(Mode::Transceiver, b"pas");
-    reads(&rt, rt.alloc(), BIND_TRANSCEIVER, transceiver)
+    reads(rt, rt.alloc(), BIND_TRANSCEIVER, transceiver);
 }
 
 #[test]
-fn bind_resps(rt: HostRuntime) -> Result<(), Fail> {
+fn bind_resps(rt: HostRuntime) {
+    let rt = &rt;
     let transmitter = Wanted::BindResp(Mode::Transmitter);
-    reads(&rt, rt.alloc(), BIND_TRANSMITTER_RESP, transmitter)?;
+    reads(rt, rt.alloc(), BIND_TRANSMITTER_RESP, transmitter);
     let transceiver = Wanted::BindResp(Mode::Transceiver);
-    reads(&rt, rt.alloc(), BIND_TRANSCEIVER_RESP, transceiver)
+    reads(rt, rt.alloc(), BIND_TRANSCEIVER_RESP, transceiver);
 }
 
 #[test]
-fn messages(rt: HostRuntime) -> Result<(), Fail> {
-    reads(&rt, rt.alloc(), SUBMIT_SM, Wanted::SubmitSm)?;
-    reads(&rt, rt.alloc(), DELIVER_SM, Wanted::DeliverSm)
+fn messages(rt: HostRuntime) {
+    let rt = &rt;
+    reads(rt, rt.alloc(), SUBMIT_SM, Wanted::SubmitSm);
+    reads(rt, rt.alloc(), DELIVER_SM, Wanted::DeliverSm);
 }
 
 #[test]
-fn message_ids(rt: HostRuntime) -> Result<(), Fail> {
+fn message_ids(rt: HostRuntime) {
+    let rt = &rt;
     let submitted = Wanted::SubmitSmResp(b"88898239379");
-    reads(&rt, rt.alloc(), SUBMIT_SM_RESP, submitted)?;
+    reads(rt, rt.alloc(), SUBMIT_SM_RESP, submitted);
     let delivered = Wanted::DeliverSmResp(b"");
-    reads(&rt, rt.alloc(), DELIVER_SM_RESP, delivered)
+    reads(rt, rt.alloc(), DELIVER_SM_RESP, delivered);
+}
+
+fn reads_bare(rt: &impl Abort, alloc: Global, octets: &[u8], command: Command) {
+    reads(rt, alloc, octets, Wanted::Bare(command));
 }
 
 #[test]
-fn without_a_body(rt: HostRuntime) -> Result<(), Fail> {
-    for (octets, command) in BARE {
-        reads(&rt, rt.alloc(), octets, Wanted::Bare(command))?;
-    }
-    Ok(())
+fn without_a_body(rt: HostRuntime) {
+    let rt = &rt;
+    let alloc = rt.alloc();
+    reads_bare(rt, alloc, UNBIND, Command::Unbind);
+    reads_bare(rt, alloc, UNBIND_RESP, Command::UnbindResp);
+    reads_bare(rt, alloc, ENQUIRE_LINK, Command::EnquireLink);
+    reads_bare(rt, alloc, ENQUIRE_LINK_RESP, Command::EnquireLinkResp);
+    reads_bare(rt, alloc, GENERIC_NACK, Command::GenericNack);
 }

@@ -1,12 +1,12 @@
 //! A reader of answers and a worker on one row.
-use super::{reply_to, rings, same};
+use super::{reply_to, rings, row_of, same};
 use crate::{Search, SlotRow, Taken};
 use rtrb::{Consumer, Producer};
 use sms_pdu::Reply;
 use std::process::Abort;
 use std::sync::Wait;
-use std::test::Fail;
 use std::thread;
+use std::thread::Threads;
 
 const ROUNDS: u32 = 1000;
 
@@ -72,17 +72,26 @@ fn work_all<R: Wait + Abort>(rt: &R, row: &SlotRow, mut consumer: Consumer<Reply
     }
 }
 
+// The reader and the worker at once.
+fn answer_and_work<R: Abort + Threads + Wait + Sync>(
+    rt: &R,
+    row: &SlotRow,
+    producers: &mut [Producer<Reply>],
+    consumer: Consumer<Reply>,
+) {
+    thread::join(
+        rt,
+        || answer_all(rt, row, producers),
+        || work_all(rt, row, consumer),
+    );
+}
+
 #[test]
-fn a_reader_and_a_worker(rt: HostRuntime) -> Result<(), Fail> {
-    let row = SlotRow::new(rt.alloc())?;
-    let (mut producers, mut consumers) = rings(rt.alloc(), 1)?;
+fn a_reader_and_a_worker(rt: HostRuntime) {
+    let row = row_of(&rt, rt.alloc());
+    let (mut producers, mut consumers) = rings(&rt, rt.alloc(), 1);
     let Some(consumer) = consumers.pop() else {
         panic!(rt; "no ring")
     };
-    thread::join(
-        &rt,
-        || answer_all(&rt, &row, &mut producers),
-        || work_all(&rt, &row, consumer),
-    );
-    Ok(())
+    answer_and_work(&rt, &row, &mut producers, consumer);
 }

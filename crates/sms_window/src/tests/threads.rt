@@ -1,15 +1,14 @@
 //! A window that threads share: no number is lost, and none comes twice.
-ghost use Rattle.std.specs.Prelude.{◌≡◌, ◌+◌, ◌^◌, [], ◌∷◌, ◌++◌, All, IfOk, IfSome, IfNone};
+ghost use Rattle.std.specs.Prelude.{◌≡◌, ◌+◌, ◌^◌, [], ◌∷◌, ◌++◌, All, IfSome, IfNone};
 ghost use Rattle.sms_window.specs.Seats.{Holds, met_with, with_slots};
 
-use super::{same, seats_of};
+use super::{plain_window, same, seat_of, seats_of, want_closed};
 use crate::{Claim, Draw, Window, WindowSeat};
-use std::alloc::{AllocError, Global};
+use std::alloc::Global;
 use std::process::Abort;
 use std::snapshot::Snapshot;
 use std::sync::Wait;
 use std::sync::atomic::{AtomicBool, Ordering};
-use std::test::Fail;
 use std::thread;
 use std::thread::{Promise, Threads};
 
@@ -74,51 +73,78 @@ impl Promise<Worked> for SeatOf {
     ghost kept_by = { λ p r. r.0.window ≡ p.0.value };
 }
 
+// What a call gives where it can be had.
+fn had<T: Drop, E: Drop>(rt: &impl Abort, got: Result<T, E>) -> T
+    ensures { got ≡ Ok result }
+{
+    let Ok(it) = got else {
+        panic!(rt; "it can't be had")
+    };
+    it
+}
+
+// A list with room for the numbers of as many rounds.
+fn room_for(rt: &impl Abort, alloc: Global, rounds: u32) -> Vec<u32> {
+    let Ok(numbers) = Vec::with_capacity(alloc, rounds as usize) else {
+        panic!(rt; "no memory")
+    };
+    numbers
+}
+
 // Each seat works in a thread of its own.
-fn work_in_threads<R: Threads + Wait + Sync>(
+fn work_in_threads<R: Abort + Threads + Wait + Sync>(
     rt: &R,
     alloc: Global,
     window: &Window,
     seats: Vec<WindowSeat>,
     rounds: u32,
-) -> Option<Vec<Worked>>
+) -> Vec<Worked>
     requires { All (λ s. s.window ≡ window.now) seats.items }
-    ensures { IfSome result (λ v. All (λ w. w.0.window ≡ window.now) v.items) }
+    ensures { All (λ w. w.0.window ≡ window.now) result.items }
 {
     thread::scope(
         thread::scope_env(),
         rt,
-        |scope| -> Option<Vec<Worked>>
+        |scope| -> Vec<Worked>
             requires { All (λ s. s.window ≡ window.now) seats.items }
-            ensures { IfSome result (λ v. All (λ w. w.0.window ≡ window.entry.now) v.items) }
+            ensures { All (λ w. w.0.window ≡ window.entry.now) result.items }
         {
             let mut handles = Vec::new(alloc);
             let mut seats = seats;
             while let Some(seat) = seats.pop() {
-                let numbers = Vec::with_capacity(alloc, rounds as usize).ok()?;
-                let handle = scope
-                    .spawn_with(
+                let numbers = room_for(rt, alloc, rounds);
+                let handle = had(
+                    rt,
+                    scope.spawn_with(
                         SeatOf(Snapshot::of(window)),
                         move || -> Worked
                             requires { seat.window ≡ window.now }
                             ensures { result.0.window ≡ window.entry.now }
                         { work(window, seat, numbers, rounds) },
-                    )
-                    .ok()?;
-                handles.push(handle).ok()?;
+                    ),
+                );
+                had(rt, handles.push(handle));
             }
-            thread::join_promised(rt, handles).ok()
+            had(rt, thread::join_promised(rt, handles))
         },
     )
 }
 
+// These numbers with the others.
+fn add_numbers(rt: &impl Abort, all: &mut Vec<u32>, numbers: Vec<u32>) {
+    let Ok(()) = all.extend_from_slice(&numbers) else {
+        panic!(rt; "no memory")
+    };
+}
+
 // All numbers that were drawn, once the seats are joined.
 fn join_all(
+    rt: &impl Abort,
     alloc: Global,
     window: &Window,
     keeper: &mut WindowSeat,
     mut worked: Vec<Worked>,
-) -> Result<Vec<u32>, AllocError>
+) -> Vec<u32>
     requires own { keeper.old.window ≡ window.now }
     requires seats { All (λ w. w.0.window ≡ window.now) worked.items }
     ensures window { keeper.new.window ≡ keeper.old.window }
@@ -126,15 +152,18 @@ fn join_all(
     let mut all = Vec::new(alloc);
     while let Some((seat, numbers)) = worked.pop() {
         window.join(keeper, seat);
-        all.extend_from_slice(&numbers)?;
+        add_numbers(rt, &mut all, numbers);
     }
-    Ok(all)
+    all
 }
 
-// The numbers are 1 to their count, and so many; gives the one that comes next.
-fn want_all_numbers(rt: &impl Abort, numbers: &[u32], count: usize) -> u32 {
+// Sorted, the numbers are 1 to their count, and so many; gives the one that comes next.
+fn want_all_numbers(rt: &impl Abort, mut numbers: Vec<u32>, count: usize) -> u32 {
+    let Ok(()) = numbers.sort() else {
+        panic!(rt; "no memory")
+    };
     let mut next = 1u32;
-    for number in numbers {
+    for number in &numbers {
         same(rt, (count, *number), (count, next));
         next = next.wrapping_add(1);
     }
@@ -148,35 +177,27 @@ fn want_each_once<R: Abort + Threads + Wait + Sync>(
     alloc: Global,
     (limit, threads, rounds, held): (u32, usize, u32, u64),
 ) {
-    let Ok((window, mut keeper)) = Window::make(alloc, limit) else {
-        panic!(rt; "no window")
-    };
-    let Ok(seats) = seats_of(alloc, &window, &mut keeper, threads) else {
-        panic!(rt; "no seats")
-    };
-    let Some(worked) = work_in_threads(rt, alloc, &window, seats, rounds) else {
-        panic!(rt; "no thread")
-    };
-    let Ok(mut numbers) = join_all(alloc, &window, &mut keeper, worked) else {
-        panic!(rt; "no memory")
-    };
-    let Ok(()) = numbers.sort() else {
-        panic!(rt; "no memory")
-    };
-    let next = want_all_numbers(rt, &numbers, threads.wrapping_mul(rounds as usize));
-    let closed = window.close(keeper);
-    same(rt, (closed.held, closed.next), (held, u64::from(next)));
+    let (window, mut keeper) = plain_window(rt, alloc, limit);
+    let seats = seats_of(rt, alloc, &window, &mut keeper, threads);
+    let worked = work_in_threads(rt, alloc, &window, seats, rounds);
+    let numbers = join_all(rt, alloc, &window, &mut keeper, worked);
+    let count = threads.wrapping_mul(rounds as usize);
+    let next = want_all_numbers(rt, numbers, count);
+    want_closed(rt, window, keeper, held, u64::from(next));
 }
+
+// The limit, the threads, their rounds, and the slots that are held at the end.
+const SHARED: [(u32, usize, u32, u64); 4] = [
+    (2, 2, 1_000, 0xFFFF_FFFF_FFFF_FFFC),
+    (2, 4, 500, 0xFFFF_FFFF_FFFF_FFFC),
+    (2, 8, 250, 0xFFFF_FFFF_FFFF_FFFC),
+    (1, 2, 10_000, 0xFFFF_FFFF_FFFF_FFFE),
+];
 
 #[test]
 fn each_number_once(rt: HostRuntime) {
-    for case in [
-        (2, 2, 1_000, 0xFFFF_FFFF_FFFF_FFFC),
-        (2, 4, 500, 0xFFFF_FFFF_FFFF_FFFC),
-        (2, 8, 250, 0xFFFF_FFFF_FFFF_FFFC),
-        (1, 2, 10_000, 0xFFFF_FFFF_FFFF_FFFE),
-    ] {
-        want_each_once(&rt, rt.alloc(), case);
+    for case in &SHARED {
+        want_each_once(&rt, rt.alloc(), *case);
     }
 }
 
@@ -209,36 +230,52 @@ fn contend(window: &Window, mut seat: WindowSeat, done: &AtomicBool) -> Contende
     (seat, claim_met, draw_met)
 }
 
-#[test]
-fn claims_and_draws_contend(rt: HostRuntime) -> Result<(), Fail> {
-    let Ok((window, mut keeper)) = Window::make(rt.alloc(), 2) else {
-        panic!(rt; "no window")
-    };
-    let mut seats = seats_of(rt.alloc(), &window, &mut keeper, 2)?;
-    let Some(a) = seats.pop() else {
-        panic!(rt; "no seat")
-    };
-    let Some(b) = seats.pop() else {
-        panic!(rt; "no seat")
-    };
+// Two threads contend on the window, each with a seat of its own.
+fn contend_in_threads<R: Threads + Wait + Sync>(
+    rt: &R,
+    window: &Window,
+    a: WindowSeat,
+    b: WindowSeat,
+) -> (Contended, Contended)
+    requires { (a.window ≡ window.now) × (b.window ≡ window.now) }
+    ensures { (result.0.0.window ≡ window.now) × (result.1.0.window ≡ window.now) }
+{
     let done = AtomicBool::new(false);
-    let shared = &window;
-    let (first, second) = thread::join(
-        &rt,
+    thread::join(
+        rt,
         || -> Contended
-            requires { a.window ≡ shared.now }
-            ensures { result.0.window ≡ shared.entry.now }
-        { contend(shared, a, &done) },
+            requires { a.window ≡ window.now }
+            ensures { result.0.window ≡ window.entry.now }
+        { contend(window, a, &done) },
         || -> Contended
-            requires { b.window ≡ shared.now }
-            ensures { result.0.window ≡ shared.entry.now }
-        { contend(shared, b, &done) },
-    );
-    assert!(rt; first.1 || second.1, "no claim was contended");
-    assert!(rt; first.2 || second.2, "no draw was contended");
+            requires { b.window ≡ window.now }
+            ensures { result.0.window ≡ window.entry.now }
+        { contend(window, b, &done) },
+    )
+}
+
+// A claim of one of the two was contended, and a draw of one of them.
+fn want_contended(rt: &impl Abort, claims: (bool, bool), draws: (bool, bool)) {
+    assert!(rt; claims.0 || claims.1, "no claim was contended");
+    assert!(rt; draws.0 || draws.1, "no draw was contended");
+}
+
+// What a window of two slots ends with.
+fn want_no_slot_held(rt: &impl Abort, window: Window, seat: WindowSeat)
+    requires { seat.window ≡ window }
+{
+    let closed = window.close(seat);
+    same(rt, closed.held, 0xFFFF_FFFF_FFFF_FFFC);
+}
+
+#[test]
+fn claims_and_draws_contend(rt: HostRuntime) {
+    let (window, mut keeper) = plain_window(&rt, rt.alloc(), 2);
+    let a = seat_of(&rt, &window, &mut keeper);
+    let b = seat_of(&rt, &window, &mut keeper);
+    let (first, second) = contend_in_threads(&rt, &window, a, b);
+    want_contended(&rt, (first.1, second.1), (first.2, second.2));
     window.join(&mut keeper, first.0);
     window.join(&mut keeper, second.0);
-    let closed = window.close(keeper);
-    same(&rt, closed.held, 0xFFFF_FFFF_FFFF_FFFC);
-    Ok(())
+    want_no_slot_held(&rt, window, keeper);
 }
