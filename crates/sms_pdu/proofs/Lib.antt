@@ -4,8 +4,6 @@ pub mod Divisions
 pub mod Told
 pub mod Parameters
 pub mod Values
-pub mod Fields
-pub mod Messages
 pub mod ParameterTexts
 pub mod Bodies
 pub mod Wholes

@@ -1,5 +1,6 @@
 -- Reading from left to right, with the first fault that is met.
 use Rattle.std.specs.Prelude.{◌≡◌, ◌≢◌, IsSome, ℕ, zero, suc, ◌+◌, List, [], ◌∷◌, length, slice_index, take, drop, position, Bool, Option, Some, None, Result, Ok, Err, nat_lt, nat_le, ◌==◌, ◌&&◌, ◌||◌, if◌then◌else◌}
+use Rattle.std.specs.Borrow.{Bor}
 use Rattle.std.specs.Int.{w16, from_be_bytes}
 use Rattle.sms_pdu.specs.declared.field.Field.{Field}
 use Rattle.sms_pdu.specs.declared.field.Field.TheVariants as fields
@@ -38,6 +39,12 @@ GivesBut takes view (Err e) (Err f) = e ≡ f
 -- The same, where each value takes memory.
 abbrev pub Gives : {X Y : Type 0} → (X → Y) → Result X PduError → Result Y PduError → Type 0
 Gives view result told = GivesBut (λ y. Unit {0}) view result told
+
+-- What is read, seen by view, of what is left where no field before it had a fault. The first fault stays, and what is read of it is none.
+abbrev pub ReadsOn : {X Y : Type 0} → (X → Y) → Y → (List ℕ → Result (Y × List ℕ) PduError) → Result (Bor (List ℕ)) PduError → X × Result (Bor (List ℕ)) PduError → Type 0
+ReadsOn view none read (Ok octets) (x, Ok rest) = read octets.now ≡ Ok (view x, rest.now)
+ReadsOn view none read (Ok octets) (x, Err e) = (read octets.now ≡ Err e) × (view x ≡ none)
+ReadsOn view none read (Err e) (x, rest) = (rest ≡ Err e) × (view x ≡ none)
 
 -- A field is a value and the octets after it.
 unfoldable pub number_octet_at : Field → List ℕ → Result (ℕ × List ℕ) PduError

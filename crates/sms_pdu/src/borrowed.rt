@@ -1,14 +1,16 @@
 //! PDUs that borrow their strings: what is written, and what is read before memory is asked for.
 
-ghost use Rattle.std.specs.Prelude.{◌≡◌, IfOk};
+ghost use Rattle.std.specs.Prelude.{Ok};
 ghost use Rattle.sms_pdu.specs.Borrowed.{owned_bind};
+ghost use Rattle.sms_pdu.specs.Reading.{Gives};
 
 use crate::body::Body;
 use crate::command::Mode;
+use crate::error::PduError;
 use crate::layout::bind_fields;
 use crate::octets::Octets;
 use crate::parameter::Parameter;
-use std::alloc::{AllocError, Global};
+use std::alloc::Global;
 use std::fmt;
 
 /// A PDU, as [`Pdu`](crate::Pdu), whose strings are borrowed.
@@ -83,43 +85,57 @@ pub struct SmRef<'a> {
     pub params: &'a [Parameter],
 }
 
-/// A row's field of this borrowed value, copied.
+/// A row's field of this borrowed value, copied while there is memory.
 macro_rules! copy_field {
-    (($alloc:ident, $value:expr) $name:ident: $field:ident is number,) => {
+    (($alloc:ident, $memory:ident, $value:expr) $name:ident: $field:ident is number,) => {
         $value
     };
-    (($alloc:ident, $value:expr) $name:ident: $field:ident is text($maximum:literal),) => {
-        Octets::copy($alloc, $value)?
+    (
+        ($alloc:ident, $memory:ident, $value:expr)
+        $name:ident: $field:ident is text($maximum:literal),
+    ) => {
+        Octets::copy_while($alloc, $value, &mut $memory)
     };
-    (($alloc:ident, $value:expr) $name:ident: $field:ident is time,) => {
-        Octets::copy($alloc, $value)?
+    (($alloc:ident, $memory:ident, $value:expr) $name:ident: $field:ident is time,) => {
+        Octets::copy_while($alloc, $value, &mut $memory)
     };
-    (($alloc:ident, $value:expr) $name:ident: $field:ident is message,) => {
-        Octets::copy($alloc, $value)?
+    (($alloc:ident, $memory:ident, $value:expr) $name:ident: $field:ident is message,) => {
+        Octets::copy_while($alloc, $value, &mut $memory)
     };
 }
 
-/// The struct or variant of the fields in the braces and of a table's, copied.
+/// The struct or variant of the fields in the braces and of a table's, copied while there is memory.
+/// (Nothing fails in the middle, where the parts that are made would die one by one.)
 macro_rules! copy_fields {
     (
-        ($alloc:ident, $of:ident => $($made:ident)::+ { $($other:ident: $given:expr,)* .. })
+        ($alloc:ident, $memory:ident, $of:ident => $($made:ident)::+ {
+            $($other:ident: $given:expr,)* ..
+        })
         $($name:ident: $field:ident is $kind:ident $(($maximum:literal))?,)*
     ) => {
         $($made)::+ {
             $($other: $given,)*
-            $($name: copy_field!(($alloc, $of.$name) $name: $field is $kind $(($maximum))?,),)*
+            $($name: copy_field!(
+                ($alloc, $memory, $of.$name) $name: $field is $kind $(($maximum))?,
+            ),)*
         }
     };
 }
 
 impl BindRef<'_> {
     /// A body with copies of these strings.
-    pub(crate) fn copied(&self, alloc: Global) -> Result<Body, AllocError>
-        ensures { IfOk result (λ body. body ≡ owned_bind self.now) }
+    pub(crate) fn copied(&self, alloc: Global) -> Result<Body, PduError>
+        ensures { Gives (λ body. body) result (Ok (owned_bind self.now)) }
     {
-        Ok(bind_fields!(copy_fields!(
-            alloc, self => Body::Bind { mode: self.mode, .. }
-        )))
+        let mut memory = true;
+        let body = bind_fields!(copy_fields!(
+            alloc, memory, self => Body::Bind { mode: self.mode, .. }
+        ));
+        if !memory {
+            drop(body);
+            return Err(PduError::OutOfMemory);
+        }
+        Ok(body)
     }
 }
 

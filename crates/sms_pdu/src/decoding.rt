@@ -15,46 +15,57 @@ use crate::error::PduError;
 use crate::field::Field;
 use crate::header::{Header, MOST_LENGTH, body_of, header_of};
 use crate::layout::{bind_fields, bind_resp_fields, sm_fields, sm_resp_fields};
+use crate::left::{next_message, next_number, next_text, next_time};
 use crate::octets::Octets;
 use crate::parameter::Params;
-use crate::reading::{end, message, number, parameters, text, time};
+use crate::reading::{end, parameters, text};
 use std::alloc::Global;
 
-/// A row's field, read from `$octets`: its value, and the octets after it.
+/// A row's field, read from what `$left` has left.
 macro_rules! read_field {
-    (($octets:ident) $name:ident: $field:ident is number,) => {
-        number(Field::$field, $octets)?
+    (($left:ident) $name:ident: $field:ident is number,) => {
+        next_number(Field::$field, &mut $left)
     };
+    (($left:ident) $name:ident: $field:ident is text($maximum:literal),) => {
+        next_text(Field::$field, $maximum, &mut $left)
+    };
+    (($left:ident) $name:ident: $field:ident is time,) => {
+        next_time(Field::$field, &mut $left)
+    };
+    (($left:ident) $name:ident: $field:ident is message,) => {
+        next_message(&mut $left)
+    };
+}
+
+/// The struct of the fields in the braces and of a table's, which are read from left to right from
+/// what `$left` has left.
+macro_rules! read_fields {
+    (
+        ($left:ident => $made:ident { $($other:ident: $given:expr,)* .. })
+        $($name:ident: $field:ident is $kind:ident $(($maximum:literal))?,)*
+    ) => {
+        $made {
+            $($other: $given,)*
+            $($name: read_field!(($left) $name: $field is $kind $(($maximum))?,),)*
+        }
+    };
+}
+
+/// The value of a table's one row, a text, and the octets after it.
+macro_rules! read_text {
     (($octets:ident) $name:ident: $field:ident is text($maximum:literal),) => {
         text(Field::$field, $maximum, $octets)?
     };
-    (($octets:ident) $name:ident: $field:ident is time,) => {
-        time(Field::$field, $octets)?
-    };
-    (($octets:ident) $name:ident: $field:ident is message,) => {
-        message($octets)?
-    };
-}
-
-/// The fields of a table, read from `$octets` from left to right: the struct of them and of those in
-/// the braces, and the octets after them.
-macro_rules! read_fields {
-    (
-        ($octets:ident => $made:ident { $($other:ident: $given:expr,)* .. })
-        $($name:ident: $field:ident is $kind:ident $(($maximum:literal))?,)*
-    ) => {{
-        let rest = $octets;
-        $(let ($name, rest) = read_field!((rest) $name: $field is $kind $(($maximum))?,);)*
-        ($made { $($other: $given,)* $($name,)* }, rest)
-    }};
 }
 
 /// The fields of a bind.
+#[tactic(auto, unfolding(crate::specs::Reading::bind_at))]
 fn bind_parts(mode: Mode, octets: &[u8]) -> Result<BindRef<'_>, PduError>
     ensures { Says owned_bind result (bind_at mode octets.now) }
 {
-    let (parts, rest) = bind_fields!(read_fields!(octets => BindRef { mode: mode, .. }));
-    end(rest)?;
+    let mut left = Ok(octets);
+    let parts = bind_fields!(read_fields!(left => BindRef { mode: mode, .. }));
+    end(left?)?;
     Ok(parts)
 }
 
@@ -63,7 +74,7 @@ fn bind(alloc: Global, mode: Mode, octets: &[u8]) -> Result<Body, PduError>
     ensures { GivesBut HasStrings (λ body. body) result (bind_at mode octets.now) }
 {
     let parts = bind_parts(mode, octets)?;
-    Ok(parts.copied(alloc)?)
+    parts.copied(alloc)
 }
 
 /// The fields of a message before its parameters, and the octets after them.
@@ -71,7 +82,9 @@ fn bind(alloc: Global, mode: Mode, octets: &[u8]) -> Result<Body, PduError>
 fn sm_parts(octets: &[u8]) -> Result<(SmRef<'_>, &[u8]), PduError>
     ensures { Says (λ x. (sm_values (owned_sm x.0), x.1.now)) result (values_at sm_fields octets.now) }
 {
-    Ok(sm_fields!(read_fields!(octets => SmRef { params: &[], .. })))
+    let mut left = Ok(octets);
+    let parts = sm_fields!(read_fields!(left => SmRef { params: &[], .. }));
+    Ok((parts, left?))
 }
 
 /// A message: a deliver_sm, or else a submit_sm. It is made where it is returned: to move it costs
@@ -90,7 +103,12 @@ fn message_pdu(
 {
     let (parts, rest) = sm_parts(octets)?;
     let params = parameters(alloc, rest)?;
-    let sm = sm_fields!(copy_fields!(alloc, parts => Sm { params: params, .. }));
+    let mut memory = true;
+    let sm = sm_fields!(copy_fields!(alloc, memory, parts => Sm { params: params, .. }));
+    if !memory {
+        drop(sm);
+        return Err(PduError::OutOfMemory);
+    }
     if deliver {
         let body = Body::Deliver(sm);
         return Ok(Pdu {
@@ -119,7 +137,7 @@ fn bind_resp(alloc: Global, mode: Mode, status: u32, octets: &[u8]) -> Result<Bo
             params: Params::none(alloc),
         });
     }
-    let (system_id, rest) = bind_resp_fields!(read_field!(octets));
+    let (system_id, rest) = bind_resp_fields!(read_text!(octets));
     let params = parameters(alloc, rest)?;
     Ok(Body::BindResp {
         mode,
@@ -136,7 +154,7 @@ fn message_id(alloc: Global, status: u32, octets: &[u8]) -> Result<Option<Octets
     if octets.is_empty() && status > 0 {
         return Ok(None);
     }
-    let (message_id, rest) = sm_resp_fields!(read_field!(octets));
+    let (message_id, rest) = sm_resp_fields!(read_text!(octets));
     end(rest)?;
     Ok(Some(Octets::copy(alloc, message_id)?))
 }

@@ -14,6 +14,7 @@ mod front;
 mod header;
 pub mod laws;
 mod layout;
+mod left;
 mod message_id;
 mod octets;
 mod parameter;

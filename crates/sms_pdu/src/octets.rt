@@ -1,6 +1,6 @@
 //! Octets: the strings of a PDU, and small readings of a slice.
 
-ghost use Rattle.std.specs.Prelude.{List, ℕ, [], ◌≡◌, ◌==◌, ◌<◌, ◌≤◌, take, length, position, IfSome, IfOk, IsOk};
+ghost use Rattle.std.specs.Prelude.{List, ℕ, [], ◌≡◌, ◌==◌, ◌<◌, ◌≤◌, true, false, take, length, position, IfSome, IfOk, IsOk};
 ghost use Rattle.std.specs.List.{list_any};
 
 use std::alloc::{AllocError, Global};
@@ -40,6 +40,25 @@ impl Octets {
         }
         let octets = Vec::from_slice(alloc, octets)?;
         Ok(Octets { octets })
+    }
+
+    /// A copy of these octets while there is memory. From the first copy on that there is none for,
+    /// `memory` is false, none is asked for, and there are no octets.
+    #[inline(always)]
+    pub(crate) fn copy_while(alloc: Global, octets: &[u8], memory: &mut bool) -> Octets
+        ensures same { memory.new ≡ true → (memory.old ≡ true) × (result ≡ octets.now) }
+        ensures without { memory.new ≡ false → result ≡ [] }
+        ensures none { memory.old ≡ true → octets.now ≡ [] → memory.new ≡ true }
+    {
+        if *memory {
+            match Octets::copy(alloc, octets) {
+                Ok(copy) => return copy,
+                Err(_) => *memory = false,
+            }
+        }
+        Octets {
+            octets: Vec::new(alloc),
+        }
     }
 
     /// How many octets there are.
