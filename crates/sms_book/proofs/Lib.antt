@@ -2,6 +2,7 @@ pub mod Moves
 pub mod Totals
 pub mod Turns
 pub mod Openings
+pub mod Pushes
 pub mod Names
 pub mod Refusals
 pub mod Halving

@@ -1,5 +1,5 @@
 -- What a call does to a row and to what its caller has of the account, where both are known.
-use Rattle.std.proofs.Common.{◌≡◌, ◌≢◌, ℕ, ◌+◌, ◌<◌, ◌≤◌, List, length, set, Some, refl, arith, sym, ◌∙◌, ap, subst}
+use Rattle.std.proofs.Common.{◌≡◌, ◌≢◌, ℕ, zero, suc, ◌+◌, ◌<◌, ◌≤◌, List, [], ◌∷◌, length, set, Some, refl, arith, sym, ◌∙◌, ap, subst}
 use Rattle.std.specs.Prelude.{slice_get, slice_index_or, map}
 use Rattle.std.proofs.lemmas.List.{get_or_read, get_or-map, map-set, length-map}
 use Rattle.sms_core.specs.declared.row.Row.{Row}
@@ -92,19 +92,36 @@ pub record Settles (rows : List Row) (a : List Amounts) (account : ℕ) (what : 
   pub sound : AreSound (set rows account (moved_row what n r))
   pub moves : MoveBy (map of_worker a) (map of_worker (set a account (moved_amounts what n h))) (map of_row rows) (map of_row (set rows account (moved_row what n r)))
 
+-- where a share holds something of an account, it has the account
+has_account : (a : List Amounts) (account n : ℕ) → 0 < n → n ≤ (amounts_at a account).reserved → account < length a
+has_account [] account n some holds = absurd (omega arith)
+has_account (x ∷ a) zero n some holds = omega arith
+has_account (x ∷ a) (suc account) n some holds = let rest = has_account a account n some holds in omega arith
+
+-- a worker's call is of an account of the book
+pub in_book : {name : BookId} {table seat other : TableId} {vs ws : List View} {w : ℕ} {rows : List Row} {a : List Amounts} (i : BookStands name table seat vs w rows) (s : ShareStands name other ws a)
+    (account : ℕ) (what : Move) (n : ℕ) → (what ≡ Reserve → (account < length rows) × CanMove what n (row_at rows account)) → (what ≢ Reserve → (0 < n) × (n ≤ (amounts_at a account).reserved))
+    → account < length rows
+in_book i s account Reserve n can holds = (can refl).0
+in_book {a = a} i s account Charge n can holds =
+    let h : (0 < n) × (n ≤ (amounts_at a account).reserved) = holds (λ e. cc) in let low = has_account a account n h.0 h.1 in let e = s.accounts in let f = i.accounts in omega arith
+in_book {a = a} i s account GiveBack n can holds =
+    let h : (0 < n) × (n ≤ (amounts_at a account).reserved) = holds (λ e. cc) in let low = has_account a account n h.0 h.1 in let e = s.accounts in let f = i.accounts in omega arith
+
 -- a worker's call, where the book's entry of the share is known
 pub settled : {name : BookId} {table seat other : TableId} {vs ws : List View} {w : ℕ} {rows : List Row} {a : List Amounts} (i : BookStands name table seat vs w rows) (s : ShareStands name other ws a)
     (account : ℕ) (what : Move) (n : ℕ) (r : Row) (h : Amounts) → slice_get i.entries s.number ≡ Some (away (map of_worker a)) → AddUp (map of_row rows) i.entries
-    → account < length rows → r ≡ slice_index_or rows account r → h ≡ slice_index_or a account h → (what ≡ Reserve → CanMove what n (row_at rows account)) → (what ≢ Reserve → n ≤ (amounts_at a account).reserved)
+    → r ≡ slice_index_or rows account r → h ≡ slice_index_or a account h → (what ≡ Reserve → (account < length rows) × CanMove what n (row_at rows account)) → (what ≢ Reserve → (0 < n) × (n ≤ (amounts_at a account).reserved))
     → Settles rows a account what n r h
-settled {rows = rows} {a = a} i s account what n r h entry sums within is-r is-h can holds =
+settled {rows = rows} {a = a} i s account what n r h entry sums is-r is-h can holds =
+    let within : account < length rows = in_book i s account what n can holds in
     let wide : length a ≡ length rows = s.accounts ∙ sym i.accounts in
     let row : r ≡ row_at rows account = get_or_read rows account r within is-r no_row in
     let had : h ≡ amounts_at a account = get_or_read a account h (omega arith) is-h no_amounts in
     let at : portion_at (map of_worker a) account ≡ of_worker h = worker_at a account (omega arith) ∙ ap of_worker (sym had) in
     let part : Within (of_worker h) r = subst (λ (x : Portion × Row). Within x.0 x.1) (λ j. (at j, sym row j)) (within_row rows account i.entries s.number (map of_worker a) within entry sums) in
     let law : IsBalanced r × IsSmall r = rw row (i.sound account within) in
-    let both = can_turn what n r h (rw row can) (rw had holds) part law.0 law.1 in
+    let both = can_turn what n r h (λ e. rw row (can e).1) (λ ne. rw had (holds ne).1) part law.0 law.1 in
     let moves = turned what n r h both.0 both.1 law.0 law.1 in
     let by : MovesBy (portion_at (map of_worker a) account) (of_worker (moved_amounts what n h)) (of_row (row_at rows account)) (of_row (moved_row what n r)) =
     subst (λ (x : Portion × Row). MovesBy x.0 (of_worker (moved_amounts what n h)) (of_row x.1) (of_row (moved_row what n r))) (λ j. (sym at j, row j)) moves.by in

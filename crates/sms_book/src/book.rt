@@ -4,6 +4,7 @@ ghost use Rattle.sms_core.specs.Limits.{most_topped};
 ghost use Rattle.sms_core.specs.RowMoves.{row_topped_up, row_reserved, row_charged, row_given_back};
 ghost use Rattle.sms_core.specs.Rows.{IsBalanced};
 ghost use Rattle.sms_book.specs.Limits.{most_returned};
+ghost use Rattle.sms_book.specs.Sums.{IsSmall};
 ghost use Rattle.sms_book.specs.Portions.{amounts_at, topped_at, row_at};
 ghost use Rattle.sms_book.specs.Shares.{changed};
 ghost use Rattle.sms_book.specs.Money.{reserved_more, charged_more, returned_more, CanMove, moved_row, moved_amounts};
@@ -58,24 +59,34 @@ impl<N: BookName> Book<N> {
         ensures refused { OnErr result ((self.new ≡ self.old) × (till.new ≡ till.old)) }
         ensures there { length till.old ≡ length self.old }
     {
-        prove!(till.topped.len() == self.rows.len());
-        if account >= self.rows.len() {
+        let accounts = self.accounts();
+        prove!(till.accounts() == accounts);
+        if account >= accounts {
             return Err(BookError::NoAccount);
         }
-        if n > MOST_TOPPED - self.topped(account) {
+        if n > MOST_TOPPED - self.row(account).topped {
             return Err(BookError::AmountTooLarge);
         }
         self.put_in(till, account, n);
         Ok(())
     }
 
-    /// What an account was topped up with, at most 2^40.
-    fn topped(&self, account: usize) -> u64
-        requires { account < length self.now }
-        ensures is { result ≡ (row_at self.now account).topped }
-        ensures small { result ≤ most_topped }
+    /// How many accounts the book has.
+    #[inline(always)]
+    fn accounts(&self) -> usize
+        ensures { (result ≡ length self.now) × (result ≡ N.book.accounts) }
     {
-        self.rows[account].topped
+        self.rows.len()
+    }
+
+    /// An account's row, which balances within its bounds.
+    #[inline(always)]
+    fn row(&self, account: usize) -> Row
+        requires { account < length self.now }
+        ensures is { result ≡ row_at self.now account }
+        ensures sound { IsBalanced result × IsSmall result }
+    {
+        self.rows[account]
     }
 
     /// Tops an account up, in its row and in the till.
@@ -129,11 +140,12 @@ impl<N: BookName> Book<N> {
         ensures refused { OnErr result ((self.new ≡ self.old) × (share.new ≡ share.old)) }
         ensures there { length share.old.amounts ≡ length self.old }
     {
-        prove!(share.amounts.len() == self.rows.len());
-        if account >= self.rows.len() {
+        let accounts = self.accounts();
+        prove!(share.accounts() == accounts);
+        if account >= accounts {
             return Err(BookError::NoAccount);
         }
-        let row = self.rows[account];
+        let row = self.row(account);
         if row.free < n {
             return Err(BookError::NoCredit {
                 free: row.free,
@@ -154,7 +166,6 @@ impl<N: BookName> Book<N> {
         ensures share { share.new ≡ changed share.old account (charged_more n) }
         ensures there { (account < length self.old) × (length share.old.amounts ≡ length self.old) }
     {
-        prove!(share.amounts.len() == self.rows.len());
         self.turn(share, account, Move::Charge, n);
     }
 
@@ -166,7 +177,6 @@ impl<N: BookName> Book<N> {
         ensures share { share.new ≡ changed share.old account (returned_more n) }
         ensures there { (account < length self.old) × (length share.old.amounts ≡ length self.old) }
     {
-        prove!(share.amounts.len() == self.rows.len());
         self.turn(share, account, Move::GiveBack, n);
     }
 
@@ -175,11 +185,11 @@ impl<N: BookName> Book<N> {
     // and so no more than the row has, and nothing wraps. It goes out again with the new amounts,
     // and the totals move as the row does.
     fn turn(&mut self, share: &mut Shares<N>, account: usize, what: Move, n: u64)
-        requires there { account < length self.old }
-        requires row { what ≡ Reserve → CanMove what n (row_at self.old account) }
-        requires share { what ≢ Reserve → n ≤ (amounts_at share.old.amounts account).reserved }
+        requires row { what ≡ Reserve → (account < length self.old) × CanMove what n (row_at self.old account) }
+        requires share { what ≢ Reserve → (0 < n) × (n ≤ (amounts_at share.old.amounts account).reserved) }
         ensures book { self.new ≡ slice_set self.old account (moved_row what n (row_at self.old account)) }
         ensures share { share.new ≡ changed share.old account (moved_amounts what n) }
+        ensures there { (account < length self.old) × (length share.old.amounts ≡ length self.old) }
     {
         let Book {
             rows,

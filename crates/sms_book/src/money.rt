@@ -6,7 +6,7 @@ use crate::amounts::Amounts;
 use sms_core::Row;
 
 /// What a worker does with credits of an account.
-#[derive(Clone, Copy, Debug, PartialEq, Eq)]
+#[derive(Clone, Copy)]
 pub enum Move {
     Reserve,
     Charge,

@@ -1,4 +1,5 @@
 //! The cashier's share of a book.
+ghost use Rattle.std.specs.Prelude.{◌≡◌, length};
 
 use crate::name::BookName;
 use crate::rule::View;
@@ -23,4 +24,14 @@ impl<N: BookName> Model for Till<N> {
     ghost view = { λ t. t.topped.items };
 
     ghost invariant = { λ t. TillStands N.book t.seat.table_id t.seat.views t.topped.items };
+}
+
+impl<N: BookName> Till<N> {
+    /// How many accounts the book has.
+    #[inline(always)]
+    pub(crate) fn accounts(&self) -> usize
+        ensures { (result ≡ length self.now) × (result ≡ N.book.accounts) }
+    {
+        self.topped.len()
+    }
 }

@@ -1,9 +1,10 @@
 -- What a search that ends says of the list of requests.
-use Rattle.std.proofs.Common.{◌≡◌, ◌≢◌, ℕ, zero, suc, ◌+◌, ◌*◌, ◌<◌, ◌≤◌, Bool, true, false, List, [], ◌∷◌, length, get_or, Option, Some, None, if◌then◌else◌, refl, ap, ◌∙◌, sym, arith, eqb, eq-eqb}
+use Rattle.std.proofs.Common.{◌≡◌, ◌≢◌, ℕ, zero, suc, ◌+◌, ◌*◌, ◌<◌, ◌≤◌, Bool, true, false, List, [], ◌∷◌, length, get_or, Option, Some, None, if◌then◌else◌, refl, ap, ◌∙◌, sym, subst, arith, eqb, eq-eqb}
 use Rattle.std.specs.Option.{option_map}
 use Rattle.std.proofs.lemmas.List.{get_or_past, length-map}
 use mathlib.Core.Logic.{dite}
 use Rattle.std.proofs.Math.Decide.{dec_lt}
+use native.Mathlib.Decide.{ℕ_discrete}
 use Rattle.sms_core.specs.declared.request.Request.{Request}
 use Rattle.sms_core.specs.Requests.{place_of}
 use Rattle.sms_core.specs.Links.{AreLinks, names, nowhere, lead, rest_of, place_at, most_turns}
@@ -46,6 +47,12 @@ at_place id rs q (Some p) e lt is h = ap Some (h p (let b : p < length (names rs
 -- the search went on at the first turns
 abbrev pub Passes : List ℕ → List ℕ → ℕ → ℕ → Type 0
 Passes ids links id turns = (t : ℕ) → t < turns → (place_at (lead links) t id < length ids) × (get_or ids (place_at (lead links) t id) 0 ≢ id)
+
+-- it goes on at one more
+pub passes_more : (ids links : List ℕ) (id turns q : ℕ) → q ≡ place_at (lead links) turns id → q < length ids → get_or ids q 0 ≢ id → Passes ids links id turns → Passes ids links id (turns + 1)
+passes_more ids links id turns q at low other passed t below = dite (ℕ_discrete t turns)
+    (λ is. subst (λ (p : ℕ). (p < length ids) × (get_or ids p 0 ≢ id)) (at ∙ ap (λ (u : ℕ). place_at (lead links) u id) (sym is)) (low, other))
+    (λ ne. passed t (omega arith))
 
 pub far : {ids links : List ℕ} → AreLinks ids links → (k : ℕ) → 8 * length ids + 2048 ≤ k → lead links k ≡ nowhere
 far {ids} {links} w k le = get_or_past links k nowhere (let h : length links ≤ k = omega (arith, w.count, le) in h)

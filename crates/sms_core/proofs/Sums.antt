@@ -11,7 +11,7 @@ use Rattle.sms_core.specs.declared.request.Phase.{Phase}
 use Rattle.sms_core.specs.declared.request.Phase.TheVariants.{Ready, Open, Charged, Refused, Unanswered, Unsent}
 use Rattle.sms_core.specs.declared.request.Request.{Request}
 use Rattle.sms_core.specs.declared.request.RequestState.{RequestState}
-use Rattle.sms_core.specs.Limits.{largest_cost}
+use Rattle.sms_core.specs.Limits.{largest_cost, most_topped}
 use Rattle.sms_core.specs.declared.row.Row.{Row}
 use Rattle.sms_core.specs.Requests.{place_of}
 use Rattle.sms_core.specs.Rows.{no_row, Entry, part, over, reserved_of, charged_of, returned_of, row_of}
@@ -357,6 +357,23 @@ kept_reserved most rows rs id account cost kept low inside new small credit =
       accounts = rw (length-set rows account next) kept.accounts;
       rows_are = rows_reserved rows rs (reserved_request id account cost) refl inside credit kept.rows_are;
       requests_are = rw (length-set rows account next) (requests_pushed most (length rows) rs (reserved_request id account cost) kept.requests_are (none_named id rs new) small fine);
+    }
+
+-- all that is kept after a top-up
+pub kept_topped : (most : ℕ) (rows : List Row) (rs : List Request) (account amount : ℕ) (r : Row) → IsKept most rows rs → account < length rows → r ≡ get_or rows account no_row → r.topped + amount ≤ most_topped →
+    IsKept most (set rows account (record r { topped = r.topped + amount; free = r.free + amount })) rs
+kept_topped most rows rs account amount r kept inside at limit =
+    let next : Row = record r { topped = r.topped + amount; free = r.free + amount } in
+    let was : IsRowOf r account (map entry_of rs) = rw at (kept.rows_are account inside) in
+    record {
+      some = kept.some;
+      few = kept.few;
+      accounts = rw (length-set rows account next) kept.accounts;
+      rows_are = λ other low. dite (ℕ_discrete other account)
+          (λ own. rw own (rw (get_or-set_same rows account next no_row inside)
+          (record { balance = let b = was.balance in omega arith; limit = limit; reserved = was.reserved; charged = was.charged; returned = was.returned })))
+          (λ ne. rw (get_or-set_other rows account other next no_row ne) (kept.rows_are other (let l = length-set rows account next in omega arith)));
+      requests_are = rw (length-set rows account next) kept.requests_are;
     }
 
 -- an account's kept row is the row of its sums

@@ -9,13 +9,29 @@ use Rattle.sms_book.specs.Money.{moved_amounts}
 use Rattle.sms_book.specs.Portions.{amounts_at, no_amounts, of_worker, of_row}
 use Rattle.sms_book.specs.Shares.{Share, number_of, changed}
 use Rattle.sms_book.specs.Rule.{away}
-use Rattle.sms_book.proofs.Turns.{settled}
+use Rattle.sms_book.proofs.Turns.{settled, in_book}
 use Rattle.sms_book.proofs.Totals.{AllAway-set}
 use Rattle.sms_book.proofs.book.Book.turn.Goals as goal
 
 -- what the caller said of its share, as it stands inside
-held : (what : Move) (account n : ℕ) (inside share : Share) → inside ≡ share → (what ≢ Reserve → n ≤ (amounts_at share.amounts account).reserved) → what ≢ Reserve → n ≤ (amounts_at inside.amounts account).reserved
-held what account n inside share is h = subst (λ (s : Share). what ≢ Reserve → n ≤ (amounts_at s.amounts account).reserved) (sym is) h
+held : (what : Move) (account n : ℕ) (inside share : Share) → inside ≡ share → (what ≢ Reserve → (0 < n) × (n ≤ (amounts_at share.amounts account).reserved)) → what ≢ Reserve → (0 < n) × (n ≤ (amounts_at inside.amounts account).reserved)
+held what account n inside share is h = subst (λ (s : Share). what ≢ Reserve → (0 < n) × (n ≤ (amounts_at s.amounts account).reserved)) (sym is) h
+
+pub index-row-requires : goal.index-row-requires
+index-row-requires g c =
+    let i = c.self.invariant in
+    let s = c.share.invariant in
+    let holds = held c.args.what c.args.account c.args.n _ _ c.share.view_is c.requires.share in
+    let within = in_book i s c.args.account c.args.what c.args.n (rw c.self.view_is c.requires.row) holds in
+    omega arith
+
+pub index-had-requires : goal.index-had-requires
+index-had-requires g c =
+    let i = c.self.invariant in
+    let s = c.share.invariant in
+    let holds = held c.args.what c.args.account c.args.n _ _ c.share.view_is c.requires.share in
+    let within = in_book i s c.args.account c.args.what c.args.n (rw c.self.view_is c.requires.row) holds in
+    let w = s.accounts ∙ sym i.accounts in omega arith
 
 pub row_after-requires : goal.row_after-requires
 row_after-requires g c =
@@ -24,7 +40,7 @@ row_after-requires g c =
     let entry = c.meet.ensures.entry i.entries _ s.number _ i.view s.view in
     let sums = c.meet.ensures.sums i.entries _ i.view in
     let holds = held c.args.what c.args.account c.args.n _ _ c.share.view_is c.requires.share in
-    (settled i s c.args.account c.args.what c.args.n c.index-row.result.now c.index-had.result.now entry sums (rw c.self.view_is c.requires.there) c.index-row.ensures c.index-had.ensures (rw c.self.view_is c.requires.row) holds).can
+    (settled i s c.args.account c.args.what c.args.n c.index-row.result.now c.index-had.result.now entry sums c.index-row.ensures c.index-had.ensures (rw c.self.view_is c.requires.row) holds).can
 
 pub amounts_after-requires : goal.amounts_after-requires
 amounts_after-requires g c =
@@ -33,7 +49,7 @@ amounts_after-requires g c =
     let entry = c.meet.ensures.entry i.entries _ s.number _ i.view s.view in
     let sums = c.meet.ensures.sums i.entries _ i.view in
     let holds = held c.args.what c.args.account c.args.n _ _ c.share.view_is c.requires.share in
-    (settled i s c.args.account c.args.what c.args.n c.index-row.result.now c.index-had.result.now entry sums (rw c.self.view_is c.requires.there) c.index-row.ensures c.index-had.ensures (rw c.self.view_is c.requires.row) holds).fits
+    (settled i s c.args.account c.args.what c.args.n c.index-row.result.now c.index-had.result.now entry sums c.index-row.ensures c.index-had.ensures (rw c.self.view_is c.requires.row) holds).fits
 
 pub part-requires-clause-book : goal.part-requires-clause-book
 part-requires-clause-book g c =
@@ -43,7 +59,7 @@ part-requires-clause-book g c =
     let entry = c.meet.ensures.entry i.entries _ s.number _ i.view s.view in
     let sums = c.meet.ensures.sums i.entries _ i.view in
     let holds = held c.args.what c.args.account c.args.n _ _ c.share.view_is c.requires.share in
-    let t = settled i s c.args.account c.args.what c.args.n c.index-row.result.now c.index-had.result.now entry sums (rw c.self.view_is c.requires.there) c.index-row.ensures c.index-had.ensures (rw c.self.view_is c.requires.row) holds in
+    let t = settled i s c.args.account c.args.what c.args.n c.index-row.result.now c.index-had.result.now entry sums c.index-row.ensures c.index-had.ensures (rw c.self.view_is c.requires.row) holds in
     record {
       entries = i.entries;
       had = map of_row c.self.inside.rows.items;
@@ -61,7 +77,7 @@ invariant_of-self g c =
     let entry = c.meet.ensures.entry i.entries _ s.number _ i.view s.view in
     let sums = c.meet.ensures.sums i.entries _ i.view in
     let holds = held c.args.what c.args.account c.args.n _ _ c.share.view_is c.requires.share in
-    let t = settled i s c.args.account c.args.what c.args.n c.index-row.result.now c.index-had.result.now entry sums (rw c.self.view_is c.requires.there) c.index-row.ensures c.index-had.ensures (rw c.self.view_is c.requires.row) holds in
+    let t = settled i s c.args.account c.args.what c.args.n c.index-row.result.now c.index-had.result.now entry sums c.index-row.ensures c.index-had.ensures (rw c.self.view_is c.requires.row) holds in
     let book = c.part.ensures.book i.entries _ s.number _ lent in
     let new = map of_worker c.as_slice-2.result.now in
     let es = slice_set i.entries s.number (away new) in
@@ -99,7 +115,15 @@ returns-clause-share g c =
     let lent = c.meet.ensures.book i.entries _ s.number _ i.view s.view in
     let given = c.part.ensures.holder i.entries _ s.number _ lent in
     let number : number_of c.part.result.views ≡ number_of c.share.inside.seat.views = ap number_of given ∙ sym (ap number_of s.view) in
-    let within : c.args.account < length a = let r : c.args.account < length c.self.inside.rows.items = rw c.self.view_is c.requires.there in let w = s.accounts ∙ sym i.accounts in omega arith in
+    let within : c.args.account < length a = let r : c.args.account < length c.self.inside.rows.items = in_book i s c.args.account c.args.what c.args.n (rw c.self.view_is c.requires.row) (held c.args.what c.args.account c.args.n _ _ c.share.view_is c.requires.share) in let w = s.accounts ∙ sym i.accounts in omega arith in
     let had : c.index-had.result.now ≡ amounts_at a c.args.account = get_or_read a c.args.account c.index-had.result.now within c.index-had.ensures no_amounts in
     let new = c.amounts_after.ensures ∙ ap (moved_amounts c.args.what c.args.n) had in
     (λ j. record { number = number j; amounts = slice_set a c.args.account (new j) }) ∙ ap (λ (t : Share). changed t c.args.account (moved_amounts c.args.what c.args.n)) c.share.view_is
+
+pub returns-clause-there : goal.returns-clause-there
+returns-clause-there g c =
+    let i = c.self.invariant in
+    let s = c.share.invariant in
+    let holds = held c.args.what c.args.account c.args.n _ _ c.share.view_is c.requires.share in
+    let within = in_book i s c.args.account c.args.what c.args.n (rw c.self.view_is c.requires.row) holds in
+    (rw (← c.self.view_is) within, sym (ap (λ (t : Share). length t.amounts) c.share.view_is) ∙ s.accounts ∙ sym i.accounts ∙ ap length c.self.view_is)
