@@ -2,9 +2,9 @@
 use Rattle.std.proofs.Common.{◌≡◌, ◌∙◌, refl, ap, ℕ, inl, inr, Bool, true, false, List, [], ◌∷◌, Option, Some, None, IfSome}
 use Rattle.std.specs.Prelude.{option_map}
 use Rattle.sms_send.specs.Fields.{Record, records_of}
-use Rattle.sms_send.specs.Records.{GivesFirst, TellsRecords, file_fault, record_fault}
+use Rattle.sms_send.specs.Records.{GivesFirst, TellsFile, TellsRecords, file_fault, record_fault}
 use Rattle.sms_send.specs.declared.fault.Fault.{Fault}
-use Rattle.sms_send.specs.declared.fault.Fault.TheVariants.{BadRecord}
+use Rattle.sms_send.specs.declared.fault.Fault.TheVariants.{BadRecord, Output, OutOfMemory}
 use Rattle.sms_send.specs.declared.fault.Source.{Source}
 use Rattle.sms_send.proofs.Runs.{first-found, none-found}
 
@@ -80,3 +80,19 @@ whole-file is_first is_good most P Q (Some rs) found r after h e good rest make 
     let (says, faultless) = rw left_are at rest in
     let made = make others says (goes-on is_first is_good most r others good ∙ faultless) in
     rw stood made
+
+-- what a fault of a job says of its source: one in reading it, want of memory, and one in writing
+
+pub told-reading : (source : Source) (o : Option (List ℕ)) (faulty : List Record → Option ℕ) (f : Fault)
+    → IfSome o (λ bytes. TellsRecords source (faulty (records_of bytes)) f) → IfSome o (λ bytes. TellsFile source (faulty (records_of bytes)) f)
+told-reading source None faulty f h = tt
+told-reading source (Some bytes) faulty f h = inl h
+
+pub told-memory : (source : Source) (o : Option (List ℕ)) (faulty : List Record → Option ℕ) → IfSome o (λ bytes. TellsFile source (faulty (records_of bytes)) OutOfMemory)
+told-memory source None faulty = tt
+told-memory source (Some bytes) faulty = inl (inl (inr refl))
+
+pub told-writing : (source : Source) (o : Option (List ℕ)) (faulty : List Record → Option ℕ) (f : Fault)
+    → IfSome o (λ bytes. faulty (records_of bytes) ≡ None) → f ≡ Output → IfSome o (λ bytes. TellsFile source (faulty (records_of bytes)) f)
+told-writing source None faulty f h e = tt
+told-writing source (Some bytes) faulty f h e = inr (e, h)

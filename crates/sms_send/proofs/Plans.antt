@@ -1,5 +1,5 @@
 -- The plan of a file's records, and of the texts that their messages have.
-use Rattle.std.proofs.Common.{◌≡◌, ◌≤◌, ◌<◌, ◌∙◌, sym, refl, ap, ap₂, ℕ, ◌+◌, List, [], ◌∷◌, ◌++◌, length, map, Option, IfSome, codes, subst, Result, Ok, Err}
+use Rattle.std.proofs.Common.{◌≡◌, ◌≤◌, ◌<◌, ◌∙◌, sym, refl, ap, ap₂, ℕ, ◌+◌, List, [], ◌∷◌, ◌++◌, length, map, Option, None, Some, IfSome, codes, subst, Result, Ok, Err}
 use Rattle.std.specs.List.{AllZip}
 use Rattle.std.specs.Prelude.{OnOk, is_ok, if◌then◌else◌}
 use Rattle.std.proofs.lemmas.Bool.{le-leb, lt-leb}
@@ -8,7 +8,7 @@ use Rattle.sms_segment.specs.declared.part.Part.{Part}
 use Rattle.sms_segment.specs.declared.place.Reference.{Reference}
 use Rattle.sms_segment.specs.Message.{parts_of}
 use Rattle.sms_send.specs.Fields.{Record, records_of}
-use Rattle.sms_send.specs.Messages.{AreTexts, HasText, text_of}
+use Rattle.sms_send.specs.Messages.{AreTexts, HasText, messages_fault, text_of}
 use Rattle.sms_send.specs.PlanText.{counted_text, cutting_text, message_lines, message_plan, plan_of, text_line, text_lines}
 use Rattle.sms_send.specs.declared.messages.MessageText.{MessageText}
 use Rattle.sms_send.proofs.Runs.{if_known, at_known}
@@ -47,3 +47,12 @@ pub plan-written : (P : List ℕ → Type 0) (reference : Reference) (o : Option
     → P text → IfSome o (λ bytes. P (plan_of reference (records_of bytes)))
 plan-written P reference o ms text are e h = if_known o (λ bytes. P (plan_of reference (records_of bytes))) (λ bytes known.
     subst P (e ∙ sym (plan-is reference (records_of bytes) ms (at_known o (λ b. AreTexts (records_of b) ms) bytes are known))) h)
+
+-- no record of such a file is faulty
+file-good : (rs : List Record) (ms : List MessageText) → AreTexts rs ms → messages_fault rs ≡ None
+file-good [] ms h = absurd h
+file-good (r ∷ rs) ms h = h.0
+
+pub no-fault : (o : Option (List ℕ)) (ms : List MessageText) → IfSome o (λ bytes. AreTexts (records_of bytes) ms) → IfSome o (λ bytes. messages_fault (records_of bytes) ≡ None)
+no-fault None ms h = tt
+no-fault (Some bytes) ms h = file-good (records_of bytes) ms h

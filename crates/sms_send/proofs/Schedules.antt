@@ -1,12 +1,13 @@
 -- The worlds and events that the records of a schedule stand for.
 use Rattle.std.proofs.Common.{◌≡◌, sym, refl, ℕ, ◌≤◌, inl, inr, Bool, true, false, List, Option, Some, None, IfSome, arith}
-use Rattle.std.specs.Prelude.{◌&&◌, nat_le}
+use Rattle.std.specs.Prelude.{◌&&◌, nat_le, codes}
+use Rattle.std.specs.Str.{bytes_eq}
 use Rattle.std.proofs.lemmas.Bool.Decides.{nat_tests}
 use Rattle.sms_core.specs.declared.event.Event.{Event}
 use Rattle.sms_core.specs.State.{State, AreLimits, new_world}
 use Rattle.sms_send.specs.Fields.{Record}
 use Rattle.sms_send.specs.Records.{GivesFirst, IsReadAs, TellsRecords}
-use Rattle.sms_send.specs.Schedule.{Spells, TellsWorld, are_limits, event_of, is_event, is_world, limits_of, most_events, schedule_fault, world_of}
+use Rattle.sms_send.specs.Schedule.{Spells, TellsWorld, are_limits, event_of, is_event, is_world, limits_of, made_at, made_by, most_events, most_u32, schedule_fault, slot_forms, two_numbers, world_of}
 use Rattle.sms_send.specs.declared.fault.Fault.{Fault}
 use Rattle.sms_send.specs.declared.fault.Source.TheVariants.{Schedule}
 use Rattle.sms_send.proofs.Files.{bad-first}
@@ -76,3 +77,19 @@ bad-world left found r after f h e (inr bad) =
 pub event-read : (r : Record) (o : Option Event) → o ≡ event_of r → IsReadAs is_event Spells r o
 event-read r None e = rw (← e) refl
 event-read r (Some event) e = (rw (← e) refl, sym e)
+
+-- the event of a worker at a slot, by the two numbers behind its word
+
+pub slot-made : (word : List ℕ) (r : Record) (worker slot : ℕ) → two_numbers most_u32 r ≡ Some (worker, slot) → made_at word worker slot ≡ made_by slot_forms word r
+slot-made word r worker slot e = rw e refl
+
+pub no-slot : (word : List ℕ) (r : Record) → two_numbers most_u32 r ≡ None → made_by slot_forms word r ≡ None
+no-slot word r e = by (bytes_eq word (codes "claim")) (bytes_eq word (codes "settle")) (bytes_eq word (codes "expire")) (bytes_eq word (codes "release")) refl refl refl refl
+  where
+    by : (a b c d : Bool) → bytes_eq word (codes "claim") ≡ a → bytes_eq word (codes "settle") ≡ b → bytes_eq word (codes "expire") ≡ c → bytes_eq word (codes "release") ≡ d
+        → made_by slot_forms word r ≡ None
+    by true b c d p q s t = rw (p, e) refl
+    by false true c d p q s t = rw (p, q, e) refl
+    by false false true d p q s t = rw (p, q, s, e) refl
+    by false false false true p q s t = rw (p, q, s, t, e) refl
+    by false false false false p q s t = rw (p, q, s, t) refl

@@ -1,5 +1,5 @@
 -- What a replay is: the world's steps over the events of the schedule that the input's bytes spell, printed.
-use Rattle.std.specs.Prelude.{ℕ, List, Option}
+use Rattle.std.specs.Prelude.{◌≡◌, ℕ, List, Option}
 use Rattle.std.specs.Io.KnownBytes.{Appends}
 use Rattle.sms_core.specs.declared.event.Event.{Event}
 use Rattle.sms_core.specs.declared.event.Step.{Step}
@@ -7,11 +7,15 @@ use Rattle.sms_core.specs.Histories.{Runs}
 use Rattle.sms_core.specs.State.{State}
 use Rattle.sms_send.specs.Fields.{Record, records_of}
 use Rattle.sms_send.specs.Output.{WritesFront}
-use Rattle.sms_send.specs.Records.{TellsFile}
+use Rattle.sms_send.specs.Records.{TellsFile, TellsRecords}
 use Rattle.sms_send.specs.Schedule.{AreSchedule, schedule_fault}
 use Rattle.sms_send.specs.Text.{replay_text}
 use Rattle.sms_send.specs.declared.fault.Fault.{Fault}
 use Rattle.sms_send.specs.declared.fault.Source.TheVariants.{Schedule}
+
+-- the events took the world from one state to another, and this is printed of them
+abbrev pub PrintsRun : State → List Event → State → List ℕ → Type 0
+PrintsRun begun events ended text = (answers : List Step) × Runs begun events answers ended × (text ≡ replay_text answers ended)
 
 -- the input spells a schedule, and this holds of the text of its events' answers and of the world after them
 abbrev pub OfReplay : (List ℕ → Type 0) → List ℕ → Type 0
@@ -26,6 +30,10 @@ Replays bytes old new = OfReplay (Appends old new) bytes
 -- a front of that text was written and nothing else
 abbrev pub ReplaysFront : List ℕ → Option (List ℕ) → Option (List ℕ) → Type 0
 ReplaysFront bytes old new = OfReplay (WritesFront old new) bytes
+
+-- what a fault says of the input before anything is written: a record that it names is the first that may not stand where it stands
+abbrev pub TellsSchedule : List Record → Fault → Type 0
+TellsSchedule rs = TellsRecords Schedule (schedule_fault rs)
 
 -- what a fault of a replay says of the input: a record that it names is the first that may not stand where it stands, and only the
 -- output of a schedule can fail

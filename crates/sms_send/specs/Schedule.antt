@@ -1,5 +1,5 @@
 -- A schedule: a first record that sets a world up, and a record for each event.
-use Rattle.std.specs.Prelude.{◌≡◌, ◌≤◌, ◌⊎◌, ℕ, ◌==◌, ◌&&◌, nat_le, Bool, List, [], ◌∷◌, length, Option, Some, None, is_some, option_map, option_and_then, if◌then◌else◌, codes}
+use Rattle.std.specs.Prelude.{◌≡◌, ◌≤◌, ◌⊎◌, ℕ, ◌==◌, ◌&&◌, nat_le, Bool, List, [], ◌∷◌, length, Option, Some, None, is_some, option_map, option_and_then, if◌then◌else◌, codes, map}
 use Rattle.std.specs.List.{AllZip}
 use Rattle.std.specs.Str.{bytes_eq}
 use Rattle.csv.specs.Records.{field_at}
@@ -60,24 +60,36 @@ three event most r = option_map (λ n. event n.0 n.1 n.2) (three_numbers most r)
 abbrev pub respond_form : Form
 respond_form = three (λ number status nack. Respond number status (nack == 1)) most_flag
 
--- the forms of the events of a worker at a slot, by the record's first field
+-- the events of a worker at a slot, by the record's first field
+abbrev pub slot_events : List (List ℕ × (ℕ → ℕ → Event))
+slot_events = (codes "claim", Claim) ∷ (codes "settle", Settle) ∷ (codes "expire", Expire) ∷ (codes "release", Release) ∷ []
+
+-- the first of these with that word, of a worker and a slot
+abbrev pub made_among : List (List ℕ × (ℕ → ℕ → Event)) → List ℕ → ℕ → ℕ → Option Event
+made_among [] word worker slot = None
+made_among (event ∷ events) word worker slot = if bytes_eq word event.0 then Some (event.1 worker slot) else made_among events word worker slot
+
+abbrev pub made_at : List ℕ → ℕ → ℕ → Option Event
+made_at word worker slot = made_among slot_events word worker slot
+
+-- their forms
 abbrev pub slot_forms : List (List ℕ × Form)
-slot_forms =
-    (codes "claim", two Claim most_u32)
-    ∷ (codes "settle", two Settle most_u32)
-    ∷ (codes "expire", two Expire most_u32)
-    ∷ (codes "release", two Release most_u32)
-    ∷ []
+slot_forms = map (λ event. (event.0, two event.1 most_u32)) slot_events
+
+-- those, and the forms of the events on a request that there is
+abbrev pub request_forms : List (List ℕ × Form)
+request_forms =
+    (codes "post", three Post most_u32)
+    ∷ (codes "respond", respond_form)
+    ∷ (codes "discard", one Discard)
+    ∷ slot_forms
 
 -- the forms of all events
 abbrev pub forms : List (List ℕ × Form)
 forms =
     (codes "topup", two TopUp most_u64)
     ∷ (codes "reserve", three Reserve most_u32)
-    ∷ (codes "post", three Post most_u32)
-    ∷ (codes "respond", respond_form)
-    ∷ (codes "discard", one Discard)
-    ∷ slot_forms
+    ∷ request_forms
 
 -- what the first form of that word makes of a record
 abbrev pub made_by : List (List ℕ × Form) → List ℕ → Record → Option Event

@@ -1,6 +1,7 @@
 //! The faults that end the program, each with its text and its exit status.
 
-ghost use Rattle.std.specs.Prelude.{◌≡◌};
+ghost use Rattle.std.specs.Fmt.{WritesOnOk};
+ghost use Rattle.std.specs.Prelude.{◌≡◌, ◌++◌, codes, decimal};
 
 use std::alloc::{AllocError, AllocFailed};
 use std::fmt;
@@ -19,6 +20,22 @@ pub enum Source {
     Tariff,
 }
 
+impl Source {
+    ghost use Rattle.sms_send.specs.Faults.{source_name};
+
+    /// What a line calls the source.
+    fn name(self) -> &'static str
+        ensures { result.now ≡ source_name self }
+    {
+        match self {
+            Source::Schedule => "schedule",
+            Source::Messages => "messages",
+            Source::Accounts => "accounts",
+            Source::Tariff => "tariff",
+        }
+    }
+}
+
 impl fmt::Display for Source {
     ghost use Rattle.std.specs.Prelude.{Some};
     ghost use Rattle.sms_send.specs.Faults.{source_name};
@@ -26,12 +43,7 @@ impl fmt::Display for Source {
     ghost output = { λ source. Some (source_name source) };
 
     fn fmt<W: fmt::Write>(&self, f: &mut fmt::Formatter<W>) -> fmt::Result {
-        match self {
-            Source::Schedule => write!(f, "schedule"),
-            Source::Messages => write!(f, "messages"),
-            Source::Accounts => write!(f, "accounts"),
-            Source::Tariff => write!(f, "tariff"),
-        }
+        f.write_str(self.name())
     }
 }
 
@@ -73,20 +85,47 @@ impl fmt::Display for Fault {
 
     fn fmt<W: fmt::Write>(&self, f: &mut fmt::Formatter<W>) -> fmt::Result {
         match self {
-            Fault::Words => write!(f, "fault: words"),
-            Fault::Help(text) => write!(f, "{text}"),
-            Fault::Version(text) => write!(f, "{text}"),
-            Fault::File(name) => write!(f, "fault: file {name}"),
-            Fault::Unreadable(source) => write!(f, "fault: file {source}"),
-            Fault::BadRecord(source, place) => write!(f, "fault: {source} record {place}"),
-            Fault::NotToml => write!(f, "fault: config"),
-            Fault::BadKey(key) => write!(f, "fault: config {key}"),
-            Fault::BindRefused(bind, status) => write!(f, "fault: bind {bind} refused {status}"),
-            Fault::BindFailed(bind) => write!(f, "fault: bind {bind} failed"),
-            Fault::Output => write!(f, "fault: output"),
-            Fault::OutOfMemory => write!(f, "fault: out of memory"),
+            Fault::Words => f.write_str("fault: words"),
+            Fault::Help(text) | Fault::Version(text) => f.write_str(text.as_str()),
+            Fault::File(name) => write_named(f, "fault: file ", name.as_str()),
+            Fault::Unreadable(source) => write_named(f, "fault: file ", source.name()),
+            Fault::BadRecord(source, place) => write_record(f, source.name(), *place),
+            Fault::NotToml => f.write_str("fault: config"),
+            Fault::BadKey(key) => write_named(f, "fault: config ", key.as_str()),
+            Fault::BindRefused(bind, status) => write_refused(f, *bind, *status),
+            Fault::BindFailed(bind) => write_failed(f, *bind),
+            Fault::Output => f.write_str("fault: output"),
+            Fault::OutOfMemory => f.write_str("fault: out of memory"),
         }
     }
+}
+
+/// What is told, and its name.
+fn write_named<W: fmt::Write>(f: &mut fmt::Formatter<W>, what: &str, name: &str) -> fmt::Result
+    ensures { WritesOnOk W.write_str_gives f.old result (what.now ++ name.now) f.new }
+{
+    write!(f, "{what}{name}")
+}
+
+/// The line of a record, by the name of its source.
+fn write_record<W: fmt::Write>(f: &mut fmt::Formatter<W>, source: &str, place: usize) -> fmt::Result
+    ensures { WritesOnOk W.write_str_gives f.old result (codes "fault: " ++ source.now ++ codes " record " ++ decimal place) f.new }
+{
+    write!(f, "fault: {source} record {place}")
+}
+
+/// The line of a bind that was refused.
+fn write_refused<W: fmt::Write>(f: &mut fmt::Formatter<W>, bind: u32, status: u32) -> fmt::Result
+    ensures { WritesOnOk W.write_str_gives f.old result (codes "fault: bind " ++ decimal bind ++ codes " refused " ++ decimal status) f.new }
+{
+    write!(f, "fault: bind {bind} refused {status}")
+}
+
+/// The line of a bind that failed otherwise.
+fn write_failed<W: fmt::Write>(f: &mut fmt::Formatter<W>, bind: u32) -> fmt::Result
+    ensures { WritesOnOk W.write_str_gives f.old result (codes "fault: bind " ++ decimal bind ++ codes " failed") f.new }
+{
+    write!(f, "fault: bind {bind} failed")
 }
 
 impl Fault {

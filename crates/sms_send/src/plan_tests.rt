@@ -5,7 +5,7 @@ use crate::fault::{Fault, Source};
 use crate::plan::run_plan;
 use crate::same::same;
 use crate::told::told_of;
-use std::alloc::{AllocError, Global};
+use std::alloc::Global;
 use std::process::Abort;
 use std::test::Fail;
 
@@ -34,77 +34,84 @@ fn letters(alloc: Global, count: usize) -> Result<String, Fail> {
     Ok(input)
 }
 
+// How many letters, whether their references have 16 bits, and the plan.
+const PLANNED: [(usize, bool, &str); 4] = [
+    (
+        161,
+        false,
+        "message,coding,units,parts,sizes\n0,gsm,161,2,153 8\n1,ucs2,1,1,1\n",
+    ),
+    (
+        161,
+        true,
+        "message,coding,units,parts,sizes\n0,gsm,161,2,152 9\n1,ucs2,1,1,1\n",
+    ),
+    (
+        39_016,
+        false,
+        "message,coding,units,parts,sizes\n0,gsm,39016,0,too-long\n1,ucs2,1,1,1\n",
+    ),
+    (
+        0,
+        false,
+        "message,coding,units,parts,sizes\n0,gsm,0,1,0\n1,ucs2,1,1,1\n",
+    ),
+];
+
 #[test]
 fn plans_the_texts_of_a_file(rt: HostRuntime) -> Result<(), Fail> {
     let alloc = rt.alloc();
-    let rows: [(usize, bool, &str); 4] = [
-        (
-            161,
-            false,
-            "message,coding,units,parts,sizes\n0,gsm,161,2,153 8\n1,ucs2,1,1,1\n",
-        ),
-        (
-            161,
-            true,
-            "message,coding,units,parts,sizes\n0,gsm,161,2,152 9\n1,ucs2,1,1,1\n",
-        ),
-        (
-            39_016,
-            false,
-            "message,coding,units,parts,sizes\n0,gsm,39016,0,too-long\n1,ucs2,1,1,1\n",
-        ),
-        (
-            0,
-            false,
-            "message,coding,units,parts,sizes\n0,gsm,0,1,0\n1,ucs2,1,1,1\n",
-        ),
-    ];
-    for (count, long, wanted) in rows {
-        let input = letters(alloc, count)?;
-        let output = planned(&rt, alloc, input.as_bytes(), long)?;
-        same(&rt, (count, output.as_slice()), (count, wanted.as_bytes()));
+    for (count, long, wanted) in &PLANNED {
+        let input = letters(alloc, *count)?;
+        let output = planned(&rt, alloc, input.as_bytes(), *long)?;
+        same(
+            &rt,
+            (*count, output.as_slice()),
+            (*count, wanted.as_bytes()),
+        );
     }
     Ok(())
 }
 
+// Messages files, and the plan of each or its fault.
+const RECORDS: [(&[u8], &str); 9] = [
+    (
+        b"account,source,destination,text\nmain,1,2\n",
+        "fault: messages record 2",
+    ),
+    (
+        b"account,source,destination,text\nmain,1,2,hi\nmain,1,2,hi,there\nmain\n",
+        "fault: messages record 3",
+    ),
+    (
+        b"account,source,destination,text\nmain,1,2,hi\nmain,1,\xff,hi\n",
+        "fault: messages record 3",
+    ),
+    (
+        b"account,source,destination,text\nmain,1,2,\xd0\n",
+        "fault: messages record 2",
+    ),
+    (b"", "fault: messages record 1"),
+    (
+        b"account,source,destination,texts\nmain,1,2,hi\n",
+        "fault: messages record 1",
+    ),
+    (b"account,source,destination\n", "fault: messages record 1"),
+    // Quotes keep a comma in the text; empty lines are no records.
+    (
+        b"account,source,destination,text\n\nmain,1,2,\"[a,b]\"\n",
+        "message,coding,units,parts,sizes\n0,gsm,7,1,7\n",
+    ),
+    (
+        b"account,source,destination,text",
+        "message,coding,units,parts,sizes\n",
+    ),
+];
+
 #[test]
 fn names_the_first_faulty_record(rt: HostRuntime) -> Result<(), Fail> {
-    let alloc = rt.alloc();
-    let rows: [(&[u8], &str); 9] = [
-        (
-            b"account,source,destination,text\nmain,1,2\n",
-            "fault: messages record 2",
-        ),
-        (
-            b"account,source,destination,text\nmain,1,2,hi\nmain,1,2,hi,there\nmain\n",
-            "fault: messages record 3",
-        ),
-        (
-            b"account,source,destination,text\nmain,1,2,hi\nmain,1,\xff,hi\n",
-            "fault: messages record 3",
-        ),
-        (
-            b"account,source,destination,text\nmain,1,2,\xd0\n",
-            "fault: messages record 2",
-        ),
-        (b"", "fault: messages record 1"),
-        (
-            b"account,source,destination,texts\nmain,1,2,hi\n",
-            "fault: messages record 1",
-        ),
-        (b"account,source,destination\n", "fault: messages record 1"),
-        // Quotes keep a comma in the text; empty lines are no records.
-        (
-            b"account,source,destination,text\n\nmain,1,2,\"[a,b]\"\n",
-            "message,coding,units,parts,sizes\n0,gsm,7,1,7\n",
-        ),
-        (
-            b"account,source,destination,text",
-            "message,coding,units,parts,sizes\n",
-        ),
-    ];
-    for (input, wanted) in rows {
-        let output = planned(&rt, alloc, input, false)?;
+    for (input, wanted) in &RECORDS {
+        let output = planned(&rt, rt.alloc(), input, false)?;
         same(&rt, output.as_slice(), wanted.as_bytes());
     }
     Ok(())
@@ -138,25 +145,33 @@ fn names_the_record_past_the_limit(rt: HostRuntime) -> Result<(), Fail> {
     Ok(())
 }
 
+// That a plan whose output fails behind so many octets is refused with this fault.
+fn want_broken_writer(rt: &(impl AllocGlobal + Abort), input: &[u8], room: usize) {
+    let mut output = FailingOutput { room };
+    match run_plan(rt.alloc(), input, false, &mut output) {
+        Err(Fault::Output) => {}
+        _ => panic!(rt; "a broken writer"),
+    }
+}
+
+// That a plan whose input fails behind these octets is refused with this fault.
+fn want_broken_reader(rt: &(impl AllocGlobal + Abort), left: &[u8]) {
+    let alloc = rt.alloc();
+    match run_plan(alloc, FailingInput { left }, false, &mut Vec::new(alloc)) {
+        Err(Fault::Unreadable(Source::Messages)) => {}
+        _ => panic!(rt; "a broken reader"),
+    }
+}
+
 #[test]
 fn tells_what_failed(rt: HostRuntime) -> Result<(), Fail> {
-    let alloc = rt.alloc();
-    let input = letters(alloc, 1)?;
+    let input = letters(rt.alloc(), 1)?;
     for room in [0, 10, 1000] {
-        match run_plan(alloc, input.as_bytes(), false, &mut FailingOutput { room }) {
-            Err(Fault::Output) => {}
-            Err(Fault::OutOfMemory) => return Err(Fail::from(AllocError)),
-            _ => assert!(rt; false, "a broken writer"),
-        }
+        want_broken_writer(&rt, input.as_bytes(), room);
     }
     let messages = b"account,source,destination,text\nmain,1,2,a\n";
     for given in [0, 5, 40] {
-        let left = &messages[..given];
-        match run_plan(alloc, FailingInput { left }, false, &mut Vec::new(alloc)) {
-            Err(Fault::Unreadable(Source::Messages)) => {}
-            Err(Fault::OutOfMemory) => return Err(Fail::from(AllocError)),
-            _ => assert!(rt; false, "a broken reader"),
-        }
+        want_broken_reader(&rt, &messages[..given]);
     }
     Ok(())
 }

@@ -1,15 +1,16 @@
 //! The replay of a schedule.
 
-ghost use Rattle.std.specs.Prelude.{◌≡◌, ◌≢◌, None, IfErr, IfOk, IfSome, OnOk};
+ghost use Rattle.std.specs.Prelude.{◌≡◌, ◌≢◌, None, IfErr, IfOk, IfSome, OnOk, string_bytes};
 ghost use Rattle.sms_send.specs.Fields.{records_of};
-ghost use Rattle.sms_send.specs.Replays.{Replays, ReplaysFront, TellsReplay};
+ghost use Rattle.sms_send.specs.Replays.{OfReplay, PrintsRun, Replays, ReplaysFront, TellsReplay, TellsSchedule};
 ghost use Rattle.sms_send.specs.Schedule.{schedule_fault};
 
 use crate::fault::Fault;
 use crate::output::write_out;
 use crate::schedule::{Schedule, read_schedule};
 use crate::text::replay_text;
-use std::alloc::Global;
+use sms_core::{Event, World};
+use std::alloc::{AllocError, Global};
 use std::io::{Read, Write};
 
 /// Replays the schedule that is read from `input`, and writes what became of each event and of the
@@ -29,9 +30,28 @@ pub fn run_replay<R: Read + Drop, W: Write>(
     ensures front { IfErr result (λ fault. fault ≡ Fault.Output → IfSome (R.remaining input) (λ bytes. ReplaysFront bytes (W.contents output.old) (W.contents output.new))) }
     ensures unwritten { IfErr result (λ fault. fault ≢ Fault.Output → output.new ≡ output.old) }
 {
-    let Schedule { mut world, events } = read_schedule(alloc, input)?;
-    let answers = world.run(events.as_slice())?;
-    let text = replay_text(alloc, answers.as_slice(), &world)?;
+    let text = replayed(alloc, input)?;
     write_out(output, text.as_bytes())?;
     Ok(0)
+}
+
+/// What is printed of the schedule that is read from `input`.
+fn replayed<R: Read + Drop>(alloc: Global, input: R) -> Result<String, Fault>
+    ensures text { IfOk result (λ text. IfSome (R.remaining input) (OfReplay (λ printed. string_bytes text ≡ printed))) }
+    ensures accepted { OnOk result (IfSome (R.remaining input) (λ bytes. schedule_fault (records_of bytes) ≡ None)) }
+    ensures refused { IfErr result (λ fault. IfSome (R.remaining input) (λ bytes. TellsSchedule (records_of bytes) fault)) }
+{
+    let Schedule { mut world, events } = read_schedule(alloc, input)?;
+    let text = text_after(alloc, &mut world, events.as_slice());
+    drop(events);
+    drop(world);
+    Ok(text?)
+}
+
+/// Lets the events happen in the world, and gives what is printed of them.
+fn text_after(alloc: Global, world: &mut World, events: &[Event]) -> Result<String, AllocError>
+    ensures { IfOk result (λ text. PrintsRun world.old events.now world.new (string_bytes text)) }
+{
+    let answers = world.run(events)?;
+    replay_text(alloc, answers.as_slice(), world)
 }

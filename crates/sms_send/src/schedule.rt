@@ -4,7 +4,7 @@ ghost use Rattle.std.specs.Prelude.{◌≡◌, None, Some, IfErr, IfOk, IfSome};
 ghost use Rattle.csv.specs.Records.{fields_of};
 ghost use Rattle.sms_send.specs.Fields.{records_of};
 ghost use Rattle.sms_send.specs.Records.{ReadsAll, TellsRecords, records_left};
-ghost use Rattle.sms_send.specs.Schedule.{one_number as one_spelled, two_numbers as two_spelled, three_numbers as three_spelled, event_of as event_spelled, limits_of as limits_spelled, world_of as world_spelled, AreSchedule, Spells, TellsWorld, is_event, made_by, respond_form, schedule_fault, slot_forms};
+ghost use Rattle.sms_send.specs.Schedule.{one_number as one_spelled, two_numbers as two_spelled, three_numbers as three_spelled, event_of as event_spelled, limits_of as limits_spelled, world_of as world_spelled, AreSchedule, Spells, TellsWorld, is_event, made_at, made_by, request_forms, respond_form, schedule_fault, slot_forms};
 
 use crate::fault::{Fault, Source};
 use crate::field::{number_at, u32_at};
@@ -80,6 +80,13 @@ pub fn event_of(row: &ByteRecord) -> Option<Event>
             cost,
         });
     }
+    request_event_of(word, row)
+}
+
+/// The event on a request, or of a worker at a slot, that a record with this word spells.
+fn request_event_of(word: &[u8], row: &ByteRecord) -> Option<Event>
+    ensures { result ≡ made_by request_forms word.now (fields_of row.now) }
+{
     if word == b"post".as_slice() {
         let (worker, slot, request) = three_numbers(row, u32::MAX)?;
         return Some(Event::Post {
@@ -114,20 +121,24 @@ fn respond_of(row: &ByteRecord) -> Option<Event>
 fn slot_event_of(word: &[u8], row: &ByteRecord) -> Option<Event>
     ensures { result ≡ made_by slot_forms word.now (fields_of row.now) }
 {
+    let (worker, slot) = worker_and_slot(row)?;
+    slot_event(word, worker, slot)
+}
+
+/// The event that this word makes of a worker and a slot.
+fn slot_event(word: &[u8], worker: u32, slot: u32) -> Option<Event>
+    ensures { result ≡ made_at word.now worker slot }
+{
     if word == b"claim".as_slice() {
-        let (worker, slot) = worker_and_slot(row)?;
         return Some(Event::Claim { worker, slot });
     }
     if word == b"settle".as_slice() {
-        let (worker, slot) = worker_and_slot(row)?;
         return Some(Event::Settle { worker, slot });
     }
     if word == b"expire".as_slice() {
-        let (worker, slot) = worker_and_slot(row)?;
         return Some(Event::Expire { worker, slot });
     }
     if word == b"release".as_slice() {
-        let (worker, slot) = worker_and_slot(row)?;
         return Some(Event::Release { worker, slot });
     }
     None

@@ -109,10 +109,10 @@ fn printed(rt: &(impl AllocGlobal + Abort), schedule: &str) -> String {
 
 #[test]
 fn prints_schedules_and_faults(rt: HostRuntime) {
-    for (schedule, expected) in REPLAYED {
+    for (schedule, expected) in &REPLAYED {
         same(&rt, printed(&rt, schedule).as_str(), expected);
     }
-    for (schedule, expected) in REFUSED {
+    for (schedule, expected) in &REFUSED {
         same(&rt, printed(&rt, schedule).as_str(), expected);
     }
 }
@@ -287,7 +287,7 @@ fn want_read(rt: &(impl AllocGlobal + Abort), words: &[String], wanted: &str) {
 
 #[test]
 fn reads_the_words(rt: HostRuntime) {
-    for (line, wanted) in READ {
+    for (line, wanted) in &READ {
         let words = words_of(&rt, line);
         want_read(&rt, words.as_slice(), wanted);
     }

@@ -3,8 +3,8 @@ use Rattle.std.specs.List.{AllZip}
 use Rattle.std.proofs.lemmas.List.{length-append}
 use Rattle.csv.specs.Records.{fields_of}
 use Rattle.sms_send.specs.Records.{TellsRecords, record_fault, records_left}
-use Rattle.sms_send.specs.declared.fault.Fault.TheVariants.{BadRecord}
-use Rattle.sms_send.proofs.Runs.{bad-next, fault-bad, fault-good, fault-many, if_known, no-more, not-read, one-more, was-read}
+use Rattle.sms_send.specs.declared.fault.Fault.TheVariants.{BadRecord, OutOfMemory}
+use Rattle.sms_send.proofs.Runs.{bad-next, device-tells, fault-bad, fault-good, fault-many, if_known, no-more, not-read, one-more, refused, told_so, was-read}
 use Rattle.sms_send.proofs.records.read_records.Goals as goal
 
 pub returns-then-not-branch-clause-records : goal.returns-then-not-branch-clause-records
@@ -76,3 +76,23 @@ returns-clause-records g c =
     no-more Says (record_fault is_good c.args.most 1 left) (record_fault is_good c.args.most c.loop-before.before) left c.loop-before.records.items (records_left g.R.Read.remaining c.loop-before.reader)
     (records_left g.R.Read.remaining c.next_record-2.new.reader) c.in_ok-next_record-2.field-0 (fields_of c.next_record-2.new.row)
     (c.loop-before.invariant.rest left known) c.in_ok-next_record-2.ensures.first c.if-branch.false refl)
+
+pub returns-in_err-next_record-clause-faulty : goal.returns-in_err-next_record-clause-faulty
+returns-in_err-next_record-clause-faulty g c =
+    told_so c.from_residual.result _ _ c.from_residual.ensures.1
+    (device-tells c.args.source (records_left g.R.Read.remaining c.args.reader.now) (record_fault g.T.FromRecord.is_good c.args.most 1) _ c.in_err-next_record.ensures.device)
+
+pub returns-in_err-record-clause-faulty : goal.returns-in_err-record-clause-faulty
+returns-in_err-record-clause-faulty g c =
+    refused c.from_residual-in_err-record.result _ c.from_residual-in_err-record.ensures.1
+    (device-tells c.args.source (records_left g.R.Read.remaining c.args.reader.now) (record_fault g.T.FromRecord.is_good c.args.most 1) OutOfMemory (inr refl))
+
+pub returns-in_err-push-in-Some-clause-faulty : goal.returns-in_err-push-in-Some-clause-faulty
+returns-in_err-push-in-Some-clause-faulty g c =
+    refused c.from_residual-in_err-push-in-Some.result _ c.from_residual-in_err-push-in-Some.ensures.1
+    (device-tells c.args.source (records_left g.R.Read.remaining c.args.reader.now) (record_fault g.T.FromRecord.is_good c.args.most 1) OutOfMemory (inr refl))
+
+pub returns-in_err-next_record-2-clause-faulty : goal.returns-in_err-next_record-2-clause-faulty
+returns-in_err-next_record-2-clause-faulty g c =
+    told_so c.from_residual-in_err-next_record-2.result _ _ c.from_residual-in_err-next_record-2.ensures.1
+    (device-tells c.args.source (records_left g.R.Read.remaining c.args.reader.now) (record_fault g.T.FromRecord.is_good c.args.most 1) _ c.in_err-next_record-2.ensures.device)
