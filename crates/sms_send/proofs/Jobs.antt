@@ -1,8 +1,10 @@
 -- From what the parser gives to the job.
-use Rattle.std.proofs.Common.{◌≡◌, ap₂, refl, List, Option, None, Some}
-use Rattle.std.specs.Prelude.{Box, option_map}
+use Rattle.std.proofs.Common.{◌≡◌, ◌∙◌, ap, ap₂, false, refl, List, Option, None, Some, Result, Ok, Err}
+use Rattle.std.specs.Prelude.{Box, option_map, IfOk, IsOkAnd}
 use Rattle.std.specs.Box.{box_value}
-use Rattle.clap.specs.Words.{Row, Text, subcommand_rows}
+use Rattle.clap.specs.Words.{AddsSubcommand, App, Row, Text, app_of, subcommand_rows, with_subcommand}
+use Rattle.clap.specs.declared.builder.Command.{Command}
+use Rattle.clap.specs.declared.builder.Command.TheViews.{out-Command as fields_of}
 use Rattle.clap.specs.declared.parser.matches.ArgMatches.TheViews.{out-SubCommand}
 use Rattle.clap.specs.declared.parser.matches.SubCommand.{SubCommand}
 
@@ -19,3 +21,9 @@ met (Some found) name rows n r =
     let named : found.0 ≡ name = cc in
     let same : found.1 ≡ rows = cc in
     ap₂ (λ (a : Text) (b : List Row). Some (a, b)) named same
+
+-- a program with one subcommand more, of this line
+pub subcommand-added : {E : Type 0} (command joined : Command) (program line : App) (r : Result Command E) → IsOkAnd r (λ s. AddsSubcommand command s joined)
+    → IfOk r (λ s. app_of s ≡ line) → IfOk r (λ s. (fields_of s).has_globals ≡ false) → app_of command ≡ program → app_of joined ≡ with_subcommand program line.top
+subcommand-added command joined program line (Ok s) adds is local was = adds.shape local ∙ ap₂ with_subcommand was (ap (λ (a : App). a.top) is)
+subcommand-added command joined program line (Err e) adds is local was = absurd adds

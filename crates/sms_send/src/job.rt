@@ -1,7 +1,7 @@
 //! The command line.
 
-ghost use Rattle.std.specs.Prelude.{◌≡◌, ◌≢◌, ◌↔◌, [], Some, false, IfErr, IfOk, OnOk, map, string_bytes};
-ghost use Rattle.clap.specs.Words.{HasKind, Kinds, app_of, first_of, found_of, kind_of, new_app, rows_of, rule_of, subcommand_rows_of, with_rule};
+ghost use Rattle.std.specs.Prelude.{◌≡◌, ◌≢◌, ◌↔◌, [], Some, false, IfErr, IfOk, IsOkAnd, OnOk, map, string_bytes};
+ghost use Rattle.clap.specs.Words.{AddsSubcommand, HasKind, Kinds, app_of, first_of, found_of, kind_of, new_app, rows_of, rule_of, subcommand_rows_of, with_rule};
 ghost use Rattle.clap.specs.declared.builder.Command.TheViews.{out-Command as fields_of};
 ghost use Rattle.sms_send.specs.CommandLine.{IsJob, TellsMet, TellsName, TellsRefusal, TellsWords, bytes_of, command_line as words_allowed, file_named, file_rule, file_word as word_of_file, flag_rule, is_set, plan_line, program_line, refusals_of, replay_line, sender_line, subcommand_in, subcommand_named as named};
 ghost use Rattle.sms_send.specs.declared.fault.Fault.TheVariants.{OutOfMemory, Words};
@@ -57,22 +57,39 @@ fn command_line<'a>(alloc: Global) -> Result<Command<'a>, AllocError>
     ensures { IfOk result (λ command. app_of command ≡ words_allowed) }
 {
     let program = program_command(alloc)?;
-    let replay = replay_command(alloc)?;
-    let replaying = program.subcommand(replay)?;
-    let plan = plan_command(alloc)?;
-    let planning = replaying.subcommand(plan)?;
+    let replaying = with_subcommand(program, replay_command(alloc))?;
+    let planning = with_subcommand(replaying, plan_command(alloc))?;
     let looping = sender_command(
         alloc,
         "loop",
         "Sends the messages that the config names through a test centre in this process, and prints a report",
-    )?;
-    let either = planning.subcommand(looping)?;
+    );
+    let either = with_subcommand(planning, looping)?;
     let sending = sender_command(
         alloc,
         "send",
         "Sends the messages that the config names to its message centre, and prints a report",
-    )?;
-    either.subcommand(sending)
+    );
+    with_subcommand(either, sending)
+}
+
+/// The command with this subcommand too, where there was memory for both.
+//
+// What dies here is dropped by a call: behind a `?` each of its parts would die on a way of its own,
+// which the prover goes through.
+fn with_subcommand<'a>(
+    command: Command<'a>,
+    subcommand: Result<Command<'a>, AllocError>,
+) -> Result<Command<'a>, AllocError>
+    ensures { IfOk result (λ r. IsOkAnd subcommand.entry (λ s. AddsSubcommand command.entry s r)) }
+{
+    match subcommand {
+        Ok(subcommand) => command.subcommand(subcommand),
+        Err(error) => {
+            drop(command);
+            Err(error)
+        }
+    }
 }
 
 /// What the parser is told of the program before its subcommands.
@@ -148,7 +165,13 @@ fn file_command<'a>(
     ensures line { IfOk result (λ command. app_of command ≡ with_rule (with_rule (new_app name.now) (rule_of file.entry)) (rule_of flag.entry)) }
     ensures local { IfOk result (λ command. (fields_of command).has_globals ≡ false) }
 {
-    Command::new(alloc, name).about(about).arg(file)?.arg(flag)
+    match Command::new(alloc, name).about(about).arg(file) {
+        Ok(command) => command.arg(flag),
+        Err(error) => {
+            drop(flag);
+            Err(error)
+        }
+    }
 }
 
 /// An option that has to be given a file.
