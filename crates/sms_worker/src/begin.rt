@@ -1,4 +1,5 @@
 //! Beginning a message: its parts, its credits, and its end so far.
+
 ghost use Rattle.std.specs.Prelude.{◌≡◌, ℕ, ◌<◌, ◌≤◌, ◌↔◌, All, IsTrue, Err, IfOk, IfErr, OnOk, length, vec_len};
 ghost use Rattle.sms_worker.specs.Begins.{ready, Begins};
 ghost use Rattle.sms_book.specs.Tariffs.{cost_of};
@@ -20,6 +21,7 @@ use crate::rules::Rules;
 use crate::texts::Texts;
 use sms_alphabet::choose;
 use sms_book::{Book, BookName, Shares};
+use sms_segment::laws::the_parts_have_septets;
 use sms_segment::{CutError, Part, Reference, cut};
 use std::alloc::{AllocError, Global};
 use std::sync::{Mutex, Wait};
@@ -68,7 +70,10 @@ fn parts_for(alloc: Global, rules: &Rules, message: &Message) -> Result<Vec<Part
         return Err(MessageRefusal::OutOfMemory);
     };
     match cut(alloc, &text, reference_for(rules, message)) {
-        Ok(parts) => Ok(parts),
+        Ok(parts) => {
+            the_parts_have_septets();
+            Ok(parts)
+        }
         Err(CutError::TooLong) => Err(MessageRefusal::TooLong),
         Err(CutError::OutOfMemory) => Err(MessageRefusal::OutOfMemory),
     }

@@ -1,7 +1,6 @@
 use Rattle.std.proofs.Common.{◌≡◌, ◌∙◌, Ok, Err, sym, subst, rules}
 use Rattle.sms_alphabet.specs.declared.coded.Coded.{Coded}
 use Rattle.sms_segment.specs.Message.{IsTooLong, parts_of}
-use Rattle.sms_segment.proofs.SizeLemmas.{parts_have_septets}
 use Rattle.sms_segment.specs.declared.place.Reference.{Reference}
 use Rattle.sms_segment.specs.declared.cutting.CutError.TheVariants.{TooLong}
 use Rattle.sms_worker.specs.Submits.{coded_text}
@@ -20,7 +19,7 @@ returns-in-Ok-cut-clause-parts c =
     c.in-Ok-cut.ensures.exact ∙ (λ i. parts_of (text i) (c.reference_for.ensures i))
 
 pub returns-in-Ok-cut-clause-septets : goal.returns-in-Ok-cut-clause-septets
-returns-in-Ok-cut-clause-septets c = parts_have_septets c.in-Ok.text c.reference_for.result c.in-Ok-cut.parts.items c.in-Ok.ensures.lawful c.in-Ok-cut.ensures.full
+returns-in-Ok-cut-clause-septets c = c.the_parts_have_septets.ensures c.in-Ok.text c.reference_for.result c.in-Ok-cut.parts.items c.in-Ok.ensures.lawful c.in-Ok-cut.ensures.full
 
 pub returns-in-Ok-cut-clause-short : goal.returns-in-Ok-cut-clause-short
 returns-in-Ok-cut-clause-short c long =
