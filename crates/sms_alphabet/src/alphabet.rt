@@ -1,5 +1,6 @@
 //! Look-ups in the default alphabet and its extension table, from a character and from a code.
 //! Each takes constant time.
+
 ghost use Rattle.std.specs.Prelude.{◌≡◌, ◌<◌, [], ◌∷◌, slice_index};
 ghost use Rattle.std.specs.Option.{option_map};
 ghost use Rattle.sms_alphabet.specs.Alphabet.{codes_of, IsCharacterOf};

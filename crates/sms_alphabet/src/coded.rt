@@ -1,4 +1,5 @@
 //! A text as it is sent: its coding and its units.
+
 use crate::units::Units;
 
 /// How the text of a short message is coded.

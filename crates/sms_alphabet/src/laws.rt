@@ -1,5 +1,6 @@
 //! What holds of the alphabet and of every coded text. The functions do nothing: their contracts
 //! are the laws.
+
 ghost use Rattle.sms_alphabet.specs.Laws.{OneSpelling, OneCharacter, LookUp, OneText, ChosenIsLawful, ComesBack, UnitsFit};
 
 /// A character of the default alphabet has exactly one spelling there.

@@ -3,6 +3,7 @@
 //!
 //! [`choose`] spells a text in the default alphabet where each of its characters has a code there,
 //! and in UCS2 otherwise. [`text_of`] reads a spelling back.
+
 #![tactic(auto)]
 
 mod alphabet;

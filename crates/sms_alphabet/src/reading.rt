@@ -1,4 +1,5 @@
 //! From units back to their text.
+
 ghost use Rattle.std.specs.Prelude.{◌≡◌, ◌≢◌, ◌↔◌, ℕ, List, IfOk, IfSome, IfNone, IsOk, string_bytes};
 ghost use Rattle.std.specs.Str.{chars};
 ghost use Rattle.sms_alphabet.specs.Spelling.{IsLawful, Spells};

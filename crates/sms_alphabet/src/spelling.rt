@@ -1,4 +1,5 @@
 //! From a text to its units.
+
 ghost use Rattle.std.specs.Prelude.{◌≡◌, ◌↔◌, IfOk, IsSome};
 ghost use Rattle.std.specs.Str.{chars};
 ghost use Rattle.sms_alphabet.specs.Spelling.{IsCodable, IsLawful, Spells, chosen, gsm_spelling, ucs2_spelling};

@@ -1,4 +1,5 @@
 //! The units of a coded text.
+
 ghost use Rattle.std.specs.Prelude.{◌≡◌, ◌==◌, length};
 
 use std::marker::Model;

@@ -1,5 +1,6 @@
 //! One bind: its wire, how its session is bound, and the reader of what comes in on it (SMPP 3.4
 //! chapter 2, 4.1).
+
 #![tactic(auto)]
 
 mod binding;

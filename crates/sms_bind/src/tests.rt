@@ -1,4 +1,5 @@
 //! A wire, and a bind over devices in memory.
+
 use crate::{BindFault, Bound, Settings, Tap, Wire, WireFault, bind};
 use sms_pdu::{Field, Frame, Mode, Octets, PduError, is_frame};
 use sms_session::State;

@@ -1,4 +1,5 @@
 //! A book that isn't open yet.
+
 ghost use Rattle.std.specs.Prelude.{◌≡◌, ℕ, ◌+◌, ◌<◌, ◌≤◌, List, [], ◌∷◌, length, map, replicate, IfOk, IfErr, vec_capacity};
 ghost use Rattle.sms_book.specs.declared.rule.View.TheVariants.{Book as BookView};
 ghost use Rattle.sms_book.specs.declared.rule.Entry.{Entry};

@@ -1,4 +1,5 @@
 //! The book: each account's row, and the calls that move its credits.
+
 ghost use Rattle.std.specs.Prelude.{◌≡◌, ◌≢◌, ℕ, ◌+◌, ◌-◌, ◌<◌, ◌≤◌, ◌↔◌, length, slice_set, OnOk, OnErr, IsErrOf, IsOk, IsSome, IfSome};
 ghost use Rattle.sms_core.specs.Limits.{most_topped};
 ghost use Rattle.sms_core.specs.RowMoves.{row_topped_up, row_reserved, row_charged, row_given_back};

@@ -1,4 +1,5 @@
 //! Takes every share back, and tells what became of each account.
+
 ghost use Rattle.std.specs.Prelude.{◌≡◌, ℕ, ◌<◌, ◌↔◌, length, IfOk, IfErr, IsErr};
 ghost use Rattle.sms_book.specs.Portions.{row_at};
 ghost use Rattle.sms_book.specs.Shares.{AreAll};

@@ -1,5 +1,6 @@
 //! What holds of every book, of its table over every state that meets its rule and every run of
 //! steps, and of what every tariff charges.
+
 ghost use Rattle.sms_book.specs.Laws.{EachBalanced, RuleIsOrderly, OpeningMeetsRule, StepKeepsRule, RunIsOrderly, StepMovesTotals, StepMovesBookTotals, OpeningSharesAreBlank};
 ghost use Rattle.sms_book.specs.Tariffs.{IsTariff};
 ghost use Rattle.sms_book.specs.TariffLaws.{CostIsOfTheLongest, CostIgnoresOrder};

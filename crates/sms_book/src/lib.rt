@@ -4,6 +4,7 @@
 //! share for each worker. Each worker reserves, charges and gives back through its own share;
 //! `gather` takes every share back and tells the rows. A `Tariff` says what a segment costs, by the
 //! prefix of its destination.
+
 #![tactic(auto)]
 
 mod amounts;

@@ -1,4 +1,5 @@
 //! What a worker does with an account's credits: the row and the share after it.
+
 ghost use Rattle.std.specs.Prelude.{◌≡◌};
 ghost use Rattle.sms_book.specs.Money.{CanMove, FitsMove, moved_row, moved_amounts};
 

@@ -1,4 +1,5 @@
 //! Lists in which no two places may have one name.
+
 ghost use Rattle.std.specs.Prelude.{ℕ, ◌<◌, length, map, IfSome, IsNone};
 ghost use Rattle.sms_book.specs.Openings.{HaveOneName};
 

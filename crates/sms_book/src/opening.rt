@@ -1,4 +1,5 @@
 //! The accounts with which a book opens.
+
 ghost use Rattle.std.specs.Prelude.{◌≡◌, ◌≢◌, ◌⊎◌, ℕ, ◌+◌, ◌^◌, ◌<◌, ◌≤◌, ◌↔◌, length, slice_index, slice_index_or, IfOk, IfSome, IsErrOf, IsNone, IsSome, IsTrue};
 ghost use Rattle.sms_book.specs.Openings.{names_of, credits_of, GoodCount, HaveOneName, IsFirstDouble, NoDouble, AllSmall};
 ghost use Rattle.sms_book.specs.declared.error.BookError.TheVariants.{BadCount, Duplicate, AmountTooLarge, NoAccount, NoCredit};

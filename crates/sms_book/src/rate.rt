@@ -1,4 +1,5 @@
 //! A rate of a tariff, and whether it is good beside those before it.
+
 ghost use Rattle.std.specs.Prelude.{◌<◌, length, IfErr, OnOk, IsTrue, ◌↔◌};
 ghost use Rattle.sms_book.specs.Tariffs.{prices_of, IsPrefix, IsGoodAt, IsTariff, IsFault, Refuses};
 

@@ -1,4 +1,5 @@
 //! The memory that the opening of a book takes, all of it made before anything moves.
+
 ghost use Rattle.std.specs.Prelude.{◌≡◌, ◌≤◌, [], length, map, replicate, IfOk, vec_capacity};
 ghost use Rattle.sms_book.specs.Portions.{no_amounts};
 ghost use Rattle.sms_book.specs.Openings.{opening_row};

@@ -1,4 +1,5 @@
 //! A worker's share of a book.
+
 ghost use Rattle.std.specs.Prelude.{◌≡◌, length};
 ghost use Rattle.sms_book.specs.Portions.{amounts_at};
 

@@ -1,4 +1,5 @@
 //! What a gathered book says.
+
 ghost use Rattle.std.specs.Prelude.{◌≡◌};
 
 use sms_core::Row;

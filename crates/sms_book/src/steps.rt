@@ -1,6 +1,7 @@
 //! The steps on a book's table: the book takes a number in, and the number goes out again or stays.
 //!
 //! Each is one load of the table's word, on which nothing rests: a view changes only at a step.
+
 ghost use Rattle.std.specs.Prelude.{◌≡◌, ℕ, ◌<◌, List, [], ◌∷◌, Some, map, length, slice_get, slice_set};
 ghost use Rattle.atomic_table.specs.Table.{Splits};
 ghost use Rattle.sms_book.specs.declared.rule.Entry.{Entry};

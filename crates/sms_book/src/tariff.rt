@@ -1,4 +1,5 @@
 //! What a segment costs, by the prefix of its destination.
+
 ghost use Rattle.std.specs.Prelude.{◌≡◌, ℕ, ◌<◌, ◌≤◌, ◌↔◌, length, slice_index, IfOk, IfErr, IsErrOf, IfSome, IsNone};
 ghost use Rattle.sms_core.specs.Limits.{largest_cost};
 ghost use Rattle.sms_book.specs.Limits.{most_rates};

@@ -1,4 +1,5 @@
 //! Money that moves, gathered and compared.
+
 ghost use Rattle.std.specs.Prelude.{◌≡◌};
 
 use self::calls::{

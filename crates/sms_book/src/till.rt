@@ -1,4 +1,5 @@
 //! The cashier's share of a book.
+
 ghost use Rattle.std.specs.Prelude.{◌≡◌, length};
 
 use crate::name::BookName;

@@ -1,5 +1,6 @@
 //! A test centre, which answers by a script well or badly, and devices in memory to reach it and to
 //! make it fail.
+
 #![tactic(auto)]
 
 mod centre;

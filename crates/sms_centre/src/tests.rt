@@ -1,4 +1,5 @@
 //! The centre and its devices, by values from outside.
+
 use crate::{Cause, Centre, Script, ScriptError, ServeEnd, serve};
 use sms_pdu::Frame;
 use std::alloc::Global;

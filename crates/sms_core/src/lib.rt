@@ -3,6 +3,7 @@
 //!
 //! Every crate above cites the definitions of this one's `specs/`: hold sets, drawn numbers,
 //! account sums, the row law, marks, and the world's step.
+
 #![tactic(auto)]
 
 mod decimal;

@@ -1,4 +1,5 @@
 //! The PDUs of SMPP 3.4: their grammar, read and written, and their frames in a stream.
+
 #![tactic(auto)]
 
 mod body;

@@ -1,4 +1,5 @@
 //! Tests of the PDUs, by values from outside.
+
 use super::*;
 use std::alloc::Global;
 use std::fmt::Debug;

@@ -1,4 +1,5 @@
 //! Cutting a text into the parts that short messages carry.
+
 ghost use Rattle.std.specs.Prelude.{◌≡◌, ◌≤◌, ◌<◌, ◌∷◌, [], ◌↔◌, IfOk, IfSome, IsErrOf, IsNone, length};
 ghost use Rattle.sms_segment.specs.Limits.{part_limit};
 ghost use Rattle.sms_segment.specs.Message.{IsFullyCut, IsLeast, IsTooLong, full_parts, numbered_parts, parts_of, whole};

@@ -1,4 +1,5 @@
 //! How much of a text the next part takes.
+
 ghost use Rattle.std.specs.Prelude.{◌≡◌, ◌≤◌, ◌<◌, ◌&&◌, length, take, slice_index};
 ghost use Rattle.sms_segment.specs.Group.{closes, opens};
 ghost use Rattle.sms_segment.specs.Front.{IsFront, is_open};

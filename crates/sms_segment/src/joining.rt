@@ -1,4 +1,5 @@
 //! Joining the parts of a message.
+
 ghost use Rattle.std.specs.Prelude.{◌≡◌, ◌≤◌, ◌<◌, ◌↔◌, All, IfOk, IfSome, IsErrOf, IsNone, IsTrue, length, min};
 ghost use Rattle.std.specs.List.{flat_map};
 ghost use Rattle.sms_segment.specs.Joining.{IsJoined, IsSeries, IsWhole, StandsAt};

@@ -1,5 +1,6 @@
 //! Laws of cuttings, for every text and every cutting. Each holds by the contract of its function,
 //! which does nothing.
+
 ghost use Rattle.sms_segment.specs.Laws.{FullIsLeast, FullIsOnlyOne, GroupsSpellText, HasFullCutting};
 ghost use Rattle.sms_segment.specs.Laws.{JoinGivesTextBack, PartsAreFullyCut, PartsFit, PartsHaveSeptets, PartsTellTooLong};
 

@@ -3,6 +3,7 @@
 //! [`cut`] gives the parts of a coded text, as few as there can be, and [`join`] the text of its
 //! parts. A [`Part`] tells what the fields of its `submit_sm` are: `short_message`, `esm_class` and
 //! `data_coding`.
+
 #![tactic(auto)]
 
 mod cutting;

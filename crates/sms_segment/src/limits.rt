@@ -1,5 +1,6 @@
 //! How many units fit into the 140 octets of user data (3GPP TS 23.040 9.2.3.24): septets or
 //! UTF-16 units, without a header, or behind one of 6 octets (a reference of 8 bits) or 7 (of 16).
+
 ghost use Rattle.std.specs.Prelude.{◌≡◌};
 ghost use Rattle.sms_segment.specs.Limits.{single_limit, part_limit};
 

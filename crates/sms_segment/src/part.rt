@@ -1,4 +1,5 @@
 //! One short message of a text.
+
 ghost use Rattle.std.specs.Prelude.{◌≡◌, ◌≤◌, ◌++◌, All, IfOk, OnOk, List, ℕ, length, min};
 ghost use Rattle.std.specs.List.{flat_map};
 ghost use Rattle.sms_segment.specs.Part.{HasSeptets, data_coding, esm_class, header, header_of, octets_of, short_message};

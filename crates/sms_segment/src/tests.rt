@@ -1,4 +1,5 @@
 //! What no contract says: that memory is there, and worked rows of the standard's numbers.
+
 ghost use Rattle.std.specs.Prelude.{All};
 ghost use Rattle.sms_segment.specs.Part.{HasSeptets};
 

@@ -1,5 +1,6 @@
 //! The program `sms-send`: it sends prepaid messages, plans how their texts are coded and cut, and
 //! replays schedules of events on accounts, requests and slots.
+
 #![tactic(auto)]
 
 mod accounts;

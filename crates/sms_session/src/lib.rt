@@ -1,5 +1,6 @@
 //! The session of a bind: its states, what each PDU that comes in asks for, and what the answer to a
 //! submit_sm decides (SMPP 3.4 chapter 2, 5.1.3).
+
 #![tactic(auto)]
 
 mod policy;

@@ -1,4 +1,5 @@
 //! What a session answers to the PDUs that come in, as octets, and what answers decide.
+
 use crate::{
     Action, Decision, Mode, OpenFault, Opened, Policy, PolicyError, Response, Session, State,
     decide,

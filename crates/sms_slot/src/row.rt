@@ -1,4 +1,5 @@
 //! The slots of one bind, each behind a lock of its own.
+
 ghost use Rattle.std.specs.Prelude.{◌≡◌, ◌<◌, length, map, vec_len};
 ghost use Rattle.std.specs.List.{AllZip};
 ghost use Rattle.rtrb.specs.Ring.{sent, known_free, SameProducer};

@@ -1,4 +1,5 @@
 //! One slot, and how a request passes through it.
+
 ghost use Rattle.std.specs.Prelude.{◌≡◌, ◌↔◌, ℕ, true, false, length, map, IsOk, OnOk, OnErr, MatchResult, if◌then◌else◌};
 ghost use Rattle.std.specs.List.{AllZip};
 ghost use Rattle.rtrb.specs.Ring.{sent, known_free, SameProducer};

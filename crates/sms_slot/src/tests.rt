@@ -1,4 +1,5 @@
 //! What the calls of a slot and of a row answer, one after another, and where the answers go.
+
 ghost use Rattle.std.specs.Prelude.{◌<◌};
 ghost use Rattle.sms_core.specs.Limits.{most_slots};
 

@@ -1,5 +1,6 @@
 //! The laws of a window, over every state that meets its rule and every run of steps. Each holds of
 //! all numbers of seats and threads, in any order of their steps.
+
 ghost use Rattle.sms_window.specs.Laws.{RuleIsOrderly, OpeningMeetsRule, MoveKeepsRule, RunIsOrderly, MoveIsStep, ClaimedOnce, DrawnOnce, DroppedStays, GivesGreatest};
 ghost use Rattle.sms_window.specs.OpenSlots.{NoneMore, OneMore, OneLess};
 ghost use Rattle.sms_window.specs.Drawing.{DrawsNone, DrawsOne, LooksDrawNone, ClaimsDrawNone, ReleasesDrawNone, DrawsAddUp, DrawsEachOnce};

@@ -1,5 +1,6 @@
 //! The window of a bind: 64 slots in one shared word and the next sequence number in another, which
 //! threads step on without a lock. A thread steps through a seat of its own.
+
 #![tactic(auto)]
 
 pub mod error;

@@ -1,4 +1,5 @@
 //! The rule of a window, and its kinds of step. Word 0 is the window word, word 1 the number word.
+
 use crate::view::{Opening, View};
 use atomic_table::{Join, Play, Split, TableRule};
 

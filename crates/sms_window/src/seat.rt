@@ -1,4 +1,5 @@
 //! A thread's part in a window.
+
 ghost use Rattle.std.specs.Prelude.{◌≡◌, ℕ, ◌<◌, ◌↔◌, IsTrue};
 ghost use Rattle.sms_window.specs.Seats.{CanSplit, Holds};
 

@@ -1,4 +1,5 @@
 //! Windows as they are used: what each call answers, by one thread.
+
 ghost use Rattle.std.specs.Prelude.{◌≡◌, All};
 
 use crate::{Claim, Draw, Window, WindowError, WindowSeat};

@@ -1,4 +1,5 @@
 //! What contracts know of a seat.
+
 use std::collections::LinkedList;
 
 /// What a seat knows. Contracts alone speak of it: no value of it is made when the program runs.

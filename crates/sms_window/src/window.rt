@@ -1,4 +1,5 @@
 //! The window, and the steps on it.
+
 ghost use Rattle.std.specs.Prelude.{◌≡◌, ◌+◌, IfOk, IfErr};
 ghost use Rattle.sms_window.specs.Seats.{CanSplit, Holds, met_with, giver, given, joined};
 ghost use Rattle.sms_window.specs.Steps.{HasMet};

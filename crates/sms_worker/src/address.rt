@@ -1,4 +1,5 @@
 //! How the addresses of a message are sent (SMPP 3.4 5.2.5 to 5.2.9).
+
 ghost use Rattle.std.specs.Prelude.{◌≡◌, ◌↔◌, IfSome, IsNone, IsTrue};
 ghost use Rattle.sms_worker.specs.Addresses.{Address, IsNumber, IsName, IsSource, IsDestination, as_number, owned};
 

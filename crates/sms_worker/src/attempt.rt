@@ -1,4 +1,5 @@
 //! One attempt: a slot, a number, a frame, the gate, and the wire.
+
 ghost use Rattle.std.specs.Prelude.{◌≡◌, ℕ, ◌+◌, ◌<◌, ◌≤◌, ◌⊎◌, vec_len, vec_capacity, IfSome, IfOk, IsTrue};
 ghost use Rattle.sms_core.specs.Limits.{most_slots};
 ghost use Rattle.sms_segment.specs.declared.part.Part.{Part};

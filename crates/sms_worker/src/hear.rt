@@ -1,4 +1,5 @@
 //! Taking the answers that the ring shows, and giving up those that wait too long.
+
 ghost use Rattle.std.specs.Prelude.{◌≡◌, ℕ, ◌<◌, ◌∷◌, ◌++◌, [], List, length, slice_get, Some, IfSome};
 ghost use Rattle.std.specs.Option.{option_map};
 ghost use Rattle.rtrb.specs.Ring.{received, SameConsumer};

@@ -1,5 +1,6 @@
 //! One worker of a bind: it cuts its messages into segments, reserves their credits, sends them
 //! through slots of the window, and settles each by its answer.
+
 #![tactic(auto)]
 
 mod address;

@@ -1,4 +1,5 @@
 //! The segments that wait to be sent again, in the order in which their times come.
+
 ghost use Rattle.std.specs.Prelude.{◌≡◌, ◌≢◌, ◌≤◌, ◌+◌, ◌-◌, ℕ, Some, true, IfSome, IsSome, is_none, option_and_then, slice_get, vec_len, vec_capacity};
 ghost use Rattle.std.specs.List.{list_all};
 

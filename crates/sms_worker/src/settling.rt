@@ -1,4 +1,5 @@
 //! Steps on one segment of a run: an answer, an attempt, the end.
+
 ghost use Rattle.std.specs.Prelude.{◌≡◌, ℕ, ◌+◌, ◌≤◌, ◌<◌, ◌⊎◌, ◌++◌, ◌∷◌, [], true, false, IsTrue, Some, None, length};
 ghost use Rattle.sms_book.specs.Portions.{amounts_at};
 ghost use Rattle.sms_worker.specs.declared.ends.MessageEnd.{MessageEnd};

@@ -1,4 +1,5 @@
 //! A worker whose answers come while it pauses, on one thread: what becomes of its messages.
+
 ghost use Rattle.std.specs.Prelude.{◌≡◌, IfSome};
 
 use self::beside::{Beside, line_with_fuse};

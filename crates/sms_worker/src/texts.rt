@@ -1,4 +1,5 @@
 //! The parts of a message that was begun, and where each stands in a queue.
+
 ghost use Rattle.std.specs.Prelude.{◌≡◌, ◌⊎◌, [], List, All, IfOk, IfSome, IfNone, Some, None, map, slice_get, vec_len, vec_capacity};
 ghost use Rattle.sms_segment.specs.Part.{HasSeptets};
 ghost use Rattle.sms_worker.specs.declared.message.Message.{Message};

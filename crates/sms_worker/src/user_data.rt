@@ -1,4 +1,5 @@
 //! What short messages carry of the parts of a message.
+
 ghost use Rattle.std.specs.Prelude.{◌≡◌, IfOk};
 ghost use Rattle.sms_segment.specs.Part.{HasSeptets};
 ghost use Rattle.sms_worker.specs.UserData.{user_data};

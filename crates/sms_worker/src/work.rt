@@ -1,4 +1,5 @@
 //! One call of a worker.
+
 ghost use Rattle.std.specs.Prelude.{◌≡◌, ℕ, ◌+◌, ◌<◌, ◌≤◌, ◌++◌, List, [], Some, false, length, vec_len, vec_capacity, IfOk, IfErr};
 ghost use Rattle.rtrb.specs.Ring.{received, SameConsumer};
 ghost use Rattle.sms_window.specs.OpenSlots.{IsOpen};

@@ -1,4 +1,5 @@
 //! Reads and writes that fail at each octet of what is read and written.
+
 use super::reader::{bound_as, counts, line_of, read_from, ring_of, want_written};
 use super::{ACCEPTED, BIND, Sink, bound_by, bound_over, same, settings_of, source_of, wire_to};
 use crate::{BindFault, Cause, Settings, Wire};

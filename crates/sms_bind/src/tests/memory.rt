@@ -1,6 +1,7 @@
 //! Memory that is refused, one allocation after another: `tools/refuse-memory` runs each of these once
 //! for each of its allocations, and where memory is refused before the call that is tested, it ends
 //! there.
+
 use super::faults::{RESPONSES, STREAM};
 use super::reader::{bound_as, counts};
 use super::{ACCEPTED, BIND, Sink, bound_over, same, settings_of, source_of, wire_to};

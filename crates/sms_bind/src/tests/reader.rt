@@ -1,4 +1,5 @@
 //! The reader of a bind over devices in memory.
+
 ghost use Rattle.std.specs.Prelude.{◌≡◌, ◌≤◌};
 ghost use Rattle.sms_core.specs.Limits.{most_slots};
 

@@ -1,4 +1,5 @@
 //! What the tests ask of a book, and compare.
+
 ghost use Rattle.std.specs.Prelude.{◌≡◌};
 
 use super::{had, same};

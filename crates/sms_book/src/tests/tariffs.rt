@@ -1,4 +1,5 @@
 //! Tariffs and what they charge, by worked rows.
+
 use super::{had, same, want_text};
 use crate::error::TariffError;
 use crate::rate::Rate;

@@ -1,4 +1,5 @@
 //! Money that several threads move under the book's lock.
+
 ghost use Rattle.std.specs.Prelude.{◌≡◌};
 
 use super::calls::only_row;

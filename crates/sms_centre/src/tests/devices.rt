@@ -1,4 +1,5 @@
 //! The pipe, from both ends, and the fuse.
+
 use super::{ANSWER, SUBMIT, good, same};
 use crate::{Cause, Fuse, Pipe, serve};
 use std::io::{ErrorKind, Read, Write};

@@ -1,4 +1,5 @@
 //! How serving ends, and what is written then.
+
 use super::{ANSWER, SUBMIT, bare, good, same, served};
 use crate::{Cause, Fuse, ServeEnd, serve};
 use std::alloc::Global;

@@ -1,6 +1,7 @@
 //! Memory that is refused, one allocation after another: `tools/refuse-memory` runs each of these once
 //! for each of its allocations, and where memory is refused before the call that is tested, it ends
 //! there.
+
 use super::{ANSWER, SUBMIT, same};
 use crate::{Cause, Centre, Script, ScriptError, serve};
 use sms_pdu::Frame;

@@ -1,4 +1,5 @@
 //! Scripts: what each text makes the centre write, and which texts and keys are refused.
+
 use super::{ANSWER, bare, same, served};
 use crate::{Cause, Script, ScriptError};
 use std::alloc::{AllocError, Global};

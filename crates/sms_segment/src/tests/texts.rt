@@ -1,4 +1,5 @@
 //! Texts that are cut.
+
 use sms_alphabet::{Coded, Coding, Units};
 use std::alloc::Global;
 use std::process::Abort;

@@ -1,4 +1,5 @@
 //! Messages dealt out to workers in turn, and the workers' ends put back into the order of the messages.
+
 ghost use Rattle.std.specs.Prelude.{◌≡◌, [], ℕ, ◌+◌, ◌<◌, ◌≤◌, List, length, map, vec_len, vec_capacity, IfOk, OnOk};
 ghost use Rattle.sms_worker.specs.declared.message.Message.{Message};
 ghost use Rattle.sms_worker.specs.declared.ends.MessageEnd.{MessageEnd};

@@ -1,4 +1,5 @@
 //! The threads of a sending.
+
 ghost use Rattle.std.specs.Prelude.{◌≡◌, List, length, map, IfOk, MatchResult};
 ghost use Rattle.std.specs.List.{AllByRecursion, AllZip};
 ghost use Rattle.sms_send.specs.BindEnds.{IsTried};

@@ -1,4 +1,5 @@
 //! Whole sendings, over pipes in memory.
+
 use crate::driver::bind_end::{BindEnd, Unbinding};
 use crate::driver::{Dial, Habits, SendFault, Sending, drive_all};
 use crate::same::same;

@@ -1,4 +1,5 @@
 //! What a run ends with.
+
 ghost use Rattle.std.specs.Prelude.{◌≡◌, ℕ, ◌<◌, List, length, map, IfOk, Ok, vec_len, vec_capacity};
 ghost use Rattle.std.specs.List.{AllByRecursion};
 ghost use Rattle.sms_book.specs.Portions.{row_at};

@@ -1,4 +1,5 @@
 //! Why a sending ends without a statement.
+
 use std::alloc::AllocError;
 
 /// Why nothing is told of a sending. Binds are counted from 0.

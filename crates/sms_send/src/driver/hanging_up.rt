@@ -1,4 +1,5 @@
 //! How binds are ended (SMPP 3.4 4.2).
+
 ghost use Rattle.std.specs.Prelude.{◌≡◌, IfSome, map, length};
 ghost use Rattle.std.specs.List.{AllByRecursion};
 ghost use Rattle.sms_send.specs.BindEnds.{HasAsked, IsTried, SpellsUnbind};

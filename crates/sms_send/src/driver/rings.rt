@@ -1,4 +1,5 @@
 //! The rings by which a bind's reader hands answers to its workers.
+
 ghost use Rattle.std.specs.Prelude.{◌≡◌, ℕ, length, IfOk};
 ghost use Rattle.std.specs.List.{AllByRecursion};
 

@@ -1,4 +1,5 @@
 //! Who sits at which bind.
+
 ghost use Rattle.std.specs.Prelude.{◌≡◌, ℕ, ◌+◌, ◌*◌, ◌++◌, List, length, map, IfOk, OnOk};
 ghost use Rattle.std.specs.List.{AllByRecursion, AllZip};
 ghost use Rattle.sms_send.specs.Seated.{IsSeated, windows};

@@ -1,4 +1,5 @@
 //! The whole of a sending, from accounts and messages to ends and a statement.
+
 ghost use Rattle.std.specs.Prelude.{◌≡◌, ℕ, ◌*◌, ◌<◌, ◌≤◌, length, IfErr, IfOk};
 ghost use Rattle.std.specs.List.{AllZip};
 ghost use Rattle.sms_book.specs.Openings.{credits_of};

@@ -1,4 +1,5 @@
 //! Workers and readers in threads of their own.
+
 ghost use Rattle.std.specs.Prelude.{◌≡◌, ℕ, List, length, map, IfOk, IfErr, OnOk, OnErr, MatchResult, ◌<◌, ◌≤◌, ◌^◌, [], vec_len, IfSome};
 ghost use Rattle.sms_core.specs.Limits.{most_slots};
 ghost use Rattle.std.specs.PromisedHandle.{KeepsEach};

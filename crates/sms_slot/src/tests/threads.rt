@@ -1,4 +1,5 @@
 //! A reader of answers and a worker on one row.
+
 use super::{reply_to, rings, row_of, same};
 use crate::{Search, SlotRow, Taken};
 use rtrb::{Consumer, Producer};

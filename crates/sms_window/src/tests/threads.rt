@@ -1,4 +1,5 @@
 //! A window that threads share: no number is lost, and none comes twice.
+
 ghost use Rattle.std.specs.Prelude.{◌≡◌, ◌+◌, ◌^◌, [], ◌∷◌, ◌++◌, All, IfSome, IfNone};
 ghost use Rattle.sms_window.specs.Seats.{Holds, met_with, with_slots};
 

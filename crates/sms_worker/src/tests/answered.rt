@@ -1,4 +1,5 @@
 //! What becomes of a segment by its answers, and what it costs.
+
 use super::{
     Case, Done, OK, PLAIN, SILENT, THROTTLED, messages_of, push_message, run, same, want_row,
     want_sent,

@@ -1,5 +1,6 @@
 //! What stands beside a worker that runs alone: its writer, and what answers it while it pauses. And
 //! what stands beside two that run at once.
+
 use super::centre::{answer_of, status_of};
 use super::{Case, SILENT};
 use crate::{Clock, Gate, Pause};

@@ -1,5 +1,6 @@
 //! A message centre in memory: what a worker writes goes through a ring of octets to it, and a reader
 //! of the bind reads what it answers.
+
 ghost use Rattle.std.specs.Prelude.{◌≡◌};
 
 use super::SILENT;

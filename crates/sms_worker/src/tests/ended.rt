@@ -1,4 +1,5 @@
 //! What becomes of messages that can't be sent, or not any more.
+
 use super::{
     Case, Done, OK, PLAIN, SILENT, THROTTLED, letters, message, messages_of, push_message, run,
     want_refused, want_row, want_sent,

@@ -1,5 +1,6 @@
 //! Memory that is refused, one allocation a run (`tools/refuse-memory`): the call is refused whole, or each
 //! message has its end, and the row is what the ends add up to.
+
 use super::sums::sums;
 use super::{
     Case, Done, OK, PLAIN, THROTTLED, message, messages_of, push_message, row_of, same, try_run,

@@ -1,4 +1,5 @@
 //! Runs whose ends are compared with the credits that moved.
+
 ghost use Rattle.std.specs.Prelude.{◌≡◌};
 
 use super::beside::{Beside, line_with_fuse};

@@ -1,5 +1,6 @@
 //! Two workers at once, each on a thread of its own, and the bind's reader with the message centre on
 //! a third.
+
 ghost use Rattle.std.specs.Prelude.{◌≡◌};
 
 use super::beside::Together;
