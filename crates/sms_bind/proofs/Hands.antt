@@ -10,15 +10,15 @@ use Rattle.sms_pdu.proofs.Divisions.{each_divided, answers_join}
 use Rattle.sms_pdu.proofs.Streams.{rest_divided, division_after}
 use Rattle.sms_session.specs.declared.session.State.{State}
 use Rattle.sms_session.specs.Session.{IsBound}
-use Rattle.sms_bind.specs.declared.desk.Desk.{Desk}
+use Rattle.sms_bind.specs.declared.reader_state.ReaderState.{ReaderState}
 use Rattle.sms_bind.specs.declared.deed.Deed.{Deed}
 use Rattle.sms_bind.specs.declared.counts.Counts.{Counts}
-use Rattle.sms_bind.specs.declared.ending.Cause.{Cause}
-use Rattle.sms_bind.specs.declared.ending.Cause.TheVariants as cause
+use Rattle.sms_bind.specs.declared.ending.ReaderCause.{ReaderCause}
+use Rattle.sms_bind.specs.declared.ending.ReaderCause.TheVariants as cause
 use Rattle.sms_bind.specs.declared.ending.ReaderEnd.{ReaderEnd}
 use Rattle.sms_bind.specs.Held.{Held}
 use Rattle.sms_bind.specs.Deeds.{Reaches, stretch_of, broken_at, no_counts, tallies}
-use Rattle.sms_bind.specs.Desks.{Worked}
+use Rattle.sms_bind.specs.ReaderStates.{Worked}
 use Rattle.sms_bind.specs.Ends.{HandsOn, Tells}
 use Rattle.sms_bind.proofs.Logs.{log_answers, tallies_add}
 
@@ -30,7 +30,7 @@ rest_left lost left held late h = inr (inr h)
 rest_left early left held late h = absurd (late refl)
 
 -- and a bad length is left exactly where the reader is lost
-lost_where : (end : Cause) (left held : List ℕ) → stretch_of (Some end) ≢ early → Leaves (stretch_of (Some end)) left held → (end ≡ cause.Lost) ↔ IsBad left
+lost_where : (end : ReaderCause) (left held : List ℕ) → stretch_of (Some end) ≢ early → Leaves (stretch_of (Some end)) left held → (end ≡ cause.Lost) ↔ IsBad left
 lost_where cause.Ended left held late h = (λ e. absurd cc, λ bad. absurd (h.1 bad))
 lost_where cause.Unbound left held late h = absurd (late refl)
 lost_where cause.Lost left held late h = (λ e. h, λ bad. refl)
@@ -64,11 +64,11 @@ tells ds c end is e1 e2 e3 e4 e5 e6 e7 =
       unreplied = omega (arith, t.unreplied, e7, k7);
     }
 
--- the end that is put together of what the desk holds
-abbrev pub end_of : Desk → Cause → ReaderEnd
+-- the end that is put together of what the reader_state holds
+abbrev pub end_of : ReaderState → ReaderCause → ReaderEnd
 end_of d cause = record { answered = d.counts.answered; unknown = d.counts.unknown; overrun = d.counts.overrun; delivered = d.counts.delivered; noted = d.counts.noted; nacked = d.counts.nacked; unreplied = d.counts.unreplied; cause = cause; producers = d.producers; seat = d.follower.now }
 
-pub hands_on : (s : State) (a b : Desk) (begun kept : List ℕ) (r t : Option (List ℕ)) (end : Cause) → IsBound s → a.counts ≡ no_counts
+pub hands_on : (s : State) (a b : ReaderState) (begun kept : List ℕ) (r t : Option (List ℕ)) (end : ReaderCause) → IsBound s → a.counts ≡ no_counts
     → Reads (Worked s (Some end) a b) begun r t (stretch_of (Some end)) kept
     → HandsOn s begun r t (map sent a.producers.items) (map sent b.producers.items) a.follower (end_of b end)
 hands_on s a b begun kept r t end up none p =

@@ -3,7 +3,7 @@ use Rattle.std.proofs.Common.{◌≡◌, ℕ, ◌+◌, ◌-◌, ◌*◌, ◌<◌
 use Rattle.std.specs.Io.KnownBytes.{Consumes, Keeps}
 use Rattle.sms_pdu.specs.Streams.{complete, early}
 use Rattle.sms_pdu.proofs.Turns.{gave_none, gave, gave_kept, gave_more, gave_fits}
-use Rattle.sms_bind.specs.declared.ending.Cause.{Cause}
+use Rattle.sms_bind.specs.declared.ending.ReaderCause.{ReaderCause}
 use Rattle.sms_bind.specs.Deeds.{stretch_of}
 use Rattle.sms_bind.specs.Faults.{IsCounted}
 use Rattle.sms_bind.specs.Turns.{Passed, Turned, Stops}
@@ -73,7 +73,7 @@ pub stops_before : (n turns a b : ℕ) (r t : Option (List ℕ)) → n < turns �
 stops_before n turns a b r t low p = record { some = omega arith; most = gave_fits (65536 * n) (65536 * (turns - 1)) r t (omega arith) p.most }
 
 -- who ended early has not used up the turns, nor was stopped
-pub not_early : (end other : Cause) → stretch_of (Some end) ≡ early → stretch_of (Some other) ≡ complete → ¬ (end ≡ other)
+pub not_early : (end other : ReaderCause) → stretch_of (Some end) ≡ early → stretch_of (Some other) ≡ complete → ¬ (end ≡ other)
 not_early end other is late e = complete_not_early (sym late ∙ sym (ap (λ x. stretch_of (Some x)) e) ∙ is)
   where
     complete_not_early : complete ≡ early → ⊥

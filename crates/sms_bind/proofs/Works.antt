@@ -8,33 +8,33 @@ use Rattle.rtrb.specs.declared.producer.Producer.{Producer}
 use Rattle.sms_session.specs.declared.session.State.{State}
 use Rattle.sms_slot.specs.Rings.{handed}
 use Rattle.sms_slot.proofs.Rings.{AllZip-trans, same_rings, handed-append}
-use Rattle.sms_bind.specs.declared.desk.Desk.{Desk}
+use Rattle.sms_bind.specs.declared.reader_state.ReaderState.{ReaderState}
 use Rattle.std.specs.Io.KnownBytes.{Keeps}
 use Rattle.std.proofs.KnownBytes.{Consumes-nil}
 use Rattle.sms_pdu.specs.Frame.{IsRest, IsBad}
 use Rattle.sms_pdu.specs.Streams.{Stretch, Went, Leaves, Reads, going, complete, early}
 use Rattle.sms_pdu.proofs.Streams.{went_none, went_more, reads_none, consumes_nothing}
-use Rattle.sms_bind.specs.declared.ending.Cause.{Cause}
-use Rattle.sms_bind.specs.declared.ending.Cause.TheVariants as cause
+use Rattle.sms_bind.specs.declared.ending.ReaderCause.{ReaderCause}
+use Rattle.sms_bind.specs.declared.ending.ReaderCause.TheVariants as cause
 use Rattle.sms_bind.specs.Deeds.{Suits, Reaches, state_after, stretch_of, broken_at, log, tallies, of_response, is_broken}
 use Rattle.sms_bind.specs.Faults.{IsCounted}
 use Rattle.sms_bind.specs.Held.{Held}
 use Rattle.sms_bind.specs.Follows.{Follows}
-use Rattle.sms_bind.specs.Desks.{Worked}
+use Rattle.sms_bind.specs.ReaderStates.{Worked}
 use Rattle.sms_bind.proofs.Logs.{log-append, tallies-append, counted-append, follow-append, state-append, AllZip-append}
 
-pub worked_none : (s : State) (a : Desk) → Worked s None a a []
+pub worked_none : (s : State) (a : ReaderState) → Worked s None a a []
 worked_none s a = record { deeds = []; each = tt; reaches = refl; breaks = refl; rings = same_rings a.producers.items; sends = refl; counts = refl; follows = refl }
 
 -- nothing was worked, and the reader ends
-pub worked_nothing : (s : State) (end : Option Cause) (a : Desk) → Reaches end s s → broken_at end ≡ 0 → Worked s end a a []
+pub worked_nothing : (s : State) (end : Option ReaderCause) (a : ReaderState) → Reaches end s s → broken_at end ≡ 0 → Worked s end a a []
 worked_nothing s end a reaches quiet = record { deeds = []; each = tt; reaches = reaches; breaks = sym quiet; rings = same_rings a.producers.items; sends = refl; counts = refl; follows = refl }
 
 -- a ring that stayed the same twice
 same_on : {T A P : Type 0} (x y z : Producer T A P) → SameProducer x y → SameProducer y z → SameProducer x z
 same_on x y z ((a, b, c, d), e) ((f, g, h, i), j) = ((f ∙ a, g ∙ b, h ∙ c, i ∙ d), j ∙ e)
 
-pub worked_more : (s : State) (end : Option Cause) (a b c : Desk) (fs gs : List (List ℕ)) → Worked s None a b fs → Worked s end b c gs → Worked s end a c (fs ++ gs)
+pub worked_more : (s : State) (end : Option ReaderCause) (a b c : ReaderState) (fs gs : List (List ℕ)) → Worked s None a b fs → Worked s end b c gs → Worked s end a c (fs ++ gs)
 worked_more s end a b c fs gs p q =
     let same : state_after s (fs ++ gs) ≡ state_after s gs = state-append s fs gs ∙ ap (λ (t : State). state_after t gs) p.reaches in
     let breaks = counted-append (of_response (λ response written. is_broken written)) p.deeds q.deeds in
@@ -50,7 +50,7 @@ worked_more s end a b c fs gs p q =
     }
 
 -- the reader ends after it
-pub worked_ends : (s : State) (end : Option Cause) (a b : Desk) (fs : List (List ℕ)) → Reaches end s s → broken_at end ≡ 0 → Worked s None a b fs → Worked s end a b fs
+pub worked_ends : (s : State) (end : Option ReaderCause) (a b : ReaderState) (fs : List (List ℕ)) → Reaches end s s → broken_at end ≡ 0 → Worked s None a b fs → Worked s end a b fs
 worked_ends s end a b fs reaches quiet p =
     record {
       deeds = p.deeds;
@@ -83,7 +83,7 @@ pub follows_on : (a b c : Held) → Follows a b → Follows b c → Follows a c
 follows_on a b c p q = record { window = q.window ∙ p.window; began = q.began ∙ p.began; most = q.most ∙ p.most }
 
 -- what is left where the reader ended doesn't hang on what is held
-pub leaves_end : (end : Cause) (left held kept : List ℕ) → Leaves (stretch_of (Some end)) left held → Leaves (stretch_of (Some end)) left kept
+pub leaves_end : (end : ReaderCause) (left held kept : List ℕ) → Leaves (stretch_of (Some end)) left held → Leaves (stretch_of (Some end)) left kept
 leaves_end cause.Ended left held kept h = h
 leaves_end cause.Unbound left held kept h = h
 leaves_end cause.Lost left held kept h = h
@@ -124,14 +124,14 @@ reads_begun P begun left more r w none rest =
 -- ---- a read that failed
 
 -- it changes nothing, and the reader goes on or not
-pub reads_failed : (s : State) (a : Desk) (end : Option Cause) (held : List ℕ) (r t : Option (List ℕ)) → (end ≡ None) ⊎ (end ≡ Some cause.ReadFault) → Keeps r t → IsRest held → ¬ IsBad held
+pub reads_failed : (s : State) (a : ReaderState) (end : Option ReaderCause) (held : List ℕ) (r t : Option (List ℕ)) → (end ≡ None) ⊎ (end ≡ Some cause.ReadFault) → Keeps r t → IsRest held → ¬ IsBad held
     → Reads (Worked s end a a) held r t (stretch_of end) held
 reads_failed s a end held r t (inl e) kept rest good =
-    subst (λ (x : Option Cause). Reads (Worked s x a a) held r t (stretch_of x) held) (sym e) (reads_none (Worked s None a a) held held r t going (worked_none s a) (consumes_nothing r t kept) (rest, refl))
+    subst (λ (x : Option ReaderCause). Reads (Worked s x a a) held r t (stretch_of x) held) (sym e) (reads_none (Worked s None a a) held held r t going (worked_none s a) (consumes_nothing r t kept) (rest, refl))
 reads_failed s a end held r t (inr e) kept rest good =
-    subst (λ (x : Option Cause). Reads (Worked s x a a) held r t (stretch_of x) held) (sym e)
+    subst (λ (x : Option ReaderCause). Reads (Worked s x a a) held r t (stretch_of x) held) (sym e)
     (reads_none (Worked s (Some cause.ReadFault) a a) held held r t complete (worked_nothing s (Some cause.ReadFault) a refl refl) (consumes_nothing r t kept) (rest, good))
 
-pub not_failed : (end : Option Cause) (other : Cause) → (end ≡ None) ⊎ (end ≡ Some cause.ReadFault) → ¬ (other ≡ cause.ReadFault) → end ≢ Some other
+pub not_failed : (end : Option ReaderCause) (other : ReaderCause) → (end ≡ None) ⊎ (end ≡ Some cause.ReadFault) → ¬ (other ≡ cause.ReadFault) → end ≢ Some other
 not_failed end other (inl e) off is = absurd cc
 not_failed end other (inr e) off is = off cc

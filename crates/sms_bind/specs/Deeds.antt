@@ -24,8 +24,8 @@ use Rattle.sms_bind.specs.declared.deed.Deed.{Deed}
 use Rattle.sms_bind.specs.declared.deed.Deed.TheVariants.{Brought, Replied, Noted, Closed}
 use Rattle.sms_bind.specs.declared.deed.Written.{Written}
 use Rattle.sms_bind.specs.declared.deed.Written.TheVariants.{Sent, NoMemory, Broken}
-use Rattle.sms_bind.specs.declared.ending.Cause.{Cause}
-use Rattle.sms_bind.specs.declared.ending.Cause.TheVariants as cause
+use Rattle.sms_bind.specs.declared.ending.ReaderCause.{ReaderCause}
+use Rattle.sms_bind.specs.declared.ending.ReaderCause.TheVariants as cause
 use Rattle.sms_bind.specs.declared.counts.Counts.{Counts}
 use Rattle.sms_bind.specs.Held.{Held}
 use Rattle.sms_bind.specs.Follows.{Notes}
@@ -102,13 +102,13 @@ FollowAll (deed ∷ deeds) old new = (next : Held) × Follow deed old next × Fo
 
 -- ---- why the reader ends
 
-abbrev pub cause_by : State → Option Cause
+abbrev pub cause_by : State → Option ReaderCause
 cause_by BoundTx = None
 cause_by BoundTrx = None
 cause_by StateClosed = Some cause.Unbound
 
 -- why the reader ends after a deed that left the session in this state
-abbrev pub cause_after : Deed → State → Option Cause
+abbrev pub cause_after : Deed → State → Option ReaderCause
 cause_after (Brought reply search) state = cause_by state
 cause_after (Replied response (Sent octets)) state = cause_by state
 cause_after (Replied response NoMemory) state = cause_by state
@@ -118,7 +118,7 @@ cause_after Closed state = cause_by state
 
 -- how the reading stands then: all whole frames were worked, unless the session closed, the wire broke or memory was
 -- refused; and a bad length stands behind them exactly where the reader is lost
-abbrev pub stretch_of : Option Cause → Stretch
+abbrev pub stretch_of : Option ReaderCause → Stretch
 stretch_of None = going
 stretch_of (Some cause.Ended) = complete
 stretch_of (Some cause.Unbound) = early
@@ -131,7 +131,7 @@ stretch_of (Some cause.OutOfMemory) = early
 
 -- the state that the worked frames led to: the session closed exactly where that ends the reader; where the wire broke
 -- it may have
-abbrev pub Reaches : Option Cause → State → State → Type 0
+abbrev pub Reaches : Option ReaderCause → State → State → Type 0
 Reaches None state reached = reached ≡ state
 Reaches (Some cause.Ended) state reached = reached ≡ state
 Reaches (Some cause.Unbound) state reached = reached ≡ StateClosed
@@ -143,7 +143,7 @@ Reaches (Some cause.Turns) state reached = reached ≡ state
 Reaches (Some cause.OutOfMemory) state reached = reached ≡ state
 
 -- how many responses the wire refused
-abbrev pub broken_at : Option Cause → ℕ
+abbrev pub broken_at : Option ReaderCause → ℕ
 broken_at None = 0
 broken_at (Some cause.Ended) = 0
 broken_at (Some cause.Unbound) = 0

@@ -9,7 +9,7 @@ use Rattle.sms_pdu.specs.Reply.{answers}
 use Rattle.sms_pdu.specs.Streams.{early}
 use Rattle.sms_session.specs.declared.session.State.{State}
 use Rattle.sms_slot.specs.Rings.{handed, count_handed}
-use Rattle.sms_bind.specs.declared.ending.Cause.TheVariants.{Lost}
+use Rattle.sms_bind.specs.declared.ending.ReaderCause.TheVariants.{Lost}
 use Rattle.sms_bind.specs.declared.ending.ReaderEnd.{ReaderEnd}
 use Rattle.sms_bind.specs.declared.deed.Deed.{Deed}
 use Rattle.sms_bind.specs.Held.{Held}

@@ -5,6 +5,6 @@ pub mod Devices
 pub mod Held
 pub mod Follows
 pub mod Deeds
-pub mod Desks
+pub mod ReaderStates
 pub mod Ends
 pub mod Turns

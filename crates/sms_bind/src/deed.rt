@@ -2,9 +2,9 @@
 
 ghost use Rattle.std.specs.Prelude.{◌≡◌, ◌≢◌, Some};
 ghost use Rattle.sms_bind.specs.Deeds.{cause_after};
-ghost use Rattle.sms_bind.specs.declared.ending.Cause.TheVariants.{OutOfMemory};
+ghost use Rattle.sms_bind.specs.declared.ending.ReaderCause.TheVariants.{OutOfMemory};
 
-use crate::ending::Cause;
+use crate::ending::ReaderCause;
 use crate::wire::Receipt;
 use sms_pdu::Reply;
 use sms_session::{Response, State};
@@ -41,7 +41,7 @@ pub(crate) enum Deed {
 }
 
 /// Why the reader ends after this deed, if it does: the wire is broken, or the session closed.
-pub(crate) fn cause_of(deed: &Deed, state: State) -> Option<Cause>
+pub(crate) fn cause_of(deed: &Deed, state: State) -> Option<ReaderCause>
     ensures after { result ≡ cause_after deed.now state }
     ensures full { result ≢ Some OutOfMemory }
 {
@@ -50,10 +50,10 @@ pub(crate) fn cause_of(deed: &Deed, state: State) -> Option<Cause>
         written: Written::Broken,
     } = *deed
     {
-        return Some(Cause::WriteFault);
+        return Some(ReaderCause::WriteFault);
     }
     match state {
-        State::Closed => Some(Cause::Unbound),
+        State::Closed => Some(ReaderCause::Unbound),
         State::BoundTx | State::BoundTrx => None,
     }
 }

@@ -6,7 +6,7 @@ use sms_window::WindowSeat;
 
 /// Why a reader ended.
 #[derive(Clone, Copy, Debug, PartialEq, Eq)]
-pub enum Cause {
+pub enum ReaderCause {
     /// The input ended.
     Ended,
     /// The session was closed, by an unbind or by the response to one.
@@ -43,7 +43,7 @@ pub struct ReaderEnd {
     /// Requests whose response couldn't be encoded for want of memory.
     pub unreplied: u64,
     /// Why it ended.
-    pub cause: Cause,
+    pub cause: ReaderCause,
     /// The rings, in their order, with what was handed on.
     pub producers: Vec<Producer<Reply>>,
     /// The window's seat, with the slots that it holds back.

@@ -10,14 +10,14 @@ ghost use Rattle.sms_bind.specs.Faults.{IsCounted};
 ghost use Rattle.sms_bind.specs.Follows.{HoldsBack, most_held, held_none};
 ghost use Rattle.sms_bind.specs.Ends.{HandsOn};
 ghost use Rattle.sms_bind.specs.Turns.{Turned, Stops};
-ghost use Rattle.sms_bind.specs.declared.ending.Cause.TheVariants.{Ended, ReadFault, Stopped, Turns};
+ghost use Rattle.sms_bind.specs.declared.ending.ReaderCause.TheVariants.{Ended, ReadFault, Stopped, Turns};
 
 use crate::bound::Bound;
 use crate::counts::Counts;
-use crate::desk::Desk;
-use crate::ending::{Cause, ReaderEnd};
+use crate::ending::{ReaderCause, ReaderEnd};
 use crate::follower::Follower;
 use crate::line::Line;
+use crate::reader_state::ReaderState;
 use crate::tap::Tap;
 use rtrb::Producer;
 use sms_pdu::Reply;
@@ -59,7 +59,7 @@ pub fn read_loop<R: Read, W: Write, S: Wait>(
         Ok(follower) => follower,
         Err((_e, seat)) => {
             line.down.store(true, Ordering::SeqCst);
-            return ended(producers, seat, Counts::new(), Cause::OutOfMemory);
+            return ended(producers, seat, Counts::new(), ReaderCause::OutOfMemory);
         }
     };
     let Bound {
@@ -67,14 +67,14 @@ pub fn read_loop<R: Read, W: Write, S: Wait>(
         framer,
         frames,
     } = bound;
-    let mut desk = Desk {
+    let mut reader_state = ReaderState {
         session,
         producers,
         counts: Counts::new(),
         follower,
     };
     let rest = framer.into_rest();
-    let cause = desk.read(
+    let cause = reader_state.read(
         rt,
         alloc,
         reader,
@@ -85,12 +85,12 @@ pub fn read_loop<R: Read, W: Write, S: Wait>(
         turns,
     );
     line.down.store(true, Ordering::SeqCst);
-    let Desk {
+    let ReaderState {
         session: _,
         producers,
         counts,
         follower,
-    } = desk;
+    } = reader_state;
     ended(producers, follower.into_seat(), counts, cause)
 }
 
@@ -110,7 +110,7 @@ fn ended(
     producers: Vec<Producer<Reply>>,
     seat: WindowSeat,
     counts: Counts,
-    cause: Cause,
+    cause: ReaderCause,
 ) -> ReaderEnd
     ensures { result ≡ record { answered = counts.answered; unknown = counts.unknown; overrun = counts.overrun; delivered = counts.delivered; noted = counts.noted; nacked = counts.nacked; unreplied = counts.unreplied; cause = cause; producers = producers; seat = seat } }
 {

@@ -7,12 +7,12 @@ ghost use Rattle.sms_pdu.specs.Streams.{Went, Leaves, early};
 ghost use Rattle.sms_session.specs.Session.{IsBound};
 ghost use Rattle.sms_bind.specs.Deeds.{stretch_of, IsWithin};
 ghost use Rattle.sms_bind.specs.Follows.{Follows};
-ghost use Rattle.sms_bind.specs.Desks.{Worked};
-ghost use Rattle.sms_bind.specs.declared.ending.Cause.TheVariants.{Ended, ReadFault, Stopped, Turns, OutOfMemory};
+ghost use Rattle.sms_bind.specs.ReaderStates.{Worked};
+ghost use Rattle.sms_bind.specs.declared.ending.ReaderCause.TheVariants.{Ended, ReadFault, Stopped, Turns, OutOfMemory};
 
-use crate::desk::Desk;
-use crate::ending::Cause;
+use crate::ending::ReaderCause;
 use crate::line::Line;
+use crate::reader_state::ReaderState;
 use crate::replying::refuse_length;
 use sms_pdu::{Frame, drop_front, first_frame, is_bad};
 use sms_window::Window;
@@ -20,7 +20,7 @@ use std::alloc::Global;
 use std::io::Write;
 use std::sync::Wait;
 
-impl Desk {
+impl ReaderState {
     /// Works frames that were cut before.
     pub fn work_all<W: Write, S: Wait>(
         &mut self,
@@ -29,7 +29,7 @@ impl Desk {
         line: &Line<W>,
         window: &Window,
         frames: &[Frame],
-    ) -> Option<Cause>
+    ) -> Option<ReaderCause>
         requires bound { IsBound self.old.session }
         requires own { self.old.follower.now.window ≡ window.now }
         requires within { IsWithin self.old.counts }
@@ -58,7 +58,7 @@ impl Desk {
         line: &Line<W>,
         window: &Window,
         held: &mut Vec<u8>,
-    ) -> Option<Cause>
+    ) -> Option<ReaderCause>
         requires bound { IsBound self.old.session }
         requires own { self.old.follower.now.window ≡ window.now }
         requires within { IsWithin self.old.counts }
@@ -79,7 +79,7 @@ impl Desk {
         }
         if is_bad(held.as_slice()) {
             refuse_length(rt, alloc, line);
-            return Some(Cause::Lost);
+            return Some(ReaderCause::Lost);
         }
         None
     }
@@ -93,7 +93,7 @@ impl Desk {
         line: &Line<W>,
         window: &Window,
         stream: &[u8],
-    ) -> (usize, Option<Cause>)
+    ) -> (usize, Option<ReaderCause>)
         requires bound { IsBound self.old.session }
         requires own { self.old.follower.now.window ≡ window.now }
         requires within { IsWithin self.old.counts }

@@ -12,13 +12,13 @@ ghost use Rattle.sms_bind.specs.Deeds.{stretch_of, IsWithin};
 ghost use Rattle.sms_bind.specs.Devices.{device, faults_of};
 ghost use Rattle.sms_bind.specs.Faults.{IsCounted};
 ghost use Rattle.sms_bind.specs.Follows.{Follows};
-ghost use Rattle.sms_bind.specs.Desks.{Worked};
+ghost use Rattle.sms_bind.specs.ReaderStates.{Worked};
 ghost use Rattle.sms_bind.specs.Turns.{Turned, Stops};
-ghost use Rattle.sms_bind.specs.declared.ending.Cause.TheVariants.{Ended, ReadFault, Stopped, Turns, OutOfMemory};
+ghost use Rattle.sms_bind.specs.declared.ending.ReaderCause.TheVariants.{Ended, ReadFault, Stopped, Turns, OutOfMemory};
 
-use crate::desk::Desk;
-use crate::ending::Cause;
+use crate::ending::ReaderCause;
 use crate::line::Line;
+use crate::reader_state::ReaderState;
 use crate::replying::refuse_length;
 use crate::tap::Tap;
 use sms_pdu::{Frame, gave_nothing, is_bad};
@@ -31,7 +31,7 @@ use std::sync::atomic::Ordering;
 /// The octets that one turn reads at most.
 const PIECE: usize = 65_536;
 
-impl Desk {
+impl ReaderState {
     /// Works the frames that were read before, then reads in turns.
     pub fn read<R: Read, W: Write, S: Wait>(
         &mut self,
@@ -43,7 +43,7 @@ impl Desk {
         line: &Line<W>,
         window: &Window,
         turns: u64,
-    ) -> Cause
+    ) -> ReaderCause
         requires turns { turns ≤ 2 ^ 40 }
         requires bound { IsBound self.old.session }
         requires own { self.old.follower.now.window ≡ window.now }
@@ -64,7 +64,7 @@ impl Desk {
         }
         if is_bad(rest.as_slice()) {
             refuse_length(rt, alloc, line);
-            return Cause::Lost;
+            return ReaderCause::Lost;
         }
         self.read_turns(rt, alloc, reader, line, window, rest, turns)
     }
@@ -79,7 +79,7 @@ impl Desk {
         window: &Window,
         held: Vec<u8>,
         turns: u64,
-    ) -> Cause
+    ) -> ReaderCause
         requires turns { turns ≤ 2 ^ 40 }
         requires bound { IsBound self.old.session }
         requires own { self.old.follower.now.window ≡ window.now }
@@ -95,18 +95,18 @@ impl Desk {
         ensures fault { result ≡ ReadFault → IsCounted (faults_of reader.old) (faults_of reader.new) }
     {
         let Ok(mut piece) = Vec::from_elem(alloc, 0u8, PIECE) else {
-            return Cause::OutOfMemory;
+            return ReaderCause::OutOfMemory;
         };
         let mut held = held;
         for _turn in 0..turns {
             if line.stop.load(Ordering::SeqCst) {
-                return Cause::Stopped;
+                return ReaderCause::Stopped;
             }
             if let Some(cause) = self.turn(rt, alloc, reader, line, window, &mut piece, &mut held) {
                 return cause;
             }
         }
-        Cause::Turns
+        ReaderCause::Turns
     }
 
     /// One turn: what one read gave, behind what is held, is worked.
@@ -119,7 +119,7 @@ impl Desk {
         window: &Window,
         piece: &mut Vec<u8>,
         held: &mut Vec<u8>,
-    ) -> Option<Cause>
+    ) -> Option<ReaderCause>
         requires bound { IsBound self.old.session }
         requires own { self.old.follower.now.window ≡ window.now }
         requires within { IsWithin self.old.counts }
@@ -142,10 +142,10 @@ impl Desk {
         ensures faults { faults_of reader.old ≤ faults_of reader.new }
     {
         match reader.read(piece.as_mut_slice()) {
-            Ok(0) => Some(Cause::Ended),
+            Ok(0) => Some(ReaderCause::Ended),
             Ok(n) => {
                 if held.extend_from_slice(&piece[..n]).is_err() {
-                    return Some(Cause::OutOfMemory);
+                    return Some(ReaderCause::OutOfMemory);
                 }
                 self.work_held(rt, alloc, line, window, held)
             }
@@ -155,7 +155,7 @@ impl Desk {
 }
 
 /// Why the reader ends after a read that failed so, if it does.
-fn fault_of(e: &Error) -> Option<Cause>
+fn fault_of(e: &Error) -> Option<ReaderCause>
     ensures again { gives_nothing (error_kind e.now) ≡ true → result ≡ None }
     ensures fault { gives_nothing (error_kind e.now) ≡ false → result ≡ Some ReadFault }
     ensures one { (result ≡ None) ⊎ (result ≡ Some ReadFault) }
@@ -163,6 +163,6 @@ fn fault_of(e: &Error) -> Option<Cause>
     if gave_nothing(e) {
         None
     } else {
-        Some(Cause::ReadFault)
+        Some(ReaderCause::ReadFault)
     }
 }

@@ -13,8 +13,8 @@ use Rattle.sms_pdu.proofs.Streams.{rest_divided, division_after, consumes_nothin
 use Rattle.sms_centre.specs.declared.serving.Stop.{Stop}
 use Rattle.sms_centre.specs.declared.serving.Stop.TheVariants as stop
 use Rattle.sms_centre.specs.declared.said.Said.{Said}
-use Rattle.sms_centre.specs.declared.serving.Cause.{Cause}
-use Rattle.sms_centre.specs.declared.serving.Cause.TheVariants as cause
+use Rattle.sms_centre.specs.declared.serving.ServeCause.{ServeCause}
+use Rattle.sms_centre.specs.declared.serving.ServeCause.TheVariants as cause
 use Rattle.sms_centre.specs.Says.{IsSaid, Progress, said_to, after_frame, PutsAll}
 use Rattle.sms_centre.specs.Serving.{Talk, talking, talk, conversation, hears, tells, end_at, is_early, Writes, Brings, Serves}
 use Rattle.sms_centre.specs.Stops.{talk_at, brought, ends_early, stretch_of, cause_of, Answered, Written}
@@ -31,11 +31,11 @@ conversation-append t (f ∷ fs) gs =
     ap (λ l. tells t.over t.now h ++ l) (conversation-append (hears t.over t.now h) fs gs) ∙ sym (append_assoc (tells t.over t.now h) (conversation (hears t.over t.now h) fs) (conversation (talk (hears t.over t.now h) fs) gs))
 
 -- nothing is said and nothing changes after the end
-over_says : (p : Progress) (s : Cause) (fs : List (List ℕ)) → conversation (record { now = p; over = Some s }) fs ≡ []
+over_says : (p : Progress) (s : ServeCause) (fs : List (List ℕ)) → conversation (record { now = p; over = Some s }) fs ≡ []
 over_says p s [] = refl
 over_says p s (f ∷ fs) = over_says p s fs
 
-over_stays : (p : Progress) (s : Cause) (fs : List (List ℕ)) → talk (record { now = p; over = Some s }) fs ≡ record { now = p; over = Some s }
+over_stays : (p : Progress) (s : ServeCause) (fs : List (List ℕ)) → talk (record { now = p; over = Some s }) fs ≡ record { now = p; over = Some s }
 over_stays p s [] = refl
 over_stays p s (f ∷ fs) = over_stays p s fs
 
@@ -50,7 +50,7 @@ answered_one p q end old new f e h a =
       pieces = a.pieces;
       each = subst (λ (l : List Said). AllZip IsSaid l a.pieces) (sym (append-nil (said_to p (header_at_front f)))) a.said;
       grown = a.behind;
-      heard = ap (λ (x : Option Cause). let t : Talk = record { now = q; over = x } in t) e ∙ ap (λ (x : Progress). let t : Talk = record { now = x; over = end_at p (header_at_front f) } in t) h;
+      heard = ap (λ (x : Option ServeCause). let t : Talk = record { now = q; over = x } in t) e ∙ ap (λ (x : Progress). let t : Talk = record { now = x; over = end_at p (header_at_front f) } in t) h;
     }
 
 pub answered_more : (p q r : Progress) (end : Option Stop) (a b c : List ℕ) (fs gs : List (List ℕ)) → Answered p q None a b fs → Answered q r end b c gs → Answered p r end a c (fs ++ gs)
@@ -76,7 +76,7 @@ writes_more true a b c xs ys w (n, few, appended) =
 
 pub written_none : (p : Progress) (end : Option Stop) (a : Option (List ℕ)) → brought end ≡ None → Written p p end a a []
 written_none p end a none =
-    record { pieces = []; each = tt; writes = writes_all (ends_early end) a a [] (Appends-nil a); at = refl; heard = λ e. ap (λ (x : Option Cause). let t : Talk = record { now = p; over = x } in t) none }
+    record { pieces = []; each = tt; writes = writes_all (ends_early end) a a [] (Appends-nil a); at = refl; heard = λ e. ap (λ (x : Option ServeCause). let t : Talk = record { now = p; over = x } in t) none }
 
 -- what was gathered is written
 pub written_all : (p q : Progress) (end why : Option Stop) (a b : Option (List ℕ)) (out : List ℕ) (fs : List (List ℕ)) → brought why ≡ brought end → Answered p q end [] out fs → Appends a b out → Written p q why a b fs
@@ -86,7 +86,7 @@ written_all p q end why a b out fs same x w =
       each = x.each;
       writes = writes_all (ends_early why) a b (concat x.pieces) (subst (λ l. Appends a b l) x.grown w);
       at = ap (λ (t : Talk). t.now) x.heard;
-      heard = λ e. ap (λ (o : Option Cause). let t : Talk = record { now = q; over = o } in t) same ∙ x.heard;
+      heard = λ e. ap (λ (o : Option ServeCause). let t : Talk = record { now = q; over = o } in t) same ∙ x.heard;
     }
 
 -- or some first octets of it
@@ -113,7 +113,7 @@ written_ends p q why a b fs whole none x =
       each = x.each;
       writes = subst (λ (e : Bool). Writes e a b (concat x.pieces)) (sym whole) x.writes;
       at = x.at;
-      heard = λ e. ap (λ (o : Option Cause). let t : Talk = record { now = q; over = o } in t) none ∙ x.heard refl;
+      heard = λ e. ap (λ (o : Option ServeCause). let t : Talk = record { now = q; over = o } in t) none ∙ x.heard refl;
     }
 
 -- ---- at the end
@@ -139,7 +139,7 @@ rest_good : (left held : List ℕ) (gs : List (List ℕ)) (rest : List ℕ) → 
 rest_good left held gs rest r d = subst (λ (l : List ℕ). ¬ IsBad l) (sym (rest_divided left gs rest r.0 d).1) r.1
 
 -- what the cause tells
-brings : (why : Stop) (over : Option Cause) (left held : List ℕ) (gs : List (List ℕ)) (rest : List ℕ) (after : Option (List ℕ)) → (is_early (cause_of why) ≡ false → over ≡ brought (Some why))
+brings : (why : Stop) (over : Option ServeCause) (left held : List ℕ) (gs : List (List ℕ)) (rest : List ℕ) (after : Option (List ℕ)) → (is_early (cause_of why) ≡ false → over ≡ brought (Some why))
     → Leaves (stretch_of (Some why)) left held → Division left gs rest → (why ≡ stop.Ended → IsAtEnd after) → Brings (cause_of why) over rest after
 brings stop.Ended over left held gs rest after h r d end = inr (h refl, end refl, rest_good left held gs rest r d)
 brings stop.HungUp over left held gs rest after h r d end = inl (h refl)

@@ -12,13 +12,13 @@ use Rattle.sms_pdu.specs.Streams.{SomeAppended}
 use Rattle.sms_centre.specs.declared.said.Said.{Said}
 use Rattle.sms_centre.specs.declared.treatment.Treatment.{Treatment}
 use Rattle.sms_centre.specs.declared.treatment.Treatment.TheVariants.{Status, Nack, Silent, Unbind, Twice, Stray, Late, Deliver, Cut, Huge}
-use Rattle.sms_centre.specs.declared.serving.Cause.{Cause}
-use Rattle.sms_centre.specs.declared.serving.Cause.TheVariants.{Ended, Unbound, Lost, ReadFault, WriteFault, Turns, OutOfMemory}
+use Rattle.sms_centre.specs.declared.serving.ServeCause.{ServeCause}
+use Rattle.sms_centre.specs.declared.serving.ServeCause.TheVariants.{Ended, Unbound, Lost, ReadFault, WriteFault, Turns, OutOfMemory}
 use Rattle.sms_centre.specs.Scripts.{treatment}
 use Rattle.sms_centre.specs.Says.{IsSaid, Progress, said_to, after_frame, next_submit}
 
 -- two treatments end the connection
-abbrev pub hangs_up : Treatment → Option Cause
+abbrev pub hangs_up : Treatment → Option ServeCause
 hangs_up (Status status) = None
 hangs_up (Nack status) = None
 hangs_up Silent = None
@@ -31,7 +31,7 @@ hangs_up Cut = Some Ended
 hangs_up Huge = Some Ended
 
 -- why the connection ends after what is said to a frame, if it does
-abbrev pub end_at : Progress → Header → Option Cause
+abbrev pub end_at : Progress → Header → Option ServeCause
 end_at p h =
     if h.command == id_of command.SubmitSm then hangs_up (treatment p.plan (next_submit p))
     else (if h.command == id_of command.Unbind then Some Unbound else None)
@@ -39,17 +39,17 @@ end_at p h =
 -- a connection: the centre, and why it is over once a frame brought its end
 pub record Talk : Type 0 where
   pub now : Progress
-  pub over : Option Cause
+  pub over : Option ServeCause
 
 abbrev pub talking : Progress → Talk
 talking p = record { now = p; over = None }
 
 -- nothing is heard nor said after the end
-abbrev pub hears : Option Cause → Progress → Header → Talk
+abbrev pub hears : Option ServeCause → Progress → Header → Talk
 hears None p h = record { now = after_frame p h; over = end_at p h }
 hears (Some cause) p h = record { now = p; over = Some cause }
 
-abbrev pub tells : Option Cause → Progress → Header → List Said
+abbrev pub tells : Option ServeCause → Progress → Header → List Said
 tells None p h = said_to p h
 tells (Some cause) p h = []
 
@@ -63,7 +63,7 @@ conversation t [] = []
 conversation t (f ∷ fs) = tells t.over t.now (header_at_front f) ++ conversation (hears t.over t.now (header_at_front f)) fs
 
 -- not all that was said is written
-abbrev pub is_early : Cause → Bool
+abbrev pub is_early : ServeCause → Bool
 is_early WriteFault = true
 is_early OutOfMemory = true
 is_early Ended = false
@@ -74,7 +74,7 @@ is_early Turns = false
 
 -- what each cause tells: whether a frame brought the end, and else what stands behind the frames, where the rest is bad
 -- exactly where the connection is lost
-abbrev pub Brings : Cause → Option Cause → List ℕ → Option (List ℕ) → Type 0
+abbrev pub Brings : ServeCause → Option ServeCause → List ℕ → Option (List ℕ) → Type 0
 Brings Ended over rest after = (over ≡ Some Ended) ⊎ ((over ≡ None) × IsAtEnd after × (¬ IsBad rest))
 Brings Unbound over rest after = over ≡ Some Unbound
 Brings Lost over rest after = (over ≡ None) × IsBad rest
@@ -91,7 +91,7 @@ Writes false old new octets = Appends old new octets
 -- what serving a connection promises. `got` was read, and its first frames were answered: all of them that came before
 -- the connection was over, unless a write failed or memory ran out. What was said to them is written, or some first
 -- octets of it.
-pub record Serves (begun : Progress) (before after old new : Option (List ℕ)) (cause : Cause) (submits : ℕ) : Type 0 where
+pub record Serves (begun : Progress) (before after old new : Option (List ℕ)) (cause : ServeCause) (submits : ℕ) : Type 0 where
   pub got : List ℕ
   pub consumed : Consumes before after got
   pub frames : List (List ℕ)

@@ -2,14 +2,14 @@
 use Rattle.std.specs.Prelude.{◌≡◌, ℕ, List, ◌++◌, Bool, false, Option, Some, None}
 use Rattle.std.specs.List.{AllZip, concat}
 use Rattle.sms_pdu.specs.Streams.{Stretch, going, complete, lost, early}
-use Rattle.sms_centre.specs.declared.serving.Cause.{Cause}
-use Rattle.sms_centre.specs.declared.serving.Cause.TheVariants as cause
+use Rattle.sms_centre.specs.declared.serving.ServeCause.{ServeCause}
+use Rattle.sms_centre.specs.declared.serving.ServeCause.TheVariants as cause
 use Rattle.sms_centre.specs.declared.serving.Stop.{Stop}
 use Rattle.sms_centre.specs.declared.serving.Stop.TheVariants as stop
 use Rattle.sms_centre.specs.Says.{IsSaid, Progress}
 use Rattle.sms_centre.specs.Serving.{Talk, talking, talk, conversation, is_early, Writes}
 
-abbrev pub cause_of : Stop → Cause
+abbrev pub cause_of : Stop → ServeCause
 cause_of stop.Ended = cause.Ended
 cause_of stop.HungUp = cause.Ended
 cause_of stop.Unbound = cause.Unbound
@@ -20,7 +20,7 @@ cause_of stop.Turns = cause.Turns
 cause_of stop.OutOfMemory = cause.OutOfMemory
 
 -- what a frame brought
-abbrev pub brought : Option Stop → Option Cause
+abbrev pub brought : Option Stop → Option ServeCause
 brought (Some stop.HungUp) = Some cause.Ended
 brought (Some stop.Unbound) = Some cause.Unbound
 brought _ = None

@@ -24,5 +24,5 @@ pub use keys::strings_of;
 pub use pipe::{Pipe, PipeEnd};
 pub use said::Said;
 pub use script::{Script, ScriptError};
-pub use serving::{Cause, ServeEnd, serve};
+pub use serving::{ServeCause, ServeEnd, serve};
 pub use treatment::Treatment;

@@ -24,7 +24,7 @@ use std::io::{Error, Read, Write};
 
 /// Why a connection ended.
 #[derive(Clone, Copy, Debug, PartialEq, Eq)]
-pub enum Cause {
+pub enum ServeCause {
     /// The input ended, or the script hung up (`cut`, `huge`).
     Ended,
     /// An unbind came, and was answered.
@@ -61,7 +61,7 @@ pub(crate) enum Stop {
 pub struct ServeEnd {
     /// How many submit_sm came.
     pub submits: u64,
-    pub cause: Cause,
+    pub cause: ServeCause,
 }
 
 /// How many octets one turn reads at most.
@@ -103,24 +103,24 @@ pub fn serve<R: Read, W: Write>(
         }
         Err(_full) => ServeEnd {
             submits: 0,
-            cause: Cause::OutOfMemory,
+            cause: ServeCause::OutOfMemory,
         },
     }
 }
 
 /// The cause by its name.
-fn cause_of(stop: Stop) -> Cause
+fn cause_of(stop: Stop) -> ServeCause
     ensures { result ≡ cause_of_stop stop }
 {
     match stop {
-        Stop::Ended => Cause::Ended,
-        Stop::HungUp => Cause::Ended,
-        Stop::Unbound => Cause::Unbound,
-        Stop::Lost => Cause::Lost,
-        Stop::ReadFault => Cause::ReadFault,
-        Stop::WriteFault => Cause::WriteFault,
-        Stop::Turns => Cause::Turns,
-        Stop::OutOfMemory => Cause::OutOfMemory,
+        Stop::Ended => ServeCause::Ended,
+        Stop::HungUp => ServeCause::Ended,
+        Stop::Unbound => ServeCause::Unbound,
+        Stop::Lost => ServeCause::Lost,
+        Stop::ReadFault => ServeCause::ReadFault,
+        Stop::WriteFault => ServeCause::WriteFault,
+        Stop::Turns => ServeCause::Turns,
+        Stop::OutOfMemory => ServeCause::OutOfMemory,
     }
 }
 

@@ -1,6 +1,6 @@
 //! The centre and its devices, by values from outside.
 
-use crate::{Cause, Centre, Script, ScriptError, ServeEnd, serve};
+use crate::{Centre, Script, ScriptError, ServeCause, ServeEnd, serve};
 use sms_pdu::Frame;
 use std::alloc::Global;
 use std::fmt::Debug;
@@ -91,7 +91,7 @@ fn a_list_of_answers(rt: HostRuntime) -> Result<(), Fail> {
     let mut reader = SUBMIT.as_slice();
     let mut out = Vec::<u8>::new(alloc);
     let end = serve(alloc, &mut reader, &mut out, script, 10);
-    same(&rt, (end.submits, end.cause), (1, Cause::Ended));
+    same(&rt, (end.submits, end.cause), (1, ServeCause::Ended));
     same(&rt, out.as_slice(), ANSWER.as_slice());
     let none = Script::of(alloc, 0, &[]);
     assert!(rt; matches!(none, Err(ScriptError::BadKey)));

@@ -2,9 +2,9 @@
 use Rattle.std.proofs.Common.{◌≡◌, ◌∙◌, ℕ, List, Option, Some, None, IfSome}
 use Rattle.sms_core.specs.declared.event.Event.{Event}
 use Rattle.sms_core.specs.State.{State}
-use Rattle.sms_send.specs.Fields.{records_of}
+use Rattle.sms_files.specs.Fields.{records_of}
 use Rattle.sms_send.specs.Replays.{OfReplay, PrintsRun}
-use Rattle.sms_send.specs.Schedule.{AreSchedule, schedule_fault}
+use Rattle.sms_files.specs.Schedule.{AreSchedule, schedule_fault}
 
 -- what is printed of the events of a schedule is what its replay prints
 pub replayed : (o : Option (List ℕ)) (begun ended : State) (spelled events : List Event) (text : List ℕ)

@@ -1,19 +1,20 @@
 -- What was sent, or why it wasn't, from a part of the sender to the whole.
 use Rattle.std.proofs.Common.{◌≡◌, ◌∙◌, ◌⊎◌, inl, inr, refl, subst, ℕ, List, Option}
 use Rattle.std.proofs.lemmas.Option.{IfSome_then}
-use Rattle.sms_send.specs.ConfigFaults.{IsConfig}
-use Rattle.sms_send.specs.Inputs.{OfInput, Told}
-use Rattle.sms_send.specs.Output.{WritesFront}
+use Rattle.sms_files.specs.ConfigFaults.{IsConfig}
+use Rattle.sms_files.specs.Inputs.{Told}
+use Rattle.sms_send.specs.Opened.{OfInput}
+use Rattle.sms_report.specs.Output.{WritesFront}
 use Rattle.sms_send.specs.Sent.{IsSent, TellsSending, report_in}
-use Rattle.sms_send.specs.Setups.{names_in, setup_in}
-use Rattle.sms_send.specs.declared.config.Config.{Config}
-use Rattle.sms_send.specs.declared.config.FileNames.{FileNames}
-use Rattle.sms_send.specs.declared.driver.fault.SendFault.TheVariants as send
+use Rattle.sms_files.specs.Setups.{names_in, setup_in}
+use Rattle.sms_files.specs.declared.config.Config.{Config}
+use Rattle.sms_files.specs.declared.config.FileNames.{FileNames}
+use Rattle.sms_driver.specs.declared.fault.SendFault.TheVariants as send
 use Rattle.sms_send.specs.declared.fault.Fault.{Fault}
 use Rattle.sms_send.specs.declared.fault.Fault.TheVariants.{Output, OutOfMemory}
-use Rattle.sms_send.specs.declared.input.Input.{Input}
+use Rattle.sms_files.specs.declared.input.Input.{Input}
 use Rattle.sms_send.specs.declared.sender.Ended.{Ended}
-use Rattle.sms_send.specs.declared.setup.Setup.{Setup}
+use Rattle.sms_files.specs.declared.setup.Setup.{Setup}
 
 -- what holds of octets holds of the input that they are
 pub beside : {F : Type 0} (remaining : F → Told) (items octets : List ℕ) (P : List ℕ → Type 0)
@@ -35,7 +36,7 @@ of_config remaining items read handed setup Q P input one two (config, says, sam
 pub unwritten_told : (input : Input) (ended : Ended) (old new : Option (List ℕ)) (fault : Fault) → IsSent input ended
     → (fault ≡ Output) ⊎ (fault ≡ OutOfMemory) → (fault ≡ Output → WritesFront old new (report_in ended)) → TellsSending input old new fault
 unwritten_told input ended old new fault sent (inl out) front = inr (out, ended, sent, front out)
-unwritten_told input ended old new fault sent (inr memory) front = inl (send.OutOfMemory, inl refl, memory)
+unwritten_told input ended old new fault sent (inr memory) front = inl (send.OutOfMemory, inl (inl refl), memory)
 
 -- one of three, from two of them
 pub of_two : {A B C : Type 0} → A ⊎ B → A ⊎ (B ⊎ C)

@@ -1,15 +1,14 @@
--- What a fault says of the input, the line that tells it, and the exit status that it ends the program with.
-use Rattle.std.specs.Prelude.{◌≡◌, ℕ, ◌⊎◌, List, ◌++◌, codes, decimal, string_bytes}
+-- The line that tells a fault, the exit status that it ends the program with, and what the faults of the crates below are told as.
+use Rattle.std.specs.Prelude.{◌≡◌, ℕ, List, ◌++◌, codes, decimal, string_bytes}
 use Rattle.sms_send.specs.declared.fault.Fault.{Fault}
 use Rattle.sms_send.specs.declared.fault.Fault.TheVariants.{Words, Help, Version, File, Unreadable, BadRecord, NotToml, BadKey, BindRefused, BindFailed, Output, OutOfMemory}
-use Rattle.sms_send.specs.declared.fault.Source.{Source}
-use Rattle.sms_send.specs.declared.fault.Source.TheVariants.{Schedule, Messages, Accounts, Tariff}
-
-abbrev pub source_name : Source → List ℕ
-source_name Schedule = codes "schedule"
-source_name Messages = codes "messages"
-source_name Accounts = codes "accounts"
-source_name Tariff = codes "tariff"
+use Rattle.sms_driver.specs.declared.fault.SendFault.{SendFault}
+use Rattle.sms_driver.specs.declared.fault.SendFault.TheVariants as send
+use Rattle.sms_files.specs.Faults.{source_name}
+use Rattle.sms_files.specs.declared.fault.InputFault.{InputFault}
+use Rattle.sms_files.specs.declared.fault.InputFault.TheVariants as input
+use Rattle.sms_report.specs.declared.fault.OutputFault.{OutputFault}
+use Rattle.sms_report.specs.declared.fault.OutputFault.TheVariants as output
 
 -- help and the version are the parser's own texts
 abbrev pub fault_text : Fault → List ℕ
@@ -34,6 +33,26 @@ status_of (BindRefused bind status) = 3
 status_of (BindFailed bind) = 3
 status_of _ = 1
 
--- the reader of a source failed, or memory was refused
-abbrev pub IsDevice : Source → Fault → Type 0
-IsDevice source f = (f ≡ Unreadable source) ⊎ (f ≡ OutOfMemory)
+-- what is wrong with what was read, as the program tells it
+abbrev pub told_input : InputFault → Fault
+told_input (input.Unreadable source) = Unreadable source
+told_input (input.BadRecord source place) = BadRecord source place
+told_input input.NotToml = NotToml
+told_input (input.BadKey key) = BadKey key
+told_input input.OutOfMemory = OutOfMemory
+
+-- why nothing is told of a sending; a thread that is refused is told as want of memory
+abbrev pub told_sending : SendFault → Fault
+told_sending (send.BindRefused bind status) = BindRefused bind status
+told_sending (send.BindFailed bind why) = BindFailed bind
+told_sending send.ThreadRefused = OutOfMemory
+told_sending send.OutOfMemory = OutOfMemory
+
+-- why a text isn't written
+abbrev pub told_output : OutputFault → Fault
+told_output output.Output = Output
+told_output output.OutOfMemory = OutOfMemory
+
+-- the fault tells one of what is read, and this holds of that
+abbrev pub TellsRead : (InputFault → Type 0) → Fault → Type 0
+TellsRead P fault = (f : InputFault) × P f × (fault ≡ told_input f)

@@ -3,17 +3,19 @@ use Rattle.std.specs.Prelude.{◌≡◌, ◌⊎◌, Bool, ℕ, List, Option, Non
 use Rattle.std.specs.Io.KnownBytes.{Appends}
 use Rattle.clap.specs.Words.{Text}
 use Rattle.sms_send.specs.CommandLine.{IsJob, TellsWords, subcommand_in}
-use Rattle.sms_send.specs.Fields.{records_of}
-use Rattle.sms_send.specs.Inputs.{OfInput, Told}
-use Rattle.sms_send.specs.Messages.{messages_fault}
-use Rattle.sms_send.specs.PlanText.{TellsPlan, kind_of, plan_of}
+use Rattle.sms_files.specs.Fields.{records_of}
+use Rattle.sms_files.specs.Inputs.{Told}
+use Rattle.sms_files.specs.Messages.{messages_fault}
+use Rattle.sms_report.specs.PlanText.{kind_of, plan_of}
+use Rattle.sms_send.specs.Opened.{OfInput}
+use Rattle.sms_send.specs.Plans.{TellsPlan}
 use Rattle.sms_send.specs.Replays.{Replays, TellsReplay}
 use Rattle.sms_send.specs.Sent.{SendsFiles, TellsSent}
 use Rattle.sms_send.specs.declared.fault.Fault.{Fault}
 use Rattle.sms_send.specs.declared.fault.Fault.TheVariants.{File}
 use Rattle.sms_send.specs.declared.job.Job.{Job}
 use Rattle.sms_send.specs.declared.job.Job.TheVariants.{Loop, Plan, Replay, Send}
-use Rattle.sms_send.specs.declared.sending.Centre.TheVariants.{Named, Own}
+use Rattle.sms_send.specs.declared.send_job.Centre.TheVariants.{Named, Own}
 
 -- the bytes are a messages file, and its plan with references of 16 bits or of 8 was written and nothing else
 abbrev pub Plans : Bool → List ℕ → Option (List ℕ) → Option (List ℕ) → Type 0

@@ -5,13 +5,15 @@ use Rattle.sms_core.specs.declared.event.Event.{Event}
 use Rattle.sms_core.specs.declared.event.Step.{Step}
 use Rattle.sms_core.specs.Histories.{Runs}
 use Rattle.sms_core.specs.State.{State}
-use Rattle.sms_send.specs.Fields.{Record, records_of}
-use Rattle.sms_send.specs.Output.{WritesFront}
-use Rattle.sms_send.specs.Records.{TellsFile, TellsRecords}
-use Rattle.sms_send.specs.Schedule.{AreSchedule, schedule_fault}
-use Rattle.sms_send.specs.Text.{replay_text}
+use Rattle.sms_files.specs.Fields.{Record, records_of}
+use Rattle.sms_report.specs.Output.{WritesFront}
+use Rattle.sms_files.specs.Records.{TellsRecords}
+use Rattle.sms_send.specs.Faults.{TellsRead}
+use Rattle.sms_send.specs.Opened.{TellsFile}
+use Rattle.sms_files.specs.Schedule.{AreSchedule, schedule_fault}
+use Rattle.sms_report.specs.ReplayText.{replay_text}
 use Rattle.sms_send.specs.declared.fault.Fault.{Fault}
-use Rattle.sms_send.specs.declared.fault.Source.TheVariants.{Schedule}
+use Rattle.sms_files.specs.declared.fault.Source.TheVariants.{Schedule}
 
 -- the events took the world from one state to another, and this is printed of them
 abbrev pub PrintsRun : State → List Event → State → List ℕ → Type 0
@@ -33,7 +35,7 @@ ReplaysFront bytes old new = OfReplay (WritesFront old new) bytes
 
 -- what a fault says of the input before anything is written: a record that it names is the first that may not stand where it stands
 abbrev pub TellsSchedule : List Record → Fault → Type 0
-TellsSchedule rs = TellsRecords Schedule (schedule_fault rs)
+TellsSchedule rs = TellsRead (TellsRecords Schedule (schedule_fault rs))
 
 -- what a fault of a replay says of the input: a record that it names is the first that may not stand where it stands, and only the
 -- output of a schedule can fail

@@ -6,28 +6,30 @@ use Rattle.std.specs.declared.alloc.Global.{Global}
 use Rattle.sms_book.specs.Openings.{credits_of}
 use Rattle.sms_worker.specs.EndOf.{IsEndOf}
 use Rattle.sms_worker.specs.declared.rules.Rules.{Rules}
-use Rattle.sms_send.specs.BindEnds.{AreBinds}
-use Rattle.sms_send.specs.ConfigFaults.{IsConfig, TellsConfig}
-use Rattle.sms_send.specs.Inputs.{IsInput, IsNamed, OfInput, Told, TellsInput}
-use Rattle.sms_send.specs.Output.{WritesFront}
-use Rattle.sms_send.specs.Report.{report_of, ends_status}
-use Rattle.sms_send.specs.SendFaults.{IsFaultOfOne, told}
-use Rattle.sms_send.specs.Statements.{AreRows}
+use Rattle.sms_driver.specs.BindEnds.{AreBinds}
+use Rattle.sms_files.specs.ConfigFaults.{IsConfig, TellsConfig}
+use Rattle.sms_files.specs.Inputs.{IsInput, Told, TellsInput}
+use Rattle.sms_send.specs.Faults.{TellsRead, told_sending}
+use Rattle.sms_send.specs.Opened.{IsNamed, OfInput}
+use Rattle.sms_report.specs.Output.{WritesFront}
+use Rattle.sms_report.specs.Report.{report_of, ends_status}
+use Rattle.sms_driver.specs.SendFaults.{IsFaultOfOne}
+use Rattle.sms_driver.specs.Statements.{AreRows}
 use Rattle.sms_book.specs.Tariffs.{Price}
-use Rattle.sms_send.specs.declared.config.Config.{Config}
-use Rattle.sms_send.specs.declared.config.Connection.{Connection}
-use Rattle.sms_send.specs.declared.config.FileNames.{FileNames}
-use Rattle.sms_send.specs.declared.config.Flags.{Flags}
-use Rattle.sms_send.specs.declared.config.Retry.{Retry}
-use Rattle.sms_send.specs.declared.driver.binding.Habits.{Habits}
-use Rattle.sms_send.specs.declared.driver.fault.SendFault.{SendFault}
+use Rattle.sms_files.specs.declared.config.Config.{Config}
+use Rattle.sms_files.specs.declared.config.Connection.{Connection}
+use Rattle.sms_files.specs.declared.config.FileNames.{FileNames}
+use Rattle.sms_files.specs.declared.config.Flags.{Flags}
+use Rattle.sms_files.specs.declared.config.Retry.{Retry}
+use Rattle.sms_driver.specs.declared.binding.BindSettings.{BindSettings}
+use Rattle.sms_driver.specs.declared.fault.SendFault.{SendFault}
 use Rattle.sms_send.specs.declared.fault.Fault.{Fault}
 use Rattle.sms_send.specs.declared.fault.Fault.TheVariants.{BindFailed, File, OutOfMemory, Output}
-use Rattle.sms_send.specs.declared.input.Input.{Input}
-use Rattle.sms_send.specs.declared.limits.Limits.{Limits}
+use Rattle.sms_files.specs.declared.input.Input.{Input}
+use Rattle.sms_files.specs.declared.limits.Limits.{Limits}
 use Rattle.sms_send.specs.declared.sender.Ended.{Ended}
-use Rattle.sms_send.specs.declared.sending.Centre.{Centre}
-use Rattle.sms_send.specs.declared.sending.Centre.TheVariants.{Own}
+use Rattle.sms_send.specs.declared.send_job.Centre.{Centre}
+use Rattle.sms_send.specs.declared.send_job.Centre.TheVariants.{Own}
 
 -- the rules say what the config and the tariff say
 pub record IsRulesOf (retry : Retry) (limits : Limits) (flags : Flags) (tariff : List Price) (rules : Rules) : Type 0 where
@@ -39,10 +41,10 @@ pub record IsRulesOf (retry : Retry) (limits : Limits) (flags : Flags) (tariff :
   pub tariff_is : rules.tariff ≡ tariff
 
 -- all binds have the config's window, follow as it says, and are asked for with what it says (SMPP 3.4 4.1)
-pub record AreHabitsOf (connection : Connection) (limits : Limits) (flags : Flags) (habits : Habits) : Type 0 where
-  pub settings : habits.settings ≡ connection.settings
-  pub limit : habits.limit ≡ limits.window
-  pub follow : habits.follow ≡ flags.follow
+pub record AreSettingsOf (connection : Connection) (limits : Limits) (flags : Flags) (all : BindSettings) : Type 0 where
+  pub settings : all.settings ≡ connection.settings
+  pub limit : all.limit ≡ limits.window
+  pub follow : all.follow ≡ flags.follow
 
 -- there is an end for each message, in order, which it meets by the rules, a row for each account,
 -- whose amounts are the sums over these ends, and an end for each of the config's binds, each of so
@@ -73,13 +75,13 @@ pub record RunsSender (config : List ℕ) (accounts messages : Told) (tariff : O
 -- output failed behind a front of the report of that
 abbrev pub TellsSending : Input → Option (List ℕ) → Option (List ℕ) → Fault → Type 0
 TellsSending input old new fault =
-    ((f : SendFault) × IsFaultOfOne input.config.limits.binds f × (fault ≡ told f))
+    ((f : SendFault) × IsFaultOfOne input.config.limits.binds f × (fault ≡ told_sending f))
     ⊎ ((fault ≡ Output) × (ended : Ended) × IsSent input ended × WritesFront old new (report_in ended))
 
 -- what a fault says of these octets: it is of the first that have one, or of the sending of what they all say
 abbrev pub TellsSender : List ℕ → Told → Told → Option Told → Option (List ℕ) → Option (List ℕ) → Fault → Type 0
 TellsSender config accounts messages tariff old new fault =
-    TellsInput config accounts messages tariff fault
+    TellsRead (TellsInput config accounts messages tariff) fault
     ⊎ ((input : Input) × IsInput config accounts messages tariff input × TellsSending input old new fault)
 
 -- some files were read beside a config of these octets, that of the tariff just where it has a name, and sent so
@@ -105,7 +107,7 @@ SendsFiles remaining octets old new status = (config : Config) × IsConfig octet
 -- the files that the config names
 abbrev pub TellsFiles : {F : Type 0} → (F → Told) → Centre → List ℕ → Option (List ℕ) → Option (List ℕ) → Fault → Type 0
 TellsFiles remaining centre octets old new fault =
-    TellsConfig octets fault
+    TellsRead (TellsConfig octets) fault
     ⊎ ((config : Config) × IsConfig octets config × (((centre ≡ Own) × (fault ≡ BindFailed 0)) ⊎ TellsNamed remaining config.files octets old new fault))
 
 -- what a fault of a sending by the config of this name says: its file can't be read, memory ran out, or what it says of

@@ -3,49 +3,12 @@
 ghost use Rattle.std.specs.Fmt.{WritesOnOk};
 ghost use Rattle.std.specs.Prelude.{◌≡◌, ◌++◌, codes, decimal};
 
+use sms_driver::SendFault;
+use sms_files::{InputFault, Source};
+use sms_report::OutputFault;
 use std::alloc::{AllocError, AllocFailed};
 use std::fmt;
 use thiserror::Error;
-
-/// What is read.
-#[derive(Clone, Copy, Debug, PartialEq, Eq)]
-pub enum Source {
-    /// The events to replay.
-    Schedule,
-    /// The messages to send.
-    Messages,
-    /// The accounts that pay for them.
-    Accounts,
-    /// What a segment costs.
-    Tariff,
-}
-
-impl Source {
-    ghost use Rattle.sms_send.specs.Faults.{source_name};
-
-    /// What a line calls the source.
-    fn name(self) -> &'static str
-        ensures { result.now ≡ source_name self }
-    {
-        match self {
-            Source::Schedule => "schedule",
-            Source::Messages => "messages",
-            Source::Accounts => "accounts",
-            Source::Tariff => "tariff",
-        }
-    }
-}
-
-impl fmt::Display for Source {
-    ghost use Rattle.std.specs.Prelude.{Some};
-    ghost use Rattle.sms_send.specs.Faults.{source_name};
-
-    ghost output = { λ source. Some (source_name source) };
-
-    fn fmt<W: fmt::Write>(&self, f: &mut fmt::Formatter<W>) -> fmt::Result {
-        f.write_str(self.name())
-    }
-}
 
 /// Why the program ends before its work is done. Its text is the line that the program tells it
 /// with, and stands in [`Display`](fmt::Display) below, so that it is proved.
@@ -161,5 +124,48 @@ impl<T: Drop> From<AllocFailed<T>> for Fault {
 
     fn from(_e: AllocFailed<T>) -> Fault {
         Fault::OutOfMemory
+    }
+}
+
+impl From<InputFault> for Fault {
+    ghost use Rattle.sms_send.specs.Faults.{told_input};
+
+    ghost from_gives = { λ fault f. f ≡ told_input fault };
+
+    fn from(fault: InputFault) -> Fault {
+        match fault {
+            InputFault::Unreadable(source) => Fault::Unreadable(source),
+            InputFault::BadRecord(source, place) => Fault::BadRecord(source, place),
+            InputFault::NotToml => Fault::NotToml,
+            InputFault::BadKey(key) => Fault::BadKey(key),
+            InputFault::OutOfMemory => Fault::OutOfMemory,
+        }
+    }
+}
+
+impl From<SendFault> for Fault {
+    ghost use Rattle.sms_send.specs.Faults.{told_sending};
+
+    ghost from_gives = { λ fault f. f ≡ told_sending fault };
+
+    fn from(fault: SendFault) -> Fault {
+        match fault {
+            SendFault::BindRefused(bind, status) => Fault::BindRefused(bind, status),
+            SendFault::BindFailed(bind, _) => Fault::BindFailed(bind),
+            SendFault::ThreadRefused | SendFault::OutOfMemory => Fault::OutOfMemory,
+        }
+    }
+}
+
+impl From<OutputFault> for Fault {
+    ghost use Rattle.sms_send.specs.Faults.{told_output};
+
+    ghost from_gives = { λ fault f. f ≡ told_output fault };
+
+    fn from(fault: OutputFault) -> Fault {
+        match fault {
+            OutputFault::Output => Fault::Output,
+            OutputFault::OutOfMemory => Fault::OutOfMemory,
+        }
     }
 }

@@ -3,73 +3,22 @@
 
 #![tactic(auto)]
 
-mod accounts;
-#[cfg(test)]
-mod answer_tests;
-mod answers;
 mod bell;
-#[cfg(test)]
-mod broken;
-mod config;
-#[cfg(test)]
-mod config_tests;
 mod devices;
-mod driver;
 mod fault;
-mod field;
-#[cfg(test)]
-mod frame_tests;
-mod input;
-#[cfg(test)]
-mod input_tests;
+mod host;
 mod job;
-mod letters;
-mod limits;
-mod messages;
 mod network;
-#[cfg(test)]
-mod network_tests;
 mod opened;
 mod outbox;
-mod output;
 mod plan;
-#[cfg(test)]
-mod plan_tests;
-mod plan_text;
 mod progress;
-#[cfg(test)]
-mod progress_tests;
-mod rates;
-#[cfg(test)]
-mod reading_tests;
-mod records;
-#[cfg(test)]
-mod refusal_tests;
+mod reading;
 mod replay;
-mod report;
-#[cfg(test)]
-mod report_tests;
-mod rows;
-#[cfg(test)]
-mod same;
-mod schedule;
+mod send_job;
 mod sender;
-mod sending;
-#[cfg(test)]
-mod sending_tests;
-mod setup;
-#[cfg(test)]
-mod simulator;
-mod summary;
-mod tally;
 #[cfg(test)]
 mod tests;
-mod text;
-#[cfg(test)]
-mod told;
-mod toml_value;
-#[cfg(test)]
-mod trial;
 
 ghost use Rattle.std.specs.Prelude.{◌≡◌, ◌≢◌, ◌⊎◌, List, IfErr, IfOk, is_ok, map, string_bytes, if◌then◌else◌};
 ghost use Rattle.clap.specs.Words.{Text};
@@ -78,19 +27,16 @@ ghost use Rattle.sms_send.specs.Jobs.{Does, IsStatusOf, TellsJob, TellsRun, Work
 ghost use Rattle.sms_send.specs.declared.fault.Fault.TheVariants.{Output, OutOfMemory, Words};
 
 use crate::fault::Fault;
+use crate::host::Host;
 use crate::job::{Job, job_of};
 use crate::opened::open;
 use crate::plan::run_plan;
-use crate::progress::Screen;
 use crate::replay::run_replay;
-use crate::sending::{Centre, send_job};
+use crate::send_job::{Centre, send_job};
 use std::io::{ErrorKind, Write};
 use std::net::{Net, TcpListener, TcpStream};
 use std::process::ExitCode;
-use std::rt::{Env, Files};
-use std::sync::Wait;
-use std::thread::Threads;
-use std::time::Clock;
+use std::rt::Env;
 use std::{env, io};
 
 fn main(rt: HostRuntime) -> ExitCode {
@@ -102,20 +48,10 @@ fn main(rt: HostRuntime) -> ExitCode {
 }
 
 /// Does the job that the program's words ask for, and gives the exit status.
-fn run<
-    R: AllocGlobal
-        + Env
-        + Files
-        + Input
-        + Net<Stream = TcpStream, Listener = TcpListener>
-        + Threads
-        + Wait
-        + Clock
-        + Eprint
-        + Screen
-        + Sync,
-    W: Write,
->(rt: &R, output: &mut W) -> Result<u8, Fault>
+fn run<R: Host + Net<Stream = TcpStream, Listener = TcpListener>, W: Write>(
+    rt: &R,
+    output: &mut W,
+) -> Result<u8, Fault>
     ensures done { IfOk result (λ status. (words : List Text) × Works R.Reader.remaining R.File.remaining words status (W.contents output.old) (W.contents output.new)) }
     ensures unwritten { IfErr result (λ fault. fault ≢ Output → output.new ≡ output.old) }
 {
@@ -135,19 +71,11 @@ fn words_of<R: AllocGlobal + Env>(rt: &R) -> Result<Vec<String>, Fault>
 }
 
 /// Does the job that these words ask for, and gives the exit status.
-fn do_words<
-    R: AllocGlobal
-        + Files
-        + Input
-        + Net<Stream = TcpStream, Listener = TcpListener>
-        + Threads
-        + Wait
-        + Clock
-        + Eprint
-        + Screen
-        + Sync,
-    W: Write,
->(rt: &R, words: &[String], output: &mut W) -> Result<u8, Fault>
+fn do_words<R: Host + Net<Stream = TcpStream, Listener = TcpListener>, W: Write>(
+    rt: &R,
+    words: &[String],
+    output: &mut W,
+) -> Result<u8, Fault>
     ensures done { IfOk result (λ status. Works R.Reader.remaining R.File.remaining (map string_bytes words.now) status (W.contents output.old) (W.contents output.new)) }
     ensures refused { IfErr result (TellsRun R.Reader.remaining R.File.remaining (map string_bytes words.now) (W.contents output.old) (W.contents output.new)) }
     ensures unwritten { IfErr result (λ fault. fault ≢ Output → output.new ≡ output.old) }
@@ -159,19 +87,11 @@ fn do_words<
 }
 
 /// Does a job, and gives the exit status.
-fn do_job<
-    R: AllocGlobal
-        + Files
-        + Input
-        + Net<Stream = TcpStream, Listener = TcpListener>
-        + Threads
-        + Wait
-        + Clock
-        + Eprint
-        + Screen
-        + Sync,
-    W: Write,
->(rt: &R, job: Job, output: &mut W) -> Result<u8, Fault>
+fn do_job<R: Host + Net<Stream = TcpStream, Listener = TcpListener>, W: Write>(
+    rt: &R,
+    job: Job,
+    output: &mut W,
+) -> Result<u8, Fault>
     ensures status { IfOk result (IsStatusOf job) }
     ensures done { IfOk result (Does R.Reader.remaining R.File.remaining job (W.contents output.old) (W.contents output.new)) }
     ensures refused { IfErr result (TellsJob R.Reader.remaining R.File.remaining job (W.contents output.old) (W.contents output.new)) }

@@ -1,9 +1,9 @@
 //! Connections over TCP: to a message centre, or to test centres of the program's own.
 
 use crate::bell::{Bell, Ringing};
-use crate::driver::Dial;
 use crate::outbox::{Outbox, Outboxes, Posting};
 use sms_centre::{Script, serve};
+use sms_driver::Dial;
 use std::alloc::Global;
 use std::net::{Ipv4Addr, Net, TcpListener, TcpStream};
 use std::sync::Wait;

@@ -1,7 +1,7 @@
 //! The files that the program reads, by their names.
 
 ghost use Rattle.std.specs.Prelude.{◌≡◌, ◌≢◌, ◌⊎◌, [], IfErr, IfOk, string_bytes};
-ghost use Rattle.sms_send.specs.Inputs.{IsNamed, OfInput};
+ghost use Rattle.sms_send.specs.Opened.{IsNamed, OfInput};
 ghost use Rattle.sms_send.specs.declared.fault.Fault.TheVariants.{File, OutOfMemory};
 
 use crate::fault::Fault;

@@ -2,17 +2,16 @@
 
 ghost use Rattle.std.specs.Prelude.{◌≡◌, ◌≢◌, None, IfErr, IfOk, IfSome, OnOk};
 ghost use Rattle.std.specs.Io.KnownBytes.{Appends};
-ghost use Rattle.sms_send.specs.Fields.{records_of};
-ghost use Rattle.sms_send.specs.Messages.{messages_fault};
-ghost use Rattle.sms_send.specs.Output.{WritesFront};
-ghost use Rattle.sms_send.specs.PlanText.{TellsPlan, kind_of, plan_of};
+ghost use Rattle.sms_files.specs.Fields.{records_of};
+ghost use Rattle.sms_files.specs.Messages.{messages_fault};
+ghost use Rattle.sms_report.specs.Output.{WritesFront};
+ghost use Rattle.sms_report.specs.PlanText.{kind_of, plan_of};
+ghost use Rattle.sms_send.specs.Plans.{TellsPlan};
 ghost use Rattle.sms_send.specs.declared.fault.Fault.TheVariants.{Output};
 
-use crate::fault::{Fault, Source};
-use crate::messages::{MOST_MESSAGES, MessageText};
-use crate::output::write_out;
-use crate::plan_text::plan_text;
-use crate::rows::read_rows;
+use crate::fault::Fault;
+use sms_files::read_texts;
+use sms_report::{plan_text, write_out};
 use sms_segment::Reference;
 use std::alloc::Global;
 use std::io::{Read, Write};
@@ -41,7 +40,7 @@ pub fn run_plan<R: Read + Drop, W: Write>(
     // Nothing was written, save where writing itself failed.
     ensures quiet { IfErr result (λ fault. fault ≢ Output → output.new ≡ output.old) }
 {
-    let texts: Vec<MessageText> = read_rows(alloc, input, Source::Messages, MOST_MESSAGES)?;
+    let texts = read_texts(alloc, input)?;
     let text = plan_text(alloc, reference_of(long), &texts)?;
     write_out(output, text.as_bytes())?;
     Ok(0)

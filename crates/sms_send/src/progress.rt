@@ -2,11 +2,10 @@
 //! to.
 
 ghost use Rattle.std.specs.Prelude.{◌≡◌, ◌≤◌, ◌-◌, false, true};
-ghost use Rattle.sms_send.specs.Tally.{telling_of};
+ghost use Rattle.sms_send.specs.Telling.{telling_of};
 
 use crate::sender::Ended;
-use crate::summary::{EndLine, summary_of};
-use crate::tally::{Tally, WayLine, tally_of};
+use sms_report::{EndLine, Tally, WayLine, summary_of, tally_of};
 use sms_worker::{Clock, Gate, MessageEnd};
 use std::array;
 use std::io::{Eprint, IsTerminal};
@@ -66,16 +65,16 @@ fn is_due(due_ms: &AtomicU64, now_ms: u64) -> bool {
 
 /// How far a worker is, and when that is looked at again.
 #[derive(Drop)]
-struct Place {
+struct WorkerProgress {
     due_ms: AtomicU64,
     charged: AtomicU64,
     refused: AtomicU64,
     unanswered: AtomicU64,
 }
 
-impl Place {
-    fn new() -> Place {
-        Place {
+impl WorkerProgress {
+    fn new() -> WorkerProgress {
+        WorkerProgress {
             due_ms: AtomicU64::new(0),
             charged: AtomicU64::new(0),
             refused: AtomicU64::new(0),
@@ -100,16 +99,16 @@ impl Place {
 
 /// How far all workers are.
 #[derive(Drop)]
-struct Board {
-    places: [Place; MOST_WORKERS],
+struct ProgressBoard {
+    places: [WorkerProgress; MOST_WORKERS],
     /// When it is to be shown.
     due_ms: AtomicU64,
 }
 
-impl Board {
-    fn new(begun_ms: u64) -> Board {
-        Board {
-            places: array::from_fn(|_| Place::new()),
+impl ProgressBoard {
+    fn new(begun_ms: u64) -> ProgressBoard {
+        ProgressBoard {
+            places: array::from_fn(|_| WorkerProgress::new()),
             due_ms: AtomicU64::new(begun_ms.saturating_add(RENEWAL_MS)),
         }
     }
@@ -156,7 +155,7 @@ pub struct Progress<'r, S, K> {
     /// How many messages there are.
     all: u64,
     begun_ms: u64,
-    board: Board,
+    board: ProgressBoard,
 }
 
 impl<'r, S: Eprint, K: Clock> Progress<'r, S, K> {
@@ -172,7 +171,7 @@ impl<'r, S: Eprint, K: Clock> Progress<'r, S, K> {
             telling,
             all: messages as u64,
             begun_ms,
-            board: Board::new(begun_ms),
+            board: ProgressBoard::new(begun_ms),
         }
     }
 

@@ -1,15 +1,14 @@
 //! The replay of a schedule.
 
 ghost use Rattle.std.specs.Prelude.{◌≡◌, ◌≢◌, None, IfErr, IfOk, IfSome, OnOk, string_bytes};
-ghost use Rattle.sms_send.specs.Fields.{records_of};
+ghost use Rattle.sms_files.specs.Fields.{records_of};
 ghost use Rattle.sms_send.specs.Replays.{OfReplay, PrintsRun, Replays, ReplaysFront, TellsReplay, TellsSchedule};
-ghost use Rattle.sms_send.specs.Schedule.{schedule_fault};
+ghost use Rattle.sms_files.specs.Schedule.{schedule_fault};
 
 use crate::fault::Fault;
-use crate::output::write_out;
-use crate::schedule::{Schedule, read_schedule};
-use crate::text::replay_text;
 use sms_core::{Event, World};
+use sms_files::{Schedule, read_schedule};
+use sms_report::{replay_text, write_out};
 use std::alloc::{AllocError, Global};
 use std::io::{Read, Write};
 

@@ -1,21 +1,20 @@
 //! The sender: what was read is sent over all binds, and ends as its contract says.
 
-ghost use Rattle.std.specs.Prelude.{◌≡◌, ◌≤◌, ◌⊎◌, IfErr, IfOk, OnOk};
+ghost use Rattle.std.specs.Prelude.{◌≡◌, ◌⊎◌, IfErr, IfOk, OnOk};
 ghost use Rattle.std.specs.Io.KnownBytes.{Appends};
-ghost use Rattle.sms_send.specs.Output.{WritesFront};
-ghost use Rattle.sms_send.specs.Report.{ends_status, has_unanswered, is_open_end, is_unanswered as is_silence, report_of, some_unanswered};
-ghost use Rattle.sms_send.specs.SendFaults.{IsFaultOfOne, told};
-ghost use Rattle.sms_send.specs.Sent.{AreHabitsOf, IsRulesOf, IsSent};
-ghost use Rattle.sms_send.specs.declared.driver.fault.SendFault.{SendFault};
+ghost use Rattle.sms_report.specs.Output.{WritesFront};
+ghost use Rattle.sms_report.specs.Report.{ends_status, has_unanswered, is_open_end, is_unanswered as is_silence, report_of, some_unanswered};
+ghost use Rattle.sms_driver.specs.SendFaults.{IsFaultOfOne};
+ghost use Rattle.sms_send.specs.Faults.{told_sending};
+ghost use Rattle.sms_send.specs.Sent.{AreSettingsOf, IsRulesOf, IsSent};
+ghost use Rattle.sms_driver.specs.declared.fault.SendFault.{SendFault};
 ghost use Rattle.sms_send.specs.declared.fault.Fault.TheVariants.{Output, OutOfMemory};
 
-use crate::config::{Config, Connection, Flags, Retry};
-use crate::driver::{BindEnd, Dial, Habits, SendFault, Sending, drive_all};
 use crate::fault::Fault;
-use crate::input::Input;
-use crate::limits::Limits;
-use crate::report::write_report_of;
 use sms_book::{Opening, Statement, Tariff};
+use sms_driver::{BindEnd, BindSettings, Dial, Sending, drive_all};
+use sms_files::{Config, Connection, Flags, Input, Limits, Retry};
+use sms_report::write_report_of;
 use sms_worker::{Clock, Gate, MessageEnd, MessageResult, Outcome, Pause, Rules, SegmentEnd};
 use std::alloc::Global;
 use std::io::Write;
@@ -80,21 +79,6 @@ impl Ended {
     }
 }
 
-impl From<SendFault> for Fault {
-    ghost use Rattle.std.specs.Prelude.{◌≡◌};
-    ghost use Rattle.sms_send.specs.SendFaults.{told};
-
-    ghost from_gives = { λ fault f. f ≡ told fault };
-
-    fn from(fault: SendFault) -> Fault {
-        match fault {
-            SendFault::BindRefused(bind, status) => Fault::BindRefused(bind, status),
-            SendFault::BindFailed(bind) => Fault::BindFailed(bind),
-            SendFault::OutOfMemory => Fault::OutOfMemory,
-        }
-    }
-}
-
 /// Whether the outcome is that there was no answer.
 fn is_unanswered(outcome: Outcome) -> bool
     ensures { result ≡ is_silence outcome }
@@ -155,10 +139,10 @@ fn rules_of(retry: Retry, limits: Limits, flags: Flags, tariff: Tariff) -> Rules
 }
 
 /// What all binds have in common.
-fn habits_of(connection: Connection, limits: Limits, flags: Flags) -> Habits
-    ensures { AreHabitsOf connection limits flags result }
+fn settings_of(connection: Connection, limits: Limits, flags: Flags) -> BindSettings
+    ensures { AreSettingsOf connection limits flags result }
 {
-    Habits {
+    BindSettings {
         settings: connection.settings,
         limit: limits.window,
         follow: flags.follow,
@@ -184,7 +168,7 @@ pub fn send_all<
 ) -> Result<Ended, Fault>
     ensures sent { IfOk result (IsSent input) }
     // A fault is of one of the config's binds, or of memory.
-    ensures refused { IfErr result (λ fault. (f : SendFault) × IsFaultOfOne input.config.limits.binds f × (fault ≡ told f)) }
+    ensures refused { IfErr result (λ fault. (f : SendFault) × IsFaultOfOne input.config.limits.binds f × (fault ≡ told_sending f)) }
 {
     let (config, openings, messages, tariff) = input.into_parts();
     let Config {
@@ -195,13 +179,13 @@ pub fn send_all<
         ..
     } = config;
     let rules = rules_of(retry, limits, flags, tariff);
-    let habits = habits_of(connection, limits, flags);
+    let settings = settings_of(connection, limits, flags);
     let driven = drive_all(
         rt,
         alloc,
         limits.binds as usize,
         limits.workers as usize,
-        &habits,
+        &settings,
         &rules,
         openings.as_slice(),
         messages,
@@ -239,11 +223,15 @@ pub fn write_report<W: Write>(alloc: Global, ended: &Ended, output: &mut W) -> R
     ensures front { IfErr result (λ fault. fault ≡ Output → WritesFront (W.contents output.old) (W.contents output.new) (report_of ended.now.openings.items ended.now.ends.items ended.now.statement)) }
     ensures quiet { IfErr result (λ fault. fault ≡ OutOfMemory → output.new ≡ output.old) }
 {
-    write_report_of(
+    let written = write_report_of(
         alloc,
         ended.openings(),
         ended.ends(),
         ended.statement(),
         output,
-    )
+    );
+    match written {
+        Ok(()) => Ok(()),
+        Err(fault) => Err(Fault::from(fault)),
+    }
 }

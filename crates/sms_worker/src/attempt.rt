@@ -12,10 +12,11 @@ ghost use Rattle.sms_worker.specs.declared.attempt.Number.TheVariants.{UsedUp};
 ghost use Rattle.sms_worker.specs.UserData.{user_data};
 
 use crate::address::{destination, source};
-use crate::desk::{Clock, Desk, Gate};
+use crate::context::WorkerContext;
+use crate::devices::{Clock, Gate};
 use crate::ends::Attempt;
 use crate::message::Message;
-use crate::open::{Open, Place};
+use crate::open::{Open, SegmentPlace};
 use crate::rules::Rules;
 use crate::user_data::UserData;
 use sms_bind::{Receipt, WireFault};
@@ -118,7 +119,7 @@ fn frame_for(
 /// Posts the number in the slot and sends the frame, in one holding of the wire's lock. None where
 /// nothing was sent.
 fn post_and_send<N: BookName, W: Write, G: Gate, K: Clock, R: Wait>(
-    desk: &Desk<N, W, G, K, R>,
+    context: &WorkerContext<N, W, G, K, R>,
     slot: u32,
     number: u32,
     frame: Frame,
@@ -126,14 +127,14 @@ fn post_and_send<N: BookName, W: Write, G: Gate, K: Clock, R: Wait>(
     requires slot { slot < most_slots }
     ensures { IfSome result (λ r. r ≡ frame) }
 {
-    let mut wire = desk.line.wire.lock(desk.rt);
+    let mut wire = context.line.wire.lock(context.rt);
     if wire.broken() {
         return None;
     }
-    if desk
+    if context
         .line
         .slots
-        .post(desk.rt, slot, desk.place, number)
+        .post(context.rt, slot, context.place, number)
         .is_err()
     {
         return None;
@@ -141,7 +142,7 @@ fn post_and_send<N: BookName, W: Write, G: Gate, K: Clock, R: Wait>(
     match wire.send(frame) {
         Ok(receipt) => Some(receipt),
         Err(WireFault::Write(receipt)) => {
-            desk.line.down.store(true, Ordering::SeqCst);
+            context.line.down.store(true, Ordering::SeqCst);
             Some(receipt)
         }
         Err(WireFault::Broken) => unreachable!(),
@@ -150,34 +151,34 @@ fn post_and_send<N: BookName, W: Write, G: Gate, K: Clock, R: Wait>(
 
 /// Sends the part with this user data through a slot that is claimed, and lists the attempt.
 fn try_send<N: BookName, W: Write, G: Gate, K: Clock, R: Wait>(
-    desk: &Desk<N, W, G, K, R>,
+    context: &WorkerContext<N, W, G, K, R>,
     seat: &mut WindowSeat,
     slot: u32,
     message: &Message,
     carried: &UserData,
     attempts: &mut Vec<Attempt>,
 ) -> Tried
-    requires own { seat.old.window ≡ desk.now.window.now }
+    requires own { seat.old.window ≡ context.now.window.now }
     requires slot { slot < most_slots }
     ensures window { seat.new.window ≡ seat.old.window }
     ensures slots { seat.new.view.slots ≡ seat.old.view.slots }
-    ensures tried { (part : Part) → carried.now ≡ user_data part → Tries desk.now.rules.now message.now part seat.old.view attempts.old.items result seat.new.view attempts.new.items }
+    ensures tried { (part : Part) → carried.now ≡ user_data part → Tries context.now.rules.now message.now part seat.old.view attempts.old.items result seat.new.view attempts.new.items }
 {
-    let number = match draw(desk.window, seat) {
+    let number = match draw(context.window, seat) {
         Number::Drawn(number) => number,
         Number::UsedUp => return Tried::Never,
         Number::Contended => return Tried::Later,
     };
-    let Some(frame) = frame_for(desk.alloc, desk.rules, message, carried, number) else {
+    let Some(frame) = frame_for(context.alloc, context.rules, message, carried, number) else {
         return Tried::Never;
     };
     if attempts.reserve(1).is_err() {
         return Tried::Never;
     }
-    if !desk.gate.pass(desk.worker, number) {
+    if !context.gate.pass(context.worker, number) {
         return Tried::Never;
     }
-    let Some(sent) = post_and_send(desk, slot, number, frame) else {
+    let Some(sent) = post_and_send(context, slot, number, frame) else {
         return Tried::Never;
     };
     attempts.push_reserved(Attempt {
@@ -190,29 +191,29 @@ fn try_send<N: BookName, W: Write, G: Gate, K: Clock, R: Wait>(
 
 /// Claims a slot and sends the part with this user data through it. The slot is open then, or released.
 pub(crate) fn start<N: BookName, W: Write, G: Gate, K: Clock, R: Wait>(
-    desk: &Desk<N, W, G, K, R>,
+    context: &WorkerContext<N, W, G, K, R>,
     seat: &mut WindowSeat,
     opened: &mut Vec<Open>,
-    place: Place,
+    place: SegmentPlace,
     message: &Message,
     carried: &UserData,
     attempts: &mut Vec<Attempt>,
 ) -> Tried
-    requires own { seat.old.window ≡ desk.now.window.now }
+    requires own { seat.old.window ≡ context.now.window.now }
     requires room { vec_len opened.old < vec_capacity opened.old }
     ensures window { seat.new.window ≡ seat.old.window }
     ensures open { (base : ℕ) → IsOpen base (slots_of opened.old.items) seat.old.view.slots → IsOpen base (slots_of opened.new.items) seat.new.view.slots }
-    ensures tried { (part : Part) → carried.now ≡ user_data part → Tries desk.now.rules.now message.now part seat.old.view attempts.old.items result seat.new.view attempts.new.items }
+    ensures tried { (part : Part) → carried.now ≡ user_data part → Tries context.now.rules.now message.now part seat.old.view attempts.old.items result seat.new.view attempts.new.items }
 {
-    let slot = match desk.window.try_claim(seat) {
+    let slot = match context.window.try_claim(seat) {
         Claim::Got(slot) => slot,
         Claim::Full => return Tried::Later,
         Claim::Contended(_) => return Tried::Later,
     };
-    let tried = try_send(desk, seat, slot, message, carried, attempts);
+    let tried = try_send(context, seat, slot, message, carried, attempts);
     match tried {
         Tried::Sent(number) => {
-            let since_ms = desk.clock.now_ms();
+            let since_ms = context.clock.now_ms();
             opened.push_reserved(Open {
                 number,
                 slot,
@@ -222,11 +223,11 @@ pub(crate) fn start<N: BookName, W: Write, G: Gate, K: Clock, R: Wait>(
             tried
         }
         Tried::Later => {
-            desk.window.release(seat, slot);
+            context.window.release(seat, slot);
             tried
         }
         Tried::Never => {
-            desk.window.release(seat, slot);
+            context.window.release(seat, slot);
             tried
         }
     }

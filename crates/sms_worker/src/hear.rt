@@ -7,7 +7,8 @@ ghost use Rattle.sms_pdu.specs.declared.reply.Reply.{Reply};
 ghost use Rattle.sms_worker.specs.Told.{HeardSince};
 
 use crate::call::Call;
-use crate::desk::{Clock, Desk};
+use crate::context::WorkerContext;
+use crate::devices::Clock;
 use crate::open::Open;
 use crate::run::Run;
 use rtrb::Consumer;
@@ -52,9 +53,13 @@ impl<N: BookName, C: Call> Run<N, C> {
 
     /// Takes the reply for the open request with its number; one that none has is dropped. Its slot is
     /// answered then, since the answer went into the ring while the slot was locked.
-    fn bring<W, G, K: Clock, R: Wait>(&mut self, desk: &Desk<N, W, G, K, R>, reply: Reply)
-        requires window { desk.now.window.now ≡ C.start.seat.window }
-        requires rules { desk.now.rules.now ≡ C.start.rules }
+    fn bring<W, G, K: Clock, R: Wait>(
+        &mut self,
+        context: &WorkerContext<N, W, G, K, R>,
+        reply: Reply,
+    )
+        requires window { context.now.window.now ≡ C.start.seat.window }
+        requires rules { context.now.rules.now ≡ C.start.rules }
         requires heard { HeardSince (length C.start.received) self.old.heard reply }
         ensures heard { self.new.heard ≡ self.old.heard }
     {
@@ -62,13 +67,13 @@ impl<N: BookName, C: Call> Run<N, C> {
             return;
         };
         let open = self.opened[i];
-        if desk.line.slots.take(desk.rt, open.slot, open.number) != Taken::Got {
+        if context.line.slots.take(context.rt, open.slot, open.number) != Taken::Got {
             return;
         }
-        self.close(desk, i);
-        match self.settle_answer(desk, open.place, reply) {
+        self.close(context, i);
+        match self.settle_answer(context, open.place, reply) {
             Some((attempts, decision)) => {
-                self.follow(desk.alloc, desk.clock, open.place, attempts, decision)
+                self.follow(context.alloc, context.clock, open.place, attempts, decision)
             }
             None => {}
         }
@@ -77,11 +82,11 @@ impl<N: BookName, C: Call> Run<N, C> {
     /// Takes the replies that the ring shows, at most as many as it has room for.
     pub(crate) fn hear<W, G, K: Clock, R: Wait>(
         &mut self,
-        desk: &Desk<N, W, G, K, R>,
+        context: &WorkerContext<N, W, G, K, R>,
         consumer: &mut Consumer<Reply>,
     ) -> bool
-        requires window { desk.now.window.now ≡ C.start.seat.window }
-        requires rules { desk.now.rules.now ≡ C.start.rules }
+        requires window { context.now.window.now ≡ C.start.seat.window }
+        requires rules { context.now.rules.now ≡ C.start.rules }
         requires heard { self.old.heard ≡ received consumer.old }
         ensures ring { SameConsumer consumer.old consumer.new }
         ensures heard { self.new.heard ≡ received consumer.new }
@@ -92,7 +97,7 @@ impl<N: BookName, C: Call> Run<N, C> {
                 return any;
             };
             any = true;
-            self.take_reply(desk, consumer, reply);
+            self.take_reply(context, consumer, reply);
         }
         any
     }
@@ -100,38 +105,43 @@ impl<N: BookName, C: Call> Run<N, C> {
     /// Notes a reply that was popped, and brings it to its request.
     fn take_reply<W, G, K: Clock, R: Wait>(
         &mut self,
-        desk: &Desk<N, W, G, K, R>,
+        context: &WorkerContext<N, W, G, K, R>,
         consumer: &Consumer<Reply>,
         reply: Reply,
     )
-        requires window { desk.now.window.now ≡ C.start.seat.window }
-        requires rules { desk.now.rules.now ≡ C.start.rules }
+        requires window { context.now.window.now ≡ C.start.seat.window }
+        requires rules { context.now.rules.now ≡ C.start.rules }
         requires heard { received consumer.now ≡ self.old.heard ++ reply ∷ [] }
         ensures heard { self.new.heard ≡ received consumer.now }
     {
         self.note(consumer);
-        self.bring(desk, reply);
+        self.bring(context, reply);
     }
 
     /// Expires an open request, where it isn't answered. One that is answered is left: its answer
     /// stands in the ring.
     pub(crate) fn expire_at<W, G, K: Clock, R: Wait>(
         &mut self,
-        desk: &Desk<N, W, G, K, R>,
+        context: &WorkerContext<N, W, G, K, R>,
         i: usize,
     ) -> bool
-        requires window { desk.now.window.now ≡ C.start.seat.window }
+        requires window { context.now.window.now ≡ C.start.seat.window }
         ensures heard { self.new.heard ≡ self.old.heard }
     {
         if i >= self.opened.len() {
             return false;
         }
         let open = self.opened[i];
-        if desk.line.slots.expire(desk.rt, open.slot, open.number) == Expired::Answered {
+        if context
+            .line
+            .slots
+            .expire(context.rt, open.slot, open.number)
+            == Expired::Answered
+        {
             return false;
         }
-        self.close(desk, i);
-        self.forget(desk.alloc, open.place);
+        self.close(context, i);
+        self.forget(context.alloc, open.place);
         true
     }
 }

@@ -7,7 +7,8 @@ mod address;
 mod attempt;
 mod begin;
 mod call;
-mod desk;
+mod context;
+mod devices;
 mod ends;
 mod hear;
 pub mod laws;
@@ -27,7 +28,7 @@ mod user_data;
 mod work;
 
 pub use attempt::{Number, draw};
-pub use desk::{Clock, Gate, Pause};
+pub use devices::{Clock, Gate, Pause};
 pub use ends::{
     Attempt, Attempts, MessageEnd, MessageRefusal, MessageResult, Outcome, SegmentEnd, Segments,
 };

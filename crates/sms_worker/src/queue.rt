@@ -3,25 +3,28 @@
 ghost use Rattle.std.specs.Prelude.{◌≡◌, ◌≢◌, ◌≤◌, ◌+◌, ◌-◌, ℕ, Some, true, IfSome, IsSome, is_none, option_and_then, slice_get, vec_len, vec_capacity};
 ghost use Rattle.std.specs.List.{list_all};
 
-use crate::open::Place;
+use crate::open::SegmentPlace;
 use crate::texts::{Link, NO_LINK, Texts};
+
+/// How many attempts a segment has at most.
+const MOST_ATTEMPTS: usize = 10;
 
 /// The segments with one count of attempts. Their wait is one number, so that the one that came
 /// first is due first. Each is linked to the next.
 #[derive(Clone, Copy, Debug, PartialEq, Eq)]
 struct Queue {
-    first: Option<Place>,
-    last: Option<Place>,
+    first: Option<SegmentPlace>,
+    last: Option<SegmentPlace>,
 }
 
 /// A queue for each count of attempts. That takes no memory, so no segment is lost.
 #[derive(Clone, Copy, Debug, PartialEq, Eq)]
 pub struct Queues {
-    all: [Queue; 10],
+    all: [Queue; MOST_ATTEMPTS],
 }
 
 /// The link of the segment at a place.
-fn link_at(texts: &[Texts], place: Place) -> Link {
+fn link_at(texts: &[Texts], place: SegmentPlace) -> Link {
     if place.message < texts.len() {
         return texts[place.message].link(place.part);
     }
@@ -29,7 +32,7 @@ fn link_at(texts: &[Texts], place: Place) -> Link {
 }
 
 /// Gives the segment at a place another link.
-fn set_link_at(texts: &mut Vec<Texts>, place: Place, link: Link)
+fn set_link_at(texts: &mut Vec<Texts>, place: SegmentPlace, link: Link)
     ensures same { texts.new.items ≡ texts.old.items }
     ensures room { (vec_len texts.new ≡ vec_len texts.old) × (vec_capacity texts.new ≡ vec_capacity texts.old) }
 {
@@ -49,7 +52,9 @@ impl Queues {
             first: None,
             last: None,
         };
-        Queues { all: [none; 10] }
+        Queues {
+            all: [none; MOST_ATTEMPTS],
+        }
     }
 
     /// Whether no segment waits.
@@ -60,13 +65,19 @@ impl Queues {
     }
 
     /// Lets a segment with so many attempts wait until its time.
-    pub fn push(&mut self, texts: &mut Vec<Texts>, attempts: usize, place: Place, due_ms: u64)
+    pub fn push(
+        &mut self,
+        texts: &mut Vec<Texts>,
+        attempts: usize,
+        place: SegmentPlace,
+        due_ms: u64,
+    )
         ensures same { texts.new.items ≡ texts.old.items }
         ensures room { (vec_len texts.new ≡ vec_len texts.old) × (vec_capacity texts.new ≡ vec_capacity texts.old) }
         ensures last { 1 ≤ attempts → attempts ≤ 10 → option_and_then (λ q. q.last) (slice_get self.new.all (attempts - 1)) ≡ Some place }
         ensures others { (k : ℕ) → k + 1 ≢ attempts → slice_get self.new.all k ≡ slice_get self.old.all k }
     {
-        if attempts < 1 || attempts > 10 {
+        if attempts < 1 || attempts > MOST_ATTEMPTS {
             return;
         }
         let queue = &mut self.all[attempts - 1];
@@ -105,10 +116,10 @@ impl Queues {
     }
 
     /// The first segment of a queue.
-    pub fn first(&self, queue: usize) -> Option<Place>
+    pub fn first(&self, queue: usize) -> Option<SegmentPlace>
         ensures { result ≡ option_and_then (λ q. q.first) (slice_get self.now.all queue) }
     {
-        if queue < 10 {
+        if queue < MOST_ATTEMPTS {
             return self.all[queue].first;
         }
         None
@@ -118,7 +129,7 @@ impl Queues {
     pub fn pop(&mut self, texts: &[Texts], queue: usize)
         ensures others { (k : ℕ) → k ≢ queue → slice_get self.new.all k ≡ slice_get self.old.all k }
     {
-        if queue >= 10 {
+        if queue >= MOST_ATTEMPTS {
             return;
         }
         let queue = &mut self.all[queue];

@@ -14,9 +14,10 @@ ghost use Rattle.sms_worker.specs.Told.{HeardSince, IsSettled};
 use crate::attempt::{Tried, start};
 use crate::begin::begun;
 use crate::call::Call;
-use crate::desk::{Clock, Desk, Gate};
+use crate::context::WorkerContext;
+use crate::devices::{Clock, Gate};
 use crate::ends::{Attempts, Outcome, SegmentEnd};
-use crate::open::Place;
+use crate::open::SegmentPlace;
 use crate::places::{give, take};
 use crate::run::Run;
 use crate::segment::{answer, given_up, is_waiting};
@@ -66,19 +67,23 @@ fn settle<N: BookName, R: Wait>(
 
 impl<N: BookName, C: Call> Run<N, C> {
     /// Gives up the segment at the place, if it waits. Its part isn't needed then.
-    pub(crate) fn give_up<W, G, K, R: Wait>(&mut self, desk: &Desk<N, W, G, K, R>, place: Place)
+    pub(crate) fn give_up<W, G, K, R: Wait>(
+        &mut self,
+        context: &WorkerContext<N, W, G, K, R>,
+        place: SegmentPlace,
+    )
         ensures heard { self.new.heard ≡ self.old.heard }
         ensures swept { SweptAt C.start.rules.policy.attempts place.message place.part self.old.ends self.new.ends }
         ensures in_place { InPlace self.old.ends self.new.ends }
         ensures long { length self.new.ends ≡ length self.old.ends }
     {
-        if self.end_waiting(desk, place) {
-            self.forget(desk.alloc, place);
+        if self.end_waiting(context, place) {
+            self.forget(context.alloc, place);
         }
     }
 
     /// A segment of the message is settled, and needs its part no more.
-    pub(crate) fn forget(&mut self, alloc: Global, place: Place)
+    pub(crate) fn forget(&mut self, alloc: Global, place: SegmentPlace)
         ensures { self.new ≡ self.old }
     {
         settle_text(alloc, &mut self.texts, place);
@@ -89,7 +94,7 @@ impl<N: BookName, C: Call> Run<N, C> {
         &mut self,
         alloc: Global,
         clock: &K,
-        place: Place,
+        place: SegmentPlace,
         attempts: usize,
         decision: Decision,
     )
@@ -106,7 +111,11 @@ impl<N: BookName, C: Call> Run<N, C> {
     }
 
     /// Gives up the segment at the place, if it waits. Whether it did.
-    fn end_waiting<W, G, K, R: Wait>(&mut self, desk: &Desk<N, W, G, K, R>, place: Place) -> bool
+    fn end_waiting<W, G, K, R: Wait>(
+        &mut self,
+        context: &WorkerContext<N, W, G, K, R>,
+        place: SegmentPlace,
+    ) -> bool
         ensures heard { self.new.heard ≡ self.old.heard }
         ensures swept { SweptAt C.start.rules.policy.attempts place.message place.part self.old.ends self.new.ends }
         ensures in_place { InPlace self.old.ends self.new.ends }
@@ -117,7 +126,7 @@ impl<N: BookName, C: Call> Run<N, C> {
         }
         let message = &self.messages[place.message];
         let account = message.account;
-        let Some(segment) = take(desk.alloc, &mut self.ends, place) else {
+        let Some(segment) = take(context.alloc, &mut self.ends, place) else {
             return false;
         };
         if !is_waiting(&segment) {
@@ -126,8 +135,8 @@ impl<N: BookName, C: Call> Run<N, C> {
         }
         let segment = given_up(segment);
         settle(
-            desk.rt,
-            desk.book,
+            context.rt,
+            context.book,
             &mut self.shares,
             account,
             segment.cost,
@@ -141,11 +150,11 @@ impl<N: BookName, C: Call> Run<N, C> {
     /// has then, and what was decided.
     pub(crate) fn settle_answer<W, G, K: Clock, R: Wait>(
         &mut self,
-        desk: &Desk<N, W, G, K, R>,
-        place: Place,
+        context: &WorkerContext<N, W, G, K, R>,
+        place: SegmentPlace,
         reply: Reply,
     ) -> Option<(usize, Decision)>
-        requires rules { desk.now.rules.now ≡ C.start.rules }
+        requires rules { context.now.rules.now ≡ C.start.rules }
         requires heard { HeardSince (length C.start.received) self.old.heard reply }
         ensures heard { self.new.heard ≡ self.old.heard }
     {
@@ -154,10 +163,10 @@ impl<N: BookName, C: Call> Run<N, C> {
         }
         let message = &self.messages[place.message];
         let account = message.account;
-        let Some(segment) = take(desk.alloc, &mut self.ends, place) else {
+        let Some(segment) = take(context.alloc, &mut self.ends, place) else {
             return None;
         };
-        let (segment, decision) = answer(segment, reply, &desk.rules.policy);
+        let (segment, decision) = answer(segment, reply, &context.rules.policy);
         let decision = match decision {
             Some(decision) => decision,
             None => {
@@ -168,7 +177,14 @@ impl<N: BookName, C: Call> Run<N, C> {
         let SegmentEnd { cost, attempts, .. } = segment;
         let count = attempts.as_slice().len();
         let outcome = outcome_of(decision);
-        settle(desk.rt, desk.book, &mut self.shares, account, cost, outcome);
+        settle(
+            context.rt,
+            context.book,
+            &mut self.shares,
+            account,
+            cost,
+            outcome,
+        );
         let segment = SegmentEnd {
             cost,
             attempts,
@@ -181,11 +197,11 @@ impl<N: BookName, C: Call> Run<N, C> {
     /// Tries to send the segment at the place, if it waits.
     pub(crate) fn attempt<W: Write, G: Gate, K: Clock, R: Wait>(
         &mut self,
-        desk: &Desk<N, W, G, K, R>,
-        place: Place,
+        context: &WorkerContext<N, W, G, K, R>,
+        place: SegmentPlace,
     ) -> Tried
-        requires window { desk.now.window.now ≡ C.start.seat.window }
-        requires rules { desk.now.rules.now ≡ C.start.rules }
+        requires window { context.now.window.now ≡ C.start.seat.window }
+        requires rules { context.now.rules.now ≡ C.start.rules }
         ensures heard { self.new.heard ≡ self.old.heard }
     {
         if place.message >= self.messages.len() || place.message >= self.texts.len() {
@@ -198,7 +214,7 @@ impl<N: BookName, C: Call> Run<N, C> {
         if self.opened.len() >= self.opened.capacity() {
             return Tried::Later;
         }
-        let Some(segment) = take(desk.alloc, &mut self.ends, place) else {
+        let Some(segment) = take(context.alloc, &mut self.ends, place) else {
             return Tried::Never;
         };
         if !is_waiting(&segment) {
@@ -212,7 +228,7 @@ impl<N: BookName, C: Call> Run<N, C> {
         } = segment;
         let mut attempts = attempts.into_vec();
         let tried = start(
-            desk,
+            context,
             &mut self.seat,
             &mut self.opened,
             place,
@@ -230,20 +246,24 @@ impl<N: BookName, C: Call> Run<N, C> {
     }
 
     /// Releases the slot of an open request, which is open no more.
-    pub(crate) fn close<W, G, K, R>(&mut self, desk: &Desk<N, W, G, K, R>, i: usize)
-        requires window { desk.now.window.now ≡ C.start.seat.window }
+    pub(crate) fn close<W, G, K, R>(&mut self, context: &WorkerContext<N, W, G, K, R>, i: usize)
+        requires window { context.now.window.now ≡ C.start.seat.window }
         ensures heard { self.new.heard ≡ self.old.heard }
     {
         if i >= self.opened.len() {
             return;
         }
         let open = self.opened.remove(i);
-        desk.window.release(&mut self.seat, open.slot);
+        context.window.release(&mut self.seat, open.slot);
     }
 
     /// Begins the next message, if there is one.
-    pub(crate) fn begin<W, G, K, R: Wait>(&mut self, desk: &Desk<N, W, G, K, R>, down: bool) -> bool
-        requires rules { desk.now.rules.now ≡ C.start.rules }
+    pub(crate) fn begin<W, G, K, R: Wait>(
+        &mut self,
+        context: &WorkerContext<N, W, G, K, R>,
+        down: bool,
+    ) -> bool
+        requires rules { context.now.rules.now ≡ C.start.rules }
         ensures heard { self.new.heard ≡ self.old.heard }
         ensures all { result ≡ false → length self.new.ends ≡ length C.start.messages }
         ensures closed { (end : MessageEnd) → self.new.ends ≡ self.old.ends ++ end ∷ [] → end.result ≡ Refused BindClosed → IsTrue down }
@@ -255,10 +275,10 @@ impl<N: BookName, C: Call> Run<N, C> {
         }
         let message = &self.messages[place];
         let (texts, end) = begun(
-            desk.rt,
-            desk.alloc,
-            desk.book,
-            desk.rules,
+            context.rt,
+            context.alloc,
+            context.book,
+            context.rules,
             &mut self.shares,
             down,
             message,

@@ -7,7 +7,7 @@ ghost use Rattle.sms_worker.specs.declared.rules.Rules.{Rules};
 ghost use Rattle.sms_worker.specs.Told.{AreTexts};
 ghost use Rattle.sms_worker.specs.UserData.{user_data};
 
-use crate::open::Place;
+use crate::open::SegmentPlace;
 use crate::user_data::UserData;
 use sms_segment::Part;
 use std::alloc::{AllocError, Global};
@@ -17,7 +17,7 @@ use std::marker::Model;
 #[derive(Clone, Copy, Debug, PartialEq, Eq)]
 pub struct Link {
     pub due_ms: u64,
-    pub next: Option<Place>,
+    pub next: Option<SegmentPlace>,
 }
 
 /// The link of a segment that is in no queue.
@@ -121,7 +121,7 @@ impl Texts {
 }
 
 /// Counts a segment of the message at the place as settled.
-pub(crate) fn settle_text(alloc: Global, texts: &mut Vec<Texts>, place: Place)
+pub(crate) fn settle_text(alloc: Global, texts: &mut Vec<Texts>, place: SegmentPlace)
     ensures kept { (rules : Rules) (ms : List Message) → AreTexts rules ms texts.old.items → AreTexts rules ms texts.new.items }
     ensures room { (vec_len texts.new ≡ vec_len texts.old) × (vec_capacity texts.new ≡ vec_capacity texts.old) }
 {

@@ -8,9 +8,10 @@ ghost use Rattle.sms_worker.specs.Sweeps.{SettledTo};
 
 use crate::attempt::Tried;
 use crate::call::Call;
-use crate::desk::{Clock, Desk, Gate, Pause};
+use crate::context::WorkerContext;
+use crate::devices::{Clock, Gate, Pause};
 use crate::ends::MessageResult;
-use crate::open::Place;
+use crate::open::SegmentPlace;
 use crate::run::Run;
 use rtrb::Consumer;
 use sms_book::BookName;
@@ -57,21 +58,21 @@ impl<N: BookName, C: Call> Run<N, C> {
     }
 
     // The segment of the last message that is to be sent next.
-    fn next_part(&self) -> Option<Place>
+    fn next_part(&self) -> Option<SegmentPlace>
         ensures { IfSome result (λ p. length self.now.ends ≡ p.message + 1) }
     {
         let begun = self.ends.len();
         if begun == 0 || self.next >= self.count(begun - 1) {
             return None;
         }
-        Some(Place {
+        Some(SegmentPlace {
             message: begun - 1,
             part: self.next,
         })
     }
 
     // Where to look for a segment to send: a retry that is due, else the next of the last message.
-    fn next_place(&self, now_ms: u64) -> Option<(Place, Source)> {
+    fn next_place(&self, now_ms: u64) -> Option<(SegmentPlace, Source)> {
         let texts = self.texts.as_slice();
         if let Some(queue) = self.queues.due(texts, now_ms) {
             if let Some(place) = self.queues.first(queue) {
@@ -97,20 +98,20 @@ impl<N: BookName, C: Call> Run<N, C> {
     // Starts an attempt, or begins a message.
     fn start_one<W: Write, G: Gate, K: Clock, R: Wait>(
         &mut self,
-        desk: &Desk<N, W, G, K, R>,
+        context: &WorkerContext<N, W, G, K, R>,
         now_ms: u64,
     ) -> Started
-        requires window { desk.now.window.now ≡ C.start.seat.window }
-        requires rules { desk.now.rules.now ≡ C.start.rules }
+        requires window { context.now.window.now ≡ C.start.seat.window }
+        requires rules { context.now.rules.now ≡ C.start.rules }
         ensures heard { self.new.heard ≡ self.old.heard }
     {
         let Some((place, source)) = self.next_place(now_ms) else {
-            if self.begin(desk, false) {
+            if self.begin(context, false) {
                 return Started::One;
             }
             return Started::Nothing;
         };
-        match self.attempt(desk, place) {
+        match self.attempt(context, place) {
             Tried::Sent(_) => {
                 self.advance(source);
                 Started::One
@@ -118,7 +119,7 @@ impl<N: BookName, C: Call> Run<N, C> {
             Tried::Later => Started::Nothing,
             Tried::Never => {
                 self.advance(source);
-                self.give_up(desk, place);
+                self.give_up(context, place);
                 Started::One
             }
         }
@@ -127,20 +128,20 @@ impl<N: BookName, C: Call> Run<N, C> {
     // Starts attempts while fewer than `depth` are open.
     fn start_all<W: Write, G: Gate, K: Clock, R: Wait>(
         &mut self,
-        desk: &Desk<N, W, G, K, R>,
+        context: &WorkerContext<N, W, G, K, R>,
     ) -> bool
-        requires window { desk.now.window.now ≡ C.start.seat.window }
-        requires rules { desk.now.rules.now ≡ C.start.rules }
+        requires window { context.now.window.now ≡ C.start.seat.window }
+        requires rules { context.now.rules.now ≡ C.start.rules }
         ensures heard { self.new.heard ≡ self.old.heard }
     {
-        let now_ms = desk.clock.now_ms();
-        let depth = desk.rules.depth as usize;
+        let now_ms = context.clock.now_ms();
+        let depth = context.rules.depth as usize;
         let mut any = false;
         for _ in 0..MOST_STARTS {
             if self.opened.len() >= depth {
                 return any;
             }
-            match self.start_one(desk, now_ms) {
+            match self.start_one(context, now_ms) {
                 Started::One => any = true,
                 Started::Nothing => return any,
             }
@@ -149,12 +150,16 @@ impl<N: BookName, C: Call> Run<N, C> {
     }
 
     // Expires what is open for too long, or all of it where the line is down.
-    fn expire<W, G, K: Clock, R: Wait>(&mut self, desk: &Desk<N, W, G, K, R>, down: bool) -> bool
-        requires window { desk.now.window.now ≡ C.start.seat.window }
+    fn expire<W, G, K: Clock, R: Wait>(
+        &mut self,
+        context: &WorkerContext<N, W, G, K, R>,
+        down: bool,
+    ) -> bool
+        requires window { context.now.window.now ≡ C.start.seat.window }
         ensures heard { self.new.heard ≡ self.old.heard }
     {
-        let now_ms = desk.clock.now_ms();
-        let limit = u64::from(desk.rules.answer_ms);
+        let now_ms = context.clock.now_ms();
+        let limit = u64::from(context.rules.answer_ms);
         let mut i = 0;
         let mut any = false;
         for _ in 0u32..64 {
@@ -165,7 +170,7 @@ impl<N: BookName, C: Call> Run<N, C> {
             if !down && now_ms.saturating_sub(open.since_ms) < limit {
                 return any;
             }
-            if self.expire_at(desk, i) {
+            if self.expire_at(context, i) {
                 any = true;
             } else {
                 i += 1;
@@ -190,22 +195,23 @@ impl<N: BookName, C: Call> Run<N, C> {
     // One turn. Whether another is to follow.
     fn turn<W: Write, G: Gate, K: Clock, P: Pause, R: Wait>(
         &mut self,
-        desk: &Desk<N, W, G, K, R>,
+        context: &WorkerContext<N, W, G, K, R>,
         pause: &P,
         consumer: &mut Consumer<Reply>,
     ) -> bool
-        requires window { desk.now.window.now ≡ C.start.seat.window }
-        requires rules { desk.now.rules.now ≡ C.start.rules }
+        requires window { context.now.window.now ≡ C.start.seat.window }
+        requires rules { context.now.rules.now ≡ C.start.rules }
         requires heard { self.old.heard ≡ received consumer.old }
         ensures ring { SameConsumer consumer.old consumer.new }
         ensures heard { self.new.heard ≡ received consumer.new }
     {
-        let heard = self.hear(desk, consumer);
-        let down = desk.line.down.load(Ordering::SeqCst);
-        let expired = self.expire(desk, down);
-        let started = self.start_or_sweep(desk, down);
-        desk.gate
-            .see(desk.worker, self.ends.as_slice(), self.opened.len());
+        let heard = self.hear(context, consumer);
+        let down = context.line.down.load(Ordering::SeqCst);
+        let expired = self.expire(context, down);
+        let started = self.start_or_sweep(context, down);
+        context
+            .gate
+            .see(context.worker, self.ends.as_slice(), self.opened.len());
         if heard || expired || started {
             return true;
         }
@@ -219,18 +225,18 @@ impl<N: BookName, C: Call> Run<N, C> {
     // Takes turns until nothing is left to do, at most as many as the rules say.
     pub(crate) fn take_turns<W: Write, G: Gate, K: Clock, P: Pause, R: Wait>(
         &mut self,
-        desk: &Desk<N, W, G, K, R>,
+        context: &WorkerContext<N, W, G, K, R>,
         pause: &P,
         consumer: &mut Consumer<Reply>,
     )
-        requires window { desk.now.window.now ≡ C.start.seat.window }
-        requires rules { desk.now.rules.now ≡ C.start.rules }
+        requires window { context.now.window.now ≡ C.start.seat.window }
+        requires rules { context.now.rules.now ≡ C.start.rules }
         requires heard { self.old.heard ≡ received consumer.old }
         ensures ring { SameConsumer consumer.old consumer.new }
         ensures heard { self.new.heard ≡ received consumer.new }
     {
-        for _ in 0..desk.rules.turns {
-            if !self.turn(desk, pause, consumer) {
+        for _ in 0..context.rules.turns {
+            if !self.turn(context, pause, consumer) {
                 return;
             }
         }
@@ -239,22 +245,26 @@ impl<N: BookName, C: Call> Run<N, C> {
     // Starts attempts, or gives up all that wait where the line is down.
     fn start_or_sweep<W: Write, G: Gate, K: Clock, R: Wait>(
         &mut self,
-        desk: &Desk<N, W, G, K, R>,
+        context: &WorkerContext<N, W, G, K, R>,
         down: bool,
     ) -> bool
-        requires window { desk.now.window.now ≡ C.start.seat.window }
-        requires rules { desk.now.rules.now ≡ C.start.rules }
+        requires window { context.now.window.now ≡ C.start.seat.window }
+        requires rules { context.now.rules.now ≡ C.start.rules }
         ensures heard { self.new.heard ≡ self.old.heard }
     {
         if down {
-            self.sweep(desk);
+            self.sweep(context);
             return false;
         }
-        self.start_all(desk)
+        self.start_all(context)
     }
 
     // Gives up all segments of a message that wait.
-    fn sweep_message<W, G, K, R: Wait>(&mut self, desk: &Desk<N, W, G, K, R>, message: usize)
+    fn sweep_message<W, G, K, R: Wait>(
+        &mut self,
+        context: &WorkerContext<N, W, G, K, R>,
+        message: usize,
+    )
         requires before { SettledTo C.start.rules.policy.attempts message 0 self.old.ends }
         ensures heard { self.new.heard ≡ self.old.heard }
         ensures long { length self.new.ends ≡ length self.old.ends }
@@ -262,7 +272,7 @@ impl<N: BookName, C: Call> Run<N, C> {
     {
         let count = self.count(message);
         for part in 0..count {
-            self.give_up(desk, Place { message, part });
+            self.give_up(context, SegmentPlace { message, part });
         }
     }
 
@@ -270,39 +280,39 @@ impl<N: BookName, C: Call> Run<N, C> {
     // taken; what is left is refused, and what waits is given up.
     pub(crate) fn finish<W, G, K: Clock, R: Wait>(
         &mut self,
-        desk: &Desk<N, W, G, K, R>,
+        context: &WorkerContext<N, W, G, K, R>,
         consumer: &mut Consumer<Reply>,
     )
-        requires window { desk.now.window.now ≡ C.start.seat.window }
-        requires rules { desk.now.rules.now ≡ C.start.rules }
+        requires window { context.now.window.now ≡ C.start.seat.window }
+        requires rules { context.now.rules.now ≡ C.start.rules }
         requires heard { self.old.heard ≡ received consumer.old }
         ensures ring { SameConsumer consumer.old consumer.new }
         ensures heard { self.new.heard ≡ received consumer.new }
         ensures all { length self.new.ends ≡ length C.start.messages }
         ensures settled { SettledTo C.start.rules.policy.attempts (length C.start.messages) 0 self.new.ends }
     {
-        self.expire(desk, true);
-        self.hear(desk, consumer);
-        self.refuse_rest(desk);
-        self.sweep(desk);
+        self.expire(context, true);
+        self.hear(context, consumer);
+        self.refuse_rest(context);
+        self.sweep(context);
     }
 
-    fn refuse_rest<W, G, K, R: Wait>(&mut self, desk: &Desk<N, W, G, K, R>)
-        requires rules { desk.now.rules.now ≡ C.start.rules }
+    fn refuse_rest<W, G, K, R: Wait>(&mut self, context: &WorkerContext<N, W, G, K, R>)
+        requires rules { context.now.rules.now ≡ C.start.rules }
         ensures heard { self.new.heard ≡ self.old.heard }
         ensures all { length self.new.ends ≡ length C.start.messages }
     {
-        while self.begin(desk, true) {}
+        while self.begin(context, true) {}
     }
 
-    fn sweep<W, G, K, R: Wait>(&mut self, desk: &Desk<N, W, G, K, R>)
+    fn sweep<W, G, K, R: Wait>(&mut self, context: &WorkerContext<N, W, G, K, R>)
         ensures heard { self.new.heard ≡ self.old.heard }
         ensures long { length self.new.ends ≡ length self.old.ends }
         ensures settled { SettledTo C.start.rules.policy.attempts (length self.old.ends) 0 self.new.ends }
     {
         let begun = self.ends.len();
         for message in 0..begun {
-            self.sweep_message(desk, message);
+            self.sweep_message(context, message);
         }
     }
 }

@@ -12,7 +12,8 @@ ghost use Rattle.sms_worker.specs.Told.{AllTold, AreEnds, Drew, Grew};
 ghost use Rattle.sms_pdu.specs.declared.reply.Reply.{Reply};
 
 use crate::call::Call;
-use crate::desk::{Clock, Desk, Gate, Pause};
+use crate::context::WorkerContext;
+use crate::devices::{Clock, Gate, Pause};
 use crate::ends::MessageEnd;
 use crate::message::Message;
 use crate::open::Open;
@@ -54,29 +55,29 @@ pub struct WorkerEnd<N: BookName> {
 // Gives back whatever slots are open still. Each was answered, and the ring didn't show its answer: it
 // is taken without that.
 fn release_all<N: BookName, W, G, K, R: Wait>(
-    desk: &Desk<N, W, G, K, R>,
+    context: &WorkerContext<N, W, G, K, R>,
     seat: &mut WindowSeat,
     mut opened: Vec<Open>,
 )
-    requires own { seat.old.window ≡ desk.now.window.now }
+    requires own { seat.old.window ≡ context.now.window.now }
     requires open { (base : ℕ) × IsOpen base (slots_of opened.items) seat.old.view.slots }
     ensures window { seat.new.window ≡ seat.old.window }
     ensures slots { (base : ℕ) → IsOpen base (slots_of opened.items) seat.old.view.slots → seat.new.view.slots ≡ base }
     ensures numbers { HasDrawn seat.old.view [] seat.new.view }
 {
     while let Some(last) = opened.pop() {
-        desk.line.slots.take(desk.rt, last.slot, last.number);
-        desk.window.release(seat, last.slot);
+        context.line.slots.take(context.rt, last.slot, last.number);
+        context.window.release(seat, last.slot);
     }
 }
 
 // Ends a run.
 fn into_end<N: BookName, W, G, K, R: Wait, C: Call>(
-    desk: &Desk<N, W, G, K, R>,
+    context: &WorkerContext<N, W, G, K, R>,
     run: Run<N, C>,
     consumer: Consumer<Reply>,
 ) -> WorkerEnd<N>
-    requires window { desk.now.window.now ≡ C.start.seat.window }
+    requires window { context.now.window.now ≡ C.start.seat.window }
     ensures ends { result.ends.items ≡ run.ends }
     ensures consumer { result.consumer ≡ consumer }
     ensures shape { AreEnds C.start.rules (length C.start.share.amounts) C.start.messages run.ends }
@@ -94,7 +95,7 @@ fn into_end<N: BookName, W, G, K, R: Wait, C: Call>(
         opened,
         ..
     } = run;
-    release_all(desk, &mut seat, opened);
+    release_all(context, &mut seat, opened);
     WorkerEnd {
         seat,
         shares,
@@ -126,14 +127,14 @@ fn grow(alloc: Global, messages: usize, depth: usize) -> Result<Lists, AllocErro
 }
 
 fn work<N: BookName, W: Write, G: Gate, K: Clock, P: Pause, R: Wait, C: Call>(
-    desk: &Desk<N, W, G, K, R>,
+    context: &WorkerContext<N, W, G, K, R>,
     pause: &P,
     worker: Worker<N>,
     messages: Vec<Message>,
     lists: Lists,
 ) -> WorkerEnd<N>
-    requires window { desk.now.window.now ≡ C.start.seat.window }
-    requires rules { desk.now.rules.now ≡ C.start.rules }
+    requires window { context.now.window.now ≡ C.start.seat.window }
+    requires rules { context.now.rules.now ≡ C.start.rules }
     requires messages { messages.items ≡ C.start.messages }
     requires seat { worker.seat ≡ C.start.seat }
     requires share { worker.shares ≡ C.start.share }
@@ -179,10 +180,10 @@ fn work<N: BookName, W: Write, G: Gate, K: Clock, P: Pause, R: Wait, C: Call>(
         heard,
         of: PhantomData,
     };
-    run.take_turns(desk, pause, &mut consumer);
-    run.finish(desk, &mut consumer);
-    let end = into_end(desk, run, consumer);
-    desk.gate.see_last(desk.worker, end.ends.as_slice());
+    run.take_turns(context, pause, &mut consumer);
+    run.finish(context, &mut consumer);
+    let end = into_end(context, run, consumer);
+    context.gate.see_last(context.worker, end.ends.as_slice());
     end
 }
 
@@ -221,7 +222,7 @@ pub fn run_worker<N: BookName, W: Write, G: Gate, K: Clock, P: Pause, R: Wait>(
         Ok(grown) => grown,
         Err(error) => return Err((error, worker, messages)),
     };
-    let desk = Desk {
+    let context = WorkerContext {
         rt,
         alloc,
         line,
@@ -233,5 +234,5 @@ pub fn run_worker<N: BookName, W: Write, G: Gate, K: Clock, P: Pause, R: Wait>(
         worker: worker.index,
         place: worker.place,
     };
-    Ok(work::<N, W, G, K, P, R, Brand>(&desk, pause, worker, messages, grown))
+    Ok(work::<N, W, G, K, P, R, Brand>(&context, pause, worker, messages, grown))
 }

@@ -2,7 +2,7 @@
 
 use super::reader::{bound_as, counts, line_of, read_from, ring_of, want_written};
 use super::{ACCEPTED, BIND, Sink, bound_by, bound_over, same, settings_of, source_of, wire_to};
-use crate::{BindFault, Cause, Settings, Wire};
+use crate::{BindFault, ReaderCause, Settings, Wire};
 use sms_pdu::Mode;
 use std::alloc::Global;
 use std::process::Abort;
@@ -97,7 +97,7 @@ fn want_end<S: Abort + Wait>(
     alloc: Global,
     octets: usize,
     room: usize,
-    (cause, answered, delivered, written): (Cause, u64, u64, usize),
+    (cause, answered, delivered, written): (ReaderCause, u64, u64, usize),
 ) -> Result<(), Fail> {
     let line = line_of(rt, alloc, room, 2);
     let (producers, mut consumer) = ring_of(alloc, 64)?;
@@ -119,12 +119,12 @@ fn want_end<S: Abort + Wait>(
 fn a_reader_that_fails_at_each_octet(rt: HostRuntime) -> Result<(), Fail> {
     for octets in 0..81usize {
         let wanted = match octets / 16 {
-            0 => (Cause::ReadFault, 0, 0, 0),
-            1 => (Cause::ReadFault, 0, 0, 16),
-            2 => (Cause::ReadFault, 1, 0, 16),
-            3 => (Cause::ReadFault, 1, 1, 33),
-            4 => (Cause::ReadFault, 2, 1, 33),
-            _ => (Cause::Unbound, 2, 1, 49),
+            0 => (ReaderCause::ReadFault, 0, 0, 0),
+            1 => (ReaderCause::ReadFault, 0, 0, 16),
+            2 => (ReaderCause::ReadFault, 1, 0, 16),
+            3 => (ReaderCause::ReadFault, 1, 1, 33),
+            4 => (ReaderCause::ReadFault, 2, 1, 33),
+            _ => (ReaderCause::Unbound, 2, 1, 49),
         };
         want_end(&rt, rt.alloc(), octets, 1000, wanted)?;
     }
@@ -137,10 +137,10 @@ fn a_reader_that_fails_at_each_octet(rt: HostRuntime) -> Result<(), Fail> {
 fn a_writer_that_fails_at_each_octet(rt: HostRuntime) -> Result<(), Fail> {
     for room in 0..50usize {
         let wanted = match room {
-            0..16 => (Cause::WriteFault, 0, 0, room),
-            16..33 => (Cause::WriteFault, 1, 1, room),
-            33..49 => (Cause::WriteFault, 2, 1, room),
-            _ => (Cause::Unbound, 2, 1, 49),
+            0..16 => (ReaderCause::WriteFault, 0, 0, room),
+            16..33 => (ReaderCause::WriteFault, 1, 1, room),
+            33..49 => (ReaderCause::WriteFault, 2, 1, room),
+            _ => (ReaderCause::Unbound, 2, 1, 49),
         };
         want_end(&rt, rt.alloc(), 80, room, wanted)?;
     }
@@ -153,8 +153,8 @@ fn a_nack_that_is_cut_at_each_octet(rt: HostRuntime) -> Result<(), Fail> {
     let alloc = rt.alloc();
     for room in 0..33usize {
         let (cause, nacked) = match room {
-            0..16 => (Cause::WriteFault, 0),
-            _ => (Cause::Lost, 1),
+            0..16 => (ReaderCause::WriteFault, 0),
+            _ => (ReaderCause::Lost, 1),
         };
         let line = line_of(&rt, alloc, room, 0);
         let source = source_of(0, STRANGE, true);

@@ -5,7 +5,7 @@
 use super::faults::{RESPONSES, STREAM};
 use super::reader::{bound_as, counts};
 use super::{ACCEPTED, BIND, Sink, bound_over, same, settings_of, source_of, wire_to};
-use crate::{BindFault, Cause, Line, Wire, read_loop};
+use crate::{BindFault, Line, ReaderCause, Wire, read_loop};
 use rtrb::RingBuffer;
 use sms_pdu::Mode;
 use sms_session::State;
@@ -60,18 +60,18 @@ fn memory_of_a_bind(rt: HostRuntime) {
 // What a reader counts that ended so, and how many octets of the responses are written then: both
 // answers and the note were worked, and of the three responses one at the most wasn't written; or
 // nothing was worked.
-fn all_or_nothing(cause: Cause, unreplied: u64, written: usize) -> ([u64; 7], bool) {
+fn all_or_nothing(cause: ReaderCause, unreplied: u64, written: usize) -> ([u64; 7], bool) {
     match (cause, unreplied) {
-        (Cause::Unbound, 0) => ([2, 0, 0, 1, 0, 0, 0], written == 49),
-        (Cause::Unbound, _) => ([2, 0, 0, 1, 0, 0, 1], written == 33 || written == 32),
+        (ReaderCause::Unbound, 0) => ([2, 0, 0, 1, 0, 0, 0], written == 49),
+        (ReaderCause::Unbound, _) => ([2, 0, 0, 1, 0, 0, 1], written == 33 || written == 32),
         _ => (
             [0, 0, 0, 0, 0, 0, 0],
-            cause == Cause::OutOfMemory && written == 0,
+            cause == ReaderCause::OutOfMemory && written == 0,
         ),
     }
 }
 
-fn want_all_or_nothing(rt: &impl Abort, cause: Cause, said: [u64; 7], written: &[u8]) {
+fn want_all_or_nothing(rt: &impl Abort, cause: ReaderCause, said: [u64; 7], written: &[u8]) {
     let (wanted, is_long) = all_or_nothing(cause, said[6], written.len());
     same(rt, said, wanted);
     assert!(rt; is_long);

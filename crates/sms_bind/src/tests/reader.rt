@@ -4,7 +4,7 @@ ghost use Rattle.std.specs.Prelude.{◌≡◌, ◌≤◌};
 ghost use Rattle.sms_core.specs.Limits.{most_slots};
 
 use super::{ACCEPTED, ENQUIRE_LINK, Sink, Source, bound_by, same, source_of, wire_to};
-use crate::{Bound, Cause, Line, ReaderEnd, Tap, read_loop};
+use crate::{Bound, Line, ReaderCause, ReaderEnd, Tap, read_loop};
 use rtrb::{Consumer, Producer, RingBuffer};
 use sms_pdu::{BIND_TRANSCEIVER_RESP, BIND_TRANSMITTER_RESP, Framer, Frames, Header, Mode, Reply};
 use sms_session::Opened;
@@ -135,35 +135,35 @@ fn streams_that_are_read(rt: HostRuntime) -> Result<(), Fail> {
         // A deliver_sm, an alert_notification, and a command_id that no PDU has.
         (
             b"\x00\x00\x00\x10\x00\x00\x00\x05\x00\x00\x00\x00\x00\x00\x00\x07\x00\x00\x00\x10\x00\x00\x01\x02\x00\x00\x00\x00\x00\x00\x00\x08\x00\x00\x00\x10\x00\x00\x01\x03\x00\x00\x00\x00\x00\x00\x00\x09".as_slice(),
-            Cause::Ended,
+            ReaderCause::Ended,
             [0, 0, 0, 1, 1, 1, 0],
             b"\x00\x00\x00\x11\x80\x00\x00\x05\x00\x00\x00\x00\x00\x00\x00\x07\x00\x00\x00\x00\x10\x80\x00\x00\x00\x00\x00\x00\x03\x00\x00\x00\x09".as_slice(),
         ),
         // An enquire_link, and a command_length of 15.
         (
             b"\x00\x00\x00\x10\x00\x00\x00\x15\x00\x00\x00\x00\x00\x00\x00\x02\x00\x00\x00\x0f".as_slice(),
-            Cause::Lost,
+            ReaderCause::Lost,
             [0, 0, 0, 0, 0, 0, 0],
             b"\x00\x00\x00\x10\x80\x00\x00\x15\x00\x00\x00\x00\x00\x00\x00\x02\x00\x00\x00\x10\x80\x00\x00\x00\x00\x00\x00\x02\x00\x00\x00\x00".as_slice(),
         ),
         // An unbind, and an alert_notification that comes too late.
         (
             b"\x00\x00\x00\x10\x00\x00\x00\x06\x00\x00\x00\x00\x00\x00\x00\x03\x00\x00\x00\x10\x00\x00\x01\x02\x00\x00\x00\x00\x00\x00\x00\x08".as_slice(),
-            Cause::Unbound,
+            ReaderCause::Unbound,
             [0, 0, 0, 0, 0, 0, 0],
             b"\x00\x00\x00\x10\x80\x00\x00\x06\x00\x00\x00\x00\x00\x00\x00\x03".as_slice(),
         ),
         // The response to an unbind.
         (
             b"\x00\x00\x00\x10\x80\x00\x00\x06\x00\x00\x00\x00\x00\x00\x00\x03".as_slice(),
-            Cause::Unbound,
+            ReaderCause::Unbound,
             [0, 0, 0, 0, 0, 0, 0],
             b"".as_slice(),
         ),
         // The same answer twice, and generic_nacks of requests that weren't sent; a frame that is cut.
         (
             b"\x00\x00\x00\x10\x80\x00\x00\x04\x00\x00\x00\x00\x00\x00\x00\x01\x00\x00\x00\x10\x80\x00\x00\x04\x00\x00\x00\x00\x00\x00\x00\x01\x00\x00\x00\x10\x80\x00\x00\x00\x00\x00\x00\x03\x00\x00\x00\x00\x00\x00\x00\x10\x80\x00\x00\x00\x00\x00\x00\x03\x00\x00\x00\x4d\x00\x00\x00\x10".as_slice(),
-            Cause::Ended,
+            ReaderCause::Ended,
             [1, 3, 0, 0, 0, 0, 0],
             b"".as_slice(),
         ),
@@ -208,13 +208,13 @@ fn what_came_with_the_answer(rt: HostRuntime) -> Result<(), Fail> {
     let cases = [
         (
             b"\x00\x00\x00\x10\x00\x00\x00\x15\x00\x00\x00\x00\x00\x00\x00\x02\x00\x00\x00\x10\x00\x00\x00\x05\x00".as_slice(),
-            Cause::Ended,
+            ReaderCause::Ended,
             1,
             b"\x00\x00\x00\x10\x80\x00\x00\x15\x00\x00\x00\x00\x00\x00\x00\x02\x00\x00\x00\x11\x80\x00\x00\x05\x00\x00\x00\x04\x00\x00\x00\x09\x00".as_slice(),
         ),
         (
             b"\x00\x00\x00\x0f".as_slice(),
-            Cause::Lost,
+            ReaderCause::Lost,
             0,
             b"\x00\x00\x00\x10\x80\x00\x00\x00\x00\x00\x00\x02\x00\x00\x00\x00".as_slice(),
         ),
@@ -267,10 +267,10 @@ fn answers_that_overrun(rt: HostRuntime) -> Result<(), Fail> {
 #[test]
 fn readers_that_end_early(rt: HostRuntime) -> Result<(), Fail> {
     let cases = [
-        (10, 0, false, Cause::WriteFault),
-        (1000, 3, false, Cause::ReadFault),
-        (1000, 10, false, Cause::Turns),
-        (1000, 0, true, Cause::Stopped),
+        (10, 0, false, ReaderCause::WriteFault),
+        (1000, 3, false, ReaderCause::ReadFault),
+        (1000, 10, false, ReaderCause::Turns),
+        (1000, 0, true, ReaderCause::Stopped),
     ];
     for (room, idle, stop, cause) in cases {
         let alloc = rt.alloc();
@@ -281,8 +281,8 @@ fn readers_that_end_early(rt: HostRuntime) -> Result<(), Fail> {
         let end = read_from(&rt, alloc, source, bound, Vec::new(alloc), &line);
         same(&rt, end.cause, cause);
         let written: &[u8] = match cause {
-            Cause::WriteFault => &ENQUIRE_LINK_RESP[..10],
-            Cause::ReadFault => ENQUIRE_LINK_RESP.as_slice(),
+            ReaderCause::WriteFault => &ENQUIRE_LINK_RESP[..10],
+            ReaderCause::ReadFault => ENQUIRE_LINK_RESP.as_slice(),
             _ => b"",
         };
         want_written(&rt, line, written);

@@ -1,7 +1,7 @@
 //! How serving ends, and what is written then.
 
 use super::{ANSWER, SUBMIT, bare, good, same, served};
-use crate::{Cause, Fuse, ServeEnd, serve};
+use crate::{Fuse, ServeCause, ServeEnd, serve};
 use std::alloc::Global;
 use std::io;
 use std::io::{Error, ErrorKind, Read, Write};
@@ -58,7 +58,7 @@ fn a_bad_length_and_the_turns(rt: HostRuntime) -> Result<(), Fail> {
             end,
             ServeEnd {
                 submits: 0,
-                cause: Cause::Lost,
+                cause: ServeCause::Lost,
             },
         );
         same(&rt, out.as_slice(), bare(0x8000_0015, 0, 9).as_slice());
@@ -72,9 +72,9 @@ fn a_bad_length_and_the_turns(rt: HostRuntime) -> Result<(), Fail> {
         let end = serve(alloc, &mut reader, &mut out, good(alloc)?, turns);
         let submits = if turns < 104 { 0 } else { 1 };
         let cause = if turns < 106 {
-            Cause::Turns
+            ServeCause::Turns
         } else {
-            Cause::Ended
+            ServeCause::Ended
         };
         same(&rt, end, ServeEnd { submits, cause });
         same(&rt, out.len(), 19 * submits as usize);
@@ -100,7 +100,7 @@ fn one_write_for_one_read(rt: HostRuntime) -> Result<(), Fail> {
         end,
         ServeEnd {
             submits: 100,
-            cause: Cause::Ended,
+            cause: ServeCause::Ended,
         },
     );
     same(
@@ -117,9 +117,9 @@ fn want_read_fault(rt: &impl Abort, alloc: Global, octets: u64) -> Result<(), Fa
     let mut out = Vec::<u8>::new(alloc);
     let end = serve(alloc, &mut reader, &mut out, good(alloc)?, 100);
     let cause = if octets < 53 {
-        Cause::ReadFault
+        ServeCause::ReadFault
     } else {
-        Cause::Ended
+        ServeCause::Ended
     };
     same(rt, end.cause, cause);
     let written = if octets < 52 { 0 } else { 19 };
@@ -134,9 +134,9 @@ fn want_write_fault(rt: &impl Abort, alloc: Global, octets: usize) -> Result<(),
     let mut writer = Fuse::new(&mut out, octets as u64);
     let end = serve(alloc, &mut reader, &mut writer, good(alloc)?, 100);
     let cause = if octets < 19 {
-        Cause::WriteFault
+        ServeCause::WriteFault
     } else {
-        Cause::Ended
+        ServeCause::Ended
     };
     same(rt, (end.submits, end.cause), (1, cause));
     let most = octets.min(19);

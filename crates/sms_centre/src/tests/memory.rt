@@ -3,7 +3,7 @@
 //! there.
 
 use super::{ANSWER, SUBMIT, same};
-use crate::{Cause, Centre, Script, ScriptError, serve};
+use crate::{Centre, Script, ScriptError, ServeCause, serve};
 use sms_pdu::Frame;
 
 // Its answer where it came second.
@@ -79,9 +79,9 @@ fn memory_of_serving(rt: HostRuntime) {
     let mut reader = input.as_slice();
     let end = serve(alloc, &mut reader, &mut out, script, 10);
     match end.cause {
-        Cause::Ended => same(&rt, (end.submits, out.len()), (2, 38)),
+        ServeCause::Ended => same(&rt, (end.submits, out.len()), (2, 38)),
         cause => {
-            same(&rt, cause, Cause::OutOfMemory);
+            same(&rt, cause, ServeCause::OutOfMemory);
             same(
                 &rt,
                 (out.len() / 19, out.len() % 19),

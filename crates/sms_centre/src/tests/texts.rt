@@ -1,7 +1,7 @@
 //! Scripts: what each text makes the centre write, and which texts and keys are refused.
 
 use super::{ANSWER, bare, same, served};
-use crate::{Cause, Script, ScriptError};
+use crate::{Script, ScriptError, ServeCause};
 use std::alloc::{AllocError, Global};
 use std::process::Abort;
 use std::test::Fail;
@@ -59,7 +59,7 @@ fn want_octets(
     let (out, end) = served(alloc, script, &two_submits(alloc)?)?;
     same(rt, out.as_slice(), wanted);
     same(rt, end.submits, submits);
-    same(rt, end.cause, Cause::Ended);
+    same(rt, end.cause, ServeCause::Ended);
     Ok(())
 }
 
@@ -112,7 +112,7 @@ const OTHERS: &[(u32, u32)] = &[(0x8000_0015, 0), (0x8000_0000, 3), (0x8000_0006
 // By this script the requests get these answers to the binds, and then the others.
 fn want_answers(rt: &impl Abort, alloc: Global, script: &str, binds: &[u8]) -> Result<(), Fail> {
     let (out, end) = served(alloc, script, &bares(alloc, REQUESTS)?)?;
-    same(rt, (end.submits, end.cause), (0, Cause::Unbound));
+    same(rt, (end.submits, end.cause), (0, ServeCause::Unbound));
     assert!(rt; out.starts_with(binds));
     same(
         rt,

@@ -9,7 +9,7 @@ use super::sums::{came_to, had_no_credit, sums};
 use super::{Case, OK, PLAIN, THROTTLED, book_of, messages_of, rings_of, rules_of, same, seats_of};
 use crate::{Message, MessageEnd, MessageResult, Outcome, Rules, Worker, WorkerEnd, run_worker};
 use rtrb::Producer;
-use sms_bind::{Cause, Line, ReaderEnd};
+use sms_bind::{Line, ReaderCause, ReaderEnd};
 use sms_book::{Blank, Book, BookName, Shares, Till, gather};
 use sms_core::Row;
 use sms_pdu::Reply;
@@ -370,7 +370,7 @@ fn a_centre_answers_two_workers(rt: HostRuntime) {
     let came = go(&rt, rt.alloc(), threaded);
     want_agreement(&rt, &came, 400, 0);
     assert_eq!(&rt; (came.row.charged, came.end.answered), (400, 403));
-    assert_eq!(&rt; came.end.cause, Cause::Stopped);
+    assert_eq!(&rt; came.end.cause, ReaderCause::Stopped);
 }
 
 // Wherever the reader ends, by the end of its input or by a fault: what it handed on is recorded, and no

@@ -4,7 +4,7 @@ use Rattle.rtrb.specs.Ring.{sent, SameProducer}
 use Rattle.sms_slot.proofs.Rings.{same_rings}
 use Rattle.sms_bind.specs.declared.ending.ReaderEnd.{ReaderEnd}
 use Rattle.sms_bind.specs.declared.counts.Counts.{Counts}
-use Rattle.sms_bind.specs.declared.desk.Desk.{Desk}
+use Rattle.sms_bind.specs.declared.reader_state.ReaderState.{ReaderState}
 use Rattle.sms_bind.specs.Ends.{HandsOn}
 use Rattle.sms_bind.specs.Held.{Held}
 use Rattle.sms_bind.specs.Follows.{held_none, most_held}
@@ -45,7 +45,7 @@ returns-clause-answers g c =
     let rings = map sent c.args.producers.items in
     let begun : concat c.as_slice.result.now ++ c.into_rest-rest.result.items ≡ concat c.args.bound.frames ++ c.args.bound.framer =
     ap (λ fs. concat fs ++ c.into_rest-rest.result.items) c.as_slice.ensures ∙ ap (λ (l : List ℕ). concat c.args.bound.frames ++ l) c.into_rest-rest.ensures.same in
-    let a : Desk = record { session = s; producers = c.args.producers; counts = c.new-2.result; follower = c.in-Ok.follower } in
+    let a : ReaderState = record { session = s; producers = c.args.producers; counts = c.new-2.result; follower = c.in-Ok.follower } in
     let held : Held = held_none c.args.seat (most_held c.args.follow) in
     let first : c.in-Ok.follower ≡ held = c.in-Ok.ensures.ok ∙ ap (λ (n : ℕ). held_none c.args.seat n) c.most_of.ensures in
     let all = hands_on s a b _ _ r t c.read-cause.result c.args.bound.bound c.new-2.ensures c.read-cause.ensures.reads in

@@ -1,12 +1,10 @@
 use Rattle.std.specs.Prelude.{string_bytes}
 use Rattle.std.specs.Io.KnownBytes.{Appends}
-use Rattle.sms_send.specs.Output.{WritesFront}
-use Rattle.sms_send.specs.Schedule.{schedule_fault}
-use Rattle.sms_send.specs.declared.fault.Source.TheVariants.{Schedule}
-use Rattle.sms_send.proofs.Files.{told-reading, told-writing}
+use Rattle.sms_report.specs.Output.{WritesFront}
+use Rattle.sms_files.specs.Schedule.{schedule_fault}
+use Rattle.sms_files.specs.declared.fault.Source.TheVariants.{Schedule}
+use Rattle.sms_send.proofs.Telling.{told-read, told-writing, told_so, where-output}
 use Rattle.sms_send.proofs.Replaying.{written}
-use Rattle.sms_send.proofs.Runs.{told_so}
-use Rattle.sms_send.proofs.Writing.{where-output}
 use Rattle.sms_send.proofs.replay.run_replay.Goals as goal
 
 pub returns-clause-replayed : goal.returns-clause-replayed
@@ -22,7 +20,7 @@ returns-in_err-write_out-clause-front g c =
 
 pub returns-in_err-text-clause-refused : goal.returns-in_err-text-clause-refused
 returns-in_err-text-clause-refused g c =
-    told_so c.from_residual.result _ _ c.from_residual.ensures.1 (told-reading Schedule (g.R.Read.remaining c.args.input) schedule_fault _ c.in_err-text.ensures.refused)
+    told_so c.from_residual.result _ _ c.from_residual.ensures.1 (told-read Schedule (g.R.Read.remaining c.args.input) schedule_fault _ c.in_err-text.ensures.refused)
 
 pub returns-in_err-write_out-clause-refused : goal.returns-in_err-write_out-clause-refused
 returns-in_err-write_out-clause-refused g c =

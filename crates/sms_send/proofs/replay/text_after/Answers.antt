@@ -1,7 +1,7 @@
 use Rattle.std.proofs.Common.{◌∙◌, ap, List}
 use Rattle.std.proofs.lemmas.Result.{IfOk-weaker}
 use Rattle.sms_core.specs.declared.event.Step.{Step}
-use Rattle.sms_send.specs.Text.{replay_text}
+use Rattle.sms_report.specs.ReplayText.{replay_text}
 use Rattle.sms_send.proofs.replay.text_after.Goals as goal
 
 pub returns : goal.returns

@@ -1,5 +1,5 @@
 use Rattle.std.proofs.Common.{◌≡◌, drop}
-use Rattle.sms_send.specs.Report.{some_unanswered}
+use Rattle.sms_report.specs.Report.{some_unanswered}
 use Rattle.sms_send.proofs.sender.is_some_open.Given as goal
 
 abbrev pub invariant-loop-end : goal.invariant-loop-end

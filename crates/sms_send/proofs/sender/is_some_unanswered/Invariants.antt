@@ -1,5 +1,5 @@
 use Rattle.std.proofs.Common.{◌≡◌, drop}
-use Rattle.sms_send.specs.Report.{has_unanswered}
+use Rattle.sms_report.specs.Report.{has_unanswered}
 use Rattle.sms_send.proofs.sender.is_some_unanswered.Given as goal
 
 abbrev pub invariant-loop-segment : goal.invariant-loop-segment

@@ -5,11 +5,11 @@ use Rattle.sms_book.specs.Tariffs.{Price}
 use Rattle.sms_book.specs.declared.opening.Opening.{Opening}
 use Rattle.sms_worker.specs.EndOf.{IsEndOf}
 use Rattle.sms_worker.specs.declared.message.Message.{Message}
-use Rattle.sms_send.specs.BindEnds.{AreBinds}
-use Rattle.sms_send.specs.SendFaults.{IsFaultOfOne}
+use Rattle.sms_driver.specs.BindEnds.{AreBinds}
+use Rattle.sms_driver.specs.SendFaults.{IsFaultOfOne}
 use Rattle.sms_send.specs.Sent.{IsRulesOf}
-use Rattle.sms_send.specs.Statements.{AreRows}
-use Rattle.sms_send.specs.declared.config.Config.{Config}
+use Rattle.sms_driver.specs.Statements.{AreRows}
+use Rattle.sms_files.specs.declared.config.Config.{Config}
 use Rattle.sms_send.proofs.sender.send_all.Goals as goal
 
 pub returns-clause-sent : goal.returns-clause-sent

@@ -78,5 +78,5 @@ returns-clause-slots g c = c.draw.ensures.slots
 
 pub returns-clause-tried : goal.returns-clause-tried
 returns-clause-tried g c part carried =
-    is_sent c.args.desk.now.rules.now c.args.message.now part c.args.seat.now.view c.draw.new.seat.view c.in-Drawn.number c.in-Some.frame c.in-Some-post_and_send.sent c.args.attempts.now.items c.reserve.new.self.items c.push_reserved.new.self.items
+    is_sent c.args.context.now.rules.now c.args.message.now part c.args.seat.now.view c.draw.new.seat.view c.in-Drawn.number c.in-Some.frame c.in-Some-post_and_send.sent c.args.attempts.now.items c.reserve.new.self.items c.push_reserved.new.self.items
     c.in-Drawn.ensures.drawn c.reserve.ensures.items c.push_reserved.ensures.items c.in-Some-post_and_send.ensures (c.in-Some.ensures part carried)

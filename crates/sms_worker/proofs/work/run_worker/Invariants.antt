@@ -4,7 +4,7 @@ use Rattle.sms_worker.proofs.work.run_worker.Given as goal
 abbrev pub ghosts-work : goal.ghosts-work
 ghosts-work g a = record {
   start = record {
-    rules = a.desk.now.rules.now;
+    rules = a.context.now.rules.now;
     messages = a.messages.items;
     seat = a.worker.seat;
     share = a.worker.shares;

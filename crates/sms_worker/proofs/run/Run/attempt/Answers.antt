@@ -50,11 +50,11 @@ invariant_of-self-2 g c =
     let was = c.into_vec-attempts.ensures in
     let now = c.new.ensures in
     let tries = c.start-tried.ensures.tried part.part part.carried in
-    let tried = subst (λ (l : List Attempt). Tries c.args.desk.now.rules.now c.index-message.result.now part.part c.self.inside.seat.view s.attempts c.start-tried.result c.start-tried.new.seat.view l) (sym now)
-    (subst (λ (l : List Attempt). Tries c.args.desk.now.rules.now c.index-message.result.now part.part c.self.inside.seat.view l c.start-tried.result c.start-tried.new.seat.view c.start-tried.new.attempts.items) was tries) in
+    let tried = subst (λ (l : List Attempt). Tries c.args.context.now.rules.now c.index-message.result.now part.part c.self.inside.seat.view s.attempts c.start-tried.result c.start-tried.new.seat.view l) (sym now)
+    (subst (λ (l : List Attempt). Tries c.args.context.now.rules.now c.index-message.result.now part.part c.self.inside.seat.view l c.start-tried.result c.start-tried.new.seat.view c.start-tried.new.attempts.items) was tries) in
     let slots = c.start-tried.ensures.open g.C.Call.start.seat.view.slots i.keeps.slots in
     record {
-      keeps = keeps_tried _ c.args.desk.now.rules.now _ _ _ _ _ c.start-tried.new.opened.items _ c.start-tried.new.seat _ _ k p c.index-message.result.now part.part s s' c.start-tried.result i.keeps c.requires.rules there part.there at waits tried refl refl c.start-tried.ensures.window slots is long;
+      keeps = keeps_tried _ c.args.context.now.rules.now _ _ _ _ _ c.start-tried.new.opened.items _ c.start-tried.new.seat _ _ k p c.index-message.result.now part.part s s' c.start-tried.result i.keeps c.requires.rules there part.there at waits tried refl refl c.start-tried.ensures.window slots is long;
       ends_fit = (let r = i.ends_fit in omega arith);
       texts_fit = i.texts_fit;
     }

@@ -43,7 +43,7 @@ settle-requires g c a acc =
     let at = c.in-Some.ensures.out.0 in
     let r = c.answer-segment.result.0 in
     let d = c.in-Some-decision.decision in
-    let found : Answers c.args.desk.now.rules.now.policy.attempts s c.args.reply d r = search rules in
+    let found : Answers c.args.context.now.rules.now.policy.attempts s c.args.reply d r = search rules in
     let answered = subst (λ (x : Rules). Answers x.policy.attempts s c.args.reply d r) c.requires.rules found in
     let fits = fits_there _ _ _ _ _ _ _ _ _ _ c.index-message.result.now s i.keeps there at answered.hears.open_yet a acc in
     let cost = ap (λ (x : SegmentEnd). x.cost) answered.hears.after in
@@ -63,7 +63,7 @@ invariant_of-self-2 g c =
     let at = c.in-Some.ensures.out.0 in
     let r = c.answer-segment.result.0 in
     let d = c.in-Some-decision.decision in
-    let found : Answers c.args.desk.now.rules.now.policy.attempts s c.args.reply d r = search rules in
+    let found : Answers c.args.context.now.rules.now.policy.attempts s c.args.reply d r = search rules in
     let answered = subst (λ (x : Rules). Answers x.policy.attempts s c.args.reply d r) c.requires.rules found in
     let s' : SegmentEnd = record { cost = r.cost; attempts = r.attempts; outcome = c.outcome_of-outcome.result } in
     let made : s' ≡ record r { outcome = outcome_after d } = ap (λ o. record r { outcome = o }) c.outcome_of-outcome.ensures in

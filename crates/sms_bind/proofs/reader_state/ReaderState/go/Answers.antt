@@ -1,0 +1,28 @@
+use Rattle.std.proofs.Common.{◌≡◌, [], ◌∷◌, Option, map, refl, ap, sym, ◌∙◌, append-nil, subst, rules}
+use Rattle.rtrb.specs.Ring.{sent}
+use Rattle.sms_pdu.specs.Header.{header_at_front}
+use Rattle.sms_session.specs.Session.{on_table}
+use Rattle.sms_slot.specs.Rings.{handed}
+use Rattle.sms_bind.specs.declared.ending.ReaderCause.{ReaderCause}
+use Rattle.sms_bind.specs.Deeds.{Reaches, tally, entry, cause_after, broken_at}
+use Rattle.sms_bind.proofs.Tables.{next_same}
+use Rattle.sms_bind.proofs.Logs.{reached, broke}
+use Rattle.sms_bind.proofs.reader_state.ReaderState.go.Goals as goal
+
+pub returns-clause-worked : goal.returns-clause-worked
+returns-clause-worked g c =
+    let deed = c.work-deed.result in
+    let s = c.args.self.now.session in
+    let t = (on_table s (header_at_front c.args.frame.now)).1 in
+    let next = next_same s (header_at_front c.args.frame.now) in
+    let end : cause_after deed t ≡ c.cause_of.result = search rules in
+    record {
+      deeds = deed ∷ [];
+      each = (c.work-deed.ensures.suits, tt);
+      reaches = subst (λ (e : Option ReaderCause). Reaches e s t) end (reached s t deed next);
+      breaks = broke s t deed next ∙ ap broken_at end;
+      rings = c.work-deed.ensures.rings;
+      sends = c.work-deed.ensures.sends ∙ ap (handed (map sent c.args.self.now.producers.items)) (sym (append-nil (entry deed)));
+      counts = c.add.ensures.tally ∙ ap (λ k. tally k deed) c.work-deed.ensures.counts;
+      follows = (c.work-deed.new.self.follower, c.work-deed.ensures.follow, refl);
+    }

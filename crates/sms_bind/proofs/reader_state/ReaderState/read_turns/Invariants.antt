@@ -1,0 +1,22 @@
+use Rattle.std.proofs.Common.{◌≡◌, ◌+◌, ◌*◌, ◌≤◌, length, None}
+use Rattle.sms_pdu.specs.Frame.{IsBad}
+use Rattle.sms_pdu.specs.Streams.{Reads, going}
+use Rattle.sms_bind.specs.Deeds.{IsWithin}
+use Rattle.sms_bind.specs.Devices.{device, faults_of}
+use Rattle.sms_bind.specs.Follows.{Follows}
+use Rattle.sms_bind.specs.ReaderStates.{Worked}
+use Rattle.sms_bind.specs.Turns.{Turned}
+use Rattle.sms_bind.proofs.reader_state.ReaderState.read_turns.Given as goal
+
+abbrev pub invariant-loop-turn : goal.invariant-loop-turn
+invariant-loop-turn g l = record {
+  follows : Follows l.fn.self.follower l.self.follower;
+  same : l.self.session ≡ l.fn.self.session;
+  within : IsWithin l.self.counts;
+  reads : Reads (Worked l.fn.self.session None l.fn.self l.self) l.fn.held.items (g.R.Read.remaining (device l.fn.reader)) (g.R.Read.remaining (device l.reader)) going l.held.items;
+  turned : Turned l._turn (Unit {0}) (g.R.Read.remaining (device l.fn.reader)) (g.R.Read.remaining (device l.reader)) (faults_of l.fn.reader) (faults_of l.reader);
+  faults : faults_of l.fn.reader ≤ faults_of l.reader;
+  piece : length l.piece.items ≡ 65536;
+  good : ¬ IsBad l.held.items;
+  room : l.self.counts.frames + length l.held.items ≤ l.fn.self.counts.frames + 70000 + 65536 * l._turn;
+}

@@ -1,0 +1,132 @@
+//! What the reader works with, and what it does with one frame.
+
+ghost use Rattle.std.specs.Prelude.{◌≡◌, ◌≢◌, ◌+◌, ◌<◌, ◌^◌, ◌∷◌, [], map, None, Some, IfSome};
+ghost use Rattle.std.specs.List.{AllZip};
+ghost use Rattle.rtrb.specs.Ring.{sent, SameProducer};
+ghost use Rattle.sms_pdu.specs.Header.{header_at_front};
+ghost use Rattle.sms_pdu.specs.Frame.{IsFrame};
+ghost use Rattle.sms_pdu.specs.Streams.{early};
+ghost use Rattle.sms_session.specs.Session.{IsBound, on_table};
+ghost use Rattle.sms_slot.specs.Rings.{handed};
+ghost use Rattle.sms_bind.specs.Deeds.{Suits, Follow, Responded, entry, stretch_of, IsWithin};
+ghost use Rattle.sms_bind.specs.Follows.{Follows};
+ghost use Rattle.sms_bind.specs.ReaderStates.{Worked};
+ghost use Rattle.sms_bind.specs.declared.deed.Deed.TheVariants.{Brought};
+ghost use Rattle.sms_bind.specs.declared.ending.ReaderCause.TheVariants.{OutOfMemory};
+
+use crate::counts::Counts;
+use crate::deed::{Deed, cause_of};
+use crate::ending::ReaderCause;
+use crate::follower::Follower;
+use crate::line::Line;
+use crate::replying::reply;
+use rtrb::Producer;
+use sms_pdu::{Reply, frame_header, reply_of};
+use sms_session::{Action, Response, Session};
+use sms_slot::Search;
+use sms_window::Window;
+use std::alloc::Global;
+use std::io::Write;
+use std::sync::Wait;
+
+/// The session, the rings of the workers, what was counted, and the seat that follows.
+#[derive(Drop)]
+pub(crate) struct ReaderState {
+    pub session: Session,
+    pub producers: Vec<Producer<Reply>>,
+    pub counts: Counts,
+    pub follower: Follower,
+}
+
+impl ReaderState {
+    /// Works a frame and counts it. Gives why the reader ends, if it does.
+    pub fn go<W: Write, S: Wait>(
+        &mut self,
+        rt: &S,
+        alloc: Global,
+        line: &Line<W>,
+        window: &Window,
+        frame: &[u8],
+    ) -> Option<ReaderCause>
+        requires bound { IsBound self.old.session }
+        requires own { self.old.follower.now.window ≡ window.now }
+        requires frame { IsFrame frame.now }
+        requires within { IsWithin self.old.counts }
+        requires room { self.old.counts.frames + 1 < 2 ^ 64 }
+        ensures follows { Follows self.old.follower self.new.follower }
+        ensures worked { Worked self.old.session result self.old self.new (frame.now ∷ []) }
+        ensures within { IsWithin self.new.counts }
+        ensures frames { self.new.counts.frames ≡ self.old.counts.frames + 1 }
+        ensures going { result ≡ None → self.new.session ≡ self.old.session }
+        ensures early { IfSome result (λ c. stretch_of (Some c) ≡ early) }
+        ensures full { result ≢ Some OutOfMemory }
+    {
+        let deed = self.work(rt, alloc, line, window, frame);
+        self.counts.add(&deed);
+        cause_of(&deed, self.session.state())
+    }
+
+    /// Does what the session's table asks for.
+    fn work<W: Write, S: Wait>(
+        &mut self,
+        rt: &S,
+        alloc: Global,
+        line: &Line<W>,
+        window: &Window,
+        frame: &[u8],
+    ) -> Deed
+        requires bound { IsBound self.old.session }
+        requires own { self.old.follower.now.window ≡ window.now }
+        requires frame { IsFrame frame.now }
+        ensures follows { Follows self.old.follower self.new.follower }
+        ensures follow { Follow result self.old.follower self.new.follower }
+        ensures suits { Suits self.old.session frame.now result }
+        ensures rings { AllZip SameProducer self.old.producers.items self.new.producers.items }
+        ensures sends { map sent self.new.producers.items ≡ handed (map sent self.old.producers.items) (entry result) }
+        ensures counts { self.new.counts ≡ self.old.counts }
+        ensures session { self.new.session ≡ (on_table self.old.session (header_at_front frame.now)).1 }
+    {
+        match self.session.on(&frame_header(frame)) {
+            Action::Answer => {
+                let Some(answer) = reply_of(frame) else {
+                    unreachable!()
+                };
+                let search = line.slots.answer(rt, answer, self.producers.as_mut_slice());
+                self.follow(window, &answer, search);
+                Deed::Brought {
+                    reply: answer,
+                    search,
+                }
+            }
+            Action::Reply(response) => respond(rt, alloc, line, response),
+            Action::ReplyClose(response) => respond(rt, alloc, line, response),
+            Action::Note => Deed::Noted,
+            Action::Close => Deed::Closed,
+            Action::Drop => Deed::Closed,
+        }
+    }
+
+    /// Takes note of an answer that was handed on.
+    fn follow(&mut self, window: &Window, reply: &Reply, search: Search)
+        requires own { self.old.follower.now.window ≡ window.now }
+        ensures follows { Follows self.old.follower self.new.follower }
+        ensures follow { Follow (Brought reply.now search) self.old.follower self.new.follower }
+        ensures same { (self.new.session ≡ self.old.session) × (self.new.producers ≡ self.old.producers) × (self.new.counts ≡ self.old.counts) }
+    {
+        match search {
+            Search::Found { slot: _, worker: _ } => self.follower.note(window, reply),
+            Search::Overrun { slot: _, worker: _ } => {}
+            Search::Unknown => {}
+        }
+    }
+}
+
+/// Writes a response to a request.
+fn respond<W: Write, S: Wait>(rt: &S, alloc: Global, line: &Line<W>, response: Response) -> Deed
+    ensures { Responded response result }
+{
+    Deed::Replied {
+        response,
+        written: reply(rt, alloc, line, &response),
+    }
+}

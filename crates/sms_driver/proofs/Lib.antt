@@ -1,0 +1,10 @@
+pub mod Conclusions
+pub mod Dealings
+pub mod Heads
+pub mod Joins
+pub mod Moves
+pub mod Returning
+pub mod Sums
+pub mod Takes
+pub mod Telling
+pub mod Windows

@@ -1,0 +1,6 @@
+use Rattle.std.proofs.Common.{◌≡◌, ◌++◌, map, Ok}
+use Rattle.std.specs.Vec.Iter.{into_iter_items}
+use Rattle.sms_driver.proofs.ending.all_done.Given as goal
+
+abbrev pub invariant-loop-worker_result : goal.invariant-loop-worker_result
+invariant-loop-worker_result g l = map (λ d. Ok d) l.done.items ++ into_iter_items l.worker_result-iterator ≡ l.fn.worker_results.items

@@ -1,0 +1,32 @@
+use Rattle.std.proofs.Common.{rules, arith, ap, refl, length}
+use Rattle.sms_driver.specs.BindEnds.{IsBindEnd, IsTried}
+use Rattle.sms_driver.proofs.Returning.{firsts, same_length, first_windows, first_holds, more_hold}
+use Rattle.sms_driver.proofs.leaving.close_all.Goals as goal
+
+pub take_first-reader-requires : goal.take_first-reader-requires
+take_first-reader-requires g c =
+    let long = same_length (λ d. d.seat.window) (λ b. b.window) c.loop-shared.readers.items _ c.loop-shared.invariant.readers in
+    let more = ap length c.in-Some.ensures.steps.0 in
+    omega arith
+
+pub take_first-driver_seat-requires : goal.take_first-driver_seat-requires
+take_first-driver_seat-requires g c =
+    let long = same_length (λ s. s.seat.window) (λ b. b.window) c.loop-shared.driver_seats.items _ c.loop-shared.invariant.driver_seats in
+    let more = ap length c.in-Some.ensures.steps.0 in
+    omega arith
+
+pub loop-shared-preserved : goal.loop-shared-preserved
+loop-shared-preserved g c =
+    let i = c.loop-shared.invariant in
+    let steps = c.in-Some.ensures.steps.0 in
+    let readers = firsts (λ d. d.seat.window) (λ b. b.window) c.loop-shared.readers.items c.take_first-reader.new.queue.items _ _ c.take_first-reader.result c.in-Some.shared c.take_first-reader.ensures steps i.readers in
+    let driver_seats = firsts (λ s. s.seat.window) (λ b. b.window) c.loop-shared.driver_seats.items c.take_first-driver_seat.new.queue.items _ _ c.take_first-driver_seat.result c.in-Some.shared c.take_first-driver_seat.ensures steps i.driver_seats in
+    let tried = first_holds (λ s. IsTried s.unbinding) c.loop-shared.driver_seats.items c.take_first-driver_seat.new.queue.items c.take_first-driver_seat.result c.take_first-driver_seat.ensures i.tried in
+    record {
+      readers = readers.1;
+      driver_seats = driver_seats.1;
+      tried = tried.1;
+      seats = c.close_one.ensures _ (first_windows (λ s. s.window) (λ b. b.window) c.args.left.workers c.loop-shared.seats.items _ _ c.in-Some.shared steps i.seats);
+      each = search rules;
+      ended = more_hold (IsBindEnd c.args.left.workers) c.loop-shared.ends.items _ _ c.in_ok-push.ensures.items i.ended (record { workers_are = refl; unbound = tried.0 });
+    }

@@ -1,0 +1,16 @@
+use Rattle.std.proofs.Common.{◌≡◌, ◌+◌, length, map}
+use Rattle.std.specs.List.{AllByRecursion}
+use Rattle.std.specs.Vec.Iter.{into_iter_items}
+use Rattle.sms_driver.specs.BindEnds.{IsBindEnd, IsTried}
+use Rattle.sms_driver.specs.Seated.{windows}
+use Rattle.sms_driver.proofs.leaving.close_all.Given as goal
+
+abbrev pub invariant-loop-shared : goal.invariant-loop-shared
+invariant-loop-shared g l = record {
+  readers : map (λ d. d.seat.window) l.readers.items ≡ map (λ b. b.window) (into_iter_items l.shared-iterator);
+  driver_seats : map (λ s. s.seat.window) l.driver_seats.items ≡ map (λ b. b.window) (into_iter_items l.shared-iterator);
+  tried : AllByRecursion (λ s. IsTried s.unbinding) l.driver_seats.items;
+  seats : map (λ s. s.window) l.seats.items ≡ windows l.workers (map (λ b. b.window) (into_iter_items l.shared-iterator));
+  each : length l.ends.items + length (into_iter_items l.shared-iterator) ≡ length l.fn.left.shared_binds.items;
+  ended : AllByRecursion (IsBindEnd l.workers) l.ends.items;
+}

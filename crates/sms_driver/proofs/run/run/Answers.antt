@@ -1,0 +1,70 @@
+use Rattle.std.proofs.Common.{◌≡◌, ◌*◌, ℕ, List, length, map, rules, arith, sym, ap, ◌∙◌, subst, inl, refl}
+use Rattle.std.specs.List.{AllZip}
+use Rattle.sms_book.specs.Name.{BookId}
+use Rattle.sms_book.specs.Portions.{row_at}
+use Rattle.sms_book.specs.Sums.{IsSumOf}
+use Rattle.sms_worker.specs.declared.rules.Rules.{Rules}
+use Rattle.sms_worker.specs.declared.ends.MessageEnd.{MessageEnd}
+use Rattle.sms_worker.specs.declared.work.WorkerEnd.{WorkerEnd}
+use Rattle.sms_driver.specs.Deals.{dealt}
+use Rattle.sms_driver.specs.Statements.{AreRows}
+use Rattle.sms_worker.specs.EndOf.{IsEndOf}
+use Rattle.sms_driver.proofs.Sums.{length-opening}
+use Rattle.sms_driver.proofs.Conclusions.{rows_of}
+use Rattle.sms_driver.proofs.Telling.{told_so}
+use Rattle.sms_driver.proofs.run.run.Goals as goal
+
+pub deal_out-requires-clause-shares : goal.deal_out-requires-clause-shares
+deal_out-requires-clause-shares g c =
+    (search rules) ∙ ap length c.in-Ok.ensures.shares ∙ length-opening c.args.blank.book.accounts c.args.blank.book.workers ∙ ap (λ (b : BookId). b.workers) c.requires.name
+
+pub send_over-requires-clause-count : goal.send_over-requires-clause-count
+send_over-requires-clause-count g c lives held =
+    let slice : length c.as_slice-2.result.now ≡ length c.in_ok-made.made.shared_binds.items = search rules in
+    let shared_binds = slice ∙ c.in_ok-made.ensures.long ∙ c.in_ok-rings.ensures.binds in
+    ap (λ (b : BookId). b.workers) (sym c.requires.name) ∙ c.requires.count.1 ∙ ap (λ n. n * c.args.workers) (sym shared_binds)
+
+pub conclude-requires-clause-dealt : goal.conclude-requires-clause-dealt
+conclude-requires-clause-dealt g c =
+    let ms = c.args.messages.items in
+    let s = c.in_ok-over.ensures.settled ms c.in_ok-batches.ensures.dealt in
+    let count : c.len-count.result ≡ length ms = omega (arith, c.len-count.ensures) in
+    (s.es, s.long ∙ sym count, s.dealt_is ∙ ap (λ n. dealt n 0 s.es) (sym c.in_ok-over.ensures.all))
+
+pub conclude-requires-clause-shares : goal.conclude-requires-clause-shares
+conclude-requires-clause-shares g c = (c.in_ok-over.ensures.settled c.args.messages.items c.in_ok-batches.ensures.dealt).all
+
+pub returns-clause-ends : goal.returns-clause-ends
+returns-clause-ends g c =
+    let rules : Rules = c.args.rules.now in
+    let ms = c.args.messages.items in
+    let s = c.in_ok-over.ensures.settled ms c.in_ok-batches.ensures.dealt in
+    let accounts : g.N.BookName.book.accounts ≡ c.args.blank.book.accounts = ap (λ (b : BookId). b.accounts) (sym c.requires.name) in
+    let count : c.len-count.result ≡ length ms = omega (arith, c.len-count.ensures) in
+    let all : map (λ (d : WorkerEnd g.row.N.Denot). d.ends.items) c.in_ok-over.over.done.items ≡ dealt (length c.in_ok-over.over.done.items) 0 s.es = s.dealt_is ∙ ap (λ n. dealt n 0 s.es) (sym c.in_ok-over.ensures.all) in
+    let e = c.in_ok-ended.ensures.ends s.es (s.long ∙ sym count) all in
+    subst (λ (n : ℕ). AllZip (IsEndOf rules n) ms c.in_ok-ended.ended.ends.items) accounts (subst (AllZip (IsEndOf rules g.N.BookName.book.accounts) ms) (sym e) s.ends)
+
+pub returns-clause-rows : goal.returns-clause-rows
+returns-clause-rows g c =
+    let ms = c.args.messages.items in
+    let opened = c.args.blank.credits in
+    let s = c.in_ok-over.ensures.settled ms c.in_ok-batches.ensures.dealt in
+    let accounts : g.N.BookName.book.accounts ≡ length opened = ap (λ (b : BookId). b.accounts) (sym c.requires.name) ∙ sym c.requires.accounts in
+    let count : c.len-count.result ≡ length ms = omega (arith, c.len-count.ensures) in
+    let shares = map (λ (d : WorkerEnd g.row.N.Denot). d.shares) c.in_ok-over.over.done.items in
+    let all : map (λ (d : WorkerEnd g.row.N.Denot). d.ends.items) c.in_ok-over.over.done.items ≡ dealt (length c.in_ok-over.over.done.items) 0 s.es = s.dealt_is ∙ ap (λ n. dealt n 0 s.es) (sym c.in_ok-over.ensures.all) in
+    let rows = c.in_ok-ended.ended.statement in
+    let e = c.in_ok-ended.ensures.ends s.es (s.long ∙ sym count) all in
+    subst (λ (x : List MessageEnd). AreRows opened ms x rows) (sym e)
+    (rows_of opened ms s.es shares rows s.sums (c.in_ok-ended.ensures.accounts ∙ accounts)
+    (λ i low. subst (λ (t : List ℕ). IsSumOf (row_at rows i) i t shares) c.in-Ok.ensures.till (c.in_ok-ended.ensures.sums i low)))
+
+pub returns-in_err-batches-clause-refused : goal.returns-in_err-batches-clause-refused
+returns-in_err-batches-clause-refused g c = told_so c.from_residual.result _ _ c.from_residual.ensures.1 (inl (inl refl))
+
+pub returns-in_err-rings-clause-refused : goal.returns-in_err-rings-clause-refused
+returns-in_err-rings-clause-refused g c = told_so c.from_residual-in_err-rings.result _ _ c.from_residual-in_err-rings.ensures.1 (inl (inl refl))
+
+pub returns-in_err-ended-clause-refused : goal.returns-in_err-ended-clause-refused
+returns-in_err-ended-clause-refused g c = told_so c.from_residual-in_err-ended.result _ _ c.from_residual-in_err-ended.ensures.1 (inl (inl refl))

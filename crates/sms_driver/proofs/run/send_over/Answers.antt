@@ -1,0 +1,88 @@
+use Rattle.std.proofs.Common.{◌≡◌, length, map, sym, ap, ◌∙◌, subst}
+use Rattle.std.specs.List.{AllZip}
+use Rattle.atomic_table.specs.Seated.{TableId}
+use Rattle.sms_driver.proofs.Sums.{length-opening}
+use Rattle.sms_worker.specs.declared.rules.Rules.{Rules}
+use Rattle.sms_worker.specs.declared.work.WorkerEnd.{WorkerEnd}
+use Rattle.sms_driver.specs.declared.task.Assignment.{Assignment}
+use Rattle.sms_driver.specs.declared.task.WorkerTask.{WorkerTask}
+use Rattle.sms_driver.specs.Worked.{IsResultOf, IsWorkOf}
+use Rattle.std.proofs.lemmas.List.{length-map}
+use Rattle.sms_driver.proofs.Joins.{all_ok}
+use Rattle.sms_driver.proofs.Returning.{kept_windows}
+use Rattle.sms_driver.proofs.Conclusions.{all_settled, all_back, map_map, zip_to}
+use Rattle.sms_driver.proofs.run.send_over.Goals as goal
+
+pub make_ready-requires-clause-shares : goal.make_ready-requires-clause-shares
+make_ready-requires-clause-shares g c = ap length c.requires.shares ∙ length-opening g.N.BookName.book.accounts g.N.BookName.book.workers ∙ c.requires.count
+
+pub make_ready-requires-clause-batches : goal.make_ready-requires-clause-batches
+make_ready-requires-clause-batches g c = c.requires.batches ∙ sym (ap length c.requires.shares ∙ length-opening g.N.BookName.book.accounts g.N.BookName.book.workers)
+
+pub returns-clause-all : goal.returns-clause-all
+returns-clause-all g c =
+    let w = g.N.BookName.book.workers in
+    let rules : Rules = c.args.rules.now in
+    let n : length c.args.shares.items ≡ w = ap length c.requires.shares ∙ length-opening g.N.BookName.book.accounts w in
+    let k : length c.in-Ok.ready.tasks.items ≡ w = sym (length-map c.in-Ok.ready.tasks.items (λ (t : WorkerTask g.row.N.Denot g.row.W.Denot). t.assignment.worker.shares)) ∙ ap length c.in-Ok.ensures.shares ∙ n in
+    all_back
+    (λ (t : WorkerTask g.row.N.Denot g.row.W.Denot). t.assignment)
+    (IsWorkOf rules)
+    (λ j e. e.1.seat.window ≡ j.worker.seat.window)
+    c.in-Ok.ready.tasks.items
+    c.in_ok-done.done.items
+    c.in_ok-returned.returned.worker_results.items
+    c.in_ok-returned.ensures.returned.results
+    c.in_ok-done.ensures
+    ∙ k
+
+pub returns-clause-settled : goal.returns-clause-settled
+returns-clause-settled g c ms batches =
+    let rules : Rules = c.args.rules.now in
+    let w = g.N.BookName.book.workers in
+    let accounts = g.N.BookName.book.accounts in
+    all_settled
+    (λ (j : Assignment g.row.N.Denot). j.worker.shares)
+    (λ (j : Assignment g.row.N.Denot). j.messages.items)
+    (λ (d : WorkerEnd g.row.N.Denot). d.shares)
+    (λ (d : WorkerEnd g.row.N.Denot). d.ends.items)
+    rules
+    (λ (t : WorkerTask g.row.N.Denot g.row.W.Denot). t.assignment)
+    (IsWorkOf rules)
+    (λ j e. e.1.seat.window ≡ j.worker.seat.window)
+    (λ t d w. (w.worked, w.number))
+    accounts
+    w
+    ms
+    c.in-Ok.ready.tasks.items
+    c.in_ok-done.done.items
+    c.in_ok-returned.returned.worker_results.items
+    c.requires.some
+    (c.in-Ok.ensures.messages ∙ batches)
+    (c.in-Ok.ensures.shares ∙ c.requires.shares)
+    c.in_ok-returned.ensures.returned.results
+    c.in_ok-done.ensures
+
+pub returns-clause-seats : goal.returns-clause-seats
+returns-clause-seats g c =
+    let rules : Rules = c.args.rules.now in
+    let assignment = λ (t : WorkerTask g.row.N.Denot g.row.W.Denot). t.assignment in
+    let given : Assignment g.row.N.Denot → TableId = λ j. j.worker.seat.window in
+    let back : WorkerEnd g.row.N.Denot → TableId = λ d. d.seat.window in
+    let bs = c.in_ok-returned.returned.worker_results.items in
+    let is = c.in_ok-done.ensures in
+    kept_windows given back (map assignment c.in-Ok.ready.tasks.items) c.in_ok-done.done.items
+    (zip_to
+    (IsWorkOf rules)
+    (λ j d. back d ≡ given j)
+    (λ j d w. w.window)
+    (map assignment c.in-Ok.ready.tasks.items)
+    c.in_ok-done.done.items
+    (all_ok
+    (IsWorkOf rules)
+    (λ j e. e.1.seat.window ≡ j.worker.seat.window)
+    (map assignment c.in-Ok.ready.tasks.items)
+    c.in_ok-done.done.items
+    (subst (AllZip (IsResultOf rules) (map assignment c.in-Ok.ready.tasks.items)) (sym is) c.in_ok-returned.ensures.returned.results)))
+    ∙ map_map assignment given c.in-Ok.ready.tasks.items
+    ∙ c.in-Ok.ensures.windows

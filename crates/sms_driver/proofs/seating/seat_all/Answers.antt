@@ -1,0 +1,57 @@
+use Rattle.std.proofs.Common.{◌≡◌, ◌+◌, ◌*◌, [], ◌∷◌, ◌++◌, length, map, rules, arith, sym, ap, ◌∙◌, subst}
+use Rattle.std.specs.List.{AllByRecursion, AllZip}
+use Rattle.sms_pdu.proofs.Fronts.{AllByRecursion-append}
+use Rattle.sms_driver.specs.Seated.{IsSeated}
+use Rattle.sms_driver.proofs.Heads.{first_seated, none_seated}
+use Rattle.sms_driver.proofs.Windows.{map_more}
+use Rattle.sms_driver.proofs.Returning.{bound_seats, workers_more, keeper_more, workers_all, keepers_all}
+use Rattle.sms_driver.proofs.seating.seat_all.Goals as goal
+
+pub loop-bind-init : goal.loop-bind-init
+loop-bind-init g c = record {
+  bind_parts = subst (AllZip (IsSeated c.args.workers) c.args.shared_binds.now) (sym c.from-bind_parts.ensures.0) c.requires.bind_parts;
+  places = search rules;
+  reader_tasks = search rules;
+  windows = search rules;
+  keepers = search rules;
+  long = search rules;
+}
+
+pub unreachable-requires : goal.unreachable-requires
+unreachable-requires g c = let e = rw c.in_default.is at c.pop_front.ensures.cases in none_seated c.args.workers c.loop-bind.bind c.args.shared_binds.now c.loop-bind.bind_parts.items (search rules) (grind rules) c.loop-bind.invariant.bind_parts
+
+pub seat_workers-requires-clause-seats : goal.seat_workers-requires-clause-seats
+seat_workers-requires-clause-seats g c =
+    let f = first_seated c.args.workers c.loop-bind.bind c.args.shared_binds.now c.index-shared_binds-bind.result c.loop-bind.bind_parts.items c.in-Some.parts c.pop_front.new.self.items (search rules) c.in-Some.ensures.items c.index-shared_binds-bind.is c.loop-bind.invariant.bind_parts in
+    f.0.seats
+
+pub seat_workers-requires-clause-consumers : goal.seat_workers-requires-clause-consumers
+seat_workers-requires-clause-consumers g c =
+    let f = first_seated c.args.workers c.loop-bind.bind c.args.shared_binds.now c.index-shared_binds-bind.result c.loop-bind.bind_parts.items c.in-Some.parts c.pop_front.new.self.items (search rules) c.in-Some.ensures.items c.index-shared_binds-bind.is c.loop-bind.invariant.bind_parts in
+    f.0.rings ∙ sym f.0.all
+
+pub loop-bind-preserved : goal.loop-bind-preserved
+loop-bind-preserved g c =
+    let f = first_seated c.args.workers c.loop-bind.bind c.args.shared_binds.now c.index-shared_binds-bind.result c.loop-bind.bind_parts.items c.in-Some.parts c.pop_front.new.self.items (search rules) c.in-Some.ensures.items c.index-shared_binds-bind.is c.loop-bind.invariant.bind_parts in
+    let i = c.loop-bind.invariant in
+    record {
+      bind_parts = f.1;
+      places = search rules;
+      reader_tasks = subst (AllByRecursion (λ t. t.seat.window ≡ t.window.now)) (sym c.in_ok-push.ensures.items) (AllByRecursion-append (λ t. t.seat.window ≡ t.window.now) c.loop-bind.reader_tasks.items (_ ∷ []) i.reader_tasks (f.0.keeper, tt));
+      windows = workers_more (λ b. b.window) c.args.workers c.loop-bind.bind c.args.shared_binds.now c.index-shared_binds-bind.result _ _ _ _ (search rules) c.index-shared_binds-bind.is c.in_ok-seat_workers.ensures.windows (bound_seats (λ s. s.window) _ c.args.workers c.in-Some.parts.seats.items f.0.seats f.0.all) i.windows;
+      keepers = keeper_more (λ b. b.window) c.args.workers c.loop-bind.bind c.args.shared_binds.now c.index-shared_binds-bind.result _ _ _ (search rules) c.index-shared_binds-bind.is
+          (ap (map (λ t. t.seat.window)) c.in_ok-push.ensures.items ∙ map_more (λ t. t.seat.window) c.loop-bind.reader_tasks.items _ ∙ ap (λ w. map (λ t. t.seat.window) c.loop-bind.reader_tasks.items ++ w ∷ []) f.0.keeper)
+          i.keepers;
+      long = let n = c.in_ok-seat_workers.ensures.long in let a = f.0.all in let l = i.long in n ∙ (λ j. l j + a j) ∙ (omega arith);
+    }
+
+pub returns-clause-long : goal.returns-clause-long
+returns-clause-long g c =
+    let e : c.loop-bind.bind ≡ length c.args.shared_binds.now = search rules in
+    c.loop-bind.invariant.long ∙ ap (λ n. n * c.args.workers) e
+
+pub returns-clause-windows : goal.returns-clause-windows
+returns-clause-windows g c = workers_all (λ b. b.window) c.args.workers c.loop-bind.bind c.args.shared_binds.now _ _ (search rules) c.loop-bind.invariant.windows
+
+pub returns-clause-keepers : goal.returns-clause-keepers
+returns-clause-keepers g c = keepers_all (λ b. b.window) c.args.workers c.loop-bind.bind c.args.shared_binds.now _ _ (search rules) c.loop-bind.invariant.keepers

@@ -1,0 +1,14 @@
+use Rattle.std.proofs.Common.{◌≡◌, ◌*◌, ◌++◌, length, map, drop}
+use Rattle.std.specs.List.{AllByRecursion, AllZip}
+use Rattle.sms_driver.specs.Seated.{IsSeated, windows}
+use Rattle.sms_driver.proofs.seating.seat_all.Given as goal
+
+abbrev pub invariant-loop-bind : goal.invariant-loop-bind
+invariant-loop-bind g l = record {
+  bind_parts : AllZip (IsSeated l.workers) (drop l.bind l.shared_binds) l.bind_parts.items;
+  places : AllByRecursion (λ p. p.seat.window ≡ p.window.now) l.places.items;
+  reader_tasks : AllByRecursion (λ t. t.seat.window ≡ t.window.now) l.reader_tasks.items;
+  windows : map (λ p. p.seat.window) l.places.items ++ windows l.workers (map (λ b. b.window) (drop l.bind l.shared_binds)) ≡ windows l.workers (map (λ b. b.window) l.shared_binds);
+  keepers : map (λ t. t.seat.window) l.reader_tasks.items ++ map (λ b. b.window) (drop l.bind l.shared_binds) ≡ map (λ b. b.window) l.shared_binds;
+  long : length l.places.items ≡ l.bind * l.workers;
+}

@@ -1,0 +1,27 @@
+-- What all workers together give back.
+use Rattle.std.specs.Prelude.{◌≡◌, ℕ, List, length}
+use Rattle.std.specs.List.{AllZip}
+use Rattle.sms_core.specs.Rows.{reserved_of, charged_of, returned_of}
+use Rattle.sms_book.specs.Shares.{Share, AreAll}
+use Rattle.sms_book.specs.Sums.{over_shares}
+use Rattle.sms_worker.specs.declared.message.Message.{Message}
+use Rattle.sms_worker.specs.declared.rules.Rules.{Rules}
+use Rattle.sms_worker.specs.declared.ends.MessageEnd.{MessageEnd}
+use Rattle.sms_worker.specs.Ends.{credits}
+use Rattle.sms_driver.specs.Deals.{dealt}
+use Rattle.sms_worker.specs.EndOf.{IsEndOf}
+
+-- the shares hold the sums over the ends
+pub record Summed (ms : List Message) (es : List MessageEnd) (shares : List Share) : Type 0 where
+  pub reserved : (i : ℕ) → over_shares (λ a. a.reserved) i shares ≡ credits reserved_of i ms es
+  pub charged : (i : ℕ) → over_shares (λ a. a.charged) i shares ≡ credits charged_of i ms es
+  pub returned : (i : ℕ) → over_shares (λ a. a.returned) i shares ≡ credits returned_of i ms es
+
+-- the ends are those of all messages, dealt out as they were, and the shares are all of the book's and hold their sums
+pub record AreSettled (rules : Rules) (accounts count : ℕ) (ms : List Message) (shares : List Share) (ess : List (List MessageEnd)) : Type 0 where
+  pub es : List MessageEnd
+  pub long : length es ≡ length ms
+  pub dealt_is : ess ≡ dealt count 0 es
+  pub ends : AllZip (IsEndOf rules accounts) ms es
+  pub sums : Summed ms es shares
+  pub all : AreAll count shares

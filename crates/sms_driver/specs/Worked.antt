@@ -1,0 +1,27 @@
+-- What a worker gives back.
+use Rattle.std.specs.Prelude.{◌≡◌, List, length, Result, MatchResult}
+use Rattle.std.specs.List.{AllZip}
+use Rattle.sms_book.specs.declared.amounts.Amounts.{Amounts}
+use Rattle.sms_worker.specs.declared.message.Message.{Message}
+use Rattle.sms_worker.specs.declared.rules.Rules.{Rules}
+use Rattle.sms_worker.specs.declared.ends.MessageEnd.{MessageEnd}
+use Rattle.sms_worker.specs.declared.work.Worker.{Worker}
+use Rattle.sms_worker.specs.declared.work.WorkerEnd.{WorkerEnd}
+use Rattle.sms_worker.specs.EndOf.{IsEndOf}
+use Rattle.sms_worker.specs.Told.{Grew}
+use Rattle.sms_driver.specs.declared.task.Assignment.{Assignment}
+
+-- its ends are its messages', and its share grew by them
+pub record Worked (rules : Rules) (old new : List Amounts) (ms : List Message) (es : List MessageEnd) : Type 0 where
+  pub ends : AllZip (IsEndOf rules (length old)) ms es
+  pub credits : Grew old new ms es
+
+-- the work of an assignment, by the same worker: its share has the same number, and its seat the same window
+pub record IsWorkOf {N : Type 0} (rules : Rules) (a : Assignment N) (d : WorkerEnd N) : Type 0 where
+  pub worked : Worked rules a.worker.shares.amounts d.shares.amounts a.messages.items d.ends.items
+  pub number : d.shares.number ≡ a.worker.shares.number
+  pub window : d.seat.window ≡ a.worker.seat.window
+
+-- what comes back of an assignment: its work, or where memory was refused a worker with the seat
+abbrev pub IsResultOf : {N E M : Type 0} → Rules → Assignment N → Result (WorkerEnd N) (E × Worker N × M) → Type 0
+IsResultOf rules a r = MatchResult r (IsWorkOf rules a) (λ e. e.1.seat.window ≡ a.worker.seat.window)

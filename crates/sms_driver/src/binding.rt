@@ -1,0 +1,325 @@
+//! How the binds are made, one after the other (SMPP 3.4 4.1).
+
+ghost use Rattle.std.specs.Prelude.{◌≡◌, ◌⊎◌, ℕ, ◌<◌, ◌≤◌, [], length, map, vec_capacity, Some, None, if◌then◌else◌, IfErr, IfOk, OnOk};
+ghost use Rattle.std.specs.List.{AllByRecursion, AllZip};
+ghost use Rattle.sms_core.specs.Limits.{most_slots};
+ghost use Rattle.sms_bind.specs.Devices.{device, writer};
+ghost use Rattle.sms_driver.specs.BindEnds.{HasBound};
+ghost use Rattle.sms_driver.specs.Seated.{IsSeated};
+ghost use Rattle.sms_driver.specs.SendFaults.{fault_in, DrewNone, HasFailed, IsFaultOf, IsFaultOfOne};
+ghost use Rattle.sms_driver.specs.declared.fault.BindFailure.TheVariants.{NoConnection};
+ghost use Rattle.sms_driver.specs.declared.fault.SendFault.TheVariants.{BindFailed};
+
+use crate::bind_end::Unbinding;
+use crate::fault::{BindFailure, SendFault};
+use crate::hanging_up::unbind_all;
+use crate::rings::Rings;
+use crate::seating::{BindParts, DriverSeat, SharedBind};
+use crate::seats::split_seats;
+use crate::threads::Following;
+use sms_bind::{BindFault, Bound, Line, Settings, Tap, Wire, bind};
+use sms_slot::SlotRow;
+use sms_window::{Window, WindowSeat};
+use sms_worker::{Number, draw};
+use std::alloc::Global;
+use std::io::{Read, Write};
+use std::sync::Wait;
+
+/// Where connections come from.
+pub trait Dial {
+    type Reader: Read + Send + Drop;
+
+    type Writer: Write + Send + Drop;
+
+    /// A connection for the bind with this place, counted from 0; none where there is no connection.
+    fn dial(&self, bind: u32) -> Option<(Self::Reader, Self::Writer)>;
+}
+
+/// What the binds of a sending have in common.
+#[derive(Drop)]
+pub struct BindSettings {
+    pub settings: Settings,
+    /// How many slots a window has, 1 to 64.
+    pub limit: u32,
+    /// Whether readers follow throttling.
+    pub follow: bool,
+}
+
+/// A bind that was made.
+#[derive(Drop)]
+struct Made<Rd, W> {
+    shared: SharedBind<W>,
+    parts: BindParts<Rd>,
+    driver_seat: DriverSeat,
+}
+
+/// All binds, each at its place in each list: what its threads share, what they are given, and the
+/// driver's own seat.
+#[derive(Drop)]
+pub(crate) struct Binds<Rd, W> {
+    pub shared_binds: Vec<SharedBind<W>>,
+    pub bind_parts: Vec<BindParts<Rd>>,
+    pub driver_seats: Vec<DriverSeat>,
+}
+
+/// A bind's fault, as the sending tells it.
+fn fault_of(bind: u32, fault: BindFault) -> SendFault
+    ensures told { result ≡ fault_in bind fault }
+    ensures bind { IsFaultOf bind result }
+{
+    match fault {
+        BindFault::Refused(status) => SendFault::BindRefused(bind, status),
+        BindFault::Closed => SendFault::BindFailed(bind, BindFailure::Closed),
+        BindFault::NotSmpp => SendFault::BindFailed(bind, BindFailure::NotSmpp),
+        BindFault::Read => SendFault::BindFailed(bind, BindFailure::Read),
+        BindFault::Write => SendFault::BindFailed(bind, BindFailure::Write),
+        BindFault::OutOfMemory => SendFault::OutOfMemory,
+    }
+}
+
+/// The window's limit for a reader that follows.
+fn following(bind_settings: &BindSettings) -> Following
+    requires limit { (1 ≤ bind_settings.now.limit) × (bind_settings.now.limit ≤ most_slots) }
+    ensures { result.limit ≡ (if bind_settings.now.follow then Some bind_settings.now.limit else None) }
+{
+    if bind_settings.follow {
+        Following {
+            limit: Some(bind_settings.limit),
+        }
+    } else {
+        Following { limit: None }
+    }
+}
+
+/// Binds with a number that the seat draws.
+fn bind_with<Rd: Read, W: Write>(
+    alloc: Global,
+    window: &Window,
+    seat: &mut WindowSeat,
+    reader: &mut Tap<Rd>,
+    wire: &mut Wire<W>,
+    settings: &Settings,
+    bind_place: u32,
+) -> Result<Bound, SendFault>
+    requires own { seat.old.window ≡ window.now }
+    ensures window { seat.new.window ≡ seat.old.window }
+    ensures bound { OnOk result (HasBound seat.old.view settings.now (W.contents (writer wire.old)) (W.contents (writer wire.new)) seat.new.view) }
+    ensures refused { IfErr result (IsFaultOf bind_place) }
+    // What is told is what came of it.
+    ensures told { IfErr result (λ fault. DrewNone bind_place seat.old.view fault seat.new.view
+        ⊎ HasFailed bind_place settings.now.mode (Rd.remaining (device reader.old)) (Rd.remaining (device reader.new)) seat.old.view fault seat.new.view) }
+{
+    let Number::Drawn(number) = draw(window, seat) else {
+        return Err(SendFault::BindFailed(bind_place, BindFailure::NoNumber));
+    };
+    match bind(alloc, reader, wire, settings, number) {
+        Ok(bound) => Ok(bound),
+        Err(fault) => Err(fault_of(bind_place, fault)),
+    }
+}
+
+/// A connection for the bind.
+fn connect<D: Dial>(dial: &D, bind_place: u32) -> Result<(D::Reader, D::Writer), SendFault>
+    ensures { IfErr result (λ fault. fault ≡ BindFailed bind_place NoConnection) }
+{
+    match dial.dial(bind_place) {
+        Some(ends) => Ok(ends),
+        None => Err(SendFault::BindFailed(bind_place, BindFailure::NoConnection)),
+    }
+}
+
+/// A connection that is bound.
+#[derive(Drop)]
+struct Connected<Rd, W> {
+    reader: Tap<Rd>,
+    wire: Wire<W>,
+    bound: Bound,
+}
+
+/// Dials and binds.
+fn dial_and_bind<D: Dial>(
+    alloc: Global,
+    dial: &D,
+    window: &Window,
+    seat: &mut WindowSeat,
+    settings: &Settings,
+    bind_place: u32,
+) -> Result<Connected<D::Reader, D::Writer>, SendFault>
+    requires own { seat.old.window ≡ window.now }
+    ensures window { seat.new.window ≡ seat.old.window }
+    ensures refused { IfErr result (IsFaultOf bind_place) }
+{
+    let (reader, writer) = connect(dial, bind_place)?;
+    let mut reader = Tap::new(reader);
+    let mut wire = Wire::new(Tap::new(writer));
+    match bind_with(
+        alloc,
+        window,
+        seat,
+        &mut reader,
+        &mut wire,
+        settings,
+        bind_place,
+    ) {
+        Ok(bound) => Ok(Connected {
+            reader,
+            wire,
+            bound,
+        }),
+        Err(fault) => Err(fault),
+    }
+}
+
+/// Dials and binds; splits off a seat for each worker and one for the driver.
+fn make_bind<D: Dial>(
+    alloc: Global,
+    dial: &D,
+    bind_settings: &BindSettings,
+    bind_place: u32,
+    workers: usize,
+    rings: Rings,
+) -> Result<Made<D::Reader, D::Writer>, SendFault>
+    requires rings { length rings.consumers.items ≡ workers }
+    requires few { workers < 62 }
+    ensures seated { IfOk result (λ m. IsSeated workers m.shared m.parts) }
+    ensures driver_seat { IfOk result (λ m. m.driver_seat.seat.window ≡ m.shared.window) }
+    ensures refused { IfErr result (IsFaultOf bind_place) }
+{
+    let Rings {
+        producers,
+        consumers,
+    } = rings;
+    let Ok((window, mut keeper)) = Window::make(alloc, bind_settings.limit) else {
+        return Err(SendFault::OutOfMemory);
+    };
+    let Ok(seats) = split_seats(alloc, &window, &mut keeper, workers) else {
+        return Err(SendFault::OutOfMemory);
+    };
+    let mut seat = window.split(&mut keeper);
+    let Ok(slots) = SlotRow::new(alloc) else {
+        return Err(SendFault::OutOfMemory);
+    };
+    let settings = &bind_settings.settings;
+    let Connected {
+        reader,
+        wire,
+        bound,
+    } = dial_and_bind(alloc, dial, &window, &mut seat, settings, bind_place)?;
+    Ok(Made {
+        shared: SharedBind {
+            line: Line::new(slots, wire),
+            window,
+        },
+        parts: BindParts {
+            keeper,
+            seats,
+            consumers,
+            producers,
+            reader,
+            bound,
+            follow: following(bind_settings),
+        },
+        driver_seat: DriverSeat {
+            seat,
+            unbinding: Unbinding::NotYet,
+        },
+    })
+}
+
+/// Makes a bind for each set of rings, up to the first that fails. Gives those that were made.
+fn bind_each<D: Dial>(
+    alloc: Global,
+    dial: &D,
+    bind_settings: &BindSettings,
+    workers: usize,
+    rings: Vec<Rings>,
+    binds: Binds<D::Reader, D::Writer>,
+) -> (Binds<D::Reader, D::Writer>, Result<(), SendFault>)
+    requires rings { AllByRecursion (λ r. length r.consumers.items ≡ workers) rings.items }
+    requires few { workers < 62 }
+    requires binds { length rings.items ≤ 4 }
+    requires none { (binds.shared_binds.items ≡ []) × (binds.bind_parts.items ≡ []) × (binds.driver_seats.items ≡ []) }
+    requires room { (length rings.items ≤ vec_capacity binds.shared_binds) × (length rings.items ≤ vec_capacity binds.bind_parts) × (length rings.items ≤ vec_capacity binds.driver_seats) }
+    ensures driver_seats { map (λ s. s.seat.window) result.0.driver_seats.items ≡ map (λ b. b.window) result.0.shared_binds.items }
+    ensures seated { AllZip (IsSeated workers) result.0.shared_binds.items result.0.bind_parts.items }
+    ensures long { OnOk result.1 (length result.0.shared_binds.items ≡ length rings.items) }
+    // The first that failed is told.
+    ensures refused { IfErr result.1 (λ fault. (length result.0.shared_binds.items < length rings.items) × IsFaultOf (length result.0.shared_binds.items) fault) }
+{
+    let Binds {
+        mut shared_binds,
+        mut bind_parts,
+        mut driver_seats,
+    } = binds;
+    let mut place = 0u32;
+    for theirs in rings {
+        match make_bind(alloc, dial, bind_settings, place, workers, theirs) {
+            Ok(made) => {
+                let Made {
+                    shared,
+                    parts,
+                    driver_seat,
+                } = made;
+                shared_binds.push_reserved(shared);
+                bind_parts.push_reserved(parts);
+                driver_seats.push_reserved(driver_seat);
+                place += 1;
+            }
+            Err(fault) => {
+                return (
+                    Binds {
+                        shared_binds,
+                        bind_parts,
+                        driver_seats,
+                    },
+                    Err(fault),
+                );
+            }
+        }
+    }
+    (
+        Binds {
+            shared_binds,
+            bind_parts,
+            driver_seats,
+        },
+        Ok(()),
+    )
+}
+
+/// Makes a bind for each set of rings. If one fails, those made are unbound.
+pub(crate) fn make_binds<D: Dial, R: Wait>(
+    rt: &R,
+    alloc: Global,
+    dial: &D,
+    bind_settings: &BindSettings,
+    workers: usize,
+    rings: Vec<Rings>,
+) -> Result<Binds<D::Reader, D::Writer>, SendFault>
+    requires rings { AllByRecursion (λ r. length r.consumers.items ≡ workers) rings.items }
+    requires few { workers < 62 }
+    requires binds { length rings.items ≤ 4 }
+    ensures driver_seats { IfOk result (λ b. map (λ s. s.seat.window) b.driver_seats.items ≡ map (λ b. b.window) b.shared_binds.items) }
+    ensures seated { IfOk result (λ b. AllZip (IsSeated workers) b.shared_binds.items b.bind_parts.items) }
+    ensures long { IfOk result (λ b. length b.shared_binds.items ≡ length rings.items) }
+    ensures refused { IfErr result (IsFaultOfOne (length rings.items)) }
+{
+    let none = Binds {
+        shared_binds: Vec::with_capacity(alloc, rings.len())?,
+        bind_parts: Vec::with_capacity(alloc, rings.len())?,
+        driver_seats: Vec::with_capacity(alloc, rings.len())?,
+    };
+    let (mut binds, made) = bind_each(alloc, dial, bind_settings, workers, rings, none);
+    match made {
+        Ok(()) => Ok(binds),
+        Err(fault) => {
+            unbind_all(
+                rt,
+                alloc,
+                binds.shared_binds.as_slice(),
+                &mut binds.driver_seats,
+            );
+            Err(fault)
+        }
+    }
+}

@@ -1,0 +1,94 @@
+//! Messages dealt out to workers in turn, and the workers' ends put back into the order of the messages.
+
+ghost use Rattle.std.specs.Prelude.{◌≡◌, [], ℕ, ◌+◌, ◌<◌, ◌≤◌, List, length, map, vec_len, vec_capacity, IfOk, OnOk};
+ghost use Rattle.sms_worker.specs.declared.message.Message.{Message};
+ghost use Rattle.sms_worker.specs.declared.ends.MessageEnd.{MessageEnd};
+ghost use Rattle.sms_driver.specs.Deals.{cons_at, dealt, next, onto};
+
+use sms_worker::{Message, MessageEnd};
+use std::alloc::{AllocError, Global};
+use std::collections::VecDeque;
+
+fn next_place(place: usize, count: usize) -> usize
+    requires { place < count }
+    ensures next { result ≡ next count place }
+    ensures below { result < count }
+{
+    if place + 1 == count { 0 } else { place + 1 }
+}
+
+fn empty_batches(alloc: Global, count: usize) -> Result<Vec<Vec<Message>>, AllocError>
+    ensures empty { IfOk result (λ v. map (λ l. l.items) v.items ≡ dealt count 0 []) }
+    ensures long { IfOk result (λ v. length v.items ≡ count) }
+{
+    let mut batches = Vec::with_capacity(alloc, count)?;
+    for _i in 0..count {
+        batches.push_reserved(Vec::new(alloc));
+    }
+    Ok(batches)
+}
+
+fn give(batches: &mut Vec<Vec<Message>>, place: usize, message: Message) -> Result<(), AllocError>
+    requires { place < length batches.old.items }
+    ensures len { length batches.new.items ≡ length batches.old.items }
+    ensures given { (ds : List (List Message)) → length ds ≡ length batches.old.items → OnOk result (onto (map (λ l. l.items) batches.new.items) ds ≡ onto (map (λ l. l.items) batches.old.items) (cons_at ds place message)) }
+{
+    let batch = &mut batches[place];
+    batch.push(message)?;
+    Ok(())
+}
+
+/// Deals the messages out to so many workers in turn.
+pub fn deal(
+    alloc: Global,
+    messages: Vec<Message>,
+    count: usize,
+) -> Result<Vec<Vec<Message>>, AllocError>
+    requires { 0 < count }
+    ensures dealt { IfOk result (λ v. map (λ l. l.items) v.items ≡ dealt count 0 messages.items) }
+    ensures long { IfOk result (λ v. length v.items ≡ count) }
+{
+    let mut batches = empty_batches(alloc, count)?;
+    let mut place = 0;
+    for message in messages {
+        give(&mut batches, place, message)?;
+        place = next_place(place, count);
+    }
+    Ok(batches)
+}
+
+// Takes the first end of the part at a place, which was dealt there.
+fn take_next(parts: &mut Vec<VecDeque<MessageEnd>>, place: usize) -> MessageEnd
+    requires there { place < length parts.old.items }
+    requires dealt { (ls : List (List MessageEnd)) × (x : MessageEnd) × (map (λ p. p.items) parts.old.items ≡ cons_at ls place x) }
+    ensures len { length parts.new.items ≡ length parts.old.items }
+    ensures taken { (ls : List (List MessageEnd)) (x : MessageEnd) → map (λ p. p.items) parts.old.items ≡ cons_at ls place x → (result ≡ x) × (map (λ p. p.items) parts.new.items ≡ ls) }
+{
+    let part = &mut parts[place];
+    let Some(end) = part.pop_front() else {
+        unreachable!()
+    };
+    end
+}
+
+/// Takes the ends back in the order in which their messages were dealt out.
+pub fn merged(
+    parts: Vec<VecDeque<MessageEnd>>,
+    count: usize,
+    out: Vec<MessageEnd>,
+) -> Vec<MessageEnd>
+    requires some { 0 < length parts.items }
+    requires room { (out.items ≡ []) × (count ≤ vec_capacity out) }
+    requires dealt { (es : List MessageEnd) × (length es ≡ count) × (map (λ p. p.items) parts.items ≡ dealt (length parts.items) 0 es) }
+    ensures { (es : List MessageEnd) → length es ≡ count → map (λ p. p.items) parts.items ≡ dealt (length parts.items) 0 es → result.items ≡ es }
+{
+    let mut parts = parts;
+    let mut out = out;
+    let mut place = 0;
+    for _i in 0..count {
+        let end = take_next(&mut parts, place);
+        out.push_reserved(end);
+        place = next_place(place, parts.len());
+    }
+    out
+}

@@ -1,0 +1,68 @@
+//! The whole of a sending, from accounts and messages to ends and a statement.
+
+ghost use Rattle.std.specs.Prelude.{◌≡◌, ℕ, ◌*◌, ◌<◌, ◌≤◌, length, IfErr, IfOk};
+ghost use Rattle.std.specs.List.{AllZip};
+ghost use Rattle.sms_book.specs.Openings.{credits_of};
+ghost use Rattle.sms_worker.specs.EndOf.{IsEndOf};
+ghost use Rattle.sms_driver.specs.BindEnds.{AreBinds};
+ghost use Rattle.sms_driver.specs.SendFaults.{IsFaultOfOne};
+ghost use Rattle.sms_driver.specs.Statements.{AreRows};
+
+use crate::binding::{BindSettings, Dial};
+use crate::ending::Sending;
+use crate::fault::SendFault;
+use crate::run::run;
+use sms_book::{Opening, open_book};
+use sms_worker::{Clock, Gate, Message, Pause, Rules};
+use std::alloc::Global;
+use std::marker::Brand;
+use std::sync::Wait;
+use std::thread::Threads;
+
+/// Makes all binds, sends all messages, and ends the binds. Nothing is sent where a bind fails.
+pub fn drive_all<
+    D: Dial,
+    G: Gate + Sync,
+    K: Clock + Sync,
+    P: Pause + Sync,
+    R: Threads + Wait + Sync,
+>(
+    rt: &R,
+    alloc: Global,
+    binds: usize,
+    workers: usize,
+    bind_settings: &BindSettings,
+    rules: &Rules,
+    openings: &[Opening],
+    messages: Vec<Message>,
+    dial: &D,
+    gate: &G,
+    clock: &K,
+    pause: &P,
+) -> Result<Sending, SendFault>
+    requires few { (binds ≤ 4) × (workers ≤ 8) }
+    ensures ends { IfOk result (λ r. AllZip (IsEndOf rules.now (length openings.now)) messages.items r.ends.items) }
+    ensures rows { IfOk result (λ r. AreRows (credits_of openings.now) messages.items r.ends.items r.statement) }
+    // Each bind was made and ended, and had its workers.
+    ensures binds { IfOk result (λ r. AreBinds binds workers r.binds.items) }
+    // A fault is of one of the binds, of memory, or of a thread.
+    ensures refused { IfErr result (IsFaultOfOne binds) }
+{
+    let Ok(blank) = open_book(alloc, openings, binds * workers) else {
+        return Err(SendFault::OutOfMemory);
+    };
+    run::<Brand, D, G, K, P, R>(
+        rt,
+        alloc,
+        blank,
+        rules,
+        bind_settings,
+        messages,
+        binds,
+        workers,
+        dial,
+        gate,
+        clock,
+        pause,
+    )
+}

@@ -1,0 +1,109 @@
+//! How the seats of a bind come back to its keeper's, and its window is closed.
+
+ghost use Rattle.std.specs.Prelude.{◌≡◌, ◌<◌, ◌∷◌, ◌++◌, IfOk, List, length, map, replicate};
+ghost use Rattle.std.specs.List.{AllByRecursion};
+ghost use Rattle.atomic_table.specs.Seated.{TableId};
+ghost use Rattle.sms_driver.specs.BindEnds.{AreBinds, IsTried};
+ghost use Rattle.sms_driver.specs.Seated.{windows};
+
+use crate::bind_end::BindEnd;
+use crate::seating::{DriverSeat, SharedBind};
+use sms_bind::ReaderEnd;
+use sms_window::{Window, WindowSeat};
+use std::alloc::{AllocError, Global};
+use std::collections::VecDeque;
+
+/// Joins so many of the seats, the first ones, into the keeper's.
+fn join_workers(
+    window: &Window,
+    keeper: &mut WindowSeat,
+    seats: &mut VecDeque<WindowSeat>,
+    workers: usize,
+)
+    requires own { keeper.old.window ≡ window.now }
+    requires seats { (rest : List TableId) × (map (λ s. s.window) seats.old.items ≡ replicate workers window.now ++ rest) }
+    ensures own { keeper.new.window ≡ keeper.old.window }
+    ensures rest { (rest : List TableId) → map (λ s. s.window) seats.old.items ≡ replicate workers window.now ++ rest → map (λ s. s.window) seats.new.items ≡ rest }
+{
+    for _worker in 0..workers {
+        let Some(seat) = seats.pop_front() else {
+            unreachable!()
+        };
+        window.join(keeper, seat);
+    }
+}
+
+/// Joins the driver's seat and those of a bind's workers into its keeper's, and closes its window.
+fn close_one<W: Drop>(
+    shared: SharedBind<W>,
+    keeper: WindowSeat,
+    driver: WindowSeat,
+    seats: &mut VecDeque<WindowSeat>,
+    workers: usize,
+)
+    requires keeper { keeper.window ≡ shared.window }
+    requires driver { driver.window ≡ shared.window }
+    requires seats { (rest : List TableId) × (map (λ s. s.window) seats.old.items ≡ replicate workers shared.window ++ rest) }
+    ensures { (rest : List TableId) → map (λ s. s.window) seats.old.items ≡ replicate workers shared.window ++ rest → map (λ s. s.window) seats.new.items ≡ rest }
+{
+    let SharedBind { line: _, window } = shared;
+    let mut keeper = keeper;
+    window.join(&mut keeper, driver);
+    join_workers(&window, &mut keeper, seats, workers);
+    let _closed = window.close(keeper);
+}
+
+// Takes the first of a queue that has one.
+fn take_first<T>(queue: &mut VecDeque<T>) -> T
+    requires { 0 < length queue.old.items }
+    ensures { queue.old.items ≡ result ∷ queue.new.items }
+{
+    let Some(first) = queue.pop_front() else {
+        unreachable!()
+    };
+    first
+}
+
+/// What is left of the binds when all threads have ended: place by place what a bind's threads
+/// shared, its reader's end and the driver's own seat; and how many workers each bind had.
+#[derive(Drop)]
+pub(crate) struct Left<W> {
+    pub shared_binds: Vec<SharedBind<W>>,
+    pub readers: Vec<ReaderEnd>,
+    pub driver_seats: Vec<DriverSeat>,
+    pub workers: usize,
+}
+
+/// Joins all seats of each bind into its keeper's, and closes its window. Tells what became of the
+/// binds, in order.
+pub(crate) fn close_all<W: Drop>(
+    alloc: Global,
+    left: Left<W>,
+    seats: Vec<WindowSeat>,
+) -> Result<Vec<BindEnd>, AllocError>
+    requires readers { map (λ d. d.seat.window) left.readers.items ≡ map (λ b. b.window) left.shared_binds.items }
+    requires driver_seats { map (λ s. s.seat.window) left.driver_seats.items ≡ map (λ b. b.window) left.shared_binds.items }
+    requires tried { AllByRecursion (λ s. IsTried s.unbinding) left.driver_seats.items }
+    requires seats { map (λ s. s.window) seats.items ≡ windows left.workers (map (λ b. b.window) left.shared_binds.items) }
+    ensures { IfOk result (λ ends. AreBinds (length left.shared_binds.items) left.workers ends.items) }
+{
+    let Left {
+        shared_binds,
+        readers,
+        driver_seats,
+        workers,
+    } = left;
+    let mut ends = Vec::with_capacity(alloc, shared_binds.len())?;
+    let mut readers = VecDeque::from(readers);
+    let mut driver_seats = VecDeque::from(driver_seats);
+    let mut seats = VecDeque::from(seats);
+    for shared in shared_binds {
+        let reader = take_first(&mut readers);
+        let driver_seat = take_first(&mut driver_seats);
+        let ReaderEnd { seat: keeper, .. } = reader;
+        let DriverSeat { seat, unbinding } = driver_seat;
+        close_one(shared, keeper, seat, &mut seats, workers);
+        ends.push(BindEnd { workers, unbinding })?;
+    }
+    Ok(ends)
+}

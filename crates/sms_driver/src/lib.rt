@@ -1,0 +1,31 @@
+//! The sender over all binds: messages are dealt out to workers, each in a thread of its own, and
+//! their ends come back in order, with the statement of one book.
+//!
+//! `drive_all` dials and binds each bind, seats its workers and its reader, runs them, unbinds, and
+//! closes the windows. Where connections come from is a `Dial`'s matter.
+
+#![tactic(auto)]
+
+mod bind_end;
+mod binding;
+mod dealing;
+mod driver;
+mod ending;
+mod fault;
+mod hanging_up;
+mod leaving;
+mod rings;
+mod run;
+mod seating;
+mod seats;
+mod task;
+#[cfg(test)]
+mod tests;
+mod thread_scope;
+mod threads;
+
+pub use bind_end::{BindEnd, Unasked, Unbinding};
+pub use binding::{BindSettings, Dial};
+pub use driver::drive_all;
+pub use ending::Sending;
+pub use fault::{BindFailure, SendFault};

@@ -1,0 +1,131 @@
+//! Who sits at which bind.
+
+ghost use Rattle.std.specs.Prelude.{◌≡◌, ℕ, ◌+◌, ◌*◌, ◌++◌, List, length, map, IfOk, OnOk};
+ghost use Rattle.std.specs.List.{AllByRecursion, AllZip};
+ghost use Rattle.sms_driver.specs.Seated.{IsSeated, windows};
+
+use crate::bind_end::Unbinding;
+use crate::task::WorkerPlace;
+use crate::threads::{Following, ReaderTask};
+use rtrb::{Consumer, Producer};
+use sms_bind::{Bound, Line, Tap};
+use sms_pdu::Reply;
+use sms_window::{Window, WindowSeat};
+use std::alloc::{AllocError, Global};
+use std::collections::VecDeque;
+
+/// What the threads of a bind share.
+#[derive(Drop)]
+pub struct SharedBind<W> {
+    pub line: Line<W>,
+    pub window: Window,
+}
+
+/// What the threads of a bind are given: the keeper's seat to the reader, and a seat and a ring to each worker.
+#[derive(Drop)]
+pub struct BindParts<Rd> {
+    pub keeper: WindowSeat,
+    pub seats: Vec<WindowSeat>,
+    pub consumers: Vec<Consumer<Reply>>,
+    pub producers: Vec<Producer<Reply>>,
+    pub reader: Tap<Rd>,
+    pub bound: Bound,
+    pub follow: Following,
+}
+
+/// The driver's own seat at a bind, and what came of its unbind.
+#[derive(Drop)]
+pub struct DriverSeat {
+    pub seat: WindowSeat,
+    pub unbinding: Unbinding,
+}
+
+/// All workers and readers.
+#[derive(Drop)]
+pub struct Seating<'a, Rd, W> {
+    pub places: Vec<WorkerPlace<'a, W>>,
+    pub reader_tasks: Vec<ReaderTask<'a, Rd, W>>,
+}
+
+// Seats the workers of a bind.
+fn seat_workers<'a, W>(
+    shared: &'a SharedBind<W>,
+    seats: Vec<WindowSeat>,
+    consumers: Vec<Consumer<Reply>>,
+    places: &mut Vec<WorkerPlace<'a, W>>,
+) -> Result<(), AllocError>
+    requires seats { AllByRecursion (λ s. s.window ≡ shared.now.window) seats.items }
+    requires consumers { length consumers.items ≡ length seats.items }
+    requires own { AllByRecursion (λ p. p.seat.window ≡ p.window.now) places.old.items }
+    ensures own { OnOk result (AllByRecursion (λ p. p.seat.window ≡ p.window.now) places.new.items) }
+    ensures long { OnOk result (length places.new.items ≡ length places.old.items + length seats.items) }
+    ensures windows { OnOk result (map (λ p. p.seat.window) places.new.items ≡ map (λ p. p.seat.window) places.old.items ++ map (λ s. s.window) seats.items) }
+{
+    let mut consumers = VecDeque::from(consumers);
+    let mut place = 0usize;
+    for seat in seats {
+        let Some(consumer) = consumers.pop_front() else {
+            unreachable!()
+        };
+        places.push(WorkerPlace {
+            seat,
+            place,
+            consumer,
+            line: &shared.line,
+            window: &shared.window,
+        })?;
+        place = place.wrapping_add(1);
+    }
+    Ok(())
+}
+
+/// Seats all.
+pub fn seat_all<'a, Rd, W>(
+    alloc: Global,
+    shared_binds: &'a [SharedBind<W>],
+    bind_parts: Vec<BindParts<Rd>>,
+    workers: usize,
+) -> Result<Seating<'a, Rd, W>, AllocError>
+where
+    Rd: Drop,
+    W: Drop,
+    requires bind_parts { AllZip (IsSeated workers) shared_binds.now bind_parts.items }
+    ensures places { IfOk result (λ s. AllByRecursion (λ p. p.seat.window ≡ p.window.now) s.places.items) }
+    ensures reader_tasks { IfOk result (λ s. AllByRecursion (λ t. t.seat.window ≡ t.window.now) s.reader_tasks.items) }
+    ensures long { IfOk result (λ s. length s.places.items ≡ length shared_binds.now * workers) }
+    ensures windows { IfOk result (λ s. map (λ p. p.seat.window) s.places.items ≡ windows workers (map (λ b. b.window) shared_binds.now)) }
+    ensures keepers { IfOk result (λ s. map (λ t. t.seat.window) s.reader_tasks.items ≡ map (λ b. b.window) shared_binds.now) }
+{
+    let mut places = Vec::new(alloc);
+    let mut reader_tasks = Vec::with_capacity(alloc, shared_binds.len())?;
+    let mut bind_parts = VecDeque::from(bind_parts);
+    for bind in 0..shared_binds.len() {
+        let Some(parts) = bind_parts.pop_front() else {
+            unreachable!()
+        };
+        let shared = &shared_binds[bind];
+        let BindParts {
+            keeper,
+            seats,
+            consumers,
+            producers,
+            reader,
+            bound,
+            follow,
+        } = parts;
+        seat_workers(shared, seats, consumers, &mut places)?;
+        reader_tasks.push(ReaderTask {
+            reader,
+            bound,
+            follow,
+            producers,
+            seat: keeper,
+            line: &shared.line,
+            window: &shared.window,
+        })?;
+    }
+    Ok(Seating {
+        places,
+        reader_tasks,
+    })
+}

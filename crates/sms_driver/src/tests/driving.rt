@@ -1,0 +1,369 @@
+//! Whole sendings, over pipes in memory.
+
+use super::same::same;
+use crate::bind_end::{BindEnd, Unbinding};
+use crate::{BindFailure, BindSettings, Dial, SendFault, Sending, drive_all};
+use sms_bind::Settings;
+use sms_book::{Opening, Statement, Tariff};
+use sms_centre::{Pipe, PipeEnd, Script, ServeCause, ServeEnd, serve};
+use sms_pdu::{Mode, Octets};
+use sms_session::Policy;
+use sms_worker::{Clock, Gate, Message, MessageEnd, MessageResult, Outcome, Pause, Rules};
+use std::alloc::Global;
+use std::process::Abort;
+use std::sync::Wait;
+use std::test::Fail;
+use std::thread::Threads;
+use std::time::Duration;
+use std::{thread, time};
+
+// A pair of pipes for each bind: one to the centre, one back. From the place `most` on there is no
+// connection.
+#[derive(Drop)]
+struct Pipes<'a, S> {
+    rt: &'a S,
+    there: &'a [Pipe],
+    back: &'a [Pipe],
+    most: usize,
+}
+
+impl<'a, S: Wait + time::Clock + Sync> Dial for Pipes<'a, S> {
+    type Reader = PipeEnd<'a, S>;
+
+    type Writer = PipeEnd<'a, S>;
+
+    fn dial(&self, bind: u32) -> Option<(PipeEnd<'a, S>, PipeEnd<'a, S>)> {
+        let place = bind as usize;
+        if place >= self.most {
+            return None;
+        }
+        match (self.back.get(place), self.there.get(place)) {
+            (Some(back), Some(there)) => Some((back.end(self.rt), there.end(self.rt))),
+            _ => None,
+        }
+    }
+}
+
+// Lets all pass, and pauses in real time. Its clock stands still.
+#[derive(Drop)]
+struct Beside<'a, S> {
+    rt: &'a S,
+}
+
+impl<'a, S> Gate for Beside<'a, S> {
+    fn pass(&self, _worker: usize, _number: u32) -> bool {
+        true
+    }
+}
+
+impl<'a, S> Clock for Beside<'a, S> {
+    fn now_ms(&self) -> u64 {
+        0
+    }
+}
+
+impl<'a, S: time::Clock> Pause for Beside<'a, S> {
+    fn pause(&self, ms: u32) {
+        thread::sleep(self.rt, Duration::from_millis(u64::from(ms)));
+    }
+}
+
+// What is sent over two binds of two workers: how many messages, with how many credits,
+// by which script of each centre, and how many connections there are.
+#[derive(Drop)]
+struct Case<'a> {
+    count: u64,
+    credits: u64,
+    scripts: [&'a str; 2],
+    most: usize,
+}
+
+// What a sending and the two centres end with.
+#[derive(Drop)]
+struct Done {
+    first: ServeEnd,
+    second: ServeEnd,
+    ended: Result<Sending, SendFault>,
+}
+
+fn octets(alloc: Global, text: &[u8]) -> Result<Octets, Fail> {
+    let mut all = Vec::new(alloc);
+    all.extend_from_slice(text)?;
+    Ok(Octets::new(all))
+}
+
+fn messages(alloc: Global, count: u64) -> Result<Vec<Message>, Fail> {
+    let mut messages = Vec::new(alloc);
+    for index in 0..count {
+        messages.push(Message {
+            index,
+            account: Some(0),
+            source: String::from_str(alloc, "12345")?,
+            dest: String::from_str(alloc, "+447700900123")?,
+            text: String::from_str(alloc, "Hi")?,
+        })?;
+    }
+    Ok(messages)
+}
+
+fn bind_settings(alloc: Global) -> Result<BindSettings, Fail> {
+    match Settings::new(
+        Mode::Transceiver,
+        octets(alloc, b"me")?,
+        octets(alloc, b"secret")?,
+        octets(alloc, b"")?,
+    ) {
+        Ok(settings) => Ok(BindSettings {
+            settings,
+            limit: 10,
+            follow: true,
+        }),
+        Err(_fault) => Err(Fail::new("no settings")),
+    }
+}
+
+fn rules(alloc: Global) -> Result<Rules, Fail> {
+    let (Ok(policy), Ok(tariff)) = (Policy::new(3, 100), Tariff::new(alloc, &[])) else {
+        return Err(Fail::new("no policy or no tariff"));
+    };
+    Ok(Rules {
+        policy,
+        depth: 4,
+        answer_ms: 1_000,
+        turns: 20_000,
+        receipts: false,
+        tariff,
+        long_reference: false,
+    })
+}
+
+// Serves a bind by this script, or hangs up where it is none. No centre is asked where there is no
+// connection.
+fn serve_bind<R: Wait + time::Clock>(
+    rt: &R,
+    alloc: Global,
+    there: &Pipe,
+    back: &Pipe,
+    text: &str,
+) -> ServeEnd {
+    let served = match Script::read(alloc, text) {
+        Ok(script) => serve(alloc, &mut there.end(rt), &mut back.end(rt), script, 10_000),
+        Err(_fault) => ServeEnd {
+            submits: 0,
+            cause: ServeCause::OutOfMemory,
+        },
+    };
+    back.close(rt);
+    served
+}
+
+fn sent<R: Threads + Wait + time::Clock + Sync>(
+    rt: &R,
+    alloc: Global,
+    case: Case<'_>,
+) -> Result<Done, Fail> {
+    let there = [Pipe::new(alloc, 10_000)?, Pipe::new(alloc, 10_000)?];
+    let back = [Pipe::new(alloc, 10_000)?, Pipe::new(alloc, 10_000)?];
+    let mut openings = Vec::new(alloc);
+    openings.push(Opening {
+        name: String::from_str(alloc, "main")?,
+        credits: case.credits,
+    })?;
+    let (bind_settings, rules) = (bind_settings(alloc)?, rules(alloc)?);
+    let given = messages(alloc, case.count)?;
+    let dial = Pipes {
+        rt,
+        there: &there,
+        back: &back,
+        most: case.most,
+    };
+    let beside = Beside { rt };
+    let [one, other] = case.scripts;
+    let ((first, second), ended) = thread::join(
+        rt,
+        || {
+            thread::join(
+                rt,
+                || serve_bind(rt, alloc, &there[0], &back[0], one),
+                || serve_bind(rt, alloc, &there[1], &back[1], other),
+            )
+        },
+        || {
+            let ended = drive_all(
+                rt,
+                alloc,
+                2,
+                2,
+                &bind_settings,
+                &rules,
+                openings.as_slice(),
+                given,
+                &dial,
+                &beside,
+                &beside,
+                &beside,
+            );
+            there[0].close(rt);
+            there[1].close(rt);
+            ended
+        },
+    );
+    Ok(Done {
+        first,
+        second,
+        ended,
+    })
+}
+
+const GOOD: &str = "answers = [\"status 0\"]";
+
+// No script, so the centre hangs up.
+const HANGS_UP: &str = "hangs up";
+
+const REFUSES: &str = "bind_status = 14\nanswers = [\"status 0\"]";
+
+// That a bind had two workers and was unbound.
+fn want_unbound(rt: &impl Abort, bind: &BindEnd) {
+    same(rt, bind.workers, 2);
+    match bind.unbinding {
+        Unbinding::Sent(_) => {}
+        Unbinding::NotYet | Unbinding::Failed(_) | Unbinding::Unasked(_) => {
+            panic!(rt; "not unbound")
+        }
+    }
+}
+
+// That the message of this place was charged.
+fn want_charged(rt: &impl Abort, end: &MessageEnd, place: usize) {
+    same(rt, end.index, place as u64);
+    match &end.result {
+        MessageResult::Sent(segments) => match segments.as_slice().first() {
+            Some(segment) => same(rt, segment.outcome, Outcome::Charged),
+            None => panic!(rt; "no segment"),
+        },
+        MessageResult::Refused(_) => panic!(rt; "refused"),
+    }
+}
+
+// That the one account had 20 credits, of which 9 were charged.
+fn want_9_charged(rt: &impl Abort, statement: &Statement) {
+    let Some(row) = statement.rows().first() else {
+        panic!(rt; "no row")
+    };
+    same(rt, (row.topped, row.free, row.reserved), (20, 11, 0));
+    same(rt, (row.charged, row.returned), (9, 0));
+}
+
+// That all nine messages were charged over two binds.
+fn want_all_charged(rt: &impl Abort, sending: &Sending) {
+    same(rt, sending.ends.len(), 9);
+    for place in 0..sending.ends.len() {
+        want_charged(rt, &sending.ends[place], place);
+    }
+    want_9_charged(rt, &sending.statement);
+    assert!(rt; sending.binds.len() == 2);
+    for bind in &sending.binds {
+        want_unbound(rt, bind);
+    }
+}
+
+#[test]
+fn two_binds_of_two_workers(rt: HostRuntime) -> Result<(), Fail> {
+    let case = Case {
+        count: 9,
+        credits: 20,
+        scripts: [GOOD, GOOD],
+        most: 2,
+    };
+    let Done {
+        first,
+        second,
+        ended,
+    } = sent(&rt, rt.alloc(), case)?;
+    match ended {
+        Ok(sending) => want_all_charged(&rt, &sending),
+        Err(fault) => return Err(Fail::new(fault)),
+    }
+    // messages 0, 1, 4, 5 and 8 went over the first bind
+    same(&rt, (first.submits, second.submits), (5, 4));
+    same(
+        &rt,
+        (first.cause, second.cause),
+        (ServeCause::Unbound, ServeCause::Unbound),
+    );
+    Ok(())
+}
+
+// Two binds of which one fails: which script each centre has, how many connections there are, what is
+// told, and why each centre ends.
+#[derive(Clone, Copy)]
+struct Refusal<'a> {
+    scripts: [&'a str; 2],
+    most: usize,
+    fault: SendFault,
+    causes: (ServeCause, ServeCause),
+}
+
+const REFUSALS: [Refusal<'static>; 5] = [
+    Refusal {
+        scripts: [REFUSES, GOOD],
+        most: 2,
+        fault: SendFault::BindRefused(0, 14),
+        causes: (ServeCause::Ended, ServeCause::Ended),
+    },
+    Refusal {
+        scripts: [GOOD, REFUSES],
+        most: 2,
+        fault: SendFault::BindRefused(1, 14),
+        causes: (ServeCause::Unbound, ServeCause::Ended),
+    },
+    Refusal {
+        scripts: [GOOD, HANGS_UP],
+        most: 2,
+        fault: SendFault::BindFailed(1, BindFailure::Closed),
+        causes: (ServeCause::Unbound, ServeCause::OutOfMemory),
+    },
+    Refusal {
+        scripts: [GOOD, GOOD],
+        most: 0,
+        fault: SendFault::BindFailed(0, BindFailure::NoConnection),
+        causes: (ServeCause::Ended, ServeCause::Ended),
+    },
+    Refusal {
+        scripts: [GOOD, GOOD],
+        most: 1,
+        fault: SendFault::BindFailed(1, BindFailure::NoConnection),
+        causes: (ServeCause::Unbound, ServeCause::Ended),
+    },
+];
+
+// That the sending failed with this fault.
+fn want_fault(rt: &impl Abort, ended: &Result<Sending, SendFault>, fault: SendFault) {
+    match ended {
+        Ok(_ended) => panic!(rt; "no fault"),
+        Err(told) => same(rt, *told, fault),
+    }
+}
+
+// That nothing was sent, and that the centres ended for these causes.
+fn want_none_sent(rt: &impl Abort, done: &Done, causes: (ServeCause, ServeCause)) {
+    same(rt, (done.first.submits, done.second.submits), (0, 0));
+    same(rt, (done.first.cause, done.second.cause), causes);
+}
+
+// Nothing is sent where a bind fails, and those made before it are unbound.
+#[test]
+fn a_bind_is_refused(rt: HostRuntime) -> Result<(), Fail> {
+    for refusal in &REFUSALS {
+        let case = Case {
+            count: 3,
+            credits: 3,
+            scripts: refusal.scripts,
+            most: refusal.most,
+        };
+        let done = sent(&rt, rt.alloc(), case)?;
+        want_fault(&rt, &done.ended, refusal.fault);
+        want_none_sent(&rt, &done, refusal.causes);
+    }
+    Ok(())
+}

@@ -1,0 +1,27 @@
+//! What faults say.
+
+use super::same::same;
+use crate::{BindFailure, SendFault};
+use std::test::Fail;
+
+// A fault, and its words.
+const WORDS: [(SendFault, &str); 3] = [
+    (
+        SendFault::BindFailed(1, BindFailure::NoConnection),
+        "bind 1 failed: there was no connection",
+    ),
+    (
+        SendFault::BindFailed(0, BindFailure::Closed),
+        "bind 0 failed: the connection ended before an answer",
+    ),
+    (SendFault::ThreadRefused, "a thread could not be started"),
+];
+
+#[test]
+fn a_fault_says_what_happened(rt: HostRuntime) -> Result<(), Fail> {
+    for (fault, words) in &WORDS {
+        let told = format!(in rt.alloc(); "{fault}")?;
+        same(&rt, told.as_str(), *words);
+    }
+    Ok(())
+}

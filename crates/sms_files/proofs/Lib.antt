@@ -1,0 +1,14 @@
+pub mod Addressing
+pub mod BindTexts
+pub mod Files
+pub mod GoodTexts
+pub mod Inputs
+pub mod Keys
+pub mod Left
+pub mod MessageRecords
+pub mod NewAccounts
+pub mod ReadErrors
+pub mod Runs
+pub mod Schedules
+pub mod Tariffs
+pub mod Toml

@@ -1,0 +1,13 @@
+pub mod Faults
+pub mod Fields
+pub mod Records
+pub mod Rows
+pub mod Messages
+pub mod MessageRows
+pub mod Accounts
+pub mod Rates
+pub mod Config
+pub mod ConfigFaults
+pub mod Setups
+pub mod Inputs
+pub mod Schedule

@@ -1,0 +1,31 @@
+//! What the program reads: the config (TOML), the accounts, the messages and the tariff (CSV) of a
+//! sending, and the schedule (CSV) of a replay. Each is read and checked before anything is sent. An
+//! `InputFault` names the first record or key that can't be used, in the order in which they stand.
+
+#![tactic(auto)]
+
+mod accounts;
+mod answers;
+mod config;
+mod fault;
+mod field;
+mod input;
+mod limits;
+mod message_rows;
+mod messages;
+mod rates;
+mod records;
+mod rows;
+mod schedule;
+mod setup;
+#[cfg(test)]
+mod tests;
+mod toml_value;
+
+pub use config::{Answers, Config, Connection, FileNames, Flags, Retry};
+pub use fault::{InputFault, Source};
+pub use input::{Input, read_input};
+pub use limits::Limits;
+pub use messages::{MessageText, read_texts};
+pub use schedule::{Schedule, read_schedule};
+pub use setup::{Setup, setup_of};

@@ -1,0 +1,8 @@
+//! What the files say, and the first fault of those that are none.
+
+mod broken;
+mod config;
+mod input;
+mod reading;
+mod same;
+mod told;

@@ -1,0 +1,6 @@
+pub mod Output
+pub mod PlanText
+pub mod Report
+pub mod Summary
+pub mod Tally
+pub mod ReplayText

@@ -1,0 +1,44 @@
+-- What is told at the end of a sending: how many messages and segments there were, and where the credits stand.
+use Rattle.std.specs.Prelude.{ℕ, ◌-◌, ◌/◌, ◌%◌, ◌^◌, List, ◌++◌, length, min, sum_by, codes, decimal}
+use Rattle.sms_core.specs.declared.row.Row.{Row}
+use Rattle.sms_worker.specs.declared.ends.MessageEnd.{MessageEnd}
+use Rattle.sms_worker.specs.declared.ends.MessageResult.{MessageResult}
+use Rattle.sms_worker.specs.declared.ends.MessageResult.TheVariants.{Sent, Refused}
+use Rattle.sms_report.specs.declared.summary.Credits.{Credits}
+use Rattle.sms_report.specs.declared.summary.EndLine.{EndLine}
+use Rattle.sms_report.specs.declared.summary.Summary.{Summary}
+
+-- a sum, and the greatest number of 64 bits where it is more
+abbrev pub capped : ℕ → ℕ
+capped n = min n (2 ^ 64 - 1)
+
+-- how many segments a message was sent as
+abbrev pub segments_of : MessageResult → ℕ
+segments_of (Sent segments) = length segments
+segments_of (Refused refusal) = 0
+
+abbrev pub segments_in : MessageEnd → ℕ
+segments_in end = segments_of end.result
+
+-- the sums of the statement's columns
+abbrev pub credits_of : List Row → Credits
+credits_of rows = record {
+  charged = capped (sum_by (λ row. row.charged) rows);
+  returned = capped (sum_by (λ row. row.returned) rows);
+  reserved = capped (sum_by (λ row. row.reserved) rows);
+}
+
+-- the messages and segments of the report, and these sums
+abbrev pub summary_of : List MessageEnd → List Row → Summary
+summary_of ends rows = record { messages = length ends; segments = capped (sum_by segments_in ends); credits = credits_of rows }
+
+-- the line that ends a sending: seconds with a tenth, cut off
+
+abbrev pub credits_text : Credits → List ℕ
+credits_text credits = codes "credits charged " ++ decimal credits.charged ++ codes ", returned " ++ decimal credits.returned ++ codes ", still reserved " ++ decimal credits.reserved
+
+abbrev pub summary_text : Summary → List ℕ
+summary_text summary = codes "messages " ++ decimal summary.messages ++ codes ", segments " ++ decimal summary.segments ++ codes ", " ++ credits_text summary.credits
+
+abbrev pub done_text : EndLine → List ℕ
+done_text line = codes "done: " ++ summary_text line.summary ++ codes ", seconds " ++ decimal (line.ms / 1000) ++ codes "." ++ decimal (line.ms % 1000 / 100)

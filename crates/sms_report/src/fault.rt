@@ -1,0 +1,25 @@
+//! Why a text isn't written.
+
+use std::alloc::AllocError;
+
+/// Why a text isn't written whole.
+#[derive(Clone, Copy, Debug, PartialEq, Eq, thiserror::Error)]
+pub enum OutputFault {
+    /// The output failed.
+    #[error("output")]
+    Output,
+    /// Memory was refused before the first octet was written.
+    #[error("out of memory")]
+    OutOfMemory,
+}
+
+impl From<AllocError> for OutputFault {
+    ghost use Rattle.std.specs.Prelude.{◌≡◌};
+    ghost use Rattle.sms_report.specs.declared.fault.OutputFault.TheVariants.{OutOfMemory};
+
+    ghost from_gives = { λ _ f. f ≡ OutOfMemory };
+
+    fn from(_e: AllocError) -> OutputFault {
+        OutputFault::OutOfMemory
+    }
+}

@@ -1,0 +1,23 @@
+//! What the program prints: the report of a sending with its statement, the plan of a messages file,
+//! the replay of a schedule, and the lines that tell a person how far a sending is and what it came
+//! to. The first three are formed whole before `write_out` lets them go out.
+
+#![tactic(auto)]
+
+mod fault;
+mod output;
+mod plan;
+mod replay;
+mod report;
+mod summary;
+mod tally;
+#[cfg(test)]
+mod tests;
+
+pub use fault::OutputFault;
+pub use output::write_out;
+pub use plan::plan_text;
+pub use replay::replay_text;
+pub use report::{report_text, write_report_of};
+pub use summary::{Credits, EndLine, Summary, summary_of};
+pub use tally::{Tally, WayLine, tally_of};

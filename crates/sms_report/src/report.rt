@@ -1,0 +1,271 @@
+//! What the sender prints: a line for each segment, and the statement of the accounts.
+
+ghost use Rattle.std.specs.Prelude.{◌≡◌, ◌⊎◌, ◌++◌, IfErr, IfOk, OnOk, string_bytes};
+ghost use Rattle.std.specs.Io.KnownBytes.{Appends};
+ghost use Rattle.sms_report.specs.Output.{WritesFront};
+ghost use Rattle.sms_report.specs.Report.{amount_text, amounts_text, answer_text, end_text, end_texts, field_text, head_text, last_text, needs_quotes as wants_quotes, outcome_name as name_of_outcome, quoted, refusal_name as name_of_refusal, report_of, row_text, row_texts, segment_text, segment_texts, shown_id};
+ghost use Rattle.sms_report.specs.declared.fault.OutputFault.TheVariants.{OutOfMemory, Output};
+
+use crate::fault::OutputFault;
+use crate::output::write_out;
+use sms_book::{Opening, Statement};
+use sms_core::Row;
+use sms_pdu::{MessageId, Reply};
+use sms_worker::{Attempt, MessageEnd, MessageRefusal, MessageResult, Outcome, SegmentEnd};
+use std::alloc::{AllocError, Global};
+use std::fmt::Write;
+use std::io;
+
+/// The name of what became of a segment.
+fn outcome_name(outcome: Outcome) -> &'static str
+    ensures { result.now ≡ name_of_outcome outcome }
+{
+    match outcome {
+        Outcome::Charged => "charged",
+        Outcome::Refused => "refused",
+        Outcome::Unanswered => "unanswered",
+        Outcome::Unsent => "unsent",
+    }
+}
+
+/// The name of why a message isn't sent.
+fn refusal_name(refusal: MessageRefusal) -> &'static str
+    ensures { result.now ≡ name_of_refusal refusal }
+{
+    match refusal {
+        MessageRefusal::NoAccount => "no-account",
+        MessageRefusal::NoCredit => "no-credit",
+        MessageRefusal::TooLong => "too-long",
+        MessageRefusal::BadAddress => "bad-address",
+        MessageRefusal::BindClosed => "bind-closed",
+        MessageRefusal::OutOfMemory => "out-of-memory",
+    }
+}
+
+/// What is printed of a message_id: its octets, with `?` for each that isn't a printable ASCII
+/// character or is a space.
+fn shown_text(alloc: Global, id: &[u8]) -> Result<String, AllocError>
+    ensures { IfOk result (λ shown. string_bytes shown ≡ shown_id id.now) }
+{
+    let mut shown = String::new(alloc);
+    for octet in id {
+        if *octet >= 0x21 && *octet <= 0x7E {
+            shown.push(char::from(*octet))?;
+        } else {
+            shown.push('?')?;
+        }
+    }
+    Ok(shown)
+}
+
+/// Writes a field with each quote twice.
+fn write_quoted(text: &mut String, field: &str) -> Result<(), AllocError>
+    ensures { OnOk result (string_bytes text.new ≡ string_bytes text.old ++ quoted field.now) }
+{
+    for c in field.chars() {
+        if c == '"' {
+            text.push_str("\"\"")?;
+        } else {
+            text.push(c)?;
+        }
+    }
+    Ok(())
+}
+
+/// Whether the field has a comma, a quote or a line's end.
+fn needs_quotes(field: &[u8]) -> bool
+    ensures { result ≡ wants_quotes field.now }
+{
+    for octet in field {
+        if *octet == b',' || *octet == b'"' || *octet == b'\n' || *octet == b'\r' {
+            return true;
+        }
+    }
+    false
+}
+
+/// A field of CSV: as it stands, or in quotes where it has a comma, a quote or a line's end.
+fn write_field(text: &mut String, field: &str) -> Result<(), AllocError>
+    ensures { OnOk result (string_bytes text.new ≡ string_bytes text.old ++ field_text field.now) }
+{
+    if !needs_quotes(field.as_bytes()) {
+        return text.push_str(field);
+    }
+    text.push_str("\"")?;
+    write_quoted(text, field)?;
+    text.push_str("\"")
+}
+
+/// A message_id.
+fn write_id(alloc: Global, text: &mut String, id: &MessageId) -> Result<(), AllocError>
+    ensures { OnOk result (string_bytes text.new ≡ string_bytes text.old ++ field_text (shown_id id.now)) }
+{
+    let shown = shown_text(alloc, id.as_slice())?;
+    write_field(text, shown.as_str())
+}
+
+/// The status and the message_id of the last attempt's reply; both empty where it has none.
+fn write_last(alloc: Global, text: &mut String, attempts: &[Attempt]) -> Result<(), AllocError>
+    ensures { OnOk result (string_bytes text.new ≡ string_bytes text.old ++ last_text attempts.now) }
+{
+    match attempts.last() {
+        Some(attempt) => write_answer(alloc, text, &attempt.reply),
+        None => text.push_str(",\n"),
+    }
+}
+
+/// The status and the message_id of a reply, and the end of the line.
+fn write_answer(alloc: Global, text: &mut String, reply: &Option<Reply>) -> Result<(), AllocError>
+    ensures { OnOk result (string_bytes text.new ≡ string_bytes text.old ++ answer_text reply.now) }
+{
+    match reply {
+        None => text.push_str(",\n"),
+        Some(reply) => {
+            write!(text, "{},", reply.status)?;
+            write_id(alloc, text, &reply.id)?;
+            text.push_str("\n")
+        }
+    }
+}
+
+/// What stands before the last reply in a segment's line.
+fn write_head(
+    text: &mut String,
+    index: u64,
+    part: usize,
+    tries: usize,
+    outcome: Outcome,
+) -> Result<(), AllocError>
+    ensures { OnOk result (string_bytes text.new ≡ string_bytes text.old ++ head_text index part tries outcome) }
+{
+    let name = outcome_name(outcome);
+    write!(text, "{index},{part},{tries},{name},")
+}
+
+/// The line of the segment of a message with this number, from 1.
+fn write_segment(
+    alloc: Global,
+    text: &mut String,
+    index: u64,
+    part: usize,
+    segment: &SegmentEnd,
+) -> Result<(), AllocError>
+    ensures { OnOk result (string_bytes text.new ≡ string_bytes text.old ++ segment_text index part segment.now) }
+{
+    let attempts = segment.attempts.as_slice();
+    write_head(text, index, part, attempts.len(), segment.outcome)?;
+    write_last(alloc, text, attempts)
+}
+
+/// A line for each segment.
+fn write_segments(
+    alloc: Global,
+    text: &mut String,
+    index: u64,
+    segments: &[SegmentEnd],
+) -> Result<(), AllocError>
+    ensures { OnOk result (string_bytes text.new ≡ string_bytes text.old ++ segment_texts index 1 segments.now) }
+{
+    for (place, segment) in segments.iter().enumerate() {
+        write_segment(alloc, text, index, place + 1, segment)?;
+    }
+    Ok(())
+}
+
+/// The lines of a message.
+fn write_end(alloc: Global, text: &mut String, end: &MessageEnd) -> Result<(), AllocError>
+    ensures { OnOk result (string_bytes text.new ≡ string_bytes text.old ++ end_text end.now) }
+{
+    match &end.result {
+        MessageResult::Sent(segments) => {
+            write_segments(alloc, text, end.index, segments.as_slice())
+        }
+        MessageResult::Refused(refusal) => {
+            let name = refusal_name(*refusal);
+            writeln!(text, "{},0,0,{name},,", end.index)
+        }
+    }
+}
+
+/// The lines of all messages.
+fn write_ends(alloc: Global, text: &mut String, ends: &[MessageEnd]) -> Result<(), AllocError>
+    ensures { OnOk result (string_bytes text.new ≡ string_bytes text.old ++ end_texts ends.now) }
+{
+    for end in ends {
+        write_end(alloc, text, end)?;
+    }
+    Ok(())
+}
+
+/// A comma and the amount after it.
+fn write_amount(text: &mut String, amount: u64) -> Result<(), AllocError>
+    ensures { OnOk result (string_bytes text.new ≡ string_bytes text.old ++ amount_text amount) }
+{
+    write!(text, ",{amount}")
+}
+
+/// The amounts of a row, and the end of the line.
+fn write_amounts(text: &mut String, row: &Row) -> Result<(), AllocError>
+    ensures { OnOk result (string_bytes text.new ≡ string_bytes text.old ++ amounts_text row.now) }
+{
+    write_amount(text, row.topped)?;
+    write_amount(text, row.free)?;
+    write_amount(text, row.reserved)?;
+    write_amount(text, row.charged)?;
+    write_amount(text, row.returned)?;
+    text.push_str("\n")
+}
+
+/// The line of an account in the statement.
+fn write_row(text: &mut String, opening: &Opening, row: &Row) -> Result<(), AllocError>
+    ensures { OnOk result (string_bytes text.new ≡ string_bytes text.old ++ row_text opening.now row.now) }
+{
+    write_field(text, opening.name.as_str())?;
+    write_amounts(text, row)
+}
+
+/// A line for each account that has a row.
+fn write_rows(text: &mut String, openings: &[Opening], rows: &[Row]) -> Result<(), AllocError>
+    ensures { OnOk result (string_bytes text.new ≡ string_bytes text.old ++ row_texts openings.now rows.now) }
+{
+    for place in 0..openings.len().min(rows.len()) {
+        write_row(text, &openings[place], &rows[place])?;
+    }
+    Ok(())
+}
+
+/// What is printed of what became of the messages, and of the accounts.
+pub fn report_text(
+    alloc: Global,
+    openings: &[Opening],
+    ends: &[MessageEnd],
+    statement: &Statement,
+) -> Result<String, AllocError>
+    ensures { IfOk result (λ text. string_bytes text ≡ report_of openings.now ends.now statement.now) }
+{
+    let mut text = String::from_str(alloc, "message,part,attempts,outcome,status,id\n")?;
+    write_ends(alloc, &mut text, ends)?;
+    text.push_str("account,topped,free,reserved,charged,returned\n")?;
+    write_rows(&mut text, openings, statement.rows())?;
+    Ok(text)
+}
+
+/// Prints what became of the messages, and of the accounts. The text is formed whole before its
+/// first octet is written, so nothing is written where memory is refused.
+pub fn write_report_of<W: io::Write>(
+    alloc: Global,
+    openings: &[Opening],
+    ends: &[MessageEnd],
+    statement: &Statement,
+    output: &mut W,
+) -> Result<(), OutputFault>
+    ensures written { OnOk result (Appends (W.contents output.old) (W.contents output.new) (report_of openings.now ends.now statement.now)) }
+    ensures failed { IfErr result (λ fault. (fault ≡ Output) ⊎ (fault ≡ OutOfMemory)) }
+
+    // Where the output failed, a front of the text was written, and else nothing.
+    ensures front { IfErr result (λ fault. fault ≡ Output → WritesFront (W.contents output.old) (W.contents output.new) (report_of openings.now ends.now statement.now)) }
+    ensures quiet { IfErr result (λ fault. fault ≡ OutOfMemory → output.new ≡ output.old) }
+{
+    let text = report_text(alloc, openings, ends, statement)?;
+    write_out(output, text.as_bytes())
+}

@@ -1,0 +1,141 @@
+//! What a person is told at the end of a sending.
+
+ghost use Rattle.std.specs.Prelude.{◌≡◌, ◌+◌, ◌-◌, ◌^◌, length, min, sum_by};
+ghost use Rattle.sms_report.specs.Summary.{capped, credits_of as credits_in, segments_in, summary_of as summary_in};
+
+use sms_book::Statement;
+use sms_core::Row;
+use sms_worker::{MessageEnd, MessageResult};
+use std::fmt;
+
+/// Where the credits of all accounts stand. A sum past 64 bits is the greatest number.
+#[derive(Clone, Copy, Debug, PartialEq, Eq)]
+pub struct Credits {
+    /// Those of segments that the message centre took.
+    pub charged: u64,
+    /// Those of segments that were refused or not sent.
+    pub returned: u64,
+    /// Those of segments that had no answer.
+    pub reserved: u64,
+}
+
+/// How much was sent, and where the credits stand.
+#[derive(Clone, Copy, Debug, PartialEq, Eq)]
+pub struct Summary {
+    /// How many messages there were, sent or refused.
+    pub messages: usize,
+    /// How many segments they were sent as; past 64 bits the greatest number.
+    pub segments: u64,
+    /// Where the credits of all accounts stand.
+    pub credits: Credits,
+}
+
+impl fmt::Display for Credits {
+    ghost use Rattle.std.specs.Prelude.{Some};
+    ghost use Rattle.sms_report.specs.Summary.{credits_text};
+
+    ghost output = { λ credits. Some (credits_text credits) };
+
+    fn fmt<W: fmt::Write>(&self, f: &mut fmt::Formatter<W>) -> fmt::Result {
+        let (charged, returned, reserved) = (self.charged, self.returned, self.reserved);
+        write!(
+            f,
+            "credits charged {charged}, returned {returned}, still reserved {reserved}"
+        )
+    }
+}
+
+impl fmt::Display for Summary {
+    ghost use Rattle.std.specs.Prelude.{Some};
+    ghost use Rattle.sms_report.specs.Summary.{summary_text};
+
+    ghost output = { λ summary. Some (summary_text summary) };
+
+    fn fmt<W: fmt::Write>(&self, f: &mut fmt::Formatter<W>) -> fmt::Result {
+        let (messages, segments, credits) = (self.messages, self.segments, self.credits);
+        write!(f, "messages {messages}, segments {segments}, {credits}")
+    }
+}
+
+impl Credits {
+    /// These and an account's.
+    fn with(self, row: &Row) -> Credits
+        ensures charged { result.charged ≡ min (self.charged + row.now.charged) (2 ^ 64 - 1) }
+        ensures returned { result.returned ≡ min (self.returned + row.now.returned) (2 ^ 64 - 1) }
+        ensures reserved { result.reserved ≡ min (self.reserved + row.now.reserved) (2 ^ 64 - 1) }
+    {
+        Credits {
+            charged: self.charged.saturating_add(row.charged),
+            returned: self.returned.saturating_add(row.returned),
+            reserved: self.reserved.saturating_add(row.reserved),
+        }
+    }
+}
+
+/// How many segments the message was sent as.
+fn segments_of(end: &MessageEnd) -> usize
+    ensures { result ≡ segments_in end.now }
+{
+    match &end.result {
+        MessageResult::Sent(segments) => segments.len(),
+        MessageResult::Refused(_) => 0,
+    }
+}
+
+/// How many segments all messages were sent as.
+fn all_segments(ends: &[MessageEnd]) -> u64
+    ensures { result ≡ capped (sum_by segments_in ends.now) }
+{
+    let mut total = 0u64;
+    for end in ends {
+        total = total.saturating_add(segments_of(end) as u64);
+    }
+    total
+}
+
+/// The sums over all accounts.
+fn credits_of(rows: &[Row]) -> Credits
+    ensures { result ≡ credits_in rows.now }
+{
+    let mut credits = Credits {
+        charged: 0,
+        returned: 0,
+        reserved: 0,
+    };
+    for row in rows {
+        credits = credits.with(row);
+    }
+    credits
+}
+
+/// What the report and the statement come to.
+pub fn summary_of(ends: &[MessageEnd], statement: &Statement) -> Summary
+    ensures { result ≡ summary_in ends.now statement.now }
+{
+    Summary {
+        messages: ends.len(),
+        segments: all_segments(ends),
+        credits: credits_of(statement.rows()),
+    }
+}
+
+/// The line that ends a sending.
+#[derive(Clone, Copy, Debug, PartialEq, Eq, Drop)]
+pub struct EndLine {
+    /// What it came to.
+    pub summary: Summary,
+    /// How long it took, in milliseconds.
+    pub ms: u64,
+}
+
+impl fmt::Display for EndLine {
+    ghost use Rattle.std.specs.Prelude.{Some};
+    ghost use Rattle.sms_report.specs.Summary.{done_text};
+
+    ghost output = { λ line. Some (done_text line) };
+
+    fn fmt<W: fmt::Write>(&self, f: &mut fmt::Formatter<W>) -> fmt::Result {
+        let (summary, seconds, tenths) = (self.summary, self.ms / 1000, self.ms % 1000 / 100);
+        write!(f, "done: {summary}, seconds {seconds}.{tenths}")
+    }
+}

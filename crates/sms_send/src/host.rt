@@ -1,0 +1,26 @@
+//! What the program asks of the process that it runs in.
+
+use crate::progress::Screen;
+use std::io::Eprint;
+use std::rt::{Env, Files};
+use std::sync::Wait;
+use std::thread::Threads;
+use std::time::Clock;
+
+/// Memory, words, files, standard input and error, threads and the time. Connections are asked for beside
+/// it, since they name the types of their streams.
+pub trait Host: AllocGlobal
+    + Env
+    + Files
+    + Input
+    + Threads
+    + Wait
+    + Clock
+    + Eprint
+    + Screen
+    + Sync {}
+
+impl<R> Host for R
+where
+    R: AllocGlobal + Env + Files + Input + Threads + Wait + Clock + Eprint + Screen + Sync,
+{}
