@@ -85,6 +85,9 @@ fn longest_rate(rates: &[Rate], order: &[usize], digits: &[u8]) -> Option<usize>
     ensures found { IfSome result (λ place. IsLongest (prices_of rates.now) digits.now place) }
     ensures none { IsNone result → (place : ℕ) → place < length rates.now → ¬ (Begins digits.now (price_at (prices_of rates.now) place).prefix) }
 {
+    if rates.is_empty() {
+        return None;
+    }
     let most = digits.len().min(MOST_DIGITS);
     for shorter in 0..most + 1 {
         if let Ok(place) = seek(rates, order, &digits[..most - shorter]) {
