@@ -6,5 +6,6 @@ pub mod Readings
 pub mod Surrogates
 pub mod Told
 pub mod Membership
+pub mod Plain
 pub mod Ranges
 pub mod Lawful

@@ -1,11 +1,11 @@
 -- The look-ups of the code agree with the alphabet's table.
-use Rattle.std.proofs.Common.{◌≡◌, ◌≢◌, ℕ, ◌/◌, ◌%◌, ◌<◌, inl, inr, Bool, true, false, not, ◌&&◌, ◌||◌, eqb, ltb, List, [], ◌∷◌, get_or, Option, None, Some, refl, ap}
-use Rattle.std.proofs.lemmas.Bool.{eqb-true, eqb-false, ltb-true, and_parts, or_cases, not-true, agree_below, agree_below_at}
+use Rattle.std.proofs.Common.{◌≡◌, ◌≢◌, ℕ, ◌/◌, ◌%◌, ◌<◌, inl, inr, Bool, true, false, not, ◌&&◌, ◌||◌, eqb, ltb, leb, List, [], ◌∷◌, get_or, Option, None, Some, refl, ap}
+use Rattle.std.proofs.lemmas.Bool.{true≢false, eqb-true, eqb-false, ne_eqb, ltb-true, and_parts, or_cases, not-true, agree_below, agree_below_at}
 use Rattle.std.proofs.lemmas.Slice.Eq.{bytes_eq-Decides}
 use Rattle.std.specs.List.{list_all, list_any}
 use Rattle.std.specs.Str.{bytes_eq}
 use Rattle.sms_alphabet.specs.declared.alphabet.TheConstants.{LATIN_CODES, CHARACTERS}
-use Rattle.sms_alphabet.specs.Alphabet.{default_alphabet, codes_of, escape}
+use Rattle.sms_alphabet.specs.Alphabet.{default_alphabet, codes_of, is_plain, escape}
 use Rattle.sms_alphabet.proofs.Table.{alphabet_passes}
 
 bytes_eq-true : (xs ys : List ℕ) → bytes_eq xs ys ≡ true → xs ≡ ys
@@ -37,6 +37,36 @@ latin_code c below other =
       | inl is ↦ absurd (other (eqb-true _ _ is))
       | inr is ↦ found_codes (codes_of c) (get_or LATIN_CODES c 0 ∷ []) is
     ]
+
+-- the ranges of the characters of ASCII that have one code
+abbrev pub in_plain_ranges : ℕ → Bool
+in_plain_ranges c = (leb 32 c && leb c 90) || (leb 97 c && leb c 122) || eqb c 95 || eqb c 10 || eqb c 13
+
+ranges_agree : agree_below in_plain_ranges is_plain 256 ≡ true
+unfolding codes_of default_alphabet
+ranges_agree = refl
+
+pub plain_ranges : (c : ℕ) → c < 256 → in_plain_ranges c ≡ is_plain c
+plain_ranges c below = agree_below_at in_plain_ranges is_plain 256 c ranges_agree below
+
+-- but for three, such a character is its own code
+abbrev is_own : ℕ → Bool
+is_own c = not (is_plain c) || (eqb c 64 || (eqb c 36 || (eqb c 95 || is_found (codes_of c) (c ∷ []))))
+
+own_codes_agree : agree_below is_own (λ _. true) 128 ≡ true
+unfolding codes_of default_alphabet
+own_codes_agree = refl
+
+left_over : (x y : Bool) → (x || y) ≡ true → x ≡ false → y ≡ true
+left_over true y either not_left = absurd (true≢false not_left)
+left_over false y either not_left = either
+
+pub own_code : (c : ℕ) → is_plain c ≡ true → c ≢ 64 → c ≢ 36 → c ≢ 95 → codes_of c ≡ Some (c ∷ [])
+own_code c plain no_at no_dollar no_low_line =
+    let below = ltb-true c 128 (and_parts _ _ plain).0 in
+    let own : is_own c ≡ true = agree_below_at is_own (λ _. true) 128 c own_codes_agree below in
+    found_codes (codes_of c) (c ∷ [])
+    (left_over _ _ (left_over _ _ (left_over _ _ (left_over _ _ own (ap not plain)) (ne_eqb c 64 no_at)) (ne_eqb c 36 no_dollar)) (ne_eqb c 95 no_low_line))
 
 -- the character in a code's row, at its place there
 abbrev pub character_at : ℕ → ℕ

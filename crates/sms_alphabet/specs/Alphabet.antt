@@ -1,5 +1,5 @@
 -- The GSM 7 bit default alphabet and its extension table (3GPP TS 23.038 6.2.1 and 6.2.1.1).
-use Rattle.std.specs.Prelude.{ℕ, ◌≡◌, ◌≢◌, List, [], ◌∷◌, Option, None, Some, ◌==◌, MatchOption, if◌then◌else◌}
+use Rattle.std.specs.Prelude.{ℕ, ◌≡◌, ◌≢◌, List, [], ◌∷◌, Option, None, Some, Bool, true, false, ◌==◌, ◌&&◌, nat_lt, MatchOption, if◌then◌else◌}
 
 -- the escape to the extension table, which is no character's code by itself
 abbrev pub escape : ℕ
@@ -59,3 +59,11 @@ codes_of c = codes_in default_alphabet c
 -- the answer is the character with these codes, or that there is none
 abbrev pub IsCharacterOf : List ℕ → Option ℕ → Type 0
 IsCharacterOf codes answer = MatchOption answer ((c : ℕ) → codes_of c ≢ Some codes) (λ c. codes_of c ≡ Some codes)
+
+abbrev pub is_one : Option (List ℕ) → Bool
+is_one (Some (code ∷ [])) = true
+is_one _ = false
+
+-- an ASCII character of the alphabet that isn't of its extension table
+abbrev pub is_plain : ℕ → Bool
+is_plain c = nat_lt c 128 && is_one (codes_of c)

@@ -1,9 +1,9 @@
 //! Look-ups in the default alphabet and its extension table, from a character and from a code.
 //! Each takes constant time.
 
-ghost use Rattle.std.specs.Prelude.{◌≡◌, ◌<◌, [], ◌∷◌, slice_index};
+ghost use Rattle.std.specs.Prelude.{◌≡◌, ◌<◌, [], ◌∷◌, Some, IsTrue, slice_index};
 ghost use Rattle.std.specs.Option.{option_map};
-ghost use Rattle.sms_alphabet.specs.Alphabet.{codes_of, IsCharacterOf};
+ghost use Rattle.sms_alphabet.specs.Alphabet.{codes_of, is_plain, IsCharacterOf};
 ghost use Rattle.sms_alphabet.specs.Code.{codes};
 
 /// The escape to the extension table (3GPP TS 23.038 6.2.1.1). It is no character's code by itself.
@@ -79,6 +79,32 @@ pub(crate) fn code_of(c: char) -> Option<Code>
         }
     }
     code_beyond_latin(c)
+}
+
+/// Whether an octet of a text is an ASCII character with a code of the default alphabet. All of it is
+/// compared, without a branch, so that a loop over octets looks at many at once.
+pub(crate) fn is_plain(octet: u8) -> bool
+    ensures { result ≡ is_plain octet }
+{
+    ((octet >= b' ') & (octet <= b'Z'))
+        | ((octet >= b'a') & (octet <= b'z'))
+        | (octet == b'_')
+        | (octet == b'\n')
+        | (octet == b'\r')
+}
+
+/// The code of such a character. It is its own but for three.
+#[tactic(auto, unfolding(crate::specs::Alphabet::codes_of, crate::specs::Alphabet::default_alphabet))]
+pub(crate) fn plain_code(octet: u8) -> u8
+    requires { IsTrue (is_plain octet) }
+    ensures { codes_of octet ≡ Some (result ∷ []) }
+{
+    match octet {
+        b'@' => 0x00,
+        b'$' => 0x02,
+        b'_' => 0x11,
+        _ => octet,
+    }
 }
 
 /// The capital letters of Greek that aren't drawn as Latin ones, and the extension table.
