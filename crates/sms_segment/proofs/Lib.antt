@@ -7,3 +7,4 @@ pub mod EscapeLemmas
 pub mod PartLemmas
 pub mod JoinLemmas
 pub mod SizeLemmas
+pub mod AtOnceLemmas

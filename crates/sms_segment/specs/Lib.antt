@@ -1,3 +1,4 @@
+pub mod AtOnce
 pub mod Cutting
 pub mod Front
 pub mod Group

@@ -2,10 +2,11 @@
 //!
 //! [`cut`] gives the parts of a coded text, as few as there can be, and [`join`] the text of its
 //! parts. A [`Part`] tells what the fields of its `submit_sm` are: `short_message`, `esm_class` and
-//! `data_coding`.
+//! `data_coding`. [`short_message_of`] gives these at once for a text that needs no more than one.
 
 #![tactic(auto)]
 
+mod at_once;
 mod cutting;
 mod front;
 mod joining;
@@ -16,6 +17,7 @@ mod place;
 #[cfg(test)]
 mod tests;
 
+pub use at_once::{ShortMessage, short_message_of};
 pub use cutting::{CutError, cut};
 pub use joining::{JoinError, join};
 pub use part::Part;

@@ -58,10 +58,17 @@ impl Part {
     pub fn data_coding(&self) -> u8
         ensures { result ≡ data_coding self.now.coding }
     {
-        match self.coding {
-            Coding::Gsm => 0x00,
-            Coding::Ucs2 => 0x08,
-        }
+        data_coding(self.coding)
+    }
+}
+
+/// The `data_coding` of a coding.
+pub(crate) fn data_coding(coding: Coding) -> u8
+    ensures { result ≡ data_coding coding }
+{
+    match coding {
+        Coding::Gsm => 0x00,
+        Coding::Ucs2 => 0x08,
     }
 }
 
@@ -97,13 +104,14 @@ fn push_septets(octets: &mut Vec<u8>, units: &[u16]) -> Result<(), AllocError>
     requires { All (λ unit. unit ≤ 127) units.now }
     ensures { OnOk result (octets.new.items ≡ octets.old.items ++ flat_map (octets_of Coding.Gsm) units.now) }
 {
+    octets.reserve(units.len())?;
     for unit in units {
-        octets.push(*unit as u8)?;
+        octets.push_reserved(*unit as u8);
     }
     Ok(())
 }
 
-fn push_big_endian(octets: &mut Vec<u8>, units: &[u16]) -> Result<(), AllocError>
+pub(crate) fn push_big_endian(octets: &mut Vec<u8>, units: &[u16]) -> Result<(), AllocError>
     ensures { OnOk result (octets.new.items ≡ octets.old.items ++ flat_map (octets_of Coding.Ucs2) units.now) }
 {
     for unit in units {

@@ -10,6 +10,7 @@ use std::fmt::Debug;
 use std::process::Abort;
 use texts::{had, letters, pairs_of, text_with_pair};
 
+mod at_once;
 mod texts;
 
 // Both are the same. A test that compares by a call has a short proof: what is printed where they
