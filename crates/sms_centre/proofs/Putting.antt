@@ -18,35 +18,16 @@ AllZip-append R [] us (y ∷ ys) vs p q = absurd p
 AllZip-append R (x ∷ xs) us [] vs p q = absurd p
 AllZip-append R (x ∷ xs) us (y ∷ ys) vs p q = (p.0, AllZip-append R xs us ys vs p.1 q)
 
--- the octets of a piece behind what was there
-record Behind (s : Said) (old new : List ℕ) : Type 0 where
-  octets : List ℕ
-  said : IsSaid s octets
-  behind : new ≡ old ++ octets
-
-puts_said : (s : Said) (old new : List ℕ) → Puts s old new → Behind s old new
-puts_said (said.BindResp mode status number) old new a = record { octets = a.octets; said = a.spelled; behind = a.behind }
-puts_said (said.SubmitResp k status number) old new a = record { octets = a.octets; said = a.spelled; behind = a.behind }
-puts_said (said.CutResp k number) old new a = record { octets = take 10 a.all; said = record { all = a.all; spelled = a.spelled; front = refl }; behind = a.behind }
-puts_said (said.GenericNack status number) old new a = record { octets = a.octets; said = a.spelled; behind = a.behind }
-puts_said said.Unbind old new a = record { octets = a.octets; said = a.spelled; behind = a.behind }
-puts_said (said.UnbindResp number) old new a = record { octets = a.octets; said = a.spelled; behind = a.behind }
-puts_said (said.EnquireLinkResp number) old new a = record { octets = a.octets; said = a.spelled; behind = a.behind }
-puts_said said.Deliver old new a = record { octets = a.octets; said = a.spelled; behind = a.behind }
-puts_said said.HugeLength old new a = record { octets = _; said = refl; behind = a }
-
 -- behind nothing
 pub said_alone : (s : Said) (old new : List ℕ) → old ≡ [] → Puts s old new → IsSaid s new
-said_alone s old new none a =
-    let p = puts_said s old new a in
-    subst (IsSaid s) (sym (p.behind ∙ ap (λ (l : List ℕ). l ++ p.octets) none)) p.said
+said_alone s old new none a = subst (IsSaid s) (sym (a.behind ∙ ap (λ (l : List ℕ). l ++ a.octets) none)) a.is
 
 -- the front of what was added
 pub cut_behind : (k number n : ℕ) (old new cut : List ℕ) → n ≡ length old → Adds (answer_to k no_error number) old new → cut ≡ take (n + 10) new → Puts (said.CutResp k number) old cut
 cut_behind k number n old new cut long a is =
     record {
-      all = a.octets;
-      spelled = a.spelled;
+      octets = take 10 a.octets;
+      is = record { all = a.octets; spelled = a.spelled; front = refl };
       behind = is ∙ ap (λ l. take (n + 10) l) a.behind ∙ ap (λ i. take (i + 10) (old ++ a.octets)) long ∙ take-append-add old a.octets 10;
     }
 
@@ -55,13 +36,12 @@ none_put out = record { pieces = []; behind = sym (append-nil out); said = tt }
 
 -- one piece more
 pub put_more : (ss : List Said) (s : Said) (a b c : List ℕ) → PutsAll ss a b → Puts s b c → PutsAll (ss ++ s ∷ []) a c
-put_more ss s a b c p x =
-    let q = puts_said s b c x in
+put_more ss s a b c p q =
     record {
       pieces = p.pieces ++ q.octets ∷ [];
       behind = q.behind ∙ ap (λ (l : List ℕ). l ++ q.octets) p.behind ∙ append_assoc a (concat p.pieces) q.octets
           ∙ ap (λ (l : List ℕ). a ++ l) (ap (λ (l : List ℕ). concat p.pieces ++ l) (sym (append-nil q.octets)) ∙ sym (concat-append p.pieces (q.octets ∷ [])));
-      said = AllZip-append IsSaid ss (s ∷ []) p.pieces (q.octets ∷ []) p.said (q.said, tt);
+      said = AllZip-append IsSaid ss (s ∷ []) p.pieces (q.octets ∷ []) p.said (q.is, tt);
     }
 
 pub put_next : (ss : List Said) (i : ℕ) (d : Said) (a b c : List ℕ) → i < length ss → PutsAll (take i ss) a b → Puts (get_or ss i d) b c → PutsAll (take (i + 1) ss) a c

@@ -155,6 +155,8 @@ serves p q why held r t a b x end =
     let w = x.went in
     let d = each_divided x.left in
     let joined = conversation-append (talking p) w.frames d.frames in
+    let still = λ (e : is_early (cause_of why) ≡ false). quiet q why x.left held d.frames d.rest e x.leaves d.divided in
+    let talked = λ (e : is_early (cause_of why) ≡ false). talk-append (talking p) w.frames d.frames ∙ ap (λ (k : Talk). talk k d.frames) (sym (w.done.heard e)) ∙ (still e).1 in
     record {
       got = x.got;
       consumed = x.consumed;
@@ -167,9 +169,10 @@ serves p q why held r t a b x end =
       each = w.done.each;
       writes = w.done.writes;
       counted = ap (λ (k : Progress). k.submits) w.done.at;
-      whole = λ e.
-          joined ∙ ap (λ (k : Talk). conversation (talking p) w.frames ++ conversation k d.frames) (sym (w.done.heard e)) ∙ ap (λ (l : List Said). conversation (talking p) w.frames ++ l) (quiet q why x.left held d.frames d.rest e x.leaves d.divided).0 ∙ append-nil (conversation (talking p) w.frames);
-      why = brings why (talk (talking p) (w.frames ++ d.frames)).over x.left held d.frames d.rest t (λ e. ap (λ (k : Talk). k.over) (talk-append (talking p) w.frames d.frames ∙ ap (λ (k : Talk). talk k d.frames) (sym (w.done.heard e)) ∙ (quiet q why x.left held d.frames d.rest e x.leaves d.divided).1)) x.leaves d.divided end;
+      whole = λ e. talked e ∙ w.done.heard e;
+      said = λ e.
+          joined ∙ ap (λ (k : Talk). conversation (talking p) w.frames ++ conversation k d.frames) (sym (w.done.heard e)) ∙ ap (λ (l : List Said). conversation (talking p) w.frames ++ l) (still e).0 ∙ append-nil (conversation (talking p) w.frames);
+      why = brings why (talk (talking p) (w.frames ++ d.frames)).over x.left held d.frames d.rest t (λ e. ap (λ (k : Talk). k.over) (talked e)) x.leaves d.divided end;
     }
 
 -- no memory, and so nothing was read

@@ -13,7 +13,6 @@ use Rattle.sms_pdu.specs.declared.command.Mode.TheVariants.{Transmitter, Transce
 use Rattle.sms_pdu.specs.declared.command.Command.TheVariants as command
 use Rattle.sms_pdu.specs.Command.{id_of}
 use Rattle.sms_pdu.specs.Grammar.{Spells}
-use Rattle.sms_pdu.specs.Writing.{Adds}
 use Rattle.sms_centre.specs.declared.kept.Kept.{Kept}
 use Rattle.sms_centre.specs.declared.said.Said.{Said}
 use Rattle.sms_centre.specs.declared.said.Said.TheVariants as said
@@ -48,12 +47,6 @@ pub record IsCut (p : Pdu) (octets : List ℕ) : Type 0 where
   pub spelled : Spells p all
   pub front : octets ≡ take 10 all
 
--- the same, behind what was there
-pub record PutsCut (p : Pdu) (old new : List ℕ) : Type 0 where
-  pub all : List ℕ
-  pub spelled : Spells p all
-  pub behind : new ≡ old ++ take 10 all
-
 -- the octets of a piece
 abbrev pub IsSaid : Said → List ℕ → Type 0
 IsSaid (said.BindResp mode status number) octets = Spells (bind_answer mode status number) octets
@@ -67,16 +60,10 @@ IsSaid said.Deliver octets = Spells (pdu no_error 2 (body.Deliver empty_sm)) oct
 IsSaid said.HugeLength octets = octets ≡ to_be_bytes w32 70001
 
 -- the same, behind what was there
-abbrev pub Puts : Said → List ℕ → List ℕ → Type 0
-Puts (said.BindResp mode status number) old new = Adds (bind_answer mode status number) old new
-Puts (said.SubmitResp k status number) old new = Adds (answer_to k status number) old new
-Puts (said.CutResp k number) old new = PutsCut (answer_to k no_error number) old new
-Puts (said.GenericNack status number) old new = Adds (pdu status number body.GenericNack) old new
-Puts said.Unbind old new = Adds (pdu no_error 1 body.Unbind) old new
-Puts (said.UnbindResp number) old new = Adds (pdu no_error number body.UnbindResp) old new
-Puts (said.EnquireLinkResp number) old new = Adds (pdu no_error number body.EnquireLinkResp) old new
-Puts said.Deliver old new = Adds (pdu no_error 2 (body.Deliver empty_sm)) old new
-Puts said.HugeLength old new = new ≡ old ++ to_be_bytes w32 70001
+pub record Puts (said : Said) (old new : List ℕ) : Type 0 where
+  pub octets : List ℕ
+  pub is : IsSaid said octets
+  pub behind : new ≡ old ++ octets
 
 -- pieces behind what was there, one after another
 pub record PutsAll (saids : List Said) (old new : List ℕ) : Type 0 where

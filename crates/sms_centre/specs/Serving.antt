@@ -103,5 +103,6 @@ pub record Serves (begun : Progress) (before after old new : Option (List ℕ)) 
   pub each : AllZip IsSaid (conversation (talking begun) answered) pieces
   pub writes : Writes (is_early cause) old new (concat pieces)
   pub counted : submits ≡ (talk (talking begun) answered).now.submits
-  pub whole : is_early cause ≡ false → conversation (talking begun) frames ≡ conversation (talking begun) answered
+  pub whole : is_early cause ≡ false → talk (talking begun) frames ≡ talk (talking begun) answered
+  pub said : is_early cause ≡ false → conversation (talking begun) frames ≡ conversation (talking begun) answered
   pub why : Brings cause (talk (talking begun) frames).over rest after

@@ -22,7 +22,6 @@ pub use centre::Centre;
 pub use fuse::Fuse;
 pub use keys::strings_of;
 pub use pipe::{Pipe, PipeEnd};
-pub use said::Said;
 pub use script::{Script, ScriptError};
 pub use serving::{ServeCause, ServeEnd, serve};
 pub use treatment::Treatment;

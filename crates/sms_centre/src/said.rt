@@ -13,7 +13,7 @@ use std::alloc::{AllocError, Global};
 
 /// A piece that the centre writes: a PDU, the front of one, or a command_length alone.
 #[derive(Clone, Copy, Debug, PartialEq, Eq)]
-pub enum Said {
+pub(crate) enum Said {
     /// The answer to a bind (SMPP 3.4 4.1.2, 4.1.6): with the system_id `TEST` where the status is
     /// 0, else without a body.
     BindResp {
