@@ -9,7 +9,7 @@ ghost use Rattle.sms_pdu.specs.Turn.{most_piece, GaveAtMost, IsSpent, gives_noth
 ghost use Rattle.sms_centre.specs.Says.{begun};
 ghost use Rattle.sms_centre.specs.Serving.{Serves, end_at as brought_by, hangs_up as hung_up_by};
 ghost use Rattle.sms_centre.specs.Stops.{cause_of as cause_of_stop, brought, stretch_of, Answered, Written};
-ghost use Rattle.sms_centre.specs.declared.serving.Stop.TheVariants.{Ended, ReadFault, Turns};
+ghost use Rattle.sms_centre.specs.declared.serving.Stop.TheVariants.{Ended, OutOfMemory, ReadFault, Turns};
 
 use crate::centre::Centre;
 use crate::said::Said;
@@ -92,6 +92,9 @@ pub fn serve<R: Read, W: Write>(
 ) -> ServeEnd
     ensures serves { Serves (begun script) (R.remaining reader.old) (R.remaining reader.new) (W.contents writer.old) (W.contents writer.new) result.cause result.submits }
     ensures most { GaveAtMost (most_piece * turns) (R.remaining reader.old) (R.remaining reader.new) }
+
+    // Nothing but want of memory ends it before its first turn.
+    ensures none { turns ≡ 0 → (result.cause ≡ ServeCause.Turns) ⊎ (result.cause ≡ ServeCause.OutOfMemory) }
 {
     match Centre::new(alloc, script) {
         Ok(mut centre) => {
@@ -153,6 +156,7 @@ impl Centre {
     ) -> Stop
         ensures served { (held : List ℕ) × Reads (Written self.old self.new (Some result) (W.contents writer.old) (W.contents writer.new)) [] (R.remaining reader.old) (R.remaining reader.new) (stretch_of (Some result)) held }
         ensures most { GaveAtMost (most_piece * turns) (R.remaining reader.old) (R.remaining reader.new) }
+        ensures none { turns ≡ 0 → (result ≡ Turns) ⊎ (result ≡ OutOfMemory) }
         ensures end { result ≡ Ended → IsAtEnd (R.remaining reader.new) }
     {
         let Ok(mut buffers) = Buffers::new(alloc) else {
