@@ -13,6 +13,7 @@ use rtrb::Producer;
 use sms_core::MOST_SLOTS;
 use sms_pdu::Reply;
 use std::alloc::{AllocError, Global};
+use std::sync::atomic::{AtomicU32, Ordering};
 use std::sync::{Mutex, Wait};
 
 /// The 64 slots of a bind. A call takes one slot's lock at a time, and waits for it. What a slot has
@@ -20,7 +21,14 @@ use std::sync::{Mutex, Wait};
 #[derive(Drop)]
 pub struct SlotRow {
     slots: Vec<Mutex<Slot>>,
+    /// The number that was posted last in each slot. `post` alone writes it, while it holds the slot's
+    /// lock and before its caller can send the request: an answer to a request that waits finds its
+    /// number here, since nothing else can be posted in that slot until the request is gone from it.
+    /// So a slot that has another number here needs no look behind its lock. A request that was
+    /// answered or given up leaves its number, which the slot behind the lock no longer waits for.
+    numbers: Vec<AtomicU32>,
     ghost all: { vec_len slots ≡ most_slots },
+    ghost each: { vec_len numbers ≡ most_slots },
 }
 
 /// Where an answer was brought.
@@ -38,10 +46,12 @@ impl SlotRow {
     /// 64 empty slots.
     pub fn new(alloc: Global) -> Result<SlotRow, AllocError> {
         let mut slots = Vec::with_capacity(alloc, MOST_SLOTS as usize)?;
+        let mut numbers = Vec::with_capacity(alloc, MOST_SLOTS as usize)?;
         for _ in 0..MOST_SLOTS {
             slots.push_reserved(Mutex::new(Slot::Empty));
+            numbers.push_reserved(AtomicU32::new(0));
         }
-        Ok(SlotRow { slots })
+        Ok(SlotRow { slots, numbers })
     }
 
     /// `Slot::post` of this slot.
@@ -55,7 +65,9 @@ impl SlotRow {
         requires slot { slot < most_slots }
     {
         let mut kept = self.slots[slot as usize].lock(rt);
-        kept.post(worker, number)
+        kept.post(worker, number)?;
+        self.numbers[slot as usize].store(number, Ordering::SeqCst);
+        Ok(())
     }
 
     /// `Slot::take` of this slot.
@@ -75,7 +87,8 @@ impl SlotRow {
     }
 
     /// `Slot::answer` of the first slot, from slot 0 on, that waits for the answer's number. The
-    /// answer goes into the ring while that slot is locked.
+    /// answer goes into the ring while that slot is locked, and no slot is locked in which that number
+    /// wasn't posted.
     #[tactic(auto, using(crate::proofs::Rings::same_rings))]
     pub fn answer<R: Wait>(&self, rt: &R, reply: Reply, producers: &mut [Producer<Reply>]) -> Search
         ensures slot { IsInRow result }
@@ -86,6 +99,9 @@ impl SlotRow {
         ensures unknown { result ≡ Unknown → producers.new ≡ producers.old }
     {
         for slot in 0..MOST_SLOTS {
+            if self.numbers[slot as usize].load(Ordering::SeqCst) != reply.number {
+                continue;
+            }
             let mut kept = self.slots[slot as usize].lock(rt);
             // Each turn has a copy of its own, or the borrow checker takes the reply for moved.
             let this = reply;
