@@ -17,7 +17,7 @@ use Rattle.sms_pdu.proofs.Streams.{went_none, went_more, reads_none, consumes_no
 use Rattle.sms_bind.specs.declared.ending.ReaderCause.{ReaderCause}
 use Rattle.sms_bind.specs.declared.ending.ReaderCause.TheVariants as cause
 use Rattle.sms_bind.specs.Deeds.{Suits, Reaches, state_after, stretch_of, broken_at, log, tallies, of_response, is_broken}
-use Rattle.sms_bind.specs.Faults.{IsCounted}
+use Rattle.sms_bind.specs.Faults.{Counts, IsCounted}
 use Rattle.sms_bind.specs.Held.{Held}
 use Rattle.sms_bind.specs.Follows.{Follows}
 use Rattle.sms_bind.specs.ReaderStates.{Worked}
@@ -75,6 +75,10 @@ frames_from fs i f low is = ap concat (drop_more fs i f low ∙ ap (λ (x : List
 pub counted_later : (a b c : ℕ) → a ≤ b → b ≤ c → IsCounted b c → IsCounted a c
 counted_later a b c low up (inl h) = inl (omega arith)
 counted_later a b c low up (inr h) = elim (cases_lt a c) [ inl more ↦ inl more | inr same ↦ inr (omega arith) ]
+
+-- one more than a number that is the same
+pub counted_once : (a b c : ℕ) → b ≡ a → Counts b c → Counts a c
+counted_once a b c same h = subst (λ n. Counts n c) same h
 
 pub follows_same : (h : Held) → Follows h h
 follows_same h = record { window = refl; began = refl; most = refl }

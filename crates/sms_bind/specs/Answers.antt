@@ -1,5 +1,5 @@
 -- What the octets that were read say to a bind.
-use Rattle.std.specs.Prelude.{◌≡◌, ℕ, ◌+◌, List, [], ◌∷◌, Bool, true, false, Result, Ok, Err, ◌⊎◌}
+use Rattle.std.specs.Prelude.{◌≡◌, ℕ, ◌+◌, ◌<◌, List, [], ◌∷◌, Bool, true, false, Result, Ok, Err, ◌⊎◌}
 use Rattle.sms_pdu.specs.declared.command.Mode.{Mode}
 use Rattle.sms_pdu.specs.Header.{header_at_front}
 use Rattle.sms_pdu.specs.Frame.{Division, IsBad}
@@ -8,6 +8,9 @@ use Rattle.sms_session.specs.declared.session.OpenFault.{OpenFault}
 use Rattle.sms_session.specs.declared.session.OpenFault.TheVariants.{Refused, NotBind}
 use Rattle.sms_session.specs.Session.{opening}
 use Rattle.sms_bind.specs.declared.bound.Bound.{Bound}
+use Rattle.sms_bind.specs.declared.tap.Tap.{Tap}
+use Rattle.sms_bind.specs.Devices.{faults_of, failures_of}
+use Rattle.sms_bind.specs.Faults.{Counts, CountsMany}
 use Rattle.sms_bind.specs.declared.binding.BindFault.{BindFault}
 use Rattle.sms_bind.specs.declared.binding.BindFault.TheVariants as fault
 
@@ -18,6 +21,15 @@ most_answer = 70000 + 4096
 -- the reads that may give nothing, of which the last is a fault
 abbrev pub most_tries : ℕ
 most_tries = 600
+
+-- what the device's counts say of a call that answers a failed read: it met one failure more, or none and so many reads
+-- that gave nothing
+abbrev pub Fails : {T : Type 0} → Tap T → Tap T → Type 0
+Fails old new = Counts (failures_of old) (failures_of new) ⊎ ((failures_of new ≡ failures_of old) × CountsMany most_tries (faults_of old) (faults_of new))
+
+-- and of every other call: it met no failure, and fewer reads that gave nothing
+abbrev pub Passes : {T : Type 0} → Tap T → Tap T → Type 0
+Passes old new = (failures_of new ≡ failures_of old) × (faults_of new < faults_of old + most_tries)
 
 -- the bind was written whole
 abbrev pub sent_at : BindFault → Bool

@@ -11,6 +11,10 @@ device tap = tap.inner
 abbrev pub faults_of : {T : Type 0} → Tap T → ℕ
 faults_of tap = tap.faults
 
+-- how many of them say more than that nothing came
+abbrev pub failures_of : {T : Type 0} → Tap T → ℕ
+failures_of tap = tap.failures
+
 -- the writer that a wire writes to
 abbrev pub writer : {W : Type 0} → Wire W → W
 writer wire = wire.tap.inner

@@ -9,7 +9,7 @@ ghost use Rattle.sms_pdu.specs.Turn.{GaveAtMost, IsSpent};
 ghost use Rattle.sms_bind.specs.Devices.{device, faults_of, writer, write_faults, is_broken};
 ghost use Rattle.sms_bind.specs.Faults.{IsCounted};
 ghost use Rattle.sms_bind.specs.Binds.{bind_pdu};
-ghost use Rattle.sms_bind.specs.Answers.{most_answer, most_tries, fault_of, sent_at, is_sent, Answers, FoundNone};
+ghost use Rattle.sms_bind.specs.Answers.{most_answer, most_tries, fault_of, sent_at, is_sent, Answers, FoundNone, Fails, Passes};
 ghost use Rattle.sms_bind.specs.declared.binding.BindFault.TheVariants.{Closed, Read as ReadFault, Write as WriteFault, OutOfMemory};
 
 use crate::bound::Bound;
@@ -75,6 +75,8 @@ pub fn bind<R: Read, W: Write>(
     ensures tries { faults_of reader.new ≤ faults_of reader.old + most_tries }
     ensures passed { OnOk result (faults_of reader.new < faults_of reader.old + most_tries) }
     ensures read_fault { result ≡ Err ReadFault → IsCounted (faults_of reader.old) (faults_of reader.new) }
+    ensures failed { result ≡ Err ReadFault → Fails reader.old reader.new }
+    ensures quiet { result ≢ Err ReadFault → Passes reader.old reader.new }
     ensures write_fault { result ≡ Err WriteFault → (is_broken wire.old ≡ true) ⊎ IsCounted (write_faults wire.old) (write_faults wire.new) }
 {
     if let Err(fault) = write_bind(alloc, wire, settings, number) {
@@ -114,6 +116,8 @@ fn read_answer<R: Read>(alloc: Global, reader: &mut Tap<R>, mode: Mode) -> Resul
     ensures passed { OnOk result (faults_of reader.new < faults_of reader.old + most_tries) }
     ensures spent { IsSpent (R.remaining (device reader.old)) → ¬ IsCounted (faults_of reader.old) (faults_of reader.new) → result ≡ Err Closed }
     ensures fault { result ≡ Err ReadFault → IsCounted (faults_of reader.old) (faults_of reader.new) }
+    ensures failed { result ≡ Err ReadFault → Fails reader.old reader.new }
+    ensures quiet { result ≢ Err ReadFault → Passes reader.old reader.new }
     ensures which { IfErr result (λ e. (e ≢ WriteFault) × (e ≢ OutOfMemory → sent_at e ≡ true)) }
 {
     let (first, framer, frames) = match read_first(alloc, reader) {
@@ -154,6 +158,8 @@ fn read_first<R: Read>(
     ensures passed { OnOk result (faults_of reader.new < faults_of reader.old + most_tries) }
     ensures spent { IsSpent (R.remaining (device reader.old)) → ¬ IsCounted (faults_of reader.old) (faults_of reader.new) → result ≡ Err Closed }
     ensures fault { result ≡ Err ReadFault → IsCounted (faults_of reader.old) (faults_of reader.new) }
+    ensures failed { result ≡ Err ReadFault → Fails reader.old reader.new }
+    ensures quiet { result ≢ Err ReadFault → Passes reader.old reader.new }
     ensures which { IfErr result (λ e. (e ≢ WriteFault) × (e ≢ OutOfMemory → sent_at e ≡ true)) }
 {
     let mut framer = Framer::new(alloc);

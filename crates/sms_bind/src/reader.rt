@@ -1,12 +1,12 @@
 //! The reader of a bind.
 
-ghost use Rattle.std.specs.Prelude.{◌≡◌, ◌≤◌, ◌^◌, ◌++◌, map, IfSome};
+ghost use Rattle.std.specs.Prelude.{◌≡◌, ◌≢◌, ◌≤◌, ◌^◌, ◌++◌, map, IfSome};
 ghost use Rattle.std.specs.List.{concat, AllZip};
 ghost use Rattle.std.specs.Io.KnownBytes.{IsAtEnd};
 ghost use Rattle.rtrb.specs.Ring.{sent, SameProducer};
 ghost use Rattle.sms_core.specs.Limits.{most_slots};
-ghost use Rattle.sms_bind.specs.Devices.{device, faults_of};
-ghost use Rattle.sms_bind.specs.Faults.{IsCounted};
+ghost use Rattle.sms_bind.specs.Devices.{device, faults_of, failures_of};
+ghost use Rattle.sms_bind.specs.Faults.{Counts as CountsOne, IsCounted};
 ghost use Rattle.sms_bind.specs.Follows.{HoldsBack, most_held, held_none};
 ghost use Rattle.sms_bind.specs.Ends.{HandsOn};
 ghost use Rattle.sms_bind.specs.Turns.{Turned, Stops};
@@ -54,6 +54,8 @@ pub fn read_loop<R: Read, W: Write, S: Wait>(
     ensures stopped { result.cause ≡ Stopped → Stops turns (R.remaining (device reader.old)) (R.remaining (device reader.new)) }
     ensures end { result.cause ≡ Ended → IsAtEnd (R.remaining (device reader.new)) }
     ensures fault { result.cause ≡ ReadFault → IsCounted (faults_of reader.old) (faults_of reader.new) }
+    ensures failed { result.cause ≡ ReadFault → CountsOne (failures_of reader.old) (failures_of reader.new) }
+    ensures quiet { result.cause ≢ ReadFault → failures_of reader.new ≡ failures_of reader.old }
 {
     let follower = match Follower::new(alloc, seat, most_of(follow)) {
         Ok(follower) => follower,

@@ -3,19 +3,22 @@
 ghost use Rattle.std.specs.Prelude.{◌≡◌, ℕ, ◌+◌, ◌<◌, ◌≤◌, List, length, take, Some, None, MatchResult, IfOk, OnOk, OnErr, IfSome};
 ghost use Rattle.std.specs.Io.{ReadsAtMost, WritesAtMost};
 ghost use Rattle.std.specs.Io.KnownBytes.{Appends, Keeps, ReadConsumes, WriteAppends};
-ghost use Rattle.sms_bind.specs.Devices.{device, faults_of};
-ghost use Rattle.sms_bind.specs.Faults.{Counts, IsCounted};
+ghost use Rattle.std.specs.IoError.{error_kind};
+ghost use Rattle.sms_bind.specs.Devices.{device, faults_of, failures_of};
+ghost use Rattle.sms_bind.specs.Faults.{Counts, IsCounted, failures_after};
 ghost use Rattle.sms_pdu.specs.Streams.{SomeAppended};
 
-use sms_pdu::write_octets;
+use sms_pdu::{gave_nothing, write_octets};
 use std::io;
 use std::io::{Error, ErrorKind, Read, Write};
 
-/// A reader or a writer with the number of errors that it answered, which stays at its greatest value.
+/// A reader or a writer with the number of errors that it answered, and of those among them that say
+/// more than that nothing came. Each number stays at its greatest value.
 #[derive(Drop)]
 pub struct Tap<T> {
     inner: T,
     faults: u64,
+    failures: u64,
 }
 
 impl<T> Tap<T> {
@@ -23,8 +26,13 @@ impl<T> Tap<T> {
     pub fn new(inner: T) -> Tap<T>
         ensures inner { device result ≡ inner }
         ensures faults { faults_of result ≡ 0 }
+        ensures failures { failures_of result ≡ 0 }
     {
-        Tap { inner, faults: 0 }
+        Tap {
+            inner,
+            faults: 0,
+            failures: 0,
+        }
     }
 
     /// How many errors it answered.
@@ -34,7 +42,14 @@ impl<T> Tap<T> {
         self.faults
     }
 
-    /// The device again, and its count is forgotten.
+    /// How many of them were of another kind than WouldBlock, TimedOut and Interrupted.
+    pub fn failures(&self) -> u64
+        ensures { result ≡ failures_of self.now }
+    {
+        self.failures
+    }
+
+    /// The device again, and its counts are forgotten.
     pub fn into_inner(self) -> T
         ensures { result ≡ device self }
     {
@@ -42,13 +57,17 @@ impl<T> Tap<T> {
     }
 
     /// Counts one error more.
-    fn count(&mut self)
+    fn count(&mut self, e: &Error)
         ensures inner { device self.new ≡ device self.old }
         ensures faults { Counts (faults_of self.old) (faults_of self.new) }
         ensures counted { IsCounted (faults_of self.old) (faults_of self.new) }
         ensures grows { faults_of self.old ≤ faults_of self.new }
+        ensures failures { failures_of self.new ≡ failures_after (error_kind e.now) (failures_of self.old) }
     {
         self.faults = self.faults.saturating_add(1);
+        if !gave_nothing(e) {
+            self.failures = self.failures.saturating_add(1);
+        }
     }
 }
 
@@ -61,12 +80,15 @@ impl<R: Read> Read for Tap<R> {
         ensures faults { MatchResult result (λ _. faults_of self.new ≡ faults_of self.old) (λ _. Counts (faults_of self.old) (faults_of self.new)) }
         ensures counted { OnErr result (IsCounted (faults_of self.old) (faults_of self.new)) }
         ensures grows { faults_of self.old ≤ faults_of self.new }
+        ensures failures { MatchResult result (λ _. failures_of self.new ≡ failures_of self.old) (λ e. failures_of self.new ≡ failures_after (error_kind e) (failures_of self.old)) }
     {
-        let result = self.inner.read(buf);
-        if result.is_err() {
-            self.count();
+        match self.inner.read(buf) {
+            Ok(n) => Ok(n),
+            Err(e) => {
+                self.count(&e);
+                Err(e)
+            }
         }
-        result
     }
 }
 
@@ -78,16 +100,18 @@ impl<W: Write> Write for Tap<W> {
         ensures bytes { WriteAppends (W.contents (device self.old)) (W.contents (device self.new)) result buf.now }
         ensures some { IfOk result (λ n. 0 < length buf.now → 0 < n) }
         ensures faults { MatchResult result (λ _. faults_of self.new ≡ faults_of self.old) (λ _. Counts (faults_of self.old) (faults_of self.new)) }
+        ensures failures { MatchResult result (λ _. failures_of self.new ≡ failures_of self.old) (λ e. failures_of self.new ≡ failures_after (error_kind e) (failures_of self.old)) }
         ensures counted { OnErr result (IsCounted (faults_of self.old) (faults_of self.new)) }
     {
         match self.inner.write(buf) {
             Ok(0) if !buf.is_empty() => {
-                self.count();
-                Err(Error::from(ErrorKind::WriteZero))
+                let e = Error::from(ErrorKind::WriteZero);
+                self.count(&e);
+                Err(e)
             }
             Ok(n) => Ok(n),
             Err(e) => {
-                self.count();
+                self.count(&e);
                 Err(e)
             }
         }
@@ -96,12 +120,15 @@ impl<W: Write> Write for Tap<W> {
     fn flush(&mut self) -> io::Result<()>
         ensures bytes { Keeps (W.contents (device self.old)) (W.contents (device self.new)) }
         ensures faults { MatchResult result (λ _. faults_of self.new ≡ faults_of self.old) (λ _. Counts (faults_of self.old) (faults_of self.new)) }
+        ensures failures { MatchResult result (λ _. failures_of self.new ≡ failures_of self.old) (λ e. failures_of self.new ≡ failures_after (error_kind e) (failures_of self.old)) }
     {
-        let result = self.inner.flush();
-        if result.is_err() {
-            self.count();
+        match self.inner.flush() {
+            Ok(()) => Ok(()),
+            Err(e) => {
+                self.count(&e);
+                Err(e)
+            }
         }
-        result
     }
 }
 
@@ -111,12 +138,13 @@ impl<W: Write> Tap<W> {
         ensures all { OnOk result (Appends (W.contents (device self.old)) (W.contents (device self.new)) bytes.now) }
         ensures some { OnErr result (SomeAppended (W.contents (device self.old)) (W.contents (device self.new)) bytes.now) }
         ensures faults { MatchResult result (λ _. faults_of self.new ≡ faults_of self.old) (λ _. Counts (faults_of self.old) (faults_of self.new)) }
+        ensures failures { MatchResult result (λ _. failures_of self.new ≡ failures_of self.old) (λ e. failures_of self.new ≡ failures_after (error_kind e) (failures_of self.old)) }
         ensures counted { OnErr result (IsCounted (faults_of self.old) (faults_of self.new)) }
     {
         match write_octets(&mut self.inner, bytes) {
             Ok(()) => Ok(()),
             Err(e) => {
-                self.count();
+                self.count(&e);
                 Err(e)
             }
         }

@@ -284,16 +284,34 @@ fn answers_that_refuse(rt: HostRuntime) -> Result<(), Fail> {
     Ok(())
 }
 
-// 599 reads may give nothing, and the 600th is a fault.
+// What a device counted: its errors, and those of them that say more than that nothing came.
+fn want_counted(rt: &impl Abort, reader: &Tap<Source<'_>>, wanted: (u64, u64)) {
+    same(rt, (reader.faults(), reader.failures()), wanted);
+}
+
+// Reads that gave nothing and one that failed are counted apart.
+#[test]
+fn reads_that_fail_are_counted_apart(rt: HostRuntime) {
+    let mut reader = source_of(2, &[], true);
+    for wanted in [(1, 0), (2, 0), (3, 1), (4, 2)] {
+        assert!(rt; reader.read(&mut [0]).is_err());
+        want_counted(&rt, &reader, wanted);
+    }
+}
+
+// 599 reads may give nothing, and the 600th is a fault; an end or a failure behind them is what it is.
 #[test]
 fn reads_that_give_nothing(rt: HostRuntime) -> Result<(), Fail> {
     let patient = source_of(599, ACCEPTED, false);
     assert!(rt; bound_by(&rt, rt.alloc(), patient).is_ok());
-    let tired = source_of(600, ACCEPTED, false);
-    same(
-        &rt,
-        bound_by(&rt, rt.alloc(), tired).err(),
-        Some(BindFault::Read),
-    );
+    let cases = [
+        (600, ACCEPTED.as_slice(), false, BindFault::Read),
+        (599, b"".as_slice(), false, BindFault::Closed),
+        (599, b"".as_slice(), true, BindFault::Read),
+    ];
+    for (idle, octets, fails, wanted) in cases {
+        let reader = source_of(idle, octets, fails);
+        same(&rt, bound_by(&rt, rt.alloc(), reader).err(), Some(wanted));
+    }
     Ok(())
 }

@@ -9,8 +9,8 @@ ghost use Rattle.sms_pdu.specs.Streams.{Reads};
 ghost use Rattle.sms_pdu.specs.Turn.{IsSpent, gives_nothing};
 ghost use Rattle.sms_session.specs.Session.{IsBound};
 ghost use Rattle.sms_bind.specs.Deeds.{stretch_of, IsWithin};
-ghost use Rattle.sms_bind.specs.Devices.{device, faults_of};
-ghost use Rattle.sms_bind.specs.Faults.{IsCounted};
+ghost use Rattle.sms_bind.specs.Devices.{device, faults_of, failures_of};
+ghost use Rattle.sms_bind.specs.Faults.{Counts, IsCounted};
 ghost use Rattle.sms_bind.specs.Follows.{Follows};
 ghost use Rattle.sms_bind.specs.ReaderStates.{Worked};
 ghost use Rattle.sms_bind.specs.Turns.{Turned, Stops};
@@ -57,6 +57,8 @@ impl ReaderState {
         ensures stopped { result ≡ Stopped → Stops turns (R.remaining (device reader.old)) (R.remaining (device reader.new)) }
         ensures end { result ≡ Ended → IsAtEnd (R.remaining (device reader.new)) }
         ensures fault { result ≡ ReadFault → IsCounted (faults_of reader.old) (faults_of reader.new) }
+        ensures failed { result ≡ ReadFault → Counts (failures_of reader.old) (failures_of reader.new) }
+        ensures quiet { result ≢ ReadFault → failures_of reader.new ≡ failures_of reader.old }
         ensures full { IsBad rest.items → result ≢ OutOfMemory }
     {
         if let Some(cause) = self.work_all(rt, alloc, line, window, frames) {
@@ -93,6 +95,8 @@ impl ReaderState {
         ensures stopped { result ≡ Stopped → Stops turns (R.remaining (device reader.old)) (R.remaining (device reader.new)) }
         ensures end { result ≡ Ended → IsAtEnd (R.remaining (device reader.new)) }
         ensures fault { result ≡ ReadFault → IsCounted (faults_of reader.old) (faults_of reader.new) }
+        ensures failed { result ≡ ReadFault → Counts (failures_of reader.old) (failures_of reader.new) }
+        ensures quiet { result ≢ ReadFault → failures_of reader.new ≡ failures_of reader.old }
     {
         let Ok(mut piece) = Vec::from_elem(alloc, 0u8, PIECE) else {
             return ReaderCause::OutOfMemory;
@@ -139,6 +143,8 @@ impl ReaderState {
         ensures spent { IsSpent (R.remaining (device reader.old)) → ¬ IsCounted (faults_of reader.old) (faults_of reader.new) → result ≡ Some Ended }
         ensures end { result ≡ Some Ended → IsAtEnd (R.remaining (device reader.new)) }
         ensures fault { result ≡ Some ReadFault → IsCounted (faults_of reader.old) (faults_of reader.new) }
+        ensures failed { result ≡ Some ReadFault → Counts (failures_of reader.old) (failures_of reader.new) }
+        ensures quiet { result ≢ Some ReadFault → failures_of reader.new ≡ failures_of reader.old }
         ensures faults { faults_of reader.old ≤ faults_of reader.new }
     {
         match reader.read(piece.as_mut_slice()) {

@@ -79,6 +79,8 @@ loop-empty-preserved-in-Ok g c =
       counted = search rules;
       few = c.loop-empty.invariant.few;
       tries = (let h = c.loop-empty.invariant.tries in let k = c.in-Ok.ensures.faults in omega (arith, h, k));
+      many = c.in-Ok.ensures.faults ∙ c.loop-empty.invariant.many;
+      failures = c.in-Ok.ensures.failures ∙ c.loop-empty.invariant.failures;
       piece = search rules;
     }
 

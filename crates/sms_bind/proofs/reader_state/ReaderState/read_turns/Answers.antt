@@ -6,7 +6,7 @@ use Rattle.sms_bind.specs.declared.ending.ReaderCause.{ReaderCause}
 use Rattle.sms_bind.specs.declared.ending.ReaderCause.TheVariants.{OutOfMemory, Stopped, Turns}
 use Rattle.sms_bind.specs.Deeds.{stretch_of}
 use Rattle.sms_bind.specs.ReaderStates.{Worked}
-use Rattle.sms_bind.proofs.Works.{worked_none, worked_nothing, worked_more, worked_ends, leaves_end, follows_same, follows_on, counted_later}
+use Rattle.sms_bind.proofs.Works.{worked_none, worked_nothing, worked_more, worked_ends, leaves_end, follows_same, follows_on, counted_later, counted_once}
 use Rattle.sms_bind.proofs.Turning.{turned_none, turned_begins, turned_more, turned_last, turned_stops, turned_all, stops_before}
 use Rattle.sms_bind.proofs.reader_state.ReaderState.read_turns.Goals as goal
 
@@ -29,6 +29,7 @@ loop-turn-init g c =
       reads = reads_none (Worked a.session None a a) held held r r going (worked_none a.session a) (Consumes-nil r) (c.requires.rest, refl);
       turned = turned_begins _ _;
       faults = omega arith;
+      failures = refl;
       piece = search rules;
       good = c.requires.good;
       room = (let h = short_rest held c.requires.rest c.requires.good in omega (arith, h));
@@ -84,6 +85,18 @@ returns-in-Some-clause-reads g c =
 pub returns-in-Some-clause-fault : goal.returns-in-Some-clause-fault
 returns-in-Some-clause-fault g c = λ e. counted_later c.args.reader.now.faults c.loop-turn.reader.faults c.turn.new.reader.faults c.loop-turn.invariant.faults c.turn.ensures.faults (c.in-Some.ensures.fault (ap (λ x. Some x) e))
 
+pub returns-in-Some-clause-failed : goal.returns-in-Some-clause-failed
+returns-in-Some-clause-failed g c = λ e. counted_once _ _ _ c.loop-turn.invariant.failures (c.in-Some.ensures.failed (ap (λ x. Some x) e))
+
+pub returns-in-Some-clause-quiet : goal.returns-in-Some-clause-quiet
+returns-in-Some-clause-quiet g c = λ other. c.in-Some.ensures.quiet (λ e. other cc) ∙ c.loop-turn.invariant.failures
+
+pub returns-then-load-clause-quiet : goal.returns-then-load-clause-quiet
+returns-then-load-clause-quiet g c = λ other. c.loop-turn.invariant.failures
+
+pub returns-clause-quiet : goal.returns-clause-quiet
+returns-clause-quiet g c = λ other. c.loop-turn.invariant.failures
+
 pub loop-turn-preserved : goal.loop-turn-preserved
 loop-turn-preserved g c =
     let r = g.R.Read.remaining c.args.reader.now.inner in
@@ -105,6 +118,7 @@ loop-turn-preserved g c =
       reads = reads_more (Worked s None a b) (Worked s None b d) (Worked s None a d) begun held kept r t u going i.reads one (λ fs gs p q. worked_more s None a b d fs gs p q);
       turned = turned_more c.loop-turn._turn _ _ _ _ _ _ _ c.turn.ensures.faults i.turned c.in_default-turn.ensures.turned refl;
       faults = (let f = c.turn.ensures.faults in let h = i.faults in omega (arith, f, h));
+      failures = c.in_default-turn.ensures.quiet (λ e. absurd cc) ∙ i.failures;
       piece = c.turn.ensures.piece;
       good = c.in_default-turn.ensures.good refl;
       room = (let n = c.in_default-turn.ensures.room refl in let m = i.room in omega (arith, n, m));

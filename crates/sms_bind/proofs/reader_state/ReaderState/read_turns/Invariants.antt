@@ -2,7 +2,7 @@ use Rattle.std.proofs.Common.{◌≡◌, ◌+◌, ◌*◌, ◌≤◌, length, No
 use Rattle.sms_pdu.specs.Frame.{IsBad}
 use Rattle.sms_pdu.specs.Streams.{Reads, going}
 use Rattle.sms_bind.specs.Deeds.{IsWithin}
-use Rattle.sms_bind.specs.Devices.{device, faults_of}
+use Rattle.sms_bind.specs.Devices.{device, faults_of, failures_of}
 use Rattle.sms_bind.specs.Follows.{Follows}
 use Rattle.sms_bind.specs.ReaderStates.{Worked}
 use Rattle.sms_bind.specs.Turns.{Turned}
@@ -16,6 +16,7 @@ invariant-loop-turn g l = record {
   reads : Reads (Worked l.fn.self.session None l.fn.self l.self) l.fn.held.items (g.R.Read.remaining (device l.fn.reader)) (g.R.Read.remaining (device l.reader)) going l.held.items;
   turned : Turned l._turn (Unit {0}) (g.R.Read.remaining (device l.fn.reader)) (g.R.Read.remaining (device l.reader)) (faults_of l.fn.reader) (faults_of l.reader);
   faults : faults_of l.fn.reader ≤ faults_of l.reader;
+  failures : failures_of l.reader ≡ failures_of l.fn.reader;
   piece : length l.piece.items ≡ 65536;
   good : ¬ IsBad l.held.items;
   room : l.self.counts.frames + length l.held.items ≤ l.fn.self.counts.frames + 70000 + 65536 * l._turn;
