@@ -1,7 +1,7 @@
 -- What was worked of a stream, as the reader promises it.
 use Rattle.std.proofs.Common.{◌≡◌, ◌≢◌, ◌↔◌, ℕ, List, [], ◌++◌, inr, map, Option, Some, refl, sym, ap, ◌∙◌, subst, arith}
 use Rattle.std.proofs.KnownBytes.{Consumes-nil}
-use Rattle.rtrb.specs.Ring.{sent}
+use Rattle.rtrb.specs.Ring.{sent, known_free}
 use Rattle.sms_pdu.specs.declared.reply.Reply.{Reply}
 use Rattle.sms_pdu.specs.Frame.{IsRest, IsBad}
 use Rattle.sms_pdu.specs.Reply.{answers}
@@ -19,7 +19,7 @@ use Rattle.sms_bind.specs.declared.ending.ReaderEnd.{ReaderEnd}
 use Rattle.sms_bind.specs.Held.{Held}
 use Rattle.sms_bind.specs.Deeds.{Reaches, stretch_of, broken_at, no_counts, tallies}
 use Rattle.sms_bind.specs.ReaderStates.{Worked}
-use Rattle.sms_bind.specs.Ends.{HandsOn, Tells}
+use Rattle.sms_bind.specs.Ends.{HandsOn, LeavesRoom, Tells}
 use Rattle.sms_bind.proofs.Logs.{log_answers, tallies_add}
 
 -- all whole frames were worked, unless the reading ended early
@@ -76,7 +76,7 @@ hands_on s a b begun kept r t end up none p =
     let d = each_divided p.left in
     let left = λ (late : stretch_of (Some end) ≢ early). rest_divided p.left d.frames d.rest (rest_left (stretch_of (Some end)) p.left kept late p.leaves) d.divided in
     let ds = w.done.deeds in
-    let same = log_answers s w.frames ds up w.each w.done.each in
+    let same = log_answers s w.frames ds (λ more. up) w.each w.done.each in
     record {
       got = p.got;
       consumed = p.consumed;
@@ -97,6 +97,19 @@ hands_on s a b begun kept r t end up none p =
       last = b.follower;
       follows = w.done.follows;
       seat = refl;
+    }
+
+-- and the room of the rings
+pub leaves_room : (s : State) (a b : ReaderState) (begun kept : List ℕ) (r t : Option (List ℕ)) (end : ReaderCause) → a.counts ≡ no_counts
+    → Reads (Worked s (Some end) a b) begun r t (stretch_of (Some end)) kept
+    → LeavesRoom (map sent a.producers.items) (map sent b.producers.items) (map known_free a.producers.items) (map known_free b.producers.items) (end_of b end)
+leaves_room s a b begun kept r t end none p =
+    let w = p.went.done in
+    record {
+      deeds = w.deeds;
+      hands = w.sends;
+      counts = tells w.deeds b.counts (end_of b end) (w.counts ∙ ap (λ (k : Counts). tallies k w.deeds) none) refl refl refl refl refl refl refl;
+      room = w.room;
     }
 
 -- nothing was read and nothing worked
@@ -126,3 +139,8 @@ hands_none s begun r rings held end is e1 e2 e3 e4 e5 e6 e7 seat =
       follows = refl;
       seat = seat;
     }
+
+pub leaves_room_none : (rings : List (List Reply)) (room : List ℕ) (end : ReaderEnd)
+    → end.answered ≡ 0 → end.unknown ≡ 0 → end.overrun ≡ 0 → end.delivered ≡ 0 → end.noted ≡ 0 → end.nacked ≡ 0 → end.unreplied ≡ 0
+    → LeavesRoom rings rings room room end
+leaves_room_none rings room end e1 e2 e3 e4 e5 e6 e7 = record { deeds = []; hands = refl; counts = tells [] no_counts end refl e1 e2 e3 e4 e5 e6 e7; room = refl }

@@ -1,6 +1,6 @@
 -- Deeds: their log, their counts, and what follows them.
 use Rattle.std.proofs.Common.{◌≡◌, ◌≢◌, ◌⊎◌, inl, inr, ℕ, ◌+◌, ◌≤◌, Bool, List, [], ◌∷◌, ◌++◌, length, map, Option, None, refl, sym, ap, ◌∙◌, subst, arith, append_assoc, append-nil, length-append}
-use Rattle.std.specs.List.{AllByRecursion, AllZip, cons_option}
+use Rattle.std.specs.List.{AllByRecursion, cons_option}
 use Rattle.std.proofs.lemmas.List.{map-append}
 use Rattle.sms_pdu.specs.declared.reply.Reply.{Reply}
 use Rattle.sms_pdu.specs.Frame.{IsFrame}
@@ -19,7 +19,7 @@ use Rattle.sms_bind.specs.declared.deed.Deed.TheVariants.{Brought, Replied, Note
 use Rattle.sms_bind.specs.declared.deed.Written.TheVariants.{Sent, NoMemory, Broken}
 use Rattle.sms_bind.specs.declared.counts.Counts.{Counts}
 use Rattle.sms_bind.specs.Held.{Held}
-use Rattle.sms_bind.specs.Deeds.{Does, Suits, FollowAll, Reaches, cause_after, state_after, broken_at, entry, log, tally, tallies, counted, of_answer, of_response, is_note, overruns, misses, delivers, nacks, is_silent, is_broken}
+use Rattle.sms_bind.specs.Deeds.{Does, SuitAll, FollowAll, TakeRoomAll, one_if, Reaches, cause_after, state_after, broken_at, entry, log, tally, tallies, counted, of_answer, of_response, is_note, overruns, misses, delivers, nacks, is_silent, is_broken}
 use Rattle.sms_bind.proofs.Tables.{no_reply}
 
 abbrev first : Reply × Option ℕ → Reply
@@ -47,12 +47,6 @@ pub state-append : (s : State) (fs gs : List (List ℕ)) → state_after s (fs +
 state-append s [] gs = refl
 state-append s (f ∷ fs) gs = state-append (on_table s (header_at_front f)).1 fs gs
 
-pub AllZip-append : {A B : Type 0} (R : A → B → Type 0) (xs us : List A) (ys vs : List B) → AllZip R xs ys → AllZip R us vs → AllZip R (xs ++ us) (ys ++ vs)
-AllZip-append R [] us [] vs p q = q
-AllZip-append R [] us (y ∷ ys) vs p q = absurd p
-AllZip-append R (x ∷ xs) us [] vs p q = absurd p
-AllZip-append R (x ∷ xs) us (y ∷ ys) vs p q = (p.0, AllZip-append R xs us ys vs p.1 q)
-
 -- ---- the end that a deed brings
 
 ends_by : (s t : State) → (t ≡ s) ⊎ (t ≡ StateClosed) → (d : Deed) → cause_after d t ≡ cause_after Noted t → Reaches (cause_after d t) s t × (broken_at (cause_after d t) ≡ 0)
@@ -62,7 +56,7 @@ ends_by s BoundTrx (inl e) d k = rw k (e, refl)
 ends_by s BoundTrx (inr e) d k = absurd cc
 ends_by s StateClosed h d k = rw k (refl, refl)
 
-breaks : Deed → Bool
+abbrev pub breaks : Deed → Bool
 breaks d = of_response (λ response written. is_broken written) d
 
 -- the next state is the same, or closed; what the reader ends with says so
@@ -82,6 +76,55 @@ broke s t (Replied response Broken) h = refl
 broke s t Noted h = sym (ends_by s t h Noted refl).1
 broke s t Closed h = sym (ends_by s t h Closed refl).1
 
+-- ---- a deed that ends nothing
+
+up_by : (t : State) → cause_after Noted t ≡ None → IsBound t
+up_by BoundTx e = λ k. absurd cc
+up_by BoundTrx e = λ k. absurd cc
+up_by StateClosed e = absurd cc
+
+-- the session is bound behind it
+pub bound_after : (d : Deed) (t : State) → cause_after d t ≡ None → IsBound t
+bound_after (Brought reply search) t e = up_by t e
+bound_after (Replied response (Sent octets)) t e = up_by t e
+bound_after (Replied response NoMemory) t e = up_by t e
+bound_after (Replied response Broken) t e = absurd cc
+bound_after Noted t e = up_by t e
+bound_after Closed t e = up_by t e
+
+none_by : (t : State) → IsBound t → cause_after Noted t ≡ None
+none_by BoundTx up = refl
+none_by BoundTrx up = refl
+none_by StateClosed up = absurd (up refl)
+
+-- while the session is bound that is each which doesn't break the wire
+ends_nothing : (d : Deed) (t : State) → IsBound t → one_if (breaks d) ≡ 0 → cause_after d t ≡ None
+ends_nothing (Brought reply search) t up e = none_by t up
+ends_nothing (Replied response (Sent octets)) t up e = none_by t up
+ends_nothing (Replied response NoMemory) t up e = none_by t up
+ends_nothing (Replied response Broken) t up e = absurd (omega (arith, e))
+ends_nothing Noted t up e = none_by t up
+ends_nothing Closed t up e = none_by t up
+
+nothing_here : (d : Deed) (t : State) (fs : List (List ℕ)) → (fs ≢ [] → cause_after d t ≡ None) → IsBound (state_after t fs) → one_if (breaks d) ≡ 0 → cause_after d t ≡ None
+nothing_here d t [] on up e = ends_nothing d t up e
+nothing_here d t (f ∷ fs) on up e = on (λ k. absurd cc)
+
+-- frames behind which the session is bound and the wire sound, and those that come next
+pub suits-append : (s : State) (fs gs : List (List ℕ)) (ds es : List Deed) → SuitAll s fs ds → IsBound (state_after s fs) → counted breaks ds ≡ 0 → SuitAll (state_after s fs) gs es → SuitAll s (fs ++ gs) (ds ++ es)
+suits-append s [] gs [] es p up none q = q
+suits-append s [] gs (d ∷ ds) es p up none q = absurd p
+suits-append s (f ∷ fs) gs [] es p up none q = absurd p
+suits-append s (f ∷ fs) gs (d ∷ ds) es (suits, on, later) up none q =
+    let t = state_after s (f ∷ []) in
+    let here : one_if (breaks d) ≡ 0 = omega (arith, none) in
+    let there : counted breaks ds ≡ 0 = omega (arith, none) in
+    (suits, (λ more. nothing_here d t fs on up here), suits-append t fs gs ds es later up there q)
+
+pub take-append : (ds es : List Deed) (a b c : List ℕ) → TakeRoomAll ds a b → TakeRoomAll es b c → TakeRoomAll (ds ++ es) a c
+take-append [] es a b c p q = subst (λ l. TakeRoomAll es l c) p q
+take-append (d ∷ ds) es a b c (next, one, rest) q = (next, one, take-append ds es next b c rest q)
+
 -- ---- the log has the frames' answers
 
 entry_by : (a : Action) (f : List ℕ) (d : Deed) (rest : List Reply) → (a ≢ action.Answer → reply_in f ≡ None) → Does a f d → map first (entry d) ++ rest ≡ cons_option (reply_in f) rest
@@ -92,15 +135,16 @@ entry_by action.Note f d rest other does = rw (does, other (λ e. absurd cc)) re
 entry_by action.Close f d rest other does = rw (does, other (λ e. absurd cc)) refl
 entry_by action.Drop f d rest other does = rw (does, other (λ e. absurd cc)) refl
 
-pub log_answers : (s : State) (fs : List (List ℕ)) (ds : List Deed) → IsBound s → AllByRecursion IsFrame fs → AllZip (Suits s) fs ds → map first (log ds) ≡ answers fs
-log_answers s [] [] up each zip = refl
-log_answers s [] (d ∷ ds) up each zip = absurd zip
-log_answers s (f ∷ fs) [] up each zip = absurd zip
-log_answers s (f ∷ fs) (d ∷ ds) up each zip =
+pub log_answers : (s : State) (fs : List (List ℕ)) (ds : List Deed) → (fs ≢ [] → IsBound s) → AllByRecursion IsFrame fs → SuitAll s fs ds → map first (log ds) ≡ answers fs
+log_answers s [] [] up each all = refl
+log_answers s [] (d ∷ ds) up each all = absurd all
+log_answers s (f ∷ fs) [] up each all = absurd all
+log_answers s (f ∷ fs) (d ∷ ds) up each (suits, on, later) =
     let long : 16 ≤ length f = each.0.good.least in
+    let t = state_after s (f ∷ []) in
     map-append first (entry d) (log ds)
-    ∙ ap (λ l. map first (entry d) ++ l) (log_answers s fs ds up each.1 zip.1)
-    ∙ entry_by (on_table s (header_at_front f)).0 f d (answers fs) (no_reply s f up long) zip.0
+    ∙ ap (λ l. map first (entry d) ++ l) (log_answers t fs ds (λ more. bound_after d t (on more)) each.1 later)
+    ∙ entry_by (on_table s (header_at_front f)).0 f d (answers fs) (no_reply s f (up (λ e. absurd cc)) long) suits
 
 -- ---- the counts
 

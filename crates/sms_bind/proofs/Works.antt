@@ -6,6 +6,7 @@ use Rattle.std.proofs.lemmas.List.{drop_more}
 use Rattle.rtrb.specs.Ring.{sent, SameProducer}
 use Rattle.rtrb.specs.declared.producer.Producer.{Producer}
 use Rattle.sms_session.specs.declared.session.State.{State}
+use Rattle.sms_session.specs.Session.{IsBound}
 use Rattle.sms_slot.specs.Rings.{handed}
 use Rattle.sms_slot.proofs.Rings.{AllZip-trans, same_rings, handed-append}
 use Rattle.sms_bind.specs.declared.reader_state.ReaderState.{ReaderState}
@@ -16,35 +17,36 @@ use Rattle.sms_pdu.specs.Streams.{Stretch, Went, Leaves, Reads, going, complete,
 use Rattle.sms_pdu.proofs.Streams.{went_none, went_more, reads_none, consumes_nothing}
 use Rattle.sms_bind.specs.declared.ending.ReaderCause.{ReaderCause}
 use Rattle.sms_bind.specs.declared.ending.ReaderCause.TheVariants as cause
-use Rattle.sms_bind.specs.Deeds.{Suits, Reaches, state_after, stretch_of, broken_at, log, tallies, of_response, is_broken}
+use Rattle.sms_bind.specs.Deeds.{SuitAll, Reaches, state_after, stretch_of, broken_at, log, tallies, of_response, is_broken}
 use Rattle.sms_bind.specs.Faults.{Counts, IsCounted}
 use Rattle.sms_bind.specs.Held.{Held}
 use Rattle.sms_bind.specs.Follows.{Follows}
 use Rattle.sms_bind.specs.ReaderStates.{Worked}
-use Rattle.sms_bind.proofs.Logs.{log-append, tallies-append, counted-append, follow-append, state-append, AllZip-append}
+use Rattle.sms_bind.proofs.Logs.{log-append, tallies-append, counted-append, follow-append, take-append, suits-append, state-append}
 
 pub worked_none : (s : State) (a : ReaderState) → Worked s None a a []
-worked_none s a = record { deeds = []; each = tt; reaches = refl; breaks = refl; rings = same_rings a.producers.items; sends = refl; counts = refl; follows = refl }
+worked_none s a = record { deeds = []; each = tt; reaches = refl; breaks = refl; rings = same_rings a.producers.items; sends = refl; room = refl; counts = refl; follows = refl }
 
 -- nothing was worked, and the reader ends
 pub worked_nothing : (s : State) (end : Option ReaderCause) (a : ReaderState) → Reaches end s s → broken_at end ≡ 0 → Worked s end a a []
-worked_nothing s end a reaches quiet = record { deeds = []; each = tt; reaches = reaches; breaks = sym quiet; rings = same_rings a.producers.items; sends = refl; counts = refl; follows = refl }
+worked_nothing s end a reaches quiet = record { deeds = []; each = tt; reaches = reaches; breaks = sym quiet; rings = same_rings a.producers.items; sends = refl; room = refl; counts = refl; follows = refl }
 
 -- a ring that stayed the same twice
 same_on : {T A P : Type 0} (x y z : Producer T A P) → SameProducer x y → SameProducer y z → SameProducer x z
 same_on x y z ((a, b, c, d), e) ((f, g, h, i), j) = ((f ∙ a, g ∙ b, h ∙ c, i ∙ d), j ∙ e)
 
-pub worked_more : (s : State) (end : Option ReaderCause) (a b c : ReaderState) (fs gs : List (List ℕ)) → Worked s None a b fs → Worked s end b c gs → Worked s end a c (fs ++ gs)
-worked_more s end a b c fs gs p q =
+pub worked_more : (s : State) → IsBound s → (end : Option ReaderCause) (a b c : ReaderState) (fs gs : List (List ℕ)) → Worked s None a b fs → Worked s end b c gs → Worked s end a c (fs ++ gs)
+worked_more s up end a b c fs gs p q =
     let same : state_after s (fs ++ gs) ≡ state_after s gs = state-append s fs gs ∙ ap (λ (t : State). state_after t gs) p.reaches in
     let breaks = counted-append (of_response (λ response written. is_broken written)) p.deeds q.deeds in
     record {
       deeds = p.deeds ++ q.deeds;
-      each = AllZip-append (Suits s) fs gs p.deeds q.deeds p.each q.each;
+      each = suits-append s fs gs p.deeds q.deeds p.each (subst IsBound (sym p.reaches) up) p.breaks (subst (λ t. SuitAll t gs q.deeds) (sym p.reaches) q.each);
       reaches = subst (Reaches end s) (sym same) q.reaches;
       breaks = omega (arith, breaks, p.breaks, q.breaks);
       rings = AllZip-trans SameProducer same_on a.producers.items b.producers.items c.producers.items p.rings q.rings;
       sends = q.sends ∙ ap (λ ls. handed ls (log q.deeds)) p.sends ∙ sym (handed-append (map sent a.producers.items) (log p.deeds) (log q.deeds)) ∙ ap (handed (map sent a.producers.items)) (sym (log-append p.deeds q.deeds));
+      room = take-append p.deeds q.deeds _ _ _ p.room q.room;
       counts = q.counts ∙ ap (λ k. tallies k q.deeds) p.counts ∙ sym (tallies-append a.counts p.deeds q.deeds);
       follows = follow-append p.deeds q.deeds a.follower b.follower c.follower p.follows q.follows;
     }
@@ -59,6 +61,7 @@ worked_ends s end a b fs reaches quiet p =
       breaks = p.breaks ∙ sym quiet;
       rings = p.rings;
       sends = p.sends;
+      room = p.room;
       counts = p.counts;
       follows = p.follows;
     }

@@ -1,5 +1,5 @@
 -- What is done with a frame, and what is counted.
-use Rattle.std.specs.Prelude.{◌≡◌, ℕ, ◌+◌, ◌≤◌, List, [], ◌∷◌, ◌++◌, Option, Some, None, Bool, true, false, ◌==◌, if◌then◌else◌}
+use Rattle.std.specs.Prelude.{◌≡◌, ◌≢◌, ℕ, ◌+◌, ◌≤◌, List, [], ◌∷◌, ◌++◌, length, Option, Some, None, Bool, true, false, ◌==◌, if◌then◌else◌}
 use Rattle.sms_core.specs.Statuses.{bad_command_length}
 use Rattle.sms_pdu.specs.declared.body.Pdu.{Pdu}
 use Rattle.sms_pdu.specs.declared.body.Body.{Body}
@@ -19,7 +19,7 @@ use Rattle.sms_session.specs.declared.session.State.TheVariants.{BoundTx, BoundT
 use Rattle.sms_session.specs.Session.{on_table}
 use Rattle.sms_slot.specs.declared.row.Search.{Search}
 use Rattle.sms_slot.specs.declared.row.Search.TheVariants.{Found, Overrun, Unknown}
-use Rattle.sms_slot.specs.Rings.{place_of, answer_of}
+use Rattle.sms_slot.specs.Rings.{place_of, answer_of, HasRing, Room}
 use Rattle.sms_bind.specs.declared.deed.Deed.{Deed}
 use Rattle.sms_bind.specs.declared.deed.Deed.TheVariants.{Brought, Replied, Noted, Closed}
 use Rattle.sms_bind.specs.declared.deed.Written.{Written}
@@ -100,6 +100,18 @@ abbrev pub FollowAll : List Deed → Held → Held → Type 0
 FollowAll [] old new = new ≡ old
 FollowAll (deed ∷ deeds) old new = (next : Held) × Follow deed old next × FollowAll deeds next new
 
+-- The room that the rings are known to have: a ring that takes an answer loses one place at most, and an answer that
+-- overruns finds none that is known; all other deeds change nothing.
+abbrev pub TakesRoom : Deed → List ℕ → List ℕ → Type 0
+TakesRoom (Brought reply search) old new = HasRing (answer_of search) (length old) × Room (answer_of search) old new
+TakesRoom (Replied response written) old new = new ≡ old
+TakesRoom Noted old new = new ≡ old
+TakesRoom Closed old new = new ≡ old
+
+abbrev pub TakeRoomAll : List Deed → List ℕ → List ℕ → Type 0
+TakeRoomAll [] old new = new ≡ old
+TakeRoomAll (deed ∷ deeds) old new = (next : List ℕ) × TakesRoom deed old next × TakeRoomAll deeds next new
+
 -- ---- why the reader ends
 
 abbrev pub cause_by : State → Option ReaderCause
@@ -115,6 +127,14 @@ cause_after (Replied response NoMemory) state = cause_by state
 cause_after (Replied response Broken) state = Some cause.WriteFault
 cause_after Noted state = cause_by state
 cause_after Closed state = cause_by state
+
+-- Each deed suits its frame in the state to which the frames before led, and nothing is worked behind a deed that ends the
+-- reader: behind one that closed the session, or broke the wire.
+abbrev pub SuitAll : State → List (List ℕ) → List Deed → Type 0
+SuitAll state [] [] = Unit {0}
+SuitAll state [] (deed ∷ deeds) = ⊥
+SuitAll state (frame ∷ frames) [] = ⊥
+SuitAll state (frame ∷ frames) (deed ∷ deeds) = Suits state frame deed × (frames ≢ [] → cause_after deed (state_after state (frame ∷ [])) ≡ None) × SuitAll (state_after state (frame ∷ [])) frames deeds
 
 -- how the reading stands then: all whole frames were worked, unless the session closed, the wire broke or memory was
 -- refused; and a bad length stands behind them exactly where the reader is lost

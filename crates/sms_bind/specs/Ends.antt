@@ -1,6 +1,5 @@
 -- What a reader promises of what it read.
 use Rattle.std.specs.Prelude.{◌≡◌, ◌≢◌, ◌↔◌, ℕ, ◌+◌, List, [], ◌++◌, length, map, Option, Some}
-use Rattle.std.specs.List.{AllZip}
 use mathlib.Core.List.{IsPrefix}
 use Rattle.std.specs.Io.KnownBytes.{Consumes}
 use Rattle.sms_pdu.specs.declared.reply.Reply.{Reply}
@@ -13,7 +12,7 @@ use Rattle.sms_bind.specs.declared.ending.ReaderCause.TheVariants.{Lost}
 use Rattle.sms_bind.specs.declared.ending.ReaderEnd.{ReaderEnd}
 use Rattle.sms_bind.specs.declared.deed.Deed.{Deed}
 use Rattle.sms_bind.specs.Held.{Held}
-use Rattle.sms_bind.specs.Deeds.{Suits, FollowAll, Reaches, state_after, stretch_of, log, counted, of_answer, of_response, is_note, overruns, misses, delivers, nacks, is_silent, is_broken, broken_at}
+use Rattle.sms_bind.specs.Deeds.{SuitAll, FollowAll, TakeRoomAll, Reaches, state_after, stretch_of, log, counted, of_answer, of_response, is_note, overruns, misses, delivers, nacks, is_silent, is_broken, broken_at}
 
 -- the counts are those of what was done with the frames
 pub record Tells (deeds : List Deed) (end : ReaderEnd) : Type 0 where
@@ -25,6 +24,13 @@ pub record Tells (deeds : List Deed) (end : ReaderEnd) : Type 0 where
   pub noted : end.noted ≡ counted is_note deeds
   pub nacked : end.nacked ≡ counted (of_response nacks) deeds
   pub unreplied : end.unreplied ≡ counted (of_response (λ response written. is_silent written)) deeds
+
+-- The deeds of which so much is told, and the room that each ring was known to have: before them and after.
+pub record LeavesRoom (old new : List (List Reply)) (before after : List ℕ) (end : ReaderEnd) : Type 0 where
+  pub deeds : List Deed
+  pub hands : new ≡ handed old (log deeds)
+  pub counts : Tells deeds end
+  pub room : TakeRoomAll deeds before after
 
 -- The session was bound in the state, `begun` was read before, and the reader gave more; `old` and `new` are what went
 -- into each ring.
@@ -41,7 +47,7 @@ pub record HandsOn (state : State) (begun : List ℕ) (before after : Option (Li
   pub lost : stretch_of (Some end.cause) ≢ early → (end.cause ≡ Lost) ↔ IsBad rest
   -- what was done with each frame, and where that led
   pub deeds : List Deed
-  pub each : AllZip (Suits state) worked deeds
+  pub each : SuitAll state worked deeds
   pub reaches : Reaches (Some end.cause) state (state_after state worked)
   pub breaks : counted (of_response (λ response written. is_broken written)) deeds ≡ broken_at (Some end.cause)
   -- the answers that were worked are the first of the stream's, each with the place of the ring that took it

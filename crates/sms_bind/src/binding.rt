@@ -69,6 +69,7 @@ pub fn bind<R: Read, W: Write>(
 ) -> Result<Bound, BindFault>
     ensures part { (octets : List ℕ) → Spells (bind_pdu settings.now number) octets → SomeAppended (W.contents (writer wire.old)) (W.contents (writer wire.new)) octets }
     ensures sent { (octets : List ℕ) → Spells (bind_pdu settings.now number) octets → is_sent result ≡ true → Appends (W.contents (writer wire.old)) (W.contents (writer wire.new)) octets }
+    ensures written { is_sent result ≡ true → (octets : List ℕ) × Spells (bind_pdu settings.now number) octets × Appends (W.contents (writer wire.old)) (W.contents (writer wire.new)) octets }
     ensures answer { (got : List ℕ) × Consumes (R.remaining (device reader.old)) (R.remaining (device reader.new)) got × Answers settings.now.mode got result }
     ensures end { result ≡ Err Closed → IsAtEnd (R.remaining (device reader.new)) }
     ensures most { GaveAtMost most_answer (R.remaining (device reader.old)) (R.remaining (device reader.new)) }
@@ -94,6 +95,7 @@ fn write_bind<W: Write>(
 ) -> Result<(), BindFault>
     ensures part { (octets : List ℕ) → Spells (bind_pdu settings.now number) octets → SomeAppended (W.contents (writer wire.old)) (W.contents (writer wire.new)) octets }
     ensures sent { (octets : List ℕ) → Spells (bind_pdu settings.now number) octets → OnOk result (Appends (W.contents (writer wire.old)) (W.contents (writer wire.new)) octets) }
+    ensures written { OnOk result ((octets : List ℕ) × Spells (bind_pdu settings.now number) octets × Appends (W.contents (writer wire.old)) (W.contents (writer wire.new)) octets) }
     ensures fault { result ≡ Err WriteFault → (is_broken wire.old ≡ true) ⊎ IsCounted (write_faults wire.old) (write_faults wire.new) }
     ensures which { IfErr result (λ e. (sent_at e ≡ false) × (e ≢ ReadFault) × (e ≢ Closed)) }
 {

@@ -3,12 +3,12 @@
 ghost use Rattle.std.specs.Prelude.{◌≡◌, ◌≢◌, ◌≤◌, ◌^◌, ◌++◌, map, IfSome};
 ghost use Rattle.std.specs.List.{concat, AllZip};
 ghost use Rattle.std.specs.Io.KnownBytes.{IsAtEnd};
-ghost use Rattle.rtrb.specs.Ring.{sent, SameProducer};
+ghost use Rattle.rtrb.specs.Ring.{sent, known_free, SameProducer};
 ghost use Rattle.sms_core.specs.Limits.{most_slots};
 ghost use Rattle.sms_bind.specs.Devices.{device, faults_of, failures_of};
 ghost use Rattle.sms_bind.specs.Faults.{Counts as CountsOne, IsCounted};
 ghost use Rattle.sms_bind.specs.Follows.{HoldsBack, most_held, held_none};
-ghost use Rattle.sms_bind.specs.Ends.{HandsOn};
+ghost use Rattle.sms_bind.specs.Ends.{HandsOn, LeavesRoom};
 ghost use Rattle.sms_bind.specs.Turns.{Turned, Stops};
 ghost use Rattle.sms_bind.specs.declared.ending.ReaderCause.TheVariants.{Ended, ReadFault, Stopped, Turns};
 
@@ -47,6 +47,7 @@ pub fn read_loop<R: Read, W: Write, S: Wait>(
     requires own { seat.window ≡ window.now }
     requires limit { IfSome follow (λ limit. (1 ≤ limit) × (limit ≤ most_slots)) }
     ensures answers { HandsOn bound.session (concat bound.frames ++ bound.framer) (R.remaining (device reader.old)) (R.remaining (device reader.new)) (map sent producers.items) (map sent result.producers.items) (held_none seat (most_held follow)) result }
+    ensures room { LeavesRoom (map sent producers.items) (map sent result.producers.items) (map known_free producers.items) (map known_free result.producers.items) result }
     ensures rings { AllZip SameProducer producers.items result.producers.items }
     ensures seat { HoldsBack (most_held follow) seat.view result.seat.view }
     ensures window { result.seat.window ≡ seat.window }

@@ -2,13 +2,13 @@
 
 ghost use Rattle.std.specs.Prelude.{◌≡◌, ◌≢◌, ◌+◌, ◌<◌, ◌^◌, ◌∷◌, [], map, None, Some, IfSome};
 ghost use Rattle.std.specs.List.{AllZip};
-ghost use Rattle.rtrb.specs.Ring.{sent, SameProducer};
+ghost use Rattle.rtrb.specs.Ring.{sent, known_free, SameProducer};
 ghost use Rattle.sms_pdu.specs.Header.{header_at_front};
 ghost use Rattle.sms_pdu.specs.Frame.{IsFrame};
 ghost use Rattle.sms_pdu.specs.Streams.{early};
 ghost use Rattle.sms_session.specs.Session.{IsBound, on_table};
 ghost use Rattle.sms_slot.specs.Rings.{handed};
-ghost use Rattle.sms_bind.specs.Deeds.{Suits, Follow, Responded, entry, stretch_of, IsWithin};
+ghost use Rattle.sms_bind.specs.Deeds.{Suits, Follow, TakesRoom, Responded, entry, stretch_of, IsWithin};
 ghost use Rattle.sms_bind.specs.Follows.{Follows};
 ghost use Rattle.sms_bind.specs.ReaderStates.{Worked};
 ghost use Rattle.sms_bind.specs.declared.deed.Deed.TheVariants.{Brought};
@@ -83,6 +83,7 @@ impl ReaderState {
         ensures suits { Suits self.old.session frame.now result }
         ensures rings { AllZip SameProducer self.old.producers.items self.new.producers.items }
         ensures sends { map sent self.new.producers.items ≡ handed (map sent self.old.producers.items) (entry result) }
+        ensures room { TakesRoom result (map known_free self.old.producers.items) (map known_free self.new.producers.items) }
         ensures counts { self.new.counts ≡ self.old.counts }
         ensures session { self.new.session ≡ (on_table self.old.session (header_at_front frame.now)).1 }
     {

@@ -11,6 +11,7 @@ use std::process::Abort;
 use std::test::Fail;
 
 mod faults;
+mod following;
 mod memory;
 mod reader;
 

@@ -1,6 +1,6 @@
 //! The reader of a bind over devices in memory.
 
-ghost use Rattle.std.specs.Prelude.{◌≡◌, ◌≤◌};
+ghost use Rattle.std.specs.Prelude.{◌≤◌};
 ghost use Rattle.sms_core.specs.Limits.{most_slots};
 
 use super::{ACCEPTED, ENQUIRE_LINK, Sink, Source, bound_by, same, source_of, wire_to};
@@ -9,7 +9,7 @@ use rtrb::{Consumer, Producer, RingBuffer};
 use sms_pdu::{BIND_TRANSCEIVER_RESP, BIND_TRANSMITTER_RESP, Framer, Frames, Header, Mode, Reply};
 use sms_session::Opened;
 use sms_slot::SlotRow;
-use sms_window::{Claim, Window, WindowSeat};
+use sms_window::Window;
 use std::alloc::Global;
 use std::process::Abort;
 use std::sync::Wait;
@@ -263,6 +263,51 @@ fn answers_that_overrun(rt: HostRuntime) -> Result<(), Fail> {
     Ok(())
 }
 
+// The answer to each of these requests.
+fn answers_to(alloc: Global, numbers: &[u8]) -> Result<Vec<u8>, Fail> {
+    let mut octets = Vec::new(alloc);
+    for number in numbers {
+        octets.extend_from_slice(&[0, 0, 0, 16, 0x80, 0, 0, 4, 0, 0, 0, 0, 0, 0, 0, *number])?;
+    }
+    Ok(octets)
+}
+
+// The ring has the answers to these requests, and nothing else.
+fn want_numbers(rt: &impl Abort, consumer: &mut Consumer<Reply>, wanted: &[u32]) {
+    for number in wanted {
+        same(
+            rt,
+            consumer.pop().ok().map(|reply| reply.number),
+            Some(*number),
+        );
+    }
+    assert!(rt; consumer.pop().is_err());
+}
+
+// Five requests of three workers: the second one's ring has room for one answer, and the third one has
+// no ring. Each answer goes to its own worker, or is told as what it is.
+#[test]
+fn answers_of_several_workers(rt: HostRuntime) -> Result<(), Fail> {
+    let alloc = rt.alloc();
+    let line = line_of(&rt, alloc, 0, 0);
+    for (slot, worker) in [(0, 1), (1, 0), (2, 2), (3, 1), (4, 0)] {
+        same(&rt, line.slots.post(&rt, slot, worker, slot + 1), Ok(()));
+    }
+    let (mut producers, mut first) = ring_of(alloc, 64)?;
+    let (others, mut second) = ring_of(alloc, 1)?;
+    for producer in others {
+        producers.push(producer)?;
+    }
+    let octets = answers_to(alloc, &[5, 1, 3, 9, 4, 2, 1])?;
+    let source = source_of(0, octets.as_slice(), false);
+    let bound = bound_as(&rt, alloc, Mode::Transceiver);
+    let end = read_from(&rt, alloc, source, bound, producers, &line);
+    same(&rt, counts(&end), [3, 2, 2, 0, 0, 0, 0]);
+    want_numbers(&rt, &mut first, &[5, 2]);
+    want_numbers(&rt, &mut second, &[1]);
+    Ok(())
+}
+
 // A wire that breaks, a reader that fails, a line that is stopped, and turns that are used up.
 #[test]
 fn readers_that_end_early(rt: HostRuntime) -> Result<(), Fail> {
@@ -287,112 +332,5 @@ fn readers_that_end_early(rt: HostRuntime) -> Result<(), Fail> {
         };
         want_written(&rt, line, written);
     }
-    Ok(())
-}
-
-// Answers from 1 on with ESME_RTHROTTLED, and then with ESME_ROK.
-fn answers(alloc: Global, throttled: u8, good: u8) -> Result<Vec<u8>, Fail> {
-    let mut octets = Vec::new(alloc);
-    for i in 0..throttled {
-        let number = 1u8.wrapping_add(i);
-        octets.extend_from_slice(&[0, 0, 0, 16, 0x80, 0, 0, 4, 0, 0, 0, 0x58, 0, 0, 0, number])?;
-    }
-    for i in 0..good {
-        let number = 1u8.wrapping_add(throttled).wrapping_add(i);
-        octets.extend_from_slice(&[0, 0, 0, 16, 0x80, 0, 0, 4, 0, 0, 0, 0, 0, 0, 0, number])?;
-    }
-    Ok(octets)
-}
-
-// Throttled answers make the reader hold slots back, but for one; sixteen good ones in a row give one
-// back.
-#[test]
-fn throttling_is_followed(rt: HostRuntime) -> Result<(), Fail> {
-    let cases = [
-        (2, 2, 15, 0xFFFF_FFFF_FFFF_FFFD),
-        (2, 2, 16, 0xFFFF_FFFF_FFFF_FFFC),
-        (1, 1, 0, 0xFFFF_FFFF_FFFF_FFFE),
-    ];
-    for (limit, throttled, good, held) in cases {
-        let alloc = rt.alloc();
-        let octets = answers(alloc, throttled, good)?;
-        let line = line_of(&rt, alloc, 0, 18);
-        let (producers, _consumer) = ring_of(alloc, 64)?;
-        let Ok((window, seat)) = Window::make(alloc, limit) else {
-            panic!(rt; "no window")
-        };
-        let bound = bound_as(&rt, alloc, Mode::Transmitter);
-        let mut reader = source_of(0, octets.as_slice(), false);
-        let end = read_loop(
-            &rt,
-            alloc,
-            &mut reader,
-            bound,
-            producers,
-            &line,
-            &window,
-            seat,
-            Some(limit),
-            10,
-        );
-        same(&rt, end.answered, u64::from(throttled) + u64::from(good));
-        same(&rt, window.close(end.seat).held, held);
-    }
-    Ok(())
-}
-
-// The seat gets this slot.
-fn claim(rt: &impl Abort, window: &Window, seat: &mut WindowSeat, slot: u32)
-    requires own { seat.old.window ≡ window.now }
-    ensures own { seat.new.window ≡ seat.old.window }
-{
-    same(rt, window.try_claim(seat), Claim::Got(slot));
-}
-
-// The seat holds this slot, and releases it.
-fn release(rt: &impl Abort, window: &Window, seat: &mut WindowSeat, slot: u32)
-    requires own { seat.old.window ≡ window.now }
-    ensures own { seat.new.window ≡ seat.old.window }
-{
-    assert!(rt; seat.holds(slot));
-    window.release(seat, slot);
-}
-
-// Beside a worker that holds three of four slots, one is left to hold back.
-#[test]
-fn throttling_beside_a_worker(rt: HostRuntime) -> Result<(), Fail> {
-    let alloc = rt.alloc();
-    let octets = answers(alloc, 3, 0)?;
-    let line = line_of(&rt, alloc, 0, 3);
-    let (producers, _consumer) = ring_of(alloc, 64)?;
-    let Ok((window, mut seat)) = Window::make(alloc, 4) else {
-        panic!(rt; "no window")
-    };
-    assert!(rt; seat.can_split());
-    let mut worker = window.split(&mut seat);
-    claim(&rt, &window, &mut worker, 0);
-    claim(&rt, &window, &mut worker, 1);
-    claim(&rt, &window, &mut worker, 2);
-    let bound = bound_as(&rt, alloc, Mode::Transmitter);
-    let mut reader = source_of(0, octets.as_slice(), false);
-    let end = read_loop(
-        &rt,
-        alloc,
-        &mut reader,
-        bound,
-        producers,
-        &line,
-        &window,
-        seat,
-        Some(4),
-        10,
-    );
-    let mut seat = end.seat;
-    assert!(rt; seat.holds(3));
-    release(&rt, &window, &mut worker, 0);
-    release(&rt, &window, &mut worker, 1);
-    release(&rt, &window, &mut worker, 2);
-    window.join(&mut seat, worker);
-    same(&rt, window.close(seat).held, 0xFFFF_FFFF_FFFF_FFF8);
     Ok(())
 }

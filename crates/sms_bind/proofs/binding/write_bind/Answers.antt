@@ -18,3 +18,12 @@ returns-in-Ok-send-clause-part g c = λ octets spells.
     let spelled : Spells (bind_pdu c.args.settings.now c.args.number) sent = added_to_none (owned_pdu c.pdu.result) (bind_pdu c.args.settings.now c.args.number) c.new-octets.result.items sent c.pdu.ensures (search rules) c.in-Ok.ensures.spelled in
     let same : c.new.result ≡ octets = c.new.ensures ∙ same_text (bind_pdu c.args.settings.now c.args.number) sent octets spelled spells in
     (length octets, omega arith, subst (Appends old new) (same ∙ sym (take-length octets)) c.in-Ok-send.ensures.whole)
+
+-- and what spells the bind
+pub returns-in-Ok-send-clause-written : goal.returns-in-Ok-send-clause-written
+returns-in-Ok-send-clause-written g c =
+    let old = g.W.Write.contents (writer c.args.wire.now) in
+    let new = g.W.Write.contents (writer c.send.new.self) in
+    let sent = c.encode_into.new.out.items in
+    let spelled : Spells (bind_pdu c.args.settings.now c.args.number) sent = added_to_none (owned_pdu c.pdu.result) (bind_pdu c.args.settings.now c.args.number) c.new-octets.result.items sent c.pdu.ensures (search rules) c.in-Ok.ensures.spelled in
+    (sent, spelled, subst (Appends old new) c.new.ensures c.in-Ok-send.ensures.whole)

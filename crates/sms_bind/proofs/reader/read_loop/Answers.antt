@@ -1,14 +1,14 @@
 use Rattle.std.proofs.Common.{◌≡◌, ◌++◌, List, ℕ, map, sym, ap, ◌∙◌, subst, rules}
 use Rattle.std.specs.List.{concat, AllZip}
-use Rattle.rtrb.specs.Ring.{sent, SameProducer}
+use Rattle.rtrb.specs.Ring.{sent, known_free, SameProducer}
 use Rattle.sms_slot.proofs.Rings.{same_rings}
 use Rattle.sms_bind.specs.declared.ending.ReaderEnd.{ReaderEnd}
 use Rattle.sms_bind.specs.declared.counts.Counts.{Counts}
 use Rattle.sms_bind.specs.declared.reader_state.ReaderState.{ReaderState}
-use Rattle.sms_bind.specs.Ends.{HandsOn}
+use Rattle.sms_bind.specs.Ends.{HandsOn, LeavesRoom}
 use Rattle.sms_bind.specs.Held.{Held}
 use Rattle.sms_bind.specs.Follows.{held_none, most_held}
-use Rattle.sms_bind.proofs.Hands.{hands_on, hands_none, end_of}
+use Rattle.sms_bind.proofs.Hands.{hands_on, hands_none, leaves_room, leaves_room_none, end_of}
 use Rattle.sms_bind.proofs.reader.read_loop.Goals as goal
 
 pub returns-in-Err-clause-rings : goal.returns-in-Err-clause-rings
@@ -53,3 +53,32 @@ returns-clause-answers g c =
     let is : c.ended-2.result ≡ end_of b c.read-cause.result = search rules in
     let P : List ℕ → Held → ReaderEnd → Type 0 = λ l h e. HandsOn s l r t rings (map sent e.producers.items) h e in
     subst (λ l. P l held c.ended-2.result) begun (subst (λ h. P (concat c.as_slice.result.now ++ c.into_rest-rest.result.items) h c.ended-2.result) first (subst (λ e. P (concat c.as_slice.result.now ++ c.into_rest-rest.result.items) a.follower e) (sym is) all))
+
+pub returns-in-Err-clause-room : goal.returns-in-Err-clause-room
+returns-in-Err-clause-room g c =
+    let rings = map sent c.args.producers.items in
+    let free = map known_free c.args.producers.items in
+    let e = c.ended.ensures in
+    let k = c.new-in-Err.ensures in
+    let none : LeavesRoom rings rings free free c.ended.result = leaves_room_none rings free c.ended.result
+    (ap (λ (x : ReaderEnd). x.answered) e ∙ ap (λ (x : Counts). x.answered) k)
+    (ap (λ (x : ReaderEnd). x.unknown) e ∙ ap (λ (x : Counts). x.unknown) k)
+    (ap (λ (x : ReaderEnd). x.overrun) e ∙ ap (λ (x : Counts). x.overrun) k)
+    (ap (λ (x : ReaderEnd). x.delivered) e ∙ ap (λ (x : Counts). x.delivered) k)
+    (ap (λ (x : ReaderEnd). x.noted) e ∙ ap (λ (x : Counts). x.noted) k)
+    (ap (λ (x : ReaderEnd). x.nacked) e ∙ ap (λ (x : Counts). x.nacked) k)
+    (ap (λ (x : ReaderEnd). x.unreplied) e ∙ ap (λ (x : Counts). x.unreplied) k) in
+    subst (λ (x : ReaderEnd). LeavesRoom rings (map sent x.producers.items) free (map known_free x.producers.items) c.ended.result) (sym e) none
+
+pub returns-clause-room : goal.returns-clause-room
+returns-clause-room g c =
+    let b = c.read-cause.new.self in
+    let r = g.R.Read.remaining c.args.reader.now.inner in
+    let t = g.R.Read.remaining c.read-cause.new.reader.inner in
+    let s = c.args.bound.session in
+    let rings = map sent c.args.producers.items in
+    let free = map known_free c.args.producers.items in
+    let a : ReaderState = record { session = s; producers = c.args.producers; counts = c.new-2.result; follower = c.in-Ok.follower } in
+    let all = leaves_room s a b _ _ r t c.read-cause.result c.new-2.ensures c.read-cause.ensures.reads in
+    let is : c.ended-2.result ≡ end_of b c.read-cause.result = search rules in
+    subst (λ (e : ReaderEnd). LeavesRoom rings (map sent e.producers.items) free (map known_free e.producers.items) e) (sym is) all

@@ -1,5 +1,5 @@
 use Rattle.std.proofs.Common.{◌≡◌, [], ◌∷◌, Option, map, refl, ap, sym, ◌∙◌, append-nil, subst, rules}
-use Rattle.rtrb.specs.Ring.{sent}
+use Rattle.rtrb.specs.Ring.{sent, known_free}
 use Rattle.sms_pdu.specs.Header.{header_at_front}
 use Rattle.sms_session.specs.Session.{on_table}
 use Rattle.sms_slot.specs.Rings.{handed}
@@ -18,11 +18,12 @@ returns-clause-worked g c =
     let end : cause_after deed t ≡ c.cause_of.result = search rules in
     record {
       deeds = deed ∷ [];
-      each = (c.work-deed.ensures.suits, tt);
+      each = (c.work-deed.ensures.suits, (λ more. absurd (more refl)), tt);
       reaches = subst (λ (e : Option ReaderCause). Reaches e s t) end (reached s t deed next);
       breaks = broke s t deed next ∙ ap broken_at end;
       rings = c.work-deed.ensures.rings;
       sends = c.work-deed.ensures.sends ∙ ap (handed (map sent c.args.self.now.producers.items)) (sym (append-nil (entry deed)));
+      room = (map known_free c.work-deed.new.self.producers.items, c.work-deed.ensures.room, refl);
       counts = c.add.ensures.tally ∙ ap (λ k. tally k deed) c.work-deed.ensures.counts;
       follows = (c.work-deed.new.self.follower, c.work-deed.ensures.follow, refl);
     }

@@ -43,7 +43,7 @@ returns-clause-reads g c =
     let r = g.R.Read.remaining c.args.reader.now.inner in
     let u = g.R.Read.remaining c.read_turns.new.reader.inner in
     let one = subst (λ x. Reads (Worked x end b d) rest r u (stretch_of end) []) (c.in_default.ensures.going refl) c.read_turns.ensures.reads in
-    reads_more (Worked s None a b) (Worked s end b d) (Worked s end a d) (before ++ rest) rest [] r r u (stretch_of end) (reads_begun (Worked s None a b) before left rest r went (whole refl) c.requires.rest) one (λ fs gs p q. worked_more s end a b d fs gs p q)
+    reads_more (Worked s None a b) (Worked s end b d) (Worked s end a d) (before ++ rest) rest [] r r u (stretch_of end) (reads_begun (Worked s None a b) before left rest r went (whole refl) c.requires.rest) one (λ fs gs p q. worked_more s c.requires.bound end a b d fs gs p q)
 
 pub returns-in-Some-clause-turned : goal.returns-in-Some-clause-turned
 returns-in-Some-clause-turned g c =

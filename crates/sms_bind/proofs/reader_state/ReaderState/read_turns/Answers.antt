@@ -79,7 +79,7 @@ returns-in-Some-clause-reads g c =
     let end : Option ReaderCause = Some c.in-Some.cause in
     let one = subst (λ x. Reads (Worked x end b d) held t u (stretch_of end) kept) i.same c.in-Some.ensures.reads in
     reads_ended (Worked s end a d) begun kept [] r u (stretch_of end)
-    (reads_more (Worked s None a b) (Worked s end b d) (Worked s end a d) begun held kept r t u (stretch_of end) i.reads one (λ fs gs p q. worked_more s end a b d fs gs p q))
+    (reads_more (Worked s None a b) (Worked s end b d) (Worked s end a d) begun held kept r t u (stretch_of end) i.reads one (λ fs gs p q. worked_more s c.requires.bound end a b d fs gs p q))
     (λ left. leaves_end c.in-Some.cause left kept [])
 
 pub returns-in-Some-clause-fault : goal.returns-in-Some-clause-fault
@@ -115,7 +115,7 @@ loop-turn-preserved g c =
       follows = follows_on a.follower b.follower d.follower i.follows c.turn.ensures.follows;
       same = c.in_default-turn.ensures.going refl ∙ i.same;
       within = c.turn.ensures.within;
-      reads = reads_more (Worked s None a b) (Worked s None b d) (Worked s None a d) begun held kept r t u going i.reads one (λ fs gs p q. worked_more s None a b d fs gs p q);
+      reads = reads_more (Worked s None a b) (Worked s None b d) (Worked s None a d) begun held kept r t u going i.reads one (λ fs gs p q. worked_more s c.requires.bound None a b d fs gs p q);
       turned = turned_more c.loop-turn._turn _ _ _ _ _ _ _ c.turn.ensures.faults i.turned c.in_default-turn.ensures.turned refl;
       faults = (let f = c.turn.ensures.faults in let h = i.faults in omega (arith, f, h));
       failures = c.in_default-turn.ensures.quiet (λ e. absurd cc) ∙ i.failures;

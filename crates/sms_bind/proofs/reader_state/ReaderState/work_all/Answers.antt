@@ -29,7 +29,7 @@ returns-in-Some-clause-went g c =
     let more = frames_from fs i c.frame-item.result (search rules) c.frame-item.is ∙ ap (λ (l : List ℕ). l ++ after) (sym c.as_slice.ensures.same) in
     let one : Worked s end b d (f ∷ []) = subst (λ x. Worked x end b d (f ∷ [])) c.loop-frame.invariant.same c.in-Some.ensures.worked in (
       after,
-      went_frame (Worked s None a b) (Worked s end a d) (concat fs) (concat (drop i fs)) f after c.loop-frame.invariant.went more c.as_slice.ensures.whole (λ hs w. worked_more s end a b d hs (f ∷ []) w one),
+      went_frame (Worked s None a b) (Worked s end a d) (concat fs) (concat (drop i fs)) f after c.loop-frame.invariant.went more c.as_slice.ensures.whole (λ hs w. worked_more s c.requires.bound end a b d hs (f ∷ []) w one),
       λ e. absurd cc,
     )
 
@@ -49,6 +49,6 @@ loop-frame-preserved g c =
       follows = follows_on a.follower b.follower d.follower c.loop-frame.invariant.follows c.go.ensures.follows;
       same = search rules;
       within = c.go.ensures.within;
-      went = went_frame (Worked s None a b) (Worked s None a d) (concat fs) (concat (drop i fs)) f after c.loop-frame.invariant.went more c.as_slice.ensures.whole (λ hs w. worked_more s None a b d hs (f ∷ []) w one);
+      went = went_frame (Worked s None a b) (Worked s None a d) (concat fs) (concat (drop i fs)) f after c.loop-frame.invariant.went more c.as_slice.ensures.whole (λ hs w. worked_more s c.requires.bound None a b d hs (f ∷ []) w one);
       room = (let n = c.go.ensures.frames in let r = c.loop-frame.invariant.room in omega (arith, n, r));
     }

@@ -29,7 +29,7 @@ returns-in-Some-go-clause-went g c =
     let end : Option ReaderCause = Some c.in-Some-go.cause in
     let one : Worked s end b d (f ∷ []) = subst (λ x. Worked x end b d (f ∷ [])) c.loop-length.invariant.same c.in-Some-go.ensures.worked in
     went_dropped (Worked s end a d) c.args.stream.now after
-    (went_frame (Worked s None a b) (Worked s end a d) c.args.stream.now left f after c.loop-length.invariant.went joins is (λ hs w. worked_more s end a b d hs (f ∷ []) w one))
+    (went_frame (Worked s None a b) (Worked s end a d) c.args.stream.now left f after c.loop-length.invariant.went joins is (λ hs w. worked_more s c.requires.bound end a b d hs (f ∷ []) w one))
 
 pub loop-length-preserved : goal.loop-length-preserved
 loop-length-preserved g c =
@@ -48,6 +48,6 @@ loop-length-preserved g c =
       follows = follows_on a.follower b.follower d.follower c.loop-length.invariant.follows c.go.ensures.follows;
       same = search rules;
       within = c.go.ensures.within;
-      went = went_frame (Worked s None a b) (Worked s None a d) c.args.stream.now left f after c.loop-length.invariant.went joins is (λ hs w. worked_more s None a b d hs (f ∷ []) w one);
+      went = went_frame (Worked s None a b) (Worked s None a d) c.args.stream.now left f after c.loop-length.invariant.went joins is (λ hs w. worked_more s c.requires.bound None a b d hs (f ∷ []) w one);
       room = (let k = c.go.ensures.frames in let r = c.loop-length.invariant.room in let m = is.good.least in omega (arith, k, r, m, long));
     }
