@@ -1,5 +1,5 @@
 -- A charge's last attempt has its answer.
-use Rattle.std.proofs.Common.{◌≡◌, ℕ, suc, Bool, true, false, List, [], ◌∷◌, Some, None, refl, sym, ap, ◌∙◌, ne_eqb, true≢false}
+use Rattle.std.proofs.Common.{◌≡◌, ℕ, suc, Bool, true, false, List, [], ◌∷◌, Some, None, length, refl, sym, ap, ◌∙◌, ne_eqb, true≢false}
 use Rattle.std.specs.Prelude.{Option, slice_get, if◌then◌else◌}
 use mathlib.Core.Logic.{dite}
 use native.Mathlib.Decide.{ℕ_discrete}
@@ -36,12 +36,13 @@ record ChargeAt (xs : List Attempt) : Type 0 where
   place : ℕ
   attempt : Attempt
   there : slice_get xs place ≡ Some attempt
+  last : length xs ≡ suc place
   charge : IsCharge attempt.reply
 
 charge_at : (xs : List Attempt) → outcome_of (answers xs) ≡ phases.Charged → ChargeAt xs
 charge_at [] e = absurd (cc)
-charge_at (x ∷ []) e = record { place = 0; attempt = x; there = refl; charge = last_charge x.reply e }
-charge_at (x ∷ y ∷ xs) e = let h = charge_at (y ∷ xs) e in record { place = suc h.place; attempt = h.attempt; there = h.there; charge = h.charge }
+charge_at (x ∷ []) e = record { place = 0; attempt = x; there = refl; last = refl; charge = last_charge x.reply e }
+charge_at (x ∷ y ∷ xs) e = let h = charge_at (y ∷ xs) e in record { place = suc h.place; attempt = h.attempt; there = h.there; last = ap suc h.last; charge = h.charge }
 
 pub charges_are_answered : ChargesAreAnswered
 charges_are_answered rules before received m p s told settled charged =
@@ -49,4 +50,4 @@ charges_are_answered rules before received m p s told settled charged =
     let r = h.charge.reply in
     let kind = is_charge_of r.status r.nack h.charge.accepts in
     let came = all_at (IsAnswered before received) s.attempts h.place h.attempt told.answered h.there r h.charge.came in
-    record { place = h.place; attempt = h.attempt; reply = r; is = h.there; answered = h.charge.came; number = came.0; status = kind.0; response = kind.1; came = came.1 }
+    record { place = h.place; attempt = h.attempt; reply = r; is = h.there; last = h.last; answered = h.charge.came; number = came.0; status = kind.0; response = kind.1; came = came.1 }

@@ -7,6 +7,7 @@ pub mod EndsOf
 pub mod Events
 pub mod Keeping
 pub mod Leaving
+pub mod Resting
 pub mod Standing
 pub mod Submits
 pub mod Sweeping

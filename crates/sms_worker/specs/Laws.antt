@@ -1,5 +1,5 @@
 -- Laws of what workers hand back.
-use Rattle.std.specs.Prelude.{◌≡◌, ℕ, false, List, Some, slice_get}
+use Rattle.std.specs.Prelude.{◌≡◌, ℕ, suc, false, List, Some, length, slice_get}
 use Rattle.sms_core.specs.Statuses.{no_error}
 use Rattle.sms_pdu.specs.declared.reply.Reply.{Reply}
 use Rattle.sms_worker.specs.declared.message.Message.{Message}
@@ -9,12 +9,13 @@ use Rattle.sms_worker.specs.declared.ends.Attempt.{Attempt}
 use Rattle.sms_worker.specs.declared.ends.SegmentEnd.{SegmentEnd}
 use Rattle.sms_worker.specs.Told.{HeardSince, IsSettled, IsTold}
 
--- one of its attempts was answered by a submit_sm_resp with ESME_ROK and the attempt's number, which came in this call
+-- its last attempt was answered by a submit_sm_resp with ESME_ROK and the attempt's number, which came in this call
 pub record HasCharge (before : ℕ) (received : List Reply) (s : SegmentEnd) : Type 0 where
   pub place : ℕ
   pub attempt : Attempt
   pub reply : Reply
   pub is : slice_get s.attempts place ≡ Some attempt
+  pub last : length s.attempts ≡ suc place
   pub answered : attempt.reply ≡ Some reply
   pub number : reply.number ≡ attempt.number
   pub status : reply.status ≡ no_error

@@ -7,6 +7,7 @@ pub mod Events
 pub mod Keeps
 pub mod Laws
 pub mod Limits
+pub mod Rests
 pub mod RunState
 pub mod Start
 pub mod Steps

@@ -2,8 +2,10 @@
 
 ghost use Rattle.std.specs.Prelude.{◌≡◌};
 ghost use mathlib.Core.List.{IsPrefix};
+ghost use Rattle.std.specs.List.{AllZip};
 ghost use Rattle.rtrb.specs.Ring.{sent, received, IsPair};
 ghost use Rattle.sms_worker.specs.Laws.{ChargesAreAnswered};
+ghost use Rattle.sms_worker.specs.Rests.{ChargesRestOnFrames, HasReceived};
 ghost use Rattle.sms_worker.specs.Events.{
   ClaimIsEvent,
   SendingIsEvent,
@@ -17,6 +19,7 @@ ghost use Rattle.sms_worker.specs.Events.{
 
 use rtrb::{Consumer, Producer};
 use sms_pdu::Reply;
+use std::collections::VecDeque;
 
 /// Each charge rests on an answer that the worker received in the call: a submit_sm_resp with
 /// `ESME_ROK` and its attempt's number.
@@ -32,6 +35,41 @@ pub fn received_is_prefix(producer: &mut Producer<Reply>, consumer: &mut Consume
     ensures pair { IsPair producer.new consumer.new }
 {
     let _seen = consumer.slots_beside(producer);
+}
+
+// The two ends of one ring.
+fn meet(producer: Producer<Reply>, consumer: Consumer<Reply>)
+    requires { IsPair producer consumer }
+    ensures { HasReceived producer consumer }
+{
+    let mut producer = producer;
+    let mut consumer = consumer;
+    received_is_prefix(&mut producer, &mut consumer);
+}
+
+// The ends of each ring.
+fn meet_all(producers: Vec<Producer<Reply>>, consumers: Vec<Consumer<Reply>>)
+    requires { AllZip IsPair producers.items consumers.items }
+    ensures { AllZip HasReceived producers.items consumers.items }
+{
+    let mut consumers = VecDeque::from(consumers);
+    for producer in producers {
+        let Some(consumer) = consumers.pop_front() else {
+            unreachable!()
+        };
+        meet(producer, consumer);
+    }
+}
+
+/// Each charge of a bind's workers rests on a frame that the bind's reader read: a submit_sm_resp with
+/// `ESME_ROK` and the number of the charge's last attempt. No two charges rest on one frame. The
+/// producers are those that the reader gave back, and the consumers those of the workers, ring by
+/// ring; what `read_loop` and `run_worker` promised of them is taken from their contracts.
+pub fn charges_rest_on_frames(producers: Vec<Producer<Reply>>, consumers: Vec<Consumer<Reply>>)
+    requires { AllZip IsPair producers.items consumers.items }
+    ensures { ChargesRestOnFrames producers.items consumers.items }
+{
+    meet_all(producers, consumers);
 }
 
 /// The changes of one attempt are the core's events: a claim of its slot is a Claim, its draw, its
