@@ -1,7 +1,6 @@
 //! Taking the answers that the ring shows, and giving up those that wait too long.
 
-ghost use Rattle.std.specs.Prelude.{◌≡◌, ℕ, ◌<◌, ◌∷◌, ◌++◌, [], List, length, slice_get, Some, IfSome};
-ghost use Rattle.std.specs.Option.{option_map};
+ghost use Rattle.std.specs.Prelude.{◌≡◌, ◌==◌, ℕ, ◌<◌, ◌∷◌, ◌++◌, [], List, length, position, IfSome};
 ghost use Rattle.rtrb.specs.Ring.{received, SameConsumer};
 ghost use Rattle.sms_pdu.specs.declared.reply.Reply.{Reply};
 ghost use Rattle.sms_worker.specs.Told.{HeardSince};
@@ -18,27 +17,13 @@ use sms_slot::{Expired, Taken};
 use std::snapshot::Snapshot;
 use std::sync::Wait;
 
-/// Where the open request with this number is. They stand in the order of their numbers, since a
-/// seat's numbers rise.
+/// Where the open request with this number is: the first, where there are more. Few are open, and
+/// mostly the one that waits for longest is answered next.
 fn find(opened: &[Open], number: u32) -> Option<usize>
     ensures within { IfSome result (λ place. place < length opened.now) }
-    ensures number { IfSome result (λ place. option_map (λ o. o.number) (slice_get opened.now place) ≡ Some number) }
+    ensures exact { result ≡ position (λ o. o.number == number) opened.now }
 {
-    let mut low = 0;
-    let mut high = opened.len();
-    while low < high {
-        let middle = low + (high - low) / 2;
-        let found = opened[middle].number;
-        if found == number {
-            return Some(middle);
-        }
-        if found < number {
-            low = middle + 1;
-        } else {
-            high = middle;
-        }
-    }
-    None
+    opened.iter().position(|open| open.number == number)
 }
 
 impl<N: BookName, C: Call> Run<N, C> {
