@@ -1,5 +1,5 @@
 -- One segment end changed, and one message end more.
-use Rattle.std.proofs.Common.{◌≡◌, ℕ, zero, suc, ◌+◌, ◌<◌, ◌≤◌, List, [], ◌∷◌, ◌++◌, length, Some, None, inl, inr, refl, sym, ap, ◌∙◌, subst, arith}
+use Rattle.std.proofs.Common.{◌≡◌, ℕ, zero, suc, ◌+◌, ◌<◌, ◌≤◌, List, [], ◌∷◌, ◌++◌, length, Some, None, inl, inr, refl, sym, ap, ◌∙◌, arith}
 use Rattle.std.specs.Prelude.{◌⊎◌, Option, slice_get, slice_set, IfSome, IfNone}
 use Rattle.sms_worker.specs.declared.message.Message.{Message}
 use Rattle.sms_worker.specs.declared.ends.SegmentEnd.{SegmentEnd}
@@ -7,10 +7,6 @@ use Rattle.sms_worker.specs.declared.ends.MessageEnd.{MessageEnd}
 use Rattle.sms_worker.specs.declared.ends.MessageResult.{MessageResult}
 use Rattle.sms_worker.specs.declared.ends.MessageResult.TheVariants.{Sent, Refused as NotSent}
 use Rattle.sms_worker.specs.Ends.{segments_in, segment_at, put_in, with_part, put, total_in, total}
-use Rattle.sms_worker.specs.declared.user_data.UserData.{UserData}
-use Rattle.sms_worker.specs.declared.rules.Rules.{Rules}
-use Rattle.sms_worker.specs.Told.{AreTexts}
-use Rattle.sms_worker.specs.UserData.{message_data}
 use Rattle.sms_worker.specs.Steps.{Takes}
 
 module _ {X : Type 0} where
@@ -212,13 +208,3 @@ given_other old es new k p s s' (at, (left, is)) e = e ∙ ap (λ l. put l k p s
 
 pub given_same : (old es new : List MessageEnd) (k p : ℕ) (s : SegmentEnd) → Takes old k p s es → new ≡ put es k p s → new ≡ old
 given_same old es new k p s t e = given_other old es new k p s s t e ∙ put_same old k p s t.0
-
--- the parts of a message stay, or are given back
-pub texts_set : (rules : Rules) (ms : List Message) (xs : List (List UserData)) (k : ℕ) (v w : List UserData) → AreTexts rules ms xs → slice_get xs k ≡ Some v → (w ≡ v) ⊎ (w ≡ []) → AreTexts rules ms (slice_set xs k w)
-texts_set rules ms xs k v w all got is j m ps there at = elim (got_of_set xs k w j ps at) [
-  | inl h ↦ elim is [
-    | inl same ↦ subst (λ (x : List UserData). (x ≡ []) ⊎ (x ≡ message_data rules m)) (sym (h.1 ∙ same)) (all k m v (ap (slice_get ms) (sym h.0) ∙ there) got)
-    | inr none_left ↦ inl (h.1 ∙ none_left)
-  ]
-  | inr h ↦ all j m ps there h
-]

@@ -2,13 +2,16 @@ pub mod Apartness
 pub mod Beginnings
 pub mod Changes
 pub mod Charges
+pub mod Earliest
 pub mod EndLemmas
 pub mod EndsOf
 pub mod Events
 pub mod Keeping
+pub mod Kept
 pub mod Leaving
 pub mod Resting
 pub mod Standing
 pub mod Submits
 pub mod Sweeping
 pub mod Tries
+pub mod Waiting

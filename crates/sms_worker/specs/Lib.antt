@@ -7,11 +7,13 @@ pub mod Events
 pub mod Keeps
 pub mod Laws
 pub mod Limits
+pub mod Queues
 pub mod Rests
 pub mod RunState
 pub mod Start
 pub mod Steps
 pub mod Submits
 pub mod Sweeps
+pub mod TextsState
 pub mod Told
 pub mod UserData

@@ -7,6 +7,7 @@ ghost use Rattle.sms_segment.specs.Message.{IsTooLong};
 ghost use Rattle.sms_segment.specs.Part.{HasSeptets};
 ghost use Rattle.sms_worker.specs.Submits.{HasAddresses, coded_text, message_parts, reference_of};
 ghost use Rattle.sms_worker.specs.Told.{IsKnown, IsNotCut, IsRefusalOf, IsResultOf, IsShort};
+ghost use Rattle.sms_worker.specs.TextsState.{carried};
 ghost use Rattle.sms_worker.specs.UserData.{message_data};
 ghost use Rattle.std.specs.Prelude.{string_bytes};
 ghost use Rattle.sms_worker.specs.declared.ends.MessageRefusal.TheVariants.{BindClosed};
@@ -104,7 +105,7 @@ fn prepare(
 ) -> Result<(Texts, Vec<SegmentEnd>), MessageRefusal>
     ensures known { IfOk result (λ r. IsKnown accounts message.now.account × HasAddresses message.now) }
     ensures short { OnOk result (IsShort rules.now message.now) }
-    ensures texts { IfOk result (λ r. r.0 ≡ message_data rules.now message.now) }
+    ensures texts { IfOk result (λ r. carried r.0 ≡ message_data rules.now message.now) }
     ensures ends { IfOk result (λ r. r.1.items ≡ ready (cost_of rules.now.tariff (string_bytes message.now.dest)) (length (message_parts rules.now message.now))) }
     ensures refused { IfErr result (λ e. IsRefusalOf rules.now accounts message.now e) }
     ensures closed { IfErr result (λ e. e ≡ BindClosed → IsTrue down) }
@@ -142,7 +143,7 @@ fn refused<N: BookName>(
     refusal: MessageRefusal,
 ) -> (Texts, MessageEnd)
     requires { IsRefusalOf rules.now (length shares.now.amounts) message.now refusal }
-    ensures begins { Begins rules.now message.now shares.now shares.now result.0 result.1 }
+    ensures begins { Begins rules.now message.now shares.now shares.now (carried result.0) result.1 }
     ensures refused { result.1.result ≡ Refused refusal }
 {
     let texts = Texts::none(alloc);
@@ -163,7 +164,7 @@ pub(crate) fn begun<N: BookName, R: Wait>(
     down: bool,
     message: &Message,
 ) -> (Texts, MessageEnd)
-    ensures begins { Begins rules.now message.now shares.old shares.new result.0 result.1 }
+    ensures begins { Begins rules.now message.now shares.old shares.new (carried result.0) result.1 }
     ensures closed { result.1.result ≡ Refused BindClosed → IsTrue down }
     ensures down { IsTrue down → result.1.result ≡ Refused BindClosed }
 {

@@ -1,7 +1,9 @@
 //! The segments that wait to be sent again, in the order in which their times come.
 
-ghost use Rattle.std.specs.Prelude.{◌≡◌, ◌≢◌, ◌≤◌, ◌+◌, ◌-◌, ℕ, Some, true, IfSome, IsSome, is_none, option_and_then, slice_get, vec_len, vec_capacity};
+ghost use Rattle.std.specs.Prelude.{◌≡◌, ◌≢◌, ◌≤◌, ◌+◌, ◌-◌, ◌&&◌, ◌++◌, ◌∷◌, [], ℕ, List, map, Some, true, IfNone, IfSome, is_none, slice_get, vec_len, vec_capacity};
 ghost use Rattle.std.specs.List.{list_all};
+ghost use Rattle.sms_worker.specs.Queues.{Waiting, appended, first_in, first_place, IsAway, IsDue, IsKept, IsOutside, last_in, later, NoneIsDue, sooner_of, SpellsAt, with_last, without_first};
+ghost use Rattle.sms_worker.specs.TextsState.{TextsState, carried, kept_at, link_of, relinked};
 
 use crate::open::SegmentPlace;
 use crate::texts::{Link, NO_LINK, Texts};
@@ -23,8 +25,38 @@ pub struct Queues {
     all: [Queue; MOST_ATTEMPTS],
 }
 
+/// A queue, and when its first segment is due.
+#[derive(Clone, Copy, Debug, PartialEq, Eq)]
+struct Head {
+    queue: usize,
+    due_ms: u64,
+}
+
+/// The best so far and one more: the one that is due before the other. None is as good as one whose time
+/// hasn't come.
+fn sooner(best: Option<Head>, head: Head, now_ms: u64) -> Option<Head>
+    ensures { result ≡ sooner_of now_ms best head }
+{
+    match best {
+        Some(before) => {
+            if head.due_ms < before.due_ms {
+                return Some(head);
+            }
+            Some(before)
+        }
+        None => {
+            if head.due_ms <= now_ms {
+                return Some(head);
+            }
+            None
+        }
+    }
+}
+
 /// The link of the segment at a place.
-fn link_at(texts: &[Texts], place: SegmentPlace) -> Link {
+fn link_at(texts: &[Texts], place: SegmentPlace) -> Link
+    ensures { result ≡ link_of (kept_at texts.now place) }
+{
     if place.message < texts.len() {
         return texts[place.message].link(place.part);
     }
@@ -33,7 +65,7 @@ fn link_at(texts: &[Texts], place: SegmentPlace) -> Link {
 
 /// Gives the segment at a place another link.
 fn set_link_at(texts: &mut Vec<Texts>, place: SegmentPlace, link: Link)
-    ensures same { texts.new.items ≡ texts.old.items }
+    ensures linked { texts.new.items ≡ relinked texts.old.items place link }
     ensures room { (vec_len texts.new ≡ vec_len texts.old) × (vec_capacity texts.new ≡ vec_capacity texts.old) }
 {
     if place.message >= texts.len() {
@@ -43,10 +75,52 @@ fn set_link_at(texts: &mut Vec<Texts>, place: SegmentPlace, link: Link)
     kept.set_link(place.part, link);
 }
 
+/// Links a segment behind the last of a queue, if there is one.
+fn link_behind(texts: &mut Vec<Texts>, last: Option<SegmentPlace>, place: SegmentPlace, due_ms: u64)
+    ensures linked { texts.new.items ≡ appended texts.old.items last place due_ms }
+    ensures room { (vec_len texts.new ≡ vec_len texts.old) × (vec_capacity texts.new ≡ vec_capacity texts.old) }
+{
+    set_link_at(texts, place, Link { due_ms, next: None });
+    if let Some(last) = last {
+        let due_ms = link_at(texts.as_slice(), last).due_ms;
+        let next = Some(place);
+        set_link_at(texts, last, Link { due_ms, next });
+    }
+}
+
+impl Queue {
+    /// The queue with a segment behind its last.
+    fn with(self, place: SegmentPlace) -> Queue
+        ensures { result ≡ with_last self place }
+    {
+        let first = match self.last {
+            Some(_) => self.first,
+            None => Some(place),
+        };
+        let last = Some(place);
+        Queue { first, last }
+    }
+
+    /// The queue without its first segment.
+    fn without_first(self, texts: &[Texts]) -> Queue
+        ensures { result ≡ without_first texts.now self.first self.last }
+    {
+        let Some(first) = self.first else {
+            return self;
+        };
+        let first = link_at(texts, first).next;
+        let last = match first {
+            Some(_) => self.last,
+            None => None,
+        };
+        Queue { first, last }
+    }
+}
+
 impl Queues {
     /// No segment waits.
     pub fn none() -> Queues
-        ensures { list_all (λ q. is_none q.first) result.all ≡ true }
+        ensures { list_all (λ q. is_none q.first && is_none q.last) result.all ≡ true }
     {
         let none = Queue {
             first: None,
@@ -64,7 +138,7 @@ impl Queues {
         self.all.iter().all(|queue| queue.first.is_none())
     }
 
-    /// Lets a segment with so many attempts wait until its time.
+    /// Lets a segment with so many attempts wait until its time: behind those that wait with as many.
     pub fn push(
         &mut self,
         texts: &mut Vec<Texts>,
@@ -72,52 +146,43 @@ impl Queues {
         place: SegmentPlace,
         due_ms: u64,
     )
-        ensures same { texts.new.items ≡ texts.old.items }
+        ensures waits { 1 ≤ attempts → attempts ≤ 10 → (ws : List Waiting) → SpellsAt texts.old.items self.old.all (attempts - 1) ws → IsKept texts.old.items place → IsOutside place ws → SpellsAt texts.new.items self.new.all (attempts - 1) (ws ++ record { place = place; due_ms = due_ms } ∷ []) }
+        ensures apart { (k : ℕ) (ws : List Waiting) → k + 1 ≢ attempts → SpellsAt texts.old.items self.old.all k ws → IsOutside place ws → IsAway (last_in self.old.all (attempts - 1)) ws → SpellsAt texts.new.items self.new.all k ws }
+        ensures same { map carried texts.new.items ≡ map carried texts.old.items }
         ensures room { (vec_len texts.new ≡ vec_len texts.old) × (vec_capacity texts.new ≡ vec_capacity texts.old) }
-        ensures last { 1 ≤ attempts → attempts ≤ 10 → option_and_then (λ q. q.last) (slice_get self.new.all (attempts - 1)) ≡ Some place }
+        ensures last { 1 ≤ attempts → attempts ≤ 10 → last_in self.new.all (attempts - 1) ≡ Some place }
         ensures others { (k : ℕ) → k + 1 ≢ attempts → slice_get self.new.all k ≡ slice_get self.old.all k }
     {
         if attempts < 1 || attempts > MOST_ATTEMPTS {
             return;
         }
-        let queue = &mut self.all[attempts - 1];
-        let link = Link { due_ms, next: None };
-        set_link_at(texts, place, link);
-        match queue.last {
-            Some(last) => {
-                let before = link_at(texts.as_slice(), last);
-                let link = Link {
-                    due_ms: before.due_ms,
-                    next: Some(place),
-                };
-                set_link_at(texts, last, link);
-            }
-            None => queue.first = Some(place),
-        }
-        queue.last = Some(place);
+        let queue = self.all[attempts - 1];
+        link_behind(texts, queue.last, place, due_ms);
+        self.all[attempts - 1] = queue.with(place);
     }
 
     /// The queue whose first segment is due before those of the others, if its time has come.
     pub fn due(&self, texts: &[Texts], now_ms: u64) -> Option<usize>
-        ensures { IfSome result (λ k. IsSome (option_and_then (λ q. q.first) (slice_get self.now.all k))) }
+        ensures first { IfSome result (λ k. IsDue texts.now self.now.all now_ms k) }
+        ensures none { IfNone result (NoneIsDue texts.now self.now.all now_ms) }
     {
         let mut best = None;
-        let mut best_ms = now_ms;
-        for i in 0..10 {
-            if let Some(first) = self.all[i].first {
+        for queue in 0..MOST_ATTEMPTS {
+            if let Some(first) = self.all[queue].first {
                 let due_ms = link_at(texts, first).due_ms;
-                if due_ms < best_ms || (best.is_none() && due_ms == best_ms) {
-                    best = Some(i);
-                    best_ms = due_ms;
-                }
+                best = sooner(best, Head { queue, due_ms }, now_ms);
             }
         }
-        best
+        match best {
+            Some(head) => Some(head.queue),
+            None => None,
+        }
     }
 
     /// The first segment of a queue.
     pub fn first(&self, queue: usize) -> Option<SegmentPlace>
-        ensures { result ≡ option_and_then (λ q. q.first) (slice_get self.now.all queue) }
+        ensures first { result ≡ first_in self.now.all queue }
+        ensures waits { (texts : List TextsState) (ws : List Waiting) → SpellsAt texts self.now.all queue ws → result ≡ first_place ws }
     {
         if queue < MOST_ATTEMPTS {
             return self.all[queue].first;
@@ -127,17 +192,12 @@ impl Queues {
 
     /// Takes the first segment of a queue out.
     pub fn pop(&mut self, texts: &[Texts], queue: usize)
+        ensures waits { (ws : List Waiting) → SpellsAt texts.now self.old.all queue ws → SpellsAt texts.now self.new.all queue (later ws) }
         ensures others { (k : ℕ) → k ≢ queue → slice_get self.new.all k ≡ slice_get self.old.all k }
     {
         if queue >= MOST_ATTEMPTS {
             return;
         }
-        let queue = &mut self.all[queue];
-        if let Some(first) = queue.first {
-            queue.first = link_at(texts, first).next;
-            if queue.first.is_none() {
-                queue.last = None;
-            }
-        }
+        self.all[queue] = self.all[queue].without_first(texts);
     }
 }

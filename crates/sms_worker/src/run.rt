@@ -34,17 +34,18 @@ pub struct Run<N: BookName, C: Call> {
 }
 
 impl<N: BookName, C: Call> Model for Run<N, C> {
-    ghost use Rattle.std.specs.Prelude.{◌≤◌, vec_len, vec_capacity};
+    ghost use Rattle.std.specs.Prelude.{◌≤◌, map, vec_len, vec_capacity};
     ghost use Rattle.rtrb.specs.Ring.{received};
     ghost use Rattle.sms_worker.specs.RunState.{RunState};
     ghost use Rattle.sms_worker.specs.Keeps.{Keeps};
+    ghost use Rattle.sms_worker.specs.TextsState.{carried};
 
     ghost Value = { RunState };
 
     ghost view = { λ r. record { heard = received r.heard.value; ends = r.ends.items } };
 
     ghost invariant = { λ r. record {
-      keeps : Keeps C.start r.messages.items r.ends.items r.texts.items r.opened.items r.seat r.shares (received r.heard.value);
+      keeps : Keeps C.start r.messages.items r.ends.items (map carried r.texts.items) r.opened.items r.seat r.shares (received r.heard.value);
       ends_fit : vec_len r.messages ≤ vec_capacity r.ends;
       texts_fit : vec_len r.messages ≤ vec_capacity r.texts;
     } };

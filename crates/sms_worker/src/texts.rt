@@ -1,11 +1,8 @@
 //! The parts of a message that was begun, and where each stands in a queue.
 
-ghost use Rattle.std.specs.Prelude.{◌≡◌, ◌⊎◌, [], List, All, IfOk, IfSome, IfNone, Some, None, map, slice_get, vec_len, vec_capacity};
+ghost use Rattle.std.specs.Prelude.{◌≡◌, List, All, IfOk, IfSome, IfNone, Some, None, slice_get, vec_len, vec_capacity};
 ghost use Rattle.sms_segment.specs.Part.{HasSeptets};
-ghost use Rattle.sms_worker.specs.declared.message.Message.{Message};
-ghost use Rattle.sms_worker.specs.declared.rules.Rules.{Rules};
-ghost use Rattle.sms_worker.specs.Told.{AreTexts};
-ghost use Rattle.sms_worker.specs.UserData.{user_data};
+ghost use Rattle.sms_worker.specs.TextsState.{carried, changed, link_of, no_texts, settled_one, texts_of, with_link};
 
 use crate::open::SegmentPlace;
 use crate::user_data::UserData;
@@ -33,8 +30,8 @@ pub struct Kept {
     pub link: Link,
 }
 
-/// What a message's short messages carry, until all its segments are settled. Contracts see that, part
-/// by part.
+/// What a message's short messages carry, until all its segments are settled. Contracts see that and
+/// the link, part by part, and how many segments aren't settled.
 #[derive(Drop)]
 pub struct Texts {
     parts: Vec<Kept>,
@@ -43,19 +40,18 @@ pub struct Texts {
 }
 
 impl Model for Texts {
-    ghost use Rattle.std.specs.Prelude.{List, map};
-    ghost use Rattle.sms_worker.specs.declared.user_data.UserData.{UserData};
+    ghost use Rattle.sms_worker.specs.TextsState.{TextsState};
 
-    ghost Value = { List UserData };
+    ghost Value = { TextsState };
 
-    ghost view = { λ t. map (λ kept. kept.carried) t.parts.items };
+    ghost view = { λ t. record { kept = t.parts.items; unsettled = t.unsettled } };
 }
 
 impl Texts {
     /// The texts of these parts: the user data of each is made here, and nowhere else.
     pub fn of(alloc: Global, parts: &[Part]) -> Result<Texts, AllocError>
         requires { All HasSeptets parts.now }
-        ensures { IfOk result (λ texts. texts ≡ map user_data parts.now) }
+        ensures { IfOk result (λ texts. texts ≡ texts_of parts.now) }
     {
         let mut kept = Vec::with_capacity(alloc, parts.len())?;
         for part in parts {
@@ -73,7 +69,7 @@ impl Texts {
 
     /// No parts. Takes no memory.
     pub fn none(alloc: Global) -> Texts
-        ensures { result ≡ [] }
+        ensures { result ≡ no_texts }
     {
         Texts {
             parts: Vec::new(alloc),
@@ -83,8 +79,8 @@ impl Texts {
 
     /// The user data of a part, if it is there still.
     pub fn part(&self, part: usize) -> Option<&UserData>
-        ensures there { IfSome result (λ carried. slice_get self.now part ≡ Some carried.now) }
-        ensures gone { IfNone result (slice_get self.now part ≡ None) }
+        ensures there { IfSome result (λ there. slice_get (carried self.now) part ≡ Some there.now) }
+        ensures gone { IfNone result (slice_get (carried self.now) part ≡ None) }
     {
         if part >= self.parts.len() {
             return None;
@@ -93,7 +89,9 @@ impl Texts {
     }
 
     /// The link of a part.
-    pub fn link(&self, part: usize) -> Link {
+    pub fn link(&self, part: usize) -> Link
+        ensures { result ≡ link_of (slice_get self.now.kept part) }
+    {
         if part < self.parts.len() {
             return self.parts[part].link;
         }
@@ -102,7 +100,7 @@ impl Texts {
 
     /// Gives a part another link.
     pub fn set_link(&mut self, part: usize, link: Link)
-        ensures { self.new ≡ self.old }
+        ensures { self.new ≡ with_link part link self.old }
     {
         if part < self.parts.len() {
             self.parts[part].link = link;
@@ -111,7 +109,7 @@ impl Texts {
 
     /// Counts a segment as settled. With the last one the parts are given back.
     pub fn settle(&mut self, alloc: Global)
-        ensures { (self.new ≡ self.old) ⊎ (self.new ≡ []) }
+        ensures { self.new ≡ settled_one self.old }
     {
         self.unsettled = self.unsettled.saturating_sub(1);
         if self.unsettled == 0 {
@@ -122,7 +120,7 @@ impl Texts {
 
 /// Counts a segment of the message at the place as settled.
 pub(crate) fn settle_text(alloc: Global, texts: &mut Vec<Texts>, place: SegmentPlace)
-    ensures kept { (rules : Rules) (ms : List Message) → AreTexts rules ms texts.old.items → AreTexts rules ms texts.new.items }
+    ensures settled { texts.new.items ≡ changed settled_one texts.old.items place.message }
     ensures room { (vec_len texts.new ≡ vec_len texts.old) × (vec_capacity texts.new ≡ vec_capacity texts.old) }
 {
     if place.message >= texts.len() {

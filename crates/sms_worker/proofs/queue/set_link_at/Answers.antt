@@ -1,13 +1,20 @@
-use Rattle.std.proofs.Common.{◌≡◌, ◌<◌, length, Some, sym, ap, ◌∙◌, rules}
-use Rattle.std.specs.Prelude.{slice_get, slice_set}
+use Rattle.std.proofs.Common.{◌≡◌, ◌<◌, ◌≤◌, length, Some, sym, ap, ◌∙◌, rules}
+use Rattle.std.specs.Prelude.{slice_get}
 use Rattle.std.proofs.lemmas.Option.{slice_get-get_or}
-use Rattle.sms_worker.proofs.EndLemmas.{set_unchanged}
+use Rattle.sms_worker.specs.TextsState.{with_link}
+use Rattle.sms_worker.proofs.Kept.{changed_past, set_changed}
 use Rattle.sms_worker.proofs.queue.set_link_at.Goals as goal
 
-pub returns-clause-same : goal.returns-clause-same
-returns-clause-same c =
+pub returns-clause-linked : goal.returns-clause-linked
+returns-clause-linked c =
     let xs = c.args.texts.now.items in
     let k = c.args.place.message in
     let low : k < length xs = search rules in
     let there : slice_get xs k ≡ Some c.index_mut-kept.result.now = slice_get-get_or xs k c.index_mut-kept.result.now low ∙ ap Some (sym c.index_mut-kept.ensures.value) in
-    ap (slice_set xs k) c.set_link.ensures ∙ set_unchanged xs k c.index_mut-kept.result.now there
+    set_changed (with_link c.args.place.part c.args.link) xs k c.index_mut-kept.result.now c.set_link.new.self there c.set_link.ensures
+
+pub returns-then-place-len-clause-linked : goal.returns-then-place-len-clause-linked
+returns-then-place-len-clause-linked c =
+    let xs = c.args.texts.now.items in
+    let past : length xs ≤ c.args.place.message = search rules in
+    sym (changed_past (with_link c.args.place.part c.args.link) xs c.args.place.message past)

@@ -1,7 +1,8 @@
-use Rattle.std.proofs.Common.{length, sym, ap, ◌∙◌, subst}
+use Rattle.std.proofs.Common.{length, map, sym, ap, ◌∙◌, subst}
 use Rattle.rtrb.specs.Ring.{received, SameConsumer}
 use Rattle.sms_worker.specs.Told.{AllTold, Drew, Grew}
 use Rattle.sms_worker.specs.Sweeps.{SettledTo}
+use Rattle.sms_worker.specs.TextsState.{carried}
 use Rattle.sms_worker.proofs.Keeping.{keeps_opening}
 use Rattle.sms_worker.proofs.Sweeping.{settled_all}
 use Rattle.sms_worker.specs.Apart.{PlacesApart}
@@ -13,7 +14,7 @@ pub invariant_of-run : goal.invariant_of-run
 invariant_of-run g c =
     let r = c.requires in
     record {
-      keeps = rw c.of-heard.ensures (keeps_opening _ _ _ _ _ _ _ _ r.messages r.seat r.share r.received r.no_ends r.no_texts r.none_opened);
+      keeps = rw c.of-heard.ensures (keeps_opening _ _ _ _ _ _ _ _ r.messages r.seat r.share r.received r.no_ends (ap (map carried) r.no_texts) r.none_opened);
       ends_fit = r.ends_fit;
       texts_fit = r.texts_fit;
     }

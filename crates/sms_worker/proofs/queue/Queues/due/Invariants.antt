@@ -1,5 +1,5 @@
-use Rattle.std.specs.Prelude.{IfSome, IsSome, option_and_then, slice_get}
+use Rattle.sms_worker.proofs.Earliest.{BestOf}
 use Rattle.sms_worker.proofs.queue.Queues.due.Given as goal
 
-abbrev pub invariant-loop-i : goal.invariant-loop-i
-invariant-loop-i l = IfSome l.best (λ k. IsSome (option_and_then (λ q. q.first) (slice_get l.self.all k)))
+abbrev pub invariant-loop-queue : goal.invariant-loop-queue
+invariant-loop-queue l = BestOf l.texts l.self.all l.now_ms l.queue l.best

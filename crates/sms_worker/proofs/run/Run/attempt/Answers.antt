@@ -1,9 +1,10 @@
 use Rattle.std.proofs.Common.{◌≡◌, ◌<◌, List, length, Some, sym, ap, ◌∙◌, refl, subst, rules, arith}
-use Rattle.std.specs.Prelude.{slice_get}
-use Rattle.std.proofs.lemmas.Option.{slice_get-get_or}
+use Rattle.std.specs.Prelude.{map, option_map, slice_get}
+use Rattle.std.proofs.lemmas.Option.{slice_get-get_or, slice_get-map}
 use Rattle.sms_worker.specs.declared.ends.Attempt.{Attempt}
 use Rattle.sms_worker.specs.declared.ends.SegmentEnd.{SegmentEnd}
 use Rattle.sms_worker.specs.Steps.{Tries}
+use Rattle.sms_worker.specs.TextsState.{carried}
 use Rattle.sms_worker.proofs.EndLemmas.{back_there, given_same, given_other}
 use Rattle.sms_worker.proofs.Keeping.{keeps_same, keeps_tried, part_there, told_there}
 use Rattle.sms_worker.specs.RunState.{RunState}
@@ -39,9 +40,9 @@ invariant_of-self-2 g c =
     let k = c.args.place.message in
     let p = c.args.place.part in
     let texts_low : k < length c.self.inside.texts.items = search rules in
-    let kept : slice_get c.self.inside.texts.items k ≡ Some c.index.result.now = slice_get-get_or c.self.inside.texts.items k c.index.result.now texts_low ∙ ap Some (sym c.index.ensures) in
+    let kept : slice_get (map carried c.self.inside.texts.items) k ≡ Some (carried c.index.result.now) = slice_get-map carried c.self.inside.texts.items k ∙ ap (option_map carried) (slice_get-get_or c.self.inside.texts.items k c.index.result.now texts_low ∙ ap Some (sym c.index.ensures)) in
     let got = c.in-Some.ensures.there in
-    let part = part_there g.C.Call.start.rules g.C.Call.start.messages c.self.inside.texts.items k p c.index-message.result.now c.index.result.now c.in-Some.carried.now i.keeps.texts_kept (ap (λ l. slice_get l k) (sym i.keeps.messages) ∙ there) kept got in
+    let part = part_there g.C.Call.start.rules g.C.Call.start.messages (map carried c.self.inside.texts.items) k p c.index-message.result.now (carried c.index.result.now) c.in-Some.carried.now i.keeps.texts_kept (ap (λ l. slice_get l k) (sym i.keeps.messages) ∙ there) kept got in
     let s' : SegmentEnd = record { cost = s.cost; attempts = c.new.result; outcome = s.outcome } in
     let is = given_other c.self.inside.ends.items c.take.new.ends.items c.give-2.new.ends.items k p s s' c.in-Some-take.ensures.out c.give-2.ensures.now in
     let room = c.give-2.ensures.room in

@@ -3,7 +3,9 @@ use Rattle.std.specs.Prelude.{slice_get}
 use Rattle.std.proofs.lemmas.Option.{slice_get-get_or}
 use Rattle.sms_worker.specs.declared.rules.Rules.{Rules}
 use Rattle.sms_worker.specs.Begins.{Begins}
+use Rattle.sms_worker.specs.TextsState.{carried}
 use Rattle.sms_worker.proofs.Beginnings.{keeps_begun}
+use Rattle.sms_worker.proofs.Kept.{map_more}
 use Rattle.sms_worker.proofs.run.Run.begin.Goals as goal
 
 pub invariant_of-self : goal.invariant_of-self
@@ -14,10 +16,10 @@ invariant_of-self g c =
     let at : n ≡ length c.self.inside.ends.items = search rules in
     let low' : n < length c.self.inside.messages.items = search rules in
     let there = ap (slice_get c.self.inside.messages.items) (sym at) ∙ slice_get-get_or c.self.inside.messages.items n c.index-message.result.now low' ∙ ap Some (sym c.index-message.ensures) in
-    let b = subst (λ (x : Rules). Begins x c.index-message.result.now c.self.inside.shares c.begun-texts.new.shares c.begun-texts.result.0 c.begun-texts.result.1) c.requires.rules c.begun-texts.ensures.begins in
-    let done = keeps_begun _ _ _ _ _ _ _ _ _ c.index-message.result.now c.begun-texts.result.0 c.begun-texts.result.1 i.keeps there low b in
+    let b = subst (λ (x : Rules). Begins x c.index-message.result.now c.self.inside.shares c.begun-texts.new.shares (carried c.begun-texts.result.0) c.begun-texts.result.1) c.requires.rules c.begun-texts.ensures.begins in
+    let done = keeps_begun _ _ _ _ _ _ _ _ _ c.index-message.result.now (carried c.begun-texts.result.0) c.begun-texts.result.1 i.keeps there low b in
     record {
-      keeps = rw (c.push_reserved.ensures.items, c.push_reserved-2.ensures.items) done;
+      keeps = rw (c.push_reserved.ensures.items, c.push_reserved-2.ensures.items, map_more carried c.self.inside.texts.items c.begun-texts.result.0) done;
       ends_fit = (let r = i.ends_fit in let e = c.push_reserved-2.ensures.capacity in omega arith);
       texts_fit = (let r = i.texts_fit in let e = c.push_reserved.ensures.capacity in omega arith);
     }

@@ -1,5 +1,7 @@
-use Rattle.std.proofs.Common.{◌≤◌, sym, subst, rules}
+use Rattle.std.proofs.Common.{◌≤◌, sym, subst}
 use Rattle.std.specs.Vec.{vec_len}
+use Rattle.sms_worker.specs.TextsState.{carried, settled_one}
+use Rattle.sms_worker.proofs.Kept.{length-mapped, texts_settled}
 use Rattle.sms_worker.proofs.Keeping.{keeps_texts}
 use Rattle.sms_worker.proofs.run.Run.forget.Goals as goal
 
@@ -8,7 +10,7 @@ invariant_of-self g c =
     let i = c.self.invariant in
     let room = c.settle_text.ensures.room in
     record {
-      keeps = keeps_texts _ _ _ _ _ _ _ _ _ i.keeps (c.settle_text.ensures.kept g.C.Call.start.rules g.C.Call.start.messages i.keeps.texts_kept) (search rules);
+      keeps = rw c.settle_text.ensures.settled (keeps_texts _ _ _ _ _ _ _ _ _ i.keeps (texts_settled g.C.Call.start.rules g.C.Call.start.messages c.self.inside.texts.items c.args.place.message i.keeps.texts_kept) (length-mapped settled_one carried c.self.inside.texts.items c.args.place.message));
       ends_fit = i.ends_fit;
       texts_fit = subst (λ n. vec_len c.self.inside.messages ≤ n) (sym room.1) i.texts_fit;
     }

@@ -1,0 +1,34 @@
+use Rattle.std.proofs.Common.{◌≢◌, ◌<◌, ◌-◌, ◌∙◌, None, length, map, ap, arith, rules}
+use Rattle.sms_book.proofs.Moves.{get_set_else}
+use Rattle.sms_worker.specs.declared.queue.Queue.{Queue}
+use Rattle.sms_worker.specs.Queues.{Waiting}
+use Rattle.sms_worker.specs.TextsState.{carried}
+use Rattle.sms_worker.proofs.Waiting.{carried_appended, pushed_here, pushed_last, pushed_there}
+use Rattle.sms_worker.proofs.queue.Queues.push.Goals as goal
+
+abbrev none : Queue
+none = record { first = None; last = None }
+
+pub returns-clause-waits : goal.returns-clause-waits
+returns-clause-waits c some few ws at kept out =
+    let w : Waiting = record { place = c.args.place; due_ms = c.args.due_ms } in
+    pushed_here c.args.texts.now.items c.link_behind.new.texts.items c.args.self.now.all (c.args.attempts - 1) none c.with.result w ws c.with.ensures c.link_behind.ensures.linked at kept out
+
+pub returns-clause-apart : goal.returns-clause-apart
+returns-clause-apart c k ws other at out away =
+    let w : Waiting = record { place = c.args.place; due_ms = c.args.due_ms } in
+    let low : c.args.attempts - 1 < length c.args.self.now.all = search rules in
+    let apart : k ≢ c.args.attempts - 1 = λ e. other (omega (arith, c.if-attempts-lt1.false)) in
+    pushed_there c.args.texts.now.items c.link_behind.new.texts.items c.args.self.now.all (c.args.attempts - 1) none c.with.result w k ws c.link_behind.ensures.linked low apart at out away
+
+pub returns-clause-same : goal.returns-clause-same
+returns-clause-same c = ap (map carried) c.link_behind.ensures.linked ∙ carried_appended c.args.texts.now.items _ c.args.place c.args.due_ms
+
+pub returns-clause-last : goal.returns-clause-last
+returns-clause-last c some few =
+    let w : Waiting = record { place = c.args.place; due_ms = c.args.due_ms } in
+    let low : c.args.attempts - 1 < length c.args.self.now.all = search rules in
+    pushed_last c.args.texts.now.items c.link_behind.new.texts.items c.args.self.now.all (c.args.attempts - 1) none c.with.result w c.with.ensures low
+
+pub returns-clause-others : goal.returns-clause-others
+returns-clause-others c k other = get_set_else c.args.self.now.all (c.args.attempts - 1) k c.with.result (λ e. other (omega (arith, c.if-attempts-lt1.false)))
