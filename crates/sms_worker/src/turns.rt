@@ -95,7 +95,8 @@ impl<N: BookName, C: Call> Run<N, C> {
         }
     }
 
-    // Starts an attempt, or begins a message.
+    // Starts an attempt, or begins a message. Where the line is down by now a message is refused, and what
+    // waits to be sent is left to the next turn, which gives it up.
     fn start_one<W: Write, G: Gate, K: Clock, R: Wait>(
         &mut self,
         context: &WorkerContext<N, W, G, K, R>,
@@ -105,12 +106,16 @@ impl<N: BookName, C: Call> Run<N, C> {
         requires rules { context.now.rules.now ≡ C.start.rules }
         ensures heard { self.new.heard ≡ self.old.heard }
     {
+        let closed = context.line.down.load(Ordering::SeqCst);
         let Some((place, source)) = self.next_place(now_ms) else {
-            if self.begin(context, false) {
+            if self.begin(context, closed) {
                 return Started::One;
             }
             return Started::Nothing;
         };
+        if closed {
+            return Started::Nothing;
+        }
         match self.attempt(context, place) {
             Tried::Sent(_) => {
                 self.advance(source);

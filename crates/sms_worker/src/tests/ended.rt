@@ -158,3 +158,55 @@ fn a_broken_wire_ends_the_line(rt: HostRuntime) -> Result<(), Fail> {
     want_row(&rt, &done, (1, 1, 1, 0));
     Ok(())
 }
+
+// Where the writer takes so many octets of five messages of one part: so many requests were begun to be
+// written when it failed, and the messages behind them are refused in the same turn.
+fn want_closed_behind(
+    rt: &(impl Abort + Wait),
+    alloc: Global,
+    room: u64,
+    open: usize,
+    row: (u64, u64, u64, u64),
+) -> Result<(), Fail> {
+    let case = Case {
+        room,
+        credits: 9,
+        depth: 8,
+        ..PLAIN
+    };
+    let done = run(rt, alloc, case, messages_of(alloc, 5)?);
+    for place in 0..open {
+        want_sent(rt, &done, place, &[(1, Outcome::Unanswered)]);
+    }
+    for place in open..5 {
+        want_refused(rt, &done, place, MessageRefusal::BindClosed);
+    }
+    want_row(rt, &done, row);
+    Ok(())
+}
+
+#[test]
+fn a_write_that_fails_closes_what_was_not_begun(rt: HostRuntime) -> Result<(), Fail> {
+    let alloc = rt.alloc();
+    want_closed_behind(&rt, alloc, 30, 1, (8, 1, 0, 0))?;
+    want_closed_behind(&rt, alloc, 60, 2, (7, 2, 0, 0))
+}
+
+// The parts behind the one that was written in vain are unsent, and the next message is refused.
+#[test]
+fn a_write_that_fails_leaves_later_parts_unsent(rt: HostRuntime) -> Result<(), Fail> {
+    let alloc = rt.alloc();
+    let mut messages = Vec::new(alloc);
+    push_message(alloc, &mut messages, 0, Some(0), "447700900123", 306)?;
+    push_message(alloc, &mut messages, 1, Some(0), "447700900123", 1)?;
+    let done = run(&rt, alloc, Case { room: 30, ..PLAIN }, messages);
+    want_sent(
+        &rt,
+        &done,
+        0,
+        &[(1, Outcome::Unanswered), (0, Outcome::Unsent)],
+    );
+    want_refused(&rt, &done, 1, MessageRefusal::BindClosed);
+    want_row(&rt, &done, (2, 1, 0, 1));
+    Ok(())
+}
