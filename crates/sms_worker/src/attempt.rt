@@ -154,6 +154,7 @@ fn try_send<N: BookName, W: Write, G: Gate, K: Clock, R: Wait>(
     context: &WorkerContext<N, W, G, K, R>,
     seat: &mut WindowSeat,
     slot: u32,
+    place: SegmentPlace,
     message: &Message,
     carried: &UserData,
     attempts: &mut Vec<Attempt>,
@@ -178,7 +179,14 @@ fn try_send<N: BookName, W: Write, G: Gate, K: Clock, R: Wait>(
     if !context.gate.pass(context.worker, number) {
         return Tried::Never;
     }
+    if !context
+        .gate
+        .sending(context.worker, number, message.index, place.part)
+    {
+        return Tried::Never;
+    }
     let Some(sent) = post_and_send(context, slot, number, frame) else {
+        context.gate.unsent(context.worker, number);
         return Tried::Never;
     };
     attempts.push_reserved(Attempt {
@@ -205,12 +213,15 @@ pub(crate) fn start<N: BookName, W: Write, G: Gate, K: Clock, R: Wait>(
     ensures open { (base : ℕ) → IsOpen base (slots_of opened.old.items) seat.old.view.slots → IsOpen base (slots_of opened.new.items) seat.new.view.slots }
     ensures tried { (part : Part) → carried.now ≡ user_data part → Tries context.now.rules.now message.now part seat.old.view attempts.old.items result seat.new.view attempts.new.items }
 {
+    if !context.gate.ready(context.worker) {
+        return Tried::Later;
+    }
     let slot = match context.window.try_claim(seat) {
         Claim::Got(slot) => slot,
         Claim::Full => return Tried::Later,
         Claim::Contended(_) => return Tried::Later,
     };
-    let tried = try_send(context, seat, slot, message, carried, attempts);
+    let tried = try_send(context, seat, slot, place, message, carried, attempts);
     match tried {
         Tried::Sent(number) => {
             let since_ms = context.clock.now_ms();

@@ -7,7 +7,7 @@ ghost use Rattle.sms_worker.specs.Told.{HeardSince};
 
 use crate::call::Call;
 use crate::context::WorkerContext;
-use crate::devices::Clock;
+use crate::devices::{Clock, Gate};
 use crate::open::Open;
 use crate::run::Run;
 use rtrb::Consumer;
@@ -38,7 +38,7 @@ impl<N: BookName, C: Call> Run<N, C> {
 
     /// Takes the reply for the open request with its number; one that none has is dropped. Its slot is
     /// answered then, since the answer went into the ring while the slot was locked.
-    fn bring<W, G, K: Clock, R: Wait>(
+    fn bring<W, G: Gate, K: Clock, R: Wait>(
         &mut self,
         context: &WorkerContext<N, W, G, K, R>,
         reply: Reply,
@@ -55,6 +55,7 @@ impl<N: BookName, C: Call> Run<N, C> {
         if context.line.slots.take(context.rt, open.slot, open.number) != Taken::Got {
             return;
         }
+        context.gate.heard(context.worker, &reply);
         self.close(context, i);
         match self.settle_answer(context, open.place, reply) {
             Some((attempts, decision)) => {
@@ -65,7 +66,7 @@ impl<N: BookName, C: Call> Run<N, C> {
     }
 
     /// Takes the replies that the ring shows, at most as many as it has room for.
-    pub(crate) fn hear<W, G, K: Clock, R: Wait>(
+    pub(crate) fn hear<W, G: Gate, K: Clock, R: Wait>(
         &mut self,
         context: &WorkerContext<N, W, G, K, R>,
         consumer: &mut Consumer<Reply>,
@@ -88,7 +89,7 @@ impl<N: BookName, C: Call> Run<N, C> {
     }
 
     /// Notes a reply that was popped, and brings it to its request.
-    fn take_reply<W, G, K: Clock, R: Wait>(
+    fn take_reply<W, G: Gate, K: Clock, R: Wait>(
         &mut self,
         context: &WorkerContext<N, W, G, K, R>,
         consumer: &Consumer<Reply>,

@@ -25,6 +25,7 @@ mod tests;
 mod texts;
 mod turns;
 mod user_data;
+mod waits;
 mod work;
 
 pub use attempt::{Number, draw};

@@ -16,7 +16,7 @@ use crate::begin::begun;
 use crate::call::Call;
 use crate::context::WorkerContext;
 use crate::devices::{Clock, Gate};
-use crate::ends::{Attempts, Outcome, SegmentEnd};
+use crate::ends::{Attempts, MessageEnd, MessageResult, Outcome, SegmentEnd};
 use crate::open::SegmentPlace;
 use crate::places::{give, take};
 use crate::run::Run;
@@ -62,6 +62,14 @@ fn settle<N: BookName, R: Wait>(
         Outcome::Refused => book.lock(rt).give_back(shares, account, credits),
         Outcome::Unsent => book.lock(rt).give_back(shares, account, credits),
         Outcome::Unanswered => {}
+    }
+}
+
+/// Tells the gate that a message is begun, or refused.
+fn tell_fate<G: Gate>(gate: &G, worker: usize, end: &MessageEnd) {
+    match &end.result {
+        MessageResult::Sent(_) => gate.begun(worker, end.index),
+        MessageResult::Refused(why) => gate.refused(worker, end.index, *why),
     }
 }
 
@@ -258,7 +266,7 @@ impl<N: BookName, C: Call> Run<N, C> {
     }
 
     /// Begins the next message, if there is one.
-    pub(crate) fn begin<W, G, K, R: Wait>(
+    pub(crate) fn begin<W, G: Gate, K, R: Wait>(
         &mut self,
         context: &WorkerContext<N, W, G, K, R>,
         down: bool,
@@ -283,6 +291,7 @@ impl<N: BookName, C: Call> Run<N, C> {
             down,
             message,
         );
+        tell_fate(context.gate, context.worker, &end);
         self.texts.push_reserved(texts);
         self.ends.push_reserved(end);
         self.next = 0;

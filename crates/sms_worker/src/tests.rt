@@ -3,6 +3,7 @@
 ghost use Rattle.std.specs.Prelude.{◌≡◌, IfSome};
 
 use self::beside::{Beside, line_with_fuse};
+use self::notes::{Log, Note, want_told};
 use crate::{
     Clock, Gate, Message, MessageEnd, MessageRefusal, MessageResult, Outcome, Pause, Rules, Worker,
     run_worker,
@@ -27,8 +28,11 @@ mod beside;
 mod centre;
 mod ended;
 mod memory;
+mod notes;
 mod sums;
 mod threads;
+mod told;
+mod waits;
 
 // Both are the same. A test that compares by a call has a short proof: what is printed where they
 // differ stands here alone.
@@ -43,6 +47,9 @@ const OK: u32 = 0;
 
 const THROTTLED: u32 = 0x58;
 
+/// A request that is answered by a generic_nack with status 0.
+const NACK: u32 = 0xFFFF_FFFE;
+
 /// How the worker works, and what is answered.
 #[derive(Clone, Copy)]
 struct Case<'a> {
@@ -50,13 +57,25 @@ struct Case<'a> {
     attempts: u32,
     depth: u32,
     answer_ms: u32,
+    /// How many turns the worker takes.
+    turns: u64,
+    /// How many slots the window has.
+    window: u32,
     /// How long a segment waits after its first attempt, in milliseconds.
     base_ms: u32,
     /// The first sequence number.
     first: u32,
+    /// What the clock shows at first.
+    begins_ms: u64,
+    /// Answers come when the clock is looked at and shows so much; 0 is at each pause.
+    late_ms: u64,
     down: bool,
     /// The line goes down at this pause; 0 is never.
     down_at: u32,
+    /// The gate isn't ready before this pause.
+    ready_at: u32,
+    /// The gate doesn't let this number be sent; 0 is none.
+    stops_at: u32,
     /// How many octets the writer takes.
     room: u64,
     long_reference: bool,
@@ -69,10 +88,16 @@ const PLAIN: Case<'static> = Case {
     attempts: 3,
     depth: 8,
     answer_ms: 60_000,
+    turns: 1 << 40,
+    window: 64,
     base_ms: 100,
     first: 1,
+    begins_ms: 0,
+    late_ms: 0,
     down: false,
     down_at: 0,
+    ready_at: 0,
+    stops_at: 0,
     room: 1 << 40,
     long_reference: false,
     answers: &[OK],
@@ -83,6 +108,8 @@ const PLAIN: Case<'static> = Case {
 struct Done {
     ends: Vec<MessageEnd>,
     row: Row,
+    /// What was told meanwhile; nothing where memory was refused for it.
+    notes: Vec<Note>,
 }
 
 fn message(
@@ -135,6 +162,9 @@ fn messages_of(alloc: Global, count: u64) -> Result<Vec<Message>, AllocError> {
 
 // How the worker works. A destination that begins with 46 costs 5 credits. None where memory is refused.
 fn rules_of(alloc: Global, case: Case<'_>) -> Option<Rules> {
+    if case.turns > 1 << 40 {
+        return None;
+    }
     let rates = [Rate {
         prefix: String::from_str(alloc, "46").ok()?,
         credits: 5,
@@ -144,7 +174,7 @@ fn rules_of(alloc: Global, case: Case<'_>) -> Option<Rules> {
         policy: Policy::new(case.attempts, case.base_ms).ok()?,
         depth: case.depth,
         answer_ms: case.answer_ms,
-        turns: 1 << 40,
+        turns: case.turns,
         receipts: false,
         tariff,
         long_reference: case.long_reference,
@@ -188,6 +218,17 @@ fn rings_of(alloc: Global) -> Option<Rings> {
     Some((producers, consumer, other_consumer))
 }
 
+// What was told is what the ends say, where memory was there for it.
+fn notes_of(rt: &impl Abort, alloc: Global, log: &Log, ends: &[MessageEnd]) -> Vec<Note> {
+    match log.take(alloc) {
+        Some(notes) => {
+            want_told(rt, notes.as_slice(), ends);
+            notes
+        }
+        None => Vec::new(alloc),
+    }
+}
+
 // Sends the messages. Where the call is refused, all was handed back.
 fn sends<N: BookName, W: Write, B: Gate + Clock + Pause, R: Abort + Wait>(
     rt: &R,
@@ -199,6 +240,7 @@ fn sends<N: BookName, W: Write, B: Gate + Clock + Pause, R: Abort + Wait>(
     book: &Mutex<Book<N>>,
     rules: &Rules,
     beside: &B,
+    log: &Log,
 ) -> Option<Done>
     requires { worker.seat.window ≡ window.now }
 {
@@ -208,9 +250,11 @@ fn sends<N: BookName, W: Write, B: Gate + Clock + Pause, R: Abort + Wait>(
     ) {
         Ok(mut end) => {
             let row = book.lock(rt).look(&mut end.shares, 0)?;
+            let notes = notes_of(rt, alloc, log, end.ends.as_slice());
             Some(Done {
                 ends: end.ends,
                 row,
+                notes,
             })
         }
         Err((_refused, _worker, messages)) => {
@@ -230,13 +274,14 @@ fn works<N: BookName, R: Abort + Wait>(
 ) -> Option<Done>
     requires { blank.book ≡ N.book }
 {
-    let (window, seat) = Window::make_from(alloc, 64, case.first).ok()?;
+    let (window, seat) = Window::make_from(alloc, case.window, case.first).ok()?;
     let (producer, consumer) = RingBuffer::new(alloc, 64).ok()?;
     let mut producers = Vec::new(alloc);
     producers.push(producer).ok()?;
-    let line = line_with_fuse(alloc, case.room)?;
+    let log = Log::new(alloc);
+    let line = line_with_fuse(alloc, case.room, &log)?;
     line.down.store(case.down, Ordering::SeqCst);
-    let beside = Beside::new(rt, alloc, &line, producers, case);
+    let beside = Beside::new(rt, alloc, &line, producers, case, &log);
     let Ok((book, _till, mut all)) = blank.open::<N>(alloc) else {
         return None;
     };
@@ -248,7 +293,7 @@ fn works<N: BookName, R: Abort + Wait>(
         consumer,
     };
     sends(
-        rt, alloc, worker, messages, &line, &window, &book, rules, &beside,
+        rt, alloc, worker, messages, &line, &window, &book, rules, &beside, &log,
     )
 }
 
@@ -305,6 +350,18 @@ fn want_refused(rt: &impl Abort, done: &Done, place: usize, wanted: MessageRefus
 fn row_of(done: &Done) -> (u64, u64, u64, u64) {
     let row = done.row;
     (row.free, row.reserved, row.charged, row.returned)
+}
+
+// What was told, from first to last.
+fn want_notes(rt: &impl Abort, done: &Done, wanted: &[Note]) {
+    for place in 0..wanted.len() {
+        same(
+            rt,
+            (place, done.notes.get(place).copied()),
+            (place, Some(wanted[place])),
+        );
+    }
+    same(rt, done.notes.len(), wanted.len());
 }
 
 fn want_row(rt: &impl Abort, done: &Done, wanted: (u64, u64, u64, u64)) {

@@ -13,6 +13,7 @@ use crate::devices::{Clock, Gate, Pause};
 use crate::ends::MessageResult;
 use crate::open::SegmentPlace;
 use crate::run::Run;
+use crate::waits::is_overdue;
 use rtrb::Consumer;
 use sms_book::BookName;
 use sms_pdu::Reply;
@@ -172,7 +173,7 @@ impl<N: BookName, C: Call> Run<N, C> {
                 return any;
             }
             let open = self.opened[i];
-            if !down && now_ms.saturating_sub(open.since_ms) < limit {
+            if !down && !is_overdue(open.since_ms, now_ms, limit) {
                 return any;
             }
             if self.expire_at(context, i) {
@@ -184,6 +185,11 @@ impl<N: BookName, C: Call> Run<N, C> {
         any
     }
 
+    // Whether a part of the last message, or a message, was not tried yet.
+    pub(crate) fn has_more(&self) -> bool {
+        self.next_part().is_some() || self.ends.len() < self.messages.len()
+    }
+
     // Whether nothing is left to do.
     fn is_done(&self, down: bool) -> bool {
         if !self.opened.is_empty() {
@@ -192,9 +198,7 @@ impl<N: BookName, C: Call> Run<N, C> {
         if down {
             return true;
         }
-        self.queues.is_empty()
-            && self.next_part().is_none()
-            && self.ends.len() >= self.messages.len()
+        self.queues.is_empty() && !self.has_more()
     }
 
     // One turn. Whether another is to follow.
@@ -223,7 +227,8 @@ impl<N: BookName, C: Call> Run<N, C> {
         if self.is_done(down) {
             return false;
         }
-        pause.pause(1);
+        let most = self.quiet_ms(context, down);
+        pause.wait(context.worker, 1, most);
         true
     }
 
@@ -283,7 +288,7 @@ impl<N: BookName, C: Call> Run<N, C> {
 
     // Ends the call as where the line is down: what is open expires or, where it is answered, is
     // taken; what is left is refused, and what waits is given up.
-    pub(crate) fn finish<W, G, K: Clock, R: Wait>(
+    pub(crate) fn finish<W, G: Gate, K: Clock, R: Wait>(
         &mut self,
         context: &WorkerContext<N, W, G, K, R>,
         consumer: &mut Consumer<Reply>,
@@ -302,7 +307,7 @@ impl<N: BookName, C: Call> Run<N, C> {
         self.sweep(context);
     }
 
-    fn refuse_rest<W, G, K, R: Wait>(&mut self, context: &WorkerContext<N, W, G, K, R>)
+    fn refuse_rest<W, G: Gate, K, R: Wait>(&mut self, context: &WorkerContext<N, W, G, K, R>)
         requires rules { context.now.rules.now ≡ C.start.rules }
         ensures heard { self.new.heard ≡ self.old.heard }
         ensures all { length self.new.ends ≡ length C.start.messages }

@@ -7,7 +7,8 @@ use super::SILENT;
 use rtrb::{Consumer, Producer, RingBuffer};
 use sms_bind::{Bound, Line, ReaderEnd, Tap, Wire, read_loop};
 use sms_pdu::{
-    BIND_TRANSCEIVER_RESP, Framer, Frames, Header, Mode, Reply, SUBMIT_SM_RESP, header_of,
+    BIND_TRANSCEIVER_RESP, Framer, Frames, GENERIC_NACK, Header, Mode, Reply, SUBMIT_SM_RESP,
+    header_of,
 };
 use sms_session::Opened;
 use sms_slot::SlotRow;
@@ -138,6 +139,15 @@ pub fn answer_of(status: u32, number: u32) -> [u8; 17] {
     let n = number.to_be_bytes();
     [
         0, 0, 0, 17, c[0], c[1], c[2], c[3], s[0], s[1], s[2], s[3], n[0], n[1], n[2], n[3], 0,
+    ]
+}
+
+/// A generic_nack with status 0.
+pub fn nack_of(number: u32) -> [u8; 16] {
+    let c = GENERIC_NACK.to_be_bytes();
+    let n = number.to_be_bytes();
+    [
+        0, 0, 0, 16, c[0], c[1], c[2], c[3], 0, 0, 0, 0, n[0], n[1], n[2], n[3],
     ]
 }
 

@@ -3,6 +3,7 @@
 ghost use Rattle.std.specs.Prelude.{◌≡◌};
 
 use super::beside::{Beside, line_with_fuse};
+use super::notes::Log;
 use super::{
     Case, Done, OK, PLAIN, SILENT, THROTTLED, book_of, messages_of, push_message, rings_of, row_of,
     rules_of, run, same, seats_of, sends, want_row, want_sent,
@@ -109,13 +110,14 @@ fn two_work<N: BookName, R: Abort + Wait>(
     let Some((window, one, other, _keeper)) = seats_of(rt, alloc, case.first) else {
         panic!(rt; "no seats")
     };
+    let log = Log::new(alloc);
     let (Some((producers, consumer, other_consumer)), Some(line)) = (
         rings_of(alloc),
-        line_with_fuse(alloc, case.room),
+        line_with_fuse(alloc, case.room, &log),
     ) else {
         panic!(rt; "no line")
     };
-    let beside = Beside::new(rt, alloc, &line, producers, case);
+    let beside = Beside::new(rt, alloc, &line, producers, case, &log);
     let Ok((book, _till, mut all)) = blank.open::<N>(alloc) else {
         panic!(rt; "no book")
     };
@@ -133,7 +135,7 @@ fn two_work<N: BookName, R: Abort + Wait>(
         consumer,
     };
     let first = sends(
-        rt, alloc, worker, its, &line, &window, &book, rules, &beside,
+        rt, alloc, worker, its, &line, &window, &book, rules, &beside, &log,
     );
     let worker = Worker {
         index: 1,
@@ -143,7 +145,7 @@ fn two_work<N: BookName, R: Abort + Wait>(
         consumer: other_consumer,
     };
     let second = sends(
-        rt, alloc, worker, others, &line, &window, &book, rules, &beside,
+        rt, alloc, worker, others, &line, &window, &book, rules, &beside, &log,
     );
     match (first, second) {
         (Some(first), Some(second)) => (first, second),
