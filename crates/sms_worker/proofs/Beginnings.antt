@@ -32,7 +32,7 @@ use Rattle.sms_worker.proofs.Changes.{amounts_there, amounts_other}
 -- why a text isn't cut is why its message is refused
 pub not_cut : (rules : Rules) (accounts : ℕ) (m : Message) (e : MessageRefusal) → IsKnown accounts m.account → HasAddresses m → IsNotCut rules m e → IsRefusalOf rules accounts m e
 not_cut rules accounts m TooLong known good is = (known, good, is)
-not_cut rules accounts m OutOfMemory known good is = tt
+not_cut rules accounts m OutOfMemory known good is = (known, good)
 not_cut rules accounts m NoAccount known good is = absurd is
 not_cut rules accounts m BadAddress known good is = absurd is
 not_cut rules accounts m NoCredit known good is = absurd is

@@ -87,7 +87,7 @@ IsRefusalOf rules accounts m BadAddress = IsKnown accounts m.account × ¬ HasAd
 IsRefusalOf rules accounts m TooLong = IsKnown accounts m.account × HasAddresses m × IsTooLong (coded_text m) (reference_of rules m)
 IsRefusalOf rules accounts m NoCredit = IsKnown accounts m.account × HasAddresses m × IsShort rules m
 IsRefusalOf rules accounts m BindClosed = Unit {0}
-IsRefusalOf rules accounts m OutOfMemory = Unit {0}
+IsRefusalOf rules accounts m OutOfMemory = IsKnown accounts m.account × HasAddresses m
 
 -- why a text isn't cut
 abbrev pub IsNotCut : Rules → Message → MessageRefusal → Type 0

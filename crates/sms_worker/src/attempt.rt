@@ -1,6 +1,10 @@
 //! One attempt: a slot, a number, a frame, the gate, and the wire.
 
-ghost use Rattle.std.specs.Prelude.{◌≡◌, ℕ, ◌+◌, ◌<◌, ◌≤◌, ◌⊎◌, vec_len, vec_capacity, IfSome, IfOk, IsTrue};
+ghost use Rattle.std.specs.Prelude.{◌≡◌, ℕ, ◌+◌, ◌<◌, ◌≤◌, ◌⊎◌, List, max, true, false, Some, None, vec_len, vec_capacity, IfSome, IfOk, IsTrue};
+ghost use Rattle.std.specs.Io.KnownBytes.{Appends};
+ghost use Rattle.sms_bind.specs.Devices.{writer, write_faults, is_broken};
+ghost use Rattle.sms_bind.specs.Faults.{Counts};
+ghost use Rattle.sms_pdu.specs.Streams.{SomeAppended};
 ghost use Rattle.sms_core.specs.Limits.{most_slots};
 ghost use Rattle.sms_segment.specs.declared.part.Part.{Part};
 ghost use Rattle.sms_window.specs.OpenSlots.{IsOpen};
@@ -19,9 +23,10 @@ use crate::message::Message;
 use crate::open::{Open, SegmentPlace};
 use crate::rules::Rules;
 use crate::user_data::UserData;
-use sms_bind::{Receipt, WireFault};
+use sms_bind::{Receipt, Wire, WireFault};
 use sms_book::BookName;
 use sms_pdu::{BodyRef, Frame, PduRef, SmRef, encode_into};
+use sms_slot::SlotRow;
 use sms_window::{Claim, Draw, Window, WindowSeat};
 use std::alloc::Global;
 use std::io::Write;
@@ -116,8 +121,39 @@ fn frame_for(
     }
 }
 
-/// Posts the number in the slot and sends the frame, in one holding of the wire's lock. None where
-/// nothing was sent.
+/// Posts the number in the slot and hands the frame to the wire. None where the wire is broken or the slot
+/// isn't empty: then nothing is written.
+fn hand_on<W: Write, R: Wait>(
+    rt: &R,
+    wire: &mut Wire<W>,
+    slots: &SlotRow,
+    slot: u32,
+    place: usize,
+    number: u32,
+    frame: Frame,
+) -> Option<Receipt>
+    requires slot { slot < most_slots }
+    ensures receipt { IfSome result (λ r. r ≡ frame) }
+    ensures broken { is_broken wire.old ≡ true → result ≡ None }
+    ensures unsent { result ≡ None → wire.new ≡ wire.old }
+    ensures sent { (r : List ℕ) → result ≡ Some r → is_broken wire.new ≡ false → Appends (W.contents (writer wire.old)) (W.contents (writer wire.new)) frame }
+    ensures failed { (r : List ℕ) → result ≡ Some r → is_broken wire.new ≡ true → SomeAppended (W.contents (writer wire.old)) (W.contents (writer wire.new)) frame × Counts (write_faults wire.old) (write_faults wire.new) }
+{
+    if wire.broken() {
+        return None;
+    }
+    if slots.post(rt, slot, place, number).is_err() {
+        return None;
+    }
+    match wire.send(frame) {
+        Ok(receipt) => Some(receipt),
+        Err(WireFault::Write(receipt)) => Some(receipt),
+        Err(WireFault::Broken) => unreachable!(),
+    }
+}
+
+/// Posts the number in the slot and sends the frame, in one holding of the wire's lock. A write that
+/// fails marks the line down. None where nothing was sent.
 fn post_and_send<N: BookName, W: Write, G: Gate, K: Clock, R: Wait>(
     context: &WorkerContext<N, W, G, K, R>,
     slot: u32,
@@ -128,25 +164,29 @@ fn post_and_send<N: BookName, W: Write, G: Gate, K: Clock, R: Wait>(
     ensures { IfSome result (λ r. r ≡ frame) }
 {
     let mut wire = context.line.wire.lock(context.rt);
-    if wire.broken() {
-        return None;
+    let handed = hand_on(
+        context.rt,
+        &mut wire,
+        &context.line.slots,
+        slot,
+        context.place,
+        number,
+        frame,
+    );
+    if handed.is_some() && wire.broken() {
+        context.line.down.store(true, Ordering::SeqCst);
     }
-    if context
-        .line
-        .slots
-        .post(context.rt, slot, context.place, number)
-        .is_err()
-    {
-        return None;
-    }
-    match wire.send(frame) {
-        Ok(receipt) => Some(receipt),
-        Err(WireFault::Write(receipt)) => {
-            context.line.down.store(true, Ordering::SeqCst);
-            Some(receipt)
-        }
-        Err(WireFault::Broken) => unreachable!(),
-    }
+    handed
+}
+
+/// Makes room for one attempt more in a list, and for no other: most segments are sent once.
+fn make_room(attempts: &mut Vec<Attempt>) -> bool
+    ensures same { attempts.new.items ≡ attempts.old.items }
+    ensures room { IsTrue result → vec_len attempts.new < vec_capacity attempts.new }
+    ensures no_more { vec_capacity attempts.new ≤ max (vec_capacity attempts.old) (vec_len attempts.old + 1) }
+    ensures there { vec_len attempts.old < vec_capacity attempts.old → IsTrue result }
+{
+    attempts.reserve_exact(1).is_ok()
 }
 
 /// Sends the part with this user data through a slot that is claimed, and lists the attempt.
@@ -173,7 +213,7 @@ fn try_send<N: BookName, W: Write, G: Gate, K: Clock, R: Wait>(
     let Some(frame) = frame_for(context.alloc, context.rules, message, carried, number) else {
         return Tried::Never;
     };
-    if attempts.reserve(1).is_err() {
+    if !make_room(attempts) {
         return Tried::Never;
     }
     if !context.gate.pass(context.worker, number) {

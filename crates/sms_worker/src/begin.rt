@@ -1,6 +1,11 @@
 //! Beginning a message: its parts, its credits, and its end so far.
 
-ghost use Rattle.std.specs.Prelude.{◌≡◌, ℕ, ◌<◌, ◌≤◌, ◌↔◌, All, IsTrue, Err, IfOk, IfErr, OnOk, length, vec_len};
+ghost use Rattle.std.specs.Prelude.{◌≡◌, ℕ, ◌+◌, ◌*◌, ◌<◌, ◌≤◌, ◌↔◌, All, IsTrue, false, Err, IfOk, IfErr, OnOk, length, slice_set, vec_len};
+ghost use Rattle.sms_book.specs.Limits.{most_returned};
+ghost use Rattle.sms_book.specs.Money.{reserved_more};
+ghost use Rattle.sms_book.specs.Shares.{changed};
+ghost use Rattle.sms_core.specs.RowMoves.{row_reserved};
+ghost use Rattle.sms_book.specs.Portions.{row_at};
 ghost use Rattle.sms_worker.specs.Begins.{ready, Begins};
 ghost use Rattle.sms_book.specs.Tariffs.{cost_of};
 ghost use Rattle.sms_segment.specs.Message.{IsTooLong};
@@ -154,6 +159,25 @@ fn refused<N: BookName>(
     (texts, end)
 }
 
+/// Reserves the credits of so many parts of an account, if it has them free.
+fn reserve_all<N: BookName>(
+    book: &mut Book<N>,
+    shares: &mut Shares<N>,
+    account: usize,
+    parts: usize,
+    cost: u32,
+) -> bool
+    ensures exact { IsTrue result ↔ ((account < length book.old) × (parts * cost ≤ (row_at book.old account).free) × ((row_at book.old account).returned + (row_at book.old account).reserved + parts * cost ≤ most_returned)) }
+    ensures book { IsTrue result → book.new ≡ slice_set book.old account (row_reserved (parts * cost) (row_at book.old account)) }
+    ensures share { IsTrue result → shares.new ≡ changed shares.old account (reserved_more (parts * cost)) }
+    ensures refused { result ≡ false → (book.new ≡ book.old) × (shares.new ≡ shares.old) }
+{
+    let Some(credits) = (parts as u64).checked_mul(u64::from(cost)) else {
+        return false;
+    };
+    book.reserve(shares, account, credits).is_ok()
+}
+
 /// Reserves the credits of a message, and makes its end so far.
 pub(crate) fn begun<N: BookName, R: Wait>(
     rt: &R,
@@ -174,20 +198,15 @@ pub(crate) fn begun<N: BookName, R: Wait>(
         Err(refusal) => return refused(alloc, shares, rules, message, refusal),
     };
     let Some(account) = message.account else {
-        return refused(alloc, shares, rules, message, MessageRefusal::NoCredit);
+        unreachable!()
     };
-    let cost = u64::from(rules.tariff.cost(message.dest.as_str()));
-    let Some(credits) = (ends.len() as u64).checked_mul(cost) else {
+    let price = rules.tariff.cost(message.dest.as_str());
+    if !reserve_all(&mut book.lock(rt), shares, account, ends.len(), price) {
         return refused(alloc, shares, rules, message, MessageRefusal::NoCredit);
-    };
-    match book.lock(rt).reserve(shares, account, credits) {
-        Ok(()) => {
-            let end = MessageEnd {
-                index: message.index,
-                result: MessageResult::Sent(Segments::new(ends)),
-            };
-            (texts, end)
-        }
-        Err(_) => refused(alloc, shares, rules, message, MessageRefusal::NoCredit),
     }
+    let end = MessageEnd {
+        index: message.index,
+        result: MessageResult::Sent(Segments::new(ends)),
+    };
+    (texts, end)
 }

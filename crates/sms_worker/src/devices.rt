@@ -38,7 +38,8 @@ pub trait Gate {
     fn refused(&self, _worker: usize, _message: u64, _why: MessageRefusal) {}
 
     /// Is shown once a turn what became of the messages that the worker began, of which so many
-    /// segments wait for an answer.
+    /// segments wait for an answer. A segment is unanswered here also while it waits to be sent, which
+    /// has no attempt, or to be sent again, whose last attempt has a reply.
     fn see(&self, _worker: usize, _ends: &[MessageEnd], _open: usize) {}
 
     /// Is shown what became of all messages of the worker.

@@ -10,7 +10,8 @@ use sms_session::Policy;
 #[derive(Drop)]
 pub struct Rules {
     pub policy: Policy,
-    /// How many requests a worker may have open at once, 1 to 64.
+    /// How many requests a worker may have open at once, 1 to 64. With 0 it sends nothing, and waits
+    /// until its turns are over.
     pub depth: u32,
     /// How many milliseconds a request waits for its answer.
     pub answer_ms: u32,

@@ -1,10 +1,11 @@
 //! The turns of a call, and its end.
 
-ghost use Rattle.std.specs.Prelude.{◌≡◌, ℕ, ◌+◌, ◌<◌, ◌≤◌, None, Some, IfSome, false, length, slice_get};
+ghost use Rattle.std.specs.Prelude.{◌≡◌, ℕ, ◌+◌, ◌<◌, ◌≤◌, ◌⊎◌, ◌↔◌, None, Some, IfSome, IsTrue, false, length, slice_get};
 ghost use Rattle.rtrb.specs.Ring.{received, SameConsumer};
 ghost use Rattle.sms_worker.specs.declared.ends.SegmentEnd.{SegmentEnd};
 ghost use Rattle.sms_worker.specs.Ends.{segment_at, segments_in};
 ghost use Rattle.sms_worker.specs.Sweeps.{SettledTo};
+ghost use Rattle.sms_worker.specs.declared.turns.Source.TheVariants.{Queue, Next};
 
 use crate::attempt::Tried;
 use crate::call::Call;
@@ -41,6 +42,32 @@ enum Source {
     Next,
 }
 
+/// A segment that is to be sent again goes before one that wasn't sent yet.
+fn first_of(
+    retry: Option<(SegmentPlace, usize)>,
+    next: Option<SegmentPlace>,
+) -> Option<(SegmentPlace, Source)>
+    ensures retry { IfSome retry (λ r. result ≡ Some (r.0, Queue r.1)) }
+    ensures next { retry ≡ None → IfSome next (λ p. result ≡ Some (p, Next)) }
+    ensures none { (result ≡ None) ↔ ((retry ≡ None) × (next ≡ None)) }
+{
+    if let Some((place, queue)) = retry {
+        return Some((place, Source::Queue(queue)));
+    }
+    match next {
+        Some(place) => Some((place, Source::Next)),
+        None => None,
+    }
+}
+
+/// Whether a worker has nothing left to do: nothing is open, and where the line isn't down nothing is to
+/// be sent.
+fn has_ended(down: bool, waiting: usize, to_send: bool) -> bool
+    ensures { IsTrue result ↔ ((waiting ≡ 0) × (IsTrue down ⊎ (to_send ≡ false))) }
+{
+    waiting == 0 && (down || !to_send)
+}
+
 impl<N: BookName, C: Call> Run<N, C> {
     // How many segments a message has.
     fn count(&self, message: usize) -> usize
@@ -74,16 +101,14 @@ impl<N: BookName, C: Call> Run<N, C> {
 
     // Where to look for a segment to send: a retry that is due, else the next of the last message.
     fn next_place(&self, now_ms: u64) -> Option<(SegmentPlace, Source)> {
-        let texts = self.texts.as_slice();
-        if let Some(queue) = self.queues.due(texts, now_ms) {
-            if let Some(place) = self.queues.first(queue) {
-                return Some((place, Source::Queue(queue)));
-            }
-        }
-        match self.next_part() {
-            Some(place) => Some((place, Source::Next)),
-            None => None,
-        }
+        first_of(self.due_retry(now_ms), self.next_part())
+    }
+
+    // The segment that is due to be sent again before all others, and its queue.
+    fn due_retry(&self, now_ms: u64) -> Option<(SegmentPlace, usize)> {
+        let queue = self.queues.due(self.texts.as_slice(), now_ms)?;
+        let place = self.queues.first(queue)?;
+        Some((place, queue))
     }
 
     // The segment that was found there was tried.
@@ -192,13 +217,8 @@ impl<N: BookName, C: Call> Run<N, C> {
 
     // Whether nothing is left to do.
     fn is_done(&self, down: bool) -> bool {
-        if !self.opened.is_empty() {
-            return false;
-        }
-        if down {
-            return true;
-        }
-        self.queues.is_empty() && !self.has_more()
+        let to_send = !self.queues.is_empty() || self.has_more();
+        has_ended(down, self.opened.len(), to_send)
     }
 
     // One turn. Whether another is to follow.

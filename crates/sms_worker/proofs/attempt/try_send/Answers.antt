@@ -43,14 +43,14 @@ returns-in_default-clause-slots g c = c.draw.ensures.slots
 pub returns-in_default-clause-tried : goal.returns-in_default-clause-tried
 returns-in_default-clause-tried g c part carried = (inr (c.in-Drawn.number, c.in-Drawn.ensures.drawn), refl)
 
-pub returns-then-is_err-clause-window : goal.returns-then-is_err-clause-window
-returns-then-is_err-clause-window g c = c.draw.ensures.window
+pub returns-then-not-make_room-clause-window : goal.returns-then-not-make_room-clause-window
+returns-then-not-make_room-clause-window g c = c.draw.ensures.window
 
-pub returns-then-is_err-clause-slots : goal.returns-then-is_err-clause-slots
-returns-then-is_err-clause-slots g c = c.draw.ensures.slots
+pub returns-then-not-make_room-clause-slots : goal.returns-then-not-make_room-clause-slots
+returns-then-not-make_room-clause-slots g c = c.draw.ensures.slots
 
-pub returns-then-is_err-clause-tried : goal.returns-then-is_err-clause-tried
-returns-then-is_err-clause-tried g c part carried = (inr (c.in-Drawn.number, c.in-Drawn.ensures.drawn), c.reserve.ensures.items)
+pub returns-then-not-make_room-clause-tried : goal.returns-then-not-make_room-clause-tried
+returns-then-not-make_room-clause-tried g c part carried = (inr (c.in-Drawn.number, c.in-Drawn.ensures.drawn), c.make_room.ensures.same)
 
 pub returns-then-not-pass-clause-window : goal.returns-then-not-pass-clause-window
 returns-then-not-pass-clause-window g c = c.draw.ensures.window
@@ -59,7 +59,7 @@ pub returns-then-not-pass-clause-slots : goal.returns-then-not-pass-clause-slots
 returns-then-not-pass-clause-slots g c = c.draw.ensures.slots
 
 pub returns-then-not-pass-clause-tried : goal.returns-then-not-pass-clause-tried
-returns-then-not-pass-clause-tried g c part carried = (inr (c.in-Drawn.number, c.in-Drawn.ensures.drawn), c.reserve.ensures.items)
+returns-then-not-pass-clause-tried g c part carried = (inr (c.in-Drawn.number, c.in-Drawn.ensures.drawn), c.make_room.ensures.same)
 
 pub returns-in_default-post_and_send-clause-window : goal.returns-in_default-post_and_send-clause-window
 returns-in_default-post_and_send-clause-window g c = c.draw.ensures.window
@@ -68,7 +68,7 @@ pub returns-in_default-post_and_send-clause-slots : goal.returns-in_default-post
 returns-in_default-post_and_send-clause-slots g c = c.draw.ensures.slots
 
 pub returns-in_default-post_and_send-clause-tried : goal.returns-in_default-post_and_send-clause-tried
-returns-in_default-post_and_send-clause-tried g c part carried = (inr (c.in-Drawn.number, c.in-Drawn.ensures.drawn), c.reserve.ensures.items)
+returns-in_default-post_and_send-clause-tried g c part carried = (inr (c.in-Drawn.number, c.in-Drawn.ensures.drawn), c.make_room.ensures.same)
 
 pub returns-clause-window : goal.returns-clause-window
 returns-clause-window g c = c.draw.ensures.window
@@ -78,5 +78,5 @@ returns-clause-slots g c = c.draw.ensures.slots
 
 pub returns-clause-tried : goal.returns-clause-tried
 returns-clause-tried g c part carried =
-    is_sent c.args.context.now.rules.now c.args.message.now part c.args.seat.now.view c.draw.new.seat.view c.in-Drawn.number c.in-Some.frame c.in-Some-post_and_send.sent c.args.attempts.now.items c.reserve.new.self.items c.push_reserved.new.self.items
-    c.in-Drawn.ensures.drawn c.reserve.ensures.items c.push_reserved.ensures.items c.in-Some-post_and_send.ensures (c.in-Some.ensures part carried)
+    is_sent c.args.context.now.rules.now c.args.message.now part c.args.seat.now.view c.draw.new.seat.view c.in-Drawn.number c.in-Some.frame c.in-Some-post_and_send.sent c.args.attempts.now.items c.make_room.new.attempts.items c.push_reserved.new.self.items
+    c.in-Drawn.ensures.drawn c.make_room.ensures.same c.push_reserved.ensures.items c.in-Some-post_and_send.ensures (c.in-Some.ensures part carried)

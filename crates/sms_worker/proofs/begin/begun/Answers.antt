@@ -13,8 +13,8 @@ use Rattle.sms_worker.specs.Told.{IsKnown}
 use Rattle.sms_worker.proofs.Beginnings.{length-ready, reserved_ready, other_ready}
 use Rattle.sms_worker.proofs.begin.begun.Goals as goal
 
-pub returns-in-Ok-reserve-clause-begins : goal.returns-in-Ok-reserve-clause-begins
-returns-in-Ok-reserve-clause-begins g c =
+pub returns-clause-begins : goal.returns-clause-begins
+returns-clause-begins g c =
     let m = c.args.message.now in
     let old = c.args.shares.now in
     let a = c.in-Some.account in
@@ -23,12 +23,11 @@ returns-in-Ok-reserve-clause-begins g c =
     let known = subst (λ k. IsKnown k m.account) c.accounts-accounts.ensures.share c.in-Ok.ensures.known.0 in
     let low = subst (IsKnown (length old.amounts)) c.in-Some.is known in
     let segments = c.new.ensures ∙ c.in-Ok.ensures.ends in
-    let product : c.in-Some-checked_mul.credits ≡ c.len.result * c.from-cost.result = search rules in
     let parts : c.len.result ≡ n = (search rules) ∙ ap length c.in-Ok.ensures.ends ∙ length-ready cost n in
-    let price : c.from-cost.result ≡ cost = search rules in
-    let amount : c.in-Some-checked_mul.credits ≡ n * cost = product ∙ (λ i. parts i * price i) in
-    let some_cost : 0 < c.from-cost.result = search rules in
-    let share : c.reserve.new.share ≡ changed old a (reserved_more (n * cost)) = c.in-Ok-reserve.ensures.share ∙ ap (λ k. changed old a (reserved_more k)) amount in
+    let price : c.cost-price.result ≡ cost = search rules in
+    let amount : c.len.result * c.cost-price.result ≡ n * cost = (λ i. parts i * price i) in
+    let some_cost : 0 < c.cost-price.result = search rules in
+    let share : c.reserve_all.new.shares ≡ changed old a (reserved_more (n * cost)) = c.reserve_all.ensures.share (search rules) ∙ ap (λ k. changed old a (reserved_more k)) amount in
     let total = λ (i : ℕ). ap (total_in (λ (s : SegmentEnd). credit reserved_of i m.account s)) segments ∙ ap (λ (acc : Option ℕ). total_in (λ (s : SegmentEnd). credit reserved_of i acc s) (ready cost n)) c.in-Some.is in
     record {
       index = refl;
