@@ -1,6 +1,7 @@
 pub mod Addresses
 pub mod Apart
 pub mod Begins
+pub mod Closing
 pub mod EndOf
 pub mod Ends
 pub mod Events

@@ -265,16 +265,15 @@ impl<N: BookName, C: Call> Run<N, C> {
         context.window.release(&mut self.seat, open.slot);
     }
 
-    /// Begins the next message, if there is one.
+    /// Begins the next message, if there is one. It is refused where the bind is closed.
     pub(crate) fn begin<W, G: Gate, K, R: Wait>(
         &mut self,
         context: &WorkerContext<N, W, G, K, R>,
-        down: bool,
     ) -> bool
         requires rules { context.now.rules.now ≡ C.start.rules }
         ensures heard { self.new.heard ≡ self.old.heard }
         ensures all { result ≡ false → length self.new.ends ≡ length C.start.messages }
-        ensures closed { (end : MessageEnd) → self.new.ends ≡ self.old.ends ++ end ∷ [] → end.result ≡ Refused BindClosed → IsTrue down }
+        ensures closed { (end : MessageEnd) → self.new.ends ≡ self.old.ends ++ end ∷ [] → end.result ≡ Refused BindClosed → IsTrue self.old.closed }
         ensures more { result ≡ true → (length self.new.ends ≡ length self.old.ends + 1) × (length self.new.ends ≤ length C.start.messages) }
     {
         let place = self.ends.len();
@@ -288,7 +287,7 @@ impl<N: BookName, C: Call> Run<N, C> {
             context.book,
             context.rules,
             &mut self.shares,
-            down,
+            self.closed,
             message,
         );
         tell_fate(context.gate, context.worker, &end);

@@ -121,6 +121,28 @@ impl<N: BookName, C: Call> Run<N, C> {
         }
     }
 
+    // Whether the line is down, or was when it was looked at before.
+    fn sees_closed<W, G, K, R>(&mut self, context: &WorkerContext<N, W, G, K, R>) -> bool
+        ensures is { result ≡ self.new.closed }
+        ensures stays { IsTrue self.old.closed → IsTrue self.new.closed }
+        ensures same { (self.new.heard ≡ self.old.heard) × (self.new.ends ≡ self.old.ends) }
+    {
+        if self.closed {
+            return true;
+        }
+        let down = context.line.down.load(Ordering::SeqCst);
+        self.closed = down;
+        down
+    }
+
+    // From now on the line is taken as down.
+    fn close_line(&mut self)
+        ensures closed { IsTrue self.new.closed }
+        ensures same { (self.new.heard ≡ self.old.heard) × (self.new.ends ≡ self.old.ends) }
+    {
+        self.closed = true;
+    }
+
     // Starts an attempt, or begins a message. Where the line is down by now a message is refused, and what
     // waits to be sent is left to the next turn, which gives it up.
     fn start_one<W: Write, G: Gate, K: Clock, R: Wait>(
@@ -132,9 +154,9 @@ impl<N: BookName, C: Call> Run<N, C> {
         requires rules { context.now.rules.now ≡ C.start.rules }
         ensures heard { self.new.heard ≡ self.old.heard }
     {
-        let closed = context.line.down.load(Ordering::SeqCst);
+        let closed = self.sees_closed(context);
         let Some((place, source)) = self.next_place(now_ms) else {
-            if self.begin(context, closed) {
+            if self.begin(context) {
                 return Started::One;
             }
             return Started::Nothing;
@@ -235,7 +257,7 @@ impl<N: BookName, C: Call> Run<N, C> {
         ensures heard { self.new.heard ≡ received consumer.new }
     {
         let heard = self.hear(context, consumer);
-        let down = context.line.down.load(Ordering::SeqCst);
+        let down = self.sees_closed(context);
         let expired = self.expire(context, down);
         let started = self.start_or_sweep(context, down);
         context
@@ -321,6 +343,7 @@ impl<N: BookName, C: Call> Run<N, C> {
         ensures all { length self.new.ends ≡ length C.start.messages }
         ensures settled { SettledTo C.start.rules.policy.attempts (length C.start.messages) 0 self.new.ends }
     {
+        self.close_line();
         self.expire(context, true);
         self.hear(context, consumer);
         self.refuse_rest(context);
@@ -332,7 +355,7 @@ impl<N: BookName, C: Call> Run<N, C> {
         ensures heard { self.new.heard ≡ self.old.heard }
         ensures all { length self.new.ends ≡ length C.start.messages }
     {
-        while self.begin(context, true) {}
+        while self.begin(context) {}
     }
 
     fn sweep<W, G, K, R: Wait>(&mut self, context: &WorkerContext<N, W, G, K, R>)

@@ -6,6 +6,7 @@ ghost use Rattle.sms_window.specs.OpenSlots.{IsOpen};
 ghost use Rattle.sms_window.specs.Drawing.{HasDrawn};
 ghost use Rattle.sms_worker.specs.Keeps.{slots_of};
 ghost use Rattle.std.specs.List.{AllZip};
+ghost use Rattle.sms_worker.specs.Closing.{StaysClosed};
 ghost use Rattle.sms_worker.specs.EndOf.{IsEndOf};
 ghost use Rattle.sms_worker.specs.Apart.{NumbersApart, PlacesApart};
 ghost use Rattle.sms_worker.specs.Told.{AllTold, AreEnds, Drew, Grew};
@@ -79,6 +80,7 @@ fn into_end<N: BookName, W, G, K, R: Wait, C: Call>(
 ) -> WorkerEnd<N>
     requires window { context.now.window.now ≡ C.start.seat.window }
     ensures ends { result.ends.items ≡ run.ends }
+    ensures closed { StaysClosed run.ends }
     ensures consumer { result.consumer ≡ consumer }
     ensures shape { AreEnds C.start.rules (length C.start.share.amounts) C.start.messages run.ends }
     ensures told { AllTold C.start.rules (length C.start.received) run.heard C.start.messages run.ends }
@@ -145,6 +147,7 @@ fn work<N: BookName, W: Write, G: Gate, K: Clock, P: Pause, R: Wait, C: Call>(
     requires ends_fit { vec_len messages ≤ vec_capacity lists.ends }
     requires texts_fit { vec_len messages ≤ vec_capacity lists.texts }
     ensures each { AllZip (IsEndOf C.start.rules (length C.start.share.amounts)) C.start.messages result.ends.items }
+    ensures closed { StaysClosed result.ends.items }
     ensures told { AllTold C.start.rules (length C.start.received) (received result.consumer) C.start.messages result.ends.items }
     ensures numbers { Drew C.start.seat.view result.seat.view C.start.messages result.ends.items }
     ensures apart { NumbersApart result.ends.items }
@@ -175,6 +178,7 @@ fn work<N: BookName, W: Write, G: Gate, K: Clock, P: Pause, R: Wait, C: Call>(
         opened,
         queues: Queues::none(),
         next: 0,
+        closed: false,
         seat,
         shares,
         heard,
@@ -206,6 +210,8 @@ pub fn run_worker<N: BookName, W: Write, G: Gate, K: Clock, P: Pause, R: Wait>(
     requires own { worker.seat.window ≡ window.now }
     // Each message has its end, in order: its result, and of each of its parts the cost, the receipts and the outcome.
     ensures each { IfOk result (λ d. AllZip (IsEndOf rules.now (length worker.shares.amounts)) messages.items d.ends.items) }
+    // Once the bind was closed for a message, it was closed for all behind it.
+    ensures closed { IfOk result (λ d. StaysClosed d.ends.items) }
     // Each answer was received in this call.
     ensures answers { IfOk result (λ d. AllTold rules.now (length (received worker.consumer)) (received d.consumer) messages.items d.ends.items) }
     ensures numbers { IfOk result (λ d. Drew worker.seat.view d.seat.view messages.items d.ends.items) }

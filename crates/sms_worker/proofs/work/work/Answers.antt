@@ -1,4 +1,4 @@
-use Rattle.std.proofs.Common.{length, map, sym, ap, ◌∙◌, subst}
+use Rattle.std.proofs.Common.{false, length, sym, ap, ◌∙◌, subst, map}
 use Rattle.rtrb.specs.Ring.{received, SameConsumer}
 use Rattle.sms_worker.specs.Told.{AllTold, Drew, Grew}
 use Rattle.sms_worker.specs.Sweeps.{SettledTo}
@@ -8,6 +8,7 @@ use Rattle.sms_worker.proofs.Sweeping.{settled_all}
 use Rattle.sms_worker.specs.Apart.{PlacesApart}
 use Rattle.sms_worker.proofs.EndsOf.{ends_of}
 use Rattle.sms_worker.proofs.Apartness.{numbers_apart, places_apart}
+use Rattle.sms_worker.proofs.Closing.{closes_none}
 use Rattle.sms_worker.proofs.work.work.Goals as goal
 
 pub invariant_of-run : goal.invariant_of-run
@@ -15,6 +16,7 @@ invariant_of-run g c =
     let r = c.requires in
     record {
       keeps = rw c.of-heard.ensures (keeps_opening _ _ _ _ _ _ _ _ r.messages r.seat r.share r.received r.no_ends (ap (map carried) r.no_texts) r.none_opened);
+      closing = rw r.no_ends (closes_none false);
       ends_fit = r.ends_fit;
       texts_fit = r.texts_fit;
     }

@@ -8,6 +8,8 @@ use Rattle.sms_worker.specs.TextsState.{carried}
 use Rattle.sms_worker.proofs.EndLemmas.{back_there, given_same, given_other}
 use Rattle.sms_worker.proofs.Keeping.{keeps_same, keeps_tried, part_there, told_there}
 use Rattle.sms_worker.specs.RunState.{RunState}
+use Rattle.sms_worker.specs.Closing.{Closes}
+use Rattle.sms_worker.proofs.Closing.{closes_put}
 use Rattle.sms_worker.proofs.run.Run.attempt.Goals as goal
 
 pub give-requires : goal.give-requires
@@ -21,6 +23,7 @@ invariant_of-self-then-not-is_waiting g c =
     let room' = c.take.ensures.room in
     record {
       keeps = keeps_same _ _ _ _ _ _ _ _ _ i.keeps same;
+      closing = subst (Closes c.self.inside.closed) (sym same) i.closing;
       ends_fit = (let r = i.ends_fit in omega arith);
       texts_fit = i.texts_fit;
     }
@@ -56,6 +59,7 @@ invariant_of-self-2 g c =
     let slots = c.start-tried.ensures.open g.C.Call.start.seat.view.slots i.keeps.slots in
     record {
       keeps = keeps_tried _ c.args.context.now.rules.now _ _ _ _ _ c.start-tried.new.opened.items _ c.start-tried.new.seat _ _ k p c.index-message.result.now part.part s s' c.start-tried.result i.keeps c.requires.rules there part.there at waits tried refl refl c.start-tried.ensures.window slots is long;
+      closing = subst (Closes c.self.inside.closed) (sym is) (closes_put c.self.inside.closed c.self.inside.ends.items k p s' i.closing);
       ends_fit = (let r = i.ends_fit in omega arith);
       texts_fit = i.texts_fit;
     }

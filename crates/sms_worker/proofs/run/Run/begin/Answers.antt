@@ -6,6 +6,7 @@ use Rattle.sms_worker.specs.Begins.{Begins}
 use Rattle.sms_worker.specs.TextsState.{carried}
 use Rattle.sms_worker.proofs.Beginnings.{keeps_begun}
 use Rattle.sms_worker.proofs.Kept.{map_more}
+use Rattle.sms_worker.proofs.Closing.{closes_more}
 use Rattle.sms_worker.proofs.run.Run.begin.Goals as goal
 
 pub invariant_of-self : goal.invariant_of-self
@@ -20,6 +21,7 @@ invariant_of-self g c =
     let done = keeps_begun _ _ _ _ _ _ _ _ _ c.index-message.result.now (carried c.begun-texts.result.0) c.begun-texts.result.1 i.keeps there low b in
     record {
       keeps = rw (c.push_reserved.ensures.items, c.push_reserved-2.ensures.items, map_more carried c.self.inside.texts.items c.begun-texts.result.0) done;
+      closing = rw c.push_reserved-2.ensures.items (closes_more c.self.inside.closed c.self.inside.ends.items c.begun-texts.result.1 i.closing c.begun-texts.ensures.closed c.begun-texts.ensures.down);
       ends_fit = (let r = i.ends_fit in let e = c.push_reserved-2.ensures.capacity in omega arith);
       texts_fit = (let r = i.texts_fit in let e = c.push_reserved.ensures.capacity in omega arith);
     }

@@ -22,6 +22,7 @@ invariant_of-self g c =
     let done = keeps_closed _ _ _ _ c.self.inside.opened.items _ c.release.new.seat _ _ c.args.i c.remove-open.result i.keeps at c.release.ensures.window c.release.ensures.freed in
     record {
       keeps = rw c.remove-open.ensures.items done;
+      closing = i.closing;
       ends_fit = i.ends_fit;
       texts_fit = i.texts_fit;
     }

@@ -8,6 +8,8 @@ use Rattle.sms_worker.specs.Sweeps.{SweptAt, InPlace}
 use Rattle.sms_worker.proofs.Sweeping.{swept_none, swept_settled, swept_put, in_place_same, in_place_put}
 use Rattle.sms_worker.proofs.EndLemmas.{back_there, given_same, given_other, no_segment}
 use Rattle.sms_worker.proofs.Keeping.{keeps_same, keeps_given, told_there, fits_there}
+use Rattle.sms_worker.specs.Closing.{Closes}
+use Rattle.sms_worker.proofs.Closing.{closes_put}
 use Rattle.sms_worker.proofs.run.Run.end_waiting.Goals as goal
 
 pub give-requires : goal.give-requires
@@ -21,6 +23,7 @@ invariant_of-self-then-not-is_waiting g c =
     let room' = c.take.ensures.room in
     record {
       keeps = keeps_same _ _ _ _ _ _ _ _ _ i.keeps same;
+      closing = subst (Closes c.self.inside.closed) (sym same) i.closing;
       ends_fit = (let r = i.ends_fit in omega arith);
       texts_fit = i.texts_fit;
     }
@@ -59,6 +62,7 @@ invariant_of-self-2 g c =
     let moved = c.settle.ensures ∙ ap (λ n. settled_to c.given_up-segment.result.outcome c.index-message.result.now.account n c.self.inside.shares) c.given_up-segment.ensures.cost in
     record {
       keeps = keeps_given _ _ _ _ _ _ _ _ _ _ _ _ _ s c.given_up-segment.result i.keeps there at waits c.given_up-segment.ensures moved is long;
+      closing = subst (Closes c.self.inside.closed) (sym is) (closes_put c.self.inside.closed c.self.inside.ends.items c.args.place.message c.args.place.part c.given_up-segment.result i.closing);
       ends_fit = (let r = i.ends_fit in omega arith);
       texts_fit = i.texts_fit;
     }

@@ -10,6 +10,7 @@ invariant_of-self g c =
     let e = c.requires.more.1 ∙ ap (λ (x : RunState). x.heard ++ r ∷ []) (sym c.self.view_is) in
     record {
       keeps = rw c.of.ensures (keeps_heard _ _ _ _ _ _ _ _ _ r i.keeps e);
+      closing = i.closing;
       ends_fit = i.ends_fit;
       texts_fit = i.texts_fit;
     }

@@ -9,6 +9,8 @@ use Rattle.sms_worker.specs.RunState.{RunState}
 use Rattle.sms_worker.specs.Ends.{put}
 use Rattle.sms_worker.proofs.EndLemmas.{back_there, given_same, given_other}
 use Rattle.sms_worker.proofs.Keeping.{keeps_same, keeps_answered, told_there, fits_there}
+use Rattle.sms_worker.specs.Closing.{Closes}
+use Rattle.sms_worker.proofs.Closing.{closes_put}
 use Rattle.sms_worker.proofs.run.Run.settle_answer.Goals as goal
 
 pub answer-segment-requires : goal.answer-segment-requires
@@ -30,6 +32,7 @@ invariant_of-self-in-None g c =
     let room' = c.take.ensures.room in
     record {
       keeps = keeps_same _ _ _ _ _ _ _ _ _ i.keeps same;
+      closing = subst (Closes c.self.inside.closed) (sym same) i.closing;
       ends_fit = (let r = i.ends_fit in omega arith);
       texts_fit = i.texts_fit;
     }
@@ -76,6 +79,7 @@ invariant_of-self-2 g c =
     let heard = subst (λ (x : RunState). HeardSince (length g.C.Call.start.received) x.heard c.args.reply) (sym c.self.view_is) c.requires.heard in
     record {
       keeps = keeps_answered _ _ _ _ _ _ _ _ _ _ _ _ c.index-message.result.now s r s' c.args.reply d i.keeps there at heard answered made moved is long;
+      closing = subst (Closes c.self.inside.closed) (sym is) (closes_put c.self.inside.closed c.self.inside.ends.items c.args.place.message c.args.place.part s' i.closing);
       ends_fit = (let q = i.ends_fit in omega arith);
       texts_fit = i.texts_fit;
     }

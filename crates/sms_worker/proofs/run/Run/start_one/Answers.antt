@@ -6,10 +6,10 @@ pub begin-requires : goal.begin-requires
 begin-requires g c = record { rules = c.requires.rules }
 
 pub returns-then-begin : goal.returns-then-begin
-returns-then-begin g c = record { heard = c.begin.ensures.heard }
+returns-then-begin g c = record { heard = c.begin.ensures.heard ∙ c.sees_closed-closed.ensures.same.0 }
 
 pub returns-in_default : goal.returns-in_default
-returns-in_default g c = record { heard = c.begin.ensures.heard }
+returns-in_default g c = record { heard = c.begin.ensures.heard ∙ c.sees_closed-closed.ensures.same.0 }
 
 pub attempt-requires-clause-window : goal.attempt-requires-clause-window
 attempt-requires-clause-window g c = c.requires.window
@@ -18,10 +18,10 @@ pub attempt-requires-clause-rules : goal.attempt-requires-clause-rules
 attempt-requires-clause-rules g c = c.requires.rules
 
 pub returns-in-Sent : goal.returns-in-Sent
-returns-in-Sent g c = record { heard = ap (λ (x : RunState). x.heard) c.advance.ensures ∙ c.attempt.ensures.heard }
+returns-in-Sent g c = record { heard = ap (λ (x : RunState). x.heard) c.advance.ensures ∙ c.attempt.ensures.heard ∙ c.sees_closed-closed.ensures.same.0 }
 
 pub returns-in-Later : goal.returns-in-Later
-returns-in-Later g c = record { heard = c.attempt.ensures.heard }
+returns-in-Later g c = record { heard = c.attempt.ensures.heard ∙ c.sees_closed-closed.ensures.same.0 }
 
 pub returns-in-Never : goal.returns-in-Never
-returns-in-Never g c = record { heard = c.give_up.ensures.heard ∙ ap (λ (x : RunState). x.heard) c.advance-in-Never.ensures ∙ c.attempt.ensures.heard }
+returns-in-Never g c = record { heard = c.give_up.ensures.heard ∙ ap (λ (x : RunState). x.heard) c.advance-in-Never.ensures ∙ c.attempt.ensures.heard ∙ c.sees_closed-closed.ensures.same.0 }
