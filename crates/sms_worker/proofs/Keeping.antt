@@ -202,7 +202,7 @@ keeps_tried start rules ms es es' texts os os' seat seat' share heard k p m part
     numbers (Sent n) (drawn, (octets, after, spells)) = drew_sent start.seat.view seat.view seat'.view start.messages es k p m s s' (record { number = n; sent = octets; reply = None }) keeps.numbers drawn there' at after
     numbers Later h = drew_unused start.seat.view seat.view seat'.view [] start.messages (put es k p s') (like h.1) h.0
     numbers Never h = elim h.0 [
-      | inl no_draw ↦ drew_unused start.seat.view seat.view seat'.view [] start.messages (put es k p s') (like h.1) no_draw
+      | inl no_draw ↦ drew_unused start.seat.view seat.view seat'.view [] start.messages (put es k p s') (like h.1) no_draw.0
       | inr one_draw ↦ drew_unused start.seat.view seat.view seat'.view (one_draw.0 ∷ []) start.messages (put es k p s') (like h.1) one_draw.1
     ]
 

@@ -6,6 +6,7 @@ use Rattle.sms_session.specs.declared.policy.Decision.{Decision}
 use Rattle.sms_session.specs.declared.policy.Decision.TheVariants.{Charge, RetryAfter, Refuse}
 use Rattle.sms_window.specs.declared.view.View.{View}
 use Rattle.sms_window.specs.Drawing.{HasDrawn}
+use Rattle.sms_window.specs.Seats.{used_up}
 use Rattle.sms_book.specs.Shares.{Share, changed}
 use Rattle.sms_book.specs.Money.{moved_amounts}
 use Rattle.sms_book.specs.declared.money.Move.{Move}
@@ -55,12 +56,13 @@ Draws v (Drawn n) w = HasDrawn v (n ∷ []) w
 Draws v UsedUp w = HasDrawn v [] w
 Draws v Contended w = HasDrawn v [] w
 
--- what a try to send does to the seat and to the list of attempts
+-- what a try to send does to the seat and to the list of attempts; a segment is given up once a number was drawn, or where all
+-- are used up
 abbrev pub Tries : Rules → Message → Part → View → List Attempt → Tried → View → List Attempt → Type 0
 Tries rules m part v old (Sent n) w new =
     HasDrawn v (n ∷ []) w × ((octets : List ℕ) × (new ≡ old ++ record { number = n; sent = octets; reply = None } ∷ []) × SpellsSubmit rules m part n octets)
 Tries rules m part v old Later w new = HasDrawn v [] w × (new ≡ old)
-Tries rules m part v old Never w new = (HasDrawn v [] w ⊎ ((n : ℕ) × HasDrawn v (n ∷ []) w)) × (new ≡ old)
+Tries rules m part v old Never w new = ((HasDrawn v [] w × (w.seen ≡ used_up)) ⊎ ((n : ℕ) × HasDrawn v (n ∷ []) w)) × (new ≡ old)
 
 -- where the credits go that were reserved for a segment; without an answer they stay reserved
 abbrev pub move_of : Outcome → Option Move

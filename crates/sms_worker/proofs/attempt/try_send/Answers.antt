@@ -23,7 +23,7 @@ pub returns-in-UsedUp-clause-slots : goal.returns-in-UsedUp-clause-slots
 returns-in-UsedUp-clause-slots g c = c.draw.ensures.slots
 
 pub returns-in-UsedUp-clause-tried : goal.returns-in-UsedUp-clause-tried
-returns-in-UsedUp-clause-tried g c part carried = (inl c.in-UsedUp.ensures.drawn, refl)
+returns-in-UsedUp-clause-tried g c part carried = (inl (c.in-UsedUp.ensures.drawn, c.in-UsedUp.ensures.used_up refl), refl)
 
 pub returns-in-Contended-clause-window : goal.returns-in-Contended-clause-window
 returns-in-Contended-clause-window g c = c.draw.ensures.window
