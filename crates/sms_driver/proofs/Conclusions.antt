@@ -28,7 +28,7 @@ pub map_map : {A B C : Type 0} (f : A → B) (g : B → C) (xs : List A) → map
 map_map f g [] = refl
 map_map f g (x ∷ xs) = ap (λ l. g (f x) ∷ l) (map_map f g xs)
 
-zip_map : {A B C D : Type 0} (f : A → C) (g : B → D) (P : A → B → Type 0) (Q : C → D → Type 0) → ((a : A) (b : B) → P a b → Q (f a) (g b)) → (xs : List A) (ys : List B) → AllZip P xs ys → AllZip Q (map f xs) (map g ys)
+pub zip_map : {A B C D : Type 0} (f : A → C) (g : B → D) (P : A → B → Type 0) (Q : C → D → Type 0) → ((a : A) (b : B) → P a b → Q (f a) (g b)) → (xs : List A) (ys : List B) → AllZip P xs ys → AllZip Q (map f xs) (map g ys)
 zip_map f g P Q h [] [] z = tt
 zip_map f g P Q h [] (y ∷ ys) z = absurd z
 zip_map f g P Q h (x ∷ xs) [] z = absurd z

@@ -1,5 +1,5 @@
 -- The first of two lists that go together.
-use Rattle.std.proofs.Common.{◌≡◌, ℕ, zero, suc, ◌+◌, ◌<◌, List, [], ◌∷◌, length, drop, get_or, sym, subst, arith, add-one, drop-cons}
+use Rattle.std.proofs.Common.{◌≡◌, ℕ, zero, suc, ◌+◌, ◌<◌, List, [], ◌∷◌, length, drop, get_or, refl, sym, subst, arith, add-one, drop-cons}
 use Rattle.std.specs.List.{AllZip}
 use Rattle.sms_driver.specs.declared.seating.SharedBind.{SharedBind}
 use Rattle.sms_driver.specs.declared.seating.BindParts.{BindParts}
@@ -20,3 +20,14 @@ module _ {W Rd : Type 0} (workers i : ℕ) (ps : List (SharedBind W)) where
       no_more (p ∷ ps) zero low z = z
       no_more (p ∷ ps) (suc i) low z = no_more ps i (omega arith) z
   none_seated (g ∷ gs) low none z = absurd (omega arith)
+
+  -- behind all binds no parts are left
+  pub none_left : (gs : List (BindParts Rd)) → i ≡ length ps → AllZip (IsSeated workers) (drop i ps) gs → gs ≡ []
+  none_left gs end z = none_behind ps i gs end z
+    where
+      none_behind : (ps : List (SharedBind W)) (i : ℕ) (gs : List (BindParts Rd)) → i ≡ length ps → AllZip (IsSeated workers) (drop i ps) gs → gs ≡ []
+      none_behind ps i [] end z = refl
+      none_behind [] zero (g ∷ gs) end z = absurd z
+      none_behind [] (suc i) (g ∷ gs) end z = absurd (omega arith)
+      none_behind (p ∷ ps) zero (g ∷ gs) end z = absurd (omega arith)
+      none_behind (p ∷ ps) (suc i) (g ∷ gs) end z = none_behind ps i (g ∷ gs) (omega arith) z

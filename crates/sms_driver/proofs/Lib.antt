@@ -1,8 +1,11 @@
+pub mod Answering
 pub mod Conclusions
 pub mod Dealings
+pub mod Grouping
 pub mod Heads
 pub mod Joins
 pub mod Moves
+pub mod Openings
 pub mod Returning
 pub mod Sums
 pub mod Takes

@@ -1,5 +1,8 @@
+pub mod Answered
 pub mod BindEnds
 pub mod Deals
+pub mod Reads
+pub mod Rings
 pub mod Seated
 pub mod SendFaults
 pub mod Settled

@@ -1,6 +1,8 @@
 -- What a worker gives back.
-use Rattle.std.specs.Prelude.{◌≡◌, List, length, Result, MatchResult}
+use Rattle.std.specs.Prelude.{◌≡◌, ◌++◌, List, length, Result, MatchResult}
 use Rattle.std.specs.List.{AllZip}
+use Rattle.rtrb.specs.Ring.{received, SameConsumer}
+use Rattle.sms_pdu.specs.declared.reply.Reply.{Reply}
 use Rattle.sms_book.specs.declared.amounts.Amounts.{Amounts}
 use Rattle.sms_worker.specs.declared.message.Message.{Message}
 use Rattle.sms_worker.specs.declared.rules.Rules.{Rules}
@@ -8,7 +10,8 @@ use Rattle.sms_worker.specs.declared.ends.MessageEnd.{MessageEnd}
 use Rattle.sms_worker.specs.declared.work.Worker.{Worker}
 use Rattle.sms_worker.specs.declared.work.WorkerEnd.{WorkerEnd}
 use Rattle.sms_worker.specs.EndOf.{IsEndOf}
-use Rattle.sms_worker.specs.Told.{Grew}
+use Rattle.sms_worker.specs.Apart.{NumbersApart, PlacesApart}
+use Rattle.sms_worker.specs.Told.{AllTold, Drew, Grew}
 use Rattle.sms_driver.specs.declared.task.Assignment.{Assignment}
 
 -- its ends are its messages', and its share grew by them
@@ -16,11 +19,20 @@ pub record Worked (rules : Rules) (old new : List Amounts) (ms : List Message) (
   pub ends : AllZip (IsEndOf rules (length old)) ms es
   pub credits : Grew old new ms es
 
--- the work of an assignment, by the same worker: its share has the same number, and its seat the same window
+-- the work of an assignment, by the same worker: its share has the same number, its seat the same window, and it has the same
+-- end of its ring
 pub record IsWorkOf {N : Type 0} (rules : Rules) (a : Assignment N) (d : WorkerEnd N) : Type 0 where
   pub worked : Worked rules a.worker.shares.amounts d.shares.amounts a.messages.items d.ends.items
   pub number : d.shares.number ≡ a.worker.shares.number
   pub window : d.seat.window ≡ a.worker.seat.window
+  pub ring : SameConsumer a.worker.consumer d.consumer
+  pub heard : (rest : List Reply) × (received d.consumer ≡ received a.worker.consumer ++ rest)
+  -- each answer was received in this work, and no place of what was received answers two attempts
+  pub answers : AllTold rules (length (received a.worker.consumer)) (received d.consumer) a.messages.items d.ends.items
+  pub places : PlacesApart (received d.consumer) d.ends.items
+  -- the numbers were drawn by the seat, each for one attempt
+  pub numbers : Drew a.worker.seat.view d.seat.view a.messages.items d.ends.items
+  pub apart : NumbersApart d.ends.items
 
 -- what comes back of an assignment: its work, or where memory was refused a worker with the seat
 abbrev pub IsResultOf : {N E M : Type 0} → Rules → Assignment N → Result (WorkerEnd N) (E × Worker N × M) → Type 0

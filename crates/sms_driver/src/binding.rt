@@ -5,6 +5,8 @@ ghost use Rattle.std.specs.List.{AllByRecursion, AllZip};
 ghost use Rattle.sms_core.specs.Limits.{most_slots};
 ghost use Rattle.sms_bind.specs.Devices.{device, writer};
 ghost use Rattle.sms_driver.specs.BindEnds.{HasBound};
+ghost use Rattle.sms_driver.specs.Reads.{AreOpened, IsOpened};
+ghost use Rattle.sms_driver.specs.Rings.{IsNewPair};
 ghost use Rattle.sms_driver.specs.Seated.{IsSeated};
 ghost use Rattle.sms_driver.specs.SendFaults.{fault_in, DrewNone, HasFailed, IsFaultOf, IsFaultOfOne};
 ghost use Rattle.sms_driver.specs.declared.fault.BindFailure.TheVariants.{NoConnection};
@@ -12,11 +14,11 @@ ghost use Rattle.sms_driver.specs.declared.fault.SendFault.TheVariants.{BindFail
 
 use crate::bind_end::Unbinding;
 use crate::fault::{BindFailure, SendFault};
+use crate::following::Following;
 use crate::hanging_up::unbind_all;
 use crate::rings::Rings;
 use crate::seating::{BindParts, DriverSeat, SharedBind};
 use crate::seats::split_seats;
-use crate::threads::Following;
 use sms_bind::{BindFault, Bound, Line, Settings, Tap, Wire, bind};
 use sms_slot::SlotRow;
 use sms_window::{Window, WindowSeat};
@@ -27,12 +29,18 @@ use std::sync::Wait;
 
 /// Where connections come from.
 pub trait Dial {
+    ghost use Rattle.std.specs.Prelude.{◌≡◌, ℕ, List, Option, None, IfSome};
+
+    // The octets that the reader for the bind with this place will give, where they are known.
+    ghost told: { Self → ℕ → Option (List ℕ) } = { λ _ _. None };
+
     type Reader: Read + Send + Drop;
 
     type Writer: Write + Send + Drop;
 
     /// A connection for the bind with this place, counted from 0; none where there is no connection.
-    fn dial(&self, bind: u32) -> Option<(Self::Reader, Self::Writer)>;
+    fn dial(&self, bind: u32) -> Option<(Self::Reader, Self::Writer)>
+        ensures { IfSome result (λ ends. Self.Reader.remaining ends.0 ≡ told self.now bind) };
 }
 
 /// What the binds of a sending have in common.
@@ -104,6 +112,8 @@ fn bind_with<Rd: Read, W: Write>(
     requires own { seat.old.window ≡ window.now }
     ensures window { seat.new.window ≡ seat.old.window }
     ensures bound { OnOk result (HasBound seat.old.view settings.now (W.contents (writer wire.old)) (W.contents (writer wire.new)) seat.new.view) }
+    // What was read is the bind's answer and what came behind it.
+    ensures opened { IfOk result (IsOpened settings.now.mode (Rd.remaining (device reader.old)) (Rd.remaining (device reader.new))) }
     ensures refused { IfErr result (IsFaultOf bind_place) }
     // What is told is what came of it.
     ensures told { IfErr result (λ fault. DrewNone bind_place seat.old.view fault seat.new.view
@@ -120,7 +130,8 @@ fn bind_with<Rd: Read, W: Write>(
 
 /// A connection for the bind.
 fn connect<D: Dial>(dial: &D, bind_place: u32) -> Result<(D::Reader, D::Writer), SendFault>
-    ensures { IfErr result (λ fault. fault ≡ BindFailed bind_place NoConnection) }
+    ensures told { IfOk result (λ ends. D.Reader.remaining ends.0 ≡ D.told dial.now bind_place) }
+    ensures refused { IfErr result (λ fault. fault ≡ BindFailed bind_place NoConnection) }
 {
     match dial.dial(bind_place) {
         Some(ends) => Ok(ends),
@@ -147,6 +158,7 @@ fn dial_and_bind<D: Dial>(
 ) -> Result<Connected<D::Reader, D::Writer>, SendFault>
     requires own { seat.old.window ≡ window.now }
     ensures window { seat.new.window ≡ seat.old.window }
+    ensures opened { IfOk result (λ c. IsOpened settings.now.mode (D.told dial.now bind_place) (D.Reader.remaining (device c.reader)) c.bound) }
     ensures refused { IfErr result (IsFaultOf bind_place) }
 {
     let (reader, writer) = connect(dial, bind_place)?;
@@ -180,8 +192,10 @@ fn make_bind<D: Dial>(
     rings: Rings,
 ) -> Result<Made<D::Reader, D::Writer>, SendFault>
     requires rings { length rings.consumers.items ≡ workers }
+    requires pairs { AllZip IsNewPair rings.producers.items rings.consumers.items }
     requires few { workers < 62 }
     ensures seated { IfOk result (λ m. IsSeated workers m.shared m.parts) }
+    ensures opened { IfOk result (λ m. IsOpened bind_settings.now.settings.mode (D.told dial.now bind_place) (D.Reader.remaining (device m.parts.reader)) m.parts.bound) }
     ensures driver_seat { IfOk result (λ m. m.driver_seat.seat.window ≡ m.shared.window) }
     ensures refused { IfErr result (IsFaultOf bind_place) }
 {
@@ -236,11 +250,13 @@ fn bind_each<D: Dial>(
     binds: Binds<D::Reader, D::Writer>,
 ) -> (Binds<D::Reader, D::Writer>, Result<(), SendFault>)
     requires rings { AllByRecursion (λ r. length r.consumers.items ≡ workers) rings.items }
+    requires pairs { AllByRecursion (λ r. AllZip IsNewPair r.producers.items r.consumers.items) rings.items }
     requires few { workers < 62 }
     requires binds { length rings.items ≤ 4 }
     requires none { (binds.shared_binds.items ≡ []) × (binds.bind_parts.items ≡ []) × (binds.driver_seats.items ≡ []) }
     requires room { (length rings.items ≤ vec_capacity binds.shared_binds) × (length rings.items ≤ vec_capacity binds.bind_parts) × (length rings.items ≤ vec_capacity binds.driver_seats) }
     ensures driver_seats { map (λ s. s.seat.window) result.0.driver_seats.items ≡ map (λ b. b.window) result.0.shared_binds.items }
+    ensures opened { AreOpened D.Reader.remaining bind_settings.now.settings.mode (D.told dial.now) 0 result.0.bind_parts.items }
     ensures seated { AllZip (IsSeated workers) result.0.shared_binds.items result.0.bind_parts.items }
     ensures long { OnOk result.1 (length result.0.shared_binds.items ≡ length rings.items) }
     // The first that failed is told.
@@ -297,9 +313,11 @@ pub(crate) fn make_binds<D: Dial, R: Wait>(
     rings: Vec<Rings>,
 ) -> Result<Binds<D::Reader, D::Writer>, SendFault>
     requires rings { AllByRecursion (λ r. length r.consumers.items ≡ workers) rings.items }
+    requires pairs { AllByRecursion (λ r. AllZip IsNewPair r.producers.items r.consumers.items) rings.items }
     requires few { workers < 62 }
     requires binds { length rings.items ≤ 4 }
     ensures driver_seats { IfOk result (λ b. map (λ s. s.seat.window) b.driver_seats.items ≡ map (λ b. b.window) b.shared_binds.items) }
+    ensures opened { IfOk result (λ b. AreOpened D.Reader.remaining bind_settings.now.settings.mode (D.told dial.now) 0 b.bind_parts.items) }
     ensures seated { IfOk result (λ b. AllZip (IsSeated workers) b.shared_binds.items b.bind_parts.items) }
     ensures long { IfOk result (λ b. length b.shared_binds.items ≡ length rings.items) }
     ensures refused { IfErr result (IsFaultOfOne (length rings.items)) }

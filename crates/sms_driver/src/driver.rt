@@ -4,7 +4,9 @@ ghost use Rattle.std.specs.Prelude.{◌≡◌, ℕ, ◌*◌, ◌<◌, ◌≤◌,
 ghost use Rattle.std.specs.List.{AllZip};
 ghost use Rattle.sms_book.specs.Openings.{credits_of};
 ghost use Rattle.sms_worker.specs.EndOf.{IsEndOf};
+ghost use Rattle.sms_driver.specs.Answered.{AreHeard};
 ghost use Rattle.sms_driver.specs.BindEnds.{AreBinds};
+ghost use Rattle.sms_driver.specs.Deals.{dealt};
 ghost use Rattle.sms_driver.specs.SendFaults.{IsFaultOfOne};
 ghost use Rattle.sms_driver.specs.Statements.{AreRows};
 
@@ -42,6 +44,8 @@ pub fn drive_all<
 ) -> Result<Sending, SendFault>
     requires few { (binds ≤ 4) × (workers ≤ 8) }
     ensures ends { IfOk result (λ r. AllZip (IsEndOf rules.now (length openings.now)) messages.items r.ends.items) }
+    // Bind by bind, each answered attempt of its workers rests on an answer of its own that was read of it.
+    ensures heard { IfOk result (λ r. AreHeard (D.told dial.now) binds workers (dealt (binds * workers) 0 r.ends.items)) }
     ensures rows { IfOk result (λ r. AreRows (credits_of openings.now) messages.items r.ends.items r.statement) }
     // Each bind was made and ended, and had its workers.
     ensures binds { IfOk result (λ r. AreBinds binds workers r.binds.items) }

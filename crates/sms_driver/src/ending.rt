@@ -1,20 +1,25 @@
 //! What a run ends with.
 
-ghost use Rattle.std.specs.Prelude.{◌≡◌, ℕ, ◌<◌, List, length, map, IfOk, Ok, vec_len, vec_capacity};
-ghost use Rattle.std.specs.List.{AllByRecursion};
+ghost use Rattle.std.specs.Prelude.{◌≡◌, ℕ, ◌<◌, List, length, map, IfOk, OnOk, Ok, vec_len, vec_capacity};
+ghost use Rattle.std.specs.List.{AllByRecursion, AllZip};
+ghost use Rattle.rtrb.specs.Ring.{IsPair};
 ghost use Rattle.sms_book.specs.Portions.{row_at};
 ghost use Rattle.sms_book.specs.Shares.{AreAll};
 ghost use Rattle.sms_book.specs.Sums.{IsSumOf};
 ghost use Rattle.sms_worker.specs.declared.ends.MessageEnd.{MessageEnd};
 ghost use Rattle.sms_driver.specs.BindEnds.{AreBinds, IsTried};
 ghost use Rattle.sms_driver.specs.Deals.{dealt};
+ghost use Rattle.sms_driver.specs.Rings.{flat, HasReceived};
 ghost use Rattle.sms_driver.specs.Seated.{windows};
 
 use crate::bind_end::BindEnd;
 use crate::dealing::merged;
+use crate::joining::{Taken, join_rings, take_rings};
 use crate::leaving::{Left, close_all};
 use crate::threads::WorkerResult;
+use rtrb::Consumer;
 use sms_book::{Book, BookName, GatherFault, Shares, Statement, Till, gather};
+use sms_pdu::Reply;
 use sms_window::WindowSeat;
 use sms_worker::{MessageEnd, WorkerEnd};
 use std::alloc::{AllocError, Global};
@@ -42,32 +47,37 @@ struct Parts<N: BookName> {
     shares: Vec<Shares<N>>,
     ends: Vec<VecDeque<MessageEnd>>,
     seats: Vec<WindowSeat>,
+    consumers: Vec<Consumer<Reply>>,
 }
 
 fn take_apart<N: BookName>(alloc: Global, done: Vec<WorkerEnd<N>>) -> Result<Parts<N>, AllocError>
     ensures shares { IfOk result (λ p. p.shares.items ≡ map (λ d. d.shares) done.items) }
     ensures ends { IfOk result (λ p. map (λ q. q.items) p.ends.items ≡ map (λ d. d.ends.items) done.items) }
     ensures seats { IfOk result (λ p. map (λ s. s.window) p.seats.items ≡ map (λ d. d.seat.window) done.items) }
+    ensures consumers { IfOk result (λ p. p.consumers.items ≡ map (λ d. d.consumer) done.items) }
     ensures long { IfOk result (λ p. length p.ends.items ≡ length done.items) }
 {
     let mut shares = Vec::with_capacity(alloc, done.len())?;
     let mut ends = Vec::with_capacity(alloc, done.len())?;
     let mut seats = Vec::with_capacity(alloc, done.len())?;
+    let mut consumers = Vec::with_capacity(alloc, done.len())?;
     for end in done {
         let WorkerEnd {
             shares: share,
             ends: theirs,
             seat,
-            ..
+            consumer,
         } = end;
         shares.push(share)?;
         ends.push(VecDeque::from(theirs))?;
         seats.push(seat)?;
+        consumers.push(consumer)?;
     }
     Ok(Parts {
         shares,
         ends,
         seats,
+        consumers,
     })
 }
 
@@ -97,6 +107,35 @@ fn settle<N: BookName>(
     }
 }
 
+/// Joins the ends of the rings, and gives what is left of the binds without them.
+fn join_ends<W: Drop>(
+    alloc: Global,
+    left: Left<W>,
+    consumers: Vec<Consumer<Reply>>,
+) -> Result<Left<W>, AllocError>
+    requires rings { AllZip IsPair (flat (map (λ d. d.producers.items) left.readers.items)) consumers.items }
+    ensures received { OnOk result (AllZip HasReceived (flat (map (λ d. d.producers.items) left.readers.items)) consumers.items) }
+    ensures shared_binds { IfOk result (λ l. l.shared_binds ≡ left.shared_binds) }
+    ensures readers { IfOk result (λ l. map (λ d. d.seat.window) l.readers.items ≡ map (λ d. d.seat.window) left.readers.items) }
+    ensures driver_seats { IfOk result (λ l. l.driver_seats ≡ left.driver_seats) }
+    ensures workers { IfOk result (λ l. l.workers ≡ left.workers) }
+{
+    let Left {
+        shared_binds,
+        readers,
+        driver_seats,
+        workers,
+    } = left;
+    let Taken { producers, readers } = take_rings(alloc, readers)?;
+    join_rings(producers, consumers);
+    Ok(Left {
+        shared_binds,
+        readers,
+        driver_seats,
+        workers,
+    })
+}
+
 /// Closes the binds' windows, and tells the ends in the order of the messages, and the statement.
 pub fn conclude<N: BookName, W: Drop>(
     alloc: Global,
@@ -112,8 +151,11 @@ pub fn conclude<N: BookName, W: Drop>(
     requires readers { map (λ d. d.seat.window) left.readers.items ≡ map (λ b. b.window) left.shared_binds.items }
     requires driver_seats { map (λ s. s.seat.window) left.driver_seats.items ≡ map (λ b. b.window) left.shared_binds.items }
     requires tried { AllByRecursion (λ s. IsTried s.unbinding) left.driver_seats.items }
+    requires rings { AllZip IsPair (flat (map (λ d. d.producers.items) left.readers.items)) (map (λ d. d.consumer) done.items) }
     requires seats { map (λ d. d.seat.window) done.items ≡ windows left.workers (map (λ b. b.window) left.shared_binds.items) }
     ensures ends { (es : List MessageEnd) → length es ≡ count → map (λ d. d.ends.items) done.items ≡ dealt (length done.items) 0 es → IfOk result (λ r. r.ends.items ≡ es) }
+    // What each worker received is a beginning of what its reader handed to its ring.
+    ensures received { OnOk result (AllZip HasReceived (flat (map (λ d. d.producers.items) left.readers.items)) (map (λ d. d.consumer) done.items)) }
     ensures accounts { IfOk result (λ r. length r.statement ≡ N.book.accounts) }
     ensures sums { IfOk result (λ r. (i : ℕ) → i < length r.statement → IsSumOf (row_at r.statement i) i till (map (λ d. d.shares) done.items)) }
     ensures binds { IfOk result (λ r. AreBinds (length left.shared_binds.items) left.workers r.binds.items) }
@@ -124,7 +166,9 @@ pub fn conclude<N: BookName, W: Drop>(
         shares,
         ends,
         seats,
+        consumers,
     } = parts;
+    let left = join_ends(alloc, left, consumers)?;
     let binds = close_all(alloc, left, seats)?;
     let statement = settle(book, till, shares)?;
     Ok(Sending {

@@ -1,7 +1,8 @@
 //! The rings by which a bind's reader hands answers to its workers.
 
 ghost use Rattle.std.specs.Prelude.{◌≡◌, ℕ, length, IfOk};
-ghost use Rattle.std.specs.List.{AllByRecursion};
+ghost use Rattle.std.specs.List.{AllByRecursion, AllZip};
+ghost use Rattle.sms_driver.specs.Rings.{IsNewPair};
 
 use rtrb::{Consumer, Producer, RingBuffer};
 use sms_pdu::Reply;
@@ -20,6 +21,8 @@ pub(crate) struct Rings {
 /// The rings of one bind.
 fn rings_of(alloc: Global, workers: usize) -> Result<Rings, AllocError>
     ensures long { IfOk result (λ r. length r.consumers.items ≡ workers) }
+    // Place by place they are the two ends of one ring, into which nothing went yet.
+    ensures pairs { IfOk result (λ r. AllZip IsNewPair r.producers.items r.consumers.items) }
 {
     let mut producers = Vec::with_capacity(alloc, workers)?;
     let mut consumers = Vec::with_capacity(alloc, workers)?;
@@ -42,6 +45,7 @@ pub(crate) fn all_rings(
 ) -> Result<Vec<Rings>, AllocError>
     ensures binds { IfOk result (λ v. length v.items ≡ binds) }
     ensures workers { IfOk result (λ v. AllByRecursion (λ r. length r.consumers.items ≡ workers) v.items) }
+    ensures pairs { IfOk result (λ v. AllByRecursion (λ r. AllZip IsNewPair r.producers.items r.consumers.items) v.items) }
 {
     let mut all = Vec::with_capacity(alloc, binds)?;
     for _bind in 0..binds {

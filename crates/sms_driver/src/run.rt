@@ -5,8 +5,12 @@ ghost use Rattle.std.specs.List.{AllByRecursion, AllZip};
 ghost use Rattle.sms_book.specs.Shares.{opening_shares};
 ghost use Rattle.sms_worker.specs.EndOf.{IsEndOf};
 ghost use Rattle.sms_worker.specs.declared.message.Message.{Message};
+ghost use Rattle.rtrb.specs.Ring.{received, IsPair};
+ghost use Rattle.sms_driver.specs.Answered.{AreHeard, Hears};
 ghost use Rattle.sms_driver.specs.BindEnds.{AreBinds, IsTried};
 ghost use Rattle.sms_driver.specs.Deals.{dealt};
+ghost use Rattle.sms_driver.specs.Reads.{reading_in, reading_of, HasRead};
+ghost use Rattle.sms_driver.specs.Rings.{flat};
 ghost use Rattle.sms_driver.specs.Statements.{AreRows};
 ghost use Rattle.sms_driver.specs.Seated.{IsSeated, windows};
 ghost use Rattle.sms_driver.specs.SendFaults.{IsFaultOfOne, IsOfNoBind};
@@ -68,6 +72,8 @@ fn make_ready<'a, N: BookName, Rd: Drop, W: Drop>(
     ensures messages { IfOk result (λ r. map (λ t. t.assignment.messages.items) r.tasks.items ≡ map (λ l. l.items) batches.items) }
     ensures windows { IfOk result (λ r. map (λ t. t.assignment.worker.seat.window) r.tasks.items ≡ windows workers (map (λ b. b.window) shared_binds.now)) }
     ensures keepers { IfOk result (λ r. map (λ t. t.seat.window) r.reader_tasks.items ≡ map (λ b. b.window) shared_binds.now) }
+    ensures rings { IfOk result (λ r. map (λ t. t.assignment.worker.consumer) r.tasks.items ≡ flat (map (λ p. p.consumers.items) bind_parts.items)) }
+    ensures readings { IfOk result (λ r. map reading_of r.reader_tasks.items ≡ map reading_in bind_parts.items) }
     ensures own { IfOk result (λ r. AllByRecursion (λ t. t.assignment.worker.seat.window ≡ t.window.now) r.tasks.items) }
     ensures reader_tasks { IfOk result (λ r. AllByRecursion (λ t. t.seat.window ≡ t.window.now) r.reader_tasks.items) }
 {
@@ -126,6 +132,9 @@ fn send_over<
     ensures settled { (ms : List Message) → map (λ l. l.items) batches.items ≡ dealt N.book.workers 0 ms
         → IfOk result (λ r. AreSettled rules.now N.book.accounts N.book.workers ms (map (λ d. d.shares) r.done.items) (map (λ d. d.ends.items) r.done.items)) }
     ensures seats { IfOk result (λ r. map (λ d. d.seat.window) r.done.items ≡ windows workers (map (λ b. b.window) shared_binds.now)) }
+    ensures hears { IfOk result (λ r. AllByRecursion (λ d. Hears (received d.consumer) d.ends.items) r.done.items) }
+    ensures read { IfOk result (λ r. AllZip (HasRead Rd.remaining) (map reading_in bind_parts.items) r.readers.items) }
+    ensures rings { IfOk result (λ r. AllZip IsPair (flat (map (λ d. d.producers.items) r.readers.items)) (map (λ d. d.consumer) r.done.items)) }
     ensures readers { IfOk result (λ r. map (λ d. d.seat.window) r.readers.items ≡ map (λ b. b.window) shared_binds.now) }
     ensures driver_seats { IfOk result (λ r. map (λ s. s.seat.window) r.driver_seats.items ≡ map (λ b. b.window) shared_binds.now) }
     ensures tried { IfOk result (λ r. AllByRecursion (λ s. IsTried s.unbinding) r.driver_seats.items) }
@@ -193,6 +202,8 @@ pub fn run<
     requires few { (binds ≤ 4) × (workers < 62) }
     requires accounts { length blank.credits ≡ blank.book.accounts }
     ensures ends { IfOk result (λ r. AllZip (IsEndOf rules.now blank.book.accounts) messages.items r.ends.items) }
+    // Bind by bind, each answered attempt of its workers rests on an answer of its own that was read of it.
+    ensures heard { IfOk result (λ r. AreHeard (D.told dial.now) binds workers (dealt (binds * workers) 0 r.ends.items)) }
     ensures rows { IfOk result (λ r. AreRows blank.credits messages.items r.ends.items r.statement) }
     ensures binds { IfOk result (λ r. AreBinds binds workers r.binds.items) }
     ensures refused { IfErr result (IsFaultOfOne binds) }

@@ -2,11 +2,14 @@
 
 ghost use Rattle.std.specs.Prelude.{◌≡◌, ℕ, ◌+◌, ◌*◌, ◌++◌, List, length, map, IfOk, OnOk};
 ghost use Rattle.std.specs.List.{AllByRecursion, AllZip};
+ghost use Rattle.sms_driver.specs.Reads.{reading_in, reading_of};
+ghost use Rattle.sms_driver.specs.Rings.{flat};
 ghost use Rattle.sms_driver.specs.Seated.{IsSeated, windows};
 
 use crate::bind_end::Unbinding;
+use crate::following::Following;
 use crate::task::WorkerPlace;
-use crate::threads::{Following, ReaderTask};
+use crate::threads::ReaderTask;
 use rtrb::{Consumer, Producer};
 use sms_bind::{Bound, Line, Tap};
 use sms_pdu::Reply;
@@ -60,6 +63,7 @@ fn seat_workers<'a, W>(
     ensures own { OnOk result (AllByRecursion (λ p. p.seat.window ≡ p.window.now) places.new.items) }
     ensures long { OnOk result (length places.new.items ≡ length places.old.items + length seats.items) }
     ensures windows { OnOk result (map (λ p. p.seat.window) places.new.items ≡ map (λ p. p.seat.window) places.old.items ++ map (λ s. s.window) seats.items) }
+    ensures rings { OnOk result (map (λ p. p.consumer) places.new.items ≡ map (λ p. p.consumer) places.old.items ++ consumers.items) }
 {
     let mut consumers = VecDeque::from(consumers);
     let mut place = 0usize;
@@ -95,6 +99,9 @@ where
     ensures long { IfOk result (λ s. length s.places.items ≡ length shared_binds.now * workers) }
     ensures windows { IfOk result (λ s. map (λ p. p.seat.window) s.places.items ≡ windows workers (map (λ b. b.window) shared_binds.now)) }
     ensures keepers { IfOk result (λ s. map (λ t. t.seat.window) s.reader_tasks.items ≡ map (λ b. b.window) shared_binds.now) }
+    // Each place has its ring, and each reader task what its bind's parts have, as they were given.
+    ensures rings { IfOk result (λ s. map (λ p. p.consumer) s.places.items ≡ flat (map (λ p. p.consumers.items) bind_parts.items)) }
+    ensures readings { IfOk result (λ s. map reading_of s.reader_tasks.items ≡ map reading_in bind_parts.items) }
 {
     let mut places = Vec::new(alloc);
     let mut reader_tasks = Vec::with_capacity(alloc, shared_binds.len())?;

@@ -85,6 +85,7 @@ pub fn tasks<'a, N: BookName, W>(
     ensures shares { IfOk result (λ v. map (λ t. t.assignment.worker.shares) v.items ≡ shares.items) }
     ensures messages { IfOk result (λ v. map (λ t. t.assignment.messages.items) v.items ≡ map (λ l. l.items) batches.items) }
     ensures windows { IfOk result (λ v. map (λ t. t.assignment.worker.seat.window) v.items ≡ map (λ p. p.seat.window) places.entry.items) }
+    ensures rings { IfOk result (λ v. map (λ t. t.assignment.worker.consumer) v.items ≡ map (λ p. p.consumer) places.entry.items) }
     ensures own { IfOk result (λ v. AllByRecursion (λ t. t.assignment.worker.seat.window ≡ t.window.now) v.items) }
 {
     let mut tasks = Vec::with_capacity(alloc, shares.len())?;

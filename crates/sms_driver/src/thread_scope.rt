@@ -46,7 +46,7 @@ fn drive<
     driver_seats: Vec<DriverSeat>,
 ) -> Result<Returned<N>, SendFault>
     requires seated { AreSeated tasks.items reader_tasks.items driver_seats.items shared_binds.now }
-    ensures returned { IfOk result (HaveReturned context.now.rules.now tasks.entry.items reader_tasks.entry.items shared_binds.now) }
+    ensures returned { IfOk result (HaveReturned context.now.rules.now Rd.remaining tasks.entry.items reader_tasks.entry.items shared_binds.now) }
     ensures refused { IfErr result IsOfNoBind }
 {
     let (rt, alloc, rules) = (context.rt, context.alloc, context.rules);
@@ -94,7 +94,7 @@ pub fn work_all<
     driver_seats: Vec<DriverSeat>,
 ) -> Result<Returned<N>, SendFault>
     requires seated { AreSeated tasks.items reader_tasks.items driver_seats.items shared_binds.now }
-    ensures returned { IfOk result (HaveReturned context.now.rules.now tasks.entry.items reader_tasks.entry.items shared_binds.now) }
+    ensures returned { IfOk result (HaveReturned context.now.rules.now Rd.remaining tasks.entry.items reader_tasks.entry.items shared_binds.now) }
     ensures refused { IfErr result IsOfNoBind }
 {
     thread::scope(
@@ -102,7 +102,7 @@ pub fn work_all<
         context.rt,
         move |scope| -> Result<Returned<N>, SendFault>
             requires seated { AreSeated tasks.items reader_tasks.items driver_seats.items shared_binds.now }
-            ensures returned { IfOk result (HaveReturned context.entry.now.rules.now tasks.entry.items reader_tasks.entry.items shared_binds.entry.now) }
+            ensures returned { IfOk result (HaveReturned context.entry.now.rules.now Rd.remaining tasks.entry.items reader_tasks.entry.items shared_binds.entry.now) }
             ensures refused { IfErr result IsOfNoBind }
         {
             drive(

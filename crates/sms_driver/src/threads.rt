@@ -1,17 +1,16 @@
 //! Workers and readers in threads of their own.
 
-ghost use Rattle.std.specs.Prelude.{◌≡◌, ℕ, List, length, map, IfOk, IfErr, OnOk, ◌≤◌, [], vec_capacity, IfSome};
-ghost use Rattle.sms_core.specs.Limits.{most_slots};
+ghost use Rattle.std.specs.Prelude.{◌≡◌, ℕ, List, length, map, IfOk, IfErr, OnOk, ◌≤◌, [], vec_capacity};
 ghost use Rattle.std.specs.PromisedHandle.{KeepsEach};
-ghost use Rattle.std.proofs.Props.{props};
-ghost use Rattle.rtrb.specs.Ring.{SameProducer};
 ghost use Rattle.sms_bind.specs.Follows.{HoldsBack, most_held};
-ghost use Rattle.std.specs.List.{AllByRecursion, AllZip};
+ghost use Rattle.std.specs.List.{AllByRecursion};
+ghost use Rattle.sms_driver.specs.Reads.{reading_of, reading_promised, HasRead};
 ghost use Rattle.sms_driver.specs.SendFaults.{IsOfNoBind};
 ghost use Rattle.sms_driver.specs.Worked.{IsWorkOf};
 ghost use Rattle.sms_driver.specs.declared.fault.SendFault.TheVariants.{ThreadRefused};
 
 use crate::fault::SendFault;
+use crate::following::Following;
 use crate::task::{Assignment, WorkerTask};
 use rtrb::Producer;
 use sms_bind::{Bound, Line, ReaderEnd, Tap, read_loop};
@@ -168,13 +167,6 @@ pub(crate) fn start_all<
     start_each(scope, context, tasks, handles)
 }
 
-/// The limit of the bind's window, where its reader follows throttling.
-#[derive(Clone, Copy)]
-pub struct Following {
-    pub limit: Option<u32>,
-    pub ghost range: { IfSome limit (λ limit. (1 ≤ limit) × (limit ≤ most_slots)) } by { Prim.hlevel props },
-}
-
 /// What a reader's thread is given.
 #[derive(Drop)]
 pub struct ReaderTask<'a, Rd, W> {
@@ -187,19 +179,21 @@ pub struct ReaderTask<'a, Rd, W> {
     pub window: &'a Window,
 }
 
-/// That what a reader gives back is the seat's window and the rings that it was given.
+/// That what a reader gives back is the seat's window, and that it handed on what it read to the
+/// rings that it was given.
 #[derive(Drop)]
-pub struct ReaderPromise {
+pub struct ReaderPromise<Rd> {
     pub seat: Snapshot<WindowSeat>,
+    pub reader: Snapshot<Tap<Rd>>,
+    pub bound: Snapshot<Bound>,
     pub producers: Snapshot<Vec<Producer<Reply>>>,
 }
 
-impl Promise<ReaderEnd> for ReaderPromise {
+impl<Rd: Read> Promise<ReaderEnd> for ReaderPromise<Rd> {
     ghost use Rattle.std.specs.Prelude.{◌≡◌};
-    ghost use Rattle.std.specs.List.{AllZip};
-    ghost use Rattle.rtrb.specs.Ring.{SameProducer};
+    ghost use Rattle.sms_driver.specs.Reads.{reading_promised, HasRead};
 
-    ghost kept_by = { λ p r. (r.seat.window ≡ p.seat.value.window) × AllZip SameProducer p.producers.value.items r.producers.items };
+    ghost kept_by = { λ p r. (r.seat.window ≡ p.seat.value.window) × HasRead Rd.remaining (reading_promised p) r };
 }
 
 fn listen<Rd: Read, W: Write, R: Wait>(
@@ -213,7 +207,7 @@ where
     requires own { reader_task.seat.window ≡ reader_task.window.now }
     ensures window { result.seat.window ≡ reader_task.entry.seat.window }
     ensures held { HoldsBack (most_held reader_task.entry.follow.limit) reader_task.entry.seat.view result.seat.view }
-    ensures rings { AllZip SameProducer reader_task.entry.producers.items result.producers.items }
+    ensures read { HasRead Rd.remaining (reading_of reader_task.entry) result }
 {
     let ReaderTask {
         mut reader,
@@ -244,14 +238,16 @@ fn start_reader<'s, E, Rd: Read + Send + Drop + 's, W: Write + Send + 's, R: Thr
     alloc: Global,
     reader_task: ReaderTask<'s, Rd, W>,
     rules: &'s Rules,
-) -> Result<PromisedHandle<ReaderEnd, ReaderPromise>, SendFault>
+) -> Result<PromisedHandle<ReaderEnd, ReaderPromise<Rd>>, SendFault>
     requires own { reader_task.seat.window ≡ reader_task.window.now }
     ensures seat { IfOk result (λ h. h.promise.seat.value ≡ reader_task.entry.seat) }
-    ensures rings { IfOk result (λ h. h.promise.producers.value ≡ reader_task.entry.producers) }
+    ensures reading { IfOk result (λ h. reading_promised h.promise ≡ reading_of reader_task.entry) }
     ensures refused { IfErr result (λ fault. fault ≡ ThreadRefused) }
 {
     let promise = ReaderPromise {
         seat: Snapshot::of(&reader_task.seat),
+        reader: Snapshot::of(&reader_task.reader),
+        bound: Snapshot::of(&reader_task.bound),
         producers: Snapshot::of(&reader_task.producers),
     };
     match scope.spawn_with(promise, move || listen(rt, alloc, reader_task, rules)) {
@@ -273,12 +269,12 @@ fn start_each_reader<
     alloc: Global,
     reader_tasks: Vec<ReaderTask<'s, Rd, W>>,
     rules: &'s Rules,
-    handles: &mut Vec<PromisedHandle<ReaderEnd, ReaderPromise>>,
+    handles: &mut Vec<PromisedHandle<ReaderEnd, ReaderPromise<Rd>>>,
 ) -> Result<(), SendFault>
     requires own { AllByRecursion (λ t. t.seat.window ≡ t.window.now) reader_tasks.items }
     requires room { (handles.old.items ≡ []) × (length reader_tasks.items ≤ vec_capacity handles.old) }
     ensures seats { OnOk result (map (λ h. h.promise.seat.value) handles.new.items ≡ map (λ t. t.seat) reader_tasks.entry.items) }
-    ensures rings { OnOk result (map (λ h. h.promise.producers.value) handles.new.items ≡ map (λ t. t.producers) reader_tasks.entry.items) }
+    ensures readings { OnOk result (map (λ h. reading_promised h.promise) handles.new.items ≡ map reading_of reader_tasks.entry.items) }
     ensures refused { IfErr result (λ fault. fault ≡ ThreadRefused) }
 {
     for reader_task in reader_tasks {
@@ -301,12 +297,12 @@ pub(crate) fn start_readers<
     alloc: Global,
     reader_tasks: Vec<ReaderTask<'s, Rd, W>>,
     rules: &'s Rules,
-    handles: &mut Vec<PromisedHandle<ReaderEnd, ReaderPromise>>,
+    handles: &mut Vec<PromisedHandle<ReaderEnd, ReaderPromise<Rd>>>,
 ) -> Result<(), SendFault>
     requires own { AllByRecursion (λ t. t.seat.window ≡ t.window.now) reader_tasks.items }
     requires empty { handles.old.items ≡ [] }
     ensures seats { OnOk result (map (λ h. h.promise.seat.value) handles.new.items ≡ map (λ t. t.seat) reader_tasks.entry.items) }
-    ensures rings { OnOk result (map (λ h. h.promise.producers.value) handles.new.items ≡ map (λ t. t.producers) reader_tasks.entry.items) }
+    ensures readings { OnOk result (map (λ h. reading_promised h.promise) handles.new.items ≡ map reading_of reader_tasks.entry.items) }
     ensures refused { IfErr result IsOfNoBind }
 {
     handles.reserve(reader_tasks.len())?;

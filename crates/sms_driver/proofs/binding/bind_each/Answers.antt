@@ -1,6 +1,10 @@
 use Rattle.std.proofs.Common.{rules, arith, ℕ, subst, ◌∙◌, sym, ap, map, length}
 use Rattle.sms_driver.specs.SendFaults.{IsFaultOf}
 use Rattle.sms_driver.specs.Seated.{IsSeated}
+use Rattle.sms_bind.specs.Devices.{device}
+use Rattle.sms_driver.specs.Reads.{IsOpened}
+use Rattle.sms_driver.proofs.Openings.{one_opened}
+use Rattle.sms_driver.proofs.Grouping.{zip_length}
 use Rattle.sms_driver.proofs.Windows.{zip_more, both_more}
 use Rattle.sms_driver.proofs.binding.bind_each.Goals as goal
 
@@ -21,8 +25,13 @@ pub loop-theirs-preserved : goal.loop-theirs-preserved
 loop-theirs-preserved g c =
     let i = c.loop-theirs.invariant in
     let m = c.in-Ok.made in
+    let remaining = g.D.Reader.Read.remaining in
+    let mode = c.args.bind_settings.now.settings.mode in
+    let told = g.D.Dial.told c.args.dial.now in
+    let place = i.place ∙ sym (zip_length (IsSeated c.args.workers) c.loop-theirs.shared_binds.items c.loop-theirs.bind_parts.items i.seated) in
     record {
       rings = search rules;
+      pairs = search rules;
       long = search rules;
       place = search rules;
       shared_binds = search rules;
@@ -32,5 +41,6 @@ loop-theirs-preserved g c =
           ap (λ l. map (λ s. s.seat.window) l) c.push_reserved-in-Ok-2.ensures.items
           ∙ both_more (λ s. s.seat.window) (λ b. b.window) c.loop-theirs.driver_seats.items c.loop-theirs.shared_binds.items m.driver_seat m.shared i.windows c.in-Ok.ensures.driver_seat
           ∙ sym (ap (λ l. map (λ b. b.window) l) c.push_reserved.ensures.items);
+      opened = rw c.push_reserved-in-Ok.ensures.items (one_opened remaining mode told c.loop-theirs.bind_parts.items m.parts i.opened (subst (λ (n : ℕ). IsOpened mode (told n) (remaining (device m.parts.reader)) m.parts.bound) place c.in-Ok.ensures.opened));
       seated = rw c.push_reserved.ensures.items (rw c.push_reserved-in-Ok.ensures.items (zip_more (IsSeated c.args.workers) c.loop-theirs.shared_binds.items c.loop-theirs.bind_parts.items m.shared m.parts i.seated c.in-Ok.ensures.seated));
     }

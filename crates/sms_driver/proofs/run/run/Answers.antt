@@ -7,10 +7,14 @@ use Rattle.sms_worker.specs.declared.rules.Rules.{Rules}
 use Rattle.sms_worker.specs.declared.ends.MessageEnd.{MessageEnd}
 use Rattle.sms_worker.specs.declared.work.WorkerEnd.{WorkerEnd}
 use Rattle.sms_driver.specs.Deals.{dealt}
+use Rattle.sms_driver.specs.Seated.{IsSeated}
 use Rattle.sms_driver.specs.Statements.{AreRows}
 use Rattle.sms_worker.specs.EndOf.{IsEndOf}
 use Rattle.sms_driver.proofs.Sums.{length-opening}
+use Rattle.rtrb.specs.Ring.{received}
+use Rattle.sms_driver.specs.Answered.{Hears, IsHeard, ends_at}
 use Rattle.sms_driver.proofs.Conclusions.{rows_of}
+use Rattle.sms_driver.proofs.Grouping.{are_heard, zip_length, zip_of_all}
 use Rattle.sms_driver.proofs.Telling.{told_so}
 use Rattle.sms_driver.proofs.run.run.Goals as goal
 
@@ -68,3 +72,25 @@ returns-in_err-rings-clause-refused g c = told_so c.from_residual-in_err-rings.r
 
 pub returns-in_err-ended-clause-refused : goal.returns-in_err-ended-clause-refused
 returns-in_err-ended-clause-refused g c = told_so c.from_residual-in_err-ended.result _ _ c.from_residual-in_err-ended.ensures.1 (inl (inl refl))
+
+pub returns-clause-heard : goal.returns-clause-heard
+returns-clause-heard g c =
+    let ms = c.args.messages.items in
+    let w = c.args.workers in
+    let remaining = g.D.Reader.Read.remaining in
+    let ds = c.in_ok-over.over.done.items in
+    let shared_binds = c.in_ok-made.made.shared_binds.items in
+    let parts = c.in_ok-made.made.bind_parts.items in
+    let s = c.in_ok-over.ensures.settled ms c.in_ok-batches.ensures.dealt in
+    let count : c.len-count.result ≡ length ms = omega (arith, c.len-count.ensures) in
+    let all : map (λ (d : WorkerEnd g.row.N.Denot). d.ends.items) ds ≡ dealt (length ds) 0 s.es = s.dealt_is ∙ ap (λ n. dealt n 0 s.es) (sym c.in_ok-over.ensures.all) in
+    let ends = c.in_ok-ended.ensures.ends s.es (s.long ∙ sym count) all in
+    let workers : length ds ≡ c.args.binds * w = c.in_ok-over.ensures.all ∙ ap (λ (b : BookId). b.workers) (sym c.requires.name) ∙ c.requires.count.1 in
+    let ess : map (λ (d : WorkerEnd g.row.N.Denot). d.ends.items) ds ≡ dealt (c.args.binds * w) 0 c.in_ok-ended.ended.ends.items = all ∙ (λ i. dealt (workers i) 0 (sym ends i)) in
+    let told = g.D.Dial.told c.args.dial.now in
+    let long : length parts ≡ c.args.binds = zip_length (IsSeated w) shared_binds parts c.in_ok-made.ensures.seated ∙ c.in_ok-made.ensures.long ∙ c.in_ok-rings.ensures.binds in
+    let heard = are_heard remaining c.args.bind_settings.now.settings.mode told w shared_binds parts c.in_ok-over.over.readers.items (map (λ (d : WorkerEnd g.row.N.Denot). d.consumer) ds) (map (λ (d : WorkerEnd g.row.N.Denot). d.ends.items) ds)
+    c.in_ok-made.ensures.opened c.in_ok-made.ensures.seated c.in_ok-over.ensures.read c.in_ok-ended.ensures.received
+    (zip_of_all (λ (d : WorkerEnd g.row.N.Denot). d.consumer) (λ (d : WorkerEnd g.row.N.Denot). d.ends.items) (λ c es. Hears (received c) es) ds c.in_ok-over.ensures.hears)
+    in
+    λ bind low. subst (λ l. IsHeard (told bind) (ends_at w bind l)) ess (heard bind (omega (arith, low, long)))

@@ -6,11 +6,16 @@ use Rattle.sms_worker.specs.declared.rules.Rules.{Rules}
 use Rattle.sms_worker.specs.declared.work.WorkerEnd.{WorkerEnd}
 use Rattle.sms_driver.specs.declared.task.Assignment.{Assignment}
 use Rattle.sms_driver.specs.declared.task.WorkerTask.{WorkerTask}
+use Rattle.rtrb.specs.Ring.{SameConsumer, SameProducer}
+use Rattle.sms_driver.specs.Reads.{reading_in, HasRead}
+use Rattle.sms_driver.specs.Rings.{flat}
 use Rattle.sms_driver.specs.Worked.{IsResultOf, IsWorkOf}
+use Rattle.sms_driver.proofs.Answering.{all_hears}
+use Rattle.sms_driver.proofs.Grouping.{flat_zip, pairs_kept, seated_pairs}
 use Rattle.std.proofs.lemmas.List.{length-map}
 use Rattle.sms_driver.proofs.Joins.{all_ok}
 use Rattle.sms_driver.proofs.Returning.{kept_windows}
-use Rattle.sms_driver.proofs.Conclusions.{all_settled, all_back, map_map, zip_to}
+use Rattle.sms_driver.proofs.Conclusions.{all_settled, all_back, map_map, zip_to, zip_map}
 use Rattle.sms_driver.proofs.run.send_over.Goals as goal
 
 pub make_ready-requires-clause-shares : goal.make_ready-requires-clause-shares
@@ -86,3 +91,34 @@ returns-clause-seats g c =
     (subst (AllZip (IsResultOf rules) (map assignment c.in-Ok.ready.tasks.items)) (sym is) c.in_ok-returned.ensures.returned.results)))
     ∙ map_map assignment given c.in-Ok.ready.tasks.items
     ∙ c.in-Ok.ensures.windows
+
+pub returns-clause-hears : goal.returns-clause-hears
+returns-clause-hears g c =
+    let rules : Rules = c.args.rules.now in
+    let assignments = map (λ (t : WorkerTask g.row.N.Denot g.row.W.Denot). t.assignment) c.in-Ok.ready.tasks.items in
+    let ds = c.in_ok-done.done.items in
+    all_hears rules assignments ds (all_ok (IsWorkOf rules) (λ j e. e.1.seat.window ≡ j.worker.seat.window) assignments ds (subst (AllZip (IsResultOf rules) assignments) (sym c.in_ok-done.ensures) c.in_ok-returned.ensures.returned.results))
+
+pub returns-clause-read : goal.returns-clause-read
+returns-clause-read g c = subst (λ l. AllZip (HasRead g.Rd.Read.remaining) l c.in_ok-returned.returned.readers.items) c.in-Ok.ensures.readings c.in_ok-returned.ensures.returned.read
+
+pub returns-clause-rings : goal.returns-clause-rings
+returns-clause-rings g c =
+    let rules : Rules = c.args.rules.now in
+    let assignment = λ (t : WorkerTask g.row.N.Denot g.row.W.Denot). t.assignment in
+    let assignments = map assignment c.in-Ok.ready.tasks.items in
+    let parts = c.args.bind_parts.items in
+    let ds = c.in_ok-done.done.items in
+    let rs = c.in_ok-returned.returned.readers.items in
+    let remaining = g.Rd.Read.remaining in
+    let back = all_ok (IsWorkOf rules) (λ j e. e.1.seat.window ≡ j.worker.seat.window) assignments ds (subst (AllZip (IsResultOf rules) assignments) (sym c.in_ok-done.ensures) c.in_ok-returned.ensures.returned.results) in
+    let consumers =
+    subst (λ l. AllZip SameConsumer l (map (λ d. d.consumer) ds)) (map_map assignment (λ j. j.worker.consumer) c.in-Ok.ready.tasks.items ∙ c.in-Ok.ensures.rings)
+    (zip_map (λ j. j.worker.consumer) (λ d. d.consumer) (IsWorkOf rules) SameConsumer (λ j d w. w.ring) assignments ds back)
+    in
+    let read = subst (λ l. AllZip (HasRead remaining) l rs) c.in-Ok.ensures.readings c.in_ok-returned.ensures.returned.read in
+    let producers =
+    subst (λ l. AllZip SameProducer (flat l) (flat (map (λ d. d.producers.items) rs))) (map_map reading_in (λ r. r.rings) parts)
+    (flat_zip (λ r. r.rings) (λ d. d.producers.items) SameProducer (map reading_in parts) rs (zip_to (HasRead remaining) (λ r d. AllZip SameProducer r.rings d.producers.items) (λ r d h. h.same) (map reading_in parts) rs read))
+    in
+    pairs_kept _ _ _ _ (seated_pairs c.args.workers c.args.shared_binds.now parts c.requires.bind_parts) producers consumers

@@ -1,8 +1,11 @@
-use Rattle.std.proofs.Common.{◌≡◌, ◌+◌, ◌*◌, [], ◌∷◌, ◌++◌, length, map, rules, arith, sym, ap, ◌∙◌, subst}
+use Rattle.std.proofs.Common.{◌≡◌, refl, ◌+◌, ◌*◌, [], ◌∷◌, ◌++◌, length, map, rules, arith, sym, ap, ◌∙◌, subst}
 use Rattle.std.specs.List.{AllByRecursion, AllZip}
 use Rattle.sms_pdu.proofs.Fronts.{AllByRecursion-append}
+use Rattle.sms_driver.specs.Reads.{reading_in, reading_of}
+use Rattle.sms_driver.specs.Rings.{flat}
 use Rattle.sms_driver.specs.Seated.{IsSeated}
-use Rattle.sms_driver.proofs.Heads.{first_seated, none_seated}
+use Rattle.sms_driver.proofs.Heads.{first_seated, none_seated, none_left}
+use Rattle.sms_driver.proofs.Moves.{moved, none_moved, all_moved, lists_moved}
 use Rattle.sms_driver.proofs.Windows.{map_more}
 use Rattle.sms_driver.proofs.Returning.{bound_seats, workers_more, keeper_more, workers_all, keepers_all}
 use Rattle.sms_driver.proofs.seating.seat_all.Goals as goal
@@ -14,6 +17,8 @@ loop-bind-init g c = record {
   reader_tasks = search rules;
   windows = search rules;
   keepers = search rules;
+  rings = none_moved (λ p. p.consumer) _ _ _ (search rules) (ap (λ l. flat (map (λ p. p.consumers.items) l)) c.from-bind_parts.ensures.0);
+  readings = none_moved reading_of _ _ _ (search rules) (ap (map reading_in) c.from-bind_parts.ensures.0);
   long = search rules;
 }
 
@@ -42,6 +47,8 @@ loop-bind-preserved g c =
       keepers = keeper_more (λ b. b.window) c.args.workers c.loop-bind.bind c.args.shared_binds.now c.index-shared_binds-bind.result _ _ _ (search rules) c.index-shared_binds-bind.is
           (ap (map (λ t. t.seat.window)) c.in_ok-push.ensures.items ∙ map_more (λ t. t.seat.window) c.loop-bind.reader_tasks.items _ ∙ ap (λ w. map (λ t. t.seat.window) c.loop-bind.reader_tasks.items ++ w ∷ []) f.0.keeper)
           i.keepers;
+      rings = lists_moved (λ p. p.consumers.items) (map (λ p. p.consumer) c.loop-bind.places.items) _ c.loop-bind.bind_parts.items _ c.in-Some.parts _ c.in_ok-seat_workers.ensures.rings c.in-Some.ensures.items i.rings;
+      readings = moved reading_of reading_in c.loop-bind.reader_tasks.items _ c.loop-bind.bind_parts.items _ _ _ _ c.in_ok-push.ensures.items c.in-Some.ensures.items refl i.readings;
       long = let n = c.in_ok-seat_workers.ensures.long in let a = f.0.all in let l = i.long in n ∙ (λ j. l j + a j) ∙ (omega arith);
     }
 
@@ -55,3 +62,13 @@ returns-clause-windows g c = workers_all (λ b. b.window) c.args.workers c.loop-
 
 pub returns-clause-keepers : goal.returns-clause-keepers
 returns-clause-keepers g c = keepers_all (λ b. b.window) c.args.workers c.loop-bind.bind c.args.shared_binds.now _ _ (search rules) c.loop-bind.invariant.keepers
+
+pub returns-clause-rings : goal.returns-clause-rings
+returns-clause-rings g c =
+    let none = none_left c.args.workers c.loop-bind.bind c.args.shared_binds.now c.loop-bind.bind_parts.items (search rules) c.loop-bind.invariant.bind_parts in
+    all_moved _ (flat (map (λ p. p.consumers.items) c.loop-bind.bind_parts.items)) _ (ap (λ l. length (flat (map (λ p. p.consumers.items) l))) none) c.loop-bind.invariant.rings
+
+pub returns-clause-readings : goal.returns-clause-readings
+returns-clause-readings g c =
+    let none = none_left c.args.workers c.loop-bind.bind c.args.shared_binds.now c.loop-bind.bind_parts.items (search rules) c.loop-bind.invariant.bind_parts in
+    all_moved _ (map reading_in c.loop-bind.bind_parts.items) _ (ap (λ l. length (map reading_in l)) none) c.loop-bind.invariant.readings

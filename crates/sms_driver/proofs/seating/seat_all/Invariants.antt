@@ -1,5 +1,7 @@
 use Rattle.std.proofs.Common.{◌≡◌, ◌*◌, ◌++◌, length, map, drop}
 use Rattle.std.specs.List.{AllByRecursion, AllZip}
+use Rattle.sms_driver.specs.Reads.{reading_in, reading_of}
+use Rattle.sms_driver.specs.Rings.{flat}
 use Rattle.sms_driver.specs.Seated.{IsSeated, windows}
 use Rattle.sms_driver.proofs.seating.seat_all.Given as goal
 
@@ -10,5 +12,7 @@ invariant-loop-bind g l = record {
   reader_tasks : AllByRecursion (λ t. t.seat.window ≡ t.window.now) l.reader_tasks.items;
   windows : map (λ p. p.seat.window) l.places.items ++ windows l.workers (map (λ b. b.window) (drop l.bind l.shared_binds)) ≡ windows l.workers (map (λ b. b.window) l.shared_binds);
   keepers : map (λ t. t.seat.window) l.reader_tasks.items ++ map (λ b. b.window) (drop l.bind l.shared_binds) ≡ map (λ b. b.window) l.shared_binds;
+  rings : map (λ p. p.consumer) l.places.items ++ flat (map (λ p. p.consumers.items) l.bind_parts.items) ≡ flat (map (λ p. p.consumers.items) l.fn.bind_parts.items);
+  readings : map reading_of l.reader_tasks.items ++ map reading_in l.bind_parts.items ≡ map reading_in l.fn.bind_parts.items;
   long : length l.places.items ≡ l.bind * l.workers;
 }

@@ -9,5 +9,6 @@ invariant-loop-seat g l = record {
   consumers : length l.consumers.items ≡ length (into_iter_items l.seat-iterator);
   own : AllByRecursion (λ p. p.seat.window ≡ p.window.now) l.places.items;
   windows : map (λ p. p.seat.window) l.places.items ++ map (λ s. s.window) (into_iter_items l.seat-iterator) ≡ map (λ p. p.seat.window) l.initial.places.items ++ map (λ s. s.window) l.fn.seats.items;
+  rings : map (λ p. p.consumer) l.places.items ++ l.consumers.items ≡ map (λ p. p.consumer) l.initial.places.items ++ l.fn.consumers.items;
   long : length l.places.items + length (into_iter_items l.seat-iterator) ≡ length l.initial.places.items + length l.fn.seats.items;
 }

@@ -17,6 +17,7 @@ loop-share-preserved g c =
       shares = moved_in (λ t. t.assignment.worker.shares) c.loop-share.tasks.items _ (into_iter_items c.loop-share.share-iterator) _ _ _ _ adds c.in-Some.ensures.steps.0 made.shares i.shares;
       messages = moved (λ t. t.assignment.messages.items) (λ l. l.items) c.loop-share.tasks.items _ c.loop-share.batches.items _ _ _ _ adds c.in-Some-Some.ensures'.items (ap (λ m. m.items) made.messages) i.messages;
       windows = moved (λ t. t.assignment.worker.seat.window) (λ p. p.seat.window) c.loop-share.tasks.items _ c.loop-share.places.items _ _ _ _ adds place (ap (λ s. s.window) made.seat) i.windows;
+      rings = moved (λ t. t.assignment.worker.consumer) (λ p. p.consumer) c.loop-share.tasks.items _ c.loop-share.places.items _ _ _ _ adds place made.ring i.rings;
       rest = first.1;
       own = more_hold (λ t. t.assignment.worker.seat.window ≡ t.window.now) c.loop-share.tasks.items _ _ adds i.own (ap (λ s. s.window) made.seat ∙ first.0 ∙ sym made.window);
     }

@@ -10,6 +10,7 @@ invariant-loop-share g l = record {
   shares : map (λ t. t.assignment.worker.shares) l.tasks.items ++ into_iter_items l.share-iterator ≡ l.fn.shares.items;
   messages : map (λ t. t.assignment.messages.items) l.tasks.items ++ map (λ l. l.items) l.batches.items ≡ map (λ l. l.items) l.fn.batches.items;
   windows : map (λ t. t.assignment.worker.seat.window) l.tasks.items ++ map (λ p. p.seat.window) l.places.items ≡ map (λ p. p.seat.window) l.fn.places.items;
+  rings : map (λ t. t.assignment.worker.consumer) l.tasks.items ++ map (λ p. p.consumer) l.places.items ≡ map (λ p. p.consumer) l.fn.places.items;
   rest : AllByRecursion (λ p. p.seat.window ≡ p.window.now) l.places.items;
   own : AllByRecursion (λ t. t.assignment.worker.seat.window ≡ t.window.now) l.tasks.items;
 }

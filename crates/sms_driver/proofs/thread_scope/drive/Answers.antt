@@ -1,6 +1,7 @@
 use Rattle.std.proofs.Common.{◌≡◌, map, refl, ap, ◌∙◌, subst}
 use Rattle.std.specs.List.{AllZip}
 use Rattle.sms_worker.specs.declared.rules.Rules.{Rules}
+use Rattle.sms_driver.specs.Reads.{reading_of, reading_promised, HasRead}
 use Rattle.sms_driver.specs.Worked.{IsResultOf}
 use Rattle.sms_driver.proofs.Joins.{kept_zip}
 use Rattle.sms_driver.proofs.Conclusions.{map_map}
@@ -13,6 +14,8 @@ returns-clause-returned g c =
     let workers = c.in_ok-worker_results.ensures in
     let readers = c.in_ok-readers.ensures in
     let seats : map (λ h. h.promise.seat.value) c.start_readers-listening.new.handles.items ≡ map (λ t. t.seat) c.args.reader_tasks.items = rw c.in_ok-listening.was at c.start_readers-listening.ensures.seats in
+    let remaining = g.Rd.Read.remaining in
+    let readings : map (λ h. reading_promised h.promise) c.start_readers-listening.new.handles.items ≡ map reading_of c.args.reader_tasks.items = rw c.in_ok-listening.was at c.start_readers-listening.ensures.readings in
     record {
       results =
           subst
@@ -46,6 +49,22 @@ returns-clause-returned g c =
           readers.each)
           ∙ ap (map (λ s. s.window)) seats
           ∙ map_map (λ t. t.seat) (λ s. s.window) _;
+      read =
+          subst
+          (λ l. AllZip (HasRead remaining) l c.in_ok-readers.field-0.items)
+          readings
+          (kept_zip _
+          (λ p. reading_promised p)
+          (λ p. Unit {0})
+          (HasRead remaining)
+          (λ p r f k. k.1)
+          _
+          c.start_readers-listening.new.handles.items
+          c.in_ok-readers.field-0.items
+          refl
+          readers.len
+          (any_all c.start_readers-listening.new.handles.items)
+          readers.each);
       driver = c.hang_up_all.ensures.driver_seats ∙ c.requires.seated.driver;
       tried = c.hang_up_all.ensures.tried;
     }

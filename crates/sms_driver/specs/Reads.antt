@@ -1,0 +1,54 @@
+-- What the binds' readers are given, and what they do with it.
+use Rattle.std.specs.Prelude.{◌++◌, ◌+◌, ℕ, List, [], ◌∷◌, map, Option}
+use Rattle.std.specs.Io.KnownBytes.{Consumes}
+use Rattle.std.specs.List.{concat, AllZip}
+use Rattle.std.specs.declared.alloc.Global.{Global}
+use Rattle.rtrb.specs.declared.AnyItems.{AnyItems}
+use Rattle.rtrb.specs.declared.producer.Producer.{Producer}
+use Rattle.rtrb.specs.Ring.{SameProducer, sent}
+use Rattle.sms_pdu.specs.declared.command.Mode.{Mode}
+use Rattle.sms_pdu.specs.declared.reply.Reply.{Reply}
+use Rattle.sms_bind.specs.declared.bound.Bound.{Bound}
+use Rattle.sms_bind.specs.declared.ending.ReaderEnd.{ReaderEnd}
+use Rattle.sms_bind.specs.declared.tap.Tap.{Tap}
+use Rattle.sms_bind.specs.Answers.{Bounds}
+use Rattle.sms_bind.specs.Devices.{device}
+use Rattle.sms_bind.specs.Ends.{HandsOn}
+use Rattle.sms_bind.specs.Held.{Held}
+use Rattle.sms_driver.specs.declared.seating.BindParts.{BindParts}
+use Rattle.sms_driver.specs.declared.threads.ReaderTask.{ReaderTask}
+use Rattle.sms_driver.specs.declared.threads.ReaderPromise.{ReaderPromise}
+
+-- a bind's reader with what was read of it before, and the rings of the bind's workers
+pub record Reading (Rd : Type 0) : Type 0 where
+  pub reader : Tap Rd
+  pub bound : Bound
+  pub rings : List (Producer Reply Global AnyItems)
+
+abbrev pub reading_in : {Rd : Type 0} → BindParts Rd → Reading Rd
+reading_in parts = record { reader = parts.reader; bound = parts.bound; rings = parts.producers.items }
+
+abbrev pub reading_of : {Rd W : Type 0} → ReaderTask Rd W → Reading Rd
+reading_of task = record { reader = task.reader; bound = task.bound; rings = task.producers.items }
+
+abbrev pub reading_promised : {Rd : Type 0} → ReaderPromise Rd → Reading Rd
+reading_promised promise = record { reader = promise.reader.value; bound = promise.bound.value; rings = promise.producers.value.items }
+
+-- the answers of what was read went to the rings that were given, where `remaining` tells what there is to read
+pub record HasRead {Rd : Type 0} (remaining : Rd → Option (List ℕ)) (given : Reading Rd) (end : ReaderEnd) : Type 0 where
+  pub same : AllZip SameProducer given.rings end.producers.items
+  pub left : Option (List ℕ)
+  pub held : Held
+  pub hands : HandsOn given.bound.session (concat given.bound.frames ++ given.bound.framer) (remaining (device given.reader)) left (map sent given.rings) (map sent end.producers.items) held end
+
+-- what was read while it was bound: the octets were told, and what is left; the first frame bound the session, and the bound
+-- session has what came behind it
+pub record IsOpened (mode : Mode) (told left : Option (List ℕ)) (bound : Bound) : Type 0 where
+  pub octets : List ℕ
+  pub read : Consumes told left octets
+  pub bounds : Bounds mode octets bound.session bound.frames bound.framer
+
+-- so of each bind's parts, of which the first have this place
+abbrev pub AreOpened : {Rd : Type 0} → (Rd → Option (List ℕ)) → Mode → (ℕ → Option (List ℕ)) → ℕ → List (BindParts Rd) → Type 0
+AreOpened remaining mode told bind [] = Unit {0}
+AreOpened remaining mode told bind (parts ∷ others) = IsOpened mode (told bind) (remaining (device parts.reader)) parts.bound × AreOpened remaining mode told (bind + 1) others
