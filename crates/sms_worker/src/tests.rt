@@ -27,6 +27,7 @@ mod answered;
 mod beside;
 mod centre;
 mod ended;
+mod heard;
 mod memory;
 mod notes;
 mod sums;
