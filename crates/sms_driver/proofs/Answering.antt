@@ -16,7 +16,7 @@ use Rattle.sms_pdu.specs.Frame.{Division}
 use Rattle.sms_pdu.specs.Reply.{answers}
 use Rattle.sms_pdu.proofs.Divisions.{answers_join, frame_before}
 use Rattle.sms_session.specs.declared.session.State.{State}
-use Rattle.sms_slot.specs.Rings.{went_to, handed}
+use Rattle.sms_slot.specs.Rings.{went_to}
 use Rattle.sms_slot.proofs.Rings.{handed-at, length-handed}
 use Rattle.sms_bind.specs.Deeds.{log}
 use Rattle.sms_bind.specs.Devices.{device}
