@@ -36,7 +36,7 @@ use Rattle.sms_worker.proofs.EndLemmas.{get_there, get_low, end_at}
 use Rattle.sms_driver.specs.declared.task.Assignment.{Assignment}
 use Rattle.sms_driver.specs.Answered.{Answered, RestOn, Hears, IsHeard}
 use Rattle.sms_driver.specs.Reads.{Reading, HasRead, IsOpened}
-use Rattle.sms_driver.specs.Rings.{HasReceived}
+use Rattle.sms_worker.specs.Rests.{HasReceived}
 use Rattle.sms_driver.specs.Worked.{IsWorkOf}
 
 -- the k-th of what went to a ring stands in the log, behind k others that went there

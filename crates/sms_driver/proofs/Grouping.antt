@@ -16,7 +16,8 @@ use Rattle.sms_driver.specs.declared.seating.SharedBind.{SharedBind}
 use Rattle.sms_driver.specs.declared.seating.BindParts.{BindParts}
 use Rattle.sms_driver.specs.Answered.{Hears, IsHeard, ends_at, AreHeard}
 use Rattle.sms_driver.specs.Reads.{HasRead, AreOpened, reading_in}
-use Rattle.sms_driver.specs.Rings.{flat, IsNewPair, HasReceived}
+use Rattle.sms_driver.specs.Rings.{flat, IsNewPair}
+use Rattle.sms_worker.specs.Rests.{HasReceived}
 use Rattle.sms_driver.specs.Seated.{IsSeated}
 use Rattle.sms_driver.proofs.Answering.{bind_is_heard}
 

@@ -1,6 +1,5 @@
 -- The rings between a bind's reader and its workers.
 use Rattle.std.specs.Prelude.{◌≡◌, List, [], ◌∷◌, ◌++◌}
-use mathlib.Core.List.{IsPrefix}
 use Rattle.rtrb.specs.Ring.{IsPair, sent, received}
 use Rattle.rtrb.specs.declared.producer.Producer.{Producer}
 use Rattle.rtrb.specs.declared.consumer.Consumer.{Consumer}
@@ -14,8 +13,3 @@ module _ {T A P : Type 0} where
 abbrev pub flat : {X : Type 0} → List (List X) → List X
 flat [] = []
 flat (l ∷ ls) = l ++ flat ls
-
--- what the one end received is a beginning of what the other sent
-module _ {T A P : Type 0} where
-  abbrev pub HasReceived : Producer T A P → Consumer T A P → Type 0
-  HasReceived p c = IsPrefix (received c) (sent p)

@@ -9,18 +9,20 @@ ghost use Rattle.sms_book.specs.Sums.{IsSumOf};
 ghost use Rattle.sms_worker.specs.declared.ends.MessageEnd.{MessageEnd};
 ghost use Rattle.sms_driver.specs.BindEnds.{AreBinds, IsTried};
 ghost use Rattle.sms_driver.specs.Deals.{dealt};
-ghost use Rattle.sms_driver.specs.Rings.{flat, HasReceived};
+ghost use Rattle.sms_driver.specs.Rings.{flat};
+ghost use Rattle.sms_worker.specs.Rests.{HasReceived};
 ghost use Rattle.sms_driver.specs.Seated.{windows};
 
 use crate::bind_end::BindEnd;
 use crate::dealing::merged;
-use crate::joining::{Taken, join_rings, take_rings};
+use crate::joining::{Taken, take_rings};
 use crate::leaving::{Left, close_all};
 use crate::threads::WorkerResult;
 use rtrb::Consumer;
 use sms_book::{Book, BookName, GatherFault, Shares, Statement, Till, gather};
 use sms_pdu::Reply;
 use sms_window::WindowSeat;
+use sms_worker::laws::received_are_prefixes;
 use sms_worker::{MessageEnd, WorkerEnd};
 use std::alloc::{AllocError, Global};
 use std::collections::VecDeque;
@@ -127,7 +129,7 @@ fn join_ends<W: Drop>(
         workers,
     } = left;
     let Taken { producers, readers } = take_rings(alloc, readers)?;
-    join_rings(producers, consumers);
+    received_are_prefixes(producers, consumers);
     Ok(Left {
         shared_binds,
         readers,

@@ -1,40 +1,12 @@
-//! The two ends of each ring, in one thread again.
+//! The readers' ends of the rings, in one list again.
 
-ghost use Rattle.std.specs.Prelude.{◌≡◌, List, length, map, IfOk};
-ghost use Rattle.std.specs.List.{AllZip};
-ghost use Rattle.rtrb.specs.Ring.{IsPair};
-ghost use Rattle.sms_driver.specs.Rings.{HasReceived, flat};
+ghost use Rattle.std.specs.Prelude.{◌≡◌, map, IfOk};
+ghost use Rattle.sms_driver.specs.Rings.{flat};
 
-use rtrb::{Consumer, Producer};
+use rtrb::Producer;
 use sms_bind::ReaderEnd;
 use sms_pdu::Reply;
-use sms_worker::laws::received_is_prefix;
 use std::alloc::{AllocError, Global};
-use std::collections::VecDeque;
-
-/// What the one end received is a beginning of what the other sent.
-fn meet(producer: Producer<Reply>, consumer: Consumer<Reply>)
-    requires { IsPair producer consumer }
-    ensures { HasReceived producer consumer }
-{
-    let mut producer = producer;
-    let mut consumer = consumer;
-    received_is_prefix(&mut producer, &mut consumer);
-}
-
-/// The same of all rings.
-pub(crate) fn join_rings(producers: Vec<Producer<Reply>>, consumers: Vec<Consumer<Reply>>)
-    requires { AllZip IsPair producers.items consumers.items }
-    ensures { AllZip HasReceived producers.items consumers.items }
-{
-    let mut consumers = VecDeque::from(consumers);
-    for producer in producers {
-        let Some(consumer) = consumers.pop_front() else {
-            unreachable!()
-        };
-        meet(producer, consumer);
-    }
-}
 
 /// The rings of all readers, one after another, and the readers without them.
 #[derive(Drop)]

@@ -37,7 +37,7 @@ pub fn received_is_prefix(producer: &mut Producer<Reply>, consumer: &mut Consume
     let _seen = consumer.slots_beside(producer);
 }
 
-// The two ends of one ring.
+// `received_is_prefix` of one ring, whose ends are done with.
 fn meet(producer: Producer<Reply>, consumer: Consumer<Reply>)
     requires { IsPair producer consumer }
     ensures { HasReceived producer consumer }
@@ -47,8 +47,8 @@ fn meet(producer: Producer<Reply>, consumer: Consumer<Reply>)
     received_is_prefix(&mut producer, &mut consumer);
 }
 
-// The ends of each ring.
-fn meet_all(producers: Vec<Producer<Reply>>, consumers: Vec<Consumer<Reply>>)
+/// The same of the ends of each ring.
+pub fn received_are_prefixes(producers: Vec<Producer<Reply>>, consumers: Vec<Consumer<Reply>>)
     requires { AllZip IsPair producers.items consumers.items }
     ensures { AllZip HasReceived producers.items consumers.items }
 {
@@ -69,7 +69,7 @@ pub fn charges_rest_on_frames(producers: Vec<Producer<Reply>>, consumers: Vec<Co
     requires { AllZip IsPair producers.items consumers.items }
     ensures { ChargesRestOnFrames producers.items consumers.items }
 {
-    meet_all(producers, consumers);
+    received_are_prefixes(producers, consumers);
 }
 
 /// The changes of one attempt are the core's events: a claim of its slot is a Claim, its draw, its
