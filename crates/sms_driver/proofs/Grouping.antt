@@ -10,7 +10,6 @@ use Rattle.rtrb.specs.Ring.{IsPair, SameProducer, SameConsumer, sent, received}
 use Rattle.sms_pdu.specs.declared.command.Mode.{Mode}
 use Rattle.sms_pdu.specs.declared.reply.Reply.{Reply}
 use Rattle.sms_bind.specs.declared.ending.ReaderEnd.{ReaderEnd}
-use Rattle.sms_bind.proofs.Logs.{AllZip-append}
 use Rattle.sms_worker.specs.declared.ends.MessageEnd.{MessageEnd}
 use Rattle.sms_driver.specs.declared.seating.SharedBind.{SharedBind}
 use Rattle.sms_driver.specs.declared.seating.BindParts.{BindParts}
@@ -63,6 +62,12 @@ zip_of_all c e P [] a = tt
 zip_of_all c e P (d ∷ ds) a = (a.0, zip_of_all c e P ds a.1)
 
 -- of lists that go together, one after another
+AllZip-append : {A B : Type 0} (R : A → B → Type 0) (xs us : List A) (ys vs : List B) → AllZip R xs ys → AllZip R us vs → AllZip R (xs ++ us) (ys ++ vs)
+AllZip-append R [] us [] vs p q = q
+AllZip-append R [] us (y ∷ ys) vs p q = absurd p
+AllZip-append R (x ∷ xs) us [] vs p q = absurd p
+AllZip-append R (x ∷ xs) us (y ∷ ys) vs p q = (p.0, AllZip-append R xs us ys vs p.1 q)
+
 pub flat_zip : {A B E D : Type 0} (f : E → List A) (g : D → List B) (R : A → B → Type 0) (es : List E) (ds : List D) → AllZip (λ e d. AllZip R (f e) (g d)) es ds → AllZip R (flat (map f es)) (flat (map g ds))
 flat_zip f g R [] [] z = tt
 flat_zip f g R [] (d ∷ ds) z = absurd z

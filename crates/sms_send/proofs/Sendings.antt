@@ -33,10 +33,10 @@ of_config remaining items read handed setup Q P input one two (config, says, sam
     (into items (config, subst (λ (octets : List ℕ). IsConfig octets config) one says, subst (λ (octets : List ℕ). Q config.files octets) two (subst (λ (s : Setup). Q (names_in s) handed) same holds)))
 
 -- the report wasn't written: the output failed behind a front of it, or memory ran out
-pub unwritten_told : (input : Input) (ended : Ended) (old new : Option (List ℕ)) (fault : Fault) → IsSent input ended
-    → (fault ≡ Output) ⊎ (fault ≡ OutOfMemory) → (fault ≡ Output → WritesFront old new (report_in ended)) → TellsSending input old new fault
-unwritten_told input ended old new fault sent (inl out) front = inr (out, ended, sent, front out)
-unwritten_told input ended old new fault sent (inr memory) front = inl (send.OutOfMemory, inl (inl refl), memory)
+pub unwritten_told : (told : ℕ → Told) (input : Input) (ended : Ended) (old new : Option (List ℕ)) (fault : Fault) → IsSent told input ended
+    → (fault ≡ Output) ⊎ (fault ≡ OutOfMemory) → (fault ≡ Output → WritesFront old new (report_in ended)) → TellsSending told input old new fault
+unwritten_told told input ended old new fault sent (inl out) front = inr (out, ended, sent, front out)
+unwritten_told told input ended old new fault sent (inr memory) front = inl (send.OutOfMemory, inl (inl refl), memory)
 
 -- one of three, from two of them
 pub of_two : {A B C : Type 0} → A ⊎ B → A ⊎ (B ⊎ C)

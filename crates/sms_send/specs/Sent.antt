@@ -1,12 +1,14 @@
 -- What a sending promises of what was read.
-use Rattle.std.specs.Prelude.{◌≡◌, ◌≢◌, ◌⊎◌, ℕ, List, [], Option, String, length, option_map, string_bytes}
+use Rattle.std.specs.Prelude.{◌≡◌, ◌≢◌, ◌⊎◌, ◌*◌, ℕ, List, [], Option, None, String, length, option_map, string_bytes}
 use Rattle.std.specs.Io.KnownBytes.{Appends}
 use Rattle.std.specs.List.{AllZip}
 use Rattle.std.specs.declared.alloc.Global.{Global}
 use Rattle.sms_book.specs.Openings.{credits_of}
 use Rattle.sms_worker.specs.EndOf.{IsEndOf}
 use Rattle.sms_worker.specs.declared.rules.Rules.{Rules}
+use Rattle.sms_driver.specs.Answered.{AreHeard}
 use Rattle.sms_driver.specs.BindEnds.{AreBinds}
+use Rattle.sms_driver.specs.Deals.{dealt}
 use Rattle.sms_files.specs.ConfigFaults.{IsConfig, TellsConfig}
 use Rattle.sms_files.specs.Inputs.{IsInput, Told, TellsInput}
 use Rattle.sms_send.specs.Faults.{TellsRead, told_sending}
@@ -48,14 +50,20 @@ pub record AreSettingsOf (connection : Connection) (limits : Limits) (flags : Fl
 
 -- there is an end for each message, in order, which it meets by the rules, a row for each account,
 -- whose amounts are the sums over these ends, and an end for each of the config's binds, each of so
--- many workers as the config says
-pub record IsSent (input : Input) (ended : Ended) : Type 0 where
+-- many workers as the config says; and bind by bind each attempt with a reply has a place of its own,
+-- where that reply stands, among the answers in what was read of the bind, of which `told` tells what it will give
+pub record IsSent (told : ℕ → Told) (input : Input) (ended : Ended) : Type 0 where
   pub openings : ended.openings ≡ input.openings
   pub rules : Rules
   pub says : IsRulesOf input.config.retry input.config.limits input.config.flags input.tariff rules
   pub ends : AllZip (IsEndOf rules (length input.openings.items)) input.messages.items ended.ends.items
   pub rows : AreRows (credits_of input.openings.items) input.messages.items ended.ends.items ended.statement
   pub binds : AreBinds input.config.limits.binds input.config.limits.workers ended.binds.items
+  pub heard : AreHeard told input.config.limits.binds input.config.limits.workers (dealt (input.config.limits.binds * input.config.limits.workers) 0 ended.ends.items)
+
+-- a TCP connection tells contracts nothing of the octets that will come
+abbrev pub untold : ℕ → Told
+untold = λ bind. None
 
 -- the report of what was sent
 abbrev pub report_in : Ended → List ℕ
@@ -63,52 +71,52 @@ report_in ended = report_of ended.openings.items ended.ends.items ended.statemen
 
 -- the config, the accounts, the messages and the tariff were read, and sent; the report of that was written and nothing
 -- else, and the status is by the ends
-pub record RunsSender (config : List ℕ) (accounts messages : Told) (tariff : Option Told) (old new : Option (List ℕ)) (status : ℕ) : Type 0 where
+pub record RunsSender (told : ℕ → Told) (config : List ℕ) (accounts messages : Told) (tariff : Option Told) (old new : Option (List ℕ)) (status : ℕ) : Type 0 where
   pub input : Input
   pub read : IsInput config accounts messages tariff input
   pub ended : Ended
-  pub sent : IsSent input ended
+  pub sent : IsSent told input ended
   pub written : Appends old new (report_in ended)
   pub status_is : status ≡ ends_status ended.ends.items
 
 -- what a fault says once the input was read: it is of one of the config's binds, or of memory; or all was sent, and the
 -- output failed behind a front of the report of that
-abbrev pub TellsSending : Input → Option (List ℕ) → Option (List ℕ) → Fault → Type 0
-TellsSending input old new fault =
+abbrev pub TellsSending : (ℕ → Told) → Input → Option (List ℕ) → Option (List ℕ) → Fault → Type 0
+TellsSending told input old new fault =
     ((f : SendFault) × IsFaultOfOne input.config.limits.binds f × (fault ≡ told_sending f))
-    ⊎ ((fault ≡ Output) × (ended : Ended) × IsSent input ended × WritesFront old new (report_in ended))
+    ⊎ ((fault ≡ Output) × (ended : Ended) × IsSent told input ended × WritesFront old new (report_in ended))
 
 -- what a fault says of these octets: it is of the first that have one, or of the sending of what they all say
-abbrev pub TellsSender : List ℕ → Told → Told → Option Told → Option (List ℕ) → Option (List ℕ) → Fault → Type 0
-TellsSender config accounts messages tariff old new fault =
+abbrev pub TellsSender : (ℕ → Told) → List ℕ → Told → Told → Option Told → Option (List ℕ) → Option (List ℕ) → Fault → Type 0
+TellsSender told config accounts messages tariff old new fault =
     TellsRead (TellsInput config accounts messages tariff) fault
-    ⊎ ((input : Input) × IsInput config accounts messages tariff input × TellsSending input old new fault)
+    ⊎ ((input : Input) × IsInput config accounts messages tariff input × TellsSending told input old new fault)
 
 -- some files were read beside a config of these octets, that of the tariff just where it has a name, and sent so
-abbrev pub SendsNamed : {F : Type 0} → (F → Told) → FileNames → List ℕ → Option (List ℕ) → Option (List ℕ) → ℕ → Type 0
-SendsNamed {F} remaining names config old new status =
+abbrev pub SendsNamed : {F : Type 0} → (ℕ → Told) → (F → Told) → FileNames → List ℕ → Option (List ℕ) → Option (List ℕ) → ℕ → Type 0
+SendsNamed {F} told remaining names config old new status =
     (accounts : F) × (messages : F) × (tariff : Option F) × IsNamed (string_bytes names.tariff) tariff
-    × RunsSender config (remaining accounts) (remaining messages) (option_map remaining tariff) old new status
+    × RunsSender told config (remaining accounts) (remaining messages) (option_map remaining tariff) old new status
 
 -- what a fault says of files of these names: one can't be opened, or what it says of the sending of them all
-abbrev pub TellsNamed : {F : Type 0} → (F → Told) → FileNames → List ℕ → Option (List ℕ) → Option (List ℕ) → Fault → Type 0
-TellsNamed {F} remaining names config old new fault =
+abbrev pub TellsNamed : {F : Type 0} → (ℕ → Told) → (F → Told) → FileNames → List ℕ → Option (List ℕ) → Option (List ℕ) → Fault → Type 0
+TellsNamed {F} told remaining names config old new fault =
     (fault ≡ File names.accounts)
     ⊎ (fault ≡ File names.messages)
     ⊎ ((fault ≡ File names.tariff) × (string_bytes names.tariff ≢ []))
     ⊎ ((accounts : F) × (messages : F) × (tariff : Option F) × IsNamed (string_bytes names.tariff) tariff
-    × TellsSender config (remaining accounts) (remaining messages) (option_map remaining tariff) old new fault)
+    × TellsSender told config (remaining accounts) (remaining messages) (option_map remaining tariff) old new fault)
 
 -- the octets are a config's, and the files that it names were read and sent
 abbrev pub SendsFiles : {F : Type 0} → (F → Told) → List ℕ → Option (List ℕ) → Option (List ℕ) → ℕ → Type 0
-SendsFiles remaining octets old new status = (config : Config) × IsConfig octets config × SendsNamed remaining config.files octets old new status
+SendsFiles remaining octets old new status = (config : Config) × IsConfig octets config × SendsNamed untold remaining config.files octets old new status
 
 -- what a fault says of a config's octets: they are none, a centre of the program's own can't listen, or what it says of
 -- the files that the config names
 abbrev pub TellsFiles : {F : Type 0} → (F → Told) → Centre → List ℕ → Option (List ℕ) → Option (List ℕ) → Fault → Type 0
 TellsFiles remaining centre octets old new fault =
     TellsRead (TellsConfig octets) fault
-    ⊎ ((config : Config) × IsConfig octets config × (((centre ≡ Own) × (fault ≡ BindFailed 0)) ⊎ TellsNamed remaining config.files octets old new fault))
+    ⊎ ((config : Config) × IsConfig octets config × (((centre ≡ Own) × (fault ≡ BindFailed 0)) ⊎ TellsNamed untold remaining config.files octets old new fault))
 
 -- what a fault of a sending by the config of this name says: its file can't be read, memory ran out, or what it says of
 -- the octets of some file

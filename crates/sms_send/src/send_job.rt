@@ -61,9 +61,9 @@ pub fn run_sender<
     pause: &P,
     output: &mut W,
 ) -> Result<u8, Fault>
-    ensures sent { IfOk result (λ status. RunsSender config.now (A.remaining accounts) (M.remaining messages) (option_map T.remaining tariff) (W.contents output.old) (W.contents output.new) status) }
+    ensures sent { IfOk result (λ status. RunsSender (D.told dial.now) config.now (A.remaining accounts) (M.remaining messages) (option_map T.remaining tariff) (W.contents output.old) (W.contents output.new) status) }
     // A fault is of the first of these that has one, or of the sending of what they say.
-    ensures refused { IfErr result (TellsSender config.now (A.remaining accounts) (M.remaining messages) (option_map T.remaining tariff) (W.contents output.old) (W.contents output.new)) }
+    ensures refused { IfErr result (TellsSender (D.told dial.now) config.now (A.remaining accounts) (M.remaining messages) (option_map T.remaining tariff) (W.contents output.old) (W.contents output.new)) }
     ensures unwritten { IfErr result (λ fault. fault ≢ Output → output.new ≡ output.old) }
 {
     let input = read_input(alloc, config, accounts, messages, tariff)?;
@@ -154,9 +154,9 @@ fn send_files<
     telling: Telling,
     output: &mut W,
 ) -> Result<u8, Fault>
-    ensures sent { IfOk result (SendsNamed R.File.remaining files config.now (W.contents output.old) (W.contents output.new)) }
+    ensures sent { IfOk result (SendsNamed (D.told dial.now) R.File.remaining files config.now (W.contents output.old) (W.contents output.new)) }
     ensures status { IfOk result IsStatus }
-    ensures refused { IfErr result (TellsNamed R.File.remaining files config.now (W.contents output.old) (W.contents output.new)) }
+    ensures refused { IfErr result (TellsNamed (D.told dial.now) R.File.remaining files config.now (W.contents output.old) (W.contents output.new)) }
     ensures unwritten { IfErr result (λ fault. fault ≢ Output → output.new ≡ output.old) }
 {
     let accounts = open(rt, files.accounts)?;

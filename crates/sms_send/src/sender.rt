@@ -166,7 +166,7 @@ pub fn send_all<
     clock: &K,
     pause: &P,
 ) -> Result<Ended, Fault>
-    ensures sent { IfOk result (IsSent input) }
+    ensures sent { IfOk result (IsSent (D.told dial.now) input) }
     // A fault is of one of the config's binds, or of memory.
     ensures refused { IfErr result (λ fault. (f : SendFault) × IsFaultOfOne input.config.limits.binds f × (fault ≡ told_sending f)) }
 {

@@ -27,7 +27,7 @@ returns-in_err-write_report-clause-refused g c =
     (inr (
       c.in_ok-input.input,
       c.in_ok-input.ensures.read,
-      unwritten_told _ c.in_ok-ended.ended _ _ _ c.in_ok-ended.ensures.sent c.in_err-write_report.ensures.failed c.in_err-write_report.ensures.front,
+      unwritten_told _ _ c.in_ok-ended.ended _ _ _ c.in_ok-ended.ensures.sent c.in_err-write_report.ensures.failed c.in_err-write_report.ensures.front,
     ))
 
 pub returns-in_err-input-clause-unwritten : goal.returns-in_err-input-clause-unwritten

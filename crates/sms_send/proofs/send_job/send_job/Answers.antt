@@ -1,6 +1,6 @@
 use Rattle.std.proofs.Common.{inl, inr, refl}
 use Rattle.std.proofs.lemmas.Result.{IfErr-weaker, IfOk-weaker}
-use Rattle.sms_send.specs.Sent.{SendsNamed, TellsFiles, TellsNamed}
+use Rattle.sms_send.specs.Sent.{SendsNamed, TellsFiles, TellsNamed, untold}
 use Rattle.sms_send.proofs.Telling.{told_so}
 use Rattle.sms_send.proofs.Sendings.{beside, of_config, of_two}
 use Rattle.sms_send.proofs.send_job.send_job.Goals as goal
@@ -8,14 +8,14 @@ use Rattle.sms_send.proofs.send_job.send_job.Goals as goal
 pub returns-in-Named-clause-sent : goal.returns-in-Named-clause-sent
 returns-in-Named-clause-sent g c =
     IfOk-weaker c.send_files.result _ _
-    (λ status sent. of_config g.R.File.Read.remaining _ _ _ c.in_ok-accounts.field-0 (λ names octets. SendsNamed g.R.File.Read.remaining names octets _ _ status) _
+    (λ status sent. of_config g.R.File.Read.remaining _ _ _ c.in_ok-accounts.field-0 (λ names octets. SendsNamed untold g.R.File.Read.remaining names octets _ _ status) _
     c.in_ok-config.ensures.octets c.as_slice.ensures.value c.as_slice-in-Named.ensures.value c.in_ok-accounts.ensures.setup (λ octets so. so) sent)
     c.send_files.ensures.sent
 
 pub returns-clause-sent : goal.returns-clause-sent
 returns-clause-sent g c =
     IfOk-weaker c.send_files-in-Own.result _ _
-    (λ status sent. of_config g.R.File.Read.remaining _ _ _ c.in_ok-accounts.field-0 (λ names octets. SendsNamed g.R.File.Read.remaining names octets _ _ status) _
+    (λ status sent. of_config g.R.File.Read.remaining _ _ _ c.in_ok-accounts.field-0 (λ names octets. SendsNamed untold g.R.File.Read.remaining names octets _ _ status) _
     c.in_ok-config.ensures.octets c.as_slice.ensures.value c.as_slice-in-Own-2.ensures.value c.in_ok-accounts.ensures.setup (λ octets so. so) sent)
     c.send_files-in-Own.ensures.sent
 
@@ -31,14 +31,14 @@ returns-in_err-accounts-clause-refused g c =
 pub returns-in-Named-clause-refused : goal.returns-in-Named-clause-refused
 returns-in-Named-clause-refused g c =
     IfErr-weaker c.send_files.result _ _
-    (λ fault tells. inr (inr (of_config g.R.File.Read.remaining _ _ _ c.in_ok-accounts.field-0 (λ names octets. TellsNamed g.R.File.Read.remaining names octets _ _ fault) _
+    (λ fault tells. inr (inr (of_config g.R.File.Read.remaining _ _ _ c.in_ok-accounts.field-0 (λ names octets. TellsNamed untold g.R.File.Read.remaining names octets _ _ fault) _
     c.in_ok-config.ensures.octets c.as_slice.ensures.value c.as_slice-in-Named.ensures.value c.in_ok-accounts.ensures.setup (λ octets so. inr (so.0, so.1, inr so.2)) tells)))
     c.send_files.ensures.refused
 
 pub returns-clause-refused : goal.returns-clause-refused
 returns-clause-refused g c =
     IfErr-weaker c.send_files-in-Own.result _ _
-    (λ fault tells. inr (inr (of_config g.R.File.Read.remaining _ _ _ c.in_ok-accounts.field-0 (λ names octets. TellsNamed g.R.File.Read.remaining names octets _ _ fault) _
+    (λ fault tells. inr (inr (of_config g.R.File.Read.remaining _ _ _ c.in_ok-accounts.field-0 (λ names octets. TellsNamed untold g.R.File.Read.remaining names octets _ _ fault) _
     c.in_ok-config.ensures.octets c.as_slice.ensures.value c.as_slice-in-Own-2.ensures.value c.in_ok-accounts.ensures.setup (λ octets so. inr (so.0, so.1, inr so.2)) tells)))
     c.send_files-in-Own.ensures.refused
 

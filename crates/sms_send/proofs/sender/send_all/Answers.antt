@@ -1,11 +1,13 @@
-use Rattle.std.proofs.Common.{◌≡◌, ◌∙◌, ap, subst, List, length, Vec, Global}
+use Rattle.std.proofs.Common.{◌*◌, ◌≡◌, ◌∙◌, ap, subst, List, length, Vec, Global}
 use Rattle.std.specs.List.{AllZip}
 use Rattle.sms_book.specs.Openings.{credits_of}
 use Rattle.sms_book.specs.Tariffs.{Price}
 use Rattle.sms_book.specs.declared.opening.Opening.{Opening}
 use Rattle.sms_worker.specs.EndOf.{IsEndOf}
 use Rattle.sms_worker.specs.declared.message.Message.{Message}
+use Rattle.sms_driver.specs.Answered.{AreHeard}
 use Rattle.sms_driver.specs.BindEnds.{AreBinds}
+use Rattle.sms_driver.specs.Deals.{dealt}
 use Rattle.sms_driver.specs.SendFaults.{IsFaultOfOne}
 use Rattle.sms_send.specs.Sent.{IsRulesOf}
 use Rattle.sms_driver.specs.Statements.{AreRows}
@@ -26,6 +28,7 @@ returns-clause-sent g c =
           (subst (λ (k : Config). IsRulesOf k.retry k.limits k.flags c.into_parts-config.result.3 rules) e.config c.rules_of-rules.ensures);
       ends = subst (λ (os : List Opening). AllZip (IsEndOf rules (length os)) input.messages.items ends) slice
           (subst (λ (ms : Vec Message Global). AllZip (IsEndOf rules (length c.as_slice.result.now)) ms.items ends) e.messages c.in-Ok.ensures.ends);
+      heard = subst (λ (k : Config). AreHeard (g.D.Dial.told c.args.dial.now) k.limits.binds k.limits.workers (dealt (k.limits.binds * k.limits.workers) 0 ends)) e.config c.in-Ok.ensures.heard;
       binds = subst (λ (k : Config). AreBinds k.limits.binds k.limits.workers c.in-Ok.sending.binds.items) e.config c.in-Ok.ensures.binds;
       rows = subst (λ (os : List Opening). AreRows (credits_of os) input.messages.items ends c.in-Ok.sending.statement) slice
           (subst (λ (ms : Vec Message Global). AreRows (credits_of c.as_slice.result.now) ms.items ends c.in-Ok.sending.statement) e.messages c.in-Ok.ensures.rows);
