@@ -5,9 +5,10 @@ ghost use Rattle.std.specs.Prelude.{◌≡◌, IfSome};
 
 use super::beside::{Beside, Fuse, line_with_fuse};
 use super::centre::answer_of;
+use super::notes::Log;
 use super::{
-    Case, Done, OK, PLAIN, THROTTLED, book_of, messages_of, row_of, rules_of, same, sends,
-    want_row, want_sent,
+    Case, Done, OK, PLAIN, THROTTLED, book_of, messages_of, row_of, rules_of, same, want_row,
+    want_sent,
 };
 use crate::{
     Clock, Gate, Message, MessageEnd, MessageResult, Outcome, Pause, Rules, Worker, WorkerEnd,
@@ -16,6 +17,7 @@ use crate::{
 use rtrb::{Consumer, Producer, RingBuffer};
 use sms_bind::Line;
 use sms_book::{Blank, Book, BookName};
+use sms_core::Row;
 use sms_pdu::{GENERIC_NACK, Reply, reply_of};
 use sms_window::Window;
 use std::alloc::Global;
@@ -143,6 +145,15 @@ fn ring_of(alloc: Global) -> Option<(Vec<Producer<Reply>>, Consumer<Reply>)> {
     Some((producers, consumer))
 }
 
+// What came of a call whose notes nobody reads.
+fn done_with(alloc: Global, ends: Vec<MessageEnd>, row: Row) -> Done {
+    Done {
+        ends,
+        row,
+        notes: Vec::new(alloc),
+    }
+}
+
 // What becomes of one message, and after how many pauses.
 fn works<N: BookName, R: Abort + Wait>(
     rt: &R,
@@ -153,10 +164,10 @@ fn works<N: BookName, R: Abort + Wait>(
 ) -> Option<(Done, u32)>
     requires { blank.book ≡ N.book }
 {
-    let messages = messages_of(alloc, 1).ok()?;
     let (window, seat) = Window::make_from(alloc, 64, 1).ok()?;
     let (producers, consumer) = ring_of(alloc)?;
-    let line = line_with_fuse(alloc, 1 << 40)?;
+    let log = Log::new(alloc);
+    let line = line_with_fuse(alloc, 1 << 40, &log)?;
     let beside = Slow {
         rt,
         line: &line,
@@ -176,10 +187,9 @@ fn works<N: BookName, R: Abort + Wait>(
         shares: all.pop()?,
         consumer,
     };
-    let done = sends(
-        rt, alloc, worker, messages, &line, &window, &book, rules, &beside,
-    )?;
-    Some((done, beside.pauses.get()))
+    let mut end = end_of(rt, alloc, worker, &line, &window, &book, rules, &beside)?;
+    let row = book.lock(rt).look(&mut end.shares, 0)?;
+    Some((done_with(alloc, end.ends, row), beside.pauses.get()))
 }
 
 fn comes(rt: &(impl Abort + Wait), alloc: Global, answer_ms: u32, coming: Coming) -> (Done, u32) {
@@ -265,7 +275,7 @@ fn end_of<N: BookName, B: Gate + Clock + Pause, R: Wait>(
     rt: &R,
     alloc: Global,
     worker: Worker<N>,
-    line: &Line<Fuse>,
+    line: &Line<Fuse<'_>>,
     window: &Window,
     book: &Mutex<Book<N>>,
     rules: &Rules,
@@ -288,17 +298,18 @@ fn one_call<N: BookName, R: Wait>(
     rt: &R,
     alloc: Global,
     worker: Worker<N>,
-    line: &Line<Fuse>,
+    line: &Line<Fuse<'_>>,
     window: &Window,
     book: &Mutex<Book<N>>,
     rules: &Rules,
     case: Case<'_>,
     producers: Vec<Producer<Reply>>,
+    log: &Log,
 ) -> Option<WorkerEnd<N>>
     requires { worker.seat.window ≡ window.now }
     ensures { IfSome result (λ end. end.seat.window ≡ window.now) }
 {
-    let beside = Beside::new(rt, alloc, line, producers, case);
+    let beside = Beside::new(rt, alloc, line, producers, case, log);
     end_of(rt, alloc, worker, line, window, book, rules, &beside)
 }
 
@@ -315,7 +326,8 @@ fn two_calls<N: BookName, R: Wait>(
     let (window, seat) = Window::make_from(alloc, 1, 1).ok()?;
     let (producers, consumer) = ring_of(alloc)?;
     let (strays, _unread) = ring_of(alloc)?;
-    let line = line_with_fuse(alloc, 1 << 40)?;
+    let log = Log::new(alloc);
+    let line = line_with_fuse(alloc, 1 << 40, &log)?;
     let Ok((book, _till, mut all)) = blank.open::<N>(alloc) else {
         return None;
     };
@@ -327,7 +339,7 @@ fn two_calls<N: BookName, R: Wait>(
         consumer,
     };
     let end = one_call(
-        rt, alloc, worker, &line, &window, &book, rules, case, strays,
+        rt, alloc, worker, &line, &window, &book, rules, case, strays, &log,
     )?;
     let unheard = end.ends;
     let worker = Worker {
@@ -338,16 +350,10 @@ fn two_calls<N: BookName, R: Wait>(
         consumer: end.consumer,
     };
     let mut end = one_call(
-        rt, alloc, worker, &line, &window, &book, rules, case, producers,
+        rt, alloc, worker, &line, &window, &book, rules, case, producers, &log,
     )?;
     let row = book.lock(rt).look(&mut end.shares, 0)?;
-    Some((
-        unheard,
-        Done {
-            ends: end.ends,
-            row,
-        },
-    ))
+    Some((unheard, done_with(alloc, end.ends, row)))
 }
 
 // A slot that is answered at the end of a call, where the ring shows no answer, is empty then and the
@@ -364,12 +370,8 @@ fn a_slot_that_is_left_answered_is_released(rt: HostRuntime) {
         panic!(&rt; "no memory")
     };
     let row = done.row;
-    want_sent(
-        &rt,
-        &Done { ends: unheard, row },
-        0,
-        &[(1, Outcome::Unanswered)],
-    );
+    let before = done_with(alloc, unheard, row);
+    want_sent(&rt, &before, 0, &[(1, Outcome::Unanswered)]);
     want_sent(&rt, &done, 0, &[(1, Outcome::Charged)]);
     same(&rt, row_of(&done), (1, 1, 1, 0));
 }
