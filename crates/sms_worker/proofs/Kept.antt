@@ -1,10 +1,14 @@
 -- What is kept of the messages, where one part or one message changes.
-use Rattle.std.proofs.Common.{◌≡◌, ℕ, zero, suc, ◌≤◌, List, [], ◌∷◌, ◌++◌, length, map, Some, None, inl, inr, refl, sym, ap, ◌∙◌, arith}
+use Rattle.std.proofs.Common.{◌≡◌, ℕ, zero, suc, ◌<◌, ◌≤◌, List, [], ◌∷◌, ◌++◌, length, map, Some, None, inl, inr, refl, sym, ap, ◌∙◌, arith}
 use Rattle.std.specs.Prelude.{◌≢◌, ◌⊎◌, Option, option_map, option_and_then, slice_get, slice_set, nat_le, ◌-◌, true, false, if◌then◌else◌}
 use mathlib.Core.Logic.{dite}
 use native.Mathlib.Decide.{ℕ_discrete}
 use Rattle.std.proofs.lemmas.Option.{slice_get-map}
+use Rattle.sms_alphabet.specs.declared.coded.Coded.{Coded}
 use Rattle.sms_segment.specs.declared.part.Part.{Part}
+use Rattle.sms_segment.specs.declared.place.Reference.{Reference}
+use Rattle.sms_segment.specs.Laws.{PartsTellTooLong}
+use Rattle.sms_segment.specs.Message.{IsTooLong, parts_of, whole}
 use Rattle.sms_worker.specs.declared.message.Message.{Message}
 use Rattle.sms_worker.specs.declared.rules.Rules.{Rules}
 use Rattle.sms_worker.specs.declared.open.SegmentPlace.{SegmentPlace}
@@ -56,6 +60,13 @@ map_more g (z ∷ xs) x = ap (λ l. g z ∷ l) (map_more g xs x)
 pub carried_of : (parts : List Part) → carried (texts_of parts) ≡ map user_data parts
 carried_of [] = refl
 carried_of (part ∷ parts) = ap (λ l. user_data part ∷ l) (carried_of parts)
+
+-- a header can count one part
+pub one_is_short : (text : Coded) (reference : Reference) → PartsTellTooLong → parts_of text reference ≡ whole text ∷ [] → ¬ IsTooLong text reference
+one_is_short text reference tell one long =
+    let more : 255 < length (parts_of text reference) = (tell text reference).0 long in
+    let few = ap length one in
+    absurd (omega arith)
 
 pub carried_linked : (part : ℕ) (link : Link) (texts : TextsState) → carried (with_link part link texts) ≡ carried texts
 carried_linked part link texts = changed_map (λ (kept : Kept). record kept { link = link }) (λ (kept : Kept). kept.carried) (λ kept. refl) texts.kept part

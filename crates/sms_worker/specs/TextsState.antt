@@ -31,6 +31,10 @@ kept_of part = record { carried = user_data part; link = no_link }
 abbrev pub texts_of : List Part → TextsState
 texts_of parts = record { kept = map kept_of parts; unsettled = length parts }
 
+-- the texts of a message of one part, which carries this
+abbrev pub texts_of_one : UserData → TextsState
+texts_of_one carried = record { kept = record { carried = carried; link = no_link } ∷ []; unsettled = 1 }
+
 -- a segment more is settled; with the last one the parts are given back
 abbrev pub settled_one : TextsState → TextsState
 settled_one texts = if nat_le texts.unsettled 1 then no_texts else record texts { unsettled = texts.unsettled - 1 }

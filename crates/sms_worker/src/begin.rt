@@ -1,6 +1,6 @@
 //! Beginning a message: its parts, its credits, and its end so far.
 
-ghost use Rattle.std.specs.Prelude.{◌≡◌, ℕ, ◌+◌, ◌*◌, ◌<◌, ◌≤◌, ◌↔◌, All, IsTrue, false, Err, IfOk, IfErr, OnOk, length, slice_set, vec_len};
+ghost use Rattle.std.specs.Prelude.{◌≡◌, ℕ, ◌+◌, ◌*◌, ◌<◌, ◌≤◌, ◌↔◌, All, IsTrue, false, Err, IfOk, IfErr, IfSome, OnOk, length, slice_set, vec_len};
 ghost use Rattle.sms_book.specs.Limits.{most_returned};
 ghost use Rattle.sms_book.specs.Money.{reserved_more};
 ghost use Rattle.sms_book.specs.Shares.{changed};
@@ -8,11 +8,12 @@ ghost use Rattle.sms_core.specs.RowMoves.{row_reserved};
 ghost use Rattle.sms_book.specs.Portions.{row_at};
 ghost use Rattle.sms_worker.specs.Begins.{ready, Begins};
 ghost use Rattle.sms_book.specs.Tariffs.{cost_of};
-ghost use Rattle.sms_segment.specs.Message.{IsTooLong};
+ghost use Rattle.sms_segment.specs.declared.place.Reference.{Reference as TheReference};
+ghost use Rattle.sms_segment.specs.Message.{IsTooLong, parts_of};
 ghost use Rattle.sms_segment.specs.Part.{HasSeptets};
 ghost use Rattle.sms_worker.specs.Submits.{HasAddresses, coded_text, message_parts, reference_of};
 ghost use Rattle.sms_worker.specs.Told.{IsKnown, IsNotCut, IsRefusalOf, IsResultOf, IsShort};
-ghost use Rattle.sms_worker.specs.TextsState.{carried};
+ghost use Rattle.sms_worker.specs.TextsState.{carried, texts_of};
 ghost use Rattle.sms_worker.specs.UserData.{message_data};
 ghost use Rattle.std.specs.Prelude.{string_bytes};
 ghost use Rattle.sms_worker.specs.declared.ends.MessageRefusal.TheVariants.{BindClosed};
@@ -25,10 +26,11 @@ use crate::ends::{
 use crate::message::Message;
 use crate::rules::Rules;
 use crate::texts::Texts;
+use crate::user_data::UserData;
 use sms_alphabet::choose;
 use sms_book::{Book, BookName, Shares};
-use sms_segment::laws::the_parts_have_septets;
-use sms_segment::{CutError, Part, Reference, cut};
+use sms_segment::laws::{the_parts_have_septets, the_parts_tell_what_is_too_long};
+use sms_segment::{CutError, Part, Reference, cut, short_message_of};
 use std::alloc::{AllocError, Global};
 use std::sync::{Mutex, Wait};
 
@@ -85,6 +87,53 @@ fn parts_for(alloc: Global, rules: &Rules, message: &Message) -> Result<Vec<Part
     }
 }
 
+/// The texts of the parts of a message.
+fn texts_cut(alloc: Global, rules: &Rules, message: &Message) -> Result<Texts, MessageRefusal>
+    ensures texts { IfOk result (λ texts. texts ≡ texts_of (message_parts rules.now message.now)) }
+    ensures short { OnOk result (IsShort rules.now message.now) }
+    ensures refused { IfErr result (λ e. IsNotCut rules.now message.now e) }
+{
+    let parts = match parts_for(alloc, rules, message) {
+        Ok(parts) => parts,
+        Err(refusal) => return Err(refusal),
+    };
+    match Texts::of(alloc, parts.as_slice()) {
+        Ok(texts) => Ok(texts),
+        Err(_) => Err(MessageRefusal::OutOfMemory),
+    }
+}
+
+/// The texts of a message that one short message carries, straight from the characters of its text;
+/// nothing for one of more parts.
+fn texts_at_once(alloc: Global, message: &Message) -> Result<Option<Texts>, AllocError>
+    ensures texts { IfOk result (λ found. IfSome found (λ texts. (reference : TheReference) → texts ≡ texts_of (parts_of (coded_text message.now) reference))) }
+    ensures short { IfOk result (λ found. IfSome found (λ texts. (reference : TheReference) → ¬ IsTooLong (coded_text message.now) reference)) }
+{
+    let one = match short_message_of(alloc, message.text.as_str()) {
+        Ok(Some(one)) => one,
+        Ok(None) => return Ok(None),
+        Err(no_memory) => return Err(no_memory),
+    };
+    the_parts_tell_what_is_too_long();
+    match Texts::of_one(alloc, UserData::of_one(one)) {
+        Ok(texts) => Ok(Some(texts)),
+        Err(no_memory) => Err(no_memory),
+    }
+}
+
+/// The texts of a message. It is cut only where one short message can't carry it.
+fn texts_for(alloc: Global, rules: &Rules, message: &Message) -> Result<Texts, MessageRefusal>
+    ensures texts { IfOk result (λ texts. texts ≡ texts_of (message_parts rules.now message.now)) }
+    ensures short { OnOk result (IsShort rules.now message.now) }
+    ensures refused { IfErr result (λ e. IsNotCut rules.now message.now e) }
+{
+    match texts_at_once(alloc, message) {
+        Ok(Some(texts)) => Ok(texts),
+        Ok(None) => texts_cut(alloc, rules, message),
+        Err(_) => Err(MessageRefusal::OutOfMemory),
+    }
+}
+
 /// So many segment ends that wait to be sent.
 fn waiting_ends(alloc: Global, count: usize, cost: u32) -> Result<Vec<SegmentEnd>, AllocError>
     ensures { IfOk result (λ ends. ends.items ≡ ready cost count) }
@@ -125,15 +174,12 @@ fn prepare(
     if !has_addresses(message) {
         return Err(MessageRefusal::BadAddress);
     }
-    let parts = match parts_for(alloc, rules, message) {
-        Ok(parts) => parts,
+    let texts = match texts_for(alloc, rules, message) {
+        Ok(texts) => texts,
         Err(refusal) => return Err(refusal),
     };
-    let Ok(texts) = Texts::of(alloc, parts.as_slice()) else {
-        return Err(MessageRefusal::OutOfMemory);
-    };
     let cost = rules.tariff.cost(message.dest.as_str());
-    match waiting_ends(alloc, parts.len(), cost) {
+    match waiting_ends(alloc, texts.count(), cost) {
         Ok(ends) => Ok((texts, ends)),
         Err(_) => Err(MessageRefusal::OutOfMemory),
     }

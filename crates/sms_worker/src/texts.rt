@@ -1,8 +1,8 @@
 //! The parts of a message that was begun, and where each stands in a queue.
 
-ghost use Rattle.std.specs.Prelude.{◌≡◌, List, All, IfOk, IfSome, IfNone, Some, None, slice_get, vec_len, vec_capacity};
+ghost use Rattle.std.specs.Prelude.{◌≡◌, List, All, IfOk, IfSome, IfNone, Some, None, length, slice_get, vec_len, vec_capacity};
 ghost use Rattle.sms_segment.specs.Part.{HasSeptets};
-ghost use Rattle.sms_worker.specs.TextsState.{carried, changed, link_of, no_texts, settled_one, texts_of, with_link};
+ghost use Rattle.sms_worker.specs.TextsState.{carried, changed, link_of, no_texts, settled_one, texts_of, texts_of_one, with_link};
 
 use crate::open::SegmentPlace;
 use crate::user_data::UserData;
@@ -48,7 +48,7 @@ impl Model for Texts {
 }
 
 impl Texts {
-    /// The texts of these parts: the user data of each is made here, and nowhere else.
+    /// The texts of these parts: the user data of each is made here.
     pub fn of(alloc: Global, parts: &[Part]) -> Result<Texts, AllocError>
         requires { All HasSeptets parts.now }
         ensures { IfOk result (λ texts. texts ≡ texts_of parts.now) }
@@ -67,6 +67,21 @@ impl Texts {
         })
     }
 
+    /// The texts of a message of one part, whose user data was made without that part.
+    pub fn of_one(alloc: Global, carried: UserData) -> Result<Texts, AllocError>
+        ensures { IfOk result (λ texts. texts ≡ texts_of_one carried) }
+    {
+        let mut parts = Vec::with_capacity(alloc, 1)?;
+        parts.push_reserved(Kept {
+            carried,
+            link: NO_LINK,
+        });
+        Ok(Texts {
+            parts,
+            unsettled: 1,
+        })
+    }
+
     /// No parts. Takes no memory.
     pub fn none(alloc: Global) -> Texts
         ensures { result ≡ no_texts }
@@ -75,6 +90,13 @@ impl Texts {
             parts: Vec::new(alloc),
             unsettled: 0,
         }
+    }
+
+    /// How many parts are kept.
+    pub fn count(&self) -> usize
+        ensures { result ≡ length self.now.kept }
+    {
+        self.parts.len()
     }
 
     /// The user data of a part, if it is there still.

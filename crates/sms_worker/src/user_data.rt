@@ -2,10 +2,10 @@
 
 ghost use Rattle.std.specs.Prelude.{◌≡◌, IfOk};
 ghost use Rattle.sms_segment.specs.Part.{HasSeptets};
-ghost use Rattle.sms_worker.specs.UserData.{user_data};
+ghost use Rattle.sms_worker.specs.UserData.{data_of, user_data};
 
 use sms_pdu::Octets;
-use sms_segment::Part;
+use sms_segment::{Part, ShortMessage};
 use std::alloc::{AllocError, Global};
 
 /// The user data of a part (3GPP TS 23.040 9.2.3.24): its octets, and how they are to be read (SMPP 3.4
@@ -29,5 +29,16 @@ impl UserData {
             data_coding: part.data_coding(),
             short_message: Octets::new(octets),
         })
+    }
+
+    /// The user data of a short message without a header. Takes no memory.
+    pub fn of_one(one: ShortMessage) -> UserData
+        ensures { result ≡ data_of one }
+    {
+        UserData {
+            esm_class: 0,
+            data_coding: one.data_coding,
+            short_message: Octets::new(one.octets),
+        }
     }
 }

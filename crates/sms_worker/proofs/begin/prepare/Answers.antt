@@ -1,5 +1,5 @@
-use Rattle.std.proofs.Common.{◌∙◌, ap, map, rules}
-use Rattle.sms_worker.specs.UserData.{user_data}
+use Rattle.std.proofs.Common.{◌∙◌, ap, rules}
+use Rattle.sms_worker.specs.Submits.{message_parts}
 use Rattle.sms_worker.specs.TextsState.{carried}
 use Rattle.sms_worker.proofs.Beginnings.{not_cut}
 use Rattle.sms_worker.proofs.Kept.{carried_of}
@@ -15,4 +15,4 @@ pub returns-in-Ok-waiting_ends-clause-short : goal.returns-in-Ok-waiting_ends-cl
 returns-in-Ok-waiting_ends-clause-short c = c.in-Ok.ensures.short
 
 pub returns-in-Ok-waiting_ends-clause-texts : goal.returns-in-Ok-waiting_ends-clause-texts
-returns-in-Ok-waiting_ends-clause-texts c = ap carried c.in-Ok-of.ensures ∙ carried_of c.as_slice.result.now ∙ ap (map user_data) (c.as_slice.ensures.value ∙ c.in-Ok.ensures.parts)
+returns-in-Ok-waiting_ends-clause-texts c = ap carried c.in-Ok.ensures.texts ∙ carried_of (message_parts c.args.rules.now c.args.message.now)
