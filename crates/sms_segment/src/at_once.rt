@@ -1,8 +1,8 @@
 //! A text that one short message carries, from its characters to octets.
 
-ghost use Rattle.std.specs.Prelude.{◌≡◌, ◌∷◌, [], ◌↔◌, Some, List, ℕ, IfOk, IfSome, IsSome, length};
+ghost use Rattle.std.specs.Prelude.{◌≡◌, ◌∷◌, [], ◌↔◌, IfOk, IfSome, IsSome, length};
 ghost use Rattle.std.specs.Str.{chars};
-ghost use Rattle.sms_alphabet.specs.Spelling.{IsCodable, chosen, gsm_spelling, ucs2_spelling};
+ghost use Rattle.sms_alphabet.specs.Spelling.{chosen, ucs2_spelling};
 ghost use Rattle.sms_segment.specs.declared.place.Reference.{Reference as TheReference};
 ghost use Rattle.sms_segment.specs.Message.{parts_of, whole};
 ghost use Rattle.sms_segment.specs.Part.{data_coding, short_message};
