@@ -1,3 +1,6 @@
+pub mod Accepting
+pub mod Charging
+pub mod Covering
 pub mod Jobs
 pub mod Lines
 pub mod Plans

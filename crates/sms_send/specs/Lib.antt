@@ -4,5 +4,6 @@ pub mod CommandLine
 pub mod Plans
 pub mod Replays
 pub mod Sent
+pub mod Laws
 pub mod Jobs
 pub mod Telling

@@ -8,6 +8,7 @@ mod devices;
 mod fault;
 mod host;
 mod job;
+pub mod laws;
 mod network;
 mod opened;
 mod outbox;
