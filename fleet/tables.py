@@ -1,0 +1,64 @@
+"""CSV files as sms-send reads and writes them (docs/FORMATS.md), and files that are there whole or not at all."""
+import csv
+import os
+import re
+
+csv.field_size_limit(2**31 - 1)
+QUOTED = re.compile('[,"\r\n]')
+
+
+class Fault(Exception):
+    """What is wrong with an input, told as `FILE:LINE: what`, or `FILE: what`."""
+
+    def __init__(self, name, what, line=None):
+        super().__init__(f"{name}:{line}: {what}" if line else f"{name}: {what}")
+
+
+def records(name):
+    """The records of a file, each with the line where it ends. Empty lines are none, and a byte order mark is passed over."""
+    try:
+        with open(name, newline="", encoding="utf-8-sig") as file:
+            reader = csv.reader(file)
+            return [(reader.line_num, it) for it in reader if it]
+    except OSError as it:
+        raise Fault(name, it.strerror) from None
+    except (UnicodeDecodeError, csv.Error) as it:
+        raise Fault(name, f"is no CSV in UTF-8: {it}") from None
+
+
+def table(name, header):
+    """The records behind the header, which all have as many fields."""
+    found = records(name)
+    if not found or found[0][1] != header:
+        raise Fault(name, f"its first record has to be {','.join(header)}", 1)
+    for line, it in found[1:]:
+        if len(it) != len(header):
+            raise Fault(name, f"{len(header)} fields are wanted ({','.join(header)}), and there are {len(it)}", line)
+    return found[1:]
+
+
+def number(name, line, text, most):
+    """A number of 1 to 20 digits, at most so great."""
+    if not (text.isascii() and text.isdigit() and len(text) <= 20) or int(text) > most:
+        raise Fault(name, f"'{text}' is no number from 0 to {most}", line)
+    return int(text)
+
+
+def field(text):
+    """A field as it stands in a file: in quotes where it has a comma, a quote or a line's end (RFC 4180 2)."""
+    return '"' + text.replace('"', '""') + '"' if QUOTED.search(text) else text
+
+
+def put_lines(lines, name):
+    """Writes a file of records, under another name first, so that it is there whole or not at all."""
+    with open(f"{name}.new", "w", newline="", encoding="utf-8") as file:
+        file.writelines(",".join(map(field, it)) + "\n" for it in lines)
+        file.flush()
+        os.fsync(file.fileno())
+    os.rename(f"{name}.new", name)
+
+
+def put_text(text, name):
+    with open(f"{name}.new", "w", newline="", encoding="utf-8") as file:
+        file.write(text)
+    os.rename(f"{name}.new", name)
