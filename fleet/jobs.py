@@ -43,18 +43,16 @@ class Job:
         return next((self.tariff[digits[:k]] for k in range(len(digits), -1, -1) if digits[:k] in self.tariff), 1)
 
     def runs(self):
-        """The folders of the runs by part, each part's in their order: K, what was left of K as K.1, K.2, .., then K + 1."""
-        found = glob.glob(f"{glob.escape(self.folder)}/{PARTS}/*/*")
-        folders = [it for it in found if re.fullmatch(r"[0-9]+(\.[0-9]+)?", os.path.basename(it))]
-        parts = {}
-        for it in sorted(folders, key=place):
-            parts.setdefault(os.path.dirname(it), []).append(it)
-        return list(parts.values())
+        """The folders of the runs, part by part."""
+        parts = glob.glob(f"{glob.escape(self.folder)}/{PARTS}/*")
+        return [it for it in map(runs_of_part, sorted(parts)) if it]
 
 
-def place(folder):
-    part, run = folder.split("/")[-2:]
-    return part, [int(it) for it in run.split(".")]
+def runs_of_part(folder):
+    """The folders of a part's runs in their order: K, what was left of K as K.1, K.2, .., then K + 1."""
+    found = glob.glob(f"{glob.escape(folder)}/*")
+    runs = [it for it in found if re.fullmatch(r"[0-9]+(\.[0-9]+)?", os.path.basename(it))]
+    return sorted(runs, key=lambda it: [int(number) for number in os.path.basename(it).split(".")])
 
 
 def read_config(name):
