@@ -1,7 +1,7 @@
 import os
 
 from jobs import Job
-from merging import Differences, merge
+from merging import Differences, Merge, merge
 from reports import Report
 from splitting import split
 from tables import Fault, put_lines, put_text, records
@@ -214,6 +214,37 @@ class Differing(Merging):
                 merge(self.folder)
             self.edit("parts/01/1/report.csv", bad, good)
         merge(self.folder)
+
+
+class Sums(Merging):
+    """The sums of the whole, which no fault of one run alone can spoil: here what was added up is altered."""
+
+    def found(self):
+        job = self.made({"a": 3, "b": 2})
+        found = Merge(job)
+        for runs in job.runs():
+            for it in runs:
+                found.add(runs[0].rsplit("/", 1)[0], it)
+        return found
+
+    def test_they_agree(self):
+        found = self.found()
+        found.compare()
+        self.assertEqual(found.wrong, [])
+
+    def test_sums_of_the_runs_that_are_others(self):
+        found = self.found()
+        found.sums["a"]["returned"] += 1
+        found.compare()
+        self.assertEqual(len(found.wrong), 1)
+        self.assertIn("account a: the runs come to", found.wrong[0])
+
+    def test_credits_that_are_lost(self):
+        found = self.found()
+        found.free["b"] -= 1
+        found.compare()
+        self.assertEqual(len(found.wrong), 1)
+        self.assertIn("account b was given 100, and has 97 free", found.wrong[0])
 
 
 class Costs(Merging):
