@@ -50,15 +50,18 @@ def field(text):
 
 
 def put_lines(lines, name):
-    """Writes a file of records, under another name first, so that it is there whole or not at all."""
-    with open(f"{name}.new", "w", newline="", encoding="utf-8") as file:
-        file.writelines(",".join(map(field, it)) + "\n" for it in lines)
-        file.flush()
-        os.fsync(file.fileno())
-    os.rename(f"{name}.new", name)
+    """Writes a file of records."""
+    put(name, (",".join(map(field, it)) + "\n" for it in lines))
 
 
 def put_text(text, name):
+    put(name, [text])
+
+
+def put(name, texts):
+    """Writes a file under another name first, so that it is there whole or not at all."""
     with open(f"{name}.new", "w", newline="", encoding="utf-8") as file:
-        file.write(text)
+        file.writelines(texts)
+        file.flush()
+        os.fsync(file.fileno())
     os.rename(f"{name}.new", name)
