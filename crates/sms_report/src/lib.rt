@@ -1,6 +1,7 @@
 //! What the program prints: the report of a sending with its statement, the plan of a messages file,
 //! the replay of a schedule, and the lines that tell a person how far a sending is and what it came
-//! to. The first three are formed whole before `write_out` lets them go out.
+//! to. The first three are formed whole before `write_out` lets them go out. With the report goes the
+//! exit status.
 
 #![tactic(auto)]
 
@@ -9,6 +10,7 @@ mod output;
 mod plan;
 mod replay;
 mod report;
+mod status;
 mod summary;
 mod tally;
 #[cfg(test)]
@@ -19,5 +21,6 @@ pub use output::write_out;
 pub use plan::plan_text;
 pub use replay::replay_text;
 pub use report::{report_text, write_report_of};
+pub use status::exit_status_of;
 pub use summary::{Credits, EndLine, Summary, summary_of};
 pub use tally::{Tally, WayLine, tally_of};

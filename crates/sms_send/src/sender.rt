@@ -3,7 +3,7 @@
 ghost use Rattle.std.specs.Prelude.{◌≡◌, ◌⊎◌, IfErr, IfOk, OnOk};
 ghost use Rattle.std.specs.Io.KnownBytes.{Appends};
 ghost use Rattle.sms_report.specs.Output.{WritesFront};
-ghost use Rattle.sms_report.specs.Report.{ends_status, has_unanswered, is_open_end, is_unanswered as is_silence, report_of, some_unanswered};
+ghost use Rattle.sms_report.specs.Report.{ends_status, report_of};
 ghost use Rattle.sms_driver.specs.SendFaults.{IsFaultOfOne};
 ghost use Rattle.sms_send.specs.Faults.{told_sending};
 ghost use Rattle.sms_send.specs.Sent.{AreSettingsOf, IsRulesOf, IsSent};
@@ -14,15 +14,12 @@ use crate::fault::Fault;
 use sms_book::{Opening, Statement, Tariff};
 use sms_driver::{BindEnd, BindSettings, Dial, Sending, drive_all};
 use sms_files::{Config, Connection, Flags, Input, Limits, Retry};
-use sms_report::write_report_of;
-use sms_worker::{Clock, Gate, MessageEnd, MessageResult, Outcome, Pause, Rules, SegmentEnd};
+use sms_report::{exit_status_of, write_report_of};
+use sms_worker::{Clock, Gate, MessageEnd, Pause, Rules};
 use std::alloc::Global;
 use std::io::Write;
 use std::sync::Wait;
 use std::thread::Threads;
-
-/// The exit status where a segment is unanswered.
-const UNANSWERED: u8 = 4;
 
 /// How many turns readers and workers take at most.
 const TURNS: u64 = 1 << 40;
@@ -57,11 +54,7 @@ impl Ended {
     pub fn exit_status(&self) -> u8
         ensures { result ≡ ends_status self.now.ends.items }
     {
-        if is_some_open(self.ends.as_slice()) {
-            UNANSWERED
-        } else {
-            0
-        }
+        exit_status_of(self.ends.as_slice())
     }
 
     /// What became of the accounts.
@@ -77,50 +70,6 @@ impl Ended {
     {
         self.binds.as_slice()
     }
-}
-
-/// Whether the outcome is that there was no answer.
-fn is_unanswered(outcome: Outcome) -> bool
-    ensures { result ≡ is_silence outcome }
-{
-    match outcome {
-        Outcome::Unanswered => true,
-        Outcome::Charged | Outcome::Refused | Outcome::Unsent => false,
-    }
-}
-
-/// Whether one of the segments is unanswered.
-fn is_some_unanswered(segments: &[SegmentEnd]) -> bool
-    ensures { result ≡ has_unanswered segments.now }
-{
-    for segment in segments {
-        if is_unanswered(segment.outcome) {
-            return true;
-        }
-    }
-    false
-}
-
-/// Whether a segment of the message is unanswered.
-fn is_open(end: &MessageEnd) -> bool
-    ensures { result ≡ is_open_end end.now.result }
-{
-    match &end.result {
-        MessageResult::Sent(segments) => is_some_unanswered(segments.as_slice()),
-        MessageResult::Refused(_) => false,
-    }
-}
-
-/// Whether a segment of one of the messages is unanswered.
-fn is_some_open(ends: &[MessageEnd]) -> bool
-    ensures { result ≡ some_unanswered ends.now }
-{
-    for end in ends {
-        if is_open(end) {
-            return true;
-        }
-    }
-    false
 }
 
 /// The rules of the workers.

@@ -1,6 +1,6 @@
 use Rattle.std.proofs.Common.{◌≡◌, drop}
 use Rattle.sms_report.specs.Report.{some_unanswered}
-use Rattle.sms_send.proofs.sender.is_some_open.Given as goal
+use Rattle.sms_report.proofs.status.is_some_open.Given as goal
 
 abbrev pub invariant-loop-end : goal.invariant-loop-end
 invariant-loop-end l = some_unanswered l.ends ≡ some_unanswered (drop l.end-index l.ends)
