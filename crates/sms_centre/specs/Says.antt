@@ -1,5 +1,5 @@
 -- What the centre says to a frame, after the submit_sm that came before it.
-use Rattle.std.specs.Prelude.{◌≡◌, ℕ, ◌+◌, ◌%◌, ◌^◌, List, [], ◌∷◌, ◌++◌, take, filter, min, not, ◌-◌, Option, Some, None, ◌==◌, nat_le, decimal, if◌then◌else◌, codes}
+use Rattle.std.specs.Prelude.{◌≡◌, ℕ, ◌+◌, ◌%◌, ◌^◌, List, [], ◌∷◌, ◌++◌, take, filter, min, not, ◌-◌, Option, Some, None, ◌==◌, decimal, if◌then◌else◌, codes}
 use Rattle.std.specs.List.{AllZip, flat_map, concat}
 use Rattle.std.specs.Int.{w32, to_be_bytes}
 use Rattle.sms_core.specs.Statuses.{no_error, bad_command_id}
@@ -11,7 +11,7 @@ use Rattle.sms_pdu.specs.declared.body.Body.TheVariants as body
 use Rattle.sms_pdu.specs.declared.command.Mode.{Mode}
 use Rattle.sms_pdu.specs.declared.command.Mode.TheVariants.{Transmitter, Transceiver}
 use Rattle.sms_pdu.specs.declared.command.Command.TheVariants as command
-use Rattle.sms_pdu.specs.Command.{id_of}
+use Rattle.sms_pdu.specs.Command.{id_of, is_response}
 use Rattle.sms_pdu.specs.Grammar.{Spells}
 use Rattle.sms_centre.specs.declared.kept.Kept.{Kept}
 use Rattle.sms_centre.specs.declared.said.Said.{Said}
@@ -136,7 +136,7 @@ reply_said bind_status h =
     else (if h.command == id_of command.BindTransceiver then said.BindResp Transceiver bind_status h.number ∷ []
     else (if h.command == id_of command.Unbind then said.UnbindResp h.number ∷ []
     else (if h.command == id_of command.EnquireLink then said.EnquireLinkResp h.number ∷ []
-    else (if nat_le 0x80000000 h.command then [] else said.GenericNack bad_command_id h.number ∷ []))))
+    else (if is_response h.command then [] else said.GenericNack bad_command_id h.number ∷ []))))
 
 -- what is said to a frame
 abbrev pub said_to : Progress → Header → List Said

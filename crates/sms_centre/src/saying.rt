@@ -7,11 +7,10 @@ ghost use Rattle.sms_centre.specs.declared.said.Said.TheVariants.{SubmitResp};
 use crate::said::Said;
 use crate::treatment::Treatment;
 use sms_core::{ESME_RINVCMDID, ESME_ROK};
-use sms_pdu::{BIND_TRANSCEIVER, BIND_TRANSMITTER, ENQUIRE_LINK, Header, Mode, UNBIND};
+use sms_pdu::{
+    BIND_TRANSCEIVER, BIND_TRANSMITTER, ENQUIRE_LINK, FIRST_RESPONSE, Header, Mode, UNBIND,
+};
 use std::alloc::AllocError;
-
-/// The least command_id of a response (SMPP 3.4 5.1.2.1).
-const RESPONSE: u32 = 0x8000_0000;
 
 /// How far the sequence_number of a stray answer is from the submit_sm's.
 const STRAY: u32 = 1_000_000;
@@ -95,7 +94,7 @@ pub(crate) fn reply_to(bind_status: u32, header: &Header) -> Option<Said>
         }),
         UNBIND => Some(Said::UnbindResp { number }),
         ENQUIRE_LINK => Some(Said::EnquireLinkResp { number }),
-        RESPONSE.. => None,
+        FIRST_RESPONSE.. => None,
         _ => Some(Said::GenericNack {
             status: ESME_RINVCMDID,
             number,

@@ -1,5 +1,5 @@
 -- The command_ids (SMPP 3.4 5.1.2.1).
-use Rattle.std.specs.Prelude.{ℕ, List, [], ◌∷◌, Option, ◌==◌, find}
+use Rattle.std.specs.Prelude.{ℕ, List, [], ◌∷◌, Option, Bool, ◌==◌, nat_le, find}
 use Rattle.sms_pdu.specs.declared.command.Command.{Command}
 use Rattle.sms_pdu.specs.declared.command.Command.TheVariants.{GenericNack, BindTransmitter, BindTransmitterResp, SubmitSm, SubmitSmResp, DeliverSm, DeliverSmResp, Unbind, UnbindResp, BindTransceiver, BindTransceiverResp, EnquireLink, EnquireLinkResp}
 
@@ -26,3 +26,11 @@ commands = BindTransmitter ∷ BindTransmitterResp ∷ SubmitSm ∷ SubmitSmResp
 -- the command that has this id
 abbrev pub command_of : ℕ → Option Command
 command_of id = find (λ command. id_of command == id) commands
+
+-- alert_notification, a request whose body is not read here (4.12.1)
+abbrev pub alert_notification : ℕ
+alert_notification = 0x00000102
+
+-- the command_id of a response has the top bit
+abbrev pub is_response : ℕ → Bool
+is_response id = nat_le 0x80000000 id

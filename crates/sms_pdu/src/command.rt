@@ -69,6 +69,13 @@ pub const ENQUIRE_LINK: u32 = 0x0000_0015;
 /// The command_id of enquire_link_resp (SMPP 3.4 4.11.2).
 pub const ENQUIRE_LINK_RESP: u32 = 0x8000_0015;
 
+/// The command_id of alert_notification, which alone of the requests that come in has no response
+/// (SMPP 3.4 4.12.1).
+pub const ALERT_NOTIFICATION: u32 = 0x0000_0102;
+
+/// The least command_id of a response: the top bit is set (SMPP 3.4 5.1.2.1).
+pub const FIRST_RESPONSE: u32 = 0x8000_0000;
+
 /// The commands with their command_ids: what tells the one from the other is made from this table.
 macro_rules! commands {
     ($with:ident!($context:tt)) => {

@@ -1,12 +1,12 @@
 -- The states of a session, and its table (SMPP 3.4 2.2, 2.3).
-use Rattle.std.specs.Prelude.{◌≡◌, ◌≢◌, ℕ, List, [], ◌∷◌, Bool, true, false, ◌==◌, ◌&&◌, ◌||◌, nat_le, if◌then◌else◌, Result, Ok, Err, ◌⊎◌}
+use Rattle.std.specs.Prelude.{◌≡◌, ◌≢◌, ℕ, List, [], ◌∷◌, Bool, true, false, ◌==◌, ◌&&◌, ◌||◌, if◌then◌else◌, Result, Ok, Err, ◌⊎◌}
 use Rattle.sms_core.specs.Statuses.{no_error, wrong_bind_state, bad_command_id}
 use Rattle.sms_pdu.specs.declared.header.Header.{Header}
 use Rattle.sms_pdu.specs.declared.command.Mode.{Mode}
 use Rattle.sms_pdu.specs.declared.command.Mode.TheVariants.{Transmitter, Transceiver}
 use Rattle.sms_pdu.specs.declared.command.Command.{Command}
 use Rattle.sms_pdu.specs.declared.command.Command.TheVariants as command
-use Rattle.sms_pdu.specs.Command.{id_of}
+use Rattle.sms_pdu.specs.Command.{id_of, alert_notification, is_response}
 use Rattle.sms_pdu.specs.Grammar.{bind_resp_command}
 use Rattle.sms_session.specs.declared.session.State.{State}
 use Rattle.sms_session.specs.declared.session.State.TheVariants.{BoundTx, BoundTrx, Closed}
@@ -71,9 +71,9 @@ closed state = Closed
 abbrev pub is_answer : ℕ → Bool
 is_answer id = is command.SubmitSmResp id || is command.GenericNack id
 
--- alert_notification, which has no response (4.12.1), or a response, whose command_id has the top bit (5.1.2.1)
+-- alert_notification, which has no response (4.12.1), or a response
 abbrev pub is_noted : ℕ → Bool
-is_noted id = (id == 0x00000102) || nat_le 0x80000000 id
+is_noted id = (id == alert_notification) || is_response id
 
 abbrev pub any : ℕ → Bool
 any id = true

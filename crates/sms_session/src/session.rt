@@ -6,8 +6,9 @@ ghost use Rattle.sms_session.specs.Session.{opening, on_table, MaySend};
 
 use sms_core::{ESME_RINVBNDSTS, ESME_RINVCMDID, ESME_ROK};
 use sms_pdu::{
-    BIND_TRANSCEIVER_RESP, BIND_TRANSMITTER_RESP, DELIVER_SM, DELIVER_SM_RESP, ENQUIRE_LINK,
-    ENQUIRE_LINK_RESP, GENERIC_NACK, Header, Mode, SUBMIT_SM, SUBMIT_SM_RESP, UNBIND, UNBIND_RESP,
+    ALERT_NOTIFICATION, BIND_TRANSCEIVER_RESP, BIND_TRANSMITTER_RESP, DELIVER_SM, DELIVER_SM_RESP,
+    ENQUIRE_LINK, ENQUIRE_LINK_RESP, FIRST_RESPONSE, GENERIC_NACK, Header, Mode, SUBMIT_SM,
+    SUBMIT_SM_RESP, UNBIND, UNBIND_RESP,
 };
 use std::marker::Model;
 
@@ -88,13 +89,6 @@ impl Model for Session {
 
     ghost view = { λ s. s.state };
 }
-
-/// The command_id of alert_notification, which alone of the requests that come in has no response
-/// (SMPP 3.4 4.12.1).
-const ALERT_NOTIFICATION: u32 = 0x0000_0102;
-
-/// The least command_id of a response: the top bit is set (SMPP 3.4 5.1.2.1).
-const FIRST_RESPONSE: u32 = 0x8000_0000;
 
 impl Opened {
     /// A session whose bind is of this mode.
