@@ -1,5 +1,5 @@
 -- Lemmas on the bind's octets and its answer.
-use Rattle.std.proofs.Common.{◌≡◌, ℕ, ◌+◌, ◌-◌, ◌<◌, ◌≤◌, List, [], ◌++◌, ◌∷◌, length, length-append, get_or, Bool, true, false, if◌then◌else◌, Option, Result, Ok, Err, inl, inr, sym, ap, ◌∙◌, arith}
+use Rattle.std.proofs.Common.{◌≡◌, ◌⊎◌, ℕ, ◌+◌, ◌-◌, ◌^◌, ◌<◌, ◌≤◌, List, [], ◌++◌, ◌∷◌, length, length-append, get_or, Bool, true, false, if◌then◌else◌, Option, Result, Ok, Err, inl, inr, min, subst, sym, ap, ◌∙◌, arith}
 use Rattle.std.specs.List.{remove}
 use Rattle.std.specs.Io.KnownBytes.{Consumes}
 use Rattle.std.proofs.KnownBytes.{Appends-nil, Consumes-trans}
@@ -15,6 +15,7 @@ use Rattle.sms_bind.specs.declared.binding.BindFault.{BindFault}
 use Rattle.sms_bind.specs.declared.binding.BindFault.TheVariants as fault
 use Rattle.sms_session.specs.declared.session.OpenFault.{OpenFault}
 use Rattle.sms_session.specs.declared.session.OpenFault.TheVariants.{Refused, NotBind}
+use Rattle.sms_pdu.specs.Faults.{Counts, CountsMany}
 use Rattle.sms_pdu.specs.Frame.{Division, IsBad}
 use Rattle.sms_pdu.specs.Header.{header_at_front}
 use Rattle.sms_pdu.specs.Streams.{SomeAppended}
@@ -84,3 +85,17 @@ gave_answer got piece framer r t u d good few before last =
 -- who read something at last had something left at first
 pub not_spent_before : (got piece : List ℕ) (r t u : Option (List ℕ)) → 0 < length piece → Consumes r t got → Consumes t u piece → ¬ IsSpent r
 not_spent_before got piece r t u some before last = not_spent r u (got ++ piece) (omega (arith, length-append got piece, some)) (Consumes-trans r t u got piece before last)
+
+-- ---- the reads that gave nothing
+
+-- so many were counted, and where there were none the count is what it was
+abbrev pub Tried : ℕ → ℕ → ℕ → Type 0
+Tried n old new = ((n ≡ 0) × (new ≡ old)) ⊎ CountsMany n old new
+
+pub tried_more : (n a b c : ℕ) → Counts b c → Tried n a b → Tried (n + 1) a c
+tried_more n a b c h (inl (none, same)) = let k : b + 1 ≡ a + (n + 1) = omega (arith, none, same) in inr (subst (λ m. c ≡ min m (2 ^ 64 - 1)) k h)
+tried_more n a b c h (inr many) = inr (omega (arith, h, many))
+
+pub tried_all : (n k a b : ℕ) → n ≡ k → 0 < n → Tried n a b → CountsMany k a b
+tried_all n k a b is some (inl (none, same)) = absurd (omega (arith, none, some))
+tried_all n k a b is some (inr many) = subst (λ m. CountsMany m a b) is many

@@ -1,7 +1,6 @@
 -- Frames that were worked one after another.
-use Rattle.std.proofs.Common.{◌≡◌, ◌≢◌, ◌⊎◌, ℕ, ◌+◌, ◌<◌, ◌≤◌, List, [], ◌∷◌, ◌++◌, inl, inr, get_or, length, map, drop, Option, Some, None, refl, sym, ap, ◌∙◌, subst, arith, append-nil}
+use Rattle.std.proofs.Common.{◌≡◌, ◌⊎◌, ℕ, ◌+◌, ◌<◌, List, [], ◌∷◌, ◌++◌, inl, inr, get_or, length, map, drop, Option, Some, None, refl, sym, ap, ◌∙◌, subst, arith, append-nil}
 use Rattle.std.specs.List.{concat}
-use Rattle.std.proofs.lemmas.Bool.{cases_lt}
 use Rattle.std.proofs.lemmas.List.{drop_more}
 use Rattle.rtrb.specs.Ring.{sent, SameProducer}
 use Rattle.rtrb.specs.declared.producer.Producer.{Producer}
@@ -18,7 +17,6 @@ use Rattle.sms_pdu.proofs.Streams.{went_none, went_more, reads_none, consumes_no
 use Rattle.sms_bind.specs.declared.ending.ReaderCause.{ReaderCause}
 use Rattle.sms_bind.specs.declared.ending.ReaderCause.TheVariants as cause
 use Rattle.sms_bind.specs.Deeds.{SuitAll, Reaches, state_after, stretch_of, broken_at, log, tallies, of_response, is_broken}
-use Rattle.sms_bind.specs.Faults.{Counts, IsCounted}
 use Rattle.sms_bind.specs.Held.{Held}
 use Rattle.sms_bind.specs.Follows.{Follows}
 use Rattle.sms_bind.specs.ReaderStates.{Worked}
@@ -72,16 +70,7 @@ worked_ends s end a b fs reaches quiet p =
 pub frames_from : (fs : List (List ℕ)) (i : ℕ) (f : List ℕ) → i < length fs → f ≡ get_or fs i f → concat (drop i fs) ≡ f ++ concat (drop (i + 1) fs)
 frames_from fs i f low is = ap concat (drop_more fs i f low ∙ ap (λ (x : List ℕ). x ∷ drop (i + 1) fs) (sym is))
 
--- ---- the count of errors, and the seat
-
--- a count that grew later grew
-pub counted_later : (a b c : ℕ) → a ≤ b → b ≤ c → IsCounted b c → IsCounted a c
-counted_later a b c low up (inl h) = inl (omega arith)
-counted_later a b c low up (inr h) = elim (cases_lt a c) [ inl more ↦ inl more | inr same ↦ inr (omega arith) ]
-
--- one more than a number that is the same
-pub counted_once : (a b c : ℕ) → b ≡ a → Counts b c → Counts a c
-counted_once a b c same h = subst (λ n. Counts n c) same h
+-- ---- the seat
 
 pub follows_same : (h : Held) → Follows h h
 follows_same h = record { window = refl; began = refl; most = refl }
@@ -138,7 +127,3 @@ reads_failed s a end held r t (inl e) kept rest good =
 reads_failed s a end held r t (inr e) kept rest good =
     subst (λ (x : Option ReaderCause). Reads (Worked s x a a) held r t (stretch_of x) held) (sym e)
     (reads_none (Worked s (Some cause.ReadFault) a a) held held r t complete (worked_nothing s (Some cause.ReadFault) a refl refl) (consumes_nothing r t kept) (rest, good))
-
-pub not_failed : (end : Option ReaderCause) (other : ReaderCause) → (end ≡ None) ⊎ (end ≡ Some cause.ReadFault) → ¬ (other ≡ cause.ReadFault) → end ≢ Some other
-not_failed end other (inl e) off is = absurd cc
-not_failed end other (inr e) off is = off cc

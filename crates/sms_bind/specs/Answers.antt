@@ -1,6 +1,9 @@
 -- What the octets that were read say to a bind.
 use Rattle.std.specs.Prelude.{◌≡◌, ℕ, ◌+◌, ◌<◌, List, [], ◌∷◌, Bool, true, false, Result, Ok, Err, ◌⊎◌}
 use Rattle.sms_pdu.specs.declared.command.Mode.{Mode}
+use Rattle.sms_pdu.specs.declared.tap.Tap.{Tap}
+use Rattle.sms_pdu.specs.Devices.{faults_of, failures_of}
+use Rattle.sms_pdu.specs.Faults.{Counts, CountsMany}
 use Rattle.sms_pdu.specs.Header.{header_at_front}
 use Rattle.sms_pdu.specs.Frame.{Division, IsBad}
 use Rattle.sms_session.specs.declared.session.State.{State}
@@ -8,9 +11,6 @@ use Rattle.sms_session.specs.declared.session.OpenFault.{OpenFault}
 use Rattle.sms_session.specs.declared.session.OpenFault.TheVariants.{Refused, NotBind}
 use Rattle.sms_session.specs.Session.{opening}
 use Rattle.sms_bind.specs.declared.bound.Bound.{Bound}
-use Rattle.sms_bind.specs.declared.tap.Tap.{Tap}
-use Rattle.sms_bind.specs.Devices.{faults_of, failures_of}
-use Rattle.sms_bind.specs.Faults.{Counts, CountsMany}
 use Rattle.sms_bind.specs.declared.binding.BindFault.{BindFault}
 use Rattle.sms_bind.specs.declared.binding.BindFault.TheVariants as fault
 

@@ -1,7 +1,6 @@
-pub mod Faults
 pub mod Binds
 pub mod Answers
-pub mod Devices
+pub mod Wires
 pub mod Held
 pub mod Follows
 pub mod Deeds

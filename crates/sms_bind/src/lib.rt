@@ -15,7 +15,6 @@ mod reader_state;
 mod replying;
 mod settings;
 mod stream;
-mod tap;
 #[cfg(test)]
 mod tests;
 mod turns;
@@ -27,5 +26,4 @@ pub use ending::{ReaderCause, ReaderEnd};
 pub use line::Line;
 pub use reader::read_loop;
 pub use settings::Settings;
-pub use tap::Tap;
 pub use wire::{Receipt, Wire, WireFault};

@@ -4,7 +4,7 @@ ghost use Rattle.std.specs.Prelude.{◌≡◌, ◌⊎◌, ℕ, List, true, IfOk}
 ghost use Rattle.std.specs.Io.KnownBytes.{Appends};
 ghost use Rattle.sms_pdu.specs.Borrowed.{owned_body, owned_pdu};
 ghost use Rattle.sms_pdu.specs.Grammar.{Spells};
-ghost use Rattle.sms_bind.specs.Devices.{writer, is_broken};
+ghost use Rattle.sms_bind.specs.Wires.{writer, is_broken};
 ghost use Rattle.sms_bind.specs.Deeds.{bad_length_response, body_for, pdu_for, IsWritten};
 ghost use Rattle.sms_bind.specs.declared.deed.Written.TheVariants.{Sent, Broken};
 

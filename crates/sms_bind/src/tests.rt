@@ -1,7 +1,7 @@
 //! A wire, and a bind over devices in memory.
 
-use crate::{BindFault, Bound, Settings, Tap, Wire, WireFault, bind};
-use sms_pdu::{Field, Frame, Mode, Octets, PduError, is_frame};
+use crate::{BindFault, Bound, Settings, Wire, WireFault, bind};
+use sms_pdu::{Field, Frame, Mode, Octets, PduError, Tap, is_frame};
 use sms_session::State;
 use std::alloc::Global;
 use std::fmt::Debug;
@@ -208,21 +208,6 @@ fn a_broken_wire_writes_nothing_more(rt: HostRuntime) -> Result<(), Fail> {
     Ok(())
 }
 
-#[test]
-fn a_write_that_takes_nothing_is_counted(rt: HostRuntime) {
-    let mut tap = Tap::new(Sink {
-        room: 0,
-        octets: Vec::new(rt.alloc()),
-        fails: false,
-    });
-    same(&rt, tap.faults(), 0);
-    assert!(rt; tap.write(&[]).is_ok());
-    same(&rt, tap.faults(), 0);
-    assert!(rt; tap.write(&[1]).is_err());
-    same(&rt, tap.faults(), 1);
-    assert!(rt; tap.flush().is_ok());
-}
-
 // What a transmitter keeps of its answer, an enquire_link, and 15 octets of another one.
 fn want_kept(rt: &impl Abort, bound: Bound) {
     same(rt, bound.session.state(), State::BoundTx);
@@ -283,21 +268,6 @@ fn answers_that_refuse(rt: HostRuntime) -> Result<(), Fail> {
         Some(BindFault::Read),
     );
     Ok(())
-}
-
-// What a device counted: its errors, and those of them that say more than that nothing came.
-fn want_counted(rt: &impl Abort, reader: &Tap<Source<'_>>, wanted: (u64, u64)) {
-    same(rt, (reader.faults(), reader.failures()), wanted);
-}
-
-// Reads that gave nothing and one that failed are counted apart.
-#[test]
-fn reads_that_fail_are_counted_apart(rt: HostRuntime) {
-    let mut reader = source_of(2, &[], true);
-    for wanted in [(1, 0), (2, 0), (3, 1), (4, 2)] {
-        assert!(rt; reader.read(&mut [0]).is_err());
-        want_counted(&rt, &reader, wanted);
-    }
 }
 
 // 599 reads may give nothing, and the 600th is a fault; an end or a failure behind them is what it is.

@@ -1,35 +1,30 @@
 //! Reading in turns.
 
-ghost use Rattle.std.specs.Prelude.{◌≡◌, ◌≢◌, ◌+◌, ◌<◌, ◌≤◌, ◌^◌, ◌++◌, ◌⊎◌, [], length, None, Some, true, false};
-ghost use Rattle.std.specs.IoError.{error_kind};
+ghost use Rattle.std.specs.Prelude.{◌≡◌, ◌≢◌, ◌+◌, ◌<◌, ◌≤◌, ◌^◌, ◌++◌, [], length, None, Some};
 ghost use Rattle.std.specs.List.{concat};
 ghost use Rattle.std.specs.Io.KnownBytes.{IsAtEnd};
 ghost use Rattle.sms_pdu.specs.Frame.{IsRest, IsBad};
+ghost use Rattle.sms_pdu.specs.Devices.{device, faults_of, failures_of};
+ghost use Rattle.sms_pdu.specs.Faults.{Counts, IsCounted};
 ghost use Rattle.sms_pdu.specs.Streams.{Reads};
-ghost use Rattle.sms_pdu.specs.Turn.{IsSpent, gives_nothing};
+ghost use Rattle.sms_pdu.specs.Turn.{IsSpent, Turned};
 ghost use Rattle.sms_session.specs.Session.{IsBound};
 ghost use Rattle.sms_bind.specs.Deeds.{stretch_of, IsWithin};
-ghost use Rattle.sms_bind.specs.Devices.{device, faults_of, failures_of};
-ghost use Rattle.sms_bind.specs.Faults.{Counts, IsCounted};
 ghost use Rattle.sms_bind.specs.Follows.{Follows};
 ghost use Rattle.sms_bind.specs.ReaderStates.{Worked};
-ghost use Rattle.sms_bind.specs.Turns.{Turned, Stops};
+ghost use Rattle.sms_bind.specs.Turns.{Stops};
 ghost use Rattle.sms_bind.specs.declared.ending.ReaderCause.TheVariants.{Ended, ReadFault, Stopped, Turns, OutOfMemory};
 
 use crate::ending::ReaderCause;
 use crate::line::Line;
 use crate::reader_state::ReaderState;
 use crate::replying::refuse_length;
-use crate::tap::Tap;
-use sms_pdu::{Frame, gave_nothing, is_bad};
+use sms_pdu::{Frame, PIECE, Tap, fault_of, is_bad};
 use sms_window::Window;
 use std::alloc::Global;
-use std::io::{Error, Read, Write};
+use std::io::{Read, Write};
 use std::sync::Wait;
 use std::sync::atomic::Ordering;
-
-/// The octets that one turn reads at most.
-const PIECE: usize = 65_536;
 
 impl ReaderState {
     /// Works the frames that were read before, then reads in turns.
@@ -155,20 +150,7 @@ impl ReaderState {
                 }
                 self.work_held(rt, alloc, line, window, held)
             }
-            Err(e) => fault_of(&e),
+            Err(e) => fault_of(&e, ReaderCause::ReadFault),
         }
-    }
-}
-
-/// Why the reader ends after a read that failed so, if it does.
-fn fault_of(e: &Error) -> Option<ReaderCause>
-    ensures again { gives_nothing (error_kind e.now) ≡ true → result ≡ None }
-    ensures fault { gives_nothing (error_kind e.now) ≡ false → result ≡ Some ReadFault }
-    ensures one { (result ≡ None) ⊎ (result ≡ Some ReadFault) }
-{
-    if gave_nothing(e) {
-        None
-    } else {
-        Some(ReaderCause::ReadFault)
     }
 }

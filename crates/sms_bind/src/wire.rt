@@ -2,13 +2,13 @@
 
 ghost use Rattle.std.specs.Prelude.{◌≡◌, ℕ, ◌+◌, ◌<◌, ◌≤◌, List, length, take, IsTrue, true, false, MatchResult, OnOk, OnErr, ◌⊎◌, Err, IfOk, IfErr, ◌↔◌};
 ghost use Rattle.std.specs.Io.KnownBytes.{Appends, Keeps};
-ghost use Rattle.sms_bind.specs.Devices.{device, faults_of, writer, write_faults, is_broken};
-ghost use Rattle.sms_bind.specs.Faults.{Counts, IsCounted};
-ghost use Rattle.sms_pdu.specs.Streams.{SomeAppended};
+ghost use Rattle.sms_pdu.specs.Devices.{device, faults_of};
+ghost use Rattle.sms_pdu.specs.Faults.{Counts, IsCounted};
+ghost use Rattle.sms_pdu.specs.Streams.{SomeAppended, FewerAppended};
+ghost use Rattle.sms_bind.specs.Wires.{writer, write_faults, is_broken};
 ghost use Rattle.sms_bind.specs.declared.wire.WireFault.TheVariants.{Write as WriteFault, Broken};
 
-use crate::tap::Tap;
-use sms_pdu::Frame;
+use sms_pdu::{Frame, Tap};
 use std::io::Write;
 use std::marker::Model;
 
@@ -75,6 +75,7 @@ impl<W: Write> Wire<W> {
         ensures failed_receipt { (r : List ℕ) → result ≡ Err (WriteFault r) → r ≡ frame }
         ensures whole { OnOk result (Appends (W.contents (writer self.old)) (W.contents (writer self.new)) frame) }
         ensures part { OnErr result (SomeAppended (W.contents (writer self.old)) (W.contents (writer self.new)) frame) }
+        ensures short { (r : List ℕ) → result ≡ Err (WriteFault r) → FewerAppended (W.contents (writer self.old)) (W.contents (writer self.new)) frame }
         ensures broken { (result ≡ Err Broken) ↔ (is_broken self.old ≡ true) }
         ensures kept { is_broken self.old ≡ true → self.new ≡ self.old }
         ensures after { MatchResult result (λ _. is_broken self.new ≡ false) (λ _. is_broken self.new ≡ true) }

@@ -1,3 +1,4 @@
+pub mod Causes
 pub mod KeyTexts
 pub mod KnownKeys
 pub mod Putting

@@ -1,13 +1,13 @@
 -- What is said to frames that come one after another, and what of it is written.
 use Rattle.std.proofs.Common.{◌≡◌, ◌≢◌, ◌⊎◌, ℕ, ◌+◌, inl, inr, List, [], ◌∷◌, ◌++◌, length, take, Bool, true, false, Option, Some, None, refl, sym, ap, ◌∙◌, subst, arith, append_assoc, append-nil, length-append, true≢false}
-use lib.Seq.{take-append-add, take_all}
+use lib.Seq.{take-append-add}
 use Rattle.std.specs.List.{AllZip, concat}
 use Rattle.std.proofs.lemmas.List.Folds.{concat-append}
 use Rattle.std.specs.Io.KnownBytes.{Appends, Keeps, IsAtEnd}
 use Rattle.std.proofs.KnownBytes.{Appends-nil, Appends-trans, Consumes-nil}
 use Rattle.sms_pdu.specs.Header.{header_at_front}
 use Rattle.sms_pdu.specs.Frame.{Division, IsRest, IsBad}
-use Rattle.sms_pdu.specs.Streams.{SomeAppended, Leaves, Reads, going, complete, early}
+use Rattle.sms_pdu.specs.Streams.{FewerAppended, Leaves, Reads, going, complete, early}
 use Rattle.sms_pdu.proofs.Divisions.{each_divided}
 use Rattle.sms_pdu.proofs.Streams.{rest_divided, division_after, consumes_nothing, reads_none, reads_ends, reads_rest}
 use Rattle.sms_centre.specs.declared.serving.Stop.{Stop}
@@ -17,7 +17,7 @@ use Rattle.sms_centre.specs.declared.serving.ServeCause.{ServeCause}
 use Rattle.sms_centre.specs.declared.serving.ServeCause.TheVariants as cause
 use Rattle.sms_centre.specs.Says.{IsSaid, Progress, said_to, after_frame, PutsAll}
 use Rattle.sms_centre.specs.Serving.{Talk, talking, talk, conversation, hears, tells, end_at, is_early, Writes, Brings, Serves}
-use Rattle.sms_centre.specs.Stops.{talk_at, brought, ends_early, stretch_of, cause_of, Answered, Written}
+use Rattle.sms_centre.specs.Stops.{talk_at, brought, ends_cut, stretch_of, cause_of, Answered, Written}
 use Rattle.sms_centre.proofs.Putting.{AllZip-append}
 
 talk-append : (t : Talk) (fs gs : List (List ℕ)) → talk t (fs ++ gs) ≡ talk (talk t fs) gs
@@ -65,34 +65,36 @@ answered_more p q r end a b c fs gs x y =
 
 -- ---- into a writer
 
-writes_all : (early : Bool) (a b : Option (List ℕ)) (xs : List ℕ) → Appends a b xs → Writes early a b xs
-writes_all false a b xs w = w
-writes_all true a b xs w = (length xs, omega arith, subst (λ l. Appends a b l) (sym (take_all (length xs) xs (omega arith))) w)
-
-writes_more : (early : Bool) (a b c : Option (List ℕ)) (xs ys : List ℕ) → Appends a b xs → Writes early b c ys → Writes early a c (xs ++ ys)
+writes_more : (cut : Bool) (a b c : Option (List ℕ)) (xs ys : List ℕ) → Appends a b xs → Writes cut b c ys → Writes cut a c (xs ++ ys)
 writes_more false a b c xs ys w v = Appends-trans a b c xs ys w v
 writes_more true a b c xs ys w (n, few, appended) =
     (length xs + n, omega (arith, length-append xs ys, few), subst (λ l. Appends a c l) (sym (take-append-add xs ys n)) (Appends-trans a b c xs (take n ys) w appended))
 
-pub written_none : (p : Progress) (end : Option Stop) (a : Option (List ℕ)) → brought end ≡ None → Written p p end a a []
-written_none p end a none =
-    record { pieces = []; each = tt; writes = writes_all (ends_early end) a a [] (Appends-nil a); at = refl; heard = λ e. ap (λ (x : Option ServeCause). let t : Talk = record { now = p; over = x } in t) none }
+pub written_none : (p : Progress) (end : Option Stop) (a : Option (List ℕ)) → brought end ≡ None → ends_cut end ≡ false → Written p p end a a []
+written_none p end a none uncut =
+    record {
+      pieces = [];
+      each = tt;
+      writes = subst (λ (c : Bool). Writes c a a []) (sym uncut) (Appends-nil a);
+      at = refl;
+      heard = λ e. ap (λ (x : Option ServeCause). let t : Talk = record { now = p; over = x } in t) none;
+    }
 
 -- what was gathered is written
-pub written_all : (p q : Progress) (end why : Option Stop) (a b : Option (List ℕ)) (out : List ℕ) (fs : List (List ℕ)) → brought why ≡ brought end → Answered p q end [] out fs → Appends a b out → Written p q why a b fs
-written_all p q end why a b out fs same x w =
+pub written_all : (p q : Progress) (end why : Option Stop) (a b : Option (List ℕ)) (out : List ℕ) (fs : List (List ℕ)) → brought why ≡ brought end → ends_cut why ≡ false → Answered p q end [] out fs → Appends a b out → Written p q why a b fs
+written_all p q end why a b out fs same uncut x w =
     record {
       pieces = x.pieces;
       each = x.each;
-      writes = writes_all (ends_early why) a b (concat x.pieces) (subst (λ l. Appends a b l) x.grown w);
+      writes = subst (λ (c : Bool). Writes c a b (concat x.pieces)) (sym uncut) (subst (λ l. Appends a b l) x.grown w);
       at = ap (λ (t : Talk). t.now) x.heard;
       heard = λ e. ap (λ (o : Option ServeCause). let t : Talk = record { now = q; over = o } in t) same ∙ x.heard;
     }
 
--- or some first octets of it
-pub written_some : (p q : Progress) (end : Option Stop) (a b : Option (List ℕ)) (out : List ℕ) (fs : List (List ℕ)) → Answered p q end [] out fs → SomeAppended a b out → Written p q (Some stop.WriteFault) a b fs
+-- or fewer octets than all of it
+pub written_some : (p q : Progress) (end : Option Stop) (a b : Option (List ℕ)) (out : List ℕ) (fs : List (List ℕ)) → Answered p q end [] out fs → FewerAppended a b out → Written p q (Some stop.WriteFault) a b fs
 written_some p q end a b out fs x w =
-    record { pieces = x.pieces; each = x.each; writes = subst (λ l. SomeAppended a b l) x.grown w; at = ap (λ (t : Talk). t.now) x.heard; heard = λ e. absurd (true≢false e) }
+    record { pieces = x.pieces; each = x.each; writes = subst (λ l. FewerAppended a b l) x.grown w; at = ap (λ (t : Talk). t.now) x.heard; heard = λ e. absurd (true≢false e) }
 
 pub written_more : (p q r : Progress) (end : Option Stop) (a b c : Option (List ℕ)) (fs gs : List (List ℕ)) → Written p q None a b fs → Written q r end b c gs → Written p r end a c (fs ++ gs)
 written_more p q r end a b c fs gs x y =
@@ -100,21 +102,33 @@ written_more p q r end a b c fs gs x y =
       pieces = x.pieces ++ y.pieces;
       each = subst (λ (l : List Said). AllZip IsSaid l (x.pieces ++ y.pieces)) (sym (conversation-append (talking p) fs gs))
           (AllZip-append IsSaid (conversation (talking p) fs) (conversation (talk (talking p) fs) gs) x.pieces y.pieces x.each (subst (λ (t : Talk). AllZip IsSaid (conversation t gs) y.pieces) (x.heard refl) y.each));
-      writes = subst (λ l. Writes (ends_early end) a c l) (sym (concat-append x.pieces y.pieces)) (writes_more (ends_early end) a b c (concat x.pieces) (concat y.pieces) x.writes y.writes);
+      writes = subst (λ l. Writes (ends_cut end) a c l) (sym (concat-append x.pieces y.pieces)) (writes_more (ends_cut end) a b c (concat x.pieces) (concat y.pieces) x.writes y.writes);
       at = y.at ∙ ap (λ (t : Talk). (talk t gs).now) (x.heard refl) ∙ sym (ap (λ (t : Talk). t.now) (talk-append (talking p) fs gs));
       heard = λ e. y.heard e ∙ ap (λ (t : Talk). talk t gs) (x.heard refl) ∙ sym (talk-append (talking p) fs gs);
     }
 
 -- it ends without a frame
-pub written_ends : (p q : Progress) (why : Option Stop) (a b : Option (List ℕ)) (fs : List (List ℕ)) → ends_early why ≡ false → brought why ≡ None → Written p q None a b fs → Written p q why a b fs
-written_ends p q why a b fs whole none x =
+pub written_ends : (p q : Progress) (why : Option Stop) (a b : Option (List ℕ)) (fs : List (List ℕ)) → ends_cut why ≡ false → brought why ≡ None → Written p q None a b fs → Written p q why a b fs
+written_ends p q why a b fs uncut none x =
     record {
       pieces = x.pieces;
       each = x.each;
-      writes = subst (λ (e : Bool). Writes e a b (concat x.pieces)) (sym whole) x.writes;
+      writes = subst (λ (c : Bool). Writes c a b (concat x.pieces)) (sym uncut) x.writes;
       at = x.at;
       heard = λ e. ap (λ (o : Option ServeCause). let t : Talk = record { now = q; over = o } in t) none ∙ x.heard refl;
     }
+
+-- a stop that is no write fault
+pub uncut : (why : Option Stop) → why ≢ Some stop.WriteFault → ends_cut why ≡ false
+uncut None other = refl
+uncut (Some stop.Ended) other = refl
+uncut (Some stop.HungUp) other = refl
+uncut (Some stop.Unbound) other = refl
+uncut (Some stop.Lost) other = refl
+uncut (Some stop.ReadFault) other = refl
+uncut (Some stop.WriteFault) other = absurd (other refl)
+uncut (Some stop.Turns) other = refl
+uncut (Some stop.OutOfMemory) other = refl
 
 -- ---- at the end
 
@@ -178,7 +192,7 @@ serves p q why held r t a b x end =
 -- no memory, and so nothing was read
 pub serves_none : (p : Progress) (r a : Option (List ℕ)) → Serves p r r a a cause.OutOfMemory p.submits
 serves_none p r a =
-    serves p p stop.OutOfMemory [] r r a a (reads_none (Written p p (Some stop.OutOfMemory) a a) [] [] r r early (written_none p (Some stop.OutOfMemory) a refl) (Consumes-nil r) tt) (λ e. absurd (other e))
+    serves p p stop.OutOfMemory [] r r a a (reads_none (Written p p (Some stop.OutOfMemory) a a) [] [] r r early (written_none p (Some stop.OutOfMemory) a refl refl) (Consumes-nil r) tt) (λ e. absurd (other e))
   where
     other : stop.OutOfMemory ≡ stop.Ended → ⊥
     other e = cc
@@ -196,11 +210,7 @@ answered_full p q a b fs x = record { pieces = x.pieces; each = x.each; grown = 
 pub reads_failed : (p : Progress) (end : Option Stop) (held : List ℕ) (r t w : Option (List ℕ)) → (end ≡ None) ⊎ (end ≡ Some stop.ReadFault) → Keeps r t → IsRest held → ¬ IsBad held
     → Reads (Written p p end w w) held r t (stretch_of end) held
 reads_failed p end held r t w (inl e) kept rest good =
-    subst (λ (x : Option Stop). Reads (Written p p x w w) held r t (stretch_of x) held) (sym e) (reads_none (Written p p None w w) held held r t going (written_none p None w refl) (consumes_nothing r t kept) (rest, refl))
+    subst (λ (x : Option Stop). Reads (Written p p x w w) held r t (stretch_of x) held) (sym e) (reads_none (Written p p None w w) held held r t going (written_none p None w refl refl) (consumes_nothing r t kept) (rest, refl))
 reads_failed p end held r t w (inr e) kept rest good =
     subst (λ (x : Option Stop). Reads (Written p p x w w) held r t (stretch_of x) held) (sym e)
-    (reads_none (Written p p (Some stop.ReadFault) w w) held held r t complete (written_none p (Some stop.ReadFault) w refl) (consumes_nothing r t kept) (rest, good))
-
-pub not_failed : (end : Option Stop) (other : Stop) → (end ≡ None) ⊎ (end ≡ Some stop.ReadFault) → ¬ (other ≡ stop.ReadFault) → end ≢ Some other
-not_failed end other (inl e) off is = absurd cc
-not_failed end other (inr e) off is = off cc
+    (reads_none (Written p p (Some stop.ReadFault) w w) held held r t complete (written_none p (Some stop.ReadFault) w refl refl) (consumes_nothing r t kept) (rest, good))

@@ -8,7 +8,7 @@ use Rattle.sms_pdu.specs.declared.command.Command.TheVariants as command
 use Rattle.sms_pdu.specs.Command.{id_of}
 use Rattle.sms_pdu.specs.Header.{header_at_front}
 use Rattle.sms_pdu.specs.Frame.{Division, IsBad}
-use Rattle.sms_pdu.specs.Streams.{SomeAppended}
+use Rattle.sms_pdu.specs.Streams.{FewerAppended}
 use Rattle.sms_centre.specs.declared.said.Said.{Said}
 use Rattle.sms_centre.specs.declared.treatment.Treatment.{Treatment}
 use Rattle.sms_centre.specs.declared.treatment.Treatment.TheVariants.{Status, Nack, Silent, Unbind, Twice, Stray, Late, Deliver, Cut, Huge}
@@ -62,7 +62,7 @@ abbrev pub conversation : Talk → List (List ℕ) → List Said
 conversation t [] = []
 conversation t (f ∷ fs) = tells t.over t.now (header_at_front f) ++ conversation (hears t.over t.now (header_at_front f)) fs
 
--- not all that was said is written
+-- not all frames that came before the end need be answered
 abbrev pub is_early : ServeCause → Bool
 is_early WriteFault = true
 is_early OutOfMemory = true
@@ -71,6 +71,16 @@ is_early Unbound = false
 is_early Lost = false
 is_early ReadFault = false
 is_early Turns = false
+
+-- not all that was said is written
+abbrev pub is_cut : ServeCause → Bool
+is_cut WriteFault = true
+is_cut Ended = false
+is_cut Unbound = false
+is_cut Lost = false
+is_cut ReadFault = false
+is_cut Turns = false
+is_cut OutOfMemory = false
 
 -- what each cause tells: whether a frame brought the end, and else what stands behind the frames, where the rest is bad
 -- exactly where the connection is lost
@@ -83,14 +93,14 @@ Brings Turns over rest after = (over ≡ None) × (¬ IsBad rest)
 Brings WriteFault over rest after = Unit {0}
 Brings OutOfMemory over rest after = Unit {0}
 
--- all of the octets, or some first ones
+-- fewer than all of the octets, the first ones, or all
 abbrev pub Writes : Bool → Option (List ℕ) → Option (List ℕ) → List ℕ → Type 0
-Writes true old new octets = SomeAppended old new octets
+Writes true old new octets = FewerAppended old new octets
 Writes false old new octets = Appends old new octets
 
 -- what serving a connection promises. `got` was read, and its first frames were answered: all of them that came before
--- the connection was over, unless a write failed or memory ran out. What was said to them is written, or some first
--- octets of it.
+-- the connection was over, unless a write failed or memory ran out. What was said to them is written, or where a write
+-- failed only some first octets of it.
 pub record Serves (begun : Progress) (before after old new : Option (List ℕ)) (cause : ServeCause) (submits : ℕ) : Type 0 where
   pub got : List ℕ
   pub consumed : Consumes before after got
@@ -101,7 +111,7 @@ pub record Serves (begun : Progress) (before after old new : Option (List ℕ)) 
   pub first : IsPrefix answered frames
   pub pieces : List (List ℕ)
   pub each : AllZip IsSaid (conversation (talking begun) answered) pieces
-  pub writes : Writes (is_early cause) old new (concat pieces)
+  pub writes : Writes (is_cut cause) old new (concat pieces)
   pub counted : submits ≡ (talk (talking begun) answered).now.submits
   pub whole : is_early cause ≡ false → talk (talking begun) frames ≡ talk (talking begun) answered
   pub said : is_early cause ≡ false → conversation (talking begun) frames ≡ conversation (talking begun) answered

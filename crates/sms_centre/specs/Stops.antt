@@ -7,7 +7,7 @@ use Rattle.sms_centre.specs.declared.serving.ServeCause.TheVariants as cause
 use Rattle.sms_centre.specs.declared.serving.Stop.{Stop}
 use Rattle.sms_centre.specs.declared.serving.Stop.TheVariants as stop
 use Rattle.sms_centre.specs.Says.{IsSaid, Progress}
-use Rattle.sms_centre.specs.Serving.{Talk, talking, talk, conversation, is_early, Writes}
+use Rattle.sms_centre.specs.Serving.{Talk, talking, talk, conversation, is_early, is_cut, Writes}
 
 abbrev pub cause_of : Stop → ServeCause
 cause_of stop.Ended = cause.Ended
@@ -42,6 +42,10 @@ abbrev pub ends_early : Option Stop → Bool
 ends_early None = false
 ends_early (Some s) = is_early (cause_of s)
 
+abbrev pub ends_cut : Option Stop → Bool
+ends_cut None = false
+ends_cut (Some s) = is_cut (cause_of s)
+
 -- the connection where the centre stands so
 abbrev pub talk_at : Progress → Option Stop → Talk
 talk_at p end = record { now = p; over = brought end }
@@ -57,6 +61,6 @@ pub record Answered (p q : Progress) (end : Option Stop) (old new : List ℕ) (f
 pub record Written (p q : Progress) (end : Option Stop) (old new : Option (List ℕ)) (frames : List (List ℕ)) : Type 0 where
   pub pieces : List (List ℕ)
   pub each : AllZip IsSaid (conversation (talking p) frames) pieces
-  pub writes : Writes (ends_early end) old new (concat pieces)
+  pub writes : Writes (ends_cut end) old new (concat pieces)
   pub at : q ≡ (talk (talking p) frames).now
   pub heard : ends_early end ≡ false → talk_at q end ≡ talk (talking p) frames

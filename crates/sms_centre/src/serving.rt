@@ -1,26 +1,26 @@
 //! The centre serves a connection.
 
-ghost use Rattle.std.specs.Prelude.{◌≡◌, ◌≢◌, ◌⊎◌, ℕ, ◌*◌, ◌≤◌, ◌∷◌, [], List, length, drop, Some, None, true, false, IfOk, IfSome, OnErr};
+ghost use Rattle.std.specs.Prelude.{◌≡◌, ◌≢◌, ◌⊎◌, ℕ, ◌≤◌, ◌∷◌, [], List, length, drop, Some, None, IfOk, IfSome, OnErr};
 ghost use Rattle.std.specs.Io.KnownBytes.{IsAtEnd};
-ghost use Rattle.std.specs.IoError.{error_kind};
+ghost use Rattle.sms_pdu.specs.Devices.{device, faults_of, failures_of};
+ghost use Rattle.sms_pdu.specs.Faults.{Counts};
 ghost use Rattle.sms_pdu.specs.Frame.{IsFrame, IsRest, IsBad};
 ghost use Rattle.sms_pdu.specs.Streams.{Went, Reads, Leaves, early};
-ghost use Rattle.sms_pdu.specs.Turn.{most_piece, GaveAtMost, IsSpent, gives_nothing};
+ghost use Rattle.sms_pdu.specs.Turn.{IsSpent, Turned};
 ghost use Rattle.sms_centre.specs.Says.{begun};
 ghost use Rattle.sms_centre.specs.Serving.{Serves, end_at as brought_by, hangs_up as hung_up_by};
 ghost use Rattle.sms_centre.specs.Stops.{cause_of as cause_of_stop, brought, stretch_of, Answered, Written};
-ghost use Rattle.sms_centre.specs.declared.serving.Stop.TheVariants.{Ended, OutOfMemory, ReadFault, Turns};
+ghost use Rattle.sms_centre.specs.declared.serving.Stop.TheVariants.{Ended, OutOfMemory, ReadFault, WriteFault, Turns};
 
 use crate::centre::Centre;
 use crate::said::Said;
 use crate::script::Script;
 use crate::treatment::Treatment;
 use sms_pdu::{
-    Header, SUBMIT_SM, UNBIND, drop_front, first_frame, frame_header, gave_nothing, is_bad,
-    write_octets,
+    Header, PIECE, SUBMIT_SM, Tap, UNBIND, drop_front, fault_of, first_frame, frame_header, is_bad,
 };
 use std::alloc::{AllocError, Global};
-use std::io::{Error, Read, Write};
+use std::io::{Read, Write};
 
 /// Why a connection ended.
 #[derive(Clone, Copy, Debug, PartialEq, Eq)]
@@ -64,9 +64,6 @@ pub struct ServeEnd {
     pub cause: ServeCause,
 }
 
-/// How many octets one turn reads at most.
-const PIECE: usize = 65_536;
-
 /// The buffers of a connection.
 #[derive(Drop)]
 struct Buffers {
@@ -82,19 +79,24 @@ struct Buffers {
 
 /// Serves a connection by a script for so many turns. One turn reads once, at most 65,536 octets,
 /// and writes what is said to their frames at once. Frames are read by their headers alone. A read
-/// that fails as WouldBlock, TimedOut or Interrupted is a turn that read nothing.
+/// that fails as WouldBlock, TimedOut or Interrupted is a turn that read nothing; the first that fails
+/// otherwise ends it, and so does the first write that fails.
 pub fn serve<R: Read, W: Write>(
     alloc: Global,
-    reader: &mut R,
-    writer: &mut W,
+    reader: &mut Tap<R>,
+    writer: &mut Tap<W>,
     script: Script,
     turns: u64,
 ) -> ServeEnd
-    ensures serves { Serves (begun script) (R.remaining reader.old) (R.remaining reader.new) (W.contents writer.old) (W.contents writer.new) result.cause result.submits }
-    ensures most { GaveAtMost (most_piece * turns) (R.remaining reader.old) (R.remaining reader.new) }
+    ensures serves { Serves (begun script) (R.remaining (device reader.old)) (R.remaining (device reader.new)) (W.contents (device writer.old)) (W.contents (device writer.new)) result.cause result.submits }
+    ensures turned { Turned turns (result.cause ≡ ServeCause.Turns) (R.remaining (device reader.old)) (R.remaining (device reader.new)) (faults_of reader.old) (faults_of reader.new) }
 
     // Nothing but want of memory ends it before its first turn.
     ensures none { turns ≡ 0 → (result.cause ≡ ServeCause.Turns) ⊎ (result.cause ≡ ServeCause.OutOfMemory) }
+    ensures failed { result.cause ≡ ServeCause.ReadFault → Counts (failures_of reader.old) (failures_of reader.new) }
+    ensures quiet { result.cause ≢ ServeCause.ReadFault → failures_of reader.new ≡ failures_of reader.old }
+    ensures unwritten { result.cause ≡ ServeCause.WriteFault → Counts (faults_of writer.old) (faults_of writer.new) }
+    ensures wrote { result.cause ≢ ServeCause.WriteFault → faults_of writer.new ≡ faults_of writer.old }
 {
     match Centre::new(alloc, script) {
         Ok(mut centre) => {
@@ -150,14 +152,18 @@ impl Centre {
     fn serve_turns<R: Read, W: Write>(
         &mut self,
         alloc: Global,
-        reader: &mut R,
-        writer: &mut W,
+        reader: &mut Tap<R>,
+        writer: &mut Tap<W>,
         turns: u64,
     ) -> Stop
-        ensures served { (held : List ℕ) × Reads (Written self.old self.new (Some result) (W.contents writer.old) (W.contents writer.new)) [] (R.remaining reader.old) (R.remaining reader.new) (stretch_of (Some result)) held }
-        ensures most { GaveAtMost (most_piece * turns) (R.remaining reader.old) (R.remaining reader.new) }
+        ensures served { (held : List ℕ) × Reads (Written self.old self.new (Some result) (W.contents (device writer.old)) (W.contents (device writer.new))) [] (R.remaining (device reader.old)) (R.remaining (device reader.new)) (stretch_of (Some result)) held }
+        ensures turned { Turned turns (result ≡ Turns) (R.remaining (device reader.old)) (R.remaining (device reader.new)) (faults_of reader.old) (faults_of reader.new) }
         ensures none { turns ≡ 0 → (result ≡ Turns) ⊎ (result ≡ OutOfMemory) }
-        ensures end { result ≡ Ended → IsAtEnd (R.remaining reader.new) }
+        ensures failed { result ≡ ReadFault → Counts (failures_of reader.old) (failures_of reader.new) }
+        ensures quiet { result ≢ ReadFault → failures_of reader.new ≡ failures_of reader.old }
+        ensures unwritten { result ≡ WriteFault → Counts (faults_of writer.old) (faults_of writer.new) }
+        ensures wrote { result ≢ WriteFault → faults_of writer.new ≡ faults_of writer.old }
+        ensures end { result ≡ Ended → IsAtEnd (R.remaining (device reader.new)) }
     {
         let Ok(mut buffers) = Buffers::new(alloc) else {
             return Stop::OutOfMemory;
@@ -174,20 +180,25 @@ impl Centre {
     fn serve_turn<R: Read, W: Write>(
         &mut self,
         alloc: Global,
-        reader: &mut R,
-        writer: &mut W,
+        reader: &mut Tap<R>,
+        writer: &mut Tap<W>,
         buffers: &mut Buffers,
     ) -> Option<Stop>
         requires piece { length buffers.old.piece.items ≡ 65536 }
         requires rest { IsRest buffers.old.held.items }
         requires good { ¬ IsBad buffers.old.held.items }
-        ensures reads { Reads (Written self.old self.new result (W.contents writer.old) (W.contents writer.new)) buffers.old.held.items (R.remaining reader.old) (R.remaining reader.new) (stretch_of result) buffers.new.held.items }
+        ensures reads { Reads (Written self.old self.new result (W.contents (device writer.old)) (W.contents (device writer.new))) buffers.old.held.items (R.remaining (device reader.old)) (R.remaining (device reader.new)) (stretch_of result) buffers.new.held.items }
         ensures good { result ≡ None → ¬ IsBad buffers.new.held.items }
-        ensures most { GaveAtMost most_piece (R.remaining reader.old) (R.remaining reader.new) }
+        ensures turned { Turned 1 (result ≡ None) (R.remaining (device reader.old)) (R.remaining (device reader.new)) (faults_of reader.old) (faults_of reader.new) }
+        ensures faults { faults_of reader.old ≤ faults_of reader.new }
         ensures piece { length buffers.new.piece.items ≡ 65536 }
         ensures turns { result ≢ Some Turns }
-        ensures spent { IsSpent (R.remaining reader.old) → (result ≡ Some Ended) ⊎ (result ≡ None) ⊎ (result ≡ Some ReadFault) }
-        ensures end { result ≡ Some Ended → IsAtEnd (R.remaining reader.new) }
+        ensures spent { IsSpent (R.remaining (device reader.old)) → (result ≡ Some Ended) ⊎ (result ≡ None) ⊎ (result ≡ Some ReadFault) }
+        ensures failed { result ≡ Some ReadFault → Counts (failures_of reader.old) (failures_of reader.new) }
+        ensures quiet { result ≢ Some ReadFault → failures_of reader.new ≡ failures_of reader.old }
+        ensures unwritten { result ≡ Some WriteFault → Counts (faults_of writer.old) (faults_of writer.new) }
+        ensures wrote { result ≢ Some WriteFault → faults_of writer.new ≡ faults_of writer.old }
+        ensures end { result ≡ Some Ended → IsAtEnd (R.remaining (device reader.new)) }
     {
         match reader.read(buffers.piece.as_mut_slice()) {
             Ok(0) => Some(Stop::Ended),
@@ -197,7 +208,7 @@ impl Centre {
                 }
                 self.answer_held(alloc, writer, buffers)
             }
-            Err(e) => fault_of(&e),
+            Err(e) => fault_of(&e, Stop::ReadFault),
         }
     }
 
@@ -206,13 +217,15 @@ impl Centre {
     fn answer_held<W: Write>(
         &mut self,
         alloc: Global,
-        writer: &mut W,
+        writer: &mut Tap<W>,
         buffers: &mut Buffers,
     ) -> Option<Stop>
-        ensures went { (left : List ℕ) × Went (Written self.old self.new result (W.contents writer.old) (W.contents writer.new)) buffers.old.held.items left × Leaves (stretch_of result) left buffers.new.held.items }
+        ensures went { (left : List ℕ) × Went (Written self.old self.new result (W.contents (device writer.old)) (W.contents (device writer.new))) buffers.old.held.items left × Leaves (stretch_of result) left buffers.new.held.items }
         ensures good { result ≡ None → ¬ IsBad buffers.new.held.items }
         ensures piece { buffers.new.piece.items ≡ buffers.old.piece.items }
         ensures cause { (result ≢ Some Ended) × (result ≢ Some ReadFault) × (result ≢ Some Turns) }
+        ensures unwritten { result ≡ Some WriteFault → Counts (faults_of writer.old) (faults_of writer.new) }
+        ensures wrote { result ≢ Some WriteFault → faults_of writer.new ≡ faults_of writer.old }
     {
         buffers.out.clear();
         let (used, ended) = self.answer_stream(
@@ -222,7 +235,7 @@ impl Centre {
             &mut buffers.out,
         );
         drop_front(&mut buffers.held, used);
-        if write_octets(writer, buffers.out.as_slice()).is_err() {
+        if writer.put(buffers.out.as_slice()).is_err() {
             return Some(Stop::WriteFault);
         }
         if let Some(stop) = ended {
@@ -247,6 +260,7 @@ impl Centre {
         ensures went { Went (Answered self.old self.new result.1 out.old.items out.new.items) stream.now (drop result.0 stream.now) }
         ensures rest { result.1 ≡ None → IsRest (drop result.0 stream.now) }
         ensures early { IfSome result.1 (λ s. stretch_of (Some s) ≡ early) }
+        ensures uncut { result.1 ≢ Some WriteFault }
     {
         let mut left = stream;
         while let Some(length) = first_frame(left) {
@@ -271,6 +285,7 @@ impl Centre {
         requires frame { IsFrame frame.now }
         ensures answered { IfOk result (λ end. Answered self.old self.new end out.old.items out.new.items (frame.now ∷ [])) }
         ensures early { IfOk result (λ end. IfSome end (λ s. stretch_of (Some s) ≡ early)) }
+        ensures uncut { IfOk result (λ end. end ≢ Some WriteFault) }
         ensures same { OnErr result ((self.new ≡ self.old) × (out.new.items ≡ out.old.items)) }
     {
         let header = frame_header(frame);
@@ -285,6 +300,7 @@ impl Centre {
     fn end_at(&self, header: &Header) -> Option<Stop>
         ensures at { brought result ≡ brought_by self.now header.now }
         ensures early { IfSome result (λ s. stretch_of (Some s) ≡ early) }
+        ensures uncut { result ≢ Some WriteFault }
     {
         match header.command {
             SUBMIT_SM => hangs_up(self.next_treatment()),
@@ -294,23 +310,11 @@ impl Centre {
     }
 }
 
-/// Why the connection ends after a read that failed so, if it does.
-fn fault_of(e: &Error) -> Option<Stop>
-    ensures again { gives_nothing (error_kind e.now) ≡ true → result ≡ None }
-    ensures fault { gives_nothing (error_kind e.now) ≡ false → result ≡ Some ReadFault }
-    ensures one { (result ≡ None) ⊎ (result ≡ Some ReadFault) }
-{
-    if gave_nothing(e) {
-        None
-    } else {
-        Some(Stop::ReadFault)
-    }
-}
-
 /// Whether a treatment ends the connection.
 fn hangs_up(treatment: Treatment) -> Option<Stop>
     ensures up { brought result ≡ hung_up_by treatment }
     ensures early { IfSome result (λ s. stretch_of (Some s) ≡ early) }
+    ensures uncut { result ≢ Some WriteFault }
 {
     match treatment {
         Treatment::Cut => Some(Stop::HungUp),

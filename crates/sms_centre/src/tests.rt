@@ -1,9 +1,10 @@
 //! The centre and its devices, by values from outside.
 
 use crate::{Centre, Script, ScriptError, ServeCause, ServeEnd, serve};
-use sms_pdu::Frame;
+use sms_pdu::{Frame, Tap};
 use std::alloc::Global;
 use std::fmt::Debug;
+use std::io::{Read, Write};
 use std::process::Abort;
 use std::test::Fail;
 
@@ -48,13 +49,25 @@ fn good(alloc: Global) -> Result<Script, Fail> {
     script_of(alloc, "answers = [\"status 0\"]")
 }
 
+// How the centre of a script ends over these devices, after so many turns at most.
+fn served_over<R: Read + Drop, W: Write + Drop>(
+    alloc: Global,
+    reader: R,
+    writer: W,
+    script: Script,
+    turns: u64,
+) -> ServeEnd {
+    let mut reader = Tap::new(reader);
+    let mut writer = Tap::new(writer);
+    serve(alloc, &mut reader, &mut writer, script, turns)
+}
+
 // What the centre of a script writes to this input, and how it ends.
 fn served(alloc: Global, script: &str, input: &[u8]) -> Result<(Vec<u8>, ServeEnd), Fail> {
     match script_of(alloc, script) {
         Ok(script) => {
-            let mut reader = input;
             let mut out = Vec::<u8>::new(alloc);
-            let end = serve(alloc, &mut reader, &mut out, script, 10);
+            let end = served_over(alloc, input, &mut out, script, 10);
             Ok((out, end))
         }
         Err(e) => Err(e),
@@ -88,9 +101,8 @@ fn a_list_of_answers(rt: HostRuntime) -> Result<(), Fail> {
     let mut answers = Vec::new(alloc);
     answers.push(String::from_str(alloc, "status 0")?)?;
     let script = script_with(alloc, answers.as_slice())?;
-    let mut reader = SUBMIT.as_slice();
     let mut out = Vec::<u8>::new(alloc);
-    let end = serve(alloc, &mut reader, &mut out, script, 10);
+    let end = served_over(alloc, SUBMIT.as_slice(), &mut out, script, 10);
     same(&rt, (end.submits, end.cause), (1, ServeCause::Ended));
     same(&rt, out.as_slice(), ANSWER.as_slice());
     let none = Script::of(alloc, 0, &[]);

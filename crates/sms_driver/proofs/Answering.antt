@@ -19,7 +19,7 @@ use Rattle.sms_session.specs.declared.session.State.{State}
 use Rattle.sms_slot.specs.Rings.{went_to}
 use Rattle.sms_slot.proofs.Rings.{handed-at, length-handed}
 use Rattle.sms_bind.specs.Deeds.{log}
-use Rattle.sms_bind.specs.Devices.{device}
+use Rattle.sms_pdu.specs.Devices.{device}
 use Rattle.sms_bind.specs.Ends.{HandsOn}
 use Rattle.sms_bind.specs.Held.{Held}
 use Rattle.sms_bind.specs.declared.ending.ReaderEnd.{ReaderEnd}

@@ -1,7 +1,7 @@
 -- Binds that were opened, one after another.
 use Rattle.std.proofs.Common.{◌≡◌, ◌+◌, ◌++◌, ℕ, List, [], ◌∷◌, length, Option, subst, arith}
 use Rattle.sms_pdu.specs.declared.command.Mode.{Mode}
-use Rattle.sms_bind.specs.Devices.{device}
+use Rattle.sms_pdu.specs.Devices.{device}
 use Rattle.sms_driver.specs.declared.seating.BindParts.{BindParts}
 use Rattle.sms_driver.specs.Reads.{IsOpened, AreOpened}
 

@@ -10,9 +10,9 @@ use Rattle.sms_pdu.specs.declared.command.Mode.{Mode}
 use Rattle.sms_pdu.specs.declared.reply.Reply.{Reply}
 use Rattle.sms_bind.specs.declared.bound.Bound.{Bound}
 use Rattle.sms_bind.specs.declared.ending.ReaderEnd.{ReaderEnd}
-use Rattle.sms_bind.specs.declared.tap.Tap.{Tap}
+use Rattle.sms_pdu.specs.declared.tap.Tap.{Tap}
 use Rattle.sms_bind.specs.Answers.{Bounds}
-use Rattle.sms_bind.specs.Devices.{device}
+use Rattle.sms_pdu.specs.Devices.{device}
 use Rattle.sms_bind.specs.Ends.{HandsOn}
 use Rattle.sms_bind.specs.Held.{Held}
 use Rattle.sms_driver.specs.declared.seating.BindParts.{BindParts}

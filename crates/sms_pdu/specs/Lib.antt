@@ -12,3 +12,5 @@ pub mod Writing
 pub mod Laws
 pub mod Streams
 pub mod Turn
+pub mod Faults
+pub mod Devices

@@ -1,5 +1,5 @@
 -- A stream that is worked by its whole frames, and read in pieces.
-use Rattle.std.specs.Prelude.{◌≡◌, ℕ, ◌≤◌, List, ◌++◌, length, take, Option}
+use Rattle.std.specs.Prelude.{◌≡◌, ℕ, ◌<◌, ◌≤◌, List, ◌++◌, length, take, Option}
 use Rattle.std.specs.List.{concat, AllByRecursion}
 use Rattle.std.specs.Io.KnownBytes.{Appends, Consumes}
 use Rattle.sms_pdu.specs.Frame.{IsFrame, IsRest, IsBad}
@@ -37,3 +37,7 @@ pub record Reads (P : List (List ℕ) → Type 0) (begun : List ℕ) (before aft
 -- known bytes grow by some first bytes of bs
 abbrev pub SomeAppended : Option (List ℕ) → Option (List ℕ) → List ℕ → Type 0
 SomeAppended old new bs = (n : ℕ) × (n ≤ length bs) × Appends old new (take n bs)
+
+-- or by fewer than all of them
+abbrev pub FewerAppended : Option (List ℕ) → Option (List ℕ) → List ℕ → Type 0
+FewerAppended old new bs = (n : ℕ) × (n < length bs) × Appends old new (take n bs)

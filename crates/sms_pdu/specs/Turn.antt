@@ -1,5 +1,5 @@
 -- A turn of reading.
-use Rattle.std.specs.Prelude.{◌≡◌, ℕ, ◌+◌, ◌≤◌, List, [], length, Option, Some, None, Bool, true, false}
+use Rattle.std.specs.Prelude.{◌≡◌, ℕ, ◌+◌, ◌*◌, ◌-◌, ◌^◌, ◌≤◌, ◌⊎◌, List, [], length, Option, Some, None, Bool, true, false}
 use Rattle.std.specs.declared.io.ErrorKind.{ErrorKind}
 use Rattle.std.specs.declared.io.ErrorKind.TheVariants as kind
 
@@ -24,3 +24,14 @@ GaveAtMost n (Some xs) (Some ys) = length xs ≤ length ys + n
 abbrev pub IsSpent : Option (List ℕ) → Type 0
 IsSpent None = ⊥
 IsSpent (Some xs) = xs ≡ []
+
+-- each turn took an octet at least or met an error; the count of errors stops at its greatest value
+abbrev pub Passed : ℕ → Option (List ℕ) → Option (List ℕ) → ℕ → ℕ → Type 0
+Passed turns None after old new = Unit {0}
+Passed turns (Some xs) None old new = ⊥
+Passed turns (Some xs) (Some ys) old new = (old + turns + length ys ≤ new + length xs) ⊎ (2 ^ 64 - 1 ≤ new)
+
+-- it read in so many turns at most, and in no fewer where `all` holds
+pub record Turned (turns : ℕ) (all : Type 0) (before after : Option (List ℕ)) (old new : ℕ) : Type 0 where
+  pub most : GaveAtMost (most_piece * turns) before after
+  pub passed : all → Passed turns before after old new

@@ -1,4 +1,5 @@
-//! The PDUs of SMPP 3.4: their grammar, read and written, and their frames in a stream.
+//! The PDUs of SMPP 3.4: their grammar, read and written, their frames in a stream, and the devices
+//! that the stream is read from and written to.
 
 #![tactic(auto)]
 
@@ -22,6 +23,7 @@ mod parameter;
 mod reading;
 mod reply;
 mod sizes;
+mod tap;
 mod turn;
 mod writing;
 
@@ -45,7 +47,8 @@ pub use octets::Octets;
 pub use parameter::{Parameter, Params};
 pub use reply::{Reply, reply_of};
 pub use sizes::encoded_length;
-pub use turn::{drop_front, gave_nothing};
+pub use tap::Tap;
+pub use turn::{PIECE, drop_front, fault_of, gave_nothing};
 pub use writing::write_octets;
 
 #[cfg(test)]

@@ -7,6 +7,7 @@ use std::process::Abort;
 use std::test::*;
 
 mod bodies;
+mod devices;
 mod lengths;
 mod libsmpp34;
 mod read_refusals;

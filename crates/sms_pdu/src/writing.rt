@@ -2,16 +2,16 @@
 
 ghost use Rattle.std.specs.Prelude.{◌≡◌, OnOk, OnErr, length};
 ghost use Rattle.std.specs.Io.KnownBytes.{Appends};
-ghost use Rattle.sms_pdu.specs.Streams.{SomeAppended};
+ghost use Rattle.sms_pdu.specs.Streams.{FewerAppended};
 
 use std::io;
 use std::io::{Error, ErrorKind, Write};
 
-/// Writes all octets, in as many writes as it takes, up to the first that fails. A write that takes
-/// none has failed.
+/// Writes all octets, in as many writes as it takes, up to the first that fails; then not all are
+/// written. A write that takes none has failed.
 pub fn write_octets<W: Write>(writer: &mut W, octets: &[u8]) -> io::Result<()>
     ensures all { OnOk result (Appends (W.contents writer.old) (W.contents writer.new) octets.now) }
-    ensures some { OnErr result (SomeAppended (W.contents writer.old) (W.contents writer.new) octets.now) }
+    ensures some { OnErr result (FewerAppended (W.contents writer.old) (W.contents writer.new) octets.now) }
 {
     let mut at = 0;
     while at < octets.len() {

@@ -4,6 +4,7 @@ use crate::bell::{Bell, Ringing};
 use crate::outbox::{Outbox, Outboxes, Posting};
 use sms_centre::{Script, serve};
 use sms_driver::Dial;
+use sms_pdu::Tap;
 use std::alloc::Global;
 use std::net::{Ipv4Addr, Net, TcpListener, TcpStream};
 use std::sync::Wait;
@@ -107,8 +108,8 @@ fn start_centre<R: Threads>(
     script: Script,
 ) -> Option<()> {
     stream.set_nodelay(true).ok()?;
-    let mut reader = stream.try_clone().ok()?;
-    let mut writer = stream;
+    let mut reader = Tap::new(stream.try_clone().ok()?);
+    let mut writer = Tap::new(stream);
     let centre = move || {
         let _end = serve(alloc, &mut reader, &mut writer, script, CENTRE_TURNS);
     };

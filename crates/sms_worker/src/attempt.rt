@@ -2,8 +2,8 @@
 
 ghost use Rattle.std.specs.Prelude.{◌≡◌, ℕ, ◌+◌, ◌<◌, ◌≤◌, ◌⊎◌, List, max, true, false, Some, None, vec_len, vec_capacity, IfSome, IfOk, IsTrue};
 ghost use Rattle.std.specs.Io.KnownBytes.{Appends};
-ghost use Rattle.sms_bind.specs.Devices.{writer, write_faults, is_broken};
-ghost use Rattle.sms_bind.specs.Faults.{Counts};
+ghost use Rattle.sms_pdu.specs.Faults.{Counts};
+ghost use Rattle.sms_bind.specs.Wires.{writer, write_faults, is_broken};
 ghost use Rattle.sms_pdu.specs.Streams.{SomeAppended};
 ghost use Rattle.sms_core.specs.Limits.{most_slots};
 ghost use Rattle.sms_segment.specs.declared.part.Part.{Part};

@@ -4,9 +4,11 @@ ghost use Rattle.std.specs.Prelude.{◌≤◌};
 ghost use Rattle.sms_core.specs.Limits.{most_slots};
 
 use super::{ACCEPTED, ENQUIRE_LINK, Sink, Source, bound_by, same, source_of, wire_to};
-use crate::{Bound, Line, ReaderCause, ReaderEnd, Tap, read_loop};
+use crate::{Bound, Line, ReaderCause, ReaderEnd, read_loop};
 use rtrb::{Consumer, Producer, RingBuffer};
-use sms_pdu::{BIND_TRANSCEIVER_RESP, BIND_TRANSMITTER_RESP, Framer, Frames, Header, Mode, Reply};
+use sms_pdu::{
+    BIND_TRANSCEIVER_RESP, BIND_TRANSMITTER_RESP, Framer, Frames, Header, Mode, Reply, Tap,
+};
 use sms_session::Opened;
 use sms_slot::SlotRow;
 use sms_window::Window;

@@ -1,7 +1,7 @@
 //! The pipe, from both ends, and the fuse.
 
-use super::{ANSWER, SUBMIT, good, same};
-use crate::{Fuse, Pipe, ServeCause, serve};
+use super::{ANSWER, SUBMIT, good, same, served_over};
+use crate::{Fuse, Pipe, ServeCause};
 use std::io::{ErrorKind, Read, Write};
 use std::process::Abort;
 use std::test::Fail;
@@ -57,7 +57,7 @@ fn a_centre_behind_pipes(rt: HostRuntime) -> Result<(), Fail> {
     let back = Pipe::new(alloc, 100)?;
     takes(&rt, &mut there.end(&rt), SUBMIT, 52);
     there.close(&rt);
-    let end = serve(alloc, &mut there.end(&rt), &mut back.end(&rt), script, 10);
+    let end = served_over(alloc, there.end(&rt), back.end(&rt), script, 10);
     same(&rt, (end.submits, end.cause), (1, ServeCause::Ended));
     let mut buf = [0u8; 32];
     assert!(rt; matches!(back.end(&rt).read(&mut buf), Ok(19)));

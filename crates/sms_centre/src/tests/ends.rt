@@ -1,7 +1,7 @@
 //! How serving ends, and what is written then.
 
-use super::{ANSWER, SUBMIT, bare, good, same, served};
-use crate::{Fuse, ServeCause, ServeEnd, serve};
+use super::{ANSWER, SUBMIT, bare, good, same, served, served_over};
+use crate::{Fuse, ServeCause, ServeEnd};
 use std::alloc::Global;
 use std::io;
 use std::io::{Error, ErrorKind, Read, Write};
@@ -64,12 +64,12 @@ fn a_bad_length_and_the_turns(rt: HostRuntime) -> Result<(), Fail> {
         same(&rt, out.as_slice(), bare(0x8000_0015, 0, 9).as_slice());
     }
     for turns in [0u64, 1, 103, 104, 105, 106] {
-        let mut reader = Drops {
+        let reader = Drops {
             octets: SUBMIT.as_slice(),
             idle: false,
         };
         let mut out = Vec::<u8>::new(alloc);
-        let end = serve(alloc, &mut reader, &mut out, good(alloc)?, turns);
+        let end = served_over(alloc, reader, &mut out, good(alloc)?, turns);
         let submits = if turns < 104 { 0 } else { 1 };
         let cause = if turns < 106 {
             ServeCause::Turns
@@ -89,12 +89,11 @@ fn one_write_for_one_read(rt: HostRuntime) -> Result<(), Fail> {
     for _ in 0..100 {
         stream.extend_from_slice(SUBMIT)?;
     }
-    let mut reader = stream.as_slice();
     let mut writer = Counter {
         writes: 0,
         octets: 0,
     };
-    let end = serve(alloc, &mut reader, &mut writer, good(alloc)?, 10);
+    let end = served_over(alloc, stream.as_slice(), &mut writer, good(alloc)?, 10);
     same(
         &rt,
         end,
@@ -113,9 +112,9 @@ fn one_write_for_one_read(rt: HostRuntime) -> Result<(), Fail> {
 
 // Reading fails after so many octets of a submit_sm.
 fn want_read_fault(rt: &impl Abort, alloc: Global, octets: u64) -> Result<(), Fail> {
-    let mut reader = Fuse::new(SUBMIT.as_slice(), octets);
+    let reader = Fuse::new(SUBMIT.as_slice(), octets);
     let mut out = Vec::<u8>::new(alloc);
-    let end = serve(alloc, &mut reader, &mut out, good(alloc)?, 100);
+    let end = served_over(alloc, reader, &mut out, good(alloc)?, 100);
     let cause = if octets < 53 {
         ServeCause::ReadFault
     } else {
@@ -129,10 +128,9 @@ fn want_read_fault(rt: &impl Abort, alloc: Global, octets: u64) -> Result<(), Fa
 
 // Writing fails after so many octets of the answer.
 fn want_write_fault(rt: &impl Abort, alloc: Global, octets: usize) -> Result<(), Fail> {
-    let mut reader = SUBMIT.as_slice();
     let mut out = Vec::<u8>::new(alloc);
-    let mut writer = Fuse::new(&mut out, octets as u64);
-    let end = serve(alloc, &mut reader, &mut writer, good(alloc)?, 100);
+    let writer = Fuse::new(&mut out, octets as u64);
+    let end = served_over(alloc, SUBMIT.as_slice(), writer, good(alloc)?, 100);
     let cause = if octets < 19 {
         ServeCause::WriteFault
     } else {

@@ -2,8 +2,8 @@
 //! for each of its allocations, and where memory is refused before the call that is tested, it ends
 //! there.
 
-use super::{ANSWER, SUBMIT, same};
-use crate::{Centre, Script, ScriptError, ServeCause, serve};
+use super::{ANSWER, SUBMIT, same, served_over};
+use crate::{Centre, Script, ScriptError, ServeCause};
 use sms_pdu::Frame;
 
 // Its answer where it came second.
@@ -76,8 +76,7 @@ fn memory_of_serving(rt: HostRuntime) {
     if input.extend_from_slice(SUBMIT).is_err() || wanted.extend_from_slice(SECOND).is_err() {
         return;
     }
-    let mut reader = input.as_slice();
-    let end = serve(alloc, &mut reader, &mut out, script, 10);
+    let end = served_over(alloc, input.as_slice(), &mut out, script, 10);
     match end.cause {
         ServeCause::Ended => same(&rt, (end.submits, out.len()), (2, 38)),
         cause => {

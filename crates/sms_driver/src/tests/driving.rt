@@ -6,7 +6,7 @@ use crate::{BindFailure, BindSettings, Dial, SendFault, Sending, drive_all};
 use sms_bind::Settings;
 use sms_book::{Opening, Statement, Tariff};
 use sms_centre::{Pipe, PipeEnd, Script, ServeCause, ServeEnd, serve};
-use sms_pdu::{Mode, Octets};
+use sms_pdu::{Mode, Octets, Tap};
 use sms_session::Policy;
 use sms_worker::{Clock, Gate, Message, MessageEnd, MessageResult, Outcome, Pause, Rules};
 use std::alloc::Global;
@@ -147,7 +147,11 @@ fn serve_bind<R: Wait + time::Clock>(
     text: &str,
 ) -> ServeEnd {
     let served = match Script::read(alloc, text) {
-        Ok(script) => serve(alloc, &mut there.end(rt), &mut back.end(rt), script, 10_000),
+        Ok(script) => {
+            let mut reader = Tap::new(there.end(rt));
+            let mut writer = Tap::new(back.end(rt));
+            serve(alloc, &mut reader, &mut writer, script, 10_000)
+        }
         Err(_fault) => ServeEnd {
             submits: 0,
             cause: ServeCause::OutOfMemory,

@@ -5,11 +5,11 @@ ghost use Rattle.std.specs.Prelude.{◌≤◌, length};
 use super::same::same;
 use crate::fault::OutputFault;
 use crate::report::{report_text, write_report_of};
-use sms_bind::{Receipt, Tap, Wire};
+use sms_bind::{Receipt, Wire};
 use sms_book::{Opening, Statement};
 use sms_centre::Fuse;
 use sms_core::Row;
-use sms_pdu::{Frame, Reply, is_frame, reply_of};
+use sms_pdu::{Frame, Reply, Tap, is_frame, reply_of};
 use sms_worker::{
     Attempt, Attempts, MessageEnd, MessageRefusal, MessageResult, Outcome, SegmentEnd, Segments,
 };

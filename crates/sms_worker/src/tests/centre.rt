@@ -5,9 +5,9 @@ ghost use Rattle.std.specs.Prelude.{◌≡◌};
 
 use super::SILENT;
 use rtrb::{Consumer, Producer, RingBuffer};
-use sms_bind::{Bound, Line, ReaderEnd, Tap, Wire, read_loop};
+use sms_bind::{Bound, Line, ReaderEnd, Wire, read_loop};
 use sms_pdu::{
-    BIND_TRANSCEIVER_RESP, Framer, Frames, GENERIC_NACK, Header, Mode, Reply, SUBMIT_SM_RESP,
+    BIND_TRANSCEIVER_RESP, Framer, Frames, GENERIC_NACK, Header, Mode, Reply, SUBMIT_SM_RESP, Tap,
     header_of,
 };
 use sms_session::Opened;

@@ -1,26 +1,27 @@
-use Rattle.std.proofs.Common.{◌≡◌, ◌+◌, ◌-◌, ◌<◌, ◌++◌, ◌∷◌, [], List, ℕ, length, take, sym, ap, ◌∙◌, subst, rules, arith}
+use Rattle.std.proofs.Common.{inl, inr, refl, ◌≡◌, ◌+◌, ◌-◌, ◌<◌, ◌++◌, ◌∷◌, [], List, ℕ, length, take, sym, ap, ◌∙◌, subst, rules, arith}
 use Rattle.std.proofs.KnownBytes.{Consumes-nil, Consumes-trans}
 use Rattle.std.proofs.lemmas.List.{nil_from_length}
+use Rattle.sms_pdu.specs.Devices.{device, faults_of}
 use Rattle.sms_pdu.specs.Frame.{Division, IsBad}
 use Rattle.sms_pdu.proofs.Divisions.{pieces_join}
 use Rattle.sms_pdu.proofs.Streams.{short_rest, consumes_nothing}
-use Rattle.sms_bind.proofs.Binds.{shorter_to_go, first_of_frames, gave_answer, not_spent_before}
+use Rattle.sms_bind.proofs.Binds.{Tried, tried_more, tried_all, shorter_to_go, first_of_frames, gave_answer, not_spent_before}
 use Rattle.sms_bind.proofs.binding.read_first.Goals as goal
 
 pub returns-in_default-clause-answer : goal.returns-in_default-clause-answer
 returns-in_default-clause-answer g c =
-    let r = g.R.Read.remaining c.args.reader.now.inner in
-    let t = g.R.Read.remaining c.loop-empty.reader.inner in
-    let u = g.R.Read.remaining c.read.new.self.inner in
+    let r = g.R.Read.remaining (device c.args.reader.now) in
+    let t = g.R.Read.remaining (device c.loop-empty.reader) in
+    let u = g.R.Read.remaining (device c.read.new.self) in
     let i = c.loop-empty.invariant in
     let p = take c.in-Ok.n c.read.new.buf in
     (i.got ++ p, Consumes-trans r t u i.got p i.consumed c.in-Ok.ensures.bytes.0, tt, tt)
 
 pub returns-then-not-is_empty-clause-answer : goal.returns-then-not-is_empty-clause-answer
 returns-then-not-is_empty-clause-answer g c =
-    let r = g.R.Read.remaining c.args.reader.now.inner in
-    let t = g.R.Read.remaining c.loop-empty.reader.inner in
-    let u = g.R.Read.remaining c.read.new.self.inner in
+    let r = g.R.Read.remaining (device c.args.reader.now) in
+    let t = g.R.Read.remaining (device c.loop-empty.reader) in
+    let u = g.R.Read.remaining (device c.read.new.self) in
     let i = c.loop-empty.invariant in
     let p = take c.in-Ok.n c.read.new.buf in
     let items = c.into_vec-frames.result.items in
@@ -33,9 +34,9 @@ returns-then-not-is_empty-clause-answer g c =
 
 pub returns-then-is_some-clause-answer : goal.returns-then-is_some-clause-answer
 returns-then-is_some-clause-answer g c =
-    let r = g.R.Read.remaining c.args.reader.now.inner in
-    let t = g.R.Read.remaining c.loop-empty.reader.inner in
-    let u = g.R.Read.remaining c.read.new.self.inner in
+    let r = g.R.Read.remaining (device c.args.reader.now) in
+    let t = g.R.Read.remaining (device c.loop-empty.reader) in
+    let u = g.R.Read.remaining (device c.read.new.self) in
     let i = c.loop-empty.invariant in
     let p = take c.in-Ok.n c.read.new.buf in
     let items = c.into_vec-frames.result.items in
@@ -61,9 +62,9 @@ loop-empty-smaller-in-Ok g c =
 
 pub loop-empty-preserved-in-Ok : goal.loop-empty-preserved-in-Ok
 loop-empty-preserved-in-Ok g c =
-    let r = g.R.Read.remaining c.args.reader.now.inner in
-    let t = g.R.Read.remaining c.loop-empty.reader.inner in
-    let u = g.R.Read.remaining c.read.new.self.inner in
+    let r = g.R.Read.remaining (device c.args.reader.now) in
+    let t = g.R.Read.remaining (device c.loop-empty.reader) in
+    let u = g.R.Read.remaining (device c.read.new.self) in
     let i = c.loop-empty.invariant in
     let p = take c.in-Ok.n c.read.new.buf in
     let items = c.into_vec-frames.result.items in
@@ -79,47 +80,84 @@ loop-empty-preserved-in-Ok g c =
       counted = search rules;
       few = c.loop-empty.invariant.few;
       tries = (let h = c.loop-empty.invariant.tries in let k = c.in-Ok.ensures.faults in omega (arith, h, k));
-      many = c.in-Ok.ensures.faults ∙ c.loop-empty.invariant.many;
+      many = subst (λ k. Tried c.loop-empty.empty (faults_of c.args.reader.now) k) (sym c.in-Ok.ensures.faults) c.loop-empty.invariant.many;
       failures = c.in-Ok.ensures.failures ∙ c.loop-empty.invariant.failures;
       piece = search rules;
     }
 
+pub loop-empty-init : goal.loop-empty-init
+loop-empty-init g c = record {
+  got = [];
+  consumed = Consumes-nil _;
+  divided = search rules;
+  good = search rules;
+  faults = omega arith;
+  counted = λ low. absurd (omega (arith, low));
+  few = omega arith;
+  tries = omega arith;
+  many = inl (refl, refl);
+  failures = refl;
+  piece = search rules;
+}
+
+pub loop-empty-preserved : goal.loop-empty-preserved
+loop-empty-preserved g c =
+    let i = c.loop-empty.invariant in
+    record {
+      got = i.got;
+      consumed = search rules;
+      divided = i.divided;
+      good = i.good;
+      faults = (let h = i.faults in let k = c.read.ensures.grows in omega (arith, h, k));
+      counted = search rules;
+      few = search rules;
+      tries = (let h = i.tries in let k = c.in-Err.ensures.faults in omega (arith, h, k));
+      many = tried_more _ _ _ _ c.in-Err.ensures.faults i.many;
+      failures = search rules;
+      piece = search rules;
+    }
+
+pub returns-clause-failed : goal.returns-clause-failed
+returns-clause-failed g c = λ e.
+    let i = c.loop-empty.invariant in
+    inr (i.failures, tried_all _ _ _ _ (search rules) (search rules) i.many)
+
 pub returns-in_default-clause-most : goal.returns-in_default-clause-most
 returns-in_default-clause-most g c =
     let i = c.loop-empty.invariant in
-    gave_answer i.got (take c.in-Ok.n c.read.new.buf) c.loop-empty.framer _ (g.R.Read.remaining c.loop-empty.reader.inner) _ i.divided i.good (search rules) i.consumed c.in-Ok.ensures.bytes.0
+    gave_answer i.got (take c.in-Ok.n c.read.new.buf) c.loop-empty.framer _ (g.R.Read.remaining (device c.loop-empty.reader)) _ i.divided i.good (search rules) i.consumed c.in-Ok.ensures.bytes.0
 
 pub returns-in_default-clause-spent : goal.returns-in_default-clause-spent
 returns-in_default-clause-spent g c = λ spent quiet.
     let i = c.loop-empty.invariant in
-    absurd (not_spent_before i.got (take c.in-Ok.n c.read.new.buf) _ (g.R.Read.remaining c.loop-empty.reader.inner) _ (search rules) i.consumed c.in-Ok.ensures.bytes.0 spent)
+    absurd (not_spent_before i.got (take c.in-Ok.n c.read.new.buf) _ (g.R.Read.remaining (device c.loop-empty.reader)) _ (search rules) i.consumed c.in-Ok.ensures.bytes.0 spent)
 
 pub returns-then-not-is_empty-clause-most : goal.returns-then-not-is_empty-clause-most
 returns-then-not-is_empty-clause-most g c =
     let i = c.loop-empty.invariant in
-    gave_answer i.got (take c.in-Ok.n c.read.new.buf) c.loop-empty.framer _ (g.R.Read.remaining c.loop-empty.reader.inner) _ i.divided i.good (search rules) i.consumed c.in-Ok.ensures.bytes.0
+    gave_answer i.got (take c.in-Ok.n c.read.new.buf) c.loop-empty.framer _ (g.R.Read.remaining (device c.loop-empty.reader)) _ i.divided i.good (search rules) i.consumed c.in-Ok.ensures.bytes.0
 
 pub returns-then-not-is_empty-clause-spent : goal.returns-then-not-is_empty-clause-spent
 returns-then-not-is_empty-clause-spent g c = λ spent quiet.
     let i = c.loop-empty.invariant in
-    absurd (not_spent_before i.got (take c.in-Ok.n c.read.new.buf) _ (g.R.Read.remaining c.loop-empty.reader.inner) _ (search rules) i.consumed c.in-Ok.ensures.bytes.0 spent)
+    absurd (not_spent_before i.got (take c.in-Ok.n c.read.new.buf) _ (g.R.Read.remaining (device c.loop-empty.reader)) _ (search rules) i.consumed c.in-Ok.ensures.bytes.0 spent)
 
 pub returns-then-is_some-clause-most : goal.returns-then-is_some-clause-most
 returns-then-is_some-clause-most g c =
     let i = c.loop-empty.invariant in
-    gave_answer i.got (take c.in-Ok.n c.read.new.buf) c.loop-empty.framer _ (g.R.Read.remaining c.loop-empty.reader.inner) _ i.divided i.good (search rules) i.consumed c.in-Ok.ensures.bytes.0
+    gave_answer i.got (take c.in-Ok.n c.read.new.buf) c.loop-empty.framer _ (g.R.Read.remaining (device c.loop-empty.reader)) _ i.divided i.good (search rules) i.consumed c.in-Ok.ensures.bytes.0
 
 pub returns-then-is_some-clause-spent : goal.returns-then-is_some-clause-spent
 returns-then-is_some-clause-spent g c = λ spent quiet.
     let i = c.loop-empty.invariant in
-    absurd (not_spent_before i.got (take c.in-Ok.n c.read.new.buf) _ (g.R.Read.remaining c.loop-empty.reader.inner) _ (search rules) i.consumed c.in-Ok.ensures.bytes.0 spent)
+    absurd (not_spent_before i.got (take c.in-Ok.n c.read.new.buf) _ (g.R.Read.remaining (device c.loop-empty.reader)) _ (search rules) i.consumed c.in-Ok.ensures.bytes.0 spent)
 
 pub returns-then-not-gave_nothing-clause-most : goal.returns-then-not-gave_nothing-clause-most
 returns-then-not-gave_nothing-clause-most g c =
     let i = c.loop-empty.invariant in
-    gave_answer i.got [] c.loop-empty.framer _ (g.R.Read.remaining c.loop-empty.reader.inner) _ i.divided i.good (omega arith) i.consumed (consumes_nothing _ _ c.in-Err.ensures.bytes)
+    gave_answer i.got [] c.loop-empty.framer _ (g.R.Read.remaining (device c.loop-empty.reader)) _ i.divided i.good (omega arith) i.consumed (consumes_nothing _ _ c.in-Err.ensures.bytes)
 
 pub returns-clause-most : goal.returns-clause-most
 returns-clause-most g c =
     let i = c.loop-empty.invariant in
-    gave_answer i.got [] c.loop-empty.framer _ (g.R.Read.remaining c.loop-empty.reader.inner) _ i.divided i.good (omega arith) i.consumed (Consumes-nil _)
+    gave_answer i.got [] c.loop-empty.framer _ (g.R.Read.remaining (device c.loop-empty.reader)) _ i.divided i.good (omega arith) i.consumed (Consumes-nil _)

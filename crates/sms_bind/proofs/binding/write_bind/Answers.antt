@@ -5,7 +5,7 @@ use Rattle.sms_pdu.specs.Borrowed.{owned_pdu}
 use Rattle.sms_pdu.specs.Grammar.{Spells}
 use Rattle.sms_pdu.proofs.Writings.{added_to_none}
 use Rattle.sms_bind.specs.Binds.{bind_pdu}
-use Rattle.sms_bind.specs.Devices.{writer}
+use Rattle.sms_bind.specs.Wires.{writer}
 use Rattle.sms_bind.proofs.Binds.{same_text}
 use Rattle.sms_bind.proofs.binding.write_bind.Goals as goal
 

@@ -1,6 +1,7 @@
 use Rattle.std.proofs.Common.{◌≡◌, ◌++◌, List, ℕ, map, sym, ap, ◌∙◌, subst, rules}
 use Rattle.std.specs.List.{concat, AllZip}
 use Rattle.rtrb.specs.Ring.{sent, known_free, SameProducer}
+use Rattle.sms_pdu.specs.Devices.{device}
 use Rattle.sms_slot.proofs.Rings.{same_rings}
 use Rattle.sms_bind.specs.declared.ending.ReaderEnd.{ReaderEnd}
 use Rattle.sms_bind.specs.declared.counts.Counts.{Counts}
@@ -17,7 +18,7 @@ returns-in-Err-clause-rings g c =
 
 pub returns-in-Err-clause-answers : goal.returns-in-Err-clause-answers
 returns-in-Err-clause-answers g c =
-    let r = g.R.Read.remaining c.args.reader.now.inner in
+    let r = g.R.Read.remaining (device c.args.reader.now) in
     let begun = concat c.args.bound.frames ++ c.args.bound.framer in
     let rings = map sent c.args.producers.items in
     let s = c.args.bound.session in
@@ -39,8 +40,8 @@ returns-in-Err-clause-answers g c =
 pub returns-clause-answers : goal.returns-clause-answers
 returns-clause-answers g c =
     let b = c.read-cause.new.self in
-    let r = g.R.Read.remaining c.args.reader.now.inner in
-    let t = g.R.Read.remaining c.read-cause.new.reader.inner in
+    let r = g.R.Read.remaining (device c.args.reader.now) in
+    let t = g.R.Read.remaining (device c.read-cause.new.reader) in
     let s = c.args.bound.session in
     let rings = map sent c.args.producers.items in
     let begun : concat c.as_slice.result.now ++ c.into_rest-rest.result.items ≡ concat c.args.bound.frames ++ c.args.bound.framer =
@@ -73,8 +74,8 @@ returns-in-Err-clause-room g c =
 pub returns-clause-room : goal.returns-clause-room
 returns-clause-room g c =
     let b = c.read-cause.new.self in
-    let r = g.R.Read.remaining c.args.reader.now.inner in
-    let t = g.R.Read.remaining c.read-cause.new.reader.inner in
+    let r = g.R.Read.remaining (device c.args.reader.now) in
+    let t = g.R.Read.remaining (device c.read-cause.new.reader) in
     let s = c.args.bound.session in
     let rings = map sent c.args.producers.items in
     let free = map known_free c.args.producers.items in

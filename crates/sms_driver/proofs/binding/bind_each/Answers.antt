@@ -1,7 +1,7 @@
 use Rattle.std.proofs.Common.{rules, arith, ℕ, subst, ◌∙◌, sym, ap, map, length}
 use Rattle.sms_driver.specs.SendFaults.{IsFaultOf}
 use Rattle.sms_driver.specs.Seated.{IsSeated}
-use Rattle.sms_bind.specs.Devices.{device}
+use Rattle.sms_pdu.specs.Devices.{device}
 use Rattle.sms_driver.specs.Reads.{IsOpened}
 use Rattle.sms_driver.proofs.Openings.{one_opened}
 use Rattle.sms_driver.proofs.Grouping.{zip_length}

@@ -1,5 +1,6 @@
 use Rattle.std.proofs.Common.{◌++◌, [], Option, None, Some, refl, ap, subst, rules}
 use Rattle.std.specs.List.{concat}
+use Rattle.sms_pdu.specs.Devices.{device}
 use Rattle.sms_pdu.specs.Frame.{IsBad}
 use Rattle.sms_pdu.specs.Streams.{Reads, lost}
 use Rattle.sms_bind.specs.declared.ending.ReaderCause.{ReaderCause}
@@ -8,7 +9,8 @@ use Rattle.sms_bind.specs.Deeds.{stretch_of}
 use Rattle.sms_bind.specs.ReaderStates.{Worked}
 use Rattle.sms_bind.proofs.Works.{worked_more, worked_ends, reads_early, reads_begun}
 use Rattle.sms_pdu.proofs.Streams.{reads_ends, reads_more}
-use Rattle.sms_bind.proofs.Turning.{turned_none, not_early}
+use Rattle.sms_pdu.proofs.Turns.{turned_none}
+use Rattle.sms_bind.proofs.Turning.{not_early}
 use Rattle.sms_bind.proofs.reader_state.ReaderState.read.Goals as goal
 
 pub returns-in-Some-clause-reads : goal.returns-in-Some-clause-reads
@@ -16,7 +18,7 @@ returns-in-Some-clause-reads g c =
     let (left, went, whole) = c.in-Some.ensures.went in
     let a = c.args.self.now in
     let end : Option ReaderCause = Some c.in-Some.cause in
-    reads_early (Worked a.session end a c.work_all.new.self) (concat c.args.frames.now) left c.args.rest.items [] (g.R.Read.remaining c.args.reader.now.inner) (stretch_of end) went c.in-Some.ensures.early
+    reads_early (Worked a.session end a c.work_all.new.self) (concat c.args.frames.now) left c.args.rest.items [] (g.R.Read.remaining (device c.args.reader.now)) (stretch_of end) went c.in-Some.ensures.early
 
 pub returns-then-is_bad-clause-reads : goal.returns-then-is_bad-clause-reads
 returns-then-is_bad-clause-reads g c =
@@ -27,7 +29,7 @@ returns-then-is_bad-clause-reads g c =
     let before = concat c.args.frames.now in
     let rest = c.args.rest.items in
     let bad : IsBad rest = search rules in
-    let r = g.R.Read.remaining c.args.reader.now.inner in
+    let r = g.R.Read.remaining (device c.args.reader.now) in
     reads_ends (Worked s None a b) (Worked s (Some Lost) a b) (before ++ rest) rest [] r r lost (reads_begun (Worked s None a b) before left rest r went (whole refl) c.requires.rest) (λ fs x. worked_ends s (Some Lost) a b fs refl refl x) bad
 
 pub returns-clause-reads : goal.returns-clause-reads
@@ -40,8 +42,8 @@ returns-clause-reads g c =
     let before = concat c.args.frames.now in
     let rest = c.args.rest.items in
     let end : Option ReaderCause = Some c.read_turns.result in
-    let r = g.R.Read.remaining c.args.reader.now.inner in
-    let u = g.R.Read.remaining c.read_turns.new.reader.inner in
+    let r = g.R.Read.remaining (device c.args.reader.now) in
+    let u = g.R.Read.remaining (device c.read_turns.new.reader) in
     let one = subst (λ x. Reads (Worked x end b d) rest r u (stretch_of end) []) (c.in_default.ensures.going refl) c.read_turns.ensures.reads in
     reads_more (Worked s None a b) (Worked s end b d) (Worked s end a d) (before ++ rest) rest [] r r u (stretch_of end) (reads_begun (Worked s None a b) before left rest r went (whole refl) c.requires.rest) one (λ fs gs p q. worked_more s c.requires.bound end a b d fs gs p q)
 

@@ -1,25 +1,27 @@
 use Rattle.std.proofs.Common.{[], Option, None, Some, refl, ap, ◌∙◌, subst, rules, arith}
 use Rattle.std.proofs.KnownBytes.{Consumes-nil}
+use Rattle.sms_pdu.specs.Devices.{device, faults_of}
 use Rattle.sms_pdu.specs.Streams.{Reads, going, complete, early}
 use Rattle.sms_pdu.proofs.Streams.{short_rest, reads_none, reads_more, reads_ends, reads_ended, reads_rest}
+use Rattle.sms_pdu.proofs.Turns.{turned_none, turned_begins, turned_more, turned_last, turned_stops, turned_all, counted_later, counted_once}
 use Rattle.sms_bind.specs.declared.ending.ReaderCause.{ReaderCause}
 use Rattle.sms_bind.specs.declared.ending.ReaderCause.TheVariants.{OutOfMemory, Stopped, Turns}
 use Rattle.sms_bind.specs.Deeds.{stretch_of}
 use Rattle.sms_bind.specs.ReaderStates.{Worked}
-use Rattle.sms_bind.proofs.Works.{worked_none, worked_nothing, worked_more, worked_ends, leaves_end, follows_same, follows_on, counted_later, counted_once}
-use Rattle.sms_bind.proofs.Turning.{turned_none, turned_begins, turned_more, turned_last, turned_stops, turned_all, stops_before}
+use Rattle.sms_bind.proofs.Works.{worked_none, worked_nothing, worked_more, worked_ends, leaves_end, follows_same, follows_on}
+use Rattle.sms_bind.proofs.Turning.{stops_before}
 use Rattle.sms_bind.proofs.reader_state.ReaderState.read_turns.Goals as goal
 
 pub returns-in_default-clause-reads : goal.returns-in_default-clause-reads
 returns-in_default-clause-reads g c =
-    let r = g.R.Read.remaining c.args.reader.now.inner in
+    let r = g.R.Read.remaining (device c.args.reader.now) in
     let a = c.args.self.now in
     let s = a.session in
     reads_none (Worked s (Some OutOfMemory) a a) c.args.held.items [] r r early (worked_nothing s (Some OutOfMemory) a refl refl) (Consumes-nil r) tt
 
 pub loop-turn-init : goal.loop-turn-init
 loop-turn-init g c =
-    let r = g.R.Read.remaining c.args.reader.now.inner in
+    let r = g.R.Read.remaining (device c.args.reader.now) in
     let a = c.args.self.now in
     let held = c.args.held.items in
     record {
@@ -37,12 +39,12 @@ loop-turn-init g c =
 
 pub turn-requires-clause-rest : goal.turn-requires-clause-rest
 turn-requires-clause-rest g c =
-    reads_rest (Worked c.args.self.now.session None c.args.self.now c.loop-turn.self) c.args.held.items c.loop-turn.held.items (g.R.Read.remaining c.args.reader.now.inner) (g.R.Read.remaining c.loop-turn.reader.inner) c.loop-turn.invariant.reads
+    reads_rest (Worked c.args.self.now.session None c.args.self.now c.loop-turn.self) c.args.held.items c.loop-turn.held.items (g.R.Read.remaining (device c.args.reader.now)) (g.R.Read.remaining (device c.loop-turn.reader)) c.loop-turn.invariant.reads
 
 pub returns-then-load-clause-reads : goal.returns-then-load-clause-reads
 returns-then-load-clause-reads g c =
-    let r = g.R.Read.remaining c.args.reader.now.inner in
-    let t = g.R.Read.remaining c.loop-turn.reader.inner in
+    let r = g.R.Read.remaining (device c.args.reader.now) in
+    let t = g.R.Read.remaining (device c.loop-turn.reader) in
     let a = c.args.self.now in
     let b = c.loop-turn.self in
     let s = a.session in
@@ -53,8 +55,8 @@ returns-then-load-clause-reads g c =
 
 pub returns-clause-reads : goal.returns-clause-reads
 returns-clause-reads g c =
-    let r = g.R.Read.remaining c.args.reader.now.inner in
-    let t = g.R.Read.remaining c.loop-turn.reader.inner in
+    let r = g.R.Read.remaining (device c.args.reader.now) in
+    let t = g.R.Read.remaining (device c.loop-turn.reader) in
     let a = c.args.self.now in
     let b = c.loop-turn.self in
     let s = a.session in
@@ -65,9 +67,9 @@ returns-clause-reads g c =
 
 pub returns-in-Some-clause-reads : goal.returns-in-Some-clause-reads
 returns-in-Some-clause-reads g c =
-    let r = g.R.Read.remaining c.args.reader.now.inner in
-    let t = g.R.Read.remaining c.loop-turn.reader.inner in
-    let u = g.R.Read.remaining c.turn.new.reader.inner in
+    let r = g.R.Read.remaining (device c.args.reader.now) in
+    let t = g.R.Read.remaining (device c.loop-turn.reader) in
+    let u = g.R.Read.remaining (device c.turn.new.reader) in
     let i = c.loop-turn.invariant in
     let a = c.args.self.now in
     let b = c.loop-turn.self in
@@ -83,7 +85,7 @@ returns-in-Some-clause-reads g c =
     (λ left. leaves_end c.in-Some.cause left kept [])
 
 pub returns-in-Some-clause-fault : goal.returns-in-Some-clause-fault
-returns-in-Some-clause-fault g c = λ e. counted_later c.args.reader.now.faults c.loop-turn.reader.faults c.turn.new.reader.faults c.loop-turn.invariant.faults c.turn.ensures.faults (c.in-Some.ensures.fault (ap (λ x. Some x) e))
+returns-in-Some-clause-fault g c = λ e. counted_later (faults_of c.args.reader.now) (faults_of c.loop-turn.reader) (faults_of c.turn.new.reader) c.loop-turn.invariant.faults c.turn.ensures.faults (c.in-Some.ensures.fault (ap (λ x. Some x) e))
 
 pub returns-in-Some-clause-failed : goal.returns-in-Some-clause-failed
 returns-in-Some-clause-failed g c = λ e. counted_once _ _ _ c.loop-turn.invariant.failures (c.in-Some.ensures.failed (ap (λ x. Some x) e))
@@ -99,9 +101,9 @@ returns-clause-quiet g c = λ other. c.loop-turn.invariant.failures
 
 pub loop-turn-preserved : goal.loop-turn-preserved
 loop-turn-preserved g c =
-    let r = g.R.Read.remaining c.args.reader.now.inner in
-    let t = g.R.Read.remaining c.loop-turn.reader.inner in
-    let u = g.R.Read.remaining c.turn.new.reader.inner in
+    let r = g.R.Read.remaining (device c.args.reader.now) in
+    let t = g.R.Read.remaining (device c.loop-turn.reader) in
+    let u = g.R.Read.remaining (device c.turn.new.reader) in
     let i = c.loop-turn.invariant in
     let a = c.args.self.now in
     let b = c.loop-turn.self in

@@ -1,11 +1,11 @@
 use Rattle.std.proofs.Common.{◌≡◌, ◌+◌, ◌*◌, ◌≤◌, length, None}
 use Rattle.sms_pdu.specs.Frame.{IsBad}
+use Rattle.sms_pdu.specs.Devices.{device, faults_of, failures_of}
 use Rattle.sms_pdu.specs.Streams.{Reads, going}
+use Rattle.sms_pdu.specs.Turn.{Turned}
 use Rattle.sms_bind.specs.Deeds.{IsWithin}
-use Rattle.sms_bind.specs.Devices.{device, faults_of, failures_of}
 use Rattle.sms_bind.specs.Follows.{Follows}
 use Rattle.sms_bind.specs.ReaderStates.{Worked}
-use Rattle.sms_bind.specs.Turns.{Turned}
 use Rattle.sms_bind.proofs.reader_state.ReaderState.read_turns.Given as goal
 
 abbrev pub invariant-loop-turn : goal.invariant-loop-turn

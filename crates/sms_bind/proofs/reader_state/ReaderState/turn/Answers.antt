@@ -1,12 +1,12 @@
 use Rattle.std.proofs.Common.{◌≡◌, ◌++◌, ℕ, take, Some, refl, subst, rules, arith}
 use Rattle.std.specs.Io.KnownBytes.{Consumes}
+use Rattle.sms_pdu.specs.Devices.{device}
 use Rattle.sms_pdu.specs.Streams.{complete, early}
 use Rattle.sms_pdu.proofs.Streams.{reads_none, reads_once, went_none}
-use Rattle.sms_pdu.proofs.Turns.{not_spent}
-use Rattle.sms_bind.specs.declared.ending.ReaderCause.TheVariants.{Ended, Stopped, Turns, OutOfMemory}
+use Rattle.sms_pdu.proofs.Turns.{not_spent, not_failed, turned_ends, turned_read, turned_fault}
+use Rattle.sms_bind.specs.declared.ending.ReaderCause.TheVariants.{Ended, ReadFault, Stopped, Turns, OutOfMemory}
 use Rattle.sms_bind.specs.ReaderStates.{Worked}
-use Rattle.sms_bind.proofs.Works.{worked_nothing, reads_failed, not_failed}
-use Rattle.sms_bind.proofs.Turning.{turned_ends, turned_read, turned_fault}
+use Rattle.sms_bind.proofs.Works.{worked_nothing, reads_failed}
 use Rattle.sms_bind.proofs.reader_state.ReaderState.turn.Goals as goal
 
 pub returns-then-is_err-clause-reads : goal.returns-then-is_err-clause-reads
@@ -23,8 +23,8 @@ returns-in-Ok-eq0-clause-reads g c =
     let a = c.args.self.now in
     let s = a.session in
     let held = c.args.held.now.items in
-    let r = g.R.Read.remaining c.args.reader.now.inner in
-    let t = g.R.Read.remaining c.read.new.self.inner in
+    let r = g.R.Read.remaining (device c.args.reader.now) in
+    let t = g.R.Read.remaining (device c.read.new.self) in
     let zero : c.in-Ok-eq0.field-0 ≡ 0 = omega (arith, c.in-Ok-eq0.field-0-is) in
     let none : Consumes r t (take 0 c.read.new.buf) = subst (λ (n : ℕ). Consumes r t (take n c.read.new.buf)) zero c.in-Ok-eq0.ensures.bytes.0 in
     reads_none (Worked s (Some Ended) a a) held held r t complete (worked_nothing s (Some Ended) a refl refl) none (c.requires.rest, c.requires.good)
@@ -46,10 +46,10 @@ pub returns-in-Err-clause-turned : goal.returns-in-Err-clause-turned
 returns-in-Err-clause-turned g c = turned_fault _ _ _ _ _ c.in-Err.ensures.counted c.read.ensures.grows c.in-Err.ensures.bytes
 
 pub returns-in-Err-clause-cause : goal.returns-in-Err-clause-cause
-returns-in-Err-clause-cause g c = (not_failed c.fault_of.result Stopped c.fault_of.ensures.one (λ e. absurd cc), not_failed c.fault_of.result Turns c.fault_of.ensures.one (λ e. absurd cc))
+returns-in-Err-clause-cause g c = (not_failed c.fault_of.result ReadFault Stopped c.fault_of.ensures.one (λ e. absurd cc), not_failed c.fault_of.result ReadFault Turns c.fault_of.ensures.one (λ e. absurd cc))
 
 pub returns-in-Err-clause-end : goal.returns-in-Err-clause-end
-returns-in-Err-clause-end g c = λ e. absurd (not_failed c.fault_of.result Ended c.fault_of.ensures.one (λ e. absurd cc) e)
+returns-in-Err-clause-end g c = λ e. absurd (not_failed c.fault_of.result ReadFault Ended c.fault_of.ensures.one (λ e. absurd cc) e)
 
 pub returns-then-is_err-clause-spent : goal.returns-then-is_err-clause-spent
 returns-then-is_err-clause-spent g c = λ spent quiet. absurd (not_spent _ _ (take c.in-Ok.n c.read.new.buf) (search rules) c.in-Ok.ensures.bytes.0 spent)

@@ -1,14 +1,15 @@
 //! Readers and writers whose errors are counted.
 
-ghost use Rattle.std.specs.Prelude.{◌≡◌, ℕ, ◌+◌, ◌<◌, ◌≤◌, List, length, take, Some, None, MatchResult, IfOk, OnOk, OnErr, IfSome};
+ghost use Rattle.std.specs.Prelude.{◌≡◌, ◌<◌, ◌≤◌, length, MatchResult, IfOk, OnOk, OnErr};
 ghost use Rattle.std.specs.Io.{ReadsAtMost, WritesAtMost};
 ghost use Rattle.std.specs.Io.KnownBytes.{Appends, Keeps, ReadConsumes, WriteAppends};
 ghost use Rattle.std.specs.IoError.{error_kind};
-ghost use Rattle.sms_bind.specs.Devices.{device, faults_of, failures_of};
-ghost use Rattle.sms_bind.specs.Faults.{Counts, IsCounted, failures_after};
-ghost use Rattle.sms_pdu.specs.Streams.{SomeAppended};
+ghost use Rattle.sms_pdu.specs.Devices.{device, faults_of, failures_of};
+ghost use Rattle.sms_pdu.specs.Faults.{Counts, IsCounted, failures_after};
+ghost use Rattle.sms_pdu.specs.Streams.{FewerAppended};
 
-use sms_pdu::{gave_nothing, write_octets};
+use crate::turn::gave_nothing;
+use crate::writing::write_octets;
 use std::io;
 use std::io::{Error, ErrorKind, Read, Write};
 
@@ -133,10 +134,11 @@ impl<W: Write> Write for Tap<W> {
 }
 
 impl<W: Write> Tap<W> {
-    /// Writes all bytes, in as many writes as it takes, up to the first that fails.
-    pub(crate) fn put(&mut self, bytes: &[u8]) -> io::Result<()>
+    /// Writes all bytes, in as many writes as it takes, up to the first that fails; then not all are
+    /// written. That counts as one error.
+    pub fn put(&mut self, bytes: &[u8]) -> io::Result<()>
         ensures all { OnOk result (Appends (W.contents (device self.old)) (W.contents (device self.new)) bytes.now) }
-        ensures some { OnErr result (SomeAppended (W.contents (device self.old)) (W.contents (device self.new)) bytes.now) }
+        ensures some { OnErr result (FewerAppended (W.contents (device self.old)) (W.contents (device self.new)) bytes.now) }
         ensures faults { MatchResult result (λ _. faults_of self.new ≡ faults_of self.old) (λ _. Counts (faults_of self.old) (faults_of self.new)) }
         ensures failures { MatchResult result (λ _. failures_of self.new ≡ failures_of self.old) (λ e. failures_of self.new ≡ failures_after (error_kind e) (failures_of self.old)) }
         ensures counted { OnErr result (IsCounted (faults_of self.old) (faults_of self.new)) }
