@@ -5,6 +5,7 @@
 
 mod binding;
 mod bound;
+mod context;
 mod counts;
 mod deed;
 mod ending;

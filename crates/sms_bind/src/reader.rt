@@ -14,6 +14,7 @@ ghost use Rattle.sms_bind.specs.Turns.{Stops};
 ghost use Rattle.sms_bind.specs.declared.ending.ReaderCause.TheVariants.{Ended, ReadFault, Stopped, Turns};
 
 use crate::bound::Bound;
+use crate::context::ReaderContext;
 use crate::counts::Counts;
 use crate::ending::{ReaderCause, ReaderEnd};
 use crate::follower::Follower;
@@ -76,17 +77,14 @@ pub fn read_loop<R: Read, W: Write, S: Wait>(
         counts: Counts::new(),
         follower,
     };
-    let rest = framer.into_rest();
-    let cause = reader_state.read(
+    let context = ReaderContext {
         rt,
         alloc,
-        reader,
-        frames.as_slice(),
-        rest,
         line,
         window,
-        turns,
-    );
+    };
+    let rest = framer.into_rest();
+    let cause = reader_state.read(&context, reader, frames.as_slice(), rest, turns);
     line.down.store(true, Ordering::SeqCst);
     let ReaderState {
         session: _,

@@ -14,18 +14,16 @@ ghost use Rattle.sms_bind.specs.ReaderStates.{Worked};
 ghost use Rattle.sms_bind.specs.declared.deed.Deed.TheVariants.{Brought};
 ghost use Rattle.sms_bind.specs.declared.ending.ReaderCause.TheVariants.{OutOfMemory};
 
+use crate::context::ReaderContext;
 use crate::counts::Counts;
 use crate::deed::{Deed, cause_of};
 use crate::ending::ReaderCause;
 use crate::follower::Follower;
-use crate::line::Line;
 use crate::replying::reply;
 use rtrb::Producer;
 use sms_pdu::{Reply, frame_header, reply_of};
 use sms_session::{Action, Response, Session};
 use sms_slot::Search;
-use sms_window::Window;
-use std::alloc::Global;
 use std::io::Write;
 use std::sync::Wait;
 
@@ -42,14 +40,11 @@ impl ReaderState {
     /// Works a frame and counts it. Gives why the reader ends, if it does.
     pub fn go<W: Write, S: Wait>(
         &mut self,
-        rt: &S,
-        alloc: Global,
-        line: &Line<W>,
-        window: &Window,
+        context: &ReaderContext<W, S>,
         frame: &[u8],
     ) -> Option<ReaderCause>
         requires bound { IsBound self.old.session }
-        requires own { self.old.follower.now.window ≡ window.now }
+        requires own { self.old.follower.now.window ≡ context.now.window.now }
         requires frame { IsFrame frame.now }
         requires within { IsWithin self.old.counts }
         requires room { self.old.counts.frames + 1 < 2 ^ 64 }
@@ -61,22 +56,15 @@ impl ReaderState {
         ensures early { IfSome result (λ c. stretch_of (Some c) ≡ early) }
         ensures full { result ≢ Some OutOfMemory }
     {
-        let deed = self.work(rt, alloc, line, window, frame);
+        let deed = self.work(context, frame);
         self.counts.add(&deed);
         cause_of(&deed, self.session.state())
     }
 
     /// Does what the session's table asks for.
-    fn work<W: Write, S: Wait>(
-        &mut self,
-        rt: &S,
-        alloc: Global,
-        line: &Line<W>,
-        window: &Window,
-        frame: &[u8],
-    ) -> Deed
+    fn work<W: Write, S: Wait>(&mut self, context: &ReaderContext<W, S>, frame: &[u8]) -> Deed
         requires bound { IsBound self.old.session }
-        requires own { self.old.follower.now.window ≡ window.now }
+        requires own { self.old.follower.now.window ≡ context.now.window.now }
         requires frame { IsFrame frame.now }
         ensures follows { Follows self.old.follower self.new.follower }
         ensures follow { Follow result self.old.follower self.new.follower }
@@ -92,42 +80,46 @@ impl ReaderState {
                 let Some(answer) = reply_of(frame) else {
                     unreachable!()
                 };
-                let search = line.slots.answer(rt, answer, self.producers.as_mut_slice());
-                self.follow(window, &answer, search);
                 Deed::Brought {
                     reply: answer,
-                    search,
+                    search: self.bring(context, &answer),
                 }
             }
-            Action::Reply(response) => respond(rt, alloc, line, response),
-            Action::ReplyClose(response) => respond(rt, alloc, line, response),
+            Action::Reply(response) => respond(context, response),
+            Action::ReplyClose(response) => respond(context, response),
             Action::Note => Deed::Noted,
             Action::Close => Deed::Closed,
             Action::Drop => Deed::Closed,
         }
     }
 
-    /// Takes note of an answer that was handed on.
-    fn follow(&mut self, window: &Window, reply: &Reply, search: Search)
-        requires own { self.old.follower.now.window ≡ window.now }
+    /// Brings an answer to the slot that waits for it, and takes note of it where it was handed on.
+    fn bring<W, S: Wait>(&mut self, context: &ReaderContext<W, S>, reply: &Reply) -> Search
+        requires own { self.old.follower.now.window ≡ context.now.window.now }
         ensures follows { Follows self.old.follower self.new.follower }
-        ensures follow { Follow (Brought reply.now search) self.old.follower self.new.follower }
-        ensures same { (self.new.session ≡ self.old.session) × (self.new.producers ≡ self.old.producers) × (self.new.counts ≡ self.old.counts) }
+        ensures follow { Follow (Brought reply.now result) self.old.follower self.new.follower }
+        ensures rings { AllZip SameProducer self.old.producers.items self.new.producers.items }
+        ensures sends { map sent self.new.producers.items ≡ handed (map sent self.old.producers.items) (entry (Brought reply.now result)) }
+        ensures room { TakesRoom (Brought reply.now result) (map known_free self.old.producers.items) (map known_free self.new.producers.items) }
+        ensures same { (self.new.session ≡ self.old.session) × (self.new.counts ≡ self.old.counts) }
     {
+        let rings = self.producers.as_mut_slice();
+        let search = context.line.slots.answer(context.rt, *reply, rings);
         match search {
-            Search::Found { slot: _, worker: _ } => self.follower.note(window, reply),
+            Search::Found { slot: _, worker: _ } => self.follower.note(context.window, reply),
             Search::Overrun { slot: _, worker: _ } => {}
             Search::Unknown => {}
         }
+        search
     }
 }
 
 /// Writes a response to a request.
-fn respond<W: Write, S: Wait>(rt: &S, alloc: Global, line: &Line<W>, response: Response) -> Deed
+fn respond<W: Write, S: Wait>(context: &ReaderContext<W, S>, response: Response) -> Deed
     ensures { Responded response result }
 {
     Deed::Replied {
         response,
-        written: reply(rt, alloc, line, &response),
+        written: reply(context, &response),
     }
 }

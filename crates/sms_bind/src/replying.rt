@@ -8,8 +8,8 @@ ghost use Rattle.sms_bind.specs.Wires.{writer, is_broken};
 ghost use Rattle.sms_bind.specs.Deeds.{bad_length_response, body_for, pdu_for, IsWritten};
 ghost use Rattle.sms_bind.specs.declared.deed.Written.TheVariants.{Sent, Broken};
 
+use crate::context::ReaderContext;
 use crate::deed::Written;
-use crate::line::Line;
 use crate::wire::Wire;
 use sms_core::ESME_RINVCMDLEN;
 use sms_pdu::{
@@ -23,24 +23,22 @@ use std::sync::Wait;
 
 /// Writes a response, in one holding of the wire's lock.
 pub(crate) fn reply<W: Write, S: Wait>(
-    rt: &S,
-    alloc: Global,
-    line: &Line<W>,
+    context: &ReaderContext<W, S>,
     response: &Response,
 ) -> Written
     ensures { IsWritten response.now result }
 {
-    let Ok(frame) = frame_of(alloc, response) else {
+    let Ok(frame) = frame_of(context.alloc, response) else {
         return Written::NoMemory;
     };
-    let mut wire = line.wire.lock(rt);
+    let mut wire = context.line.wire.lock(context.rt);
     write_frame(&mut wire, frame)
 }
 
 /// Tells the other side that a command_length was bad (SMPP 3.4 4.3). That it was told is not waited
 /// for.
-pub(crate) fn refuse_length<W: Write, S: Wait>(rt: &S, alloc: Global, line: &Line<W>) {
-    let _written = reply(rt, alloc, line, &bad_length());
+pub(crate) fn refuse_length<W: Write, S: Wait>(context: &ReaderContext<W, S>) {
+    let _written = reply(context, &bad_length());
 }
 
 /// The generic_nack of a stream that can't be divided any further. It answers no request, so its

@@ -10,13 +10,11 @@ ghost use Rattle.sms_bind.specs.Follows.{Follows};
 ghost use Rattle.sms_bind.specs.ReaderStates.{Worked};
 ghost use Rattle.sms_bind.specs.declared.ending.ReaderCause.TheVariants.{Ended, ReadFault, Stopped, Turns, OutOfMemory};
 
+use crate::context::ReaderContext;
 use crate::ending::ReaderCause;
-use crate::line::Line;
 use crate::reader_state::ReaderState;
 use crate::replying::refuse_length;
 use sms_pdu::{Frame, drop_front, first_frame, is_bad};
-use sms_window::Window;
-use std::alloc::Global;
 use std::io::Write;
 use std::sync::Wait;
 
@@ -24,14 +22,11 @@ impl ReaderState {
     /// Works frames that were cut before.
     pub fn work_all<W: Write, S: Wait>(
         &mut self,
-        rt: &S,
-        alloc: Global,
-        line: &Line<W>,
-        window: &Window,
+        context: &ReaderContext<W, S>,
         frames: &[Frame],
     ) -> Option<ReaderCause>
         requires bound { IsBound self.old.session }
-        requires own { self.old.follower.now.window ≡ window.now }
+        requires own { self.old.follower.now.window ≡ context.now.window.now }
         requires within { IsWithin self.old.counts }
         requires room { self.old.counts.frames + length frames.now < 2 ^ 64 }
         ensures follows { Follows self.old.follower self.new.follower }
@@ -43,7 +38,7 @@ impl ReaderState {
         ensures full { result ≢ Some OutOfMemory }
     {
         for frame in frames {
-            if let Some(cause) = self.go(rt, alloc, line, window, frame.as_slice()) {
+            if let Some(cause) = self.go(context, frame.as_slice()) {
                 return Some(cause);
             }
         }
@@ -53,14 +48,11 @@ impl ReaderState {
     /// Works the frames at the front of what is held, and keeps what is left.
     pub fn work_held<W: Write, S: Wait>(
         &mut self,
-        rt: &S,
-        alloc: Global,
-        line: &Line<W>,
-        window: &Window,
+        context: &ReaderContext<W, S>,
         held: &mut Vec<u8>,
     ) -> Option<ReaderCause>
         requires bound { IsBound self.old.session }
-        requires own { self.old.follower.now.window ≡ window.now }
+        requires own { self.old.follower.now.window ≡ context.now.window.now }
         requires within { IsWithin self.old.counts }
         requires room { self.old.counts.frames + length held.old.items < 2 ^ 64 }
         ensures follows { Follows self.old.follower self.new.follower }
@@ -72,13 +64,13 @@ impl ReaderState {
         ensures going { result ≡ None → self.new.session ≡ self.old.session }
         ensures cause { (result ≢ Some Ended) × (result ≢ Some ReadFault) × (result ≢ Some Stopped) × (result ≢ Some Turns) × (result ≢ Some OutOfMemory) }
     {
-        let (used, ended) = self.work_stream(rt, alloc, line, window, held.as_slice());
+        let (used, ended) = self.work_stream(context, held.as_slice());
         drop_front(held, used);
         if let Some(cause) = ended {
             return Some(cause);
         }
         if is_bad(held.as_slice()) {
-            refuse_length(rt, alloc, line);
+            refuse_length(context);
             return Some(ReaderCause::Lost);
         }
         None
@@ -88,14 +80,11 @@ impl ReaderState {
     /// ends, if it does.
     fn work_stream<W: Write, S: Wait>(
         &mut self,
-        rt: &S,
-        alloc: Global,
-        line: &Line<W>,
-        window: &Window,
+        context: &ReaderContext<W, S>,
         stream: &[u8],
     ) -> (usize, Option<ReaderCause>)
         requires bound { IsBound self.old.session }
-        requires own { self.old.follower.now.window ≡ window.now }
+        requires own { self.old.follower.now.window ≡ context.now.window.now }
         requires within { IsWithin self.old.counts }
         requires room { self.old.counts.frames + length stream.now < 2 ^ 64 }
         ensures follows { Follows self.old.follower self.new.follower }
@@ -112,7 +101,7 @@ impl ReaderState {
         while let Some(length) = first_frame(left) {
             let (frame, after) = left.split_at(length);
             left = after;
-            if let Some(cause) = self.go(rt, alloc, line, window, frame) {
+            if let Some(cause) = self.go(context, frame) {
                 return (stream.len() - left.len(), Some(cause));
             }
         }

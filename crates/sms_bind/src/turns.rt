@@ -15,13 +15,11 @@ ghost use Rattle.sms_bind.specs.ReaderStates.{Worked};
 ghost use Rattle.sms_bind.specs.Turns.{Stops};
 ghost use Rattle.sms_bind.specs.declared.ending.ReaderCause.TheVariants.{Ended, ReadFault, Stopped, Turns, OutOfMemory};
 
+use crate::context::ReaderContext;
 use crate::ending::ReaderCause;
-use crate::line::Line;
 use crate::reader_state::ReaderState;
 use crate::replying::refuse_length;
 use sms_pdu::{Frame, PIECE, Tap, fault_of, is_bad};
-use sms_window::Window;
-use std::alloc::Global;
 use std::io::{Read, Write};
 use std::sync::Wait;
 use std::sync::atomic::Ordering;
@@ -30,18 +28,15 @@ impl ReaderState {
     /// Works the frames that were read before, then reads in turns.
     pub fn read<R: Read, W: Write, S: Wait>(
         &mut self,
-        rt: &S,
-        alloc: Global,
+        context: &ReaderContext<W, S>,
         reader: &mut Tap<R>,
         frames: &[Frame],
         rest: Vec<u8>,
-        line: &Line<W>,
-        window: &Window,
         turns: u64,
     ) -> ReaderCause
         requires turns { turns ≤ 2 ^ 40 }
         requires bound { IsBound self.old.session }
-        requires own { self.old.follower.now.window ≡ window.now }
+        requires own { self.old.follower.now.window ≡ context.now.window.now }
         requires few { length frames.now < 2 ^ 63 }
         requires rest { IsRest rest.items }
         requires within { IsWithin self.old.counts }
@@ -56,30 +51,27 @@ impl ReaderState {
         ensures quiet { result ≢ ReadFault → failures_of reader.new ≡ failures_of reader.old }
         ensures full { IsBad rest.items → result ≢ OutOfMemory }
     {
-        if let Some(cause) = self.work_all(rt, alloc, line, window, frames) {
+        if let Some(cause) = self.work_all(context, frames) {
             return cause;
         }
         if is_bad(rest.as_slice()) {
-            refuse_length(rt, alloc, line);
+            refuse_length(context);
             return ReaderCause::Lost;
         }
-        self.read_turns(rt, alloc, reader, line, window, rest, turns)
+        self.read_turns(context, reader, rest, turns)
     }
 
     /// Reads in turns, behind what is held.
     fn read_turns<R: Read, W: Write, S: Wait>(
         &mut self,
-        rt: &S,
-        alloc: Global,
+        context: &ReaderContext<W, S>,
         reader: &mut Tap<R>,
-        line: &Line<W>,
-        window: &Window,
         held: Vec<u8>,
         turns: u64,
     ) -> ReaderCause
         requires turns { turns ≤ 2 ^ 40 }
         requires bound { IsBound self.old.session }
-        requires own { self.old.follower.now.window ≡ window.now }
+        requires own { self.old.follower.now.window ≡ context.now.window.now }
         requires rest { IsRest held.items }
         requires good { ¬ IsBad held.items }
         requires within { IsWithin self.old.counts }
@@ -93,15 +85,15 @@ impl ReaderState {
         ensures failed { result ≡ ReadFault → Counts (failures_of reader.old) (failures_of reader.new) }
         ensures quiet { result ≢ ReadFault → failures_of reader.new ≡ failures_of reader.old }
     {
-        let Ok(mut piece) = Vec::from_elem(alloc, 0u8, PIECE) else {
+        let Ok(mut piece) = Vec::from_elem(context.alloc, 0u8, PIECE) else {
             return ReaderCause::OutOfMemory;
         };
         let mut held = held;
         for _turn in 0..turns {
-            if line.stop.load(Ordering::SeqCst) {
+            if context.line.stop.load(Ordering::SeqCst) {
                 return ReaderCause::Stopped;
             }
-            if let Some(cause) = self.turn(rt, alloc, reader, line, window, &mut piece, &mut held) {
+            if let Some(cause) = self.turn(context, reader, &mut piece, &mut held) {
                 return cause;
             }
         }
@@ -111,16 +103,13 @@ impl ReaderState {
     /// One turn: what one read gave, behind what is held, is worked.
     fn turn<R: Read, W: Write, S: Wait>(
         &mut self,
-        rt: &S,
-        alloc: Global,
+        context: &ReaderContext<W, S>,
         reader: &mut Tap<R>,
-        line: &Line<W>,
-        window: &Window,
         piece: &mut Vec<u8>,
         held: &mut Vec<u8>,
     ) -> Option<ReaderCause>
         requires bound { IsBound self.old.session }
-        requires own { self.old.follower.now.window ≡ window.now }
+        requires own { self.old.follower.now.window ≡ context.now.window.now }
         requires within { IsWithin self.old.counts }
         requires piece { length piece.old.items ≡ 65536 }
         requires rest { IsRest held.old.items }
@@ -148,7 +137,7 @@ impl ReaderState {
                 if held.extend_from_slice(&piece[..n]).is_err() {
                     return Some(ReaderCause::OutOfMemory);
                 }
-                self.work_held(rt, alloc, line, window, held)
+                self.work_held(context, held)
             }
             Err(e) => fault_of(&e, ReaderCause::ReadFault),
         }
