@@ -6,6 +6,7 @@ use mathlib.Core.Logic.{dite}
 use mathlib.Core.Option.{some, some-ne-none, some-injective}
 use native.Mathlib.Decide.{dec_lt}
 use lib.ListN.{get_elem?}
+use Rattle.std.proofs.lemmas.Bool.Decides.{nat_tests}
 use Rattle.std.proofs.lemmas.Nat.{pow_pos}
 use Rattle.std.proofs.Math.Nat.{mod-eq_of_lt}
 use Rattle.std.proofs.lemmas.Nat.Bits.{bit_at-lt, bit_at-zero, bit_at_ones, same_from_bits_below}
@@ -18,7 +19,7 @@ use Rattle.sms_core.specs.Numbers.{times, once_below}
 use Rattle.sms_window.specs.Rule.{IsSeat, IsWindow, keeper}
 use Rattle.sms_window.specs.Seats.{used_up}
 use Rattle.sms_window.specs.Outcome.{IsEnd}
-use Rattle.sms_window.proofs.Views.{total_two, total_only, own, weigh-pairs_of, times-numbers_of}
+use Rattle.sms_window.proofs.Views.{total_one, total_two, total_only, own, weigh-pairs_of, times-numbers_of}
 use Rattle.sms_core.proofs.Numbers.{below_later}
 use Rattle.sms_window.proofs.Moves.{slot_in_word}
 
@@ -81,6 +82,18 @@ module _ {S : Type 0} (o : Opening) where
             let f : once_below n v.first ≡ once_below n o.first = ap (once_below n) (seat.first live) in
             omega arith;
       }
+
+  -- no number is twice among those of one seat
+  once : (s : State S View) → IsWindow o s → (id : ℕ) (v : View) → get_elem? s.views id ≡ some v → (n : ℕ) → times n v.numbers ≤ 1
+  once s r id v at n =
+      let all = times-numbers_of n s.views in
+      let one = total_one (λ u. times n u.numbers) s.views id v at in
+      let d = r.drawn n in
+      let most : once_below n (slice_index s.words 1) ≤ 1 = grind (arith, nat_tests) in
+      omega arith
+
+  pub closes_once : (ws : List ℕ) (xs : List S) (id : ℕ) (v : View) → Final (Seen (IsWindow o) id v) ws xs → (n : ℕ) → times n v.numbers ≤ 1
+  closes_once ws xs id v f n = let (s, (rule, at), same, homes, stays) = f in once s rule id v at n
 
   -- the same, of what `close_with` gives
   pub closes : (ws : List ℕ) (xs : List S) (id : ℕ) (v : View) → Final (Seen (IsWindow o) id v) ws xs → 0 < v.family → (word number : ℕ) → get_elem? ws 0 ≡ some word → get_elem? ws 1 ≡ some number → IsEnd v word number

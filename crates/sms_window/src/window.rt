@@ -1,6 +1,7 @@
 //! The window, and the steps on it.
 
-ghost use Rattle.std.specs.Prelude.{◌≡◌, ◌+◌, IfOk, IfErr};
+ghost use Rattle.std.specs.Prelude.{◌≡◌, ℕ, ◌+◌, ◌≤◌, IfOk, IfErr};
+ghost use Rattle.sms_core.specs.Numbers.{times};
 ghost use Rattle.sms_window.specs.Seats.{CanSplit, Holds, met_with, giver, given, joined};
 ghost use Rattle.sms_window.specs.Steps.{HasMet};
 ghost use Rattle.sms_window.specs.Outcome.{Claimed, FreedSlot, Drawn, IsMade, Refuses, IsEnd};
@@ -191,10 +192,12 @@ impl Window {
     }
 
     /// Ends the window, and tells its two words. Any seat of it may be handed in; one that has all
-    /// names accounts for both words alone.
+    /// names accounts for both words alone. No number is twice among those of a seat, so seats that
+    /// were joined never drew the same.
     pub fn close(self, seat: WindowSeat) -> Closed
         requires own { seat.window ≡ self }
-        ensures { IsEnd seat.view result.held result.next }
+        ensures end { IsEnd seat.view result.held result.next }
+        ensures once { (n : ℕ) → times n seat.view.numbers ≤ 1 }
     {
         let closed = self.table.close_with(seat.seat);
         let held = closed.word(0);
