@@ -208,7 +208,7 @@ bind_is_heard remaining mode told given end cs ess opened new read meet hear =
       rests = rest_behind (answers (first ∷ [])) (answers frames) ess rests;
     }
 
-ends_within : (rules : Rules) (accounts : ℕ) (ms : List Message) (es : List MessageEnd) → AllZip (IsEndOf rules accounts) ms es → length es ≤ length ms
+pub ends_within : (rules : Rules) (accounts : ℕ) (ms : List Message) (es : List MessageEnd) → AllZip (IsEndOf rules accounts) ms es → length es ≤ length ms
 ends_within rules accounts [] [] z = omega arith
 ends_within rules accounts [] (e ∷ es) z = absurd z
 ends_within rules accounts (m ∷ ms) [] z = absurd z

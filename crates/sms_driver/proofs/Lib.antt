@@ -1,10 +1,12 @@
 pub mod Answering
 pub mod Conclusions
 pub mod Dealings
+pub mod Drawn
 pub mod Grouping
 pub mod Heads
 pub mod Joins
 pub mod Moves
+pub mod Numbering
 pub mod Openings
 pub mod Returning
 pub mod Sums

@@ -1,5 +1,5 @@
 -- Where the answered attempts of a bind's workers stand in the answers that came in on it.
-use Rattle.std.specs.Prelude.{◌≡◌, ◌<◌, ℕ, zero, suc, List, Option, Some, take, drop, slice_get}
+use Rattle.std.specs.Prelude.{◌≡◌, ◌<◌, ℕ, List, Option, Some, slice_get}
 use Rattle.std.specs.Io.KnownBytes.{Consumes}
 use Rattle.sms_pdu.specs.declared.reply.Reply.{Reply}
 use Rattle.sms_pdu.specs.Reply.{AnswersOf}
@@ -7,6 +7,7 @@ use Rattle.sms_worker.specs.Apart.{IsAttempt, PlacesApart}
 use Rattle.sms_worker.specs.Told.{HeardSince}
 use Rattle.sms_worker.specs.declared.ends.Attempt.{Attempt}
 use Rattle.sms_worker.specs.declared.ends.MessageEnd.{MessageEnd}
+use Rattle.sms_driver.specs.Deals.{of_bind}
 
 -- an attempt with a reply: of which worker, of which of its messages, of which part, and which of its attempts
 pub record Answered (ess : List (List MessageEnd)) : Type 0 where
@@ -46,8 +47,7 @@ pub record IsHeard (told : Option (List ℕ)) (ess : List (List MessageEnd)) : T
 
 -- the ends of the workers of the bind with this place, where each bind has so many
 abbrev pub ends_at : ℕ → ℕ → List (List MessageEnd) → List (List MessageEnd)
-ends_at workers zero ess = take workers ess
-ends_at workers (suc bind) ess = ends_at workers bind (drop workers ess)
+ends_at workers bind ess = of_bind workers bind ess
 
 -- so of each bind
 abbrev pub AreHeard : (ℕ → Option (List ℕ)) → ℕ → ℕ → List (List MessageEnd) → Type 0

@@ -1,6 +1,8 @@
 pub mod Answered
 pub mod BindEnds
 pub mod Deals
+pub mod Joined
+pub mod Numbered
 pub mod Reads
 pub mod Rings
 pub mod Seated

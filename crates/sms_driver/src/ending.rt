@@ -9,6 +9,7 @@ ghost use Rattle.sms_book.specs.Sums.{IsSumOf};
 ghost use Rattle.sms_worker.specs.declared.ends.MessageEnd.{MessageEnd};
 ghost use Rattle.sms_driver.specs.BindEnds.{AreBinds, IsTried};
 ghost use Rattle.sms_driver.specs.Deals.{dealt};
+ghost use Rattle.sms_driver.specs.Numbered.{AllDrewOnce};
 ghost use Rattle.sms_driver.specs.Rings.{flat};
 ghost use Rattle.sms_worker.specs.Rests.{HasReceived};
 ghost use Rattle.sms_driver.specs.Seated.{windows};
@@ -56,6 +57,7 @@ fn take_apart<N: BookName>(alloc: Global, done: Vec<WorkerEnd<N>>) -> Result<Par
     ensures shares { IfOk result (λ p. p.shares.items ≡ map (λ d. d.shares) done.items) }
     ensures ends { IfOk result (λ p. map (λ q. q.items) p.ends.items ≡ map (λ d. d.ends.items) done.items) }
     ensures seats { IfOk result (λ p. map (λ s. s.window) p.seats.items ≡ map (λ d. d.seat.window) done.items) }
+    ensures views { IfOk result (λ p. map (λ s. s.view) p.seats.items ≡ map (λ d. d.seat.view) done.items) }
     ensures consumers { IfOk result (λ p. p.consumers.items ≡ map (λ d. d.consumer) done.items) }
     ensures long { IfOk result (λ p. length p.ends.items ≡ length done.items) }
 {
@@ -161,6 +163,8 @@ pub fn conclude<N: BookName, W: Drop>(
     ensures accounts { IfOk result (λ r. length r.statement ≡ N.book.accounts) }
     ensures sums { IfOk result (λ r. (i : ℕ) → i < length r.statement → IsSumOf (row_at r.statement i) i till (map (λ d. d.shares) done.items)) }
     ensures binds { IfOk result (λ r. AreBinds (length left.shared_binds.items) left.workers r.binds.items) }
+    // No two workers of a bind drew one number.
+    ensures once { IfOk result (λ _. AllDrewOnce (length left.shared_binds.items) left.workers (map (λ d. d.seat.view) done.items)) }
 {
     let out = Vec::with_capacity(alloc, count)?;
     let parts = take_apart(alloc, done)?;

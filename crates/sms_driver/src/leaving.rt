@@ -1,9 +1,11 @@
 //! How the seats of a bind come back to its keeper's, and its window is closed.
 
-ghost use Rattle.std.specs.Prelude.{◌≡◌, ◌<◌, ◌∷◌, ◌++◌, IfOk, List, length, map, replicate};
+ghost use Rattle.std.specs.Prelude.{◌≡◌, ◌<◌, ◌∷◌, ◌++◌, IfOk, List, length, map, replicate, take, drop};
 ghost use Rattle.std.specs.List.{AllByRecursion};
 ghost use Rattle.atomic_table.specs.Seated.{TableId};
 ghost use Rattle.sms_driver.specs.BindEnds.{AreBinds, IsTried};
+ghost use Rattle.sms_driver.specs.Joined.{HasJoined};
+ghost use Rattle.sms_driver.specs.Numbered.{AllDrewOnce, DrewOnce};
 ghost use Rattle.sms_driver.specs.Seated.{windows};
 
 use crate::bind_end::BindEnd;
@@ -24,6 +26,8 @@ fn join_workers(
     requires seats { (rest : List TableId) × (map (λ s. s.window) seats.old.items ≡ replicate workers window.now ++ rest) }
     ensures own { keeper.new.window ≡ keeper.old.window }
     ensures rest { (rest : List TableId) → map (λ s. s.window) seats.old.items ≡ replicate workers window.now ++ rest → map (λ s. s.window) seats.new.items ≡ rest }
+    ensures joined { HasJoined keeper.old.view (take workers (map (λ s. s.view) seats.old.items)) keeper.new.view }
+    ensures left { map (λ s. s.view) seats.new.items ≡ drop workers (map (λ s. s.view) seats.old.items) }
 {
     for _worker in 0..workers {
         let Some(seat) = seats.pop_front() else {
@@ -44,7 +48,10 @@ fn close_one<W: Drop>(
     requires keeper { keeper.window ≡ shared.window }
     requires driver { driver.window ≡ shared.window }
     requires seats { (rest : List TableId) × (map (λ s. s.window) seats.old.items ≡ replicate workers shared.window ++ rest) }
-    ensures { (rest : List TableId) → map (λ s. s.window) seats.old.items ≡ replicate workers shared.window ++ rest → map (λ s. s.window) seats.new.items ≡ rest }
+    ensures rest { (rest : List TableId) → map (λ s. s.window) seats.old.items ≡ replicate workers shared.window ++ rest → map (λ s. s.window) seats.new.items ≡ rest }
+    ensures left { map (λ s. s.view) seats.new.items ≡ drop workers (map (λ s. s.view) seats.old.items) }
+    // No two of them drew one number.
+    ensures once { DrewOnce (take workers (map (λ s. s.view) seats.old.items)) }
 {
     let SharedBind { line: _, window } = shared;
     let mut keeper = keeper;
@@ -85,7 +92,8 @@ pub(crate) fn close_all<W: Drop>(
     requires driver_seats { map (λ s. s.seat.window) left.driver_seats.items ≡ map (λ b. b.window) left.shared_binds.items }
     requires tried { AllByRecursion (λ s. IsTried s.unbinding) left.driver_seats.items }
     requires seats { map (λ s. s.window) seats.items ≡ windows left.workers (map (λ b. b.window) left.shared_binds.items) }
-    ensures { IfOk result (λ ends. AreBinds (length left.shared_binds.items) left.workers ends.items) }
+    ensures binds { IfOk result (λ ends. AreBinds (length left.shared_binds.items) left.workers ends.items) }
+    ensures once { IfOk result (λ _. AllDrewOnce (length left.shared_binds.items) left.workers (map (λ s. s.view) seats.items)) }
 {
     let Left {
         shared_binds,

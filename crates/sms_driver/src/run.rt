@@ -9,6 +9,7 @@ ghost use Rattle.rtrb.specs.Ring.{received, IsPair};
 ghost use Rattle.sms_driver.specs.Answered.{AreHeard, Hears};
 ghost use Rattle.sms_driver.specs.BindEnds.{AreBinds, IsTried};
 ghost use Rattle.sms_driver.specs.Deals.{dealt};
+ghost use Rattle.sms_driver.specs.Numbered.{AreNumbered, HasNumbers};
 ghost use Rattle.sms_driver.specs.Reads.{reading_in, reading_of, HasRead};
 ghost use Rattle.sms_driver.specs.Rings.{flat};
 ghost use Rattle.sms_driver.specs.Statements.{AreRows};
@@ -133,6 +134,7 @@ fn send_over<
         → IfOk result (λ r. AreSettled rules.now N.book.accounts N.book.workers ms (map (λ d. d.shares) r.done.items) (map (λ d. d.ends.items) r.done.items)) }
     ensures seats { IfOk result (λ r. map (λ d. d.seat.window) r.done.items ≡ windows workers (map (λ b. b.window) shared_binds.now)) }
     ensures hears { IfOk result (λ r. AllByRecursion (λ d. Hears (received d.consumer) d.ends.items) r.done.items) }
+    ensures numbers { IfOk result (λ r. AllByRecursion (λ d. HasNumbers d.seat.view d.ends.items) r.done.items) }
     ensures read { IfOk result (λ r. AllZip (HasRead Rd.remaining) (map reading_in bind_parts.items) r.readers.items) }
     ensures rings { IfOk result (λ r. AllZip IsPair (flat (map (λ d. d.producers.items) r.readers.items)) (map (λ d. d.consumer) r.done.items)) }
     ensures readers { IfOk result (λ r. map (λ d. d.seat.window) r.readers.items ≡ map (λ b. b.window) shared_binds.now) }
@@ -204,6 +206,8 @@ pub fn run<
     ensures ends { IfOk result (λ r. AllZip (IsEndOf rules.now blank.book.accounts) messages.items r.ends.items) }
     // Bind by bind, each answered attempt of its workers rests on an answer of its own that was read of it.
     ensures heard { IfOk result (λ r. AreHeard (D.told dial.now) binds workers (dealt (binds * workers) 0 r.ends.items)) }
+    // No two attempts of the workers of one bind have one sequence_number.
+    ensures numbers { IfOk result (λ r. AreNumbered binds workers (dealt (binds * workers) 0 r.ends.items)) }
     ensures rows { IfOk result (λ r. AreRows blank.credits messages.items r.ends.items r.statement) }
     ensures binds { IfOk result (λ r. AreBinds binds workers r.binds.items) }
     ensures refused { IfErr result (IsFaultOfOne binds) }

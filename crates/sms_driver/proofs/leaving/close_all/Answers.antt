@@ -1,5 +1,7 @@
-use Rattle.std.proofs.Common.{rules, arith, ap, refl, length}
+use Rattle.std.proofs.Common.{◌≡◌, rules, arith, ap, sym, refl, length, map}
+use Rattle.std.specs.Vec.Iter.{into_iter_items}
 use Rattle.sms_driver.specs.BindEnds.{IsBindEnd, IsTried}
+use Rattle.sms_driver.proofs.Drawn.{first_once}
 use Rattle.sms_driver.proofs.Returning.{firsts, same_length, first_windows, first_holds, more_hold}
 use Rattle.sms_driver.proofs.leaving.close_all.Goals as goal
 
@@ -15,6 +17,19 @@ take_first-driver_seat-requires g c =
     let more = ap length c.in-Some.ensures.steps.0 in
     omega arith
 
+pub loop-shared-init : goal.loop-shared-init
+loop-shared-init g c = record {
+  readers = search rules;
+  driver_seats = search rules;
+  tried = search rules;
+  seats = search rules;
+  each = search rules;
+  once = λ all bind low.
+      let binds = ap length c.into_iter-shared-iterator.ensures.into_iter_gives.0 in
+      rw (sym c.from-seats.ensures.0) (all bind (omega (arith, low, binds)));
+  ended = search rules;
+}
+
 pub loop-shared-preserved : goal.loop-shared-preserved
 loop-shared-preserved g c =
     let i = c.loop-shared.invariant in
@@ -26,7 +41,13 @@ loop-shared-preserved g c =
       readers = readers.1;
       driver_seats = driver_seats.1;
       tried = tried.1;
-      seats = c.close_one.ensures _ (first_windows (λ s. s.window) (λ b. b.window) c.args.left.workers c.loop-shared.seats.items _ _ c.in-Some.shared steps i.seats);
+      seats = c.close_one.ensures.rest _ (first_windows (λ s. s.window) (λ b. b.window) c.args.left.workers c.loop-shared.seats.items _ _ c.in-Some.shared steps i.seats);
       each = search rules;
+      once = λ rest. i.once (first_once c.args.left.workers _ _ c.in-Some.shared (map (λ s. s.view) c.loop-shared.seats.items) _ steps c.close_one.ensures.left c.close_one.ensures.once rest);
       ended = more_hold (IsBindEnd c.args.left.workers) c.loop-shared.ends.items _ _ c.in_ok-push.ensures.items i.ended (record { workers_are = refl; unbound = tried.0 });
     }
+
+pub returns-clause-once : goal.returns-clause-once
+returns-clause-once g c =
+    let none : length (into_iter_items c.loop-shared.shared-iterator) ≡ 0 = search rules in
+    c.loop-shared.invariant.once (λ bind low. absurd (omega (arith, low, none)))

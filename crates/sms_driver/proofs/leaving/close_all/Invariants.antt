@@ -2,6 +2,7 @@ use Rattle.std.proofs.Common.{◌≡◌, ◌+◌, length, map}
 use Rattle.std.specs.List.{AllByRecursion}
 use Rattle.std.specs.Vec.Iter.{into_iter_items}
 use Rattle.sms_driver.specs.BindEnds.{IsBindEnd, IsTried}
+use Rattle.sms_driver.specs.Numbered.{AllDrewOnce}
 use Rattle.sms_driver.specs.Seated.{windows}
 use Rattle.sms_driver.proofs.leaving.close_all.Given as goal
 
@@ -12,5 +13,6 @@ invariant-loop-shared g l = record {
   tried : AllByRecursion (λ s. IsTried s.unbinding) l.driver_seats.items;
   seats : map (λ s. s.window) l.seats.items ≡ windows l.workers (map (λ b. b.window) (into_iter_items l.shared-iterator));
   each : length l.ends.items + length (into_iter_items l.shared-iterator) ≡ length l.fn.left.shared_binds.items;
+  once : AllDrewOnce (length (into_iter_items l.shared-iterator)) l.workers (map (λ s. s.view) l.seats.items) → AllDrewOnce (length l.fn.left.shared_binds.items) l.fn.left.workers (map (λ s. s.view) l.fn.seats.items);
   ended : AllByRecursion (IsBindEnd l.workers) l.ends.items;
 }

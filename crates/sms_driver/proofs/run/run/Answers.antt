@@ -15,6 +15,8 @@ use Rattle.rtrb.specs.Ring.{received}
 use Rattle.sms_driver.specs.Answered.{Hears, IsHeard, ends_at}
 use Rattle.sms_driver.proofs.Conclusions.{rows_of}
 use Rattle.sms_driver.proofs.Grouping.{are_heard, zip_length, zip_of_all}
+use Rattle.sms_driver.specs.Numbered.{AllDrewOnce, AreNumbered, HasNumbers}
+use Rattle.sms_driver.proofs.Numbering.{are_numbered}
 use Rattle.sms_driver.proofs.Telling.{told_so}
 use Rattle.sms_driver.proofs.run.run.Goals as goal
 
@@ -94,3 +96,21 @@ returns-clause-heard g c =
     (zip_of_all (λ (d : WorkerEnd g.row.N.Denot). d.consumer) (λ (d : WorkerEnd g.row.N.Denot). d.ends.items) (λ c es. Hears (received c) es) ds c.in_ok-over.ensures.hears)
     in
     λ bind low. subst (λ l. IsHeard (told bind) (ends_at w bind l)) ess (heard bind (omega (arith, low, long)))
+
+pub returns-clause-numbers : goal.returns-clause-numbers
+returns-clause-numbers g c =
+    let w = c.args.workers in
+    let ds = c.in_ok-over.over.done.items in
+    let s = c.in_ok-over.ensures.settled c.args.messages.items c.in_ok-batches.ensures.dealt in
+    let count : c.len-count.result ≡ length c.args.messages.items = omega (arith, c.len-count.ensures) in
+    let all : map (λ (d : WorkerEnd g.row.N.Denot). d.ends.items) ds ≡ dealt (length ds) 0 s.es = s.dealt_is ∙ ap (λ n. dealt n 0 s.es) (sym c.in_ok-over.ensures.all) in
+    let ends = c.in_ok-ended.ensures.ends s.es (s.long ∙ sym count) all in
+    let workers : length ds ≡ c.args.binds * w = c.in_ok-over.ensures.all ∙ ap (λ (b : BookId). b.workers) (sym c.requires.name) ∙ c.requires.count.1 in
+    let ess : map (λ (d : WorkerEnd g.row.N.Denot). d.ends.items) ds ≡ dealt (c.args.binds * w) 0 c.in_ok-ended.ended.ends.items = all ∙ (λ i. dealt (workers i) 0 (sym ends i)) in
+    let long : length c.in_ok-made.made.shared_binds.items ≡ c.args.binds = c.in_ok-made.ensures.long ∙ c.in_ok-rings.ensures.binds in
+    let views = map (λ (d : WorkerEnd g.row.N.Denot). d.seat.view) ds in
+    let once = subst (λ (n : ℕ). AllDrewOnce n w views) long c.in_ok-ended.ensures.once in
+    subst (λ (l : List (List MessageEnd)). AreNumbered c.args.binds w l) ess
+    (are_numbered c.args.binds w views (map (λ (d : WorkerEnd g.row.N.Denot). d.ends.items) ds)
+    (zip_of_all (λ (d : WorkerEnd g.row.N.Denot). d.seat.view) (λ (d : WorkerEnd g.row.N.Denot). d.ends.items) HasNumbers ds c.in_ok-over.ensures.numbers)
+    once)

@@ -11,6 +11,7 @@ use Rattle.sms_driver.specs.Reads.{reading_in, HasRead}
 use Rattle.sms_driver.specs.Rings.{flat}
 use Rattle.sms_driver.specs.Worked.{IsResultOf, IsWorkOf}
 use Rattle.sms_driver.proofs.Answering.{all_hears}
+use Rattle.sms_driver.proofs.Numbering.{all_numbers}
 use Rattle.sms_driver.proofs.Grouping.{flat_zip, pairs_kept, seated_pairs}
 use Rattle.std.proofs.lemmas.List.{length-map}
 use Rattle.sms_driver.proofs.Joins.{all_ok}
@@ -98,6 +99,13 @@ returns-clause-hears g c =
     let assignments = map (λ (t : WorkerTask g.row.N.Denot g.row.W.Denot). t.assignment) c.in-Ok.ready.tasks.items in
     let ds = c.in_ok-done.done.items in
     all_hears rules assignments ds (all_ok (IsWorkOf rules) (λ j e. e.1.seat.window ≡ j.worker.seat.window) assignments ds (subst (AllZip (IsResultOf rules) assignments) (sym c.in_ok-done.ensures) c.in_ok-returned.ensures.returned.results))
+
+pub returns-clause-numbers : goal.returns-clause-numbers
+returns-clause-numbers g c =
+    let rules : Rules = c.args.rules.now in
+    let assignments = map (λ (t : WorkerTask g.row.N.Denot g.row.W.Denot). t.assignment) c.in-Ok.ready.tasks.items in
+    let ds = c.in_ok-done.done.items in
+    all_numbers rules assignments ds (all_ok (IsWorkOf rules) (λ j e. e.1.seat.window ≡ j.worker.seat.window) assignments ds (subst (AllZip (IsResultOf rules) assignments) (sym c.in_ok-done.ensures) c.in_ok-returned.ensures.returned.results))
 
 pub returns-clause-read : goal.returns-clause-read
 returns-clause-read g c = subst (λ l. AllZip (HasRead g.Rd.Read.remaining) l c.in_ok-returned.returned.readers.items) c.in-Ok.ensures.readings c.in_ok-returned.ensures.returned.read

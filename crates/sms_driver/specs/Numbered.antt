@@ -1,0 +1,42 @@
+-- The sequence numbers of a bind's attempts: no two have one (SMPP 3.4 3.2).
+use Rattle.std.specs.Prelude.{◌≡◌, ◌<◌, ◌≤◌, ℕ, List, Some, slice_get}
+use Rattle.sms_core.specs.Numbers.{times}
+use Rattle.sms_window.specs.declared.view.View.{View}
+use Rattle.sms_window.specs.Rule.{numbers_of}
+use Rattle.sms_worker.specs.Apart.{IsAttempt, NumbersApart}
+use Rattle.sms_worker.specs.declared.ends.Attempt.{Attempt}
+use Rattle.sms_worker.specs.declared.ends.MessageEnd.{MessageEnd}
+use Rattle.sms_driver.specs.Answered.{ends_at}
+use Rattle.sms_driver.specs.Deals.{of_bind}
+
+-- an attempt: of which worker, of which of its messages, of which part, and which of its attempts
+pub record AttemptIn (ess : List (List MessageEnd)) : Type 0 where
+  pub worker : ℕ
+  pub message : ℕ
+  pub part : ℕ
+  pub attempt : ℕ
+  pub ends : List MessageEnd
+  pub theirs : slice_get ess worker ≡ Some ends
+  pub one : Attempt
+  pub is : IsAttempt ends message part attempt one
+
+-- attempts of a bind's workers that have one sequence_number are one
+abbrev pub NumbersDiffer : List (List MessageEnd) → Type 0
+NumbersDiffer ess = (a b : AttemptIn ess) → a.one.number ≡ b.one.number → (a.worker ≡ b.worker) × (a.message ≡ b.message) × (a.part ≡ b.part) × (a.attempt ≡ b.attempt)
+
+-- so of each bind
+abbrev pub AreNumbered : ℕ → ℕ → List (List MessageEnd) → Type 0
+AreNumbered binds workers ess = (bind : ℕ) → bind < binds → NumbersDiffer (ends_at workers bind ess)
+
+-- what a worker's seat has beside its ends: no two attempts have one number, and the seat drew that of each
+pub record HasNumbers (v : View) (es : List MessageEnd) : Type 0 where
+  pub apart : NumbersApart es
+  pub drawn : (k p i : ℕ) (a : Attempt) → IsAttempt es k p i a → 1 ≤ times a.number v.numbers
+
+-- no number was drawn twice by these seats
+abbrev pub DrewOnce : List View → Type 0
+DrewOnce views = (n : ℕ) → times n (numbers_of views) ≤ 1
+
+-- nor by the seats of the workers of one of so many binds
+abbrev pub AllDrewOnce : ℕ → ℕ → List View → Type 0
+AllDrewOnce binds workers views = (bind : ℕ) → bind < binds → DrewOnce (of_bind workers bind views)
