@@ -1,0 +1,56 @@
+-- Lists that a loop builds.
+use Rattle.std.proofs.Common.{◌≡◌, ℕ, zero, suc, ◌+◌, ◌<◌, ◌≤◌, List, [], ◌∷◌, ◌++◌, length, take, Some, inl, inr, refl, sym, ap, ◌∙◌, subst, get_or, add-one, arith}
+use Rattle.std.specs.Prelude.{◌⊎◌, slice_get, flat_map}
+use Rattle.std.specs.List.{AllZip}
+use Rattle.std.proofs.lemmas.List.{take_more}
+use Rattle.std.proofs.lemmas.Grind.{flat_map-append}
+use Rattle.std.proofs.Common.{append-nil}
+
+module _ {X : Type 0} where
+  -- what stands in a list with one more
+  pub got_of_append : (xs : List X) (y : X) (q : ℕ) (z : X) → slice_get (xs ++ y ∷ []) q ≡ Some z → (slice_get xs q ≡ Some z) ⊎ ((q ≡ length xs) × (z ≡ y))
+  got_of_append [] y zero z e = inr (refl, (cc))
+  got_of_append [] y (suc q) z e = inl e
+  got_of_append (x ∷ xs) y zero z e = inl e
+  got_of_append (x ∷ xs) y (suc q) z e = elim (got_of_append xs y q z e) [ inl h ↦ inl h | inr h ↦ inr (ap suc h.0, h.1) ]
+
+  pub got_before : (xs : List X) (y : X) (q : ℕ) (z : X) → slice_get xs q ≡ Some z → slice_get (xs ++ y ∷ []) q ≡ Some z
+  got_before [] y q z e = absurd (cc)
+  got_before (x ∷ xs) y zero z e = e
+  got_before (x ∷ xs) y (suc q) z e = got_before xs y q z e
+
+  pub got_last : (xs : List X) (y : X) → slice_get (xs ++ y ∷ []) (length xs) ≡ Some y
+  got_last [] y = refl
+  got_last (x ∷ xs) y = got_last xs y
+
+  pub each_more : (P : ℕ → X → Type 0) (xs : List X) (n : ℕ) (x : X) (ys : List X) → length xs ≡ n → ((p : ℕ) (s : X) → slice_get xs p ≡ Some s → P p s) → P n x → ys ≡ xs ++ x ∷ []
+      → (p : ℕ) (s : X) → slice_get ys p ≡ Some s → P p s
+  each_more P xs n x ys long before here is p s there =
+      elim (got_of_append xs x p s (rw is at there)) [
+        | inl h ↦ before p s h
+        | inr h ↦ subst (λ (q : ℕ). P q s) (sym long ∙ sym h.0) (subst (λ (t : X). P n t) (sym h.1) here)
+      ]
+
+module _ {A B : Type 0} where
+  more : (R : A → B → Type 0) (xs : List A) (ys : List B) (i : ℕ) (x : A) (y : B) → i < length xs → x ≡ get_or xs i x → AllZip R (take i xs) ys → R x y → AllZip R (take (suc i) xs) (ys ++ y ∷ [])
+  more R [] ys i x y low is all here = absurd (omega arith)
+  more R (z ∷ xs) [] zero x y low is all here = (subst (λ (a : A). R a y) is here, tt)
+  more R (z ∷ xs) (w ∷ ys) zero x y low is all here = absurd all
+  more R (z ∷ xs) [] (suc i) x y low is all here = absurd all
+  more R (z ∷ xs) (w ∷ ys) (suc i) x y low is all here = (all.0, more R xs ys i x y (omega arith) is all.1 here)
+
+  pub zip_more : (R : A → B → Type 0) (xs : List A) (ys : List B) (i : ℕ) (x : A) (y : B) → i < length xs → x ≡ get_or xs i x → AllZip R (take i xs) ys → R x y → AllZip R (take (i + 1) xs) (ys ++ y ∷ [])
+  zip_more R xs ys i x y low is all here = rw add-one (more R xs ys i x y low is all here)
+
+  -- what f makes of each of a front, with one more
+  pub flat_more : (f : A → List B) (xs : List A) (i : ℕ) (x : A) → i < length xs → x ≡ get_or xs i x → flat_map f (take (i + 1) xs) ≡ flat_map f (take i xs) ++ f x
+  flat_more f xs i x low is =
+      ap (flat_map f) (take_more xs i x low) ∙ flat_map-append f (take i xs) (get_or xs i x ∷ [])
+      ∙ ap (λ l. flat_map f (take i xs) ++ l) (append-nil (f (get_or xs i x)) ∙ ap f (sym is))
+
+module _ {X : Type 0} where
+  pub take_whole : (xs : List X) (i : ℕ) → length xs ≤ i → take i xs ≡ xs
+  take_whole [] zero low = refl
+  take_whole [] (suc i) low = refl
+  take_whole (x ∷ xs) zero low = absurd (omega arith)
+  take_whole (x ∷ xs) (suc i) low = ap (λ l. x ∷ l) (take_whole xs i (omega arith))

@@ -1,0 +1,40 @@
+-- What holds of every list of notes.
+use Rattle.std.specs.Prelude.{◌≡◌, ℕ, ◌++◌, false, List, Some, slice_get}
+use Rattle.sms_core.specs.Statuses.{no_error}
+use Rattle.sms_core.specs.Replies.{AreRetried}
+use Rattle.sms_pdu.specs.declared.reply.Reply.{Reply}
+use Rattle.sms_worker.specs.declared.ends.Outcome.TheVariants.{Charged}
+use Rattle.sms_worker.specs.declared.message.Message.{Message}
+use Rattle.sms_worker.specs.declared.rules.Rules.{Rules}
+use Rattle.sms_journal.specs.declared.note.Call.{Call}
+use Rattle.sms_journal.specs.declared.note.Note.{Note}
+use Rattle.sms_journal.specs.declared.note.Note.TheVariants.{Sent, Heard}
+use Rattle.sms_journal.specs.declared.told.PartTold.{PartTold}
+use Rattle.sms_journal.specs.declared.told.MessageTold.{MessageTold}
+use Rattle.sms_journal.specs.Recovered.{answers_told, IsPartTold, IsTold}
+
+-- a request for the part was noted, and a submit_sm_resp with its number and ESME_ROK, which its worker was brought
+pub record HasCharge (notes : List Note) (m p : ℕ) : Type 0 where
+  pub call : Call
+  pub reply : Reply
+  pub sent : ℕ
+  pub heard : ℕ
+  pub is_sent : slice_get notes sent ≡ Some (Sent call m p)
+  pub is_heard : slice_get notes heard ≡ Some (Heard call.worker reply)
+  pub number : reply.number ≡ call.number
+  pub status : reply.status ≡ no_error
+  pub response : reply.nack ≡ false
+
+-- each charge rests on such notes
+abbrev pub ChargesAreHeard : Type 0
+ChargesAreHeard = (rules : Rules) (notes : List Note) (m : Message) (p : ℕ) (s : PartTold) → IsPartTold rules notes m p s → s.outcome ≡ Charged → HasCharge notes m.index p
+
+-- a charge stays one whatever is noted later, unless a request is noted after an answer that allows none
+abbrev pub ChargesStay : Type 0
+ChargesStay =
+    (rules : Rules) (notes later : List Note) (m : Message) (p : ℕ) (s t : PartTold) → IsPartTold rules notes m p s → IsPartTold rules (notes ++ later) m p t
+    → AreRetried (answers_told t.tries) → s.outcome ≡ Charged → t.outcome ≡ Charged
+
+-- what is told of a message is told by the notes alone
+abbrev pub ToldOnce : Type 0
+ToldOnce = (rules : Rules) (notes : List Note) (m : Message) (e f : MessageTold) → IsTold rules notes m e → IsTold rules notes m f → e ≡ f

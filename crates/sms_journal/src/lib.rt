@@ -1,0 +1,16 @@
+//! The journal of a run: what is noted of each message and each request before it can have an
+//! effect, and what a run would report whose lines all went down behind the last note.
+
+#![tactic(auto)]
+
+mod grouping;
+mod index;
+pub mod laws;
+mod note;
+mod parts;
+mod recovering;
+mod told;
+
+pub use note::{Call, Note};
+pub use recovering::recover;
+pub use told::{MessageTold, PartTold, Parts, ResultTold, Tried, Tries};
