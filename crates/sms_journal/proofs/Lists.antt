@@ -1,6 +1,7 @@
 -- Lists that a loop builds.
-use Rattle.std.proofs.Common.{◌≡◌, ℕ, zero, suc, ◌+◌, ◌<◌, ◌≤◌, List, [], ◌∷◌, ◌++◌, length, take, Some, inl, inr, refl, sym, ap, ◌∙◌, subst, get_or, add-one, arith}
-use Rattle.std.specs.Prelude.{◌⊎◌, slice_get, flat_map}
+use Rattle.std.proofs.Common.{◌≡◌, ℕ, zero, suc, ◌+◌, ◌<◌, ◌≤◌, List, [], ◌∷◌, ◌++◌, length, take, Some, None, inl, inr, refl, sym, ap, ◌∙◌, subst, get_or, add-one, arith}
+use Rattle.std.specs.Prelude.{◌⊎◌, Option, IfSome, IsNone, slice_get, flat_map}
+use Rattle.std.proofs.lemmas.Option.{slice_get-get_or}
 use Rattle.std.specs.List.{AllZip}
 use Rattle.std.proofs.lemmas.List.{take_more}
 use Rattle.std.proofs.lemmas.Grind.{flat_map-append}
@@ -54,3 +55,38 @@ module _ {X : Type 0} where
   take_whole [] (suc i) low = refl
   take_whole (x ∷ xs) zero low = absurd (omega arith)
   take_whole (x ∷ xs) (suc i) low = ap (λ l. x ∷ l) (take_whole xs i (omega arith))
+
+  -- a front with the element behind it
+  snoc : (xs : List X) (k : ℕ) (x : X) → slice_get xs k ≡ Some x → take (suc k) xs ≡ take k xs ++ x ∷ []
+  snoc [] k x e = absurd (cc)
+  snoc (y ∷ ys) zero x e = let same : y ≡ x = cc in ap (λ z. z ∷ []) same
+  snoc (y ∷ ys) (suc k) x e = ap (λ l. y ∷ l) (snoc ys k x e)
+
+  pub take_snoc : (xs : List X) (k : ℕ) (x : X) → slice_get xs k ≡ Some x → take (k + 1) xs ≡ take k xs ++ x ∷ []
+  take_snoc xs k x e = rw add-one (snoc xs k x e)
+
+  pub length_front : (xs : List X) (k : ℕ) (x : X) → slice_get xs k ≡ Some x → length (take k xs) ≡ k
+  length_front [] k x e = absurd (cc)
+  length_front (y ∷ ys) zero x e = refl
+  length_front (y ∷ ys) (suc k) x e = ap suc (length_front ys k x e)
+
+  -- fronts of a list with one more
+  pub take_within : (xs : List X) (y : X) (k : ℕ) (x : X) → slice_get xs k ≡ Some x → take k (xs ++ y ∷ []) ≡ take k xs
+  take_within [] y k x e = absurd (cc)
+  take_within (z ∷ xs) y zero x e = refl
+  take_within (z ∷ xs) y (suc k) x e = ap (λ l. z ∷ l) (take_within xs y k x e)
+
+  pub take_before : (xs : List X) (y : X) → take (length xs) (xs ++ y ∷ []) ≡ xs
+  take_before [] y = refl
+  take_before (z ∷ xs) y = ap (λ l. z ∷ l) (take_before xs y)
+
+  pub got_at : (xs : List X) (i : ℕ) (x : X) → i < length xs → x ≡ get_or xs i x → slice_get xs i ≡ Some x
+  got_at xs i x low is = slice_get-get_or xs i x low ∙ ap Some (sym is)
+
+  pub some_of : (P : X → Type 0) (o : Option X) (x : X) → o ≡ Some x → IfSome o P → P x
+  some_of P None x e h = absurd (cc)
+  some_of P (Some y) x e h = let same : y ≡ x = cc in subst P same h
+
+  pub none_of : (o : Option X) → o ≡ None → IsNone o
+  none_of None e = refl
+  none_of (Some x) e = absurd (cc)

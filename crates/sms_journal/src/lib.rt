@@ -3,14 +3,19 @@
 
 #![tactic(auto)]
 
+mod checking;
+mod error;
 mod grouping;
 mod index;
 pub mod laws;
 mod note;
 mod parts;
 mod recovering;
+mod seen;
 mod told;
 
+pub use checking::check_notes;
+pub use error::JournalError;
 pub use note::{Call, Note};
 pub use recovering::recover;
 pub use told::{MessageTold, PartTold, Parts, ResultTold, Tried, Tries};

@@ -1,4 +1,4 @@
-use Rattle.std.proofs.Common.{◌≡◌, ◌∙◌, Ok, Err, sym, subst, rules}
+use Rattle.std.proofs.Common.{◌≡◌, Ok, Err, sym, subst, rules}
 use Rattle.sms_alphabet.specs.declared.coded.Coded.{Coded}
 use Rattle.sms_segment.specs.Message.{IsTooLong}
 use Rattle.sms_segment.specs.declared.place.Reference.{Reference}
