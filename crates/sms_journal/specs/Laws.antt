@@ -1,4 +1,4 @@
--- What holds of every list of notes.
+-- What holds of every list of notes, and of every lawful journal.
 use Rattle.std.specs.Prelude.{◌≡◌, ℕ, ◌++◌, false, List, Some, slice_get}
 use Rattle.sms_core.specs.Statuses.{no_error}
 use Rattle.sms_core.specs.Replies.{AreRetried}
@@ -11,7 +11,9 @@ use Rattle.sms_journal.specs.declared.note.Note.{Note}
 use Rattle.sms_journal.specs.declared.note.Note.TheVariants.{Sent, Heard}
 use Rattle.sms_journal.specs.declared.told.PartTold.{PartTold}
 use Rattle.sms_journal.specs.declared.told.MessageTold.{MessageTold}
+use Rattle.sms_journal.specs.Lawful.{IsJournal}
 use Rattle.sms_journal.specs.Recovered.{answers_told, IsPartTold, IsTold}
+use Rattle.sms_journal.specs.Sums.{parts_in}
 
 -- a request for the part was noted, and a submit_sm_resp with its number and ESME_ROK, which its worker was brought
 pub record HasCharge (notes : List Note) (m p : ℕ) : Type 0 where
@@ -38,3 +40,15 @@ ChargesStay =
 -- what is told of a message is told by the notes alone
 abbrev pub ToldOnce : Type 0
 ToldOnce = (rules : Rules) (notes : List Note) (m : Message) (e f : MessageTold) → IsTold rules notes m e → IsTold rules notes m f → e ≡ f
+
+-- the part at this place is told as charged
+pub record HasChargedPart (parts : List PartTold) (p : ℕ) : Type 0 where
+  pub part : PartTold
+  pub there : slice_get parts p ≡ Some part
+  pub charged : part.outcome ≡ Charged
+
+-- what a front of a lawful journal tells as charged the whole journal tells as charged
+abbrev pub ChargesStayCharges : Type 0
+ChargesStayCharges =
+    (rules : Rules) (accounts : ℕ) (ms : List Message) (notes later : List Note) (m : Message) (e f : MessageTold) (p : ℕ) → IsJournal rules accounts ms (notes ++ later)
+    → IsTold rules notes m e → IsTold rules (notes ++ later) m f → HasChargedPart (parts_in e.result) p → HasChargedPart (parts_in f.result) p

@@ -6,16 +6,20 @@
 mod checking;
 mod error;
 mod grouping;
+mod header;
 mod index;
 pub mod laws;
 mod note;
 mod parts;
 mod recovering;
 mod seen;
+mod text;
 mod told;
 
 pub use checking::check_notes;
 pub use error::JournalError;
+pub use header::{Digests, write_header};
 pub use note::{Call, Note};
 pub use recovering::recover;
+pub use text::write_note;
 pub use told::{MessageTold, PartTold, Parts, ResultTold, Tried, Tries};

@@ -1,0 +1,172 @@
+//! The lines of notes.
+
+ghost use Rattle.std.specs.Prelude.{◌≡◌, ◌++◌, OnOk, string_bytes};
+ghost use Rattle.sms_journal.specs.declared.note.Note.TheVariants.{Begun, End, Heard, Refused, Sent, Unsent};
+ghost use Rattle.sms_journal.specs.Text.{flag as flag_of, id_octet, id_text, is_plain as plain, note_text, number_field, refusal_word as word_of_refusal};
+
+use crate::header::write_hex_octet;
+use crate::note::{Call, Note};
+use sms_pdu::{MessageId, Reply};
+use sms_worker::MessageRefusal;
+use std::alloc::AllocError;
+use std::fmt::Write;
+
+/// The report's name for why a message isn't sent.
+fn refusal_word(refusal: MessageRefusal) -> &'static str
+    ensures { result.now ≡ word_of_refusal refusal }
+{
+    match refusal {
+        MessageRefusal::NoAccount => "no-account",
+        MessageRefusal::NoCredit => "no-credit",
+        MessageRefusal::TooLong => "too-long",
+        MessageRefusal::BadAddress => "bad-address",
+        MessageRefusal::BindClosed => "bind-closed",
+        MessageRefusal::OutOfMemory => "out-of-memory",
+    }
+}
+
+/// A comma and the number after it.
+fn write_number(text: &mut String, number: u64) -> Result<(), AllocError>
+    ensures { OnOk result (string_bytes text.new ≡ string_bytes text.old ++ number_field number) }
+{
+    write!(text, ",{number}")
+}
+
+fn flag(value: bool) -> u64
+    ensures { result ≡ flag_of value }
+{
+    if value { 1 } else { 0 }
+}
+
+/// Whether an octet of a message_id stands for itself.
+fn is_plain(octet: u8) -> bool
+    ensures { result ≡ plain octet }
+{
+    (octet >= 0x21 && octet <= 0x7E) && octet != 0x22 && octet != 0x25 && octet != 0x2C
+}
+
+/// An octet of a message_id.
+fn write_id_octet(text: &mut String, octet: u8) -> Result<(), AllocError>
+    ensures { OnOk result (string_bytes text.new ≡ string_bytes text.old ++ id_octet octet) }
+{
+    if is_plain(octet) {
+        return text.push(char::from(octet));
+    }
+    text.push_str("%")?;
+    write_hex_octet(text, octet)
+}
+
+/// The octets of a message_id.
+fn write_id_octets(text: &mut String, octets: &[u8]) -> Result<(), AllocError>
+    ensures { OnOk result (string_bytes text.new ≡ string_bytes text.old ++ id_text octets.now) }
+{
+    for octet in octets {
+        write_id_octet(text, *octet)?;
+    }
+    Ok(())
+}
+
+/// A message_id.
+fn write_id(text: &mut String, id: &MessageId) -> Result<(), AllocError>
+    ensures { OnOk result (string_bytes text.new ≡ string_bytes text.old ++ id_text id.now) }
+{
+    write_id_octets(text, id.as_slice())
+}
+
+/// The word of a note and its time.
+fn write_head(text: &mut String, word: &str, time: u64) -> Result<(), AllocError>
+    ensures { OnOk result (string_bytes text.new ≡ string_bytes text.old ++ word.now ++ number_field time) }
+{
+    text.push_str(word)?;
+    write_number(text, time)
+}
+
+/// A request's worker and number.
+fn write_call(text: &mut String, worker: u32, number: u32) -> Result<(), AllocError>
+    ensures { OnOk result (string_bytes text.new ≡ string_bytes text.old ++ number_field worker ++ number_field number) }
+{
+    write_number(text, u64::from(worker))?;
+    write_number(text, u64::from(number))
+}
+
+fn write_sent(
+    text: &mut String,
+    time: u64,
+    call: Call,
+    message: u64,
+    part: u8,
+) -> Result<(), AllocError>
+    ensures { OnOk result (string_bytes text.new ≡ string_bytes text.old ++ note_text time (Sent call message part)) }
+{
+    write_head(text, "sent", time)?;
+    write_call(text, call.worker, call.number)?;
+    write_number(text, message)?;
+    write_number(text, u64::from(part))?;
+    text.push_str("\n")
+}
+
+fn write_unsent(text: &mut String, time: u64, call: Call) -> Result<(), AllocError>
+    ensures { OnOk result (string_bytes text.new ≡ string_bytes text.old ++ note_text time (Unsent call)) }
+{
+    write_head(text, "unsent", time)?;
+    write_call(text, call.worker, call.number)?;
+    text.push_str("\n")
+}
+
+fn write_heard(text: &mut String, time: u64, by: u32, reply: &Reply) -> Result<(), AllocError>
+    ensures { OnOk result (string_bytes text.new ≡ string_bytes text.old ++ note_text time (Heard by reply.now)) }
+{
+    write_head(text, "heard", time)?;
+    write_call(text, by, reply.number)?;
+    write_number(text, u64::from(reply.status))?;
+    write_number(text, flag(reply.nack))?;
+    text.push_str(",")?;
+    write_id(text, &reply.id)?;
+    text.push_str("\n")
+}
+
+fn write_begun(text: &mut String, time: u64, message: u64) -> Result<(), AllocError>
+    ensures { OnOk result (string_bytes text.new ≡ string_bytes text.old ++ note_text time (Begun message)) }
+{
+    write_head(text, "begun", time)?;
+    write_number(text, message)?;
+    text.push_str("\n")
+}
+
+fn write_refused(
+    text: &mut String,
+    time: u64,
+    message: u64,
+    refusal: MessageRefusal,
+) -> Result<(), AllocError>
+    ensures { OnOk result (string_bytes text.new ≡ string_bytes text.old ++ note_text time (Refused message refusal)) }
+{
+    write_head(text, "refused", time)?;
+    write_number(text, message)?;
+    text.push_str(",")?;
+    text.push_str(refusal_word(refusal))?;
+    text.push_str("\n")
+}
+
+fn write_end(text: &mut String, time: u64, status: u8) -> Result<(), AllocError>
+    ensures { OnOk result (string_bytes text.new ≡ string_bytes text.old ++ note_text time (End status)) }
+{
+    write_head(text, "end", time)?;
+    write_number(text, u64::from(status))?;
+    text.push_str("\n")
+}
+
+/// Writes the line of a note that is made at this time, in milliseconds since 1970 UTC, or 0 where
+/// it isn't known.
+pub fn write_note(text: &mut String, time: u64, note: &Note) -> Result<(), AllocError>
+    ensures { OnOk result (string_bytes text.new ≡ string_bytes text.old ++ note_text time note.now) }
+{
+    match note {
+        Note::Begun(message) => write_begun(text, time, *message),
+        Note::Sent(call, message, part) => write_sent(text, time, *call, *message, *part),
+        Note::Unsent(call) => write_unsent(text, time, *call),
+        Note::Heard(by, reply) => write_heard(text, time, *by, reply),
+        Note::Refused(message, refusal) => write_refused(text, time, *message, *refusal),
+        Note::End(status) => write_end(text, time, *status),
+    }
+}
