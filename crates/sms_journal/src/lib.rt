@@ -13,6 +13,8 @@ mod note;
 mod parts;
 mod recovering;
 mod seen;
+#[cfg(test)]
+mod tests;
 mod text;
 mod told;
 
