@@ -28,19 +28,20 @@ both : (a b : Bool) → (a && b) ≡ true → (a ≡ true) × (b ≡ true)
 both true b e = (refl, e)
 both false b e = absurd (cc)
 
+module _ {X Y : Type 0} where
+  -- an element of a list that is as long
+  pub as_long : (xs : List X) (ys : List Y) (p : ℕ) (x : X) → length ys ≡ length xs → slice_get xs p ≡ Some x → (y : Y) × (slice_get ys p ≡ Some y)
+  as_long [] ys p x long e = absurd (cc)
+  as_long (x' ∷ xs) [] p x long e = absurd (omega (arith, long))
+  as_long (x' ∷ xs) (y ∷ ys) zero x long e = (y, refl)
+  as_long (x' ∷ xs) (y ∷ ys) (suc p) x long e = as_long xs ys p x (omega (arith, long)) e
+
 module _ {X : Type 0} where
   got_front : (xs : List X) (j k : ℕ) (x : X) → j < k → slice_get xs j ≡ Some x → slice_get (take k xs) j ≡ Some x
   got_front [] j k x low e = absurd (cc)
   got_front (y ∷ ys) j zero x low e = absurd (omega (arith, low))
   got_front (y ∷ ys) zero (suc k) x low e = e
   got_front (y ∷ ys) (suc j) (suc k) x low e = got_front ys j k x (omega (arith, low)) e
-
-  -- an element of a list that is as long
-  pub as_long : (xs ys : List X) (p : ℕ) (x : X) → length ys ≡ length xs → slice_get xs p ≡ Some x → (y : X) × (slice_get ys p ≡ Some y)
-  as_long [] ys p x long e = absurd (cc)
-  as_long (x' ∷ xs) [] p x long e = absurd (omega (arith, long))
-  as_long (x' ∷ xs) (y ∷ ys) zero x long e = (y, refl)
-  as_long (x' ∷ xs) (y ∷ ys) (suc p) x long e = as_long xs ys p x (omega (arith, long)) e
 
 -- ---- each request for a part but its last is over
 

@@ -1,6 +1,6 @@
 //! What can be wrong with a journal.
 
-use std::alloc::AllocError;
+use std::alloc::{AllocError, AllocFailed};
 use thiserror::Error;
 
 /// Why a journal can't be used.
@@ -9,6 +9,9 @@ pub enum JournalError {
     /// The note at this place, from 0, can't have been written behind those before it.
     #[error("note {0} doesn't follow")]
     BadNote(usize),
+    /// More is reserved and charged than an account had, or a sum of credits is 2^64 or more.
+    #[error("an account is overdrawn")]
+    Overdrawn,
     /// Memory was refused.
     #[error("out of memory")]
     OutOfMemory,
@@ -21,6 +24,17 @@ impl From<AllocError> for JournalError {
     ghost from_gives = { λ _ f. f ≡ OutOfMemory };
 
     fn from(_e: AllocError) -> JournalError {
+        JournalError::OutOfMemory
+    }
+}
+
+impl<T: Drop> From<AllocFailed<T>> for JournalError {
+    ghost use Rattle.std.specs.Prelude.{◌≡◌};
+    ghost use Rattle.sms_journal.specs.declared.error.JournalError.TheVariants.{OutOfMemory};
+
+    ghost from_gives = { λ _ f. f ≡ OutOfMemory };
+
+    fn from(_e: AllocFailed<T>) -> JournalError {
         JournalError::OutOfMemory
     }
 }

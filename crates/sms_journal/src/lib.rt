@@ -12,6 +12,7 @@ pub mod laws;
 mod note;
 mod parts;
 mod recovering;
+mod rows;
 mod seen;
 #[cfg(test)]
 mod tests;
@@ -23,5 +24,6 @@ pub use error::JournalError;
 pub use header::{Digests, write_header};
 pub use note::{Call, Note};
 pub use recovering::recover;
+pub use rows::rows_told;
 pub use text::write_note;
 pub use told::{MessageTold, PartTold, Parts, ResultTold, Tried, Tries};

@@ -1,10 +1,10 @@
 //! Journals written by hand, what is told of them, and their lines.
 
 use crate::{
-    Call, Digests, JournalError, MessageTold, Note, ResultTold, check_notes, recover, write_header,
-    write_note,
+    Call, Digests, JournalError, MessageTold, Note, ResultTold, check_notes, recover, rows_told,
+    write_header, write_note,
 };
-use sms_book::Tariff;
+use sms_book::{Opening, Tariff};
 use sms_pdu::{MessageId, Reply, reply_of};
 use sms_session::Policy;
 use sms_worker::{Message, MessageRefusal, Outcome, Rules};
@@ -259,7 +259,7 @@ fn fault_of(rt: &impl Abort, checked: Result<(), JournalError>) -> Option<usize>
     match checked {
         Ok(()) => None,
         Err(JournalError::BadNote(place)) => Some(place),
-        Err(JournalError::OutOfMemory) => panic!(rt; "out of memory"),
+        Err(_) => panic!(rt; "out of memory"),
     }
 }
 
@@ -288,6 +288,74 @@ fn journals_are_checked_and_told(rt: HostRuntime) -> Result<(), Fail> {
     let messages = messages_of(alloc)?;
     for case in &CASES {
         check_case(&rt, alloc, messages.as_slice(), &rules, case)?;
+    }
+    Ok(())
+}
+
+/// Journals of two messages, and the row of their account, which begins with 10 credits: free,
+/// reserved, charged, returned.
+const ROWS: [(&[Row], [u64; 4]); 4] = [
+    (&[], [10, 0, 0, 0]),
+    (&[Row::Begun(0), Row::Sent(1, 0, 1)], [9, 1, 0, 0]),
+    (
+        &[Row::Begun(0), Row::Sent(1, 0, 1), Row::Heard(1, OK, false)],
+        [9, 0, 1, 0],
+    ),
+    (
+        &[
+            Row::Begun(0),
+            Row::Begun(1),
+            Row::Sent(1, 0, 1),
+            Row::Heard(1, SYSTEM_ERROR, false),
+        ],
+        [10, 0, 0, 2],
+    ),
+];
+
+fn openings_of(alloc: Global) -> Result<Vec<Opening>, AllocError> {
+    let mut openings = Vec::new(alloc);
+    openings.push(Opening {
+        name: String::from_str(alloc, "main")?,
+        credits: 10,
+    })?;
+    Ok(openings)
+}
+
+fn row_after(
+    alloc: Global,
+    messages: &[Message],
+    rules: &Rules,
+    openings: &[Opening],
+    rows: &[Row],
+) -> Result<[u64; 4], Fail> {
+    let notes = notes_of(alloc, rows)?;
+    let told = recover(alloc, messages, rules, notes.as_slice())?;
+    match rows_told(alloc, openings, messages, told.as_slice()) {
+        Ok(rows) => match rows.as_slice() {
+            [row] => Ok([row.free, row.reserved, row.charged, row.returned]),
+            _ => Err("not one row".into()),
+        },
+        Err(_) => Err("no rows".into()),
+    }
+}
+
+#[test]
+fn rows_are_the_sums_of_what_is_told(rt: HostRuntime) -> Result<(), Fail> {
+    let alloc = rt.alloc();
+    let Some(rules) = rules_of(alloc) else {
+        return Err("no rules".into());
+    };
+    let messages = messages_of(alloc)?;
+    let openings = openings_of(alloc)?;
+    for (rows, wanted) in &ROWS {
+        let got = row_after(
+            alloc,
+            messages.as_slice(),
+            &rules,
+            openings.as_slice(),
+            rows,
+        )?;
+        same(&rt, got, *wanted);
     }
     Ok(())
 }

@@ -1,0 +1,160 @@
+-- Sums of parts and of messages, one at a time.
+use Rattle.std.proofs.Common.{◌≡◌, ℕ, zero, suc, ◌+◌, ◌-◌, ◌<◌, ◌≤◌, min, List, [], ◌∷◌, ◌++◌, length, take, drop, Some, None, inl, inr, refl, sym, ap, ◌∙◌, subst, Bool, true, false, get_or, add-one, arith}
+use Rattle.std.specs.Prelude.{Option, slice_get, slice_set, if◌then◌else◌, ◌==◌}
+use Rattle.std.proofs.lemmas.Bool.{eqb-true, eqb-false, eq-eqb, ne_eqb}
+use Rattle.sms_core.specs.declared.request.Phase.{Phase}
+use Rattle.sms_core.specs.declared.row.Row.{Row}
+use Rattle.sms_core.specs.Rows.{reserved_of, charged_of, returned_of}
+use Rattle.sms_worker.specs.declared.message.Message.{Message}
+use Rattle.sms_worker.specs.Ends.{phase_of}
+use Rattle.sms_journal.specs.declared.rows.Sums.{Sums}
+use Rattle.sms_journal.specs.declared.told.PartTold.{PartTold}
+use Rattle.sms_journal.specs.declared.told.MessageTold.{MessageTold}
+use Rattle.sms_journal.specs.Sums.{AreSums, AreSumsBefore, HasAdded, HasCredit, IsGrown, credit_told, credits_told, no_sums, over_parts, parts_in, row_told, row_with, sum_parts}
+
+-- ---- lists
+
+module _ {X : Type 0} where
+  pub drop_step : (xs : List X) (i : ℕ) (x : X) → i < length xs → x ≡ get_or xs i x → drop i xs ≡ x ∷ drop (i + 1) xs
+  drop_step xs i x low is = rw add-one (step xs i x low is)
+    where
+      step : (xs : List X) (i : ℕ) (x : X) → i < length xs → x ≡ get_or xs i x → drop i xs ≡ x ∷ drop (suc i) xs
+      step [] i x low is = absurd (omega (arith, low))
+      step (y ∷ ys) zero x low is = ap (λ z. z ∷ ys) (sym is)
+      step (y ∷ ys) (suc i) x low is = step ys i x (omega (arith, low)) is
+
+  pub drop_whole : (xs : List X) (i : ℕ) → length xs ≤ i → drop i xs ≡ []
+  drop_whole [] zero low = refl
+  drop_whole [] (suc i) low = refl
+  drop_whole (x ∷ xs) zero low = absurd (omega (arith, low))
+  drop_whole (x ∷ xs) (suc i) low = drop_whole xs i (omega (arith, low))
+
+  pub get_set_here : (xs : List X) (k : ℕ) (x y : X) → slice_get xs k ≡ Some x → slice_get (slice_set xs k y) k ≡ Some y
+  get_set_here [] k x y e = absurd (cc)
+  get_set_here (z ∷ xs) zero x y e = refl
+  get_set_here (z ∷ xs) (suc k) x y e = get_set_here xs k x y e
+
+  pub get_set_else : (xs : List X) (k j : ℕ) (y : X) → (k ≡ j → ⊥) → slice_get (slice_set xs k y) j ≡ slice_get xs j
+  get_set_else [] k j y apart = refl
+  get_set_else (z ∷ xs) zero zero y apart = absurd (apart refl)
+  get_set_else (z ∷ xs) zero (suc j) y apart = refl
+  get_set_else (z ∷ xs) (suc k) zero y apart = refl
+  get_set_else (z ∷ xs) (suc k) (suc j) y apart = get_set_else xs k j y (λ e. apart (ap suc e))
+
+-- ---- what a message adds to an account
+
+no_account : (f : Phase → ℕ → ℕ) (i : ℕ) (parts : List PartTold) → sum_parts (credit_told f i None) parts ≡ 0
+no_account f i [] = refl
+no_account f i (s ∷ ss) = let rest = no_account f i ss in omega (arith, rest)
+
+other_account : (f : Phase → ℕ → ℕ) (i a : ℕ) (parts : List PartTold) → (a == i) ≡ false → sum_parts (credit_told f i (Some a)) parts ≡ 0
+other_account f i a [] apart = refl
+other_account f i a (s ∷ ss) apart =
+    let none : credit_told f i (Some a) s ≡ 0 = ap (λ b. if b then f (phase_of s.outcome) s.cost else 0) apart in
+    let rest = other_account f i a ss apart in
+    omega (arith, none, rest)
+
+its_account : (f : Phase → ℕ → ℕ) (i : ℕ) (parts : List PartTold) → sum_parts (credit_told f i (Some i)) parts ≡ over_parts f parts
+its_account f i [] = refl
+its_account f i (s ∷ ss) =
+    let one : credit_told f i (Some i) s ≡ f (phase_of s.outcome) s.cost = ap (λ b. if b then f (phase_of s.outcome) s.cost else 0) (eq-eqb i i refl) in
+    let rest = its_account f i ss in
+    omega (arith, one, rest)
+
+same_grown : (i : ℕ) (account : Option ℕ) (parts : List PartTold) (o : Option Sums) → ((f : Phase → ℕ → ℕ) → sum_parts (credit_told f i account) parts ≡ 0) → IsGrown i account parts o o
+same_grown i account parts None none = refl
+same_grown i account parts (Some s) none = record {
+  reserved = let e = none reserved_of in omega (arith, e);
+  charged = let e = none charged_of in omega (arith, e);
+  returned = let e = none returned_of in omega (arith, e);
+}
+
+pub unpaid_grown : (i : ℕ) (parts : List PartTold) (o : Option Sums) → IsGrown i None parts o o
+unpaid_grown i parts o = same_grown i None parts o (λ f. no_account f i parts)
+
+pub refused_grown : (i : ℕ) (account : Option ℕ) (o : Option Sums) → IsGrown i account [] o o
+refused_grown i account o = same_grown i account [] o (λ f. refl)
+
+pub unknown_grown : (sums : List Sums) (a i : ℕ) (parts : List PartTold) → slice_get sums a ≡ None → IsGrown i (Some a) parts (slice_get sums i) (slice_get sums i)
+unknown_grown sums a i parts none = here (a == i) refl
+  where
+    here : (b : Bool) → (a == i) ≡ b → IsGrown i (Some a) parts (slice_get sums i) (slice_get sums i)
+    here true e =
+        let at : slice_get sums i ≡ None = subst (λ (j : ℕ). slice_get sums j ≡ None) (eqb-true a i e) none in
+        subst (λ (o : Option Sums). IsGrown i (Some a) parts o o) (sym at) refl
+    here false e = same_grown i (Some a) parts (slice_get sums i) (λ f. other_account f i a parts e)
+
+pub paid_grown : (sums : List Sums) (a i : ℕ) (parts : List PartTold) (old new : Sums) → slice_get sums a ≡ Some old → HasAdded parts old new → IsGrown i (Some a) parts (slice_get sums i) (slice_get (slice_set sums a new) i)
+paid_grown sums a i parts old new at h = here (a == i) refl
+  where
+    credit : HasCredit a (Some a) parts old new
+    credit = record {
+      reserved = let e = its_account reserved_of a parts in let g = h.reserved in omega (arith, e, g);
+      charged = let e = its_account charged_of a parts in let g = h.charged in omega (arith, e, g);
+      returned = let e = its_account returned_of a parts in let g = h.returned in omega (arith, e, g);
+    }
+
+    its : IsGrown a (Some a) parts (slice_get sums a) (slice_get (slice_set sums a new) a)
+    its = subst (λ (o : Option Sums). IsGrown a (Some a) parts o (slice_get (slice_set sums a new) a)) (sym at)
+        (subst (λ (o : Option Sums). IsGrown a (Some a) parts (Some old) o) (sym (get_set_here sums a old new at)) credit)
+
+    here : (b : Bool) → (a == i) ≡ b → IsGrown i (Some a) parts (slice_get sums i) (slice_get (slice_set sums a new) i)
+    here true e = subst (λ (j : ℕ). IsGrown j (Some a) parts (slice_get sums j) (slice_get (slice_set sums a new) j)) (eqb-true a i e) its
+    here false e = subst (λ (o : Option Sums). IsGrown i (Some a) parts (slice_get sums i) o) (sym (get_set_else sums a i new (eqb-false a i e)))
+        (same_grown i (Some a) parts (slice_get sums i) (λ f. other_account f i a parts e))
+
+-- ---- all messages
+
+credits_drop : (f : Phase → ℕ → ℕ) (i : ℕ) (ms : List Message) (es : List MessageTold) (k : ℕ) (m : Message) (e : MessageTold) → k < length ms → k < length es → m ≡ get_or ms k m → e ≡ get_or es k e
+    → credits_told f i (drop k ms) (drop k es) ≡ sum_parts (credit_told f i m.account) (parts_in e.result) + credits_told f i (drop (k + 1) ms) (drop (k + 1) es)
+credits_drop f i ms es k m e low lower is its = λ j. credits_told f i (drop_step ms k m low is j) (drop_step es k e lower its j)
+
+pub sums_more : (i : ℕ) (ms : List Message) (es : List MessageTold) (k : ℕ) (m : Message) (e : MessageTold) (o : Option Sums) (t : Sums) → k < length ms → k < length es → m ≡ get_or ms k m → e ≡ get_or es k e
+    → ((s : Sums) → o ≡ Some s → AreSumsBefore i ms (drop k ms) es (drop k es) s) → IsGrown i m.account (parts_in e.result) o (Some t) → AreSumsBefore i ms (drop (k + 1) ms) es (drop (k + 1) es) t
+sums_more i ms es k m e None t low lower is its before grown = absurd (cc)
+sums_more i ms es k m e (Some s) t low lower is its before grown =
+    let h = before s refl in
+    record {
+      reserved = let a = credits_drop reserved_of i ms es k m e low lower is its in let b = h.reserved in let c = grown.reserved in omega (arith, a, b, c);
+      charged = let a = credits_drop charged_of i ms es k m e low lower is its in let b = h.charged in let c = grown.charged in omega (arith, a, b, c);
+      returned = let a = credits_drop returned_of i ms es k m e low lower is its in let b = h.returned in let c = grown.returned in omega (arith, a, b, c);
+    }
+
+nothing_left : (f : Phase → ℕ → ℕ) (i : ℕ) (ms : List Message) (es : List MessageTold) (k : ℕ) → min (length ms) (length es) ≤ k → credits_told f i (drop k ms) (drop k es) ≡ 0
+nothing_left f i [] [] zero low = refl
+nothing_left f i [] [] (suc k) low = refl
+nothing_left f i [] (e ∷ es) zero low = refl
+nothing_left f i [] (e ∷ es) (suc k) low = refl
+nothing_left f i (m ∷ ms) [] zero low = refl
+nothing_left f i (m ∷ ms) [] (suc k) low = none (drop k ms)
+  where
+    none : (l : List Message) → credits_told f i l [] ≡ 0
+    none [] = refl
+    none (x ∷ xs) = refl
+nothing_left f i (m ∷ ms) (e ∷ es) zero low = absurd (omega (arith, low))
+nothing_left f i (m ∷ ms) (e ∷ es) (suc k) low = nothing_left f i ms es k (omega (arith, low))
+
+pub all_sums : (i : ℕ) (ms : List Message) (es : List MessageTold) (k : ℕ) (s : Sums) → min (length ms) (length es) ≤ k → AreSumsBefore i ms (drop k ms) es (drop k es) s → AreSums i ms es s
+all_sums i ms es k s low h = record {
+  reserved = let a = nothing_left reserved_of i ms es k low in let b = h.reserved in omega (arith, a, b);
+  charged = let a = nothing_left charged_of i ms es k low in let b = h.charged in omega (arith, a, b);
+  returned = let a = nothing_left returned_of i ms es k low in let b = h.returned in omega (arith, a, b);
+}
+
+pub first_sums : (i : ℕ) (ms : List Message) (es : List MessageTold) (s : Sums) → s ≡ no_sums → AreSumsBefore i ms ms es es s
+first_sums i ms es s none = record {
+  reserved = let a : s.reserved ≡ 0 = ap (λ (x : Sums). x.reserved) none in omega (arith, a);
+  charged = let a : s.charged ≡ 0 = ap (λ (x : Sums). x.charged) none in omega (arith, a);
+  returned = let a : s.returned ≡ 0 = ap (λ (x : Sums). x.returned) none in omega (arith, a);
+}
+
+pub row_is : (topped i : ℕ) (ms : List Message) (es : List MessageTold) (s : Sums) → AreSums i ms es s → row_with topped s ≡ row_told topped i ms es
+row_is topped i ms es s h = λ j. record { topped = topped; free = topped - (h.reserved j + h.charged j); reserved = h.reserved j; charged = h.charged j; returned = h.returned j }
+
+-- ---- parts
+
+pub over_drop : (f : Phase → ℕ → ℕ) (parts : List PartTold) (i : ℕ) (s : PartTold) → i < length parts → s ≡ get_or parts i s → over_parts f (drop i parts) ≡ f (phase_of s.outcome) s.cost + over_parts f (drop (i + 1) parts)
+over_drop f parts i s low is = ap (over_parts f) (drop_step parts i s low is)
+
+pub over_end : (f : Phase → ℕ → ℕ) (parts : List PartTold) (i : ℕ) → length parts ≤ i → over_parts f (drop i parts) ≡ 0
+over_end f parts i low = ap (over_parts f) (drop_whole parts i low)
