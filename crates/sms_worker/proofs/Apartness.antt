@@ -23,7 +23,7 @@ use Rattle.sms_worker.proofs.EndLemmas.{total_put, part_at_most, get_there, get_
 counts_once : (x n : ℕ) → x ≡ n → times n (x ∷ []) ≡ 1
 counts_once x n e = rw (eq-eqb x n e) (omega arith)
 
-once_at : (n : ℕ) (xs : List Attempt) (i : ℕ) (a : Attempt) → slice_get xs i ≡ Some a → a.number ≡ n → 1 ≤ times n (map (λ (y : Attempt). y.number) xs)
+pub once_at : (n : ℕ) (xs : List Attempt) (i : ℕ) (a : Attempt) → slice_get xs i ≡ Some a → a.number ≡ n → 1 ≤ times n (map (λ (y : Attempt). y.number) xs)
 once_at n [] i a at e = absurd (cc)
 once_at n (x ∷ xs) zero a at e = let same : x ≡ a = cc in let c = counts_once x.number n (ap (λ (y : Attempt). y.number) same ∙ e) in omega arith
 once_at n (x ∷ xs) (suc i) a at e = let h = once_at n xs i a at e in omega arith
@@ -47,7 +47,7 @@ in_elsewhere : (r : MessageResult) (p q : ℕ) (x z : SegmentEnd) → p ≢ q �
 in_elsewhere (Sent ss) p q x z ne at = set_elsewhere ss p q x z ne at
 in_elsewhere (NotSent refusal) p q x z ne at = at
 
-put_elsewhere : (es : List MessageEnd) (k p j q : ℕ) (x z : SegmentEnd) → (k ≢ j) ⊎ ((k ≡ j) × (p ≢ q)) → segment_at es j q ≡ Some z → segment_at (put es k p x) j q ≡ Some z
+pub put_elsewhere : (es : List MessageEnd) (k p j q : ℕ) (x z : SegmentEnd) → (k ≢ j) ⊎ ((k ≡ j) × (p ≢ q)) → segment_at es j q ≡ Some z → segment_at (put es k p x) j q ≡ Some z
 put_elsewhere [] k p j q x z ne at = at
 put_elsewhere (e ∷ es) zero p zero q x z ne at = elim ne [ inl n ↦ absurd (n refl) | inr n ↦ in_elsewhere e.result p q x z n.1 at ]
 put_elsewhere (e ∷ es) zero p (suc j) q x z ne at = at

@@ -45,7 +45,7 @@ ready_snoc cost (suc n) = ap (λ l. fresh cost ∷ l) (ready_snoc cost n)
 pub ready_more : (cost n : ℕ) → ready cost n ++ fresh cost ∷ [] ≡ ready cost (n + 1)
 ready_more cost n = ready_snoc cost n ∙ ap (ready cost) (sym (add-one n))
 
-got_ready : (cost n q : ℕ) (z : SegmentEnd) → slice_get (ready cost n) q ≡ Some z → z ≡ fresh cost
+pub got_ready : (cost n q : ℕ) (z : SegmentEnd) → slice_get (ready cost n) q ≡ Some z → z ≡ fresh cost
 got_ready cost zero q z e = absurd (cc)
 got_ready cost (suc n) zero z e = cc
 got_ready cost (suc n) (suc q) z e = got_ready cost n q z e

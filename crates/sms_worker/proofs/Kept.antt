@@ -14,7 +14,7 @@ use Rattle.sms_worker.specs.declared.rules.Rules.{Rules}
 use Rattle.sms_worker.specs.declared.open.SegmentPlace.{SegmentPlace}
 use Rattle.sms_worker.specs.declared.texts.Kept.{Kept}
 use Rattle.sms_worker.specs.declared.texts.Link.{Link}
-use Rattle.sms_worker.specs.TextsState.{TextsState, carried, changed, kept_at, no_texts, relinked, settled_one, texts_of, with_link}
+use Rattle.sms_worker.specs.TextsState.{AreUnlinked, TextsState, carried, changed, kept_at, no_texts, relinked, settled_one, texts_of, with_link}
 use Rattle.sms_worker.specs.Told.{AreTexts}
 use Rattle.sms_worker.specs.UserData.{message_data, user_data}
 
@@ -60,6 +60,12 @@ map_more g (z ∷ xs) x = ap (λ l. g z ∷ l) (map_more g xs x)
 pub carried_of : (parts : List Part) → carried (texts_of parts) ≡ map user_data parts
 carried_of [] = refl
 carried_of (part ∷ parts) = ap (λ l. user_data part ∷ l) (carried_of parts)
+
+-- and none of them is linked
+pub unlinked_of : (parts : List Part) → AreUnlinked (texts_of parts)
+unlinked_of [] q = refl
+unlinked_of (part ∷ parts) zero = refl
+unlinked_of (part ∷ parts) (suc q) = unlinked_of parts q
 
 -- a header can count one part
 pub one_is_short : (text : Coded) (reference : Reference) → PartsTellTooLong → parts_of text reference ≡ whole text ∷ [] → ¬ IsTooLong text reference

@@ -9,8 +9,10 @@ pub mod EndsOf
 pub mod Events
 pub mod Keeping
 pub mod Kept
+pub mod Naming
 pub mod Leaving
 pub mod Resting
+pub mod Rising
 pub mod Standing
 pub mod Submits
 pub mod Sweeping

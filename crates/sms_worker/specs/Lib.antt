@@ -9,7 +9,9 @@ pub mod Keeps
 pub mod Laws
 pub mod Limits
 pub mod Queues
+pub mod ReadyState
 pub mod Rests
+pub mod Rising
 pub mod RunState
 pub mod Start
 pub mod Steps

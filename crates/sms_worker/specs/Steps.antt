@@ -21,6 +21,8 @@ use Rattle.sms_worker.specs.declared.attempt.Tried.{Tried}
 use Rattle.sms_worker.specs.declared.attempt.Tried.TheVariants.{Sent, Later, Never}
 use Rattle.sms_worker.specs.declared.attempt.Number.{Number}
 use Rattle.sms_worker.specs.declared.attempt.Number.TheVariants.{Drawn, UsedUp, Contended}
+use Rattle.sms_worker.specs.declared.open.Open.{Open}
+use Rattle.sms_worker.specs.declared.open.SegmentPlace.{SegmentPlace}
 use Rattle.sms_worker.specs.Submits.{SpellsSubmit}
 use Rattle.sms_worker.specs.declared.ends.MessageEnd.{MessageEnd}
 use Rattle.sms_worker.specs.Ends.{segment_at, put}
@@ -63,6 +65,12 @@ Tries rules m part v old (Sent n) w new =
     HasDrawn v (n ∷ []) w × ((octets : List ℕ) × (new ≡ old ++ record { number = n; sent = octets; reply = None } ∷ []) × SpellsSubmit rules m part n octets)
 Tries rules m part v old Later w new = HasDrawn v [] w × (new ≡ old)
 Tries rules m part v old Never w new = ((HasDrawn v [] w × (w.seen ≡ used_up)) ⊎ ((n : ℕ) × HasDrawn v (n ∷ []) w)) × (new ≡ old)
+
+-- the request that was sent is open, behind the others
+abbrev pub Opens : Tried → SegmentPlace → List Open → List Open → Type 0
+Opens (Sent n) place old new = (o : Open) × (new ≡ old ++ o ∷ []) × (o.number ≡ n) × (o.place ≡ place)
+Opens Later place old new = new ≡ old
+Opens Never place old new = new ≡ old
 
 -- where the credits go that were reserved for a segment; without an answer they stay reserved
 abbrev pub move_of : Outcome → Option Move

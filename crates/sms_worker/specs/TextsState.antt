@@ -1,5 +1,5 @@
 -- What is kept of a message that was begun, as contracts see it.
-use Rattle.std.specs.Prelude.{ℕ, zero, suc, ◌-◌, List, [], ◌∷◌, length, map, Option, None, Some, option_and_then, slice_get, nat_le, if◌then◌else◌}
+use Rattle.std.specs.Prelude.{◌≡◌, ℕ, zero, suc, ◌-◌, List, [], ◌∷◌, length, map, Option, None, Some, option_and_then, slice_get, nat_le, if◌then◌else◌}
 use Rattle.sms_segment.specs.declared.part.Part.{Part}
 use Rattle.sms_worker.specs.declared.open.SegmentPlace.{SegmentPlace}
 use Rattle.sms_worker.specs.declared.texts.Kept.{Kept}
@@ -59,3 +59,7 @@ kept_at texts place = option_and_then (λ t. slice_get t.kept place.part) (slice
 abbrev pub link_of : Option Kept → Link
 link_of None = no_link
 link_of (Some kept) = kept.link
+
+-- no part of the message is in a queue
+abbrev pub AreUnlinked : TextsState → Type 0
+AreUnlinked texts = (part : ℕ) → link_of (slice_get texts.kept part) ≡ no_link

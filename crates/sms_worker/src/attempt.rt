@@ -11,7 +11,7 @@ ghost use Rattle.sms_window.specs.OpenSlots.{IsOpen};
 ghost use Rattle.sms_window.specs.Seats.{used_up};
 ghost use Rattle.sms_worker.specs.Keeps.{slots_of};
 ghost use Rattle.sms_worker.specs.Submits.{SpellsSubmit};
-ghost use Rattle.sms_worker.specs.Steps.{Tries, Draws};
+ghost use Rattle.sms_worker.specs.Steps.{Tries, Draws, Opens};
 ghost use Rattle.sms_worker.specs.declared.attempt.Number.TheVariants.{UsedUp};
 ghost use Rattle.sms_worker.specs.UserData.{user_data};
 
@@ -251,6 +251,7 @@ pub(crate) fn start<N: BookName, W: Write, G: Gate, K: Clock, R: Wait>(
     requires room { vec_len opened.old < vec_capacity opened.old }
     ensures window { seat.new.window ≡ seat.old.window }
     ensures open { (base : ℕ) → IsOpen base (slots_of opened.old.items) seat.old.view.slots → IsOpen base (slots_of opened.new.items) seat.new.view.slots }
+    ensures opened { Opens result place opened.old.items opened.new.items }
     ensures tried { (part : Part) → carried.now ≡ user_data part → Tries context.now.rules.now message.now part seat.old.view attempts.old.items result seat.new.view attempts.new.items }
 {
     if !context.gate.ready(context.worker) {

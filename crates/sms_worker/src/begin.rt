@@ -13,7 +13,7 @@ ghost use Rattle.sms_segment.specs.Message.{IsTooLong, parts_of};
 ghost use Rattle.sms_segment.specs.Part.{HasSeptets};
 ghost use Rattle.sms_worker.specs.Submits.{HasAddresses, coded_text, message_parts, reference_of};
 ghost use Rattle.sms_worker.specs.Told.{IsKnown, IsNotCut, IsRefusalOf, IsResultOf, IsShort};
-ghost use Rattle.sms_worker.specs.TextsState.{carried, texts_of};
+ghost use Rattle.sms_worker.specs.TextsState.{AreUnlinked, carried, texts_of};
 ghost use Rattle.sms_worker.specs.UserData.{message_data};
 ghost use Rattle.std.specs.Prelude.{string_bytes};
 ghost use Rattle.sms_worker.specs.declared.ends.MessageRefusal.TheVariants.{BindClosed};
@@ -162,6 +162,7 @@ fn prepare(
     ensures texts { IfOk result (λ r. carried r.0 ≡ message_data rules.now message.now) }
     ensures ends { IfOk result (λ r. r.1.items ≡ ready (cost_of rules.now.tariff (string_bytes message.now.dest)) (length (message_parts rules.now message.now))) }
     ensures refused { IfErr result (λ e. IsRefusalOf rules.now accounts message.now e) }
+    ensures unlinked { IfOk result (λ r. AreUnlinked r.0) }
     ensures closed { IfErr result (λ e. e ≡ BindClosed → IsTrue down) }
     ensures down { IsTrue down → result ≡ Err BindClosed }
 {
@@ -195,6 +196,7 @@ fn refused<N: BookName>(
 ) -> (Texts, MessageEnd)
     requires { IsRefusalOf rules.now (length shares.now.amounts) message.now refusal }
     ensures begins { Begins rules.now message.now shares.now shares.now (carried result.0) result.1 }
+    ensures unlinked { AreUnlinked result.0 }
     ensures refused { result.1.result ≡ Refused refusal }
 {
     let texts = Texts::none(alloc);
@@ -235,6 +237,7 @@ pub(crate) fn begun<N: BookName, R: Wait>(
     message: &Message,
 ) -> (Texts, MessageEnd)
     ensures begins { Begins rules.now message.now shares.old shares.new (carried result.0) result.1 }
+    ensures unlinked { AreUnlinked result.0 }
     ensures closed { result.1.result ≡ Refused BindClosed → IsTrue down }
     ensures down { IsTrue down → result.1.result ≡ Refused BindClosed }
 {

@@ -16,6 +16,7 @@ mod message;
 mod open;
 mod places;
 mod queue;
+mod ready;
 mod rules;
 mod run;
 mod segment;
@@ -34,5 +35,6 @@ pub use ends::{
     Attempt, Attempts, MessageEnd, MessageRefusal, MessageResult, Outcome, SegmentEnd, Segments,
 };
 pub use message::Message;
+pub use ready::ReadyWorker;
 pub use rules::Rules;
 pub use work::{Worker, WorkerEnd, run_worker};

@@ -1,7 +1,8 @@
 //! The segments that wait to be sent again, in the order in which their times come.
 
-ghost use Rattle.std.specs.Prelude.{◌≡◌, ◌≢◌, ◌≤◌, ◌+◌, ◌-◌, ◌&&◌, ◌++◌, ◌∷◌, [], ℕ, List, map, Some, true, IfNone, IfSome, is_none, slice_get, vec_len, vec_capacity};
+ghost use Rattle.std.specs.Prelude.{◌≡◌, ◌≢◌, ◌≤◌, ◌+◌, ◌-◌, ◌⊎◌, ◌&&◌, ◌++◌, ◌∷◌, [], ℕ, List, map, Some, true, IfNone, IfSome, is_none, slice_get, vec_len, vec_capacity};
 ghost use Rattle.std.specs.List.{list_all};
+ghost use Rattle.sms_worker.specs.declared.open.SegmentPlace.{SegmentPlace};
 ghost use Rattle.sms_worker.specs.Queues.{Waiting, appended, first_in, first_place, IsAway, IsDue, IsKept, IsOutside, last_in, later, NoneIsDue, sooner_of, SpellsAt, with_last, without_first};
 ghost use Rattle.sms_worker.specs.TextsState.{TextsState, carried, kept_at, link_of, relinked};
 
@@ -152,6 +153,9 @@ impl Queues {
         ensures room { (vec_len texts.new ≡ vec_len texts.old) × (vec_capacity texts.new ≡ vec_capacity texts.old) }
         ensures last { 1 ≤ attempts → attempts ≤ 10 → last_in self.new.all (attempts - 1) ≡ Some place }
         ensures others { (k : ℕ) → k + 1 ≢ attempts → slice_get self.new.all k ≡ slice_get self.old.all k }
+        // Neither a queue nor a link names another segment than before, but this one.
+        ensures heads { (k : ℕ) (named : SegmentPlace) → first_in self.new.all k ≡ Some named → (named ≡ place) ⊎ (first_in self.old.all k ≡ Some named) }
+        ensures links { (from named : SegmentPlace) → (link_of (kept_at texts.new.items from)).next ≡ Some named → (named ≡ place) ⊎ ((link_of (kept_at texts.old.items from)).next ≡ Some named) }
     {
         if attempts < 1 || attempts > MOST_ATTEMPTS {
             return;
@@ -194,6 +198,7 @@ impl Queues {
     pub fn pop(&mut self, texts: &[Texts], queue: usize)
         ensures waits { (ws : List Waiting) → SpellsAt texts.now self.old.all queue ws → SpellsAt texts.now self.new.all queue (later ws) }
         ensures others { (k : ℕ) → k ≢ queue → slice_get self.new.all k ≡ slice_get self.old.all k }
+        ensures heads { (k : ℕ) (named : SegmentPlace) → first_in self.new.all k ≡ Some named → (first_in self.old.all k ≡ Some named) ⊎ ((from : SegmentPlace) × ((link_of (kept_at texts.now from)).next ≡ Some named)) }
     {
         if queue >= MOST_ATTEMPTS {
             return;

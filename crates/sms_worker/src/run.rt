@@ -15,7 +15,7 @@ use std::snapshot::Snapshot;
 
 /// What a worker has: its messages and what became of those that it began, and what it sends with.
 /// `opened`, `queues` and `next` say where to look; what they say is checked against the ends.
-/// Contracts see the replies that it has heard, the ends, and whether the bind is closed for it.
+/// Contracts see the replies that it has heard, the ends, whether the bind is closed for it, and `next`.
 #[derive(Drop)]
 pub struct Run<N: BookName, C: Call> {
     pub messages: Vec<Message>,
@@ -42,14 +42,16 @@ impl<N: BookName, C: Call> Model for Run<N, C> {
     ghost use Rattle.sms_worker.specs.Keeps.{Keeps};
     ghost use Rattle.sms_worker.specs.TextsState.{carried};
     ghost use Rattle.sms_worker.specs.Closing.{Closes};
+    ghost use Rattle.sms_worker.specs.Rising.{InOrder};
 
     ghost Value = { RunState };
 
-    ghost view = { λ r. record { heard = received r.heard.value; ends = r.ends.items; closed = r.closed } };
+    ghost view = { λ r. record { heard = received r.heard.value; ends = r.ends.items; closed = r.closed; next = r.next } };
 
     ghost invariant = { λ r. record {
       keeps : Keeps C.start r.messages.items r.ends.items (map carried r.texts.items) r.opened.items r.seat r.shares (received r.heard.value);
       closing : Closes r.closed r.ends.items;
+      order : InOrder r.ends.items r.next r.opened.items r.queues.all r.texts.items;
       ends_fit : vec_len r.messages ≤ vec_capacity r.ends;
       texts_fit : vec_len r.messages ≤ vec_capacity r.texts;
     } };

@@ -1,12 +1,13 @@
 //! Steps on one segment of a run: an answer, an attempt, the end.
 
-ghost use Rattle.std.specs.Prelude.{◌≡◌, ℕ, ◌+◌, ◌≤◌, ◌<◌, ◌⊎◌, ◌++◌, ◌∷◌, [], true, false, IsTrue, Some, None, length};
+ghost use Rattle.std.specs.Prelude.{◌≡◌, ℕ, ◌+◌, ◌≤◌, ◌<◌, ◌⊎◌, ◌++◌, ◌∷◌, [], true, false, IsTrue, Some, None, OnSome, length};
 ghost use Rattle.sms_book.specs.Portions.{amounts_at};
 ghost use Rattle.sms_worker.specs.declared.ends.MessageEnd.{MessageEnd};
 ghost use Rattle.sms_worker.specs.declared.ends.MessageRefusal.TheVariants.{BindClosed};
 ghost use Rattle.sms_worker.specs.declared.ends.MessageResult.TheVariants.{Refused};
 ghost use Rattle.sms_worker.specs.declared.ends.SegmentEnd.{SegmentEnd};
 ghost use Rattle.sms_worker.specs.Ends.{segment_at};
+ghost use Rattle.sms_worker.specs.Rising.{HasTurn, WasSent};
 ghost use Rattle.sms_worker.specs.Steps.{settled_to, outcome_after};
 ghost use Rattle.sms_worker.specs.Sweeps.{SweptAt, InPlace};
 ghost use Rattle.sms_worker.specs.Told.{HeardSince, IsSettled};
@@ -106,6 +107,7 @@ impl<N: BookName, C: Call> Run<N, C> {
         attempts: usize,
         decision: Decision,
     )
+        requires sent { WasSent self.old.ends place }
         ensures { self.new ≡ self.old }
     {
         match decision {
@@ -165,6 +167,7 @@ impl<N: BookName, C: Call> Run<N, C> {
         requires rules { context.now.rules.now ≡ C.start.rules }
         requires heard { HeardSince (length C.start.received) self.old.heard reply }
         ensures heard { self.new.heard ≡ self.old.heard }
+        ensures sent { OnSome result (WasSent self.new.ends place) }
     {
         if place.message >= self.messages.len() {
             return None;
@@ -202,7 +205,7 @@ impl<N: BookName, C: Call> Run<N, C> {
         Some((count, decision))
     }
 
-    /// Tries to send the segment at the place, if it waits.
+    /// Tries to send the segment at the place, whose turn it is, if it waits.
     pub(crate) fn attempt<W: Write, G: Gate, K: Clock, R: Wait>(
         &mut self,
         context: &WorkerContext<N, W, G, K, R>,
@@ -210,6 +213,7 @@ impl<N: BookName, C: Call> Run<N, C> {
     ) -> Tried
         requires window { context.now.window.now ≡ C.start.seat.window }
         requires rules { context.now.rules.now ≡ C.start.rules }
+        requires turn { HasTurn self.old.ends self.old.next place }
         ensures heard { self.new.heard ≡ self.old.heard }
     {
         if place.message >= self.messages.len() || place.message >= self.texts.len() {

@@ -30,6 +30,7 @@ mod ended;
 mod heard;
 mod memory;
 mod notes;
+mod ready;
 mod sums;
 mod threads;
 mod told;

@@ -4,6 +4,7 @@ ghost use Rattle.std.specs.Prelude.{◌≡◌, ℕ, ◌+◌, ◌<◌, ◌≤◌,
 ghost use Rattle.rtrb.specs.Ring.{received, SameConsumer};
 ghost use Rattle.sms_worker.specs.declared.ends.SegmentEnd.{SegmentEnd};
 ghost use Rattle.sms_worker.specs.Ends.{segment_at, segments_in};
+ghost use Rattle.sms_worker.specs.Rising.{HasTurn, IsNext, WasSent};
 ghost use Rattle.sms_worker.specs.Sweeps.{SettledTo};
 ghost use Rattle.sms_worker.specs.declared.turns.Source.TheVariants.{Queue, Next};
 
@@ -87,7 +88,7 @@ impl<N: BookName, C: Call> Run<N, C> {
 
     // The segment of the last message that is to be sent next.
     fn next_part(&self) -> Option<SegmentPlace>
-        ensures { IfSome result (λ p. length self.now.ends ≡ p.message + 1) }
+        ensures { IfSome result (IsNext self.now.ends self.now.next) }
     {
         let begun = self.ends.len();
         if begun == 0 || self.next >= self.count(begun - 1) {
@@ -100,12 +101,16 @@ impl<N: BookName, C: Call> Run<N, C> {
     }
 
     // Where to look for a segment to send: a retry that is due, else the next of the last message.
-    fn next_place(&self, now_ms: u64) -> Option<(SegmentPlace, Source)> {
+    fn next_place(&self, now_ms: u64) -> Option<(SegmentPlace, Source)>
+        ensures { IfSome result (λ r. HasTurn self.now.ends self.now.next r.0) }
+    {
         first_of(self.due_retry(now_ms), self.next_part())
     }
 
     // The segment that is due to be sent again before all others, and its queue.
-    fn due_retry(&self, now_ms: u64) -> Option<(SegmentPlace, usize)> {
+    fn due_retry(&self, now_ms: u64) -> Option<(SegmentPlace, usize)>
+        ensures { IfSome result (λ r. WasSent self.now.ends r.0) }
+    {
         let queue = self.queues.due(self.texts.as_slice(), now_ms)?;
         let place = self.queues.first(queue)?;
         Some((place, queue))
@@ -113,7 +118,7 @@ impl<N: BookName, C: Call> Run<N, C> {
 
     // The segment that was found there was tried.
     fn advance(&mut self, source: Source)
-        ensures { self.new ≡ self.old }
+        ensures { (self.new.heard ≡ self.old.heard) × (self.new.ends ≡ self.old.ends) }
     {
         match source {
             Source::Queue(queue) => self.queues.pop(self.texts.as_slice(), queue),

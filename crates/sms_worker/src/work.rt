@@ -9,6 +9,7 @@ ghost use Rattle.std.specs.List.{AllZip};
 ghost use Rattle.sms_worker.specs.Closing.{StaysClosed};
 ghost use Rattle.sms_worker.specs.EndOf.{IsEndOf};
 ghost use Rattle.sms_worker.specs.Apart.{NumbersApart, PlacesApart};
+ghost use Rattle.sms_worker.specs.Rising.{FirstsRise};
 ghost use Rattle.sms_worker.specs.Told.{AllTold, AreEnds, Drew, Grew};
 ghost use Rattle.sms_pdu.specs.declared.reply.Reply.{Reply};
 
@@ -19,9 +20,9 @@ use crate::ends::MessageEnd;
 use crate::message::Message;
 use crate::open::Open;
 use crate::queue::Queues;
+use crate::ready::{Lists, ReadyWorker};
 use crate::rules::Rules;
 use crate::run::Run;
-use crate::texts::Texts;
 use rtrb::Consumer;
 use sms_bind::Line;
 use sms_book::{Book, BookName, Shares};
@@ -81,6 +82,7 @@ fn into_end<N: BookName, W, G, K, R: Wait, C: Call>(
     requires window { context.now.window.now ≡ C.start.seat.window }
     ensures ends { result.ends.items ≡ run.ends }
     ensures closed { StaysClosed run.ends }
+    ensures rising { FirstsRise run.ends }
     ensures consumer { result.consumer ≡ consumer }
     ensures shape { AreEnds C.start.rules (length C.start.share.amounts) C.start.messages run.ends }
     ensures told { AllTold C.start.rules (length C.start.received) run.heard C.start.messages run.ends }
@@ -106,28 +108,6 @@ fn into_end<N: BookName, W, G, K, R: Wait, C: Call>(
     }
 }
 
-/// The lists of a call, which are grown first.
-#[derive(Drop)]
-struct Lists {
-    ends: Vec<MessageEnd>,
-    texts: Vec<Texts>,
-    opened: Vec<Open>,
-}
-
-fn grow(alloc: Global, messages: usize, depth: usize) -> Result<Lists, AllocError>
-    ensures empty { IfOk result (λ l. (l.ends.items ≡ []) × (l.texts.items ≡ []) × (l.opened.items ≡ [])) }
-    ensures room { IfOk result (λ l. (messages ≤ vec_capacity l.ends) × (messages ≤ vec_capacity l.texts) × (depth ≤ vec_capacity l.opened)) }
-{
-    let ends = Vec::with_capacity(alloc, messages)?;
-    let texts = Vec::with_capacity(alloc, messages)?;
-    let opened = Vec::with_capacity(alloc, depth)?;
-    Ok(Lists {
-        ends,
-        texts,
-        opened,
-    })
-}
-
 fn work<N: BookName, W: Write, G: Gate, K: Clock, P: Pause, R: Wait, C: Call>(
     context: &WorkerContext<N, W, G, K, R>,
     pause: &P,
@@ -148,6 +128,7 @@ fn work<N: BookName, W: Write, G: Gate, K: Clock, P: Pause, R: Wait, C: Call>(
     requires texts_fit { vec_len messages ≤ vec_capacity lists.texts }
     ensures each { AllZip (IsEndOf C.start.rules (length C.start.share.amounts)) C.start.messages result.ends.items }
     ensures closed { StaysClosed result.ends.items }
+    ensures rising { FirstsRise result.ends.items }
     ensures told { AllTold C.start.rules (length C.start.received) (received result.consumer) C.start.messages result.ends.items }
     ensures numbers { Drew C.start.seat.view result.seat.view C.start.messages result.ends.items }
     ensures apart { NumbersApart result.ends.items }
@@ -191,9 +172,63 @@ fn work<N: BookName, W: Write, G: Gate, K: Clock, P: Pause, R: Wait, C: Call>(
     end
 }
 
-/// Sends the messages in order, in at most so many turns. Each message has one end, in order; each
-/// segment was settled by the last of its attempts; the share grew by the sums over the ends; the
-/// seat holds what it held. Where memory is refused before the first step, all is handed back.
+impl<N: BookName> ReadyWorker<N> {
+    /// Sends the messages in order, in at most so many turns. Each message has one end, in order; each
+    /// segment was settled by the last of its attempts; the share grew by the sums over the ends; the
+    /// seat holds what it held. A step that finds no memory gives up its segment or its message alone.
+    pub fn run<W: Write, G: Gate, K: Clock, P: Pause, R: Wait>(
+        self,
+        rt: &R,
+        alloc: Global,
+        line: &Line<W>,
+        window: &Window,
+        book: &Mutex<Book<N>>,
+        rules: &Rules,
+        gate: &G,
+        clock: &K,
+        pause: &P,
+    ) -> WorkerEnd<N>
+        requires own { self.worker.seat.window ≡ window.now }
+        requires room { rules.now.depth ≤ self.room }
+        // Each message has its end, in order: its result, and of each of its parts the cost, the receipts and the outcome.
+        ensures each { AllZip (IsEndOf rules.now (length self.worker.shares.amounts)) self.messages result.ends.items }
+        // Once the bind was closed for a message, it was closed for all behind it.
+        ensures closed { StaysClosed result.ends.items }
+        // Segments are sent for the first time in the order in which they stand.
+        ensures rising { FirstsRise result.ends.items }
+        // Each answer was received in this call.
+        ensures answers { AllTold rules.now (length (received self.worker.consumer)) (received result.consumer) self.messages result.ends.items }
+        ensures numbers { Drew self.worker.seat.view result.seat.view self.messages result.ends.items }
+        ensures apart { NumbersApart result.ends.items }
+        ensures places { PlacesApart (received result.consumer) result.ends.items }
+        ensures credits { Grew self.worker.shares.amounts result.shares.amounts self.messages result.ends.items }
+        ensures slots { (result.seat.view.slots ≡ self.worker.seat.view.slots) × (result.seat.window ≡ self.worker.seat.window) }
+        ensures number { result.shares.number ≡ self.worker.shares.number }
+        ensures ring { SameConsumer self.worker.consumer result.consumer }
+        ensures heard { (rest : List Reply) × (received result.consumer ≡ received self.worker.consumer ++ rest) }
+    {
+        let ReadyWorker {
+            worker,
+            messages,
+            lists,
+        } = self;
+        let context = WorkerContext {
+            rt,
+            alloc,
+            line,
+            window,
+            book,
+            rules,
+            gate,
+            clock,
+            worker: worker.index,
+            place: worker.place,
+        };
+        work::<N, W, G, K, P, R, Brand>(&context, pause, worker, messages, lists)
+    }
+}
+
+/// Makes a worker ready and runs it. Where memory is refused before the first step, all is handed back.
 pub fn run_worker<N: BookName, W: Write, G: Gate, K: Clock, P: Pause, R: Wait>(
     rt: &R,
     alloc: Global,
@@ -212,6 +247,8 @@ pub fn run_worker<N: BookName, W: Write, G: Gate, K: Clock, P: Pause, R: Wait>(
     ensures each { IfOk result (λ d. AllZip (IsEndOf rules.now (length worker.shares.amounts)) messages.items d.ends.items) }
     // Once the bind was closed for a message, it was closed for all behind it.
     ensures closed { IfOk result (λ d. StaysClosed d.ends.items) }
+    // Segments are sent for the first time in the order in which they stand.
+    ensures rising { IfOk result (λ d. FirstsRise d.ends.items) }
     // Each answer was received in this call.
     ensures answers { IfOk result (λ d. AllTold rules.now (length (received worker.consumer)) (received d.consumer) messages.items d.ends.items) }
     ensures numbers { IfOk result (λ d. Drew worker.seat.view d.seat.view messages.items d.ends.items) }
@@ -224,21 +261,8 @@ pub fn run_worker<N: BookName, W: Write, G: Gate, K: Clock, P: Pause, R: Wait>(
     ensures heard { IfOk result (λ d. (rest : List Reply) × (received d.consumer ≡ received worker.consumer ++ rest)) }
     ensures refused { IfErr result (λ e. (e.1 ≡ worker) × (e.2.items ≡ messages.items)) }
 {
-    let grown = match grow(alloc, messages.len(), rules.depth as usize) {
-        Ok(grown) => grown,
-        Err(error) => return Err((error, worker, messages)),
-    };
-    let context = WorkerContext {
-        rt,
-        alloc,
-        line,
-        window,
-        book,
-        rules,
-        gate,
-        clock,
-        worker: worker.index,
-        place: worker.place,
-    };
-    Ok(work::<N, W, G, K, P, R, Brand>(&context, pause, worker, messages, grown))
+    match ReadyWorker::new(alloc, worker, messages, rules) {
+        Ok(ready) => Ok(ready.run(rt, alloc, line, window, book, rules, gate, clock, pause)),
+        Err(refused) => Err(refused),
+    }
 }

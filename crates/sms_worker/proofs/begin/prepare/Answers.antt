@@ -1,8 +1,8 @@
-use Rattle.std.proofs.Common.{◌∙◌, ap, rules}
+use Rattle.std.proofs.Common.{◌∙◌, sym, ap, subst, rules}
 use Rattle.sms_worker.specs.Submits.{message_parts}
-use Rattle.sms_worker.specs.TextsState.{carried}
+use Rattle.sms_worker.specs.TextsState.{AreUnlinked, carried}
 use Rattle.sms_worker.proofs.Beginnings.{not_cut}
-use Rattle.sms_worker.proofs.Kept.{carried_of}
+use Rattle.sms_worker.proofs.Kept.{carried_of, unlinked_of}
 use Rattle.sms_worker.proofs.begin.prepare.Goals as goal
 
 pub returns-in-Err-clause-refused : goal.returns-in-Err-clause-refused
@@ -16,3 +16,6 @@ returns-in-Ok-waiting_ends-clause-short c = c.in-Ok.ensures.short
 
 pub returns-in-Ok-waiting_ends-clause-texts : goal.returns-in-Ok-waiting_ends-clause-texts
 returns-in-Ok-waiting_ends-clause-texts c = ap carried c.in-Ok.ensures.texts ∙ carried_of (message_parts c.args.rules.now c.args.message.now)
+
+pub returns-in-Ok-waiting_ends-clause-unlinked : goal.returns-in-Ok-waiting_ends-clause-unlinked
+returns-in-Ok-waiting_ends-clause-unlinked c = subst AreUnlinked (sym c.in-Ok.ensures.texts) (unlinked_of (message_parts c.args.rules.now c.args.message.now))

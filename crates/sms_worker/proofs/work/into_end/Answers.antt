@@ -1,4 +1,5 @@
 use Rattle.std.proofs.Common.{[], length, ap, subst, ◌∙◌}
+use Rattle.sms_worker.specs.Rising.{FirstsRise}
 use Rattle.sms_worker.specs.RunState.{RunState}
 use Rattle.sms_worker.specs.Told.{AllTold, Drew}
 use Rattle.sms_worker.proofs.Changes.{drew_unused}
@@ -18,3 +19,6 @@ returns-clause-numbers g c =
     let e = ap (λ (x : RunState). x.ends) c.run.view_is in
     subst (Drew g.C.Call.start.seat.view c.release_all.new.seat.view g.C.Call.start.messages) e
     (drew_unused g.C.Call.start.seat.view _ c.release_all.new.seat.view [] g.C.Call.start.messages _ c.run.invariant.keeps.numbers c.release_all.ensures.numbers)
+
+pub returns-clause-rising : goal.returns-clause-rising
+returns-clause-rising g c = subst (λ (x : RunState). FirstsRise x.ends) c.run.view_is c.run.invariant.order.rise

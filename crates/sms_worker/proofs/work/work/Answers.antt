@@ -1,6 +1,7 @@
 use Rattle.std.proofs.Common.{false, length, sym, ap, ◌∙◌, subst, map}
 use Rattle.rtrb.specs.Ring.{received, SameConsumer}
 use Rattle.sms_worker.specs.Told.{AllTold, Drew, Grew}
+use Rattle.sms_worker.specs.Rising.{FirstsRise}
 use Rattle.sms_worker.specs.Sweeps.{SettledTo}
 use Rattle.sms_worker.specs.TextsState.{carried}
 use Rattle.sms_worker.proofs.Keeping.{keeps_opening}
@@ -9,6 +10,7 @@ use Rattle.sms_worker.specs.Apart.{PlacesApart}
 use Rattle.sms_worker.proofs.EndsOf.{ends_of}
 use Rattle.sms_worker.proofs.Apartness.{numbers_apart, places_apart}
 use Rattle.sms_worker.proofs.Closing.{closes_none}
+use Rattle.sms_worker.proofs.Rising.{order_opening}
 use Rattle.sms_worker.proofs.work.work.Goals as goal
 
 pub invariant_of-run : goal.invariant_of-run
@@ -17,6 +19,7 @@ invariant_of-run g c =
     record {
       keeps = rw c.of-heard.ensures (keeps_opening _ _ _ _ _ _ _ _ r.messages r.seat r.share r.received r.no_ends (ap (map carried) r.no_texts) r.none_opened);
       closing = rw r.no_ends (closes_none false);
+      order = order_opening _ 0 _ _ _ r.no_ends r.no_texts r.none_opened c.none.ensures;
       ends_fit = r.ends_fit;
       texts_fit = r.texts_fit;
     }
@@ -99,3 +102,6 @@ finish-requires-clause-heard g c = c.take_turns.ensures.heard
 
 pub into_end-end-requires : goal.into_end-end-requires
 into_end-end-requires g c = record { window = c.requires.window }
+
+pub returns-clause-rising : goal.returns-clause-rising
+returns-clause-rising g c = subst FirstsRise (sym c.into_end-end.ensures.ends) c.into_end-end.ensures.rising

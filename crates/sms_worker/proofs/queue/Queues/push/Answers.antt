@@ -1,8 +1,9 @@
-use Rattle.std.proofs.Common.{◌≢◌, ◌<◌, ◌-◌, ◌∙◌, None, length, map, ap, arith, rules}
+use Rattle.std.proofs.Common.{◌≢◌, ◌<◌, ◌-◌, ◌∙◌, None, length, map, sym, ap, arith, rules}
 use Rattle.sms_book.proofs.Moves.{get_set_else}
 use Rattle.sms_worker.specs.declared.queue.Queue.{Queue}
 use Rattle.sms_worker.specs.Queues.{Waiting}
-use Rattle.sms_worker.specs.TextsState.{carried}
+use Rattle.sms_worker.specs.TextsState.{carried, kept_at, link_of}
+use Rattle.sms_worker.proofs.Naming.{pushed_heads, pushed_links}
 use Rattle.sms_worker.proofs.Waiting.{carried_appended, pushed_here, pushed_last, pushed_there}
 use Rattle.sms_worker.proofs.queue.Queues.push.Goals as goal
 
@@ -32,3 +33,11 @@ returns-clause-last c some few =
 
 pub returns-clause-others : goal.returns-clause-others
 returns-clause-others c k other = get_set_else c.args.self.now.all (c.args.attempts - 1) k c.with.result (λ e. other (omega (arith, c.if-attempts-lt1.false)))
+
+pub returns-clause-heads : goal.returns-clause-heads
+returns-clause-heads c k named is =
+    let low : c.args.attempts - 1 < length c.args.self.now.all = search rules in
+    pushed_heads c.args.self.now.all (c.args.attempts - 1) none c.with.result low k named c.args.place c.with.ensures is
+
+pub returns-clause-links : goal.returns-clause-links
+returns-clause-links c from named is = pushed_links c.args.texts.now.items _ c.args.place c.args.due_ms from named (ap (λ l. (link_of (kept_at l from)).next) (sym c.link_behind.ensures.linked) ∙ is)

@@ -7,9 +7,11 @@ use Rattle.sms_worker.specs.Steps.{Tries}
 use Rattle.sms_worker.specs.TextsState.{carried}
 use Rattle.sms_worker.proofs.EndLemmas.{back_there, given_same, given_other}
 use Rattle.sms_worker.proofs.Keeping.{keeps_same, keeps_tried, part_there, told_there}
+use Rattle.sms_worker.specs.Rising.{HasTurn, InOrder}
 use Rattle.sms_worker.specs.RunState.{RunState}
 use Rattle.sms_worker.specs.Closing.{Closes}
 use Rattle.sms_worker.proofs.Closing.{closes_put}
+use Rattle.sms_worker.proofs.Rising.{order_tried}
 use Rattle.sms_worker.proofs.run.Run.attempt.Goals as goal
 
 pub give-requires : goal.give-requires
@@ -24,6 +26,7 @@ invariant_of-self-then-not-is_waiting g c =
     record {
       keeps = keeps_same _ _ _ _ _ _ _ _ _ i.keeps same;
       closing = subst (Closes c.self.inside.closed) (sym same) i.closing;
+      order = subst (λ l. InOrder l c.self.inside.next c.self.inside.opened.items c.self.inside.queues.all c.self.inside.texts.items) (sym same) i.order;
       ends_fit = (let r = i.ends_fit in omega arith);
       texts_fit = i.texts_fit;
     }
@@ -57,9 +60,11 @@ invariant_of-self-2 g c =
     let tried = subst (λ (l : List Attempt). Tries c.args.context.now.rules.now c.index-message.result.now part.part c.self.inside.seat.view s.attempts c.start-tried.result c.start-tried.new.seat.view l) (sym now)
     (subst (λ (l : List Attempt). Tries c.args.context.now.rules.now c.index-message.result.now part.part c.self.inside.seat.view l c.start-tried.result c.start-tried.new.seat.view c.start-tried.new.attempts.items) was tries) in
     let slots = c.start-tried.ensures.open g.C.Call.start.seat.view.slots i.keeps.slots in
+    let turn = subst (λ (x : RunState). HasTurn x.ends x.next c.args.place) (sym c.self.view_is) c.requires.turn in
     record {
       keeps = keeps_tried _ c.args.context.now.rules.now _ _ _ _ _ c.start-tried.new.opened.items _ c.start-tried.new.seat _ _ k p c.index-message.result.now part.part s s' c.start-tried.result i.keeps c.requires.rules there part.there at waits tried refl refl c.start-tried.ensures.window slots is long;
       closing = subst (Closes c.self.inside.closed) (sym is) (closes_put c.self.inside.closed c.self.inside.ends.items k p s' i.closing);
+      order = order_tried c.args.context.now.rules.now c.index-message.result.now part.part g.C.Call.start.seat.view c.self.inside.seat.view c.start-tried.new.seat.view g.C.Call.start.messages c.self.inside.ends.items _ c.args.place s s' c.start-tried.result c.self.inside.next c.self.inside.opened.items c.start-tried.new.opened.items c.self.inside.queues.all c.self.inside.texts.items i.keeps.shape.within i.keeps.numbers at tried turn c.start-tried.ensures.opened is i.order;
       ends_fit = (let r = i.ends_fit in omega arith);
       texts_fit = i.texts_fit;
     }

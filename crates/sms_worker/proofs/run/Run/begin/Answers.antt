@@ -7,6 +7,7 @@ use Rattle.sms_worker.specs.TextsState.{carried}
 use Rattle.sms_worker.proofs.Beginnings.{keeps_begun}
 use Rattle.sms_worker.proofs.Kept.{map_more}
 use Rattle.sms_worker.proofs.Closing.{closes_more}
+use Rattle.sms_worker.proofs.Rising.{order_begun}
 use Rattle.sms_worker.proofs.run.Run.begin.Goals as goal
 
 pub invariant_of-self : goal.invariant_of-self
@@ -22,6 +23,7 @@ invariant_of-self g c =
     record {
       keeps = rw (c.push_reserved.ensures.items, c.push_reserved-2.ensures.items, map_more carried c.self.inside.texts.items c.begun-texts.result.0) done;
       closing = rw c.push_reserved-2.ensures.items (closes_more c.self.inside.closed c.self.inside.ends.items c.begun-texts.result.1 i.closing c.begun-texts.ensures.closed c.begun-texts.ensures.down);
+      order = rw (c.push_reserved-2.ensures.items, c.push_reserved.ensures.items) (order_begun c.self.inside.ends.items c.begun-texts.result.1 c.self.inside.texts.items c.begun-texts.result.0 _ b.count b.segments c.self.inside.next c.self.inside.opened.items c.self.inside.queues.all c.begun-texts.ensures.unlinked i.order);
       ends_fit = (let r = i.ends_fit in let e = c.push_reserved-2.ensures.capacity in omega arith);
       texts_fit = (let r = i.texts_fit in let e = c.push_reserved.ensures.capacity in omega arith);
     }

@@ -2,6 +2,7 @@ use Rattle.std.proofs.Common.{◌≡◌, ◌<◌, length, Some, sym, ap, ◌∙�
 use Rattle.std.specs.Prelude.{slice_get}
 use Rattle.std.proofs.lemmas.Option.{slice_get-get_or}
 use Rattle.sms_worker.proofs.Keeping.{keeps_closed}
+use Rattle.sms_worker.proofs.Rising.{order_closed}
 use Rattle.sms_worker.specs.declared.open.Open.{Open}
 use Rattle.sms_window.proofs.OpenSlots.{one_less_at}
 use Rattle.sms_worker.proofs.run.Run.close.Goals as goal
@@ -23,6 +24,7 @@ invariant_of-self g c =
     record {
       keeps = rw c.remove-open.ensures.items done;
       closing = i.closing;
+      order = rw c.remove-open.ensures.items (order_closed c.self.inside.ends.items c.self.inside.next c.self.inside.opened.items c.self.inside.queues.all c.self.inside.texts.items c.args.i i.order);
       ends_fit = i.ends_fit;
       texts_fit = i.texts_fit;
     }

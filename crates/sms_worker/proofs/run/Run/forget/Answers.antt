@@ -3,6 +3,7 @@ use Rattle.std.specs.Vec.{vec_len}
 use Rattle.sms_worker.specs.TextsState.{carried, settled_one}
 use Rattle.sms_worker.proofs.Kept.{length-mapped, texts_settled}
 use Rattle.sms_worker.proofs.Keeping.{keeps_texts}
+use Rattle.sms_worker.proofs.Rising.{order_settled}
 use Rattle.sms_worker.proofs.run.Run.forget.Goals as goal
 
 pub invariant_of-self : goal.invariant_of-self
@@ -12,6 +13,7 @@ invariant_of-self g c =
     record {
       keeps = rw c.settle_text.ensures.settled (keeps_texts _ _ _ _ _ _ _ _ _ i.keeps (texts_settled g.C.Call.start.rules g.C.Call.start.messages c.self.inside.texts.items c.args.place.message i.keeps.texts_kept) (length-mapped settled_one carried c.self.inside.texts.items c.args.place.message));
       closing = i.closing;
+      order = rw c.settle_text.ensures.settled (order_settled c.self.inside.ends.items c.self.inside.next c.self.inside.opened.items c.self.inside.queues.all c.self.inside.texts.items c.args.place.message i.order);
       ends_fit = i.ends_fit;
       texts_fit = subst (λ n. vec_len c.self.inside.messages ≤ n) (sym room.1) i.texts_fit;
     }

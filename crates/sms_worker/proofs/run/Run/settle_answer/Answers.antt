@@ -1,16 +1,18 @@
-use Rattle.std.proofs.Common.{◌≡◌, ◌<◌, ◌⊎◌, length, Some, sym, ap, ◌∙◌, subst, rules, arith}
+use Rattle.std.proofs.Common.{◌≡◌, ◌<◌, ◌⊎◌, length, Some, refl, sym, ap, ◌∙◌, subst, rules, arith}
 use Rattle.std.specs.Prelude.{slice_get}
 use Rattle.std.proofs.lemmas.Option.{slice_get-get_or}
 use Rattle.sms_worker.specs.declared.rules.Rules.{Rules}
 use Rattle.sms_worker.specs.declared.ends.SegmentEnd.{SegmentEnd}
 use Rattle.sms_worker.specs.Steps.{settled_to, outcome_after, Answers}
 use Rattle.sms_worker.specs.Told.{IsSettled, IsWaiting, HeardSince}
+use Rattle.sms_worker.specs.Rising.{InOrder}
 use Rattle.sms_worker.specs.RunState.{RunState}
 use Rattle.sms_worker.specs.Ends.{put}
 use Rattle.sms_worker.proofs.EndLemmas.{back_there, given_same, given_other}
 use Rattle.sms_worker.proofs.Keeping.{keeps_same, keeps_answered, told_there, fits_there}
 use Rattle.sms_worker.specs.Closing.{Closes}
 use Rattle.sms_worker.proofs.Closing.{closes_put}
+use Rattle.sms_worker.proofs.Rising.{order_heard, sent_now}
 use Rattle.sms_worker.proofs.run.Run.settle_answer.Goals as goal
 
 pub answer-segment-requires : goal.answer-segment-requires
@@ -33,6 +35,7 @@ invariant_of-self-in-None g c =
     record {
       keeps = keeps_same _ _ _ _ _ _ _ _ _ i.keeps same;
       closing = subst (Closes c.self.inside.closed) (sym same) i.closing;
+      order = subst (λ l. InOrder l c.self.inside.next c.self.inside.opened.items c.self.inside.queues.all c.self.inside.texts.items) (sym same) i.order;
       ends_fit = (let r = i.ends_fit in omega arith);
       texts_fit = i.texts_fit;
     }
@@ -80,12 +83,25 @@ invariant_of-self-2 g c =
     record {
       keeps = keeps_answered _ _ _ _ _ _ _ _ _ _ _ _ c.index-message.result.now s r s' c.args.reply d i.keeps there at heard answered made moved is long;
       closing = subst (Closes c.self.inside.closed) (sym is) (closes_put c.self.inside.closed c.self.inside.ends.items c.args.place.message c.args.place.part s' i.closing);
+      order = order_heard g.C.Call.start.rules.policy.attempts c.self.inside.ends.items _ c.args.place.message c.args.place.part s r s' c.args.reply d c.self.inside.next c.self.inside.opened.items c.self.inside.queues.all c.self.inside.texts.items at answered refl is i.order;
       ends_fit = (let q = i.ends_fit in omega arith);
       texts_fit = i.texts_fit;
     }
 
 pub returns-in-None : goal.returns-in-None
-returns-in-None g c = record { heard = ap (λ (x : RunState). x.heard) c.self.view_is }
+returns-in-None g c = record { heard = ap (λ (x : RunState). x.heard) c.self.view_is; sent = tt }
 
 pub returns : goal.returns
-returns g c = record { heard = ap (λ (x : RunState). x.heard) c.self.view_is }
+returns g c =
+    let s = c.in-Some.segment in
+    let at = c.in-Some.ensures.out.0 in
+    let r = c.answer-segment.result.0 in
+    let d = c.in-Some-decision.decision in
+    let found : Answers c.args.context.now.rules.now.policy.attempts s c.args.reply d r = search rules in
+    let s' : SegmentEnd = record { cost = r.cost; attempts = r.attempts; outcome = c.outcome_of-outcome.result } in
+    let is = given_other c.self.inside.ends.items c.take.new.ends.items c.give-2.new.ends.items c.args.place.message c.args.place.part s s' c.in-Some.ensures.out c.give-2.ensures.now in
+    let h = found.hears in
+    record {
+      heard = ap (λ (x : RunState). x.heard) c.self.view_is;
+      sent = sent_now c.self.inside.ends.items _ c.args.place s s' h.front (record h.last { reply = Some c.args.reply }) at is (ap (λ (x : SegmentEnd). x.attempts) h.after);
+    }

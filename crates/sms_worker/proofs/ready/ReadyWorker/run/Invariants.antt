@@ -1,5 +1,5 @@
 use Rattle.rtrb.specs.Ring.{received}
-use Rattle.sms_worker.proofs.work.run_worker.Given as goal
+use Rattle.sms_worker.proofs.ready.ReadyWorker.run.Given as goal
 
 abbrev pub ghosts-work : goal.ghosts-work
 ghosts-work g a = record {

@@ -1,0 +1,19 @@
+use Rattle.std.proofs.Common.{◌≤◌, sym, subst}
+use Rattle.std.specs.Vec.{vec_len}
+use Rattle.sms_worker.specs.Rising.{WasSent}
+use Rattle.sms_worker.specs.RunState.{RunState}
+use Rattle.sms_worker.proofs.Rising.{order_pushed}
+use Rattle.sms_worker.proofs.run.Run.follow.Goals as goal
+
+pub invariant_of-self : goal.invariant_of-self
+invariant_of-self g c =
+    let i = c.self.invariant in
+    let room = c.push.ensures.room in
+    let sent = subst (λ (x : RunState). WasSent x.ends c.args.place) (sym c.self.view_is) c.requires.sent in
+    record {
+      keeps = rw c.push.ensures.same i.keeps;
+      closing = i.closing;
+      order = order_pushed c.self.inside.ends.items c.self.inside.next _ _ _ _ _ c.args.place sent c.push.ensures.heads c.push.ensures.links i.order;
+      ends_fit = i.ends_fit;
+      texts_fit = subst (λ n. vec_len c.self.inside.messages ≤ n) (sym room.1) i.texts_fit;
+    }

@@ -1,0 +1,10 @@
+-- A worker that is ready, as contracts see it.
+use Rattle.std.specs.Prelude.{ℕ, List}
+use Rattle.sms_worker.specs.declared.message.Message.{Message}
+use Rattle.sms_worker.specs.declared.work.Worker.{Worker}
+
+-- what it was given, and for how many open requests it has room
+pub record ReadyState (N : Type 0) : Type 0 where
+  pub worker : Worker N
+  pub messages : List Message
+  pub room : ℕ
