@@ -2,6 +2,7 @@ pub mod Answered
 pub mod BindEnds
 pub mod Deals
 pub mod Joined
+pub mod Latches
 pub mod Numbered
 pub mod Reads
 pub mod Rings

@@ -1,5 +1,5 @@
 -- What the binds' readers are given, and what they do with it.
-use Rattle.std.specs.Prelude.{◌++◌, ◌+◌, ℕ, List, [], ◌∷◌, map, Option}
+use Rattle.std.specs.Prelude.{◌≡◌, ◌++◌, ◌+◌, ℕ, List, [], ◌∷◌, map, Option}
 use Rattle.std.specs.Io.KnownBytes.{Consumes}
 use Rattle.std.specs.List.{concat, AllZip}
 use Rattle.std.specs.declared.alloc.Global.{Global}
@@ -9,12 +9,14 @@ use Rattle.rtrb.specs.Ring.{SameProducer, sent}
 use Rattle.sms_pdu.specs.declared.command.Mode.{Mode}
 use Rattle.sms_pdu.specs.declared.reply.Reply.{Reply}
 use Rattle.sms_bind.specs.declared.bound.Bound.{Bound}
+use Rattle.sms_bind.specs.declared.ending.ReaderCause.TheVariants.{Stopped}
 use Rattle.sms_bind.specs.declared.ending.ReaderEnd.{ReaderEnd}
 use Rattle.sms_pdu.specs.declared.tap.Tap.{Tap}
 use Rattle.sms_bind.specs.Answers.{Bounds}
 use Rattle.sms_pdu.specs.Devices.{device}
 use Rattle.sms_bind.specs.Ends.{HandsOn}
 use Rattle.sms_bind.specs.Held.{Held}
+use Rattle.sms_window.specs.SeatState.{SeatState}
 use Rattle.sms_driver.specs.declared.seating.BindParts.{BindParts}
 use Rattle.sms_driver.specs.declared.threads.ReaderTask.{ReaderTask}
 use Rattle.sms_driver.specs.declared.threads.ReaderPromise.{ReaderPromise}
@@ -33,6 +35,19 @@ reading_of task = record { reader = task.reader; bound = task.bound; rings = tas
 
 abbrev pub reading_promised : {Rd : Type 0} → ReaderPromise Rd → Reading Rd
 reading_promised promise = record { reader = promise.reader.value; bound = promise.bound.value; rings = promise.producers.value.items }
+
+-- what a reader is given: its seat, and what it reads from
+abbrev pub listener_of : {Rd W : Type 0} → ReaderTask Rd W → SeatState × Reading Rd
+listener_of task = (task.seat, reading_of task)
+
+abbrev pub listener_promised : {Rd : Type 0} → ReaderPromise Rd → SeatState × Reading Rd
+listener_promised promise = (promise.seat.value, reading_promised promise)
+
+-- it was stopped, and has its seat and its rings as they were
+pub record IsUnread (seat : SeatState) (rings : List (Producer Reply Global AnyItems)) (end : ReaderEnd) : Type 0 where
+  pub same_seat : end.seat ≡ seat
+  pub same_rings : end.producers.items ≡ rings
+  pub stopped : end.cause ≡ Stopped
 
 -- the answers of what was read went to the rings that were given, where `remaining` tells what there is to read
 pub record HasRead {Rd : Type 0} (remaining : Rd → Option (List ℕ)) (given : Reading Rd) (end : ReaderEnd) : Type 0 where

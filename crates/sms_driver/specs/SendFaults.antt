@@ -10,7 +10,7 @@ use Rattle.sms_window.specs.Drawing.{HasDrawn}
 use Rattle.sms_driver.specs.declared.fault.BindFailure.{BindFailure}
 use Rattle.sms_driver.specs.declared.fault.BindFailure.TheVariants as failure
 use Rattle.sms_driver.specs.declared.fault.SendFault.{SendFault}
-use Rattle.sms_driver.specs.declared.fault.SendFault.TheVariants.{BindFailed, BindRefused, ThreadRefused, OutOfMemory}
+use Rattle.sms_driver.specs.declared.fault.SendFault.TheVariants.{BindFailed, BindRefused, ThreadRefused, OutOfMemory, EndsLost}
 
 -- what is told of a bind that ended so
 abbrev pub fault_in : ℕ → BindFault → SendFault
@@ -40,9 +40,13 @@ pub record HasFailed (place : ℕ) (mode : Mode) (before after : Option (List �
 abbrev pub IsFaultOf : ℕ → SendFault → Type 0
 IsFaultOf place fault = (fault ≡ OutOfMemory) ⊎ (((why : BindFailure) × (fault ≡ BindFailed place why)) ⊎ ((status : ℕ) × (fault ≡ BindRefused place status)))
 
--- it is of no bind: of memory, or of a thread
+-- not everything could start: memory or a thread was refused
+abbrev pub IsOfStart : SendFault → Type 0
+IsOfStart fault = (fault ≡ OutOfMemory) ⊎ (fault ≡ ThreadRefused)
+
+-- it is of no bind: of the start, or of memory that was refused once messages may have gone out
 abbrev pub IsOfNoBind : SendFault → Type 0
-IsOfNoBind fault = (fault ≡ OutOfMemory) ⊎ (fault ≡ ThreadRefused)
+IsOfNoBind fault = (fault ≡ OutOfMemory) ⊎ ((fault ≡ ThreadRefused) ⊎ (fault ≡ EndsLost))
 
 -- it is of one of so many binds, or of none
 abbrev pub IsFaultOfOne : ℕ → SendFault → Type 0

@@ -1,15 +1,17 @@
 -- What the threads of a sending are given, and what comes back of them.
-use Rattle.std.specs.Prelude.{◌≡◌, ℕ, List, map, Option}
+use Rattle.std.specs.Prelude.{◌≡◌, ◌≤◌, ℕ, List, [], length, map, take, Option, vec_capacity}
 use Rattle.std.specs.List.{AllByRecursion, AllZip}
 use Rattle.sms_worker.specs.declared.rules.Rules.{Rules}
+use Rattle.sms_driver.specs.declared.latch.Latch.{Latch}
 use Rattle.sms_driver.specs.declared.seating.DriverSeat.{DriverSeat}
 use Rattle.sms_driver.specs.declared.seating.SharedBind.{SharedBind}
 use Rattle.sms_driver.specs.declared.task.WorkerTask.{WorkerTask}
 use Rattle.sms_driver.specs.declared.threads.ReaderTask.{ReaderTask}
+use Rattle.sms_driver.specs.declared.thread_scope.Crew.{Crew}
 use Rattle.sms_driver.specs.declared.thread_scope.Returned.{Returned}
 use Rattle.sms_driver.specs.BindEnds.{IsTried}
-use Rattle.sms_driver.specs.Reads.{reading_of, HasRead}
-use Rattle.sms_driver.specs.Worked.{IsResultOf}
+use Rattle.sms_driver.specs.Reads.{listener_of, listener_promised, reading_of, HasRead, IsUnread}
+use Rattle.sms_driver.specs.Worked.{IsHandedBack, IsResultOf}
 
 -- each worker's and each reader's seat is of the window that it works at, and the driver's seats are of the binds, in order
 pub record AreSeated {N Rd W : Type 0} (tasks : List (WorkerTask N W)) (reader_tasks : List (ReaderTask Rd W)) (driver_seats : List DriverSeat) (shared_binds : List (SharedBind W)) : Type 0 where
@@ -25,3 +27,41 @@ pub record HaveReturned {N Rd W : Type 0} (rules : Rules) (remaining : Rd → Op
   pub read : AllZip (HasRead remaining) (map reading_of reader_tasks) returned.readers.items
   pub driver : map (λ s. s.seat.window) returned.driver_seats.items ≡ map (λ b. b.window) shared_binds
   pub tried : AllByRecursion (λ s. IsTried s.unbinding) returned.driver_seats.items
+
+-- nothing was done: in order, the first of the workers and of the readers gave back what they were given; an unbind was tried at each bind
+pub record HaveLeft {N Rd W : Type 0} (tasks : List (WorkerTask N W)) (reader_tasks : List (ReaderTask Rd W)) (shared_binds : List (SharedBind W)) (left : Returned N) : Type 0 where
+  pub workers : AllZip IsHandedBack (take (length left.worker_results.items) (map (λ t. t.assignment) tasks)) left.worker_results.items
+  pub readers : AllZip (λ given end. IsUnread given.0 given.1.rings end) (take (length left.readers.items) (map listener_of reader_tasks)) left.readers.items
+  pub driver : map (λ s. s.seat.window) left.driver_seats.items ≡ map (λ b. b.window) shared_binds
+  pub tried : AllByRecursion (λ s. IsTried s.unbinding) left.driver_seats.items
+
+module _ {N Rd : Type 0} where
+  -- no thread was started, and none gave anything back
+  pub record IsNoCrew (crew : Crew N Rd) : Type 0 where
+    pub workers : crew.workers.items ≡ []
+    pub readers : crew.readers.items ≡ []
+    pub worker_results : crew.worker_results.items ≡ []
+    pub reader_ends : crew.reader_ends.items ≡ []
+
+  -- for so many workers and readers
+  pub record HasRoom (workers readers : ℕ) (crew : Crew N Rd) : Type 0 where
+    pub workers_fit : workers ≤ vec_capacity crew.workers
+    pub readers_fit : readers ≤ vec_capacity crew.readers
+    pub results_fit : workers ≤ vec_capacity crew.worker_results
+    pub ends_fit : readers ≤ vec_capacity crew.reader_ends
+
+  -- those that were started, which are the first ones, wait at the latch, and none gave anything back yet, for which there is room
+  pub record IsCrew {W : Type 0} (rules : Rules) (latch : Latch) (tasks : List (WorkerTask N W)) (reader_tasks : List (ReaderTask Rd W)) (crew : Crew N Rd) : Type 0 where
+    pub workers : map (λ h. h.promise.assignment.value) crew.workers.items ≡ take (length crew.workers.items) (map (λ t. t.assignment) tasks)
+    pub readers : map (λ h. listener_promised h.promise) crew.readers.items ≡ take (length crew.readers.items) (map listener_of reader_tasks)
+    pub given : AllByRecursion (λ h. (h.promise.rules.value ≡ rules) × (h.promise.latch.now ≡ latch)) crew.workers.items
+    pub latches : AllByRecursion (λ h. h.promise.latch.now ≡ latch) crew.readers.items
+    pub no_result : crew.worker_results.items ≡ []
+    pub no_end : crew.reader_ends.items ≡ []
+    pub results_fit : length crew.workers.items ≤ vec_capacity crew.worker_results
+    pub ends_fit : length crew.readers.items ≤ vec_capacity crew.reader_ends
+
+  -- they are all
+  pub record IsWhole {W : Type 0} (tasks : List (WorkerTask N W)) (reader_tasks : List (ReaderTask Rd W)) (crew : Crew N Rd) : Type 0 where
+    pub all_workers : map (λ h. h.promise.assignment.value) crew.workers.items ≡ map (λ t. t.assignment) tasks
+    pub all_readers : map (λ h. listener_promised h.promise) crew.readers.items ≡ map listener_of reader_tasks

@@ -1,6 +1,7 @@
 -- What a worker gives back.
-use Rattle.std.specs.Prelude.{◌≡◌, ◌++◌, List, length, Result, MatchResult}
+use Rattle.std.specs.Prelude.{◌≡◌, ◌++◌, List, length, Result, MatchResult, Vec}
 use Rattle.std.specs.List.{AllZip}
+use Rattle.std.specs.declared.alloc.Global.{Global}
 use Rattle.rtrb.specs.Ring.{received, SameConsumer}
 use Rattle.sms_pdu.specs.declared.reply.Reply.{Reply}
 use Rattle.sms_book.specs.declared.amounts.Amounts.{Amounts}
@@ -37,3 +38,7 @@ pub record IsWorkOf {N : Type 0} (rules : Rules) (a : Assignment N) (d : WorkerE
 -- what comes back of an assignment: its work, or where memory was refused a worker with the seat
 abbrev pub IsResultOf : {N E M : Type 0} → Rules → Assignment N → Result (WorkerEnd N) (E × Worker N × M) → Type 0
 IsResultOf rules a r = MatchResult r (IsWorkOf rules a) (λ e. e.1.seat.window ≡ a.worker.seat.window)
+
+-- nothing was done: the worker and its messages came back as they were given
+abbrev pub IsHandedBack : {N E : Type 0} → Assignment N → Result (WorkerEnd N) (E × Worker N × Vec Message Global) → Type 0
+IsHandedBack a r = MatchResult r (λ d. ⊥) (λ e. (e.1 ≡ a.worker) × (e.2.items ≡ a.messages.items))

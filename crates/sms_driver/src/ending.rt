@@ -16,6 +16,7 @@ ghost use Rattle.sms_driver.specs.Seated.{windows};
 
 use crate::bind_end::BindEnd;
 use crate::dealing::merged;
+use crate::fault::Lost;
 use crate::joining::{Taken, take_rings};
 use crate::leaving::{Left, close_all};
 use crate::threads::WorkerResult;
@@ -32,13 +33,13 @@ use std::collections::VecDeque;
 pub fn all_done<N: BookName>(
     alloc: Global,
     worker_results: Vec<WorkerResult<N>>,
-) -> Result<Vec<WorkerEnd<N>>, AllocError>
+) -> Result<Vec<WorkerEnd<N>>, Lost>
     ensures { IfOk result (λ v. map (λ d. Ok d) v.items ≡ worker_results.items) }
 {
     let mut done = Vec::with_capacity(alloc, worker_results.len())?;
     for worker_result in worker_results {
         let Ok(end) = worker_result else {
-            return Err(AllocError);
+            return Err(Lost);
         };
         done.push(end)?;
     }
@@ -148,7 +149,7 @@ pub fn conclude<N: BookName, W: Drop>(
     done: Vec<WorkerEnd<N>>,
     count: usize,
     left: Left<W>,
-) -> Result<Sending, AllocError>
+) -> Result<Sending, Lost>
     requires some { 0 < length done.items }
     requires dealt { (es : List MessageEnd) × (length es ≡ count) × (map (λ d. d.ends.items) done.items ≡ dealt (length done.items) 0 es) }
     requires shares { AreAll N.book.workers (map (λ d. d.shares) done.items) }

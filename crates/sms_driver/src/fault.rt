@@ -1,6 +1,6 @@
 //! Why a sending ends without a statement.
 
-use std::alloc::AllocError;
+use std::alloc::{AllocError, AllocFailed};
 
 /// Why a bind failed, where it wasn't refused.
 #[derive(Clone, Copy, Debug, PartialEq, Eq, thiserror::Error)]
@@ -25,7 +25,7 @@ pub enum BindFailure {
     Write,
 }
 
-/// Why nothing is told of a sending. Binds are counted from 0.
+/// Why nothing is told of a sending. Binds are counted from 0. But for `EndsLost` nothing was sent.
 #[derive(Clone, Copy, Debug, PartialEq, Eq, thiserror::Error)]
 pub enum SendFault {
     /// The bind was refused with this command_status; nothing was sent.
@@ -34,12 +34,15 @@ pub enum SendFault {
     /// The bind failed before it was answered; nothing was sent.
     #[error("bind {0} failed: {1}")]
     BindFailed(u32, BindFailure),
-    /// A thread was refused.
+    /// A thread was refused; nothing was sent.
     #[error("a thread could not be started")]
     ThreadRefused,
-    /// Memory was refused.
+    /// Memory was refused before the first message; nothing was sent.
     #[error("out of memory")]
     OutOfMemory,
+    /// Memory was refused once messages may have gone out, and their ends are lost.
+    #[error("out of memory; messages may have been sent")]
+    EndsLost,
 }
 
 impl From<AllocError> for SendFault {
@@ -50,5 +53,32 @@ impl From<AllocError> for SendFault {
 
     fn from(_e: AllocError) -> SendFault {
         SendFault::OutOfMemory
+    }
+}
+
+/// That memory was refused once messages may have gone out.
+#[derive(Clone, Copy, Debug, PartialEq, Eq)]
+pub struct Lost;
+
+impl From<AllocError> for Lost {
+    fn from(_e: AllocError) -> Lost {
+        Lost
+    }
+}
+
+impl<T: Drop> From<AllocFailed<T>> for Lost {
+    fn from(_e: AllocFailed<T>) -> Lost {
+        Lost
+    }
+}
+
+impl From<Lost> for SendFault {
+    ghost use Rattle.std.specs.Prelude.{◌≡◌};
+    ghost use Rattle.sms_driver.specs.declared.fault.SendFault.TheVariants.{EndsLost};
+
+    ghost from_gives = { λ _ f. f ≡ EndsLost };
+
+    fn from(_lost: Lost) -> SendFault {
+        SendFault::EndsLost
     }
 }

@@ -92,16 +92,40 @@ pub(crate) fn unbind_all<W: Write, R: Wait>(
     }
 }
 
-/// Waits until the bind is down, at most as long as for an answer.
+/// Whether an answer to the unbind may come yet: it was handed to the wire, and the line isn't down.
+fn is_awaited<W>(shared: &SharedBind<W>, driver_seat: Option<&DriverSeat>) -> bool {
+    match driver_seat {
+        Some(driver_seat) => match driver_seat.unbinding {
+            Unbinding::Sent(_) => !shared.line.down.load(Ordering::SeqCst),
+            Unbinding::NotYet | Unbinding::Failed(_) | Unbinding::Unasked(_) => false,
+        },
+        None => false,
+    }
+}
+
+fn is_one_awaited<W>(shared_binds: &[SharedBind<W>], driver_seats: &[DriverSeat]) -> bool {
+    for place in 0..shared_binds.len() {
+        if is_awaited(&shared_binds[place], driver_seats.get(place)) {
+            return true;
+        }
+    }
+    false
+}
+
+/// Waits until no bind's answer is awaited, for all of them together at most as long as for one.
 fn wait_until_down<W, K: Clock, P: Pause>(
-    shared: &SharedBind<W>,
+    shared_binds: &[SharedBind<W>],
+    driver_seats: &[DriverSeat],
     rules: &Rules,
     clock: &K,
     pause: &P,
-) {
+)
+    // It begins once an unbind was tried at each bind.
+    requires tried { AllByRecursion (λ s. IsTried s.unbinding) driver_seats.now }
+{
     let begun = clock.now_ms();
     for _turn in 0..rules.turns {
-        if shared.line.down.load(Ordering::SeqCst) {
+        if !is_one_awaited(shared_binds, driver_seats) {
             return;
         }
         if clock.now_ms().saturating_sub(begun) >= u64::from(rules.answer_ms) {
@@ -111,7 +135,14 @@ fn wait_until_down<W, K: Clock, P: Pause>(
     }
 }
 
-/// Unbinds all binds, then waits for the end of each bind's reader, and stops it.
+/// Lets each bind's reader end with its next read.
+fn stop_all<W>(shared_binds: &[SharedBind<W>]) {
+    for shared in shared_binds {
+        shared.line.stop.store(true, Ordering::SeqCst);
+    }
+}
+
+/// Unbinds all binds, then waits once for the ends of their readers, and stops those that go on.
 pub(crate) fn hang_up_all<W: Write, K: Clock, P: Pause, R: Wait>(
     rt: &R,
     alloc: Global,
@@ -126,19 +157,6 @@ pub(crate) fn hang_up_all<W: Write, K: Clock, P: Pause, R: Wait>(
     ensures tried { AllByRecursion (λ s. IsTried s.unbinding) driver_seats.new.items }
 {
     unbind_all(rt, alloc, shared_binds, driver_seats);
-    for shared in shared_binds {
-        wait_until_down(shared, rules, clock, pause);
-        shared.line.stop.store(true, Ordering::SeqCst);
-    }
-}
-
-/// Lets workers and readers end soon, where not all could be started.
-pub(crate) fn give_up_unless<W>(all: bool, shared_binds: &[SharedBind<W>]) {
-    if all {
-        return;
-    }
-    for shared in shared_binds {
-        shared.line.down.store(true, Ordering::SeqCst);
-        shared.line.stop.store(true, Ordering::SeqCst);
-    }
+    wait_until_down(shared_binds, driver_seats.as_slice(), rules, clock, pause);
+    stop_all(shared_binds);
 }

@@ -15,7 +15,9 @@ mod fault;
 mod following;
 mod hanging_up;
 mod joining;
+mod latch;
 mod leaving;
+mod listening;
 mod rings;
 mod run;
 mod seating;
@@ -25,6 +27,7 @@ mod task;
 mod tests;
 mod thread_scope;
 mod threads;
+mod working;
 
 pub use bind_end::{BindEnd, Unasked, Unbinding};
 pub use binding::{BindSettings, Dial};

@@ -3,3 +3,5 @@
 mod driving;
 mod faults;
 mod same;
+mod starting;
+mod unbinding;

@@ -1,17 +1,24 @@
 //! The threads of a sending.
 
-ghost use Rattle.std.specs.Prelude.{IfErr, IfOk};
-ghost use Rattle.sms_driver.specs.SendFaults.{IsOfNoBind};
-ghost use Rattle.sms_driver.specs.Threads.{AreSeated, HaveReturned};
+ghost use Rattle.std.specs.Prelude.{◌≡◌, map, IfErr, IfOk, MatchResult, OnOk};
+ghost use Rattle.std.specs.List.{AllByRecursion};
+ghost use Rattle.sms_driver.specs.BindEnds.{IsTried};
+ghost use Rattle.sms_driver.specs.SendFaults.{IsOfStart};
+ghost use Rattle.sms_driver.specs.Threads.{AreSeated, HasRoom, HaveLeft, HaveReturned, IsCrew, IsNoCrew, IsWhole};
+ghost use Rattle.sms_driver.specs.declared.latch.Word.TheVariants.{Go, Leave};
 
 use crate::fault::SendFault;
-use crate::hanging_up::{give_up_unless, hang_up_all};
+use crate::hanging_up::{hang_up_all, unbind_all};
+use crate::latch::{Latch, Word};
+use crate::listening::{ReaderHandle, start_readers};
 use crate::seating::{DriverSeat, SharedBind};
 use crate::task::WorkerTask;
-use crate::threads::{ReaderTask, RunContext, WorkerResult, join_all, start_all, start_readers};
+use crate::threads::{ReaderTask, RunContext, WorkerResult, join_told};
+use crate::working::{WorkerHandle, start_workers};
 use sms_bind::ReaderEnd;
 use sms_book::BookName;
 use sms_worker::{Clock, Gate, Pause};
+use std::alloc::{AllocError, Global};
 use std::io::{Read, Write};
 use std::sync::Wait;
 use std::thread;
@@ -25,8 +32,113 @@ pub struct Returned<N: BookName> {
     pub driver_seats: Vec<DriverSeat>,
 }
 
-/// Runs readers and workers at once: workers are joined, then the binds are ended, then the readers
-/// are joined.
+/// Why nothing was sent, and what the threads that had been started gave back: what they were given.
+#[derive(Drop)]
+pub struct Unsent<N: BookName> {
+    pub fault: SendFault,
+    pub left: Returned<N>,
+}
+
+impl<N: BookName> From<Unsent<N>> for SendFault {
+    ghost use Rattle.std.specs.Prelude.{◌≡◌};
+
+    ghost from_gives = { λ unsent f. f ≡ unsent.fault };
+
+    fn from(unsent: Unsent<N>) -> SendFault {
+        let Unsent { fault, left } = unsent;
+        drop(left);
+        fault
+    }
+}
+
+/// The threads of a sending, and room for what they give back.
+#[derive(Drop)]
+struct Crew<'s, N: BookName, Rd: Read> {
+    workers: Vec<WorkerHandle<'s, N>>,
+    readers: Vec<ReaderHandle<'s, Rd>>,
+    worker_results: Vec<WorkerResult<N>>,
+    reader_ends: Vec<ReaderEnd>,
+}
+
+impl<'s, N: BookName, Rd: Read> Crew<'s, N, Rd> {
+    fn new(alloc: Global) -> Crew<'s, N, Rd>
+        ensures { IsNoCrew result }
+    {
+        Crew {
+            workers: Vec::new(alloc),
+            readers: Vec::new(alloc),
+            worker_results: Vec::new(alloc),
+            reader_ends: Vec::new(alloc),
+        }
+    }
+
+    /// Makes room for so many workers and readers, and for what they give back.
+    fn make_room(&mut self, workers: usize, readers: usize) -> Result<(), AllocError>
+        requires none { IsNoCrew self.old }
+        ensures none { IsNoCrew self.new }
+        ensures room { OnOk result (HasRoom workers readers self.new) }
+    {
+        self.workers.reserve(workers)?;
+        self.readers.reserve(readers)?;
+        self.worker_results.reserve(workers)?;
+        self.reader_ends.reserve(readers)
+    }
+}
+
+/// Starts readers and workers, which wait for their word. All memory that is wanted for their threads
+/// is taken before the first; where memory or a thread is refused, those that were started are in the
+/// crew.
+fn start_all<
+    's,
+    E,
+    N: BookName + Send + Sync + 's,
+    Rd: Read + Send + Drop + 's,
+    W: Write + Send + 's,
+    G: Gate + Sync,
+    K: Clock + Sync,
+    P: Pause + Sync,
+    R: Threads + Wait + Sync,
+>(
+    scope: &Scope<'s, E>,
+    context: &'s RunContext<'s, N, G, K, P, R>,
+    latch: &'s Latch,
+    tasks: Vec<WorkerTask<'s, N, W>>,
+    reader_tasks: Vec<ReaderTask<'s, Rd, W>>,
+    crew: &mut Crew<'s, N, Rd>,
+) -> Result<(), SendFault>
+    requires workers { AllByRecursion (λ t. t.assignment.worker.seat.window ≡ t.window.now) tasks.items }
+    requires readers { AllByRecursion (λ t. t.seat.window ≡ t.window.now) reader_tasks.items }
+    requires none { IsNoCrew crew.old }
+    ensures crew { IsCrew context.now.rules.now latch.now tasks.entry.items reader_tasks.entry.items crew.new }
+    ensures all { OnOk result (IsWhole tasks.entry.items reader_tasks.entry.items crew.new) }
+    ensures refused { IfErr result IsOfStart }
+{
+    crew.make_room(tasks.len(), reader_tasks.len())?;
+    start_readers(
+        scope,
+        context.rt,
+        context.alloc,
+        latch,
+        reader_tasks,
+        context.rules,
+        &mut crew.readers,
+    )?;
+    start_workers(scope, context, latch, tasks, &mut crew.workers)
+}
+
+/// All go, or all leave where one couldn't be started.
+fn word_for(started: &Result<(), SendFault>) -> Word
+    ensures { MatchResult started.now (λ _. result ≡ Go) (λ fault. result ≡ Leave) }
+{
+    match started {
+        Ok(()) => Word::Go,
+        Err(_) => Word::Leave,
+    }
+}
+
+/// Starts readers and workers, and tells them to go once all of them are started: then the workers
+/// are joined, the binds are ended, and the readers are joined. Where one can't be started all are
+/// told to leave, so that nothing is sent.
 fn drive<
     's,
     E,
@@ -40,43 +152,73 @@ fn drive<
 >(
     scope: &Scope<'s, E>,
     context: &'s RunContext<'s, N, G, K, P, R>,
+    latch: &'s Latch,
     tasks: Vec<WorkerTask<'s, N, W>>,
     reader_tasks: Vec<ReaderTask<'s, Rd, W>>,
     shared_binds: &'s [SharedBind<W>],
     driver_seats: Vec<DriverSeat>,
-) -> Result<Returned<N>, SendFault>
+) -> Result<Returned<N>, Unsent<N>>
     requires seated { AreSeated tasks.items reader_tasks.items driver_seats.items shared_binds.now }
     ensures returned { IfOk result (HaveReturned context.now.rules.now Rd.remaining tasks.entry.items reader_tasks.entry.items shared_binds.now) }
-    ensures refused { IfErr result IsOfNoBind }
+    // Nothing was sent: each thread that was started gave back what it was given.
+    ensures left { IfErr result (λ unsent. HaveLeft tasks.entry.items reader_tasks.entry.items shared_binds.now unsent.left) }
+    ensures refused { IfErr result (λ unsent. IsOfStart unsent.fault) }
 {
-    let (rt, alloc, rules) = (context.rt, context.alloc, context.rules);
+    let rt = context.rt;
+    let mut crew = Crew::new(context.alloc);
+    let started = start_all(scope, context, latch, tasks, reader_tasks, &mut crew);
+    let word = word_for(&started);
+    let said = latch.say(rt, word);
+    let Crew {
+        workers,
+        readers,
+        worker_results,
+        reader_ends,
+    } = crew;
+    let worker_results = join_told(rt, &said, workers, worker_results);
     let mut driver_seats = driver_seats;
-    let mut workers = Vec::new(alloc);
-    let mut readers = Vec::new(alloc);
-    let listening = start_readers(scope, rt, alloc, reader_tasks, rules, &mut readers);
-    let working = start_all(scope, context, tasks, &mut workers);
-    give_up_unless(listening.is_ok() && working.is_ok(), shared_binds);
-    let worker_results = join_all(rt, workers);
-    hang_up_all(
-        rt,
-        alloc,
-        shared_binds,
-        &mut driver_seats,
-        rules,
-        context.clock,
-        context.pause,
-    );
-    let readers = join_all(rt, readers);
-    listening?;
-    working?;
-    Ok(Returned {
-        worker_results: worker_results?,
-        readers: readers?,
+    end_binds(context, word, shared_binds, &mut driver_seats);
+    let returned = Returned {
+        worker_results,
+        readers: join_told(rt, &said, readers, reader_ends),
         driver_seats,
-    })
+    };
+    match started {
+        Ok(()) => Ok(returned),
+        Err(fault) => Err(Unsent {
+            fault,
+            left: returned,
+        }),
+    }
+}
+
+/// Unbinds all binds. Where their readers read, it waits for their ends, and stops them.
+fn end_binds<N: BookName, W: Write, G: Gate, K: Clock, P: Pause, R: Wait>(
+    context: &RunContext<N, G, K, P, R>,
+    word: Word,
+    shared_binds: &[SharedBind<W>],
+    driver_seats: &mut Vec<DriverSeat>,
+)
+    requires driver_seats { map (λ s. s.seat.window) driver_seats.old.items ≡ map (λ b. b.window) shared_binds.now }
+    ensures driver_seats { map (λ s. s.seat.window) driver_seats.new.items ≡ map (λ s. s.seat.window) driver_seats.old.items }
+    ensures tried { AllByRecursion (λ s. IsTried s.unbinding) driver_seats.new.items }
+{
+    match word {
+        Word::Go => hang_up_all(
+            context.rt,
+            context.alloc,
+            shared_binds,
+            driver_seats,
+            context.rules,
+            context.clock,
+            context.pause,
+        ),
+        Word::Leave => unbind_all(context.rt, context.alloc, shared_binds, driver_seats),
+    }
 }
 
 /// Runs all readers and workers in threads of their own, and gives what they give back, in order.
+/// Where one of the threads can't be started nothing is sent.
 pub fn work_all<
     'a,
     N: BookName + Send + Sync,
@@ -92,22 +234,27 @@ pub fn work_all<
     reader_tasks: Vec<ReaderTask<'a, Rd, W>>,
     shared_binds: &'a [SharedBind<W>],
     driver_seats: Vec<DriverSeat>,
-) -> Result<Returned<N>, SendFault>
+) -> Result<Returned<N>, Unsent<N>>
     requires seated { AreSeated tasks.items reader_tasks.items driver_seats.items shared_binds.now }
     ensures returned { IfOk result (HaveReturned context.now.rules.now Rd.remaining tasks.entry.items reader_tasks.entry.items shared_binds.now) }
-    ensures refused { IfErr result IsOfNoBind }
+    ensures left { IfErr result (λ unsent. HaveLeft tasks.entry.items reader_tasks.entry.items shared_binds.now unsent.left) }
+    ensures refused { IfErr result (λ unsent. IsOfStart unsent.fault) }
 {
+    let latch = Latch::new();
+    let latch = &latch;
     thread::scope(
         thread::scope_env(),
         context.rt,
-        move |scope| -> Result<Returned<N>, SendFault>
+        move |scope| -> Result<Returned<N>, Unsent<N>>
             requires seated { AreSeated tasks.items reader_tasks.items driver_seats.items shared_binds.now }
             ensures returned { IfOk result (HaveReturned context.entry.now.rules.now Rd.remaining tasks.entry.items reader_tasks.entry.items shared_binds.entry.now) }
-            ensures refused { IfErr result IsOfNoBind }
+            ensures left { IfErr result (λ unsent. HaveLeft tasks.entry.items reader_tasks.entry.items shared_binds.entry.now unsent.left) }
+            ensures refused { IfErr result (λ unsent. IsOfStart unsent.fault) }
         {
             drive(
                 scope,
                 context,
+                latch,
                 tasks,
                 reader_tasks,
                 shared_binds,

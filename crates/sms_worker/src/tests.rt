@@ -5,8 +5,8 @@ ghost use Rattle.std.specs.Prelude.{◌≡◌, IfSome};
 use self::beside::{Beside, line_with_fuse};
 use self::notes::{Log, Note, want_told};
 use crate::{
-    Clock, Gate, Message, MessageEnd, MessageRefusal, MessageResult, Outcome, Pause, Rules, Worker,
-    run_worker,
+    Attempt, Clock, Gate, Message, MessageEnd, MessageRefusal, MessageResult, Outcome, Pause,
+    Rules, SegmentEnd, Worker, run_worker,
 };
 use rtrb::{Consumer, Producer, RingBuffer};
 use sms_bind::Line;
@@ -40,6 +40,16 @@ mod waits;
 // differ stands here alone.
 fn same<T: PartialEq + Debug + Drop>(rt: &impl Abort, got: T, wanted: T) {
     assert_eq!(rt; got, wanted);
+}
+
+// What is there. What can't be had ends the test, and nothing is dropped on that way.
+fn had<T>(rt: &impl Abort, found: Option<T>) -> T
+    ensures { found ≡ Some result }
+{
+    match found {
+        Some(it) => it,
+        None => panic!(rt; "not to be had"),
+    }
 }
 
 /// A request that gets no answer.
@@ -312,23 +322,34 @@ fn try_run(
 }
 
 fn run(rt: &(impl Abort + Wait), alloc: Global, case: Case<'_>, messages: Vec<Message>) -> Done {
-    let Some(done) = try_run(rt, alloc, case, messages) else {
-        panic!(rt; "no memory")
-    };
-    done
+    had(rt, try_run(rt, alloc, case, messages))
+}
+
+// The segments of a message that was sent; none of one that was refused, or has no end.
+fn segments_of(done: &Done, place: usize) -> &[SegmentEnd] {
+    if let Some(end) = done.ends.get(place) {
+        if let MessageResult::Sent(segments) = &end.result {
+            return segments.as_slice();
+        }
+    }
+    &[]
+}
+
+// An attempt of the message's first part.
+fn attempt_of(done: &Done, place: usize, attempt: usize) -> Option<&Attempt> {
+    segments_of(done, place)
+        .first()?
+        .attempts
+        .as_slice()
+        .get(attempt)
 }
 
 // The message's segments, each with the count of its attempts and its outcome.
 fn want_sent(rt: &impl Abort, done: &Done, place: usize, wanted: &[(usize, Outcome)]) {
-    let Some(end) = done.ends.get(place) else {
-        panic!(rt; "no end {place}")
-    };
-    let MessageResult::Sent(segments) = &end.result else {
-        panic!(rt; "message {place} is refused")
-    };
-    same(rt, segments.len(), wanted.len());
+    let segments = segments_of(done, place);
+    same(rt, (place, segments.len()), (place, wanted.len()));
     for i in 0..wanted.len() {
-        if let Some(segment) = segments.as_slice().get(i) {
+        if let Some(segment) = segments.get(i) {
             same(
                 rt,
                 (place, (segment.attempts.as_slice().len(), segment.outcome)),
@@ -338,14 +359,18 @@ fn want_sent(rt: &impl Abort, done: &Done, place: usize, wanted: &[(usize, Outco
     }
 }
 
+// Why the message was refused; none of one that was sent, or has no end.
+fn refusal_of(done: &Done, place: usize) -> Option<MessageRefusal> {
+    if let Some(end) = done.ends.get(place) {
+        if let MessageResult::Refused(refusal) = &end.result {
+            return Some(*refusal);
+        }
+    }
+    None
+}
+
 fn want_refused(rt: &impl Abort, done: &Done, place: usize, wanted: MessageRefusal) {
-    let Some(end) = done.ends.get(place) else {
-        panic!(rt; "no end {place}")
-    };
-    let MessageResult::Refused(refusal) = &end.result else {
-        panic!(rt; "message {place} is sent")
-    };
-    same(rt, (place, *refusal), (place, wanted));
+    same(rt, (place, refusal_of(done, place)), (place, Some(wanted)));
 }
 
 // The account's credits: free, reserved, charged, returned.
@@ -359,8 +384,8 @@ fn want_notes(rt: &impl Abort, done: &Done, wanted: &[Note]) {
     for place in 0..wanted.len() {
         same(
             rt,
-            (place, done.notes.get(place).copied()),
-            (place, Some(wanted[place])),
+            (place, done.notes.get(place).map(|note| note.key())),
+            (place, Some(wanted[place].key())),
         );
     }
     same(rt, done.notes.len(), wanted.len());

@@ -9,7 +9,7 @@ use sms_centre::{Pipe, PipeEnd, Script, ServeCause, ServeEnd, serve};
 use sms_pdu::{Mode, Octets, Tap};
 use sms_session::Policy;
 use sms_worker::{Clock, Gate, Message, MessageEnd, MessageResult, Outcome, Pause, Rules};
-use std::alloc::Global;
+use std::alloc::{AllocError, Global};
 use std::process::Abort;
 use std::sync::Wait;
 use std::test::Fail;
@@ -71,28 +71,28 @@ impl<'a, S: time::Clock> Pause for Beside<'a, S> {
 // What is sent over two binds of two workers: how many messages, with how many credits,
 // by which script of each centre, and how many connections there are.
 #[derive(Drop)]
-struct Case<'a> {
-    count: u64,
-    credits: u64,
-    scripts: [&'a str; 2],
-    most: usize,
+pub(super) struct Case<'a> {
+    pub count: u64,
+    pub credits: u64,
+    pub scripts: [&'a str; 2],
+    pub most: usize,
 }
 
 // What a sending and the two centres end with.
 #[derive(Drop)]
-struct Done {
-    first: ServeEnd,
-    second: ServeEnd,
-    ended: Result<Sending, SendFault>,
+pub(super) struct Done {
+    pub first: ServeEnd,
+    pub second: ServeEnd,
+    pub ended: Result<Sending, SendFault>,
 }
 
-fn octets(alloc: Global, text: &[u8]) -> Result<Octets, Fail> {
+fn octets(alloc: Global, text: &[u8]) -> Result<Octets, AllocError> {
     let mut all = Vec::new(alloc);
     all.extend_from_slice(text)?;
     Ok(Octets::new(all))
 }
 
-fn messages(alloc: Global, count: u64) -> Result<Vec<Message>, Fail> {
+fn messages(alloc: Global, count: u64) -> Result<Vec<Message>, AllocError> {
     let mut messages = Vec::new(alloc);
     for index in 0..count {
         messages.push(Message {
@@ -106,7 +106,17 @@ fn messages(alloc: Global, count: u64) -> Result<Vec<Message>, Fail> {
     Ok(messages)
 }
 
-fn bind_settings(alloc: Global) -> Result<BindSettings, Fail> {
+// One account with so many credits.
+pub(super) fn openings(alloc: Global, credits: u64) -> Result<Vec<Opening>, AllocError> {
+    let mut openings = Vec::new(alloc);
+    openings.push(Opening {
+        name: String::from_str(alloc, "main")?,
+        credits,
+    })?;
+    Ok(openings)
+}
+
+pub(super) fn bind_settings(alloc: Global) -> Result<BindSettings, AllocError> {
     match Settings::new(
         Mode::Transceiver,
         octets(alloc, b"me")?,
@@ -118,13 +128,13 @@ fn bind_settings(alloc: Global) -> Result<BindSettings, Fail> {
             limit: 10,
             follow: true,
         }),
-        Err(_fault) => Err(Fail::new("no settings")),
+        Err(_fault) => Err(AllocError),
     }
 }
 
-fn rules(alloc: Global) -> Result<Rules, Fail> {
+pub(super) fn rules(alloc: Global) -> Result<Rules, AllocError> {
     let (Ok(policy), Ok(tariff)) = (Policy::new(3, 100), Tariff::new(alloc, &[])) else {
-        return Err(Fail::new("no policy or no tariff"));
+        return Err(AllocError);
     };
     Ok(Rules {
         policy,
@@ -161,18 +171,14 @@ fn serve_bind<R: Wait + time::Clock>(
     served
 }
 
-fn sent<R: Threads + Wait + time::Clock + Sync>(
+pub(super) fn sent<R: Threads + Wait + time::Clock + Sync>(
     rt: &R,
     alloc: Global,
     case: Case<'_>,
-) -> Result<Done, Fail> {
+) -> Result<Done, AllocError> {
     let there = [Pipe::new(alloc, 10_000)?, Pipe::new(alloc, 10_000)?];
     let back = [Pipe::new(alloc, 10_000)?, Pipe::new(alloc, 10_000)?];
-    let mut openings = Vec::new(alloc);
-    openings.push(Opening {
-        name: String::from_str(alloc, "main")?,
-        credits: case.credits,
-    })?;
+    let openings = openings(alloc, case.credits)?;
     let (bind_settings, rules) = (bind_settings(alloc)?, rules(alloc)?);
     let given = messages(alloc, case.count)?;
     let dial = Pipes {
@@ -219,16 +225,16 @@ fn sent<R: Threads + Wait + time::Clock + Sync>(
     })
 }
 
-const GOOD: &str = "answers = [\"status 0\"]";
+pub(super) const GOOD: &str = "answers = [\"status 0\"]";
 
 // No script, so the centre hangs up.
 const HANGS_UP: &str = "hangs up";
 
 const REFUSES: &str = "bind_status = 14\nanswers = [\"status 0\"]";
 
-// That a bind had two workers and was unbound.
-fn want_unbound(rt: &impl Abort, bind: &BindEnd) {
-    same(rt, bind.workers, 2);
+// That a bind had so many workers and was unbound.
+pub(super) fn want_unbound(rt: &impl Abort, bind: &BindEnd, workers: usize) {
+    same(rt, bind.workers, workers);
     match bind.unbinding {
         Unbinding::Sent(_) => {}
         Unbinding::NotYet | Unbinding::Failed(_) | Unbinding::Unasked(_) => {
@@ -259,7 +265,7 @@ fn want_9_charged(rt: &impl Abort, statement: &Statement) {
 }
 
 // That all nine messages were charged over two binds.
-fn want_all_charged(rt: &impl Abort, sending: &Sending) {
+pub(super) fn want_all_charged(rt: &impl Abort, sending: &Sending) {
     same(rt, sending.ends.len(), 9);
     for place in 0..sending.ends.len() {
         want_charged(rt, &sending.ends[place], place);
@@ -267,7 +273,7 @@ fn want_all_charged(rt: &impl Abort, sending: &Sending) {
     want_9_charged(rt, &sending.statement);
     assert!(rt; sending.binds.len() == 2);
     for bind in &sending.binds {
-        want_unbound(rt, bind);
+        want_unbound(rt, bind, 2);
     }
 }
 
@@ -350,7 +356,7 @@ fn want_fault(rt: &impl Abort, ended: &Result<Sending, SendFault>, fault: SendFa
 }
 
 // That nothing was sent, and that the centres ended for these causes.
-fn want_none_sent(rt: &impl Abort, done: &Done, causes: (ServeCause, ServeCause)) {
+pub(super) fn want_none_sent(rt: &impl Abort, done: &Done, causes: (ServeCause, ServeCause)) {
     same(rt, (done.first.submits, done.second.submits), (0, 0));
     same(rt, (done.first.cause, done.second.cause), causes);
 }

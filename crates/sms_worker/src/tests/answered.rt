@@ -1,10 +1,10 @@
 //! What becomes of a segment by its answers, and what it costs.
 
 use super::{
-    Case, Done, OK, PLAIN, SILENT, THROTTLED, messages_of, push_message, run, same, want_row,
-    want_sent,
+    Case, Done, OK, PLAIN, SILENT, THROTTLED, attempt_of, messages_of, push_message, run, same,
+    segments_of, want_row, want_sent,
 };
-use crate::{MessageResult, Outcome};
+use crate::Outcome;
 use std::process::Abort;
 use std::test::Fail;
 
@@ -71,16 +71,11 @@ fn many_throttled_messages_are_charged(rt: HostRuntime) -> Result<(), Fail> {
         messages_of(alloc, 30)?,
     );
     for place in 0..30 {
-        if let Some(end) = done.ends.get(place) {
-            let MessageResult::Sent(segments) = &end.result else {
-                panic!(rt; "message {place} is refused")
-            };
-            let charged = segments
-                .as_slice()
-                .iter()
-                .all(|segment| segment.outcome == Outcome::Charged);
-            same(&rt, (place, charged), (place, true));
-        }
+        let segments = segments_of(&done, place);
+        let charged = segments
+            .iter()
+            .all(|segment| segment.outcome == Outcome::Charged);
+        same(&rt, (place, segments.len(), charged), (place, 1, true));
     }
     want_row(&rt, &done, (0, 0, 30, 0));
     Ok(())
@@ -124,22 +119,9 @@ fn a_segment_costs_what_its_prefix_says(rt: HostRuntime) -> Result<(), Fail> {
     Ok(())
 }
 
-// The number of an attempt of the message's one part.
-fn number_of(rt: &impl Abort, done: &Done, place: usize, attempt: usize) -> u32 {
-    if let Some(end) = done.ends.get(place) {
-        if let MessageResult::Sent(segments) = &end.result {
-            if let Some(segment) = segments.as_slice().first() {
-                if let Some(attempt) = segment.attempts.as_slice().get(attempt) {
-                    return attempt.number;
-                }
-            }
-        }
-    }
-    panic!(rt; "message {place} has no attempt {attempt}")
-}
-
 fn want_number(rt: &impl Abort, done: &Done, place: usize, attempt: usize, wanted: usize) {
-    same(rt, number_of(rt, done, place, attempt) as usize, wanted);
+    let number = attempt_of(done, place, attempt).map(|attempt| attempt.number as usize);
+    same(rt, number, Some(wanted));
 }
 
 // A pause takes 10 ms, in which the open request is answered, and a retry waits for 100. Until then new

@@ -7,12 +7,11 @@ use super::beside::{Beside, Fuse, line_with_fuse};
 use super::centre::answer_of;
 use super::notes::Log;
 use super::{
-    Case, Done, OK, PLAIN, THROTTLED, book_of, messages_of, row_of, rules_of, same, want_row,
-    want_sent,
+    Case, Done, OK, PLAIN, THROTTLED, attempt_of, book_of, had, messages_of, row_of, rules_of,
+    same, want_row, want_sent,
 };
 use crate::{
-    Clock, Gate, Message, MessageEnd, MessageResult, Outcome, Pause, Rules, Worker, WorkerEnd,
-    run_worker,
+    Clock, Gate, Message, MessageEnd, Outcome, Pause, Rules, Worker, WorkerEnd, run_worker,
 };
 use rtrb::{Consumer, Producer, RingBuffer};
 use sms_bind::Line;
@@ -194,13 +193,9 @@ fn works<N: BookName, R: Abort + Wait>(
 
 fn comes(rt: &(impl Abort + Wait), alloc: Global, answer_ms: u32, coming: Coming) -> (Done, u32) {
     let case = Case { answer_ms, ..PLAIN };
-    let (Some(rules), Some(blank)) = (rules_of(alloc, case), book_of(alloc, case.credits, 1)) else {
-        panic!(rt; "no memory")
-    };
-    let Some(came) = works::<Brand, _>(rt, alloc, blank, &rules, coming) else {
-        panic!(rt; "no memory")
-    };
-    came
+    let rules = had(rt, rules_of(alloc, case));
+    let blank = had(rt, book_of(alloc, case.credits, 1));
+    had(rt, works::<Brand, _>(rt, alloc, blank, &rules, coming))
 }
 
 // Whatever its status, a generic_nack refuses the segment at once.
@@ -221,18 +216,10 @@ fn a_generic_nack_refuses(rt: HostRuntime) {
 
 // Whether the first attempt was answered by a generic_nack.
 fn nacked(done: &Done) -> bool {
-    if let Some(end) = done.ends.first() {
-        if let MessageResult::Sent(segments) = &end.result {
-            if let Some(segment) = segments.as_slice().first() {
-                if let Some(attempt) = segment.attempts.as_slice().first() {
-                    if let Some(reply) = &attempt.reply {
-                        return reply.nack;
-                    }
-                }
-            }
-        }
+    match attempt_of(done, 0, 0) {
+        Some(attempt) => attempt.reply.is_some_and(|reply| reply.nack),
+        None => false,
     }
-    false
 }
 
 // The answers were looked for in vain, the wait is over by then, and the answer comes before the request
@@ -361,14 +348,10 @@ fn two_calls<N: BookName, R: Wait>(
 #[test]
 fn a_slot_that_is_left_answered_is_released(rt: HostRuntime) {
     let alloc = rt.alloc();
-    let (Some(rules), Some(blank)) = (rules_of(alloc, PLAIN), book_of(alloc, 3, 1)) else {
-        panic!(&rt; "no memory")
-    };
-    let mut rules = rules;
+    let mut rules = had(&rt, rules_of(alloc, PLAIN));
+    let blank = had(&rt, book_of(alloc, 3, 1));
     rules.turns = 5;
-    let Some((unheard, done)) = two_calls::<Brand, _>(&rt, alloc, blank, &rules, PLAIN) else {
-        panic!(&rt; "no memory")
-    };
+    let (unheard, done) = had(&rt, two_calls::<Brand, _>(&rt, alloc, blank, &rules, PLAIN));
     let row = done.row;
     let before = done_with(alloc, unheard, row);
     want_sent(&rt, &before, 0, &[(1, Outcome::Unanswered)]);

@@ -8,7 +8,7 @@ use std::mem;
 use std::process::Abort;
 
 /// One thing that was told.
-#[derive(Clone, Copy, Debug, PartialEq, Eq)]
+#[derive(Clone, Copy)]
 pub enum Note {
     /// The gate: a message's index.
     Begun(u64),
@@ -24,6 +24,30 @@ pub enum Note {
     Written(u32),
     /// The pause: how long, and for how long nothing comes due.
     Waited(u32, u64),
+}
+
+/// What tells one note from another: its kind, its numbers, and the refusal.
+pub type NoteKey = (u8, (u64, u64, u64, u64), Option<MessageRefusal>);
+
+impl Note {
+    pub fn key(self) -> NoteKey {
+        match self {
+            Note::Begun(message) => (0, (message, 0, 0, 0), None),
+            Note::Refused(message, why) => (1, (message, 0, 0, 0), Some(why)),
+            Note::Sending(number, message, part) => {
+                (2, (u64::from(number), message, part as u64, 0), None)
+            }
+            Note::Unsent(number) => (3, (u64::from(number), 0, 0, 0), None),
+            Note::Heard(number, status) => {
+                (4, (u64::from(number), u64::from(status), 0, 0), None)
+            }
+            Note::Credits(free, reserved, charged, returned) => {
+                (5, (free, reserved, charged, returned), None)
+            }
+            Note::Written(number) => (6, (u64::from(number), 0, 0, 0), None),
+            Note::Waited(ms, most) => (7, (u64::from(ms), most, 0, 0), None),
+        }
+    }
 }
 
 /// All that was told since it was taken.
@@ -64,19 +88,31 @@ impl Log {
     }
 }
 
-// Where it stands first.
-fn place_of(rt: &impl Abort, notes: &[Note], wanted: Note) -> usize {
+// Where it stands first; behind all where it wasn't told.
+fn place_in(notes: &[Note], wanted: Note) -> usize {
+    let wanted = wanted.key();
     for place in 0..notes.len() {
-        if notes[place] == wanted {
+        if notes[place].key() == wanted {
             return place;
         }
     }
-    panic!(rt; "{wanted:?} was not told")
+    notes.len()
+}
+
+// Where it stands first. It was told.
+fn place_of(rt: &impl Abort, notes: &[Note], wanted: Note) -> usize {
+    let place = place_in(notes, wanted);
+    same(
+        rt,
+        (wanted.key(), place < notes.len()),
+        (wanted.key(), true),
+    );
+    place
 }
 
 // One stands behind the other.
 fn want_behind(rt: &impl Abort, what: Note, before: usize, after: usize) {
-    assert!(rt; before < after, "{what:?}");
+    same(rt, (what.key(), before < after), (what.key(), true));
 }
 
 // How the fate of the message was told.
@@ -167,7 +203,7 @@ fn want_rising(rt: &impl Abort, notes: &[Note]) {
     let mut last = 0u32;
     for note in notes {
         if let Note::Sending(number, ..) = note {
-            assert!(rt; last < *number, "{number} behind {last}");
+            same(rt, (last, *number, last < *number), (last, *number, true));
             last = *number;
         }
     }
@@ -180,7 +216,7 @@ pub fn want_told(rt: &impl Abort, notes: &[Note], ends: &[MessageEnd]) {
     for end in ends {
         let fate = fate_of(end);
         let place = place_of(rt, notes, fate);
-        assert!(rt; from <= place, "{fate:?}");
+        want_behind(rt, fate, from, place.saturating_add(1));
         want_attempts(rt, notes, place, end);
         from = place.saturating_add(1);
     }

@@ -5,8 +5,8 @@ ghost use Rattle.std.specs.Prelude.{◌≡◌};
 use super::beside::{Beside, line_with_fuse};
 use super::notes::Log;
 use super::{
-    Case, Done, OK, PLAIN, SILENT, THROTTLED, book_of, messages_of, push_message, rings_of, row_of,
-    rules_of, run, same, seats_of, sends, want_row, want_sent,
+    Case, Done, OK, PLAIN, SILENT, THROTTLED, book_of, had, messages_of, push_message, rings_of,
+    row_of, rules_of, run, same, seats_of, sends, want_row, want_sent,
 };
 use crate::{MessageEnd, MessageRefusal, MessageResult, Outcome, Rules, Worker};
 use sms_book::{Blank, BookName};
@@ -107,26 +107,16 @@ fn two_work<N: BookName, R: Abort + Wait>(
 ) -> (Done, Done)
     requires { blank.book ≡ N.book }
 {
-    let Some((window, one, other, _keeper)) = seats_of(rt, alloc, case.first) else {
-        panic!(rt; "no seats")
-    };
+    let (window, one, other, _keeper) = had(rt, seats_of(rt, alloc, case.first));
     let log = Log::new(alloc);
-    let (Some((producers, consumer, other_consumer)), Some(line)) = (
-        rings_of(alloc),
-        line_with_fuse(alloc, case.room, &log),
-    ) else {
-        panic!(rt; "no line")
-    };
+    let (producers, consumer, other_consumer) = had(rt, rings_of(alloc));
+    let line = had(rt, line_with_fuse(alloc, case.room, &log));
     let beside = Beside::new(rt, alloc, &line, producers, case, &log);
-    let Ok((book, _till, mut all)) = blank.open::<N>(alloc) else {
-        panic!(rt; "no book")
-    };
-    let (Some(shares), Some(other_shares)) = (all.pop(), all.pop()) else {
-        panic!(rt; "no shares")
-    };
-    let (Ok(its), Ok(others)) = (messages_of(alloc, 1), messages_of(alloc, 1)) else {
-        panic!(rt; "no messages")
-    };
+    let (book, _till, mut all) = had(rt, blank.open::<N>(alloc).ok());
+    let shares = had(rt, all.pop());
+    let other_shares = had(rt, all.pop());
+    let its = had(rt, messages_of(alloc, 1).ok());
+    let others = had(rt, messages_of(alloc, 1).ok());
     let worker = Worker {
         index: 0,
         place: 0,
@@ -147,19 +137,13 @@ fn two_work<N: BookName, R: Abort + Wait>(
     let second = sends(
         rt, alloc, worker, others, &line, &window, &book, rules, &beside, &log,
     );
-    match (first, second) {
-        (Some(first), Some(second)) => (first, second),
-        _ => panic!(rt; "no memory"),
-    }
+    let first = had(rt, first);
+    (first, had(rt, second))
 }
 
 fn two_run(rt: &(impl Abort + Wait), alloc: Global, case: Case<'_>) -> (Done, Done) {
-    let Some(rules) = rules_of(alloc, case) else {
-        panic!(rt; "no rules")
-    };
-    let Some(blank) = book_of(alloc, case.credits, 2) else {
-        panic!(rt; "no book")
-    };
+    let rules = had(rt, rules_of(alloc, case));
+    let blank = had(rt, book_of(alloc, case.credits, 2));
     two_work::<Brand, _>(rt, alloc, blank, &rules, case)
 }
 

@@ -6,7 +6,9 @@ ghost use Rattle.std.specs.Prelude.{◌≡◌};
 use super::beside::Together;
 use super::centre::{Centre, Way, line_to_centre, reads};
 use super::sums::{came_to, had_no_credit, sums};
-use super::{Case, OK, PLAIN, THROTTLED, book_of, messages_of, rings_of, rules_of, same, seats_of};
+use super::{
+    Case, OK, PLAIN, THROTTLED, book_of, had, messages_of, rings_of, rules_of, same, seats_of,
+};
 use crate::{Message, MessageEnd, MessageResult, Outcome, Rules, Worker, WorkerEnd, run_worker};
 use rtrb::Producer;
 use sms_bind::{Line, ReaderCause, ReaderEnd};
@@ -179,18 +181,10 @@ fn came_of<N: BookName>(
     end: Option<ReaderEnd>,
 ) -> Came {
     let (first, second) = ends;
-    let Some(first) = first else {
-        panic!(rt; "no memory of the first")
-    };
-    let Some(second) = second else {
-        panic!(rt; "no memory of the second")
-    };
-    let Some(end) = end else {
-        panic!(rt; "no memory of the reader")
-    };
-    let Some(row) = gathered(alloc, book, till, first.shares, second.shares) else {
-        panic!(rt; "not gathered")
-    };
+    let first = had(rt, first);
+    let second = had(rt, second);
+    let end = had(rt, end);
+    let row = had(rt, gathered(alloc, book, till, first.shares, second.shares));
     Came {
         row,
         first: first.ends,
@@ -208,28 +202,15 @@ fn work_together<N: BookName + Send + Sync, R: Abort + Threads + Wait + Sync>(
 ) -> Came
     requires { blank.book ≡ N.book }
 {
-    let (Ok(its), Ok(others), Ok(statuses)) = (
-        messages_of(alloc, threaded.messages.0),
-        messages_of(alloc, threaded.messages.1),
-        Vec::from_slice(alloc, threaded.case.answers),
-    ) else {
-        panic!(rt; "no messages")
-    };
-    let Some((window, seat, other_seat, keeper)) = seats_of(rt, alloc, threaded.case.first) else {
-        panic!(rt; "no seats")
-    };
-    let (Some((line, requests)), Some((producers, consumer, other_consumer))) = (
-        line_to_centre(alloc),
-        rings_of(alloc),
-    ) else {
-        panic!(rt; "no line")
-    };
-    let Ok((book, till, mut all)) = blank.open::<N>(alloc) else {
-        panic!(rt; "no book")
-    };
-    let (Some(shares), Some(other_shares)) = (all.pop(), all.pop()) else {
-        panic!(rt; "no shares")
-    };
+    let its = had(rt, messages_of(alloc, threaded.messages.0).ok());
+    let others = had(rt, messages_of(alloc, threaded.messages.1).ok());
+    let statuses = had(rt, Vec::from_slice(alloc, threaded.case.answers).ok());
+    let (window, seat, other_seat, keeper) = had(rt, seats_of(rt, alloc, threaded.case.first));
+    let (line, requests) = had(rt, line_to_centre(alloc));
+    let (producers, consumer, other_consumer) = had(rt, rings_of(alloc));
+    let (book, till, mut all) = had(rt, blank.open::<N>(alloc).ok());
+    let shares = had(rt, all.pop());
+    let other_shares = had(rt, all.pop());
     let one = Worker {
         index: 0,
         place: 0,
@@ -267,12 +248,8 @@ fn work_together<N: BookName + Send + Sync, R: Abort + Threads + Wait + Sync>(
 }
 
 fn go(rt: &(impl Abort + Threads + Wait + Sync), alloc: Global, threaded: Threaded<'_>) -> Came {
-    let Some(rules) = rules_of(alloc, threaded.case) else {
-        panic!(rt; "no rules")
-    };
-    let Some(blank) = book_of(alloc, threaded.case.credits, 2) else {
-        panic!(rt; "no book")
-    };
+    let rules = had(rt, rules_of(alloc, threaded.case));
+    let blank = had(rt, book_of(alloc, threaded.case.credits, 2));
     work_together::<Brand, _>(rt, alloc, blank, &rules, threaded)
 }
 

@@ -5,8 +5,8 @@ ghost use Rattle.std.specs.Prelude.{◌≡◌};
 use super::beside::{Beside, line_with_fuse};
 use super::notes::{Log, Note};
 use super::{
-    Case, Done, NACK, OK, PLAIN, THROTTLED, book_of, messages_of, push_message, rings_of, rules_of,
-    run, seats_of, sends, want_notes, want_row, want_sent,
+    Case, Done, NACK, OK, PLAIN, THROTTLED, book_of, had, messages_of, push_message, rings_of,
+    rules_of, run, seats_of, sends, want_notes, want_row, want_sent,
 };
 use crate::{Clock, Gate, MessageRefusal, Outcome, Pause, Rules, Worker};
 use sms_bind::Line;
@@ -292,17 +292,12 @@ fn run_watched(
     messages: u64,
     trouble: Trouble,
 ) -> Done {
-    let Some(rules) = rules_of(alloc, case) else {
-        panic!(rt; "no rules")
-    };
-    let Some(blank) = book_of(alloc, case.credits, 2) else {
-        panic!(rt; "no book")
-    };
-    let Some(done) = works_watched::<Brand, _>(rt, alloc, blank, &rules, case, messages, trouble)
-    else {
-        panic!(rt; "no memory")
-    };
-    done
+    let rules = had(rt, rules_of(alloc, case));
+    let blank = had(rt, book_of(alloc, case.credits, 2));
+    had(
+        rt,
+        works_watched::<Brand, _>(rt, alloc, blank, &rules, case, messages, trouble),
+    )
 }
 
 const WITH_CREDITS: [Note; 18] = [

@@ -1,4 +1,4 @@
-use Rattle.std.proofs.Common.{◌≡◌, ◌*◌, ℕ, List, length, map, rules, arith, sym, ap, ◌∙◌, subst, inl, refl}
+use Rattle.std.proofs.Common.{◌≡◌, ◌*◌, ℕ, List, length, map, rules, arith, sym, ap, ◌∙◌, subst, inl, inr, refl}
 use Rattle.std.specs.List.{AllZip}
 use Rattle.sms_book.specs.Name.{BookId}
 use Rattle.sms_book.specs.Portions.{row_at}
@@ -73,7 +73,7 @@ pub returns-in_err-rings-clause-refused : goal.returns-in_err-rings-clause-refus
 returns-in_err-rings-clause-refused g c = told_so c.from_residual-in_err-rings.result _ _ c.from_residual-in_err-rings.ensures.1 (inl (inl refl))
 
 pub returns-in_err-ended-clause-refused : goal.returns-in_err-ended-clause-refused
-returns-in_err-ended-clause-refused g c = told_so c.from_residual-in_err-ended.result _ _ c.from_residual-in_err-ended.ensures.1 (inl (inl refl))
+returns-in_err-ended-clause-refused g c = told_so c.from_residual-in_err-ended.result _ _ c.from_residual-in_err-ended.ensures.1 (inl (inr (inr refl)))
 
 pub returns-clause-heard : goal.returns-clause-heard
 returns-clause-heard g c =

@@ -1,70 +1,90 @@
-use Rattle.std.proofs.Common.{◌≡◌, map, refl, ap, ◌∙◌, subst}
+use Rattle.std.proofs.Common.{◌≡◌, map, take, length, refl, sym, ap, ◌∙◌, subst}
 use Rattle.std.specs.List.{AllZip}
 use Rattle.sms_worker.specs.declared.rules.Rules.{Rules}
-use Rattle.sms_driver.specs.Reads.{reading_of, reading_promised, HasRead}
-use Rattle.sms_driver.specs.Worked.{IsResultOf}
-use Rattle.sms_driver.proofs.Joins.{kept_zip}
-use Rattle.sms_driver.proofs.Conclusions.{map_map}
-use Rattle.sms_driver.proofs.Returning.{any_all, kept_windows}
+use Rattle.sms_driver.specs.declared.latch.Latch.{Latch}
+use Rattle.sms_driver.specs.declared.latch.Word.TheVariants.{Go, Leave}
+use Rattle.sms_driver.specs.Latches.{IsSaidAt, word_of}
+use Rattle.sms_driver.specs.Reads.{listener_of, listener_promised, reading_of, reading_promised, HasRead, IsUnread}
+use Rattle.sms_driver.specs.Worked.{IsHandedBack, IsResultOf}
+use Rattle.sms_driver.proofs.Joins.{back_zip, one_latch, zip_given}
+use Rattle.sms_driver.proofs.Conclusions.{map_map, zip_to}
+use Rattle.sms_driver.proofs.Grouping.{zip_length}
+use Rattle.sms_driver.proofs.Returning.{kept_windows}
 use Rattle.sms_driver.proofs.thread_scope.drive.Goals as goal
 
-pub returns-clause-returned : goal.returns-clause-returned
-returns-clause-returned g c =
+pub join_told-worker_results-requires : goal.join_told-worker_results-requires
+join_told-worker_results-requires g c lives =
+    let crew = c.start_all-started.ensures.crew in
     let rules : Rules = c.args.context.now.rules.now in
-    let workers = c.in_ok-worker_results.ensures in
-    let readers = c.in_ok-readers.ensures in
-    let seats : map (λ h. h.promise.seat.value) c.start_readers-listening.new.handles.items ≡ map (λ t. t.seat) c.args.reader_tasks.items = rw c.in_ok-listening.was at c.start_readers-listening.ensures.seats in
+    let latch : Latch = c.args.latch.now in
+    ((refl, tt), ((crew.no_result, crew.results_fit), one_latch _ (λ p. (p.rules.value ≡ rules) × (p.latch.now ≡ latch)) latch c.say-said.result (λ p told f k. subst (λ (l : Latch). IsSaidAt l told.said) f.1 k.at) c.say-said.ensures.at c.start_all-started.new.crew.workers.items crew.given))
+
+pub join_told-requires : goal.join_told-requires
+join_told-requires g c lives =
+    let crew = c.start_all-started.ensures.crew in
+    let latch : Latch = c.args.latch.now in
+    ((refl, tt), ((crew.no_end, crew.ends_fit), one_latch _ (λ p. p.latch.now ≡ latch) latch c.say-said.result (λ p told f k. subst (λ (l : Latch). IsSaidAt l told.said) f k.at) c.say-said.ensures.at c.start_all-started.new.crew.readers.items crew.latches))
+
+pub returns-in-Ok-clause-returned : goal.returns-in-Ok-clause-returned
+returns-in-Ok-clause-returned g c =
+    let rules : Rules = c.args.context.now.rules.now in
+    let latch : Latch = c.args.latch.now in
     let remaining = g.Rd.Read.remaining in
-    let readings : map (λ h. reading_promised h.promise) c.start_readers-listening.new.handles.items ≡ map reading_of c.args.reader_tasks.items = rw c.in_ok-listening.was at c.start_readers-listening.ensures.readings in
+    let crew = c.start_all-started.ensures.crew in
+    let all = rw c.in-Ok.is at c.start_all-started.ensures.all in
+    let go : c.word_for-word.result ≡ Go = rw c.in-Ok.is at c.word_for-word.ensures in
+    let word : word_of c.say-said.result ≡ Go = c.say-said.ensures.word ∙ go in
+    let workers = c.start_all-started.new.crew.workers.items in
+    let readers = c.start_all-started.new.crew.readers.items in
+    let results = c.join_told-worker_results.result.items in
+    let ends = c.join_told.result.items in
+    let heard =
+    subst (λ l. AllZip (λ l d. (d.seat.window ≡ l.0.window) × HasRead remaining l.1 d) l ends) all.all_readers
+    (back_zip _ (word_of c.say-said.result) (λ p. listener_promised p) (λ p. p.latch.now ≡ latch) (λ l d. (d.seat.window ≡ l.0.window) × HasRead remaining l.1 d)
+    (λ p r f b. subst (λ d. (d.seat.window ≡ p.seat.value.window) × HasRead remaining (reading_promised p) d) b.is (b.keeps.went (b.word_is ∙ word)))
+    readers ends crew.latches c.join_told.ensures.each)
+    in
     record {
       results =
-          subst
-          (λ l. AllZip (IsResultOf rules) l c.in_ok-worker_results.field-0.items)
-          c.in_ok-working.ensures.assignments
-          (kept_zip _
-          (λ p. p.assignment.value)
-          (λ p. p.rules.value ≡ rules)
-          (IsResultOf rules)
-          (λ p r f k. subst (λ (x : Rules). IsResultOf x p.assignment.value r) f k)
-          _
-          c.start_all-working.new.handles.items
-          c.in_ok-worker_results.field-0.items
-          refl
-          workers.len
-          c.in_ok-working.ensures.rules
-          workers.each);
+          subst (λ l. AllZip (IsResultOf rules) l results) all.all_workers
+          (back_zip _ (word_of c.say-said.result) (λ p. p.assignment.value) (λ p. (p.rules.value ≡ rules) × (p.latch.now ≡ latch)) (IsResultOf rules)
+          (λ p r f b. subst (λ (x : Rules). IsResultOf x p.assignment.value r) f.0 (subst (λ x. IsResultOf p.rules.value p.assignment.value x) b.is (b.keeps.went (b.word_is ∙ word))))
+          workers results crew.given c.join_told-worker_results.ensures.each);
       readers =
-          kept_windows (λ s. s.window) (λ d. d.seat.window) _ c.in_ok-readers.field-0.items
-          (kept_zip _
-          (λ p. p.seat.value)
-          (λ p. Unit {0})
-          (λ s d. d.seat.window ≡ s.window)
-          (λ p r f k. k.0)
-          _
-          c.start_readers-listening.new.handles.items
-          c.in_ok-readers.field-0.items
-          refl
-          readers.len
-          (any_all c.start_readers-listening.new.handles.items)
-          readers.each)
-          ∙ ap (map (λ s. s.window)) seats
-          ∙ map_map (λ t. t.seat) (λ s. s.window) _;
+          kept_windows (λ l. l.0.window) (λ d. d.seat.window) (map listener_of c.args.reader_tasks.items) ends
+          (zip_to (λ l d. (d.seat.window ≡ l.0.window) × HasRead remaining l.1 d) (λ l d. d.seat.window ≡ l.0.window) (λ l d k. k.0) (map listener_of c.args.reader_tasks.items) ends heard)
+          ∙ map_map listener_of (λ l. l.0.window) c.args.reader_tasks.items;
       read =
-          subst
-          (λ l. AllZip (HasRead remaining) l c.in_ok-readers.field-0.items)
-          readings
-          (kept_zip _
-          (λ p. reading_promised p)
-          (λ p. Unit {0})
-          (HasRead remaining)
-          (λ p r f k. k.1)
-          _
-          c.start_readers-listening.new.handles.items
-          c.in_ok-readers.field-0.items
-          refl
-          readers.len
-          (any_all c.start_readers-listening.new.handles.items)
-          readers.each);
-      driver = c.hang_up_all.ensures.driver_seats ∙ c.requires.seated.driver;
-      tried = c.hang_up_all.ensures.tried;
+          subst (λ l. AllZip (HasRead remaining) l ends) (map_map listener_of (λ l. l.1) c.args.reader_tasks.items)
+          (zip_given (λ l. l.1) (λ l d. (d.seat.window ≡ l.0.window) × HasRead remaining l.1 d) (HasRead remaining) (λ l d k. k.1) (map listener_of c.args.reader_tasks.items) ends heard);
+      driver = c.end_binds.ensures.driver_seats ∙ c.requires.seated.driver;
+      tried = c.end_binds.ensures.tried;
+    }
+
+pub returns-clause-left : goal.returns-clause-left
+returns-clause-left g c =
+    let rules : Rules = c.args.context.now.rules.now in
+    let latch : Latch = c.args.latch.now in
+    let crew = c.start_all-started.ensures.crew in
+    let leave : c.word_for-word.result ≡ Leave = rw c.in-Err.is at c.word_for-word.ensures in
+    let word : word_of c.say-said.result ≡ Leave = c.say-said.ensures.word ∙ leave in
+    let workers = c.start_all-started.new.crew.workers.items in
+    let readers = c.start_all-started.new.crew.readers.items in
+    let results = c.join_told-worker_results.result.items in
+    let ends = c.join_told.result.items in
+    record {
+      workers =
+          subst (λ l. AllZip IsHandedBack l results)
+          (crew.workers ∙ ap (λ n. take n (map (λ t. t.assignment) c.args.tasks.items)) (sym (zip_length _ workers results c.join_told-worker_results.ensures.each)))
+          (back_zip _ (word_of c.say-said.result) (λ p. p.assignment.value) (λ p. (p.rules.value ≡ rules) × (p.latch.now ≡ latch)) IsHandedBack
+          (λ p r f b. subst (λ x. IsHandedBack p.assignment.value x) b.is (b.keeps.left (b.word_is ∙ word)))
+          workers results crew.given c.join_told-worker_results.ensures.each);
+      readers =
+          subst (λ l. AllZip (λ given end. IsUnread given.0 given.1.rings end) l ends)
+          (crew.readers ∙ ap (λ n. take n (map listener_of c.args.reader_tasks.items)) (sym (zip_length _ readers ends c.join_told.ensures.each)))
+          (back_zip _ (word_of c.say-said.result) (λ p. listener_promised p) (λ p. p.latch.now ≡ latch) (λ given end. IsUnread given.0 given.1.rings end)
+          (λ p r f b. subst (λ x. IsUnread p.seat.value p.producers.value.items x) b.is (b.keeps.left (b.word_is ∙ word)))
+          readers ends crew.latches c.join_told.ensures.each);
+      driver = c.end_binds.ensures.driver_seats ∙ c.requires.seated.driver;
+      tried = c.end_binds.ensures.tried;
     }

@@ -1,8 +1,8 @@
 use Rattle.std.proofs.Common.{◌≡◌, rules}
 use Rattle.std.specs.Vec.Iter.{into_iter_items}
-use Rattle.sms_driver.proofs.Moves.{moved}
+use Rattle.sms_driver.proofs.Moves.{moved, first_moved}
 use Rattle.sms_driver.proofs.Returning.{first_holds, more_hold}
-use Rattle.sms_driver.proofs.threads.start_each.Goals as goal
+use Rattle.sms_driver.proofs.working.start_workers.Goals as goal
 
 pub loop-task-preserved : goal.loop-task-preserved
 loop-task-preserved g c =
@@ -10,7 +10,8 @@ loop-task-preserved g c =
     let takes = c.in-Some.ensures.steps.0 in
     record {
       assignments = moved (λ h. h.promise.assignment.value) (λ t. t.assignment) c.loop-task.handles.items _ (into_iter_items c.loop-task.task-iterator) _ _ _ _ c.push_reserved.ensures.items takes c.in_ok-handle.ensures.assignment i.assignments;
-      rules = more_hold (λ h. h.promise.rules.value ≡ c.args.context.now.rules.now) c.loop-task.handles.items _ _ c.push_reserved.ensures.items i.rules c.in_ok-handle.ensures.rules;
+      given = more_hold (λ h. (h.promise.rules.value ≡ c.args.context.now.rules.now) × (h.promise.latch.now ≡ c.args.latch.now)) c.loop-task.handles.items _ _ c.push_reserved.ensures.items i.given c.in_ok-handle.ensures.given;
       room = search rules;
+      few = search rules;
       own = (first_holds (λ t. t.assignment.worker.seat.window ≡ t.window.now) _ _ _ takes i.own).1;
     }

@@ -1,0 +1,87 @@
+//! The word that all threads of a sending wait for before their first turn.
+
+ghost use Rattle.std.specs.Prelude.{◌≡◌};
+ghost use Rattle.sms_driver.specs.Latches.{IsAtOne, IsSaidAt, word_of};
+
+use std::sync::{OnceLock, OnceToken, Wait};
+
+/// What a thread is told before its first turn.
+#[derive(Clone, Copy, Debug, PartialEq, Eq)]
+pub enum Word {
+    /// All threads were started: it begins.
+    Go,
+    /// One couldn't be started: it gives back what it was given, and has done nothing.
+    Leave,
+}
+
+/// Where threads wait for one word, which is said once.
+#[derive(Drop)]
+pub struct Latch {
+    word: OnceLock<Word>,
+}
+
+/// That a word was said at a latch. All that have one of the same latch have the same word.
+#[derive(Drop)]
+pub struct Said<'a> {
+    token: OnceToken<'a, Word>,
+}
+
+/// What a thread gives back, and the word that it was told.
+#[derive(Drop)]
+pub struct Told<'a, T> {
+    pub said: Said<'a>,
+    pub back: T,
+}
+
+impl Latch {
+    /// A latch at which nothing was said yet.
+    pub fn new() -> Latch {
+        Latch {
+            word: OnceLock::new(),
+        }
+    }
+
+    /// Says the word, and wakes all that wait for it. It is said once: a second call doesn't return.
+    pub fn say<R: Wait>(&self, rt: &R, word: Word) -> Said<'_>
+        ensures at { IsSaidAt self.now result }
+        ensures word { word_of result ≡ word }
+    {
+        for _turn in rt.forever() {
+            if let Ok(token) = self.word.set(rt, word) {
+                return Said { token };
+            }
+        }
+        unreachable!()
+    }
+
+    /// Sleeps until the word was said.
+    pub fn hear<R: Wait>(&self, rt: &R) -> Said<'_>
+        ensures at { IsSaidAt self.now result }
+    {
+        for _turn in rt.forever() {
+            if let Some(token) = self.word.witness() {
+                return Said { token };
+            }
+            self.word.wait(rt);
+        }
+        unreachable!()
+    }
+
+    /// The word that was said.
+    pub fn word<'a>(&'a self, said: &Said<'a>) -> Word
+        requires at { IsSaidAt self.now said.now }
+        ensures word { result ≡ word_of said.now }
+    {
+        *self.word.value(&said.token)
+    }
+}
+
+impl<'a> Said<'a> {
+    /// Two that heard at one latch heard one word.
+    pub fn agrees(&self, other: &Said<'a>)
+        requires latch { IsAtOne self.now other.now }
+        ensures word { word_of self.now ≡ word_of other.now }
+    {
+        self.token.agrees(&other.token);
+    }
+}

@@ -1,0 +1,150 @@
+//! Readers in threads of their own.
+
+ghost use Rattle.std.specs.Prelude.{◌≡◌, ◌≤◌, [], length, map, take, IfErr, IfOk, OnOk, vec_capacity};
+ghost use Rattle.std.specs.List.{AllByRecursion};
+ghost use Rattle.sms_driver.specs.Latches.{IsTold};
+ghost use Rattle.sms_driver.specs.Reads.{listener_of, listener_promised, reading_of, HasRead, IsUnread};
+ghost use Rattle.sms_driver.specs.declared.fault.SendFault.TheVariants.{ThreadRefused};
+
+use crate::fault::SendFault;
+use crate::latch::{Latch, Told, Word};
+use crate::threads::{ReaderPromise, ReaderTask};
+use rtrb::Producer;
+use sms_bind::{ReaderCause, ReaderEnd, read_loop};
+use sms_pdu::Reply;
+use sms_window::WindowSeat;
+use sms_worker::Rules;
+use std::alloc::Global;
+use std::io::{Read, Write};
+use std::snapshot::Snapshot;
+use std::sync::Wait;
+use std::thread::{PromisedHandle, Scope, Threads};
+
+/// A reader's thread, and what it gives back.
+pub type ReaderHandle<'s, Rd> = PromisedHandle<Told<'s, ReaderEnd>, ReaderPromise<'s, Rd>>;
+
+/// The end of a reader that was stopped before its first read.
+fn unread(producers: Vec<Producer<Reply>>, seat: WindowSeat) -> ReaderEnd
+    ensures { IsUnread seat producers.items result }
+{
+    ReaderEnd {
+        answered: 0,
+        unknown: 0,
+        overrun: 0,
+        delivered: 0,
+        noted: 0,
+        nacked: 0,
+        unreplied: 0,
+        cause: ReaderCause::Stopped,
+        producers,
+        seat,
+    }
+}
+
+/// Waits for the word, and then reads until the bind's end or gives back what it has.
+fn listen<'s, Rd: Read, W: Write, R: Wait>(
+    rt: &R,
+    alloc: Global,
+    latch: &'s Latch,
+    reader_task: ReaderTask<Rd, W>,
+    rules: &Rules,
+) -> Told<'s, ReaderEnd>
+where
+    Rd: Drop,
+    requires own { reader_task.seat.window ≡ reader_task.window.now }
+    ensures { IsTold latch.now
+        (λ r. (r.seat.window ≡ reader_task.entry.seat.window) × HasRead Rd.remaining (reading_of reader_task.entry) r)
+        (IsUnread reader_task.entry.seat reader_task.entry.producers.items) result }
+{
+    let said = latch.hear(rt);
+    let ReaderTask {
+        mut reader,
+        bound,
+        follow,
+        producers,
+        seat,
+        line,
+        window,
+    } = reader_task;
+    match latch.word(&said) {
+        Word::Go => {
+            let back = read_loop(
+                rt,
+                alloc,
+                &mut reader,
+                bound,
+                producers,
+                line,
+                window,
+                seat,
+                follow.limit,
+                rules.turns,
+            );
+            Told { said, back }
+        }
+        Word::Leave => Told {
+            said,
+            back: unread(producers, seat),
+        },
+    }
+}
+
+/// Starts a reader in a thread of the scope.
+fn start_reader<'s, E, Rd: Read + Send + Drop + 's, W: Write + Send + 's, R: Threads + Wait + Sync>(
+    scope: &Scope<'s, E>,
+    rt: &'s R,
+    alloc: Global,
+    latch: &'s Latch,
+    reader_task: ReaderTask<'s, Rd, W>,
+    rules: &'s Rules,
+) -> Result<ReaderHandle<'s, Rd>, SendFault>
+    requires own { reader_task.seat.window ≡ reader_task.window.now }
+    ensures listener { IfOk result (λ h. listener_promised h.promise ≡ listener_of reader_task.entry) }
+    ensures latch { IfOk result (λ h. h.promise.latch.now ≡ latch.now) }
+    ensures refused { IfErr result (λ fault. fault ≡ ThreadRefused) }
+{
+    let promise = ReaderPromise {
+        latch,
+        seat: Snapshot::of(&reader_task.seat),
+        reader: Snapshot::of(&reader_task.reader),
+        bound: Snapshot::of(&reader_task.bound),
+        producers: Snapshot::of(&reader_task.producers),
+    };
+    match scope.spawn_with(promise, move || {
+        listen(rt, alloc, latch, reader_task, rules)
+    }) {
+        Ok(handle) => Ok(handle),
+        Err(_refused) => Err(SendFault::ThreadRefused),
+    }
+}
+
+/// Starts a reader for each bind. Where one is refused, those that were started are in the list.
+pub(crate) fn start_readers<
+    's,
+    E,
+    Rd: Read + Send + Drop + 's,
+    W: Write + Send + 's,
+    R: Threads + Wait + Sync,
+>(
+    scope: &Scope<'s, E>,
+    rt: &'s R,
+    alloc: Global,
+    latch: &'s Latch,
+    reader_tasks: Vec<ReaderTask<'s, Rd, W>>,
+    rules: &'s Rules,
+    handles: &mut Vec<ReaderHandle<'s, Rd>>,
+) -> Result<(), SendFault>
+    requires own { AllByRecursion (λ t. t.seat.window ≡ t.window.now) reader_tasks.items }
+    requires room { (handles.old.items ≡ []) × (length reader_tasks.items ≤ vec_capacity handles.old) }
+    ensures all { OnOk result (map (λ h. listener_promised h.promise) handles.new.items ≡ map listener_of reader_tasks.entry.items) }
+    ensures few { length handles.new.items ≤ length reader_tasks.entry.items }
+    ensures first { map (λ h. listener_promised h.promise) handles.new.items ≡ take (length handles.new.items) (map listener_of reader_tasks.entry.items) }
+    ensures latch { AllByRecursion (λ h. h.promise.latch.now ≡ latch.now) handles.new.items }
+    ensures refused { IfErr result (λ fault. fault ≡ ThreadRefused) }
+{
+    for reader_task in reader_tasks {
+        let handle = start_reader(scope, rt, alloc, latch, reader_task, rules)?;
+        handles.push_reserved(handle);
+    }
+    Ok(())
+}

@@ -1,0 +1,126 @@
+//! Workers in threads of their own.
+
+ghost use Rattle.std.specs.Prelude.{◌≡◌, ◌≤◌, [], length, map, take, IfErr, IfOk, OnOk, vec_capacity};
+ghost use Rattle.std.specs.List.{AllByRecursion};
+ghost use Rattle.sms_driver.specs.Latches.{IsTold};
+ghost use Rattle.sms_driver.specs.Worked.{IsHandedBack, IsResultOf};
+ghost use Rattle.sms_driver.specs.declared.fault.SendFault.TheVariants.{ThreadRefused};
+
+use crate::fault::SendFault;
+use crate::latch::{Latch, Told, Word};
+use crate::task::{Assignment, WorkerTask};
+use crate::threads::{RunContext, WorkerPromise, WorkerResult};
+use sms_book::BookName;
+use sms_worker::{Clock, Gate, Pause, run_worker};
+use std::alloc::AllocError;
+use std::io::Write;
+use std::snapshot::Snapshot;
+use std::sync::Wait;
+use std::thread::{PromisedHandle, Scope, Threads};
+
+/// A worker's thread, and what it gives back.
+pub type WorkerHandle<'s, N> = PromisedHandle<Told<'s, WorkerResult<N>>, WorkerPromise<'s, N>>;
+
+/// Waits for the word, and then does the work or gives all of it back.
+fn work<'s, N: BookName, W: Write, G: Gate, K: Clock, P: Pause, R: Wait>(
+    context: &RunContext<N, G, K, P, R>,
+    latch: &'s Latch,
+    task: WorkerTask<N, W>,
+) -> Told<'s, WorkerResult<N>>
+    requires own { task.assignment.worker.seat.window ≡ task.window.now }
+    ensures { IsTold latch.now (IsResultOf context.now.rules.now task.entry.assignment) (IsHandedBack task.entry.assignment) result }
+{
+    let said = latch.hear(context.rt);
+    let WorkerTask {
+        assignment,
+        line,
+        window,
+    } = task;
+    let Assignment { worker, messages } = assignment;
+    match latch.word(&said) {
+        Word::Go => {
+            let back = run_worker(
+                context.rt,
+                context.alloc,
+                worker,
+                messages,
+                line,
+                window,
+                context.book,
+                context.rules,
+                context.gate,
+                context.clock,
+                context.pause,
+            );
+            Told { said, back }
+        }
+        Word::Leave => Told {
+            said,
+            back: Err((AllocError, worker, messages)),
+        },
+    }
+}
+
+/// Starts a worker in a thread of the scope.
+fn start_worker<
+    's,
+    E,
+    N: BookName + Send + Sync + 's,
+    W: Write + Send + 's,
+    G: Gate + Sync,
+    K: Clock + Sync,
+    P: Pause + Sync,
+    R: Threads + Wait + Sync,
+>(
+    scope: &Scope<'s, E>,
+    context: &'s RunContext<'s, N, G, K, P, R>,
+    latch: &'s Latch,
+    task: WorkerTask<'s, N, W>,
+) -> Result<WorkerHandle<'s, N>, SendFault>
+    requires own { task.assignment.worker.seat.window ≡ task.window.now }
+    ensures assignment { IfOk result (λ h. h.promise.assignment.value ≡ task.entry.assignment) }
+    ensures given { IfOk result (λ h. (h.promise.rules.value ≡ context.now.rules.now) × (h.promise.latch.now ≡ latch.now)) }
+    ensures refused { IfErr result (λ fault. fault ≡ ThreadRefused) }
+{
+    let promise = WorkerPromise {
+        latch,
+        assignment: Snapshot::of(&task.assignment),
+        rules: Snapshot::of(context.rules),
+    };
+    match scope.spawn_with(promise, move || work(context, latch, task)) {
+        Ok(handle) => Ok(handle),
+        Err(_refused) => Err(SendFault::ThreadRefused),
+    }
+}
+
+/// Starts a worker for each task. Where one is refused, those that were started are in the list.
+pub(crate) fn start_workers<
+    's,
+    E,
+    N: BookName + Send + Sync + 's,
+    W: Write + Send + 's,
+    G: Gate + Sync,
+    K: Clock + Sync,
+    P: Pause + Sync,
+    R: Threads + Wait + Sync,
+>(
+    scope: &Scope<'s, E>,
+    context: &'s RunContext<'s, N, G, K, P, R>,
+    latch: &'s Latch,
+    tasks: Vec<WorkerTask<'s, N, W>>,
+    handles: &mut Vec<WorkerHandle<'s, N>>,
+) -> Result<(), SendFault>
+    requires own { AllByRecursion (λ t. t.assignment.worker.seat.window ≡ t.window.now) tasks.items }
+    requires room { (handles.old.items ≡ []) × (length tasks.items ≤ vec_capacity handles.old) }
+    ensures all { OnOk result (map (λ h. h.promise.assignment.value) handles.new.items ≡ map (λ t. t.assignment) tasks.entry.items) }
+    ensures few { length handles.new.items ≤ length tasks.entry.items }
+    ensures first { map (λ h. h.promise.assignment.value) handles.new.items ≡ take (length handles.new.items) (map (λ t. t.assignment) tasks.entry.items) }
+    ensures given { AllByRecursion (λ h. (h.promise.rules.value ≡ context.now.rules.now) × (h.promise.latch.now ≡ latch.now)) handles.new.items }
+    ensures refused { IfErr result (λ fault. fault ≡ ThreadRefused) }
+{
+    for task in tasks {
+        let handle = start_worker(scope, context, latch, task)?;
+        handles.push_reserved(handle);
+    }
+    Ok(())
+}
