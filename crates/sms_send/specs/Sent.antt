@@ -9,6 +9,7 @@ use Rattle.sms_worker.specs.declared.rules.Rules.{Rules}
 use Rattle.sms_driver.specs.Answered.{AreHeard}
 use Rattle.sms_driver.specs.BindEnds.{AreBinds}
 use Rattle.sms_driver.specs.Deals.{dealt}
+use Rattle.sms_driver.specs.Numbered.{AreNumbered}
 use Rattle.sms_files.specs.ConfigFaults.{IsConfig, TellsConfig}
 use Rattle.sms_files.specs.Inputs.{IsInput, Told, TellsInput}
 use Rattle.sms_send.specs.Faults.{TellsRead, told_sending}
@@ -51,7 +52,8 @@ pub record AreSettingsOf (connection : Connection) (limits : Limits) (flags : Fl
 -- there is an end for each message, in order, which it meets by the rules, a row for each account,
 -- whose amounts are the sums over these ends, and an end for each of the config's binds, each of so
 -- many workers as the config says; and bind by bind each attempt with a reply has a place of its own,
--- where that reply stands, among the answers in what was read of the bind, of which `told` tells what it will give
+-- where that reply stands, among the answers in what was read of the bind, of which `told` tells what it will give, and no
+-- other attempt of the bind has its sequence_number
 pub record IsSent (told : ℕ → Told) (input : Input) (ended : Ended) : Type 0 where
   pub openings : ended.openings ≡ input.openings
   pub rules : Rules
@@ -59,6 +61,7 @@ pub record IsSent (told : ℕ → Told) (input : Input) (ended : Ended) : Type 0
   pub ends : AllZip (IsEndOf rules (length input.openings.items)) input.messages.items ended.ends.items
   pub rows : AreRows (credits_of input.openings.items) input.messages.items ended.ends.items ended.statement
   pub binds : AreBinds input.config.limits.binds input.config.limits.workers ended.binds.items
+  pub numbers : AreNumbered input.config.limits.binds input.config.limits.workers (dealt (input.config.limits.binds * input.config.limits.workers) 0 ended.ends.items)
   pub heard : AreHeard told input.config.limits.binds input.config.limits.workers (dealt (input.config.limits.binds * input.config.limits.workers) 0 ended.ends.items)
 
 -- a TCP connection tells contracts nothing of the octets that will come
