@@ -3,6 +3,7 @@ pub mod Charging
 pub mod Covering
 pub mod Jobs
 pub mod Lines
+pub mod Names
 pub mod Plans
 pub mod Replaying
 pub mod Sendings

@@ -1,5 +1,9 @@
 -- The line that tells a fault, the exit status that it ends the program with, and what the faults of the crates below are told as.
-use Rattle.std.specs.Prelude.{◌≡◌, ℕ, List, ◌++◌, codes, decimal, string_bytes}
+use Rattle.std.specs.Prelude.{◌≡◌, ℕ, ◌/◌, ◌%◌, ◌==◌, false, List, ◌++◌, if◌then◌else◌, codes, decimal, string_bytes}
+use Rattle.std.specs.Char.{encode_utf8, is_control}
+use Rattle.std.specs.Fmt.{radix_digits}
+use Rattle.std.specs.List.{flat_map}
+use Rattle.std.specs.Str.{chars}
 use Rattle.sms_send.specs.declared.fault.Fault.{Fault}
 use Rattle.sms_send.specs.declared.fault.Fault.TheVariants.{Words, Help, Version, File, Unreadable, BadRecord, NotToml, BadKey, BindRefused, BindFailed, Output, OutOfMemory}
 use Rattle.sms_driver.specs.declared.fault.SendFault.{SendFault}
@@ -10,16 +14,30 @@ use Rattle.sms_files.specs.declared.fault.InputFault.TheVariants as input
 use Rattle.sms_report.specs.declared.fault.OutputFault.{OutputFault}
 use Rattle.sms_report.specs.declared.fault.OutputFault.TheVariants as output
 
+-- a control character of a name, written out: line feed, carriage return and tab by their letters, each other by its code
+abbrev pub written_out : ℕ → List ℕ
+written_out c =
+    if c == 10 then codes "\\n" else (if c == 13 then codes "\\r" else (if c == 9 then codes "\\t"
+    else codes "\\x" ++ radix_digits 16 false (c / 16) ++ radix_digits 16 false (c % 16)))
+
+-- a character of a name, as a fault shows it
+abbrev pub shown_char : ℕ → List ℕ
+shown_char c = if is_control c then written_out c else encode_utf8 c
+
+-- a name that comes from outside, which may hold anything: shown so, a fault stays one line
+abbrev pub shown : List ℕ → List ℕ
+shown name = flat_map shown_char (chars name)
+
 -- help and the version are the parser's own texts
 abbrev pub fault_text : Fault → List ℕ
 fault_text Words = codes "fault: words"
 fault_text (Help text) = string_bytes text
 fault_text (Version text) = string_bytes text
-fault_text (File name) = codes "fault: file " ++ string_bytes name
+fault_text (File name) = codes "fault: file " ++ shown (string_bytes name)
 fault_text (Unreadable source) = codes "fault: file " ++ source_name source
 fault_text (BadRecord source place) = codes "fault: " ++ source_name source ++ codes " record " ++ decimal place
 fault_text NotToml = codes "fault: config"
-fault_text (BadKey key) = codes "fault: config " ++ string_bytes key
+fault_text (BadKey key) = codes "fault: config " ++ shown (string_bytes key)
 fault_text (BindRefused bind status) = codes "fault: bind " ++ decimal bind ++ codes " refused " ++ decimal status
 fault_text (BindFailed bind) = codes "fault: bind " ++ decimal bind ++ codes " failed"
 fault_text Output = codes "fault: output"
@@ -47,6 +65,7 @@ told_sending (send.BindRefused bind status) = BindRefused bind status
 told_sending (send.BindFailed bind why) = BindFailed bind
 told_sending send.ThreadRefused = OutOfMemory
 told_sending send.OutOfMemory = OutOfMemory
+told_sending send.EndsLost = OutOfMemory
 
 -- why a text isn't written
 abbrev pub told_output : OutputFault → Fault

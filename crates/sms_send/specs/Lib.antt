@@ -7,3 +7,5 @@ pub mod Sent
 pub mod Laws
 pub mod Jobs
 pub mod Telling
+pub mod Outboxes
+pub mod Standard

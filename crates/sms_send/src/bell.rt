@@ -71,13 +71,25 @@ impl<'r, R: Wait + Clock> Pause for Rest<'r, R> {
 }
 
 /// A reader that rings the bell when it is asked for octets: a bind's reader has then handed on all
-/// answers that came before.
-#[derive(Drop)]
-pub struct Ringing<'r, S, R> {
+/// answers that came before. It rings a last time when it is dropped: the line is down then.
+pub struct Ringing<'r, S, R: Wait> {
     pub inner: S,
     pub rt: &'r R,
     pub bell: &'r Bell,
     pub outbox: &'r Outbox,
+}
+
+impl<'r, S: Drop, R: Wait> Drop for Ringing<'r, S, R> {
+    fn drop(self) {
+        let Ringing {
+            inner,
+            rt,
+            bell,
+            outbox: _,
+        } = self;
+        drop(inner);
+        bell.ring(rt);
+    }
 }
 
 impl<'r, S: Read, R: Wait> Read for Ringing<'r, S, R> {

@@ -2,6 +2,7 @@
 
 ghost use Rattle.std.specs.Fmt.{WritesOnOk};
 ghost use Rattle.std.specs.Prelude.{◌≡◌, ◌++◌, codes, decimal};
+ghost use Rattle.sms_send.specs.Faults.{shown, shown_char};
 
 use sms_driver::SendFault;
 use sms_files::{InputFault, Source};
@@ -36,7 +37,7 @@ pub enum Fault {
     BindFailed(u32),
     /// What is to be printed can't be written.
     Output,
-    /// Memory was refused.
+    /// Memory was refused, or a thread; of a sending maybe once messages had gone out.
     OutOfMemory,
 }
 
@@ -51,7 +52,7 @@ impl fmt::Display for Fault {
             Fault::Words => f.write_str("fault: words"),
             Fault::Help(text) | Fault::Version(text) => f.write_str(text.as_str()),
             Fault::File(name) => write_named(f, "fault: file ", name.as_str()),
-            Fault::Unreadable(source) => write_named(f, "fault: file ", source.name()),
+            Fault::Unreadable(source) => write_source(f, source.name()),
             Fault::BadRecord(source, place) => write_record(f, source.name(), *place),
             Fault::NotToml => f.write_str("fault: config"),
             Fault::BadKey(key) => write_named(f, "fault: config ", key.as_str()),
@@ -63,11 +64,48 @@ impl fmt::Display for Fault {
     }
 }
 
-/// What is told, and its name.
-fn write_named<W: fmt::Write>(f: &mut fmt::Formatter<W>, what: &str, name: &str) -> fmt::Result
-    ensures { WritesOnOk W.write_str_gives f.old result (what.now ++ name.now) f.new }
+/// A name that comes from outside. What would begin another line, or move a terminal's cursor, is
+/// written out.
+fn write_name<W: fmt::Write>(f: &mut fmt::Formatter<W>, name: &str) -> fmt::Result
+    ensures { WritesOnOk W.write_str_gives f.old result (shown name.now) f.new }
 {
-    write!(f, "{what}{name}")
+    for c in name.chars() {
+        write_shown(f, c)?;
+    }
+    Ok(())
+}
+
+/// A character of a name.
+fn write_shown<W: fmt::Write>(f: &mut fmt::Formatter<W>, c: char) -> fmt::Result
+    ensures { WritesOnOk W.write_str_gives f.old result (shown_char c) f.new }
+{
+    if !c.is_control() {
+        return f.write_char(c);
+    }
+    match c {
+        '\n' => f.write_str("\\n"),
+        '\r' => f.write_str("\\r"),
+        '\t' => f.write_str("\\t"),
+        _ => {
+            let (high, low) = (c as u32 / 16, c as u32 % 16);
+            write!(f, "\\x{high:x}{low:x}")
+        }
+    }
+}
+
+/// What is told, and of what.
+fn write_named<W: fmt::Write>(f: &mut fmt::Formatter<W>, what: &str, name: &str) -> fmt::Result
+    ensures { WritesOnOk W.write_str_gives f.old result (what.now ++ shown name.now) f.new }
+{
+    f.write_str(what)?;
+    write_name(f, name)
+}
+
+/// The line of what can't be read, by the name of its source.
+fn write_source<W: fmt::Write>(f: &mut fmt::Formatter<W>, source: &str) -> fmt::Result
+    ensures { WritesOnOk W.write_str_gives f.old result (codes "fault: file " ++ source.now) f.new }
+{
+    write!(f, "fault: file {source}")
 }
 
 /// The line of a record, by the name of its source.
@@ -153,6 +191,7 @@ impl From<SendFault> for Fault {
             SendFault::BindRefused(bind, status) => Fault::BindRefused(bind, status),
             SendFault::BindFailed(bind, _) => Fault::BindFailed(bind),
             SendFault::ThreadRefused | SendFault::OutOfMemory => Fault::OutOfMemory,
+            SendFault::EndsLost => Fault::OutOfMemory,
         }
     }
 }

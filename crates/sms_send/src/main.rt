@@ -18,6 +18,7 @@ mod reading;
 mod replay;
 mod send_job;
 mod sender;
+mod standard;
 #[cfg(test)]
 mod tests;
 
@@ -34,6 +35,7 @@ use crate::opened::open;
 use crate::plan::run_plan;
 use crate::replay::run_replay;
 use crate::send_job::{Centre, send_job};
+use crate::standard::stand_ins;
 use std::io::{ErrorKind, Write};
 use std::net::{Net, TcpListener, TcpStream};
 use std::process::ExitCode;
@@ -41,6 +43,8 @@ use std::rt::Env;
 use std::{env, io};
 
 fn main(rt: HostRuntime) -> ExitCode {
+    // They stand in to the end.
+    let _kept = stand_ins(&rt);
     let status = match run(&rt, &mut io::writer(&rt)) {
         Ok(status) => status,
         Err(fault) => status_after(&tell(&rt, &fault), &fault),

@@ -6,7 +6,7 @@ use sms_centre::{Script, serve};
 use sms_driver::Dial;
 use sms_pdu::Tap;
 use std::alloc::Global;
-use std::net::{Ipv4Addr, Net, TcpListener, TcpStream};
+use std::net::{Ipv4Addr, Net, SocketAddr, TcpListener, TcpStream};
 use std::sync::Wait;
 use std::thread;
 use std::thread::Threads;
@@ -18,19 +18,25 @@ const READ_MS: u64 = 100;
 /// How many turns a test centre takes.
 const CENTRE_TURNS: u64 = 1 << 40;
 
+/// How many others may connect to a test centre before its own sender.
+const MOST_STRANGERS: u32 = 1 << 20;
+
 /// Reader and writer of one connection. What is written waits in the outbox alone, for no more than
-/// the system's own reasons after that; a read waits for 100 ms at most.
+/// the system's own reasons after that; a read waits for 100 ms at most, and a write that the
+/// connection takes nothing of as long as `patience`.
 fn ends_of<'r, R: Net<Stream = TcpStream> + Wait>(
     rt: &'r R,
     alloc: Global,
     bell: &'r Bell,
     outbox: &'r Outbox,
+    patience: Option<Duration>,
     stream: TcpStream,
 ) -> Option<(Ringing<'r, TcpStream, R>, Posting<'r, R>)> {
     stream.set_nodelay(true).ok()?;
     stream
         .set_read_timeout(Some(Duration::from_millis(READ_MS)))
         .ok()?;
+    stream.set_write_timeout(patience).ok()?;
     let inner = stream.try_clone().ok()?;
     outbox.open(rt, alloc, stream)?;
     let reader = Ringing {
@@ -61,7 +67,8 @@ impl<'r, R: Net<Stream = TcpStream> + Wait + Sync> Dial for TcpDial<'r, R> {
     fn dial(&self, bind: u32) -> Option<(Ringing<'r, TcpStream, R>, Posting<'r, R>)> {
         let outbox = self.outboxes.get(bind)?;
         let stream = TcpStream::connect(self.rt, (self.host, self.port)).ok()?;
-        ends_of(self.rt, self.alloc, self.bell, outbox, stream)
+        let patience = self.outboxes.patience();
+        ends_of(self.rt, self.alloc, self.bell, outbox, patience, stream)
     }
 }
 
@@ -88,16 +95,28 @@ impl<'r, R: Net<Stream = TcpStream, Listener = TcpListener> + Threads + Wait + S
         let outbox = self.outboxes.get(bind)?;
         let address = self.listener.local_addr().ok()?;
         let near = TcpStream::connect(self.rt, address).ok()?;
-        let (far, _from) = self.listener.accept().ok()?;
+        let far = accept_from(&self.listener, near.local_addr().ok()?)?;
         let script = Script::of(self.alloc, self.bind_status, self.answers).ok()?;
         start_centre(self.rt, self.alloc, far, script)?;
-        ends_of(self.rt, self.alloc, self.bell, outbox, near)
+        let patience = self.outboxes.patience();
+        ends_of(self.rt, self.alloc, self.bell, outbox, patience, near)
     }
 }
 
 /// A listener on a free port of this machine alone.
 pub fn listen<R: Net<Stream = TcpStream, Listener = TcpListener>>(rt: &R) -> Option<TcpListener> {
     TcpListener::bind(rt, (Ipv4Addr::LOCALHOST, 0u16)).ok()
+}
+
+/// The connection that comes from this address. Whoever else has connected is hung up.
+fn accept_from(listener: &TcpListener, near: SocketAddr) -> Option<TcpStream> {
+    for _ in 0..MOST_STRANGERS {
+        let (far, from) = listener.accept().ok()?;
+        if from == near {
+            return Some(far);
+        }
+    }
+    None
 }
 
 /// Serves the connection in a thread of its own, to its end.

@@ -25,7 +25,7 @@ use std::net::{Net, TcpListener, TcpStream};
 use std::rt::Files;
 use std::sync::Wait;
 use std::thread::Threads;
-use std::time;
+use std::{mem, time};
 
 /// To which message centre the messages go.
 #[derive(Clone, Copy, Debug, PartialEq, Eq)]
@@ -118,7 +118,16 @@ pub fn send_job<R: Host + Net<Stream = TcpStream, Listener = TcpListener>, W: Wr
                 host: host.as_str(),
                 port: port as u16,
             };
-            send_files(rt, config.as_slice(), files, &dial, &pause, telling, output)
+            send_files(
+                rt,
+                config.as_slice(),
+                files,
+                &outboxes,
+                &dial,
+                &pause,
+                telling,
+                output,
+            )
         }
         Centre::Own => {
             let Some(listener) = listen(rt) else {
@@ -133,7 +142,16 @@ pub fn send_job<R: Host + Net<Stream = TcpStream, Listener = TcpListener>, W: Wr
                 bind_status,
                 answers: answers.as_slice(),
             };
-            send_files(rt, config.as_slice(), files, &dial, &pause, telling, output)
+            send_files(
+                rt,
+                config.as_slice(),
+                files,
+                &outboxes,
+                &dial,
+                &pause,
+                telling,
+                output,
+            )
         }
     }
 }
@@ -149,6 +167,7 @@ fn send_files<
     rt: &R,
     config: &[u8],
     files: FileNames,
+    outboxes: &Outboxes,
     dial: &D,
     pause: &P,
     telling: Telling,
@@ -164,6 +183,7 @@ fn send_files<
     let tariff = open_named(rt, files.tariff)?;
     let alloc = rt.alloc();
     let input = read_input(alloc, config, accounts, messages, tariff)?;
+    outboxes.set_patience(input.config().retry.answer_ms);
     let clock = Ticks::new(rt);
     let progress = Progress::new(rt, &clock, telling, input.messages().len());
     let sent = send_all(rt, alloc, input, dial, &progress, &clock, pause);
@@ -171,5 +191,8 @@ fn send_files<
     let ended = sent?;
     write_report(alloc, &ended, output)?;
     progress.sum_up(&ended);
-    Ok(ended.exit_status())
+    let status = ended.exit_status();
+    // The process ends next, which frees it at once.
+    mem::forget(ended);
+    Ok(status)
 }

@@ -11,5 +11,6 @@ mod refusals;
 mod same;
 mod sending;
 mod simulator;
+mod standard;
 mod told;
 mod trial;

@@ -1,12 +1,13 @@
-//! Connections over TCP to a listener of the test's own: how they are set up, and what happens before
-//! someone waits.
+//! Connections over TCP to a listener of the test's own: how they are set up, what happens before
+//! someone waits, and who is served.
 
 use super::same::same;
 use crate::bell::{Bell, Rest};
-use crate::network::{TcpDial, listen};
+use crate::devices::Ticks;
+use crate::network::{LoopDial, TcpDial, listen};
 use crate::outbox::Outboxes;
 use sms_driver::Dial;
-use sms_worker::Pause;
+use sms_worker::{Clock, Pause};
 use std::io::{Read, Write};
 use std::net::{IpAddr, Ipv4Addr, Net, TcpListener, TcpStream};
 use std::process::Abort;
@@ -28,8 +29,8 @@ fn listening(
     }
 }
 
-// How a stream was set up.
-fn want_set_up(rt: &impl Abort, stream: &TcpStream) {
+// How a stream was set up, whose writes wait so long.
+fn want_set_up(rt: &impl Abort, stream: &TcpStream, patience: Option<Duration>) {
     match stream.nodelay() {
         Ok(nodelay) => assert!(rt; nodelay),
         Err(_) => panic!(rt; "no option"),
@@ -38,10 +39,14 @@ fn want_set_up(rt: &impl Abort, stream: &TcpStream) {
         Ok(most) => same(rt, most, Some(Duration::from_millis(100))),
         Err(_) => panic!(rt; "no option"),
     }
+    match stream.write_timeout() {
+        Ok(most) => same(rt, most, patience),
+        Err(_) => panic!(rt; "no option"),
+    }
 }
 
-/// On the connection of each bind no octet waits for others in the system, and a read waits for 100
-/// ms at most. There are four binds.
+/// On the connection of each bind no octet waits for others in the system, a read waits for 100 ms at
+/// most, and a write as long as the outboxes say when it is made. There are four binds.
 #[test]
 fn sets_up_each_connection(rt: HostRuntime) {
     let bell = Bell::new();
@@ -55,9 +60,14 @@ fn sets_up_each_connection(rt: HostRuntime) {
         host: "127.0.0.1",
         port,
     };
-    for bind in 0u32..4 {
+    for (bind, patience) in [(0u32, 0u32), (1, 600_000), (2, 5_000), (3, 1_000)] {
+        outboxes.set_patience(patience);
+        let wanted = match patience {
+            0 => None,
+            ms => Some(Duration::from_millis(u64::from(ms))),
+        };
         match dial.dial(bind) {
-            Some((reader, _writer)) => want_set_up(&rt, &reader.inner),
+            Some((reader, _writer)) => want_set_up(&rt, &reader.inner, wanted),
             None => panic!(rt; "no connection"),
         }
     }
@@ -128,4 +138,111 @@ fn writes_and_rings_before_it_reads(rt: HostRuntime) {
     put(&rt, &mut writer, b"two");
     rest.pause(1);
     want(&rt, &mut far, b"two");
+}
+
+/// What is put waits until there are more than 8,192 octets of it, and goes out in one piece.
+#[test]
+fn keeps_8192_octets(rt: HostRuntime) {
+    let bell = Bell::new();
+    let outboxes = Outboxes::new();
+    let (listener, port) = listening(&rt);
+    let dial = TcpDial {
+        rt: &rt,
+        alloc: rt.alloc(),
+        bell: &bell,
+        outboxes: &outboxes,
+        host: "127.0.0.1",
+        port,
+    };
+    let Some((_reader, mut writer)) = dial.dial(0) else {
+        panic!(rt; "no connection")
+    };
+    let mut far = accepted(&rt, &listener);
+    assert!(rt; far.set_nonblocking(true).is_ok());
+    for _half in 0..2 {
+        put(&rt, &mut writer, &[7u8; 4_096]);
+    }
+    want_nothing(&rt, &mut far);
+    put(&rt, &mut writer, &[8u8]);
+    let mut octets = [0u8; 9_000];
+    match far.read(&mut octets) {
+        Ok(count) => same(&rt, count, 8_192),
+        Err(_) => panic!(rt; "nothing came"),
+    }
+}
+
+/// A reader that ends rings, too: a pause behind it ends at once.
+#[test]
+fn rings_at_its_end(rt: HostRuntime) {
+    let bell = Bell::new();
+    let outboxes = Outboxes::new();
+    let (_listener, port) = listening(&rt);
+    let dial = TcpDial {
+        rt: &rt,
+        alloc: rt.alloc(),
+        bell: &bell,
+        outboxes: &outboxes,
+        host: "127.0.0.1",
+        port,
+    };
+    let Some((reader, _writer)) = dial.dial(0) else {
+        panic!(rt; "no connection")
+    };
+    drop(reader);
+    let rest = Rest {
+        rt: &rt,
+        bell: &bell,
+        outboxes: &outboxes,
+    };
+    let clock = Ticks::new(&rt);
+    rest.pause(20_000);
+    assert!(rt; clock.now_ms() < 10_000);
+}
+
+/// Octets of an enquire_link, and of its answer (SMPP 3.4 4.11).
+const ENQUIRE: [u8; 16] = [0, 0, 0, 16, 0, 0, 0, 0x15, 0, 0, 0, 0, 0, 0, 0, 1];
+
+const ALIVE: [u8; 16] = [0, 0, 0, 16, 0x80, 0, 0, 0x15, 0, 0, 0, 0, 0, 0, 0, 1];
+
+/// A test centre serves the connection that was dialled to it, and not one that came before. That is
+/// hung up.
+#[test]
+fn serves_its_own_sender(rt: HostRuntime) {
+    let bell = Bell::new();
+    let outboxes = Outboxes::new();
+    let (listener, port) = listening(&rt);
+    let Ok(mut stranger) = TcpStream::connect(&rt, (Ipv4Addr::LOCALHOST, port)) else {
+        panic!(rt; "no connection")
+    };
+    let answers = [answering(&rt)];
+    let dial = LoopDial {
+        rt: &rt,
+        alloc: rt.alloc(),
+        bell: &bell,
+        outboxes: &outboxes,
+        listener,
+        bind_status: 0,
+        answers: &answers,
+    };
+    let Some((mut reader, mut writer)) = dial.dial(0) else {
+        panic!(rt; "no connection")
+    };
+    put(&rt, &mut writer, &ENQUIRE);
+    let mut octets = [0u8; 16];
+    match reader.read_exact(&mut octets) {
+        Ok(()) => same(&rt, octets, ALIVE),
+        Err(_) => panic!(rt; "no answer"),
+    }
+    match stranger.read(&mut octets) {
+        Ok(count) => same(&rt, count, 0),
+        Err(_) => panic!(rt; "not hung up"),
+    }
+}
+
+// The text of a script that answers with ESME_ROK.
+fn answering(rt: &(impl AllocGlobal + Abort)) -> String {
+    match String::from_str(rt.alloc(), "status 0") {
+        Ok(text) => text,
+        Err(_) => panic!(rt; "no memory"),
+    }
 }

@@ -15,7 +15,7 @@ returns-clause-sent g c = (
     ended = c.in_ok-ended.ended;
     sent = c.in_ok-ended.ensures.sent;
     written = c.in_ok-write_report.ensures.written;
-    status_is = c.exit_status.ensures;
+    status_is = c.exit_status-status.ensures;
   },
 )
 
