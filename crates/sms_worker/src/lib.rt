@@ -21,8 +21,6 @@ mod rules;
 mod run;
 mod segment;
 mod settling;
-#[cfg(test)]
-mod tests;
 mod texts;
 mod turns;
 mod user_data;

@@ -1,4 +1,0 @@
-use Rattle.sms_worker.proofs.tests.heard.comes.Given as goal
-
-abbrev pub ghosts-works : goal.ghosts-works
-ghosts-works g a = record { book = a.blank.book }

@@ -1,4 +1,0 @@
-use Rattle.sms_worker.proofs.tests.threads.go.Given as goal
-
-abbrev pub ghosts-work_together : goal.ghosts-work_together
-ghosts-work_together g a = record { book = a.blank.book }

@@ -1,0 +1,252 @@
+//! What stands beside a worker that runs alone: its writer, and what answers it while it pauses. And
+//! what stands beside two that run at once.
+
+use super::centre::{answer_of, nack_of, status_of};
+use super::notes::{Log, Note};
+use super::{Case, NACK, SILENT};
+use rtrb::Producer;
+use sms_bind::{Line, Wire};
+use sms_pdu::{Reply, SUBMIT_SM, Tap, header_of, reply_of};
+use sms_slot::SlotRow;
+use sms_worker::{Clock, Gate, MessageRefusal, Pause};
+use std::alloc::Global;
+use std::cell::{Cell, RefCell};
+use std::io::Write;
+use std::sync::Wait;
+use std::sync::atomic::{AtomicBool, Ordering};
+use std::{io, thread};
+
+/// A writer that takes so many octets and then fails. It notes each submit_sm that comes to it.
+#[derive(Drop)]
+pub struct Fuse<'a> {
+    left: u64,
+    log: &'a Log,
+}
+
+impl Fuse<'_> {
+    // What comes first of a frame is the whole of it.
+    fn see(&self, buf: &[u8]) {
+        if let Some(header) = header_of(buf) {
+            if header.command == SUBMIT_SM && header.length as usize == buf.len() {
+                self.log.note(Note::Written(header.number));
+            }
+        }
+    }
+}
+
+impl Write for Fuse<'_> {
+    fn write(&mut self, buf: &[u8]) -> io::Result<usize> {
+        self.see(buf);
+        let count = buf.len().min(self.left as usize);
+        if count == 0 {
+            return Err(io::Error::from(io::ErrorKind::BrokenPipe));
+        }
+        self.left = self.left.saturating_sub(count as u64);
+        Ok(count)
+    }
+
+    fn flush(&mut self) -> io::Result<()> {
+        Ok(())
+    }
+}
+
+/// A line whose writer takes so many octets.
+pub fn line_with_fuse(alloc: Global, room: u64, log: &Log) -> Option<Line<Fuse<'_>>> {
+    let slots = SlotRow::new(alloc).ok()?;
+    let fuse = Fuse { left: room, log };
+    Some(Line::new(slots, Wire::new(Tap::new(fuse))))
+}
+
+/// What stands beside the worker: a gate that remembers the numbers that pass and notes all that it is
+/// told, a clock that goes on at each pause, and a pause in which the answers come.
+#[derive(Drop)]
+pub struct Beside<'a, R, W> {
+    rt: &'a R,
+    line: &'a Line<W>,
+    producers: RefCell<Vec<Producer<Reply>>>,
+    asked: RefCell<Vec<u32>>,
+    answers: &'a [u32],
+    answered: Cell<usize>,
+    now: Cell<u64>,
+    late_ms: u64,
+    pauses: Cell<u32>,
+    down_at: u32,
+    ready_at: u32,
+    stops_at: u32,
+    log: &'a Log,
+}
+
+impl<'a, R, W> Beside<'a, R, W> {
+    /// Beside the workers of this line, whose rings these are.
+    pub fn new(
+        rt: &'a R,
+        alloc: Global,
+        line: &'a Line<W>,
+        producers: Vec<Producer<Reply>>,
+        case: Case<'a>,
+        log: &'a Log,
+    ) -> Beside<'a, R, W> {
+        Beside {
+            rt,
+            line,
+            producers: RefCell::new(producers),
+            asked: RefCell::new(Vec::new(alloc)),
+            answers: case.answers,
+            answered: Cell::new(0),
+            now: Cell::new(case.begins_ms),
+            late_ms: case.late_ms,
+            pauses: Cell::new(0),
+            down_at: case.down_at,
+            ready_at: case.ready_at,
+            stops_at: case.stops_at,
+            log,
+        }
+    }
+}
+
+impl<R, W> Gate for Beside<'_, R, W> {
+    fn pass(&self, _worker: usize, number: u32) -> bool {
+        match self.asked.try_borrow_mut() {
+            Ok(mut asked) => asked.push(number).is_ok(),
+            Err(_) => false,
+        }
+    }
+
+    fn ready(&self, _worker: usize) -> bool {
+        self.pauses.get() >= self.ready_at
+    }
+
+    fn sending(&self, _worker: usize, number: u32, message: u64, part: usize) -> bool {
+        if number == self.stops_at {
+            return false;
+        }
+        self.log.note(Note::Sending(number, message, part));
+        true
+    }
+
+    fn unsent(&self, _worker: usize, number: u32) {
+        self.log.note(Note::Unsent(number));
+    }
+
+    fn heard(&self, _worker: usize, reply: &Reply) {
+        self.log.note(Note::Heard(reply.number, reply.status));
+    }
+
+    fn begun(&self, _worker: usize, message: u64) {
+        self.log.note(Note::Begun(message));
+    }
+
+    fn refused(&self, _worker: usize, message: u64, why: MessageRefusal) {
+        self.log.note(Note::Refused(message, why));
+    }
+}
+
+impl<R: Wait, W> Clock for Beside<'_, R, W> {
+    fn now_ms(&self) -> u64 {
+        if self.late_ms != 0 && self.now.get() >= self.late_ms {
+            self.answer_all();
+        }
+        self.now.get()
+    }
+}
+
+impl<R: Wait, W> Pause for Beside<'_, R, W> {
+    fn pause(&self, _ms: u32) {
+        self.now.set(self.now.get().wrapping_add(10));
+        self.pauses.set(self.pauses.get().wrapping_add(1));
+        if self.late_ms == 0 {
+            self.answer_all();
+        }
+        if self.pauses.get() == self.down_at {
+            self.line.down.store(true, Ordering::SeqCst);
+        }
+    }
+
+    fn wait(&self, _worker: usize, ms: u32, most: u64) {
+        self.log.note(Note::Waited(ms, most));
+        self.pause(ms);
+    }
+}
+
+impl<R: Wait, W> Beside<'_, R, W> {
+    // Answers what was asked.
+    fn answer_all(&self) {
+        if let Ok(mut asked) = self.asked.try_borrow_mut() {
+            for number in asked.as_slice() {
+                self.answer(*number);
+            }
+            asked.clear();
+        }
+    }
+
+    // The next answer, for this number.
+    fn answer(&self, number: u32) {
+        let Some(status) = status_of(self.answers, self.answered.get()) else {
+            return;
+        };
+        self.answered.set(self.answered.get().wrapping_add(1));
+        if status == SILENT {
+            return;
+        }
+        let reply = if status == NACK {
+            reply_of(&nack_of(number))
+        } else {
+            reply_of(&answer_of(status, number))
+        };
+        let Some(reply) = reply else {
+            return;
+        };
+        if let Ok(mut producers) = self.producers.try_borrow_mut() {
+            let _found = self
+                .line
+                .slots
+                .answer(self.rt, reply, producers.as_mut_slice());
+        }
+    }
+}
+
+/// What stands beside the workers: a clock that stands, so that nothing expires, and a gate that holds the
+/// first request of each until the other has one.
+#[derive(Drop)]
+pub struct Together {
+    held: u32,
+    came: [AtomicBool; 2],
+}
+
+impl Together {
+    /// A gate at which each looks so often for the other; 0 is no gate.
+    pub fn new(held: u32) -> Together {
+        Together {
+            held,
+            came: [AtomicBool::new(false), AtomicBool::new(false)],
+        }
+    }
+}
+
+impl Gate for Together {
+    fn pass(&self, worker: usize, _number: u32) -> bool {
+        match worker {
+            0 => self.came[0].store(true, Ordering::SeqCst),
+            _ => self.came[1].store(true, Ordering::SeqCst),
+        }
+        for _ in 0..self.held {
+            if self.came[0].load(Ordering::SeqCst) && self.came[1].load(Ordering::SeqCst) {
+                return true;
+            }
+            thread::yield_now();
+        }
+        self.held == 0
+    }
+}
+
+impl Clock for Together {
+    fn now_ms(&self) -> u64 {
+        0
+    }
+}
+
+impl Pause for Together {
+    fn pause(&self, _ms: u32) {
+        thread::yield_now();
+    }
+}
