@@ -1,0 +1,4 @@
+pub mod Counting
+pub mod Refusals
+pub mod Signs
+pub mod Sources

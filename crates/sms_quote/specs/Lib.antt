@@ -1,0 +1,4 @@
+pub mod Laws
+pub mod QuoteText
+pub mod Quotes
+pub mod Totals

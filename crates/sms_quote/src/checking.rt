@@ -1,0 +1,116 @@
+//! The checks of a message.
+
+ghost use Rattle.std.specs.Prelude.{◌≡◌, ◌↔◌, ◌≤◌, ◌*◌, IfOk, IsTrue};
+ghost use Rattle.sms_worker.specs.Told.{IsKnown};
+ghost use Rattle.sms_quote.specs.Quotes.{IsChecked, IsCounted, IsPartCount, IsQuoteOf, reference_for as its_reference};
+
+use crate::address::has_addresses;
+use crate::quote::{Quote, Verdict};
+use sms_alphabet::choose;
+use sms_book::Tariff;
+use sms_segment::{CutError, Reference, cut};
+use sms_worker::Message;
+use std::alloc::{AllocError, Global};
+
+fn is_known(account: Option<usize>, accounts: usize) -> bool
+    ensures { IsTrue result ↔ IsKnown accounts account }
+{
+    match account {
+        Some(account) => account < accounts,
+        None => false,
+    }
+}
+
+/// The reference that a message's parts have in common.
+fn reference_for(long: bool, message: &Message) -> Reference
+    ensures { result ≡ its_reference long message.now }
+{
+    if long {
+        Reference::Long((message.index % 65536) as u16)
+    } else {
+        Reference::Short((message.index % 256) as u8)
+    }
+}
+
+/// How many parts a message has; none where no header can count them.
+fn parts_for(alloc: Global, long: bool, message: &Message) -> Result<Option<u8>, AllocError>
+    ensures { IfOk result (IsPartCount long message.now) }
+{
+    let text = choose(alloc, message.text.as_str())?;
+    match cut(alloc, &text, reference_for(long, message)) {
+        Ok(parts) => Ok(Some(parts.len() as u8)),
+        Err(CutError::TooLong) => Ok(None),
+        Err(CutError::OutOfMemory) => Err(AllocError),
+    }
+}
+
+/// A message that isn't cut.
+fn uncut(verdict: Verdict) -> Quote
+    ensures { result ≡ record { verdict = verdict; parts = 0; cost = 0 } }
+{
+    Quote {
+        verdict,
+        parts: 0,
+        cost: 0,
+    }
+}
+
+/// What so many parts cost.
+fn cost_for(parts: u8, price: u32) -> u64
+    requires { 1 ≤ price }
+    ensures is { result ≡ parts * price }
+    ensures more { parts ≤ result }
+{
+    u64::from(parts) * u64::from(price)
+}
+
+/// The quote of a message whose account has credits enough.
+fn checked(
+    alloc: Global,
+    accounts: usize,
+    long: bool,
+    tariff: &Tariff,
+    message: &Message,
+) -> Result<Quote, AllocError>
+    ensures checked { IfOk result (λ q. IsChecked accounts long tariff.now message.now q) }
+    ensures counted { IfOk result IsCounted }
+{
+    if !is_known(message.account, accounts) {
+        return Ok(uncut(Verdict::NoAccount));
+    }
+    if !has_addresses(message) {
+        return Ok(uncut(Verdict::BadAddress));
+    }
+    let Some(parts) = parts_for(alloc, long, message)? else {
+        return Ok(uncut(Verdict::TooLong));
+    };
+    let price = tariff.cost(message.dest.as_str());
+    Ok(Quote {
+        verdict: Verdict::Passes,
+        parts: u64::from(parts),
+        cost: cost_for(parts, price),
+    })
+}
+
+/// The quote of a message whose account has so many credits left.
+pub(crate) fn quote_of(
+    alloc: Global,
+    accounts: usize,
+    long: bool,
+    tariff: &Tariff,
+    free: u64,
+    message: &Message,
+) -> Result<Quote, AllocError>
+    ensures quote { IfOk result (λ q. IsQuoteOf accounts long tariff.now free message.now q) }
+    ensures counted { IfOk result IsCounted }
+{
+    let quote = checked(alloc, accounts, long, tariff, message)?;
+    if quote.verdict == Verdict::Passes && quote.cost > free {
+        return Ok(Quote {
+            verdict: Verdict::NoCredit,
+            parts: quote.parts,
+            cost: quote.cost,
+        });
+    }
+    Ok(quote)
+}

@@ -1,0 +1,18 @@
+//! What a sending would come to, before anything is sent: of each message whether it passes the checks
+//! of a worker and what it costs, and of each account what its messages take.
+
+#![tactic(auto)]
+
+mod address;
+mod checking;
+mod field;
+pub mod laws;
+mod quote;
+mod quoting;
+#[cfg(test)]
+mod tests;
+mod text;
+mod total;
+
+pub use quote::{Quote, Verdict};
+pub use text::quote_text;
