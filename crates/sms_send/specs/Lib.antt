@@ -6,6 +6,3 @@ pub mod Replays
 pub mod Sent
 pub mod Laws
 pub mod Jobs
-pub mod Telling
-pub mod Outboxes
-pub mod Standard

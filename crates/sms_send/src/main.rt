@@ -3,22 +3,15 @@
 
 #![tactic(auto)]
 
-mod bell;
-mod devices;
 mod fault;
-mod host;
 mod job;
 pub mod laws;
-mod network;
 mod opened;
-mod outbox;
 mod plan;
-mod progress;
 mod reading;
 mod replay;
 mod send_job;
 mod sender;
-mod standard;
 #[cfg(test)]
 mod tests;
 
@@ -29,13 +22,12 @@ ghost use Rattle.sms_send.specs.Jobs.{Does, IsStatusOf, TellsJob, TellsRun, Work
 ghost use Rattle.sms_send.specs.declared.fault.Fault.TheVariants.{Output, OutOfMemory, Words};
 
 use crate::fault::Fault;
-use crate::host::Host;
 use crate::job::{Job, job_of};
 use crate::opened::open;
 use crate::plan::run_plan;
 use crate::replay::run_replay;
 use crate::send_job::{Centre, send_job};
-use crate::standard::stand_ins;
+use sms_devices::{Host, stand_ins};
 use std::io::{ErrorKind, Write};
 use std::net::{Net, TcpListener, TcpStream};
 use std::process::ExitCode;

@@ -6,16 +6,13 @@ ghost use Rattle.sms_send.specs.Jobs.{IsStatus};
 ghost use Rattle.sms_send.specs.Sent.{RunsSender, SendsFiles, SendsNamed, TellsNamed, TellsSender, TellsSent};
 ghost use Rattle.sms_send.specs.declared.fault.Fault.TheVariants.{Output};
 
-use crate::bell::{Bell, Rest};
-use crate::devices::Ticks;
 use crate::fault::Fault;
-use crate::host::Host;
-use crate::network::{LoopDial, TcpDial, listen};
 use crate::opened::{octets_of, open, open_named};
-use crate::outbox::Outboxes;
-use crate::progress::{Progress, Screen, Telling};
 use crate::reading::{read_input, setup_of};
 use crate::sender::{send_all, write_report};
+use sms_devices::{
+    Bell, Host, LoopDial, Outboxes, Progress, Rest, Screen, TcpDial, Telling, Ticks, listen,
+};
 use sms_driver::Dial;
 use sms_files::{FileNames, Setup};
 use sms_worker::{Clock, Gate, Pause};
@@ -190,7 +187,7 @@ fn send_files<
     progress.clear();
     let ended = sent?;
     write_report(alloc, &ended, output)?;
-    progress.sum_up(&ended);
+    progress.sum_up(ended.ends(), ended.statement());
     let status = ended.exit_status();
     // The process ends next, which frees it at once.
     mem::forget(ended);

@@ -2,9 +2,9 @@
 //! to.
 
 ghost use Rattle.std.specs.Prelude.{◌≡◌, ◌≤◌, ◌-◌, false, true};
-ghost use Rattle.sms_send.specs.Telling.{telling_of};
+ghost use Rattle.sms_devices.specs.Telling.{telling_of};
 
-use crate::sender::Ended;
+use sms_book::Statement;
 use sms_report::{EndLine, Tally, WayLine, summary_of, tally_of};
 use sms_worker::{Clock, Gate, MessageEnd};
 use std::array;
@@ -200,12 +200,12 @@ impl<'r, S: Eprint, K: Clock> Progress<'r, S, K> {
     }
 
     /// Tells what the sending came to, once its report was printed.
-    pub fn sum_up(&self, ended: &Ended) {
+    pub fn sum_up(&self, ends: &[MessageEnd], statement: &Statement) {
         if self.telling == Telling::Nothing {
             return;
         }
         let line = EndLine {
-            summary: summary_of(ended.ends(), ended.statement()),
+            summary: summary_of(ends, statement),
             ms: self.passed_ms(self.clock.now_ms()),
         };
         let _told = eprintln!(self.screen; "{line}");

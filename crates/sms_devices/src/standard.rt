@@ -3,7 +3,7 @@
 //! what is printed would go there.
 
 ghost use Rattle.std.specs.Prelude.{IfSome};
-ghost use Rattle.sms_send.specs.Standard.{IsStandard};
+ghost use Rattle.sms_devices.specs.Standard.{IsStandard};
 
 use std::fs;
 use std::fs::OpenOptions;

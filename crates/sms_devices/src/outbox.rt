@@ -4,7 +4,7 @@
 ghost use Rattle.std.specs.Prelude.{◌≡◌, [], None, false, is_err, option_copied, slice_get, true};
 ghost use Rattle.std.specs.Io.{WritesAtMost};
 ghost use Rattle.std.specs.Io.KnownBytes.{Keeps, WriteAppends};
-ghost use Rattle.sms_send.specs.Outboxes.{put_in, waiting_in};
+ghost use Rattle.sms_devices.specs.Outboxes.{put_in, waiting_in};
 
 use std::alloc::Global;
 use std::io;

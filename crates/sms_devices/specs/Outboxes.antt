@@ -1,7 +1,7 @@
 -- What is put into an outbox: some was written to the connection, and the rest waits.
 use Rattle.std.specs.Prelude.{ℕ, List, Option}
 use Rattle.std.specs.Io.Buffered.{writer_buffer, writer_contents}
-use Rattle.sms_send.specs.declared.outbox.Held.{Held}
+use Rattle.sms_devices.specs.declared.outbox.Held.{Held}
 
 -- what waits to be written
 abbrev pub waiting_in : {W : Type 0} → Held W → List ℕ

@@ -1,0 +1,23 @@
+//! The devices that a sending stands on in the program: connections over TCP, what waits to be
+//! written to them, the bell that ends a pause, the clock, standard streams, and what a person is
+//! told on the way.
+
+#![tactic(auto)]
+
+mod bell;
+mod devices;
+mod host;
+mod network;
+mod outbox;
+mod progress;
+mod standard;
+#[cfg(test)]
+mod tests;
+
+pub use bell::{Bell, Rest, Ringing};
+pub use devices::Ticks;
+pub use host::Host;
+pub use network::{LoopDial, TcpDial, listen};
+pub use outbox::{Outbox, Outboxes, Posting};
+pub use progress::{Progress, Screen, Telling};
+pub use standard::stand_ins;
