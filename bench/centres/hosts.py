@@ -45,7 +45,8 @@ class Hosts:
             for k, name in enumerate(self.names):
                 file.write(f"Host {name}\n HostName 198.18.0.{k + 2}\n")
             file.write(f"Host *\n User root\n IdentityFile {self.folder}/key\n IdentitiesOnly yes\n StrictHostKeyChecking accept-new\n")
-            file.write(f" UserKnownHostsFile {self.folder}/known\n ServerAliveInterval 1\n ServerAliveCountMax 3\n ConnectTimeout 5\n LogLevel ERROR\n")
+            file.write(f" UserKnownHostsFile {self.folder}/known\n LogLevel ERROR\n")
+            file.write(" ServerAliveInterval 1\n ServerAliveCountMax 3\n ConnectTimeout 5\n")
         for k, name in enumerate(self.names):
             self.make_host(name, f"198.18.0.{k + 2}", bridge)
 

@@ -66,7 +66,8 @@ def sent_by_runs(folder):
 
 def compare(folder, centres):
     """Compares a job that was merged with what its centres saw; gives what is worth telling."""
-    balanced = subprocess.run([f"{HOME}/tools/balances", f"{folder}/report.csv", f"{folder}/messages.csv"], capture_output=True, text=True, check=False)
+    words = [f"{HOME}/tools/balances", f"{folder}/report.csv", f"{folder}/messages.csv"]
+    balanced = subprocess.run(words, capture_output=True, text=True, check=False)
     if balanced.returncode != 0:
         raise Wrong(balanced.stdout.strip())
     report = Report(f"{folder}/report.csv")
