@@ -77,11 +77,15 @@ class Centre:
         """Loses all connections, and takes no more."""
         self.listener.shutdown(socket.SHUT_RDWR)
         self.listener.close()
-        for it in self.streams:
-            try:
-                it.shutdown(socket.SHUT_RDWR)
-            except OSError:
-                pass
+        for connection in range(len(self.streams)):
+            self.hang_up_one(connection)
+
+    def hang_up_one(self, connection):
+        """Loses a connection."""
+        try:
+            self.streams[connection].shutdown(socket.SHUT_RDWR)
+        except (OSError, IndexError):
+            pass
 
     def serving(self, stream, connection):
         try:
