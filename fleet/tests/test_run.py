@@ -28,6 +28,13 @@ class Running(Case):
         self.assertEqual(ended.returncode, status, ended.stderr)
         return ended.stderr
 
+    def run_part(self, status=0, *words, **more):
+        """The first part alone, without parallel."""
+        command = [f"{HERE}/run", "--program", PROGRAM, "--part", f"{self.folder}/parts/01", *words]
+        ended = subprocess.run(command, capture_output=True, text=True, **more)
+        self.assertEqual(ended.returncode, status, ended.stderr)
+        return ended.stderr
+
     def merge(self, status=0):
         ended = subprocess.run([f"{HERE}/merge", self.folder], capture_output=True, text=True)
         self.assertEqual(ended.returncode, status, ended.stderr)
@@ -61,12 +68,12 @@ class Running(Case):
         for count in (0, 4, 9):
             with self.subTest(count):
                 self.setUp()
-                self.job({"a": 25, "b": 3})
-                split(self.folder, 2, 10)
+                self.job({"a": 25})
+                split(self.folder, 1, 10)
                 self.does("01/1", f"kill {count}")
-                self.assertIn("parts/01 is not done", self.run_job(1))
+                self.assertIn("was killed by signal 9", self.run_part(1))
                 self.assertIs(state_of_folder(f"{self.folder}/parts/01/1"), State.CUT)
-                self.run_job()
+                self.run_part()
                 self.once(self.merge(4), unanswered=1)
                 names = [os.path.basename(it) for it in runs_of_part(f"{self.folder}/parts/01")]
                 self.assertEqual(names, ["1", "2", "3"] if count == 9 else ["1", "1.1", "2", "3"])
@@ -76,9 +83,9 @@ class Running(Case):
         split(self.folder, 1)
         self.does("01/1", "kill 2")
         self.does("01/1.1", "kill 3")
-        self.run_job(1)
-        self.run_job(1)
-        self.run_job()
+        self.run_part(1)
+        self.run_part(1)
+        self.run_part()
         self.once(self.merge(4), unanswered=2)
         self.assertEqual([len(Report(f"{it}/report.csv").ends) for it in runs_of_part(f"{self.folder}/parts/01")], [9, 6, 2])
 
@@ -95,16 +102,16 @@ class Running(Case):
         self.job({"a": 5, "b": 5})
         split(self.folder, 1)
         self.does("01/1", "lose 3")
-        self.assertIn("run it again to go on", self.run_job(1))
-        self.run_job()
+        self.assertIn("run it again to go on", self.run_part(1))
+        self.run_part()
         self.once(self.merge())
 
     def test_a_report_that_had_no_room(self):
         self.job({"a": 5, "b": 5})
         split(self.folder, 1)
         self.does("01/1", "full 10")
-        self.assertIn("ended with 1", self.run_job(1))
-        self.run_job()
+        self.assertIn("ended with 1", self.run_part(1))
+        self.run_part()
         self.once(self.merge())
 
     def test_a_run_goes_on_alone_where_what_started_it_was_killed(self):
@@ -132,16 +139,16 @@ class Running(Case):
                 self.job({"a": 5})
                 split(self.folder, 1)
                 self.does("01/1", "kill 2")
-                self.run_job(1, *[] if sync else ["--no-sync"])
+                self.run_part(1, *[] if sync else ["--no-sync"])
                 at = f"{self.folder}/parts/01/1"
                 put_text(f"another-boot {'sync' if sync else 'no-sync'}\n", f"{at}/begun")
                 if not has_journal:
                     os.remove(f"{at}/journal")
                     os.remove(f"{self.folder}/submits")
                 if is_doubtful:
-                    self.assertIn("remove the file begun there", self.run_job(1))
+                    self.assertIn("remove the file begun there", self.run_part(1))
                     os.remove(f"{at}/begun")
-                self.run_job()
+                self.run_part()
                 self.once(self.merge(4 if has_journal else 0), unanswered=int(has_journal))
 
     def test_names_with_lines_and_spaces(self):
@@ -203,16 +210,16 @@ class Running(Case):
 
     def test_files_that_have_no_room(self):
         """Whichever file is the first that can't be written: the job goes on when there is room, and nothing is sent twice."""
-        for room in (20, 40, 70, 110, 160, 220, 300, 400):
+        for room in (20, 70, 160, 300):
             with self.subTest(room):
                 self.setUp()
                 self.job({"a": 8, "b": 5})
                 split(self.folder, 1, 8)
                 self.does("01/1", "lose 3")
-                command = [f"{HERE}/run", "--program", PROGRAM, "--part", f"{self.folder}/parts/01"]
-                limits = {"preexec_fn": lambda room=room: resource.setrlimit(resource.RLIMIT_FSIZE, (room, room))}
-                for more in (limits, limits, {}, {}):
-                    subprocess.run(command, capture_output=True, **more)
+                self.run_part(1, preexec_fn=lambda room=room: resource.setrlimit(resource.RLIMIT_FSIZE, (room, room)))
+                while any(next_run(runs_of_part(it)) for it in parts_of_job(self.folder)):
+                    command = [f"{HERE}/run", "--program", PROGRAM, "--part", f"{self.folder}/parts/01"]
+                    subprocess.run(command, capture_output=True, check=False, timeout=60)
                 report, submits = self.merge_quietly(), self.submits()
                 self.assertEqual(len(submits), len(set(submits)))
                 outcomes = [it[0][2] for it in report.ends]
@@ -226,7 +233,8 @@ class Running(Case):
             self.assertEqual(subprocess.run([f"{HERE}/run", *words], capture_output=True).returncode, 2)
         shown = subprocess.run([f"{HERE}/run", "--help"], capture_output=True, text=True)
         self.assertEqual((shown.returncode, "usage: fleet/run" in shown.stdout), (0, True))
-        self.assertIn("No such file", self.run_job(1, "--program", "/nowhere/sms-send"))
+        self.assertIn("No such file", self.run_part(1, "--program", "/nowhere/sms-send"))
+        self.assertIn("GNU parallel is not on the PATH", self.run_job(1, "--no-such-word-of-parallel"))
         os.makedirs(f"{self.folder}/parts/02")
         self.assertIn("parts/02 has no runs", self.run_job(1))
         os.rmdir(f"{self.folder}/parts/02")
@@ -237,15 +245,15 @@ class Running(Case):
         self.job({"a": 5})
         split(self.folder, 1)
         self.does("01/1", "lose 3")
-        self.run_job(1)
+        self.run_part(1)
         liar = f"{self.folder}/liar"
         for what, told in (("--accounts", "leaves free"), ("--report", "is not what")):
             put_text(f'#!/bin/sh\ncase "$*" in *{what}*) echo account,source,destination,text;; *) exec {PROGRAM} "$@";; esac\n', liar)
             if what == "--accounts":
                 put_text(f'#!/bin/sh\ncase "$*" in *{what}*) printf "account,credits\\na,100\\n";; *) exec {PROGRAM} "$@";; esac\n', liar)
             os.chmod(liar, 0o755)
-            self.assertIn(told, self.run_job(1, "--program", liar))
-        self.run_job()
+            self.assertIn(told, self.run_part(1, "--program", liar))
+        self.run_part()
         self.once(self.merge())
 
     def test_two_at_once(self):
