@@ -15,10 +15,10 @@ class Stopped(Exception):
 
 class Part:
     """A part, by the folder, the program that sends, whether each note is on the disk before anything is sent by it, and the program's
-    word: `send`, or `loop` for a trial."""
+    words: `send`, or `loop` for a trial, and what is to stand behind that."""
 
-    def __init__(self, folder, program, is_synced=True, word="send"):
-        self.folder, self.program, self.is_synced, self.word, self.lock = folder, program, is_synced, word, None
+    def __init__(self, folder, program, is_synced=True, words=("send",)):
+        self.folder, self.program, self.is_synced, self.words, self.lock = folder, program, is_synced, words, None
 
     def ask(self, run, *words):
         """What the program prints of a run; its status has to be 0 or 4. The program has the part's lock too, so that nobody takes
@@ -40,7 +40,7 @@ class Part:
         put_text(beginning(self.is_synced), f"{run}/{BEGUN}")
         sync = ["--sync"] if self.is_synced else []
         try:
-            report = self.ask(run, self.word, "--quiet", "--config", CONFIG, "--journal", JOURNAL, *sync)
+            report = self.ask(run, *self.words, "--quiet", "--config", CONFIG, "--journal", JOURNAL, *sync)
         except Stopped:
             if not noted(run):
                 os.remove(f"{run}/{BEGUN}")

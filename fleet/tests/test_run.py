@@ -241,6 +241,22 @@ class Running(Case):
         put_text("message,part\n", f"{self.folder}/parts/01/1/report.csv")
         self.assertIn("parts/01/1/report.csv: is no report", self.run_job(1))
 
+    def test_words_go_to_each_sending(self):
+        self.job({"a": 5})
+        split(self.folder, 1)
+        asked = f"{self.folder}/asked"
+        put_text(f'#!/bin/sh\necho "$@" >> {asked}\nexec {PROGRAM} "$@"\n', f"{self.folder}/program")
+        os.chmod(f"{self.folder}/program", 0o755)
+        self.does("01/1", "kill 2")
+        words = ["--program", f"{self.folder}/program", "--with=--rate 50 --stop-after 3"]
+        self.run_job(1, *words)
+        self.run_job(0, *words, "--no-sync", "--loop")
+        with open(asked) as file:
+            said = file.read().splitlines()
+        self.assertEqual(said[0], "send --rate 50 --stop-after 3 --quiet --config send.toml --journal journal --sync")
+        self.assertEqual(said[-1], "loop --rate 50 --stop-after 3 --quiet --config send.toml --journal journal")
+        self.assertEqual([it.split()[0] for it in said], ["send", "recover", "rest", "rest", "loop"])
+
     def test_a_rest_that_is_another(self):
         self.job({"a": 5})
         split(self.folder, 1)
