@@ -19,19 +19,18 @@ class State(enum.Enum):
     WAITING = "waits for the credits that the run before leaves"
     READY = "was not begun"
     CUT = "was begun, and has no report"
-    DOUBTFUL = "was begun on a machine that went down, and its journal may lack what was sent last"
+    DOUBTFUL = "was being sent when this machine went down, and its journal may lack what was sent last"
+    ELSEWHERE = "is being sent by another machine, or was when that went down"
     ENDED = "has its report"
 
 
-def state_of(names, has_notes, was_lost):
-    """A run's state by the names of its files, whether its journal noted anything, and whether what it noted may be lost."""
+def state_of(names, has_notes, doubt=None):
+    """A run's state by the names of its files, whether its journal noted anything, and what makes that doubtful."""
     if REPORT_NAME in names:
         return State.ENDED
     if NAMES["accounts"] not in names:
         return State.WAITING
-    if was_lost:
-        return State.DOUBTFUL
-    return State.CUT if has_notes else State.READY
+    return doubt or (State.CUT if has_notes else State.READY)
 
 
 def noted(folder):
@@ -42,30 +41,40 @@ def noted(folder):
         return not NOTHING_NOTED.fullmatch(file.read(1000))
 
 
-def machine():
-    """A name for this machine that is another when it has been down."""
-    with open("/proc/sys/kernel/random/boot_id", encoding="ascii") as file:
-        return file.read().strip()
+def read_text(name):
+    try:
+        with open(name, encoding="utf-8", errors="replace") as file:
+            return file.read().strip()
+    except FileNotFoundError:
+        return "-"
+
+
+def here():
+    """This machine by its name and its id, and its start, which is another when it has been down."""
+    return [os.uname().nodename, read_text("/etc/machine-id"), read_text("/proc/sys/kernel/random/boot_id")]
 
 
 def beginning(is_synced):
-    """What `begun` says of a run that is begun now."""
-    return f"{machine()} {'sync' if is_synced else 'no-sync'}\n"
+    """What `begun` says, which stands beside a run's files while it is sent: where that is, and whether the journal is synced."""
+    return " ".join([*here(), "sync" if is_synced else "no-sync"]) + "\n"
 
 
-def may_lack(begun, here, has_journal):
-    """Whether notes may have been lost of a run whose `begun` says so: since its machine went down, or since this is another one,
-    and its journal was not let out to the disk before each sending, or isn't there though it was."""
-    return begun.split() != [here, "sync"] and begun.split() != [here, "no-sync"] and not (begun.endswith(" sync\n") and has_journal)
+def doubt_of(begun, place, has_journal):
+    """What makes a run doubtful whose `begun` says so, though its part's lock is free. On the same start of this machine its program has
+    ended, and the system has all that it noted. Where this machine was down since, the disk has it if the journal is synced. Another
+    machine may be sending still, since a lock on it may lapse."""
+    words = begun.split()
+    if len(words) != 4 or words[:2] != place[:2]:
+        return State.ELSEWHERE
+    is_known = words[2] == place[2] or words[3] == "sync" and has_journal
+    return None if is_known else State.DOUBTFUL
 
 
 def state_of_folder(folder):
-    names = set(os.listdir(folder))
-    was_lost = False
+    names, doubt = set(os.listdir(folder)), None
     if BEGUN in names:
-        with open(f"{folder}/{BEGUN}", encoding="utf-8", errors="replace") as file:
-            was_lost = may_lack(file.read(), machine(), JOURNAL in names)
-    return state_of(names, noted(folder), was_lost)
+        doubt = doubt_of(read_text(f"{folder}/{BEGUN}"), here(), JOURNAL in names)
+    return state_of(names, noted(folder), doubt)
 
 
 def left_of(report):

@@ -4,9 +4,9 @@ import os
 import subprocess
 
 from jobs import CONFIG, runs_of_part
-from links import BEGUN, JOURNAL, REPORT_NAME, State, beginning, next_run, noted, put_accounts, write_rest
+from links import BEGUN, JOURNAL, REPORT_NAME, State, beginning, next_run, put_accounts, write_rest
 from reports import Report
-from tables import Fault, put_octets, put_text
+from tables import Fault, put_octets, put_text, sync_folder
 
 
 class Stopped(Exception):
@@ -41,11 +41,19 @@ class Part:
         sync = ["--sync"] if self.is_synced else []
         try:
             report = self.ask(run, *self.words, "--quiet", "--config", CONFIG, "--journal", JOURNAL, *sync)
-        except Stopped:
-            if not noted(run):
-                os.remove(f"{run}/{BEGUN}")
+        except (Stopped, OSError):
+            self.ended(run)
             raise
         put_octets(report, f"{run}/{REPORT_NAME}")
+        self.ended(run)
+
+    def ended(self, run):
+        """The program was seen to end: from here on the journal tells all of the run, on whatever machine."""
+        if os.path.exists(f"{run}/{JOURNAL}"):
+            with open(f"{run}/{JOURNAL}", "rb") as file:
+                os.fsync(file.fileno())
+        os.remove(f"{run}/{BEGUN}")
+        sync_folder(run)
 
     def recover(self, run):
         """Computes the report of a run that was cut from what it noted."""
@@ -63,8 +71,8 @@ class Part:
         if state is State.READY:
             self.send(run)
             return True
-        if state is State.DOUBTFUL:
-            raise Stopped(f"{run}: {state.value}; when it is clear what was, remove the file {BEGUN} there, and it goes on by its journal")
+        if state in (State.DOUBTFUL, State.ELSEWHERE):
+            raise Stopped(f"{run}: it {state.value}; remove the file {BEGUN} there when that is clear, and it goes on by its journal")
         if state is State.CUT:
             self.recover(run)
         elif state is State.WAITING:

@@ -1,7 +1,7 @@
 import os
 
 import tables
-from links import NOTHING_NOTED, State, left_of, may_lack, next_name, state_of
+from links import NOTHING_NOTED, State, beginning, doubt_of, here, left_of, next_name, state_of
 from tests.helpers import Case, ending
 
 
@@ -13,14 +13,15 @@ class Ends:
 class Links(Case):
     def test_a_run_is_told_by_its_files(self):
         given = {"accounts.csv", "messages.csv", "numbers.csv"}
-        self.assertIs(state_of(given - {"accounts.csv"}, False, False), State.WAITING)
-        self.assertIs(state_of(given, False, False), State.READY)
-        self.assertIs(state_of(given | {"begun", "journal"}, False, False), State.READY)
-        self.assertIs(state_of(given | {"begun", "journal"}, True, False), State.CUT)
-        self.assertIs(state_of(given | {"begun", "journal", "report.csv.new"}, True, False), State.CUT)
-        self.assertIs(state_of(given | {"begun", "journal"}, True, True), State.DOUBTFUL)
-        self.assertIs(state_of(given | {"begun", "journal"}, False, True), State.DOUBTFUL)
-        self.assertIs(state_of(given | {"begun", "journal", "report.csv"}, True, True), State.ENDED)
+        self.assertIs(state_of(given - {"accounts.csv"}, False), State.WAITING)
+        self.assertIs(state_of(given, False), State.READY)
+        self.assertIs(state_of(given | {"journal"}, False), State.READY)
+        self.assertIs(state_of(given | {"journal"}, True), State.CUT)
+        self.assertIs(state_of(given | {"journal", "report.csv.new"}, True), State.CUT)
+        for doubt in (State.DOUBTFUL, State.ELSEWHERE):
+            self.assertIs(state_of(given | {"begun", "journal"}, True, doubt), doubt)
+            self.assertIs(state_of(given | {"begun", "journal"}, False, doubt), doubt)
+            self.assertIs(state_of(given | {"begun", "journal", "report.csv"}, True, doubt), State.ENDED)
 
     def test_a_journal_that_noted_nothing(self):
         head = b"journal,1," + b",".join([b"ab" * 32] * 3) + b",\n"
@@ -31,12 +32,15 @@ class Links(Case):
             self.assertFalse(NOTHING_NOTED.fullmatch(text), text)
 
     def test_a_machine_that_went_down(self):
-        self.assertFalse(may_lack("one no-sync\n", "one", True))
-        self.assertFalse(may_lack("one no-sync\n", "one", False))
-        self.assertFalse(may_lack("one sync\n", "two", True))
-        self.assertTrue(may_lack("one sync\n", "two", False))
-        self.assertTrue(may_lack("one no-sync\n", "two", True))
-        self.assertTrue(may_lack("", "two", True))
+        place = ["one", "id", "start"]
+        self.assertIsNone(doubt_of("one id start no-sync\n", place, True))
+        self.assertIsNone(doubt_of("one id start sync\n", place, False))
+        self.assertIsNone(doubt_of("one id before sync\n", place, True))
+        self.assertIs(doubt_of("one id before sync\n", place, False), State.DOUBTFUL)
+        self.assertIs(doubt_of("one id before no-sync\n", place, True), State.DOUBTFUL)
+        for begun in ("two id start sync\n", "one other start sync\n", "", "one id start\n"):
+            self.assertIs(doubt_of(begun, place, True), State.ELSEWHERE)
+        self.assertIsNone(doubt_of(beginning(False), here(), False))
 
     def test_what_was_lost_is_gone_on_with(self):
         self.assertEqual(left_of(Ends(["charged"], ["bind-closed"], ["unsent", "unsent"], ["no-credit"])), [1, 2, 3])

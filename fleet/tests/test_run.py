@@ -10,7 +10,7 @@ import time
 import unittest
 
 from jobs import parts_of_job, runs_of_part
-from links import State, next_run, state_of_folder
+from links import State, here, next_run, state_of_folder
 from reports import Report
 from splitting import split
 from tables import put_text
@@ -133,20 +133,27 @@ class Running(Case):
         return subprocess.run([f"{HERE}/run", "--program", PROGRAM, self.folder], capture_output=True).returncode
 
     def test_a_machine_that_went_down(self):
-        for sync, has_journal, is_doubtful in ((True, True, False), (False, True, True), (True, False, True)):
-            with self.subTest(sync=sync, has_journal=has_journal):
+        name, identity, _ = here()
+        for begun, has_journal, told in (
+            (f"{name} {identity} before sync\n", True, None),
+            (f"{name} {identity} before no-sync\n", True, "its journal may lack"),
+            (f"{name} {identity} before sync\n", False, "its journal may lack"),
+            (f"another {identity} start sync\n", True, "by another machine"),
+        ):
+            with self.subTest(begun=begun, has_journal=has_journal):
                 self.setUp()
                 self.job({"a": 5})
                 split(self.folder, 1)
                 self.does("01/1", "kill 2")
-                self.run_part(1, *[] if sync else ["--no-sync"])
+                self.run_part(1)
                 at = f"{self.folder}/parts/01/1"
-                put_text(f"another-boot {'sync' if sync else 'no-sync'}\n", f"{at}/begun")
+                self.assertFalse(os.path.exists(f"{at}/begun"))
+                put_text(begun, f"{at}/begun")
                 if not has_journal:
                     os.remove(f"{at}/journal")
                     os.remove(f"{self.folder}/submits")
-                if is_doubtful:
-                    self.assertIn("remove the file begun there", self.run_part(1))
+                if told:
+                    self.assertIn(told, self.run_part(1))
                     os.remove(f"{at}/begun")
                 self.run_part()
                 self.once(self.merge(4 if has_journal else 0), unanswered=int(has_journal))
