@@ -14,6 +14,11 @@ import jobs_made
 from counting import Centre
 
 
+def text_of(name):
+    with open(name, encoding="utf-8") as file:
+        return file.read()
+
+
 def sent_first(journal):
     """The message of a journal's first request."""
     with open(journal, encoding="utf-8") as file:
@@ -58,7 +63,7 @@ class Compared(unittest.TestCase):
         first, second = sorted(glob.glob(f"{self.job}/parts/01/*/journal"))[:2]
         extra = self.centre.submits[-1]
         with self.subTest("a request without a note"):
-            kept = open(first, encoding="utf-8").read()
+            kept = text_of(first)
             self.edit(first, lambda lines: [it for it in lines if not it.startswith("sent")])
             self.differs("of which there is no note")
             self.edit(first, lambda _: kept.splitlines())
@@ -75,7 +80,7 @@ class Compared(unittest.TestCase):
 
     def test_charges_that_differ(self):
         report = f"{self.job}/report.csv"
-        kept = open(report, encoding="utf-8").read()
+        kept = text_of(report)
         with self.subTest("another message_id"):
             self.edit(report, lambda lines: [it + "x" if it.startswith("0,1,") else it for it in lines])
             self.differs("message 0, part 1 is charged by")
