@@ -6,6 +6,32 @@ import subprocess
 import time
 
 
+def users(place, kinds=("cwd", "fd")):
+    """The processes that have a folder there for their own, or a file open."""
+    for pid in filter(str.isdigit, os.listdir("/proc")):
+        try:
+            names = [f"/proc/{pid}/cwd"] if "cwd" in kinds else []
+            names += [f"/proc/{pid}/fd/{it}" for it in os.listdir(f"/proc/{pid}/fd")] if "fd" in kinds else []
+            if any(os.readlink(it).startswith(f"{place}/") for it in names):
+                yield int(pid)
+        except OSError:
+            pass
+
+
+def unmount(place):
+    """Ends who uses it, and unmounts it."""
+    for _ in range(100):
+        if subprocess.run(["umount", place], check=False, stderr=subprocess.DEVNULL).returncode == 0:
+            return
+        for pid in users(place):
+            try:
+                os.kill(pid, signal.SIGKILL)
+            except ProcessLookupError:
+                pass
+        time.sleep(0.1)
+    raise OSError(f"{place} is in use")
+
+
 class Disk:
     """`with Disk(folder, size) as disk`: a file system at `disk.place`, in a file."""
 
@@ -23,40 +49,15 @@ class Disk:
     def mount(self):
         subprocess.run(["mount", "-o", "loop", self.image, self.place], check=True)
 
-    def users(self):
-        """The processes that have a file there open, or a folder for their own."""
-        for pid in filter(str.isdigit, os.listdir("/proc")):
-            try:
-                names = [f"/proc/{pid}/cwd"] + [f"/proc/{pid}/fd/{it}" for it in os.listdir(f"/proc/{pid}/fd")]
-                if any(os.readlink(it).startswith(f"{self.place}/") for it in names):
-                    yield int(pid)
-            except OSError:
-                pass
-
-    def signal(self, which):
-        for pid in list(self.users()):
-            try:
-                os.kill(pid, which)
-            except ProcessLookupError:
-                pass
-
     def cut_power(self):
         """All that is done there stops at once, and what the disk had by then is what there is from now on."""
-        self.signal(signal.SIGSTOP)
+        for pid in list(users(self.place)):
+            os.kill(pid, signal.SIGSTOP)
         time.sleep(0.1)  # (for the centre to read what had been sent)
         shutil.copyfile(self.image, f"{self.image}.cut")
-        self.signal(signal.SIGKILL)
-        self.unmount()
+        unmount(self.place)
         os.rename(f"{self.image}.cut", self.image)
         self.mount()
 
-    def unmount(self):
-        for _ in range(100):
-            if subprocess.run(["umount", self.place], check=False, stderr=subprocess.DEVNULL).returncode == 0:
-                return
-            time.sleep(0.1)
-            self.signal(signal.SIGKILL)
-        raise OSError(f"{self.place} is in use")
-
     def __exit__(self, *_):
-        self.unmount()
+        unmount(self.place)
