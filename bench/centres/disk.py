@@ -1,4 +1,5 @@
 """A disk of its own whose power can be cut; for bench/fleet. It wants root, loop devices and mkfs.ext4."""
+import contextlib
 import os
 import shutil
 import signal
@@ -18,16 +19,18 @@ def users(place, kinds=("cwd", "fd")):
             pass
 
 
+def signal_all(pids, which):
+    for pid in list(pids):
+        with contextlib.suppress(ProcessLookupError):
+            os.kill(pid, which)
+
+
 def unmount(place):
     """Ends who uses it, and unmounts it."""
     for _ in range(100):
         if subprocess.run(["umount", place], check=False, stderr=subprocess.DEVNULL).returncode == 0:
             return
-        for pid in users(place):
-            try:
-                os.kill(pid, signal.SIGKILL)
-            except ProcessLookupError:
-                pass
+        signal_all(users(place), signal.SIGKILL)
         time.sleep(0.1)
     raise OSError(f"{place} is in use")
 
@@ -51,8 +54,7 @@ class Disk:
 
     def cut_power(self):
         """All that is done there stops at once, and what the disk had by then is what there is from now on."""
-        for pid in list(users(self.place)):
-            os.kill(pid, signal.SIGSTOP)
+        signal_all(users(self.place), signal.SIGSTOP)
         time.sleep(0.1)  # (for the centre to read what had been sent)
         shutil.copyfile(self.image, f"{self.image}.cut")
         unmount(self.place)
