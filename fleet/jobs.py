@@ -44,8 +44,15 @@ class Job:
 
     def runs(self):
         """The folders of the runs, part by part."""
-        parts = glob.glob(f"{glob.escape(self.folder)}/{PARTS}/*")
-        return [it for it in map(runs_of_part, sorted(parts)) if it]
+        return [it for it in map(runs_of_part, parts_of_job(self.folder)) if it]
+
+
+def parts_of_job(folder):
+    """The folders of a job's parts."""
+    parts = [it for it in glob.glob(f"{glob.escape(folder)}/{PARTS}/*") if re.fullmatch("[0-9]+", os.path.basename(it))]
+    if not parts:
+        raise Fault(folder, f"was not split: there is no folder {PARTS}/")
+    return sorted(parts, key=lambda it: int(os.path.basename(it)))
 
 
 def runs_of_part(folder):

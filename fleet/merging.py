@@ -1,7 +1,7 @@
 """Puts the reports of a job's runs together, and compares every sum."""
 from jobs import MESSAGES, NAMES, Job, read_numbers
 from reports import REPORT, STATEMENT, Report, booked, is_unsent
-from tables import Fault, put_lines, table
+from tables import put_lines, table
 
 SUMS = ("reserved", "charged", "returned")
 
@@ -99,11 +99,8 @@ class Merge:
 def merge(folder):
     """Writes the job's report and gives how many messages it has, and whether a part of one is unanswered."""
     job = Job(folder)
-    parts = job.runs()
-    if not parts:
-        raise Fault(job.folder, "was not split: there is no folder parts/")
     found = Merge(job)
-    for runs in parts:
+    for runs in job.runs():
         for it in runs:
             found.add(runs[0].rsplit("/", 1)[0], it)
     found.compare()

@@ -4,7 +4,7 @@ import os
 import shutil
 
 from jobs import ACCOUNTS, CONFIG, MESSAGES, NAMES, NUMBERS, PARTS, Job, config_of_run
-from tables import Fault, put_lines, put_text
+from tables import Fault, put_lines, put_octets, put_text, rename, sync_folder
 
 # What a run takes at most (README.md).
 MOST_MESSAGES, MOST_ACCOUNTS = 100_000, 64
@@ -47,7 +47,8 @@ def write_run(job, folder, run, numbers):
     put_lines([MESSAGES] + [job.messages[k] for k in mine], f"{folder}/{NAMES['messages']}")
     put_lines([NUMBERS] + [[str(k)] for k in mine], f"{folder}/numbers.csv")
     if job.tariff_name:
-        shutil.copyfile(job.tariff_name, f"{folder}/{NAMES['tariff']}")
+        with open(job.tariff_name, "rb") as file:
+            put_octets(file.read(), f"{folder}/{NAMES['tariff']}")
     put_text(config_of_run(job.config, f"{job.folder}/{CONFIG}"), f"{folder}/{CONFIG}")
 
 
@@ -72,5 +73,7 @@ def split(folder, parts, most=MOST_MESSAGES):
         for place, run in enumerate(runs):
             write_run(job, f"{new}/{k + 1:02d}/{place + 1}", run, numbers)
         sizes.append([sum(end - first for _, first, end in run) for run in runs])
-    os.rename(new, whole)
+    for it, _, _ in os.walk(new):
+        sync_folder(it)
+    rename(new, whole)
     return sizes

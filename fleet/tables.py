@@ -1,4 +1,5 @@
 """CSV files as sms-send reads and writes them (docs/FORMATS.md), and files that are there whole or not at all."""
+import contextlib
 import csv
 import os
 import re
@@ -58,10 +59,42 @@ def put_text(text, name):
     put(name, [text])
 
 
+def put_octets(octets, name):
+    with new_file(name, "wb") as file:
+        file.write(octets)
+
+
 def put(name, texts):
-    """Writes a file under another name first, so that it is there whole or not at all."""
-    with open(f"{name}.new", "w", newline="", encoding="utf-8") as file:
+    with new_file(name, "w", newline="", encoding="utf-8") as file:
         file.writelines(texts)
-        file.flush()
-        os.fsync(file.fileno())
-    os.rename(f"{name}.new", name)
+
+
+@contextlib.contextmanager
+def new_file(name, *how, **more):
+    """A file that is there whole or not at all: it is written under another name, and renamed when the disk has it."""
+    new = f"{name}.new"
+    try:
+        with open(new, *how, **more) as file:
+            yield file
+            file.flush()
+            os.fsync(file.fileno())
+    except BaseException:
+        with contextlib.suppress(OSError):
+            os.remove(new)  # (which gives a full disk its room back)
+        raise
+    rename(new, name)
+
+
+def rename(old, new):
+    """Renames; what rests on it comes after the disk has it, so that it stands though the machine goes down."""
+    os.rename(old, new)
+    sync_folder(os.path.dirname(new) or ".")
+
+
+def sync_folder(folder):
+    """Has the disk take the names in a folder."""
+    opened = os.open(folder, os.O_RDONLY | os.O_DIRECTORY)
+    try:
+        os.fsync(opened)
+    finally:
+        os.close(opened)

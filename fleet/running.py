@@ -1,0 +1,98 @@
+"""Sends a part's runs, one after the other, and goes on where it was cut."""
+import fcntl
+import os
+import subprocess
+
+from jobs import CONFIG, runs_of_part
+from links import BEGUN, JOURNAL, REPORT_NAME, State, beginning, next_run, put_accounts, write_rest
+from reports import Report
+from tables import Fault, put_octets, put_text, sync_folder
+
+
+class Stopped(Exception):
+    """Why a part isn't done."""
+
+
+class Part:
+    """A part, by the folder, the program that sends, whether each note is on the disk before anything is sent by it, and the program's
+    words: `send`, or `loop` for a trial, and what is to stand behind that."""
+
+    def __init__(self, folder, program, is_synced=True, words=("send",)):
+        self.folder, self.program, self.is_synced, self.words, self.lock = folder, program, is_synced, words, None
+
+    def ask(self, run, *words):
+        """What the program prints of a run; its status has to be 0 or 4. The program has the part's lock too, so that nobody takes
+        a run for cut while it is still sent, though what started it was killed."""
+        more = {"cwd": run, "stdin": subprocess.DEVNULL, "stdout": subprocess.PIPE, "pass_fds": [self.lock.fileno()]}
+        ended = subprocess.run([self.program, *words], check=False, **more)
+        if ended.returncode not in (0, 4):
+            how = f"ended with {ended.returncode}" if ended.returncode > 0 else f"was killed by signal {-ended.returncode}"
+            raise Stopped(f"{run}: `{self.program} {words[0]}` {how}")
+        return ended.stdout
+
+    def rest(self, run, *more):
+        return self.ask(run, "rest", "--config", CONFIG, "--report", REPORT_NAME, *more)
+
+    def send(self, run):
+        """Sends a run that was not begun. Its report is put in place when the program is done with it."""
+        if os.path.exists(f"{run}/{JOURNAL}"):
+            os.remove(f"{run}/{JOURNAL}")
+        put_text(beginning(self.is_synced), f"{run}/{BEGUN}")
+        sync = ["--sync"] if self.is_synced else []
+        try:
+            report = self.ask(run, *self.words, "--quiet", "--config", CONFIG, "--journal", JOURNAL, *sync)
+        except (Stopped, OSError):
+            self.ended(run)
+            raise
+        put_octets(report, f"{run}/{REPORT_NAME}")
+        self.ended(run)
+
+    def ended(self, run):
+        """The program was seen to end: from here on the journal tells all of the run, on whatever machine."""
+        if os.path.exists(f"{run}/{JOURNAL}"):
+            with open(f"{run}/{JOURNAL}", "rb") as file:
+                os.fsync(file.fileno())
+        os.remove(f"{run}/{BEGUN}")
+        sync_folder(run)
+
+    def recover(self, run):
+        """Computes the report of a run that was cut from what it noted."""
+        put_octets(self.ask(run, "recover", "--config", CONFIG, "--journal", JOURNAL), f"{run}/{REPORT_NAME}")
+
+    def give_accounts(self, run):
+        """Gives a run the credits that the one before it left free."""
+        runs = runs_of_part(self.folder)
+        before = runs[runs.index(run) - 1]
+        put_accounts(self.rest(before, "--accounts"), run, Report(f"{before}/{REPORT_NAME}"))
+
+    def step(self, run, state, sent):
+        """One step of a run; gives whether it was sent. A run that was sent here and left messages is not gone on with at once,
+        since a centre that lost it may lose the next one too."""
+        if state is State.READY:
+            self.send(run)
+            return True
+        if state in (State.DOUBTFUL, State.ELSEWHERE):
+            raise Stopped(f"{run}: it {state.value}; remove the file {BEGUN} there when that is clear, and it goes on by its journal")
+        if state is State.CUT:
+            self.recover(run)
+        elif state is State.WAITING:
+            self.give_accounts(run)
+        elif run in sent:
+            raise Stopped(f"{run}: messages were not sent, since a bind was lost or memory refused; run it again to go on")
+        else:
+            write_rest(run, self.rest(run), self.rest(run, "--accounts"))
+        return False
+
+    def work(self):
+        """Does what there is to do in the part, under a lock that keeps a second one out."""
+        if not runs_of_part(self.folder):
+            raise Fault(self.folder, "has no runs")
+        with open(f"{self.folder}/lock", "w", encoding="ascii") as self.lock:
+            try:
+                fcntl.flock(self.lock, fcntl.LOCK_EX | fcntl.LOCK_NB)
+            except BlockingIOError:
+                raise Fault(self.folder, "is being run") from None
+            sent = set()
+            while found := next_run(runs_of_part(self.folder)):
+                if self.step(*found, sent):
+                    sent.add(found[0])
