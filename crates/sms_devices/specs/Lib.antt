@@ -1,3 +1,4 @@
 pub mod Telling
 pub mod Outboxes
 pub mod Standard
+pub mod Journals

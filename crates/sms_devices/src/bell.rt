@@ -4,10 +4,12 @@
 ghost use Rattle.std.specs.Io.{ReadsAtMost};
 ghost use Rattle.std.specs.Io.KnownBytes.{ReadConsumes};
 
+use crate::journal::Journal;
 use crate::outbox::{Outbox, Outboxes};
 use sms_worker::Pause;
+use std::fs::OpenFile;
 use std::io;
-use std::io::Read;
+use std::io::{Read, Write};
 use std::sync::{Condvar, Mutex, Wait};
 use std::time::{Clock, Duration};
 
@@ -56,13 +58,13 @@ impl Bell {
 
 /// A pause that the bell ends early.
 #[derive(Drop)]
-pub struct Rest<'r, R> {
-    pub rt: &'r R,
+pub struct Rest<'r, 'j, R: Wait, F: Write + OpenFile> {
+    pub rt: &'j R,
     pub bell: &'r Bell,
-    pub outboxes: &'r Outboxes,
+    pub outboxes: &'r Outboxes<'j, R, F>,
 }
 
-impl<'r, R: Wait + Clock> Pause for Rest<'r, R> {
+impl<'r, 'j, R: Wait + Clock, F: Write + OpenFile> Pause for Rest<'r, 'j, R, F> {
     fn pause(&self, ms: u32) {
         self.outboxes.flush();
         self.bell
@@ -72,18 +74,21 @@ impl<'r, R: Wait + Clock> Pause for Rest<'r, R> {
 
 /// A reader that rings the bell when it is asked for octets: a bind's reader has then handed on all
 /// answers that came before. It rings a last time when it is dropped: the line is down then.
-pub struct Ringing<'r, S, R: Wait> {
+pub struct Ringing<'r, 'j, S, R: Wait, F: Write + OpenFile> {
     pub inner: S,
-    pub rt: &'r R,
+    pub rt: &'j R,
+    /// The journal of the run, where it has one, behind which the outbox is written.
+    pub journal: Option<&'j Journal<F>>,
     pub bell: &'r Bell,
-    pub outbox: &'r Outbox,
+    pub outbox: &'r Outbox<'j, R, F>,
 }
 
-impl<'r, S: Drop, R: Wait> Drop for Ringing<'r, S, R> {
+impl<'r, 'j, S: Drop, R: Wait, F: Write + OpenFile> Drop for Ringing<'r, 'j, S, R, F> {
     fn drop(self) {
         let Ringing {
             inner,
             rt,
+            journal: _,
             bell,
             outbox: _,
         } = self;
@@ -92,7 +97,7 @@ impl<'r, S: Drop, R: Wait> Drop for Ringing<'r, S, R> {
     }
 }
 
-impl<'r, S: Read, R: Wait> Read for Ringing<'r, S, R> {
+impl<'r, 'j, S: Read, R: Wait, F: Write + OpenFile> Read for Ringing<'r, 'j, S, R, F> {
     ghost remaining = { λ r. S.remaining r.inner };
 
     fn read(&mut self, buf: &mut [u8]) -> io::Result<usize>

@@ -4,10 +4,12 @@
 use super::same::same;
 use crate::bell::{Bell, Rest};
 use crate::devices::Ticks;
+use crate::journal::Journal;
 use crate::network::{LoopDial, TcpDial, listen};
 use crate::outbox::Outboxes;
 use sms_driver::Dial;
 use sms_worker::{Clock, Pause};
+use std::fs::File;
 use std::io::{Read, Write};
 use std::net::{IpAddr, Ipv4Addr, Net, TcpListener, TcpStream};
 use std::process::Abort;
@@ -27,6 +29,11 @@ fn listening(
         }
         Err(_) => panic!(rt; "no address"),
     }
+}
+
+// A run without a journal.
+fn no_journal() -> Option<&'static Journal<File>> {
+    None
 }
 
 // How a stream was set up, whose writes wait so long.
@@ -50,7 +57,7 @@ fn want_set_up(rt: &impl Abort, stream: &TcpStream, patience: Option<Duration>) 
 #[test]
 fn sets_up_each_connection(rt: HostRuntime) {
     let bell = Bell::new();
-    let outboxes = Outboxes::new();
+    let outboxes = Outboxes::new(&rt, no_journal());
     let (_listener, port) = listening(&rt);
     let dial = TcpDial {
         rt: &rt,
@@ -112,7 +119,7 @@ fn want_nothing(rt: &impl Abort, reader: &mut impl Read) {
 #[test]
 fn writes_and_rings_before_it_reads(rt: HostRuntime) {
     let bell = Bell::new();
-    let outboxes = Outboxes::new();
+    let outboxes = Outboxes::new(&rt, no_journal());
     let (listener, port) = listening(&rt);
     let dial = TcpDial {
         rt: &rt,
@@ -144,7 +151,7 @@ fn writes_and_rings_before_it_reads(rt: HostRuntime) {
 #[test]
 fn keeps_8192_octets(rt: HostRuntime) {
     let bell = Bell::new();
-    let outboxes = Outboxes::new();
+    let outboxes = Outboxes::new(&rt, no_journal());
     let (listener, port) = listening(&rt);
     let dial = TcpDial {
         rt: &rt,
@@ -175,7 +182,7 @@ fn keeps_8192_octets(rt: HostRuntime) {
 #[test]
 fn rings_at_its_end(rt: HostRuntime) {
     let bell = Bell::new();
-    let outboxes = Outboxes::new();
+    let outboxes = Outboxes::new(&rt, no_journal());
     let (_listener, port) = listening(&rt);
     let dial = TcpDial {
         rt: &rt,
@@ -209,7 +216,7 @@ const ALIVE: [u8; 16] = [0, 0, 0, 16, 0x80, 0, 0, 0x15, 0, 0, 0, 0, 0, 0, 0, 1];
 #[test]
 fn serves_its_own_sender(rt: HostRuntime) {
     let bell = Bell::new();
-    let outboxes = Outboxes::new();
+    let outboxes = Outboxes::new(&rt, no_journal());
     let (listener, port) = listening(&rt);
     let Ok(mut stranger) = TcpStream::connect(&rt, (Ipv4Addr::LOCALHOST, port)) else {
         panic!(rt; "no connection")
