@@ -2,3 +2,4 @@ pub mod Telling
 pub mod Outboxes
 pub mod Standard
 pub mod Journals
+pub mod Openings

@@ -5,11 +5,12 @@ ghost use Rattle.std.specs.Io.{ReadsAtMost};
 ghost use Rattle.std.specs.Io.KnownBytes.{ReadConsumes};
 
 use crate::journal::Journal;
+use crate::opening::Opening;
 use crate::outbox::{Outbox, Outboxes};
 use sms_worker::Pause;
 use std::fs::OpenFile;
 use std::io;
-use std::io::{Read, Write};
+use std::io::{Error, ErrorKind, Read, Write};
 use std::sync::{Condvar, Mutex, Wait};
 use std::time::{Clock, Duration};
 
@@ -73,7 +74,8 @@ impl<'r, 'j, R: Wait + Clock, F: Write + OpenFile> Pause for Rest<'r, 'j, R, F> 
 }
 
 /// A reader that rings the bell when it is asked for octets: a bind's reader has then handed on all
-/// answers that came before. It rings a last time when it is dropped: the line is down then.
+/// answers that came before. It rings a last time when it is dropped: the line is down then. A read
+/// fails where the bind has to be answered in time and isn't.
 pub struct Ringing<'r, 'j, S, R: Wait, F: Write + OpenFile> {
     pub inner: S,
     pub rt: &'j R,
@@ -81,6 +83,7 @@ pub struct Ringing<'r, 'j, S, R: Wait, F: Write + OpenFile> {
     pub journal: Option<&'j Journal<F>>,
     pub bell: &'r Bell,
     pub outbox: &'r Outbox<'j, R, F>,
+    pub opening: Opening,
 }
 
 impl<'r, 'j, S: Drop, R: Wait, F: Write + OpenFile> Drop for Ringing<'r, 'j, S, R, F> {
@@ -91,13 +94,14 @@ impl<'r, 'j, S: Drop, R: Wait, F: Write + OpenFile> Drop for Ringing<'r, 'j, S, 
             journal: _,
             bell,
             outbox: _,
+            opening: _,
         } = self;
         drop(inner);
         bell.ring(rt);
     }
 }
 
-impl<'r, 'j, S: Read, R: Wait, F: Write + OpenFile> Read for Ringing<'r, 'j, S, R, F> {
+impl<'r, 'j, S: Read, R: Wait + Clock, F: Write + OpenFile> Read for Ringing<'r, 'j, S, R, F> {
     ghost remaining = { λ r. S.remaining r.inner };
 
     fn read(&mut self, buf: &mut [u8]) -> io::Result<usize>
@@ -106,6 +110,13 @@ impl<'r, 'j, S: Read, R: Wait, F: Write + OpenFile> Read for Ringing<'r, 'j, S, 
     {
         self.outbox.flush();
         self.bell.ring(self.rt);
-        self.inner.read(buf)
+        if self.opening.is_late(self.rt) {
+            return Err(Error::from(ErrorKind::ConnectionAborted));
+        }
+        let read = self.inner.read(buf);
+        if let Ok(count) = &read {
+            self.opening.see(&buf[..*count]);
+        }
+        read
     }
 }

@@ -114,6 +114,7 @@ pub fn send_job<R: Host + Net<Stream = TcpStream, Listener = TcpListener>, W: Wr
                 alloc: rt.alloc(),
                 bell: &bell,
                 outboxes: &outboxes,
+                connect_ms: None,
                 host: host.as_str(),
                 port: port as u16,
             };
@@ -137,6 +138,7 @@ pub fn send_job<R: Host + Net<Stream = TcpStream, Listener = TcpListener>, W: Wr
                 alloc: rt.alloc(),
                 bell: &bell,
                 outboxes: &outboxes,
+                connect_ms: None,
                 listener,
                 bind_status,
                 answers: answers.as_slice(),

@@ -13,6 +13,7 @@ use std::fs::File;
 use std::io::{Read, Write};
 use std::net::{IpAddr, Ipv4Addr, Net, TcpListener, TcpStream};
 use std::process::Abort;
+use std::thread;
 use std::time::Duration;
 
 /// A listener, which this machine alone reaches, and its port.
@@ -64,6 +65,7 @@ fn sets_up_each_connection(rt: HostRuntime) {
         alloc: rt.alloc(),
         bell: &bell,
         outboxes: &outboxes,
+        connect_ms: None,
         host: "127.0.0.1",
         port,
     };
@@ -126,6 +128,7 @@ fn writes_and_rings_before_it_reads(rt: HostRuntime) {
         alloc: rt.alloc(),
         bell: &bell,
         outboxes: &outboxes,
+        connect_ms: None,
         host: "127.0.0.1",
         port,
     };
@@ -158,6 +161,7 @@ fn keeps_8192_octets(rt: HostRuntime) {
         alloc: rt.alloc(),
         bell: &bell,
         outboxes: &outboxes,
+        connect_ms: None,
         host: "127.0.0.1",
         port,
     };
@@ -189,6 +193,7 @@ fn rings_at_its_end(rt: HostRuntime) {
         alloc: rt.alloc(),
         bell: &bell,
         outboxes: &outboxes,
+        connect_ms: None,
         host: "127.0.0.1",
         port,
     };
@@ -227,6 +232,7 @@ fn serves_its_own_sender(rt: HostRuntime) {
         alloc: rt.alloc(),
         bell: &bell,
         outboxes: &outboxes,
+        connect_ms: None,
         listener,
         bind_status: 0,
         answers: &answers,
@@ -252,4 +258,39 @@ fn answering(rt: &(impl AllocGlobal + Abort)) -> String {
         Ok(text) => text,
         Err(_) => panic!(rt; "no memory"),
     }
+}
+
+/// Where the connection has to be bound in time a read gives nothing more once it is too late, whether
+/// octets come or not, up to the end of the first frame. Behind that frame it doesn't matter.
+#[test]
+fn waits_for_the_bind_so_long(rt: HostRuntime) {
+    let bell = Bell::new();
+    let outboxes = Outboxes::new(&rt, no_journal());
+    let (listener, port) = listening(&rt);
+    let dial = TcpDial {
+        rt: &rt,
+        alloc: rt.alloc(),
+        bell: &bell,
+        outboxes: &outboxes,
+        connect_ms: Some(300),
+        host: "127.0.0.1",
+        port,
+    };
+    let (Some((mut late, _one)), Some((mut bound, _two))) = (dial.dial(0), dial.dial(1)) else {
+        panic!(rt; "no connection")
+    };
+    let mut to_late = accepted(&rt, &listener);
+    let mut to_bound = accepted(&rt, &listener);
+    put(&rt, &mut to_late, &ALIVE[..15]);
+    put(&rt, &mut to_bound, &ALIVE);
+    let mut octets = [0u8; 8];
+    for reader in [&mut late, &mut bound] {
+        assert!(rt; reader.read(&mut octets).is_ok());
+        assert!(rt; reader.read(&mut octets).is_ok());
+    }
+    thread::sleep(&rt, Duration::from_millis(400));
+    put(&rt, &mut to_late, &ALIVE[15..]);
+    put(&rt, &mut to_bound, &ENQUIRE);
+    assert!(rt; late.read(&mut octets).is_err());
+    assert!(rt; bound.read(&mut octets).is_ok());
 }
