@@ -3,3 +3,4 @@ pub mod Outboxes
 pub mod Standard
 pub mod Journals
 pub mod Openings
+pub mod Buckets

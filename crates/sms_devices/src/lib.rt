@@ -5,6 +5,7 @@
 #![tactic(auto)]
 
 mod bell;
+mod bucket;
 mod devices;
 mod host;
 mod journal;
@@ -13,6 +14,7 @@ mod noting;
 mod opening;
 mod outbox;
 mod progress;
+mod rated;
 mod standard;
 #[cfg(test)]
 mod tests;
@@ -26,4 +28,5 @@ pub use noting::Noting;
 pub use opening::Opening;
 pub use outbox::{Guarded, Outbox, Outboxes, Posting};
 pub use progress::{Progress, Screen, Telling};
+pub use rated::Rated;
 pub use standard::stand_ins;

@@ -4,5 +4,6 @@ mod journal;
 mod network;
 mod paper;
 mod progress;
+mod rated;
 mod same;
 mod standard;

@@ -5,7 +5,7 @@ use sms_worker::Gate;
 use std::alloc::Global;
 use std::fs::{Metadata, OpenFile};
 use std::io::{Error, ErrorKind, Write};
-use std::sync::atomic::{AtomicU32, Ordering};
+use std::sync::atomic::{AtomicU32, AtomicU64, Ordering};
 use std::sync::{Mutex, Wait};
 use std::time::{Clock, Duration};
 use std::{io, mem};
@@ -135,5 +135,29 @@ pub struct OpenGate;
 impl Gate for OpenGate {
     fn pass(&self, _worker: usize, _number: u32) -> bool {
         true
+    }
+}
+
+/// A clock of the sending that is set by hand.
+#[derive(Drop)]
+pub struct ManualClock {
+    ms: AtomicU64,
+}
+
+impl ManualClock {
+    pub fn new(ms: u64) -> ManualClock {
+        ManualClock {
+            ms: AtomicU64::new(ms),
+        }
+    }
+
+    pub fn set(&self, ms: u64) {
+        self.ms.store(ms, Ordering::SeqCst);
+    }
+}
+
+impl sms_worker::Clock for ManualClock {
+    fn now_ms(&self) -> u64 {
+        self.ms.load(Ordering::SeqCst)
     }
 }
