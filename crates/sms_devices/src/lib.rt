@@ -15,7 +15,9 @@ mod opening;
 mod outbox;
 mod progress;
 mod rated;
+mod silence;
 mod standard;
+mod stopping;
 #[cfg(test)]
 mod tests;
 
@@ -30,3 +32,4 @@ pub use outbox::{Guarded, Outbox, Outboxes, Posting};
 pub use progress::{Progress, Screen, Telling};
 pub use rated::Rated;
 pub use standard::stand_ins;
+pub use stopping::Stopping;

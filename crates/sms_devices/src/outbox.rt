@@ -99,7 +99,7 @@ impl<W: Write + Shut + Drop> Held<W> {
         }
         let put = self.writer.write(octets);
         if put.is_err() {
-            self.give_up();
+            self.give_up(Shutdown::Write);
         }
         put
     }
@@ -114,18 +114,18 @@ impl<W: Write + Shut + Drop> Held<W> {
             return;
         }
         if self.writer.flush().is_err() {
-            self.give_up();
+            self.give_up(Shutdown::Write);
         }
     }
 
-    /// Lets nothing more be written. The connection's other end is told so, and nobody waits for it
-    /// again, not even for what still waits when the outbox is dropped.
-    fn give_up(&mut self)
+    /// Lets nothing more be written, or neither written nor read. The connection's other end is told so,
+    /// and nobody waits for it again, not even for what still waits when the outbox is dropped.
+    fn give_up(&mut self, how: Shutdown)
         ensures writer { self.new.writer ≡ self.old.writer }
         ensures broken { self.new.is_broken ≡ true }
     {
         self.is_broken = true;
-        self.writer.get_ref().shut(Shutdown::Write);
+        self.writer.get_ref().shut(how);
     }
 }
 
@@ -162,6 +162,13 @@ impl<'j, R: Wait, F: Write + OpenFile> Outbox<'j, R, F> {
         match held.as_mut() {
             Some(open) => open.put(octets),
             None => Err(Error::from(ErrorKind::NotConnected)),
+        }
+    }
+
+    /// Lets nothing more be written to the connection or read from it: its bind's line goes down.
+    fn give_up(&self, rt: &R) {
+        if let Some(open) = self.held.lock(rt).as_mut() {
+            open.give_up(Shutdown::Both);
         }
     }
 
@@ -212,6 +219,13 @@ impl<'j, R: Wait, F: Write + OpenFile> Outboxes<'j, R, F> {
             2 => Some(&self.third),
             3 => Some(&self.fourth),
             _ => None,
+        }
+    }
+
+    /// Gives the connection of a bind up.
+    pub fn give_up(&self, bind: u32) {
+        if let Some(outbox) = self.get(bind) {
+            outbox.give_up(self.rt);
         }
     }
 

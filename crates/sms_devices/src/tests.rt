@@ -6,4 +6,6 @@ mod paper;
 mod progress;
 mod rated;
 mod same;
+mod shared;
 mod standard;
+mod stopping;

@@ -17,7 +17,7 @@ use std::thread;
 use std::time::Duration;
 
 /// A listener, which this machine alone reaches, and its port.
-fn listening(
+pub fn listening(
     rt: &(impl Net<Stream = TcpStream, Listener = TcpListener> + Abort),
 ) -> (TcpListener, u16) {
     let Some(listener) = listen(rt) else {
@@ -33,7 +33,7 @@ fn listening(
 }
 
 // A run without a journal.
-fn no_journal() -> Option<&'static Journal<File>> {
+pub fn no_journal() -> Option<&'static Journal<File>> {
     None
 }
 
@@ -111,7 +111,7 @@ fn put(rt: &impl Abort, writer: &mut impl Write, octets: &[u8]) {
 }
 
 // A read that gives nothing.
-fn want_nothing(rt: &impl Abort, reader: &mut impl Read) {
+pub fn want_nothing(rt: &impl Abort, reader: &mut impl Read) {
     let mut octets = [0u8; 8];
     assert!(rt; reader.read(&mut octets).is_err());
 }
