@@ -4,10 +4,13 @@
 ghost use Rattle.std.specs.Io.{ReadsAtMost};
 ghost use Rattle.std.specs.Io.KnownBytes.{ReadConsumes};
 
+use crate::journal::Journal;
+use crate::opening::Opening;
 use crate::outbox::{Outbox, Outboxes};
 use sms_worker::Pause;
+use std::fs::OpenFile;
 use std::io;
-use std::io::Read;
+use std::io::{Error, ErrorKind, Read, Write};
 use std::sync::{Condvar, Mutex, Wait};
 use std::time::{Clock, Duration};
 
@@ -56,13 +59,13 @@ impl Bell {
 
 /// A pause that the bell ends early.
 #[derive(Drop)]
-pub struct Rest<'r, R> {
-    pub rt: &'r R,
+pub struct Rest<'r, 'j, R: Wait, F: Write + OpenFile> {
+    pub rt: &'j R,
     pub bell: &'r Bell,
-    pub outboxes: &'r Outboxes,
+    pub outboxes: &'r Outboxes<'j, R, F>,
 }
 
-impl<'r, R: Wait + Clock> Pause for Rest<'r, R> {
+impl<'r, 'j, R: Wait + Clock, F: Write + OpenFile> Pause for Rest<'r, 'j, R, F> {
     fn pause(&self, ms: u32) {
         self.outboxes.flush();
         self.bell
@@ -71,28 +74,34 @@ impl<'r, R: Wait + Clock> Pause for Rest<'r, R> {
 }
 
 /// A reader that rings the bell when it is asked for octets: a bind's reader has then handed on all
-/// answers that came before. It rings a last time when it is dropped: the line is down then.
-pub struct Ringing<'r, S, R: Wait> {
+/// answers that came before. It rings a last time when it is dropped: the line is down then. A read
+/// fails where the bind has to be answered in time and isn't.
+pub struct Ringing<'r, 'j, S, R: Wait, F: Write + OpenFile> {
     pub inner: S,
-    pub rt: &'r R,
+    pub rt: &'j R,
+    /// The journal of the run, where it has one, behind which the outbox is written.
+    pub journal: Option<&'j Journal<F>>,
     pub bell: &'r Bell,
-    pub outbox: &'r Outbox,
+    pub outbox: &'r Outbox<'j, R, F>,
+    pub opening: Opening,
 }
 
-impl<'r, S: Drop, R: Wait> Drop for Ringing<'r, S, R> {
+impl<'r, 'j, S: Drop, R: Wait, F: Write + OpenFile> Drop for Ringing<'r, 'j, S, R, F> {
     fn drop(self) {
         let Ringing {
             inner,
             rt,
+            journal: _,
             bell,
             outbox: _,
+            opening: _,
         } = self;
         drop(inner);
         bell.ring(rt);
     }
 }
 
-impl<'r, S: Read, R: Wait> Read for Ringing<'r, S, R> {
+impl<'r, 'j, S: Read, R: Wait + Clock, F: Write + OpenFile> Read for Ringing<'r, 'j, S, R, F> {
     ghost remaining = { λ r. S.remaining r.inner };
 
     fn read(&mut self, buf: &mut [u8]) -> io::Result<usize>
@@ -101,6 +110,13 @@ impl<'r, S: Read, R: Wait> Read for Ringing<'r, S, R> {
     {
         self.outbox.flush();
         self.bell.ring(self.rt);
-        self.inner.read(buf)
+        if self.opening.is_late(self.rt) {
+            return Err(Error::from(ErrorKind::ConnectionAborted));
+        }
+        let read = self.inner.read(buf);
+        if let Ok(count) = &read {
+            self.opening.see(&buf[..*count]);
+        }
+        read
     }
 }

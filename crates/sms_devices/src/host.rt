@@ -1,5 +1,6 @@
 //! What the program asks of the process that it runs in.
 
+use crate::journal::JournalFiles;
 use crate::progress::Screen;
 use std::io::Eprint;
 use std::rt::{Env, Files};
@@ -7,11 +8,12 @@ use std::sync::Wait;
 use std::thread::Threads;
 use std::time::Clock;
 
-/// Memory, words, files, standard input and error, threads and the time. Connections are asked for beside
+/// Memory, words, files, journals, standard input and error, threads and the time. Connections are asked for beside
 /// it, since they name the types of their streams.
 pub trait Host: AllocGlobal
     + Env
     + Files
+    + JournalFiles
     + Input
     + Threads
     + Wait
@@ -22,5 +24,15 @@ pub trait Host: AllocGlobal
 
 impl<R> Host for R
 where
-    R: AllocGlobal + Env + Files + Input + Threads + Wait + Clock + Eprint + Screen + Sync,
+    R: AllocGlobal
+        + Env
+        + Files
+        + JournalFiles
+        + Input
+        + Threads
+        + Wait
+        + Clock
+        + Eprint
+        + Screen
+        + Sync,
 {}

@@ -5,19 +5,31 @@
 #![tactic(auto)]
 
 mod bell;
+mod bucket;
 mod devices;
 mod host;
+mod journal;
 mod network;
+mod noting;
+mod opening;
 mod outbox;
 mod progress;
+mod rated;
+mod silence;
 mod standard;
+mod stopping;
 #[cfg(test)]
 mod tests;
 
 pub use bell::{Bell, Rest, Ringing};
 pub use devices::Ticks;
 pub use host::Host;
+pub use journal::{Journal, JournalFiles};
 pub use network::{LoopDial, TcpDial, listen};
-pub use outbox::{Outbox, Outboxes, Posting};
+pub use noting::Noting;
+pub use opening::Opening;
+pub use outbox::{Guarded, Outbox, Outboxes, Posting};
 pub use progress::{Progress, Screen, Telling};
+pub use rated::Rated;
 pub use standard::stand_ins;
+pub use stopping::Stopping;

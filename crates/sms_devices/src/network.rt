@@ -1,16 +1,19 @@
 //! Connections over TCP: to a message centre, or to test centres of the program's own.
 
 use crate::bell::{Bell, Ringing};
+use crate::opening::{Deadline, Opening};
 use crate::outbox::{Outbox, Outboxes, Posting};
 use sms_centre::{Script, serve};
 use sms_driver::Dial;
 use sms_pdu::Tap;
 use std::alloc::Global;
-use std::net::{Ipv4Addr, Net, SocketAddr, TcpListener, TcpStream};
+use std::fs::OpenFile;
+use std::io::Write;
+use std::net::{Ipv4Addr, Net, SocketAddr, TcpListener, TcpStream, ToSocketAddrs};
 use std::sync::Wait;
 use std::thread;
 use std::thread::Threads;
-use std::time::Duration;
+use std::time::{Clock, Duration};
 
 /// How long a read waits for octets.
 const READ_MS: u64 = 100;
@@ -21,85 +24,153 @@ const CENTRE_TURNS: u64 = 1 << 40;
 /// How many others may connect to a test centre before its own sender.
 const MOST_STRANGERS: u32 = 1 << 20;
 
+/// Until when a bind that is dialled now has to be answered; the outer none where the clock can't be
+/// read.
+fn deadline_of<R: Clock>(rt: &R, connect_ms: Option<u32>) -> Option<Option<Deadline>> {
+    match connect_ms {
+        Some(ms) => Some(Some(Deadline::new(rt, ms)?)),
+        None => Some(None),
+    }
+}
+
+/// Connects to the first of the addresses that answers.
+fn connect<R: Net<Stream = TcpStream> + Clock, A: ToSocketAddrs>(
+    rt: &R,
+    addresses: A,
+    deadline: Option<Deadline>,
+) -> Option<TcpStream> {
+    let Some(deadline) = deadline else {
+        return TcpStream::connect(rt, addresses).ok();
+    };
+    for address in addresses.to_socket_addrs(rt).ok()? {
+        let left = deadline.left(rt);
+        if left.is_zero() {
+            return None;
+        }
+        if let Ok(stream) = TcpStream::connect_timeout(rt, &address, left) {
+            return Some(stream);
+        }
+    }
+    None
+}
+
 /// Reader and writer of one connection. What is written waits in the outbox alone, for no more than
 /// the system's own reasons after that; a read waits for 100 ms at most, and a write that the
-/// connection takes nothing of as long as `patience`.
-fn ends_of<'r, R: Net<Stream = TcpStream> + Wait>(
-    rt: &'r R,
+/// connection takes nothing of as long as the outboxes say.
+fn ends_of<'r, 'j, R: Wait, F: Write + OpenFile>(
+    rt: &'j R,
     alloc: Global,
     bell: &'r Bell,
-    outbox: &'r Outbox,
-    patience: Option<Duration>,
+    outboxes: &'r Outboxes<'j, R, F>,
+    outbox: &'r Outbox<'j, R, F>,
+    deadline: Option<Deadline>,
     stream: TcpStream,
-) -> Option<(Ringing<'r, TcpStream, R>, Posting<'r, R>)> {
+) -> Option<(Ringing<'r, 'j, TcpStream, R, F>, Posting<'r, 'j, R, F>)> {
     stream.set_nodelay(true).ok()?;
     stream
         .set_read_timeout(Some(Duration::from_millis(READ_MS)))
         .ok()?;
-    stream.set_write_timeout(patience).ok()?;
+    stream.set_write_timeout(outboxes.patience()).ok()?;
     let inner = stream.try_clone().ok()?;
-    outbox.open(rt, alloc, stream)?;
+    outbox.open(alloc, outboxes.guard(stream))?;
+    let journal = outboxes.journal();
     let reader = Ringing {
         inner,
         rt,
+        journal,
         bell,
         outbox,
+        opening: Opening::new(deadline),
     };
-    Some((reader, Posting { rt, outbox }))
+    let writer = Posting {
+        rt,
+        journal,
+        outbox,
+    };
+    Some((reader, writer))
 }
 
 /// Connects to a message centre.
 #[derive(Drop)]
-pub struct TcpDial<'r, R> {
-    pub rt: &'r R,
+pub struct TcpDial<'r, 'j, R: Wait, F: Write + OpenFile> {
+    pub rt: &'j R,
     pub alloc: Global,
     pub bell: &'r Bell,
-    pub outboxes: &'r Outboxes,
+    pub outboxes: &'r Outboxes<'j, R, F>,
+    /// How many milliseconds it may take to connect and to bind; None is without an end.
+    pub connect_ms: Option<u32>,
     pub host: &'r str,
     pub port: u16,
 }
 
-impl<'r, R: Net<Stream = TcpStream> + Wait + Sync> Dial for TcpDial<'r, R> {
-    type Reader = Ringing<'r, TcpStream, R>;
+impl<
+    'r,
+    'j,
+    R: Net<Stream = TcpStream> + Clock + Wait + Sync,
+    F: Write + OpenFile + Send + Drop,
+> Dial for TcpDial<'r, 'j, R, F> {
+    type Reader = Ringing<'r, 'j, TcpStream, R, F>;
 
-    type Writer = Posting<'r, R>;
+    type Writer = Posting<'r, 'j, R, F>;
 
-    fn dial(&self, bind: u32) -> Option<(Ringing<'r, TcpStream, R>, Posting<'r, R>)> {
+    fn dial(&self, bind: u32) -> Option<(Ringing<'r, 'j, TcpStream, R, F>, Posting<'r, 'j, R, F>)> {
         let outbox = self.outboxes.get(bind)?;
-        let stream = TcpStream::connect(self.rt, (self.host, self.port)).ok()?;
-        let patience = self.outboxes.patience();
-        ends_of(self.rt, self.alloc, self.bell, outbox, patience, stream)
+        let deadline = deadline_of(self.rt, self.connect_ms)?;
+        let stream = connect(self.rt, (self.host, self.port), deadline)?;
+        ends_of(
+            self.rt,
+            self.alloc,
+            self.bell,
+            self.outboxes,
+            outbox,
+            deadline,
+            stream,
+        )
     }
 }
 
 /// Connects to a test centre for each bind, which it starts in a thread of its own.
 #[derive(Drop)]
-pub struct LoopDial<'r, R> {
-    pub rt: &'r R,
+pub struct LoopDial<'r, 'j, R: Wait, F: Write + OpenFile> {
+    pub rt: &'j R,
     pub alloc: Global,
     pub bell: &'r Bell,
-    pub outboxes: &'r Outboxes,
+    pub outboxes: &'r Outboxes<'j, R, F>,
+    /// How many milliseconds it may take to connect and to bind; None is without an end.
+    pub connect_ms: Option<u32>,
     pub listener: TcpListener,
     /// What the centres' script says.
     pub bind_status: u32,
     pub answers: &'r [String],
 }
 
-impl<'r, R: Net<Stream = TcpStream, Listener = TcpListener> + Threads + Wait + Sync> Dial
-    for LoopDial<'r, R> {
-    type Reader = Ringing<'r, TcpStream, R>;
+impl<
+    'r,
+    'j,
+    R: Net<Stream = TcpStream, Listener = TcpListener> + Threads + Clock + Wait + Sync,
+    F: Write + OpenFile + Send + Drop,
+> Dial for LoopDial<'r, 'j, R, F> {
+    type Reader = Ringing<'r, 'j, TcpStream, R, F>;
 
-    type Writer = Posting<'r, R>;
+    type Writer = Posting<'r, 'j, R, F>;
 
-    fn dial(&self, bind: u32) -> Option<(Ringing<'r, TcpStream, R>, Posting<'r, R>)> {
+    fn dial(&self, bind: u32) -> Option<(Ringing<'r, 'j, TcpStream, R, F>, Posting<'r, 'j, R, F>)> {
         let outbox = self.outboxes.get(bind)?;
         let address = self.listener.local_addr().ok()?;
-        let near = TcpStream::connect(self.rt, address).ok()?;
+        let deadline = deadline_of(self.rt, self.connect_ms)?;
+        let near = connect(self.rt, address, deadline)?;
         let far = accept_from(&self.listener, near.local_addr().ok()?)?;
         let script = Script::of(self.alloc, self.bind_status, self.answers).ok()?;
         start_centre(self.rt, self.alloc, far, script)?;
-        let patience = self.outboxes.patience();
-        ends_of(self.rt, self.alloc, self.bell, outbox, patience, near)
+        ends_of(
+            self.rt,
+            self.alloc,
+            self.bell,
+            self.outboxes,
+            outbox,
+            deadline,
+            near,
+        )
     }
 }
 

@@ -1,15 +1,17 @@
 //! What the wires have written and the connections haven't taken yet: the requests of a turn go out
-//! together, and not by a write each.
+//! together, and not by a write each. Before any of it is written the journal of the run is let out.
 
-ghost use Rattle.std.specs.Prelude.{◌≡◌, [], None, false, is_err, option_copied, slice_get, true};
+ghost use Rattle.std.specs.Prelude.{◌≡◌, [], IsErr, None, false, is_err, option_copied, true};
 ghost use Rattle.std.specs.Io.{WritesAtMost};
 ghost use Rattle.std.specs.Io.KnownBytes.{Keeps, WriteAppends};
-ghost use Rattle.sms_devices.specs.Outboxes.{put_in, waiting_in};
+ghost use Rattle.sms_devices.specs.Outboxes.{outbox_of, put_in, waiting_in};
 
+use crate::journal::{Journal, let_out_of};
 use std::alloc::Global;
+use std::fs::OpenFile;
 use std::io;
 use std::io::{BufWriter, Error, ErrorKind, Write};
-use std::net::{OpenStream, Shutdown, TcpStream};
+use std::net::{Shutdown, TcpStream};
 use std::sync::atomic::{AtomicU32, Ordering};
 use std::sync::{Mutex, Wait};
 use std::time::Duration;
@@ -18,14 +20,72 @@ use std::time::Duration;
 /// of more the answers to the requests of a turn come in bursts, between which the connection idles.
 const MOST_WAITING: usize = 8_192;
 
+/// A connection to which nothing is written before what was noted of it is in the journal, where the
+/// run has one.
+#[derive(Drop)]
+pub struct Guarded<'j, W, R, F> {
+    pub connection: W,
+    pub rt: &'j R,
+    pub journal: Option<&'j Journal<F>>,
+}
+
+/// Writes to the connection, once the journal is let out. Where it couldn't be, nothing is written.
+fn write_noted<W: Write>(is_let_out: bool, connection: &mut W, octets: &[u8]) -> io::Result<usize>
+    ensures bound { WritesAtMost result octets.now }
+    ensures bytes { WriteAppends (W.contents connection.old) (W.contents connection.new) result octets.now }
+    ensures refused { is_let_out ≡ false → IsErr result }
+    ensures kept { is_let_out ≡ false → connection.new ≡ connection.old }
+{
+    if is_let_out {
+        connection.write(octets)
+    } else {
+        Err(Error::from(ErrorKind::Other))
+    }
+}
+
+impl<'j, W: Write, R: Wait, F: Write + OpenFile> Write for Guarded<'j, W, R, F> {
+    ghost contents = { λ g. W.contents g.connection };
+
+    fn write(&mut self, buf: &[u8]) -> io::Result<usize>
+        ensures bound { WritesAtMost result buf.now }
+        ensures bytes { WriteAppends (W.contents self.old.connection) (W.contents self.new.connection) result buf.now }
+    {
+        let is_let_out = let_out_of(self.rt, self.journal);
+        write_noted(is_let_out, &mut self.connection, buf)
+    }
+
+    fn flush(&mut self) -> io::Result<()>
+        ensures bytes { Keeps (W.contents self.old.connection) (W.contents self.new.connection) }
+    {
+        self.connection.flush()
+    }
+}
+
+/// A connection whose other end can be told that nothing more comes.
+trait Shut {
+    fn shut(&self, how: Shutdown);
+}
+
+impl Shut for TcpStream {
+    fn shut(&self, how: Shutdown) {
+        let _shut = self.shutdown(how);
+    }
+}
+
+impl<'j, W: Shut, R, F> Shut for Guarded<'j, W, R, F> {
+    fn shut(&self, how: Shutdown) {
+        self.connection.shut(how);
+    }
+}
+
 /// A connection's writer, and whether it has failed. What waited then is lost.
 #[derive(Drop)]
-struct Held<W: Write + OpenStream + Drop> {
+struct Held<W: Write + Shut + Drop> {
     writer: BufWriter<W>,
     is_broken: bool,
 }
 
-impl<W: Write + OpenStream + Drop> Held<W> {
+impl<W: Write + Shut + Drop> Held<W> {
     /// Keeps octets to be written later, and writes what has no room. After a failure it takes nothing.
     fn put(&mut self, octets: &[u8]) -> io::Result<usize>
         ensures bound { WritesAtMost result octets.now }
@@ -39,7 +99,7 @@ impl<W: Write + OpenStream + Drop> Held<W> {
         }
         let put = self.writer.write(octets);
         if put.is_err() {
-            self.give_up();
+            self.give_up(Shutdown::Write);
         }
         put
     }
@@ -54,38 +114,39 @@ impl<W: Write + OpenStream + Drop> Held<W> {
             return;
         }
         if self.writer.flush().is_err() {
-            self.give_up();
+            self.give_up(Shutdown::Write);
         }
     }
 
-    /// Lets nothing more be written. The connection's other end is told so, and nobody waits for it
-    /// again, not even for what still waits when the outbox is dropped.
-    fn give_up(&mut self)
+    /// Lets nothing more be written, or neither written nor read. The connection's other end is told so,
+    /// and nobody waits for it again, not even for what still waits when the outbox is dropped.
+    fn give_up(&mut self, how: Shutdown)
         ensures writer { self.new.writer ≡ self.old.writer }
         ensures broken { self.new.is_broken ≡ true }
     {
         self.is_broken = true;
-        let _shut = self.writer.get_ref().shutdown(Shutdown::Write);
+        self.writer.get_ref().shut(how);
     }
 }
 
 /// What waits to be written to one connection; nothing before it is made.
 #[derive(Drop)]
-pub struct Outbox {
-    held: Mutex<Option<Held<TcpStream>>>,
+pub struct Outbox<'j, R: Wait, F: Write + OpenFile> {
+    held: Mutex<Option<Held<Guarded<'j, TcpStream, R, F>>>>,
 }
 
-impl Outbox {
+impl<'j, R: Wait, F: Write + OpenFile> Outbox<'j, R, F> {
     /// An outbox of no connection.
-    fn new() -> Outbox {
+    fn new() -> Outbox<'j, R, F> {
         Outbox {
             held: Mutex::new(None),
         }
     }
 
     /// Keeps what is written to this connection from now on. None where memory runs out.
-    pub fn open<R: Wait>(&self, rt: &R, alloc: Global, stream: TcpStream) -> Option<()> {
-        let writer = BufWriter::with_capacity(alloc, MOST_WAITING, stream).ok()?;
+    pub fn open(&self, alloc: Global, connection: Guarded<'j, TcpStream, R, F>) -> Option<()> {
+        let rt = connection.rt;
+        let writer = BufWriter::with_capacity(alloc, MOST_WAITING, connection).ok()?;
         *self.held.lock(rt) = Some(Held {
             writer,
             is_broken: false,
@@ -94,13 +155,20 @@ impl Outbox {
     }
 
     /// Keeps octets to be written to the connection.
-    fn put<R: Wait>(&self, rt: &R, octets: &[u8]) -> io::Result<usize>
+    fn put(&self, rt: &R, octets: &[u8]) -> io::Result<usize>
         ensures bound { WritesAtMost result octets.now }
     {
         let mut held = self.held.lock(rt);
         match held.as_mut() {
             Some(open) => open.put(octets),
             None => Err(Error::from(ErrorKind::NotConnected)),
+        }
+    }
+
+    /// Lets nothing more be written to the connection or read from it: its bind's line goes down.
+    fn give_up(&self, rt: &R) {
+        if let Some(open) = self.held.lock(rt).as_mut() {
+            open.give_up(Shutdown::Both);
         }
     }
 
@@ -116,26 +184,49 @@ impl Outbox {
 
 /// The outboxes of all binds.
 #[derive(Drop)]
-pub struct Outboxes {
-    of_binds: [Outbox; 4],
+pub struct Outboxes<'j, R: Wait, F: Write + OpenFile> {
+    rt: &'j R,
+    journal: Option<&'j Journal<F>>,
+    first: Outbox<'j, R, F>,
+    second: Outbox<'j, R, F>,
+    third: Outbox<'j, R, F>,
+    fourth: Outbox<'j, R, F>,
     /// How many milliseconds a connection may take no octet of what is written; 0 is without an end.
     patience_ms: AtomicU32,
 }
 
-impl Outboxes {
-    /// Outboxes of no connection.
-    pub fn new() -> Outboxes {
+impl<'j, R: Wait, F: Write + OpenFile> Outboxes<'j, R, F> {
+    /// Outboxes of no connection, in a run that may have a journal.
+    pub fn new(rt: &'j R, journal: Option<&'j Journal<F>>) -> Outboxes<'j, R, F> {
         Outboxes {
-            of_binds: [Outbox::new(), Outbox::new(), Outbox::new(), Outbox::new()],
+            rt,
+            journal,
+            first: Outbox::new(),
+            second: Outbox::new(),
+            third: Outbox::new(),
+            fourth: Outbox::new(),
             patience_ms: AtomicU32::new(0),
         }
     }
 
-    /// The outbox of a bind.
-    pub fn get(&self, bind: u32) -> Option<&Outbox>
-        ensures { option_copied result ≡ slice_get self.now.of_binds bind }
+    /// The outbox of a bind, of which there are four.
+    pub fn get(&self, bind: u32) -> Option<&Outbox<'j, R, F>>
+        ensures { option_copied result ≡ outbox_of self.now bind }
     {
-        self.of_binds.get(bind as usize)
+        match bind {
+            0 => Some(&self.first),
+            1 => Some(&self.second),
+            2 => Some(&self.third),
+            3 => Some(&self.fourth),
+            _ => None,
+        }
+    }
+
+    /// Gives the connection of a bind up.
+    pub fn give_up(&self, bind: u32) {
+        if let Some(outbox) = self.get(bind) {
+            outbox.give_up(self.rt);
+        }
     }
 
     /// A write to a connection that is made from now on fails where it takes no octet for so many
@@ -152,22 +243,40 @@ impl Outboxes {
         }
     }
 
-    /// Writes what waits for any connection.
-    pub fn flush(&self) {
-        for outbox in &self.of_binds {
-            outbox.flush();
+    /// The journal of the run, where it has one.
+    pub fn journal(&self) -> Option<&'j Journal<F>> {
+        self.journal
+    }
+
+    /// The connection, which from now on is written to behind the journal.
+    pub fn guard<W>(&self, connection: W) -> Guarded<'j, W, R, F> {
+        Guarded {
+            connection,
+            rt: self.rt,
+            journal: self.journal,
         }
+    }
+
+    /// Writes what waits for any connection, and then what is left to be noted.
+    pub fn flush(&self) {
+        self.first.flush();
+        self.second.flush();
+        self.third.flush();
+        self.fourth.flush();
+        let _let_out = let_out_of(self.rt, self.journal);
     }
 }
 
 /// A bind's writer: what it is given goes to the outbox.
 #[derive(Drop)]
-pub struct Posting<'r, R> {
-    pub rt: &'r R,
-    pub outbox: &'r Outbox,
+pub struct Posting<'r, 'j, R: Wait, F: Write + OpenFile> {
+    pub rt: &'j R,
+    /// The journal of the run, where it has one, behind which it goes on.
+    pub journal: Option<&'j Journal<F>>,
+    pub outbox: &'r Outbox<'j, R, F>,
 }
 
-impl<'r, R: Wait> Write for Posting<'r, R> {
+impl<'r, 'j, R: Wait, F: Write + OpenFile> Write for Posting<'r, 'j, R, F> {
     ghost contents = { λ _. None };
 
     fn write(&mut self, buf: &[u8]) -> io::Result<usize>

@@ -1,6 +1,11 @@
 //! The devices by themselves, over connections of the tests' own.
 
+mod journal;
 mod network;
+mod paper;
 mod progress;
+mod rated;
 mod same;
+mod shared;
 mod standard;
+mod stopping;

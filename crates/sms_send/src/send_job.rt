@@ -11,7 +11,8 @@ use crate::opened::{octets_of, open, open_named};
 use crate::reading::{read_input, setup_of};
 use crate::sender::{send_all, write_report};
 use sms_devices::{
-    Bell, Host, LoopDial, Outboxes, Progress, Rest, Screen, TcpDial, Telling, Ticks, listen,
+    Bell, Host, Journal, JournalFiles, LoopDial, Outboxes, Progress, Rest, Screen, TcpDial,
+    Telling, Ticks, listen,
 };
 use sms_driver::Dial;
 use sms_files::{FileNames, Setup};
@@ -99,7 +100,8 @@ pub fn send_job<R: Host + Net<Stream = TcpStream, Listener = TcpListener>, W: Wr
     };
     let telling = Telling::new(quiet, rt.is_terminal());
     let bell = Bell::new();
-    let outboxes = Outboxes::new();
+    let unasked: Option<&Journal<R::JournalFile>> = None;
+    let outboxes = Outboxes::new(rt, unasked);
     let pause = Rest {
         rt,
         bell: &bell,
@@ -112,6 +114,7 @@ pub fn send_job<R: Host + Net<Stream = TcpStream, Listener = TcpListener>, W: Wr
                 alloc: rt.alloc(),
                 bell: &bell,
                 outboxes: &outboxes,
+                connect_ms: None,
                 host: host.as_str(),
                 port: port as u16,
             };
@@ -135,6 +138,7 @@ pub fn send_job<R: Host + Net<Stream = TcpStream, Listener = TcpListener>, W: Wr
                 alloc: rt.alloc(),
                 bell: &bell,
                 outboxes: &outboxes,
+                connect_ms: None,
                 listener,
                 bind_status,
                 answers: answers.as_slice(),
@@ -156,7 +160,7 @@ pub fn send_job<R: Host + Net<Stream = TcpStream, Listener = TcpListener>, W: Wr
 /// Opens the files that the config names, and sends over the connections that the dial makes, as
 /// `run_sender` does. A person is told how it goes.
 fn send_files<
-    R: AllocGlobal + Files + Threads + Wait + time::Clock + Eprint + Sync,
+    R: AllocGlobal + Files + JournalFiles + Threads + Wait + time::Clock + Eprint + Sync,
     D: Dial,
     P: Pause + Sync,
     W: Write,
@@ -164,7 +168,7 @@ fn send_files<
     rt: &R,
     config: &[u8],
     files: FileNames,
-    outboxes: &Outboxes,
+    outboxes: &Outboxes<'_, R, R::JournalFile>,
     dial: &D,
     pause: &P,
     telling: Telling,

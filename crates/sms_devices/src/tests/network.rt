@@ -4,17 +4,20 @@
 use super::same::same;
 use crate::bell::{Bell, Rest};
 use crate::devices::Ticks;
+use crate::journal::Journal;
 use crate::network::{LoopDial, TcpDial, listen};
 use crate::outbox::Outboxes;
 use sms_driver::Dial;
 use sms_worker::{Clock, Pause};
+use std::fs::File;
 use std::io::{Read, Write};
 use std::net::{IpAddr, Ipv4Addr, Net, TcpListener, TcpStream};
 use std::process::Abort;
+use std::thread;
 use std::time::Duration;
 
 /// A listener, which this machine alone reaches, and its port.
-fn listening(
+pub fn listening(
     rt: &(impl Net<Stream = TcpStream, Listener = TcpListener> + Abort),
 ) -> (TcpListener, u16) {
     let Some(listener) = listen(rt) else {
@@ -27,6 +30,11 @@ fn listening(
         }
         Err(_) => panic!(rt; "no address"),
     }
+}
+
+// A run without a journal.
+pub fn no_journal() -> Option<&'static Journal<File>> {
+    None
 }
 
 // How a stream was set up, whose writes wait so long.
@@ -50,13 +58,14 @@ fn want_set_up(rt: &impl Abort, stream: &TcpStream, patience: Option<Duration>) 
 #[test]
 fn sets_up_each_connection(rt: HostRuntime) {
     let bell = Bell::new();
-    let outboxes = Outboxes::new();
+    let outboxes = Outboxes::new(&rt, no_journal());
     let (_listener, port) = listening(&rt);
     let dial = TcpDial {
         rt: &rt,
         alloc: rt.alloc(),
         bell: &bell,
         outboxes: &outboxes,
+        connect_ms: None,
         host: "127.0.0.1",
         port,
     };
@@ -102,7 +111,7 @@ fn put(rt: &impl Abort, writer: &mut impl Write, octets: &[u8]) {
 }
 
 // A read that gives nothing.
-fn want_nothing(rt: &impl Abort, reader: &mut impl Read) {
+pub fn want_nothing(rt: &impl Abort, reader: &mut impl Read) {
     let mut octets = [0u8; 8];
     assert!(rt; reader.read(&mut octets).is_err());
 }
@@ -112,13 +121,14 @@ fn want_nothing(rt: &impl Abort, reader: &mut impl Read) {
 #[test]
 fn writes_and_rings_before_it_reads(rt: HostRuntime) {
     let bell = Bell::new();
-    let outboxes = Outboxes::new();
+    let outboxes = Outboxes::new(&rt, no_journal());
     let (listener, port) = listening(&rt);
     let dial = TcpDial {
         rt: &rt,
         alloc: rt.alloc(),
         bell: &bell,
         outboxes: &outboxes,
+        connect_ms: None,
         host: "127.0.0.1",
         port,
     };
@@ -144,13 +154,14 @@ fn writes_and_rings_before_it_reads(rt: HostRuntime) {
 #[test]
 fn keeps_8192_octets(rt: HostRuntime) {
     let bell = Bell::new();
-    let outboxes = Outboxes::new();
+    let outboxes = Outboxes::new(&rt, no_journal());
     let (listener, port) = listening(&rt);
     let dial = TcpDial {
         rt: &rt,
         alloc: rt.alloc(),
         bell: &bell,
         outboxes: &outboxes,
+        connect_ms: None,
         host: "127.0.0.1",
         port,
     };
@@ -175,13 +186,14 @@ fn keeps_8192_octets(rt: HostRuntime) {
 #[test]
 fn rings_at_its_end(rt: HostRuntime) {
     let bell = Bell::new();
-    let outboxes = Outboxes::new();
+    let outboxes = Outboxes::new(&rt, no_journal());
     let (_listener, port) = listening(&rt);
     let dial = TcpDial {
         rt: &rt,
         alloc: rt.alloc(),
         bell: &bell,
         outboxes: &outboxes,
+        connect_ms: None,
         host: "127.0.0.1",
         port,
     };
@@ -209,7 +221,7 @@ const ALIVE: [u8; 16] = [0, 0, 0, 16, 0x80, 0, 0, 0x15, 0, 0, 0, 0, 0, 0, 0, 1];
 #[test]
 fn serves_its_own_sender(rt: HostRuntime) {
     let bell = Bell::new();
-    let outboxes = Outboxes::new();
+    let outboxes = Outboxes::new(&rt, no_journal());
     let (listener, port) = listening(&rt);
     let Ok(mut stranger) = TcpStream::connect(&rt, (Ipv4Addr::LOCALHOST, port)) else {
         panic!(rt; "no connection")
@@ -220,6 +232,7 @@ fn serves_its_own_sender(rt: HostRuntime) {
         alloc: rt.alloc(),
         bell: &bell,
         outboxes: &outboxes,
+        connect_ms: None,
         listener,
         bind_status: 0,
         answers: &answers,
@@ -245,4 +258,39 @@ fn answering(rt: &(impl AllocGlobal + Abort)) -> String {
         Ok(text) => text,
         Err(_) => panic!(rt; "no memory"),
     }
+}
+
+/// Where the connection has to be bound in time a read gives nothing more once it is too late, whether
+/// octets come or not, up to the end of the first frame. Behind that frame it doesn't matter.
+#[test]
+fn waits_for_the_bind_so_long(rt: HostRuntime) {
+    let bell = Bell::new();
+    let outboxes = Outboxes::new(&rt, no_journal());
+    let (listener, port) = listening(&rt);
+    let dial = TcpDial {
+        rt: &rt,
+        alloc: rt.alloc(),
+        bell: &bell,
+        outboxes: &outboxes,
+        connect_ms: Some(300),
+        host: "127.0.0.1",
+        port,
+    };
+    let (Some((mut late, _one)), Some((mut bound, _two))) = (dial.dial(0), dial.dial(1)) else {
+        panic!(rt; "no connection")
+    };
+    let mut to_late = accepted(&rt, &listener);
+    let mut to_bound = accepted(&rt, &listener);
+    put(&rt, &mut to_late, &ALIVE[..15]);
+    put(&rt, &mut to_bound, &ALIVE);
+    let mut octets = [0u8; 8];
+    for reader in [&mut late, &mut bound] {
+        assert!(rt; reader.read(&mut octets).is_ok());
+        assert!(rt; reader.read(&mut octets).is_ok());
+    }
+    thread::sleep(&rt, Duration::from_millis(400));
+    put(&rt, &mut to_late, &ALIVE[15..]);
+    put(&rt, &mut to_bound, &ENQUIRE);
+    assert!(rt; late.read(&mut octets).is_err());
+    assert!(rt; bound.read(&mut octets).is_ok());
 }

@@ -1,14 +1,14 @@
 //! When a person is told how far a sending is.
 
+use super::paper::ManualClock;
 use super::same::same;
 use crate::progress::{Progress, Telling};
 use sms_worker::{
-    Attempts, Clock, Gate, MessageEnd, MessageRefusal, MessageResult, Outcome, SegmentEnd, Segments,
+    Attempts, Gate, MessageEnd, MessageRefusal, MessageResult, Outcome, SegmentEnd, Segments,
 };
 use std::alloc::Global;
 use std::fmt::Display;
 use std::io::Eprint;
-use std::sync::atomic::{AtomicU64, Ordering};
 use std::sync::{Mutex, Wait};
 use std::test::Fail;
 use std::{io, mem};
@@ -75,25 +75,11 @@ impl<'r, R: Wait> Paper<'r, R> {
     }
 }
 
-// A clock that is set by hand.
-#[derive(Drop)]
-struct ManualClock {
-    ms: AtomicU64,
-}
-
-impl Clock for ManualClock {
-    fn now_ms(&self) -> u64 {
-        self.ms.load(Ordering::SeqCst)
-    }
-}
-
 #[test]
 fn renews_the_line_in_turns(rt: HostRuntime) -> Result<(), Fail> {
     let alloc = rt.alloc();
     let paper = Paper::blank(&rt, alloc);
-    let clock = ManualClock {
-        ms: AtomicU64::new(1000),
-    };
+    let clock = ManualClock::new(1000);
     let progress = Progress::new(&paper, &clock, Telling::Way, 10);
     let ends = ends_in_turn(alloc)?;
     // When a worker is at which place, and what is written then.
@@ -119,7 +105,7 @@ fn renews_the_line_in_turns(rt: HostRuntime) -> Result<(), Fail> {
         (1900, 32, 1, 0, ""),
     ];
     for (ms, worker, begun, open, wanted) in steps {
-        clock.ms.store(ms, Ordering::SeqCst);
+        clock.set(ms);
         let Some(first) = ends.as_slice().get(..begun) else {
             return Err("no so many ends".into());
         };
@@ -135,13 +121,11 @@ fn renews_the_line_in_turns(rt: HostRuntime) -> Result<(), Fail> {
 fn is_quiet_in_a_pipe(rt: HostRuntime) -> Result<(), Fail> {
     let alloc = rt.alloc();
     let paper = Paper::blank(&rt, alloc);
-    let clock = ManualClock {
-        ms: AtomicU64::new(0),
-    };
+    let clock = ManualClock::new(0);
     let ends = ends_in_turn(alloc)?;
     for telling in [Telling::Nothing, Telling::End] {
         let progress = Progress::new(&paper, &clock, telling, 10);
-        clock.ms.store(5000, Ordering::SeqCst);
+        clock.set(5000);
         assert!(rt; progress.pass(0, 1));
         progress.see(0, ends.as_slice(), 0);
         progress.see_last(0, ends.as_slice());

@@ -1,0 +1,163 @@
+//! Devices in memory, for the tests of the journal: a file that takes so many octets, a connection, a
+//! clock that stands, and a gate that lets everything pass.
+
+use sms_worker::Gate;
+use std::alloc::Global;
+use std::fs::{Metadata, OpenFile};
+use std::io::{Error, ErrorKind, Write};
+use std::sync::atomic::{AtomicU32, AtomicU64, Ordering};
+use std::sync::{Mutex, Wait};
+use std::time::{Clock, Duration};
+use std::{io, mem};
+
+/// The time at which a clock of the tests stands, in milliseconds since 1970.
+pub const STILL_MS: u64 = 1_700_000_000_123;
+
+/// A clock that stands, or can't be read.
+#[derive(Drop)]
+pub struct Still<'r, R> {
+    pub rt: &'r R,
+    pub can_be_read: bool,
+}
+
+impl<'r, R: Wait> Wait for Still<'r, R> {}
+
+impl<'r, R> Clock for Still<'r, R> {
+    fn monotonic(&self) -> io::Result<Duration> {
+        self.since_1970()
+    }
+
+    fn since_1970(&self) -> io::Result<Duration> {
+        if self.can_be_read {
+            Ok(Duration::from_millis(STILL_MS))
+        } else {
+            Err(Error::from(ErrorKind::Unsupported))
+        }
+    }
+}
+
+/// What a file took, and how often that was made durable.
+#[derive(Drop)]
+pub struct Sheet {
+    octets: Mutex<Vec<u8>>,
+    syncs: AtomicU32,
+}
+
+impl Sheet {
+    pub fn blank(alloc: Global) -> Sheet {
+        Sheet {
+            octets: Mutex::new(Vec::new(alloc)),
+            syncs: AtomicU32::new(0),
+        }
+    }
+
+    /// What was written since the last call.
+    pub fn take<R: Wait>(&self, rt: &R, alloc: Global) -> Vec<u8> {
+        let mut octets = self.octets.lock(rt);
+        mem::replace(&mut *octets, Vec::new(alloc))
+    }
+
+    pub fn syncs(&self) -> u32 {
+        self.syncs.load(Ordering::SeqCst)
+    }
+}
+
+/// A file that takes so many octets, and can be made durable or can't.
+#[derive(Drop)]
+pub struct PaperFile<'r, R> {
+    pub rt: &'r R,
+    pub sheet: &'r Sheet,
+    pub room: usize,
+    pub syncs: bool,
+}
+
+impl<'r, R: Wait> Write for PaperFile<'r, R> {
+    fn write(&mut self, buf: &[u8]) -> io::Result<usize> {
+        let taken = buf.len().min(self.room);
+        if taken == 0 {
+            return Err(Error::from(ErrorKind::StorageFull));
+        }
+        let mut octets = self.sheet.octets.lock(self.rt);
+        octets.extend_from_slice(&buf[..taken])?;
+        self.room -= taken;
+        Ok(taken)
+    }
+
+    fn flush(&mut self) -> io::Result<()> {
+        Ok(())
+    }
+}
+
+impl<'r, R> OpenFile for PaperFile<'r, R> {
+    fn metadata(&self) -> io::Result<Metadata> {
+        Err(Error::from(ErrorKind::Unsupported))
+    }
+
+    fn set_len(&self, _size: u64) -> io::Result<()> {
+        Err(Error::from(ErrorKind::Unsupported))
+    }
+
+    fn sync_all(&self) -> io::Result<()> {
+        Err(Error::from(ErrorKind::Unsupported))
+    }
+
+    fn sync_data(&self) -> io::Result<()> {
+        self.sheet.syncs.fetch_add(1, Ordering::SeqCst);
+        if self.syncs {
+            Ok(())
+        } else {
+            Err(Error::from(ErrorKind::Other))
+        }
+    }
+}
+
+/// A connection that keeps what is written to it.
+#[derive(Drop)]
+pub struct Line {
+    pub octets: Vec<u8>,
+}
+
+impl Write for Line {
+    fn write(&mut self, buf: &[u8]) -> io::Result<usize> {
+        self.octets.extend_from_slice(buf)?;
+        Ok(buf.len())
+    }
+
+    fn flush(&mut self) -> io::Result<()> {
+        Ok(())
+    }
+}
+
+/// Lets every request pass.
+#[derive(Clone, Copy, Drop)]
+pub struct OpenGate;
+
+impl Gate for OpenGate {
+    fn pass(&self, _worker: usize, _number: u32) -> bool {
+        true
+    }
+}
+
+/// A clock of the sending that is set by hand.
+#[derive(Drop)]
+pub struct ManualClock {
+    ms: AtomicU64,
+}
+
+impl ManualClock {
+    pub fn new(ms: u64) -> ManualClock {
+        ManualClock {
+            ms: AtomicU64::new(ms),
+        }
+    }
+
+    pub fn set(&self, ms: u64) {
+        self.ms.store(ms, Ordering::SeqCst);
+    }
+}
+
+impl sms_worker::Clock for ManualClock {
+    fn now_ms(&self) -> u64 {
+        self.ms.load(Ordering::SeqCst)
+    }
+}
