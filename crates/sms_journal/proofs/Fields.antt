@@ -1,10 +1,10 @@
 -- What is read of a line that was written.
-use Rattle.std.proofs.Common.{◌≡◌, ℕ, zero, suc, ◌+◌, ◌*◌, ◌/◌, ◌%◌, ◌<◌, ◌≤◌, Bool, true, false, List, [], ◌∷◌, ◌++◌, length, take, drop, Some, None, inl, inr, refl, sym, ap, ◌∙◌, subst, arith, rules, append_assoc, length-append}
-use Rattle.std.specs.Prelude.{◌==◌, ◌||◌, ◌&&◌, not, nat_lt, nat_le, if◌then◌else◌, Option, codes, decimal, flat_map, ⊤, position, option_map}
-use Rattle.std.proofs.Math.Seq.{take-append_seam, drop-append_seam, drop-append-add}
+use Rattle.std.proofs.Common.{◌≡◌, ℕ, suc, ◌+◌, ◌*◌, ◌/◌, ◌%◌, ◌<◌, ◌≤◌, Bool, true, false, List, [], ◌∷◌, ◌++◌, length, take, drop, Some, None, inl, inr, refl, sym, ap, ◌∙◌, subst, arith, rules, append_assoc, length-append}
+use Rattle.std.specs.Prelude.{◌==◌, nat_lt, if◌then◌else◌, codes, decimal, ⊤, position, option_map}
+use Rattle.std.proofs.Math.Seq.{take-append_seam, drop-append-add}
 use Rattle.std.proofs.lemmas.Bool.{and_parts, ne_eqb, cases_Bool, ltb-true, ltb-false, lt-ltb}
 use Rattle.std.proofs.lemmas.Bool.Decides.{nat_tests}
-use Rattle.std.proofs.lemmas.Fmt.{decimal_is_IsNumeral, decimal_nonempty, length-decimal-le, decimal_digit, digits_decimal, digits_value-decimal}
+use Rattle.std.proofs.lemmas.Fmt.{decimal_is_IsNumeral, decimal_nonempty, length-decimal-le, decimal_digit, digits_decimal}
 use Rattle.std.proofs.lemmas.Str.Parse.{tells_all_ascii_digits, numerals_by_value}
 use Rattle.std.proofs.lemmas.List.Concat.{flat_map-cons}
 use Rattle.std.specs.List.{position_or_len}
@@ -19,7 +19,7 @@ use Rattle.sms_worker.specs.declared.ends.MessageRefusal.TheVariants.{NoAccount,
 use Rattle.sms_journal.specs.declared.note.Call.{Call}
 use Rattle.sms_journal.specs.declared.note.Note.{Note}
 use Rattle.sms_journal.specs.declared.note.Note.TheVariants.{Begun, Sent, Unsent, Heard, Refused, End}
-use Rattle.sms_journal.specs.declared.reading.Escape.TheVariants.{Plain, First, Second}
+use Rattle.sms_journal.specs.declared.reading.Escape.TheVariants.{Plain, First}
 use Rattle.sms_journal.proofs.Lists.{take_whole}
 use Rattle.sms_journal.specs.Text.{flag, hex_digit, hex_octet, id_octet, id_text, is_plain, note_text, number_field, refusal_word}
 use Rattle.sms_journal.specs.Lines.{AreIdOctets, IsId, IsNote, IsU32, IsU64}

@@ -2,12 +2,10 @@
 use Rattle.std.proofs.Common.{◌≡◌, ℕ, zero, suc, ◌+◌, ◌<◌, List, [], ◌∷◌, ◌++◌, length, take, Some, None, refl, sym, ap, ◌∙◌, subst, Bool, true, false, arith}
 use Rattle.std.specs.Prelude.{Option, slice_get, flat_map, if◌then◌else◌, ◌==◌, ◌&&◌}
 use Rattle.std.proofs.lemmas.Bool.{eqb-true}
-use Rattle.std.proofs.lemmas.Option.{slice_get_within}
 use Rattle.sms_core.specs.Replies.{AreRetried}
 use Rattle.sms_pdu.specs.declared.reply.Reply.{Reply}
 use Rattle.sms_worker.specs.declared.message.Message.{Message}
 use Rattle.sms_worker.specs.declared.rules.Rules.{Rules}
-use Rattle.sms_worker.specs.declared.ends.Outcome.TheVariants.{Charged}
 use Rattle.sms_worker.specs.declared.ends.MessageRefusal.{MessageRefusal}
 use Rattle.sms_journal.specs.declared.note.Call.{Call}
 use Rattle.sms_journal.specs.declared.note.Note.{Note}
@@ -19,7 +17,7 @@ use Rattle.sms_journal.specs.declared.told.ResultTold.TheVariants as result
 use Rattle.sms_journal.specs.Recovered.{ArePartsTold, IsRefusalTold, IsResultTold, answers_told, fate_in, fate_of, start_in, start_of, tried, tried_in, tries_of}
 use Rattle.sms_journal.specs.Sums.{parts_in}
 use Rattle.sms_journal.specs.Lawful.{IsJournal, IsOver}
-use Rattle.sms_journal.specs.Laws.{ChargesStay, ChargesStayCharges, HasChargedPart}
+use Rattle.sms_journal.specs.Laws.{ChargesStayCharges, HasChargedPart}
 use Rattle.sms_journal.proofs.Charges.{charges_stay}
 use Rattle.sms_journal.proofs.Firsts.{first_of_front}
 use Rattle.sms_journal.proofs.Pieces.{first_append, from}

@@ -3,7 +3,6 @@ use Rattle.std.specs.Prelude.{◌≡◌, ◌≢◌, ℕ, ◌+◌, ◌<◌, ◌�
 use Rattle.sms_journal.specs.declared.error.JournalError.{JournalError}
 use Rattle.sms_journal.specs.declared.error.JournalError.TheVariants.{BadRecord, BadNote, Overdrawn, OutOfMemory}
 use Rattle.sms_journal.specs.declared.header.Digests.{Digests}
-use Rattle.sms_journal.specs.declared.note.Call.{Call}
 use Rattle.sms_journal.specs.declared.note.Note.{Note}
 use Rattle.sms_journal.specs.declared.note.Note.TheVariants.{Begun, Sent, Unsent, Heard, Refused, End}
 use Rattle.sms_journal.specs.Text.{header_text, note_text}

@@ -1,4 +1,4 @@
-use Rattle.std.proofs.Common.{◌≡◌, ℕ, ◌∙◌, Some, subst, arith, rules}
+use Rattle.std.proofs.Common.{◌∙◌, subst, arith, rules}
 use Rattle.std.specs.Prelude.{Option, slice_get}
 use Rattle.sms_journal.specs.declared.rows.Sums.{Sums}
 use Rattle.sms_journal.specs.Sums.{IsGrown, parts_in}

@@ -1,4 +1,4 @@
-use Rattle.std.proofs.Common.{◌≡◌, ◌+◌, arith, rules}
+use Rattle.std.proofs.Common.{arith, rules}
 use Rattle.sms_core.specs.Rows.{reserved_of, charged_of, returned_of}
 use Rattle.sms_journal.proofs.Adding.{fits_front, over_drop, over_end}
 use Rattle.sms_journal.proofs.rows.with_parts.Goals as goal
