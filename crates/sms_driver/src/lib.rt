@@ -23,8 +23,6 @@ mod run;
 mod seating;
 mod seats;
 mod task;
-#[cfg(test)]
-mod tests;
 mod thread_scope;
 mod threads;
 mod working;

@@ -2,8 +2,8 @@
 
 use super::driving::{bind_settings, openings, rules, want_unbound};
 use super::same::same;
-use crate::{Dial, SendFault, Sending, drive_all};
 use sms_centre::{Pipe, PipeEnd};
+use sms_driver::{Dial, SendFault, Sending, drive_all};
 use sms_worker::{Clock, Gate, Pause};
 use std::alloc::Global;
 use std::io::Write;

@@ -1,11 +1,12 @@
 //! Whole sendings, over pipes in memory.
 
 use super::same::same;
-use crate::bind_end::{BindEnd, Unbinding};
-use crate::{BindFailure, BindSettings, Dial, SendFault, Sending, drive_all};
 use sms_bind::Settings;
 use sms_book::{Opening, Statement, Tariff};
 use sms_centre::{Pipe, PipeEnd, Script, ServeCause, ServeEnd, serve};
+use sms_driver::{
+    BindEnd, BindFailure, BindSettings, Dial, SendFault, Sending, Unbinding, drive_all,
+};
 use sms_pdu::{Mode, Octets, Tap};
 use sms_session::Policy;
 use sms_worker::{Clock, Gate, Message, MessageEnd, MessageResult, Outcome, Pause, Rules};

@@ -4,8 +4,8 @@
 
 use super::driving::{Case, Done, GOOD, sent, want_all_charged, want_none_sent};
 use super::same::same;
-use crate::SendFault;
 use sms_centre::ServeCause;
+use sms_driver::SendFault;
 use std::process::Abort;
 use std::test::Fail;
 

@@ -1,7 +1,7 @@
 //! What faults say.
 
 use super::same::same;
-use crate::{BindFailure, SendFault};
+use sms_driver::{BindFailure, SendFault};
 use std::test::Fail;
 
 // A fault, and its words.
