@@ -1,5 +1,5 @@
 -- The refusals of quotes and of workers.
-use Rattle.std.proofs.Common.{◌≡◌, ℕ, List, refl, sym, ap, ◌∙◌, subst}
+use Rattle.std.proofs.Common.{◌≡◌, ℕ, refl, sym, ap}
 use Rattle.std.specs.Prelude.{◌≢◌}
 use Rattle.sms_worker.specs.declared.message.Message.{Message}
 use Rattle.sms_worker.specs.declared.rules.Rules.{Rules}

@@ -1,5 +1,5 @@
-use Rattle.std.proofs.Common.{◌≡◌, ◌+◌, ◌++◌, ◌∷◌, [], ◌∙◌, length, subst, sym, take, arith, rules}
-use Rattle.sms_quote.specs.Quotes.{AreQuotesOf, IsQuoteOf, free_at}
+use Rattle.std.proofs.Common.{◌≡◌, ◌+◌, ◌++◌, ◌∷◌, [], length, subst, sym, take, arith, rules}
+use Rattle.sms_quote.specs.Quotes.{AreQuotesOf, IsQuoteOf}
 use Rattle.sms_quote.specs.Totals.{AreTotals, FitIn, left_in}
 use Rattle.sms_quote.proofs.Counting.{fits, left_is, no_quotes_are, no_totals_are, quotes_more, take_whole, totals_more}
 use Rattle.sms_quote.proofs.quoting.quoted.Goals as goal

@@ -1,4 +1,4 @@
-use Rattle.std.proofs.Common.{◌≡◌, ℕ, refl, rules}
+use Rattle.std.proofs.Common.{◌≡◌, refl, rules}
 use Rattle.sms_quote.specs.declared.total.Total.{Total}
 use Rattle.sms_quote.specs.Totals.{nothing}
 use Rattle.sms_quote.proofs.Counting.{all_more}
