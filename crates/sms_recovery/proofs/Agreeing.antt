@@ -1,6 +1,6 @@
 -- What is told of ends is printed as the ends are, and notes tell one report.
-use Rattle.std.proofs.Common.{◌≡◌, ◌∙◌, ℕ, zero, suc, ◌+◌, ◌++◌, Bool, List, [], ◌∷◌, length, map, refl, sym, ap, Some, None, arith}
-use Rattle.std.specs.Prelude.{Option, slice_get, ◌||◌, codes, flat_map}
+use Rattle.std.proofs.Common.{◌≡◌, ◌∙◌, ℕ, zero, suc, ◌+◌, ◌++◌, Bool, List, [], ◌∷◌, length, map, refl, sym, ap, Some, arith}
+use Rattle.std.specs.Prelude.{slice_get, ◌||◌}
 use Rattle.std.specs.List.{AllZip}
 use Rattle.sms_core.specs.declared.row.Row.{Row}
 use Rattle.sms_book.specs.declared.opening.Opening.{Opening}
@@ -15,13 +15,12 @@ use Rattle.sms_journal.specs.declared.note.Note.{Note}
 use Rattle.sms_journal.specs.declared.told.MessageTold.{MessageTold}
 use Rattle.sms_journal.specs.declared.told.Tried.{Tried}
 use Rattle.sms_journal.specs.Recovered.{IsTold}
-use Rattle.sms_journal.specs.Laws.{ToldOnce}
-use Rattle.sms_journal.specs.Sums.{part_of_end, result_of_end, row_told, told_of_end}
+use Rattle.sms_journal.specs.Sums.{part_of_end, result_of_end, told_of_end}
 use Rattle.sms_journal.proofs.Once.{told_once}
 use Rattle.sms_report.specs.Report as report
 use Rattle.sms_recovery.specs.Laws.{ReportsAgree, RunsAreRecovered, StatusesAgree}
 use Rattle.sms_recovery.specs.Recovering.{AreRowsTold}
-use Rattle.sms_recovery.specs.Reports.{has_unanswered, is_open_result, last_text, part_text, part_texts, result_text, some_unanswered, told_report_of, told_text, told_texts}
+use Rattle.sms_recovery.specs.Reports.{has_unanswered, is_open_result, last_text, part_text, part_texts, result_text, some_unanswered, told_report_of, told_texts}
 
 -- ---- lines
 

@@ -1,5 +1,5 @@
 -- What is recovered of an input and of a journal, from what is recovered of its notes.
-use Rattle.std.proofs.Common.{◌≡◌, inr, inl, subst, ℕ, List, Option}
+use Rattle.std.proofs.Common.{◌≡◌, inr, subst, ℕ, List, Option}
 use Rattle.sms_book.specs.declared.opening.Opening.{Opening}
 use Rattle.sms_worker.specs.declared.message.Message.{Message}
 use Rattle.sms_worker.specs.declared.rules.Rules.{Rules}

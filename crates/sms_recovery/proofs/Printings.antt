@@ -1,5 +1,5 @@
 -- What was printed of a report, by the text that was printed.
-use Rattle.std.proofs.Common.{◌≡◌, inl, inr, subst, ℕ, List, Option}
+use Rattle.std.proofs.Common.{◌≡◌, inr, subst, ℕ, List, Option}
 use Rattle.std.specs.Io.KnownBytes.{Appends}
 use Rattle.sms_files.specs.declared.input.Input.{Input}
 use Rattle.sms_recovery.specs.Files.{IsCut, Reads}

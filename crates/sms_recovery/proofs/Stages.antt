@@ -1,12 +1,12 @@
 -- How far the first records of a report are.
-use Rattle.std.proofs.Common.{◌≡◌, ◌≢◌, ◌∙◌, ◌≤◌, ◌<◌, ◌⊎◌, inl, inr, sym, refl, ap, subst, ℕ, zero, suc, ◌+◌, List, [], ◌∷◌, length, map, take, Some, None, add-one, arith}
-use Rattle.std.specs.Prelude.{Option, option_and_then, slice_get}
+use Rattle.std.proofs.Common.{◌≡◌, ◌≢◌, ◌≤◌, ◌⊎◌, inl, inr, refl, ap, ℕ, zero, suc, ◌+◌, List, [], ◌∷◌, length, map, take, Some, None, add-one, arith}
+use Rattle.std.specs.Prelude.{Option, slice_get}
 use Rattle.sms_files.specs.Fields.{Field, Record}
 use Rattle.sms_recovery.specs.declared.fault.RecoveryFault.{RecoveryFault}
 use Rattle.sms_recovery.specs.declared.fault.RecoveryFault.TheVariants.{OutOfMemory, Report}
 use Rattle.sms_recovery.specs.declared.stage.Stage.{Stage}
 use Rattle.sms_recovery.specs.declared.stage.Stage.TheVariants.{Start, Rows}
-use Rattle.sms_recovery.specs.Stages.{IsFirstFaulty, Stops, after, step}
+use Rattle.sms_recovery.specs.Stages.{IsFirstFaulty, after, step}
 
 inside : {A : Type 0} (a b : A) → Some a ≡ Some b → a ≡ b
 inside a b e = cc

@@ -1,5 +1,5 @@
 -- The records that were read, and those that are left.
-use Rattle.std.proofs.Common.{◌≡◌, ◌∙◌, sym, refl, ap, Bool, true, false, List, [], ◌∷◌, ◌++◌, map, append_assoc, Option, Some, None, IfSome}
+use Rattle.std.proofs.Common.{◌≡◌, ◌∙◌, sym, refl, ap, Bool, true, false, List, [], ◌∷◌, ◌++◌, map, append_assoc, Option, Some, IfSome}
 use Rattle.std.proofs.lemmas.List.{append-nil}
 use Rattle.sms_files.specs.Fields.{Record}
 use Rattle.sms_files.specs.Records.{GivesFirst}

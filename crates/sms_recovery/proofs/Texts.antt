@@ -1,5 +1,5 @@
 -- What is printed of records, from a place on.
-use Rattle.std.proofs.Common.{◌≡◌, ◌∙◌, ◌≤◌, ◌<◌, sym, refl, ap, ℕ, zero, suc, ◌+◌, ◌-◌, min, Bool, List, [], ◌∷◌, ◌++◌, length, map, drop, take, get_or, append_assoc, arith}
+use Rattle.std.proofs.Common.{◌≡◌, ◌∙◌, ◌≤◌, ◌<◌, sym, refl, ap, ℕ, zero, suc, ◌+◌, ◌-◌, min, List, [], ◌∷◌, ◌++◌, length, map, drop, take, get_or, append_assoc, arith}
 use Rattle.std.proofs.lemmas.List.{append-nil, length-drop, take_all}
 use Rattle.sms_book.specs.declared.opening.Opening.{Opening}
 use Rattle.sms_files.specs.Fields.{Record}

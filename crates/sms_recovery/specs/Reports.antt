@@ -1,5 +1,5 @@
 -- The report of what is told of messages, in the lines of the sender's, and the exit status.
-use Rattle.std.specs.Prelude.{ℕ, ◌+◌, Bool, true, false, ◌||◌, List, [], ◌∷◌, ◌++◌, length, if◌then◌else◌, codes, flat_map}
+use Rattle.std.specs.Prelude.{ℕ, ◌+◌, Bool, false, ◌||◌, List, [], ◌∷◌, ◌++◌, length, if◌then◌else◌, codes, flat_map}
 use Rattle.sms_core.specs.declared.row.Row.{Row}
 use Rattle.sms_book.specs.declared.opening.Opening.{Opening}
 use Rattle.sms_journal.specs.declared.told.MessageTold.{MessageTold}

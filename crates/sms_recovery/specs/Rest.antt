@@ -1,5 +1,5 @@
 -- What is left of a sending by its report: the messages that did not go out, and the credits that are free for them.
-use Rattle.std.specs.Prelude.{◌≡◌, ℕ, ◌+◌, ◌-◌, ◌==◌, ◌&&◌, ◌||◌, not, Bool, true, false, List, [], ◌∷◌, ◌++◌, length, drop, Option, Some, None, if◌then◌else◌, codes, decimal, string_bytes}
+use Rattle.std.specs.Prelude.{ℕ, ◌+◌, ◌-◌, ◌==◌, ◌&&◌, ◌||◌, not, Bool, true, List, [], ◌∷◌, ◌++◌, length, drop, Option, Some, None, if◌then◌else◌, codes, decimal, string_bytes}
 use Rattle.csv.specs.Records.{field_at}
 use Rattle.sms_book.specs.declared.opening.Opening.{Opening}
 use Rattle.sms_files.specs.Fields.{Field, Record}

@@ -176,19 +176,24 @@ fn tells_a_report_of_each_front_of_a_journal(rt: HostRuntime) -> Result<(), Fail
     Ok(())
 }
 
-/// Whether the last line is of an account with 3 credits in all.
-fn balances(out: &[u8]) -> bool {
-    [
-        b"main,3,3,0,0,".as_slice(),
-        b"main,3,2,1,0,",
-        b"main,3,1,2,0,",
-        b"main,3,2,0,1,",
-        b"main,3,1,1,1,",
-    ]
-    .iter()
-    .any(|row| has(out, row))
-}
+/// The rows of an account that has its 3 credits, but for what was returned.
+const BALANCED: [&str; 5] = [
+    "main,3,3,0,0,",
+    "main,3,2,1,0,",
+    "main,3,1,2,0,",
+    "main,3,2,0,1,",
+    "main,3,1,1,1,",
+];
 
-fn has(out: &[u8], row: &[u8]) -> bool {
-    out.windows(row.len()).any(|octets| octets == row)
+/// Whether one of them was printed.
+fn balances(out: &[u8]) -> bool {
+    let Ok(text) = std::str::from_utf8(out) else {
+        return false;
+    };
+    for row in &BALANCED {
+        if text.contains(*row) {
+            return true;
+        }
+    }
+    false
 }

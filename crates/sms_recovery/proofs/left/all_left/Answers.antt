@@ -1,4 +1,4 @@
-use Rattle.std.proofs.Common.{ℕ, arith, rules}
+use Rattle.std.proofs.Common.{arith, rules}
 use Rattle.sms_recovery.proofs.Lefts.{one_more_left}
 use Rattle.sms_recovery.proofs.left.all_left.Goals as goal
 

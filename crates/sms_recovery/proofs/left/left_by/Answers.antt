@@ -1,4 +1,4 @@
-use Rattle.std.proofs.Common.{length, arith}
+use Rattle.std.proofs.Common.{arith}
 use Rattle.std.specs.Prelude.{slice_get}
 use Rattle.csv.specs.Records.{fields_of}
 use Rattle.sms_recovery.proofs.Lefts.{first_flag, last_flag, next_flag}

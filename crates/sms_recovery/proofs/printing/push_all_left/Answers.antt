@@ -1,4 +1,4 @@
-use Rattle.std.proofs.Common.{◌≡◌, ◌++◌, ◌<◌, map, length, Some, arith, rules}
+use Rattle.std.proofs.Common.{◌≡◌, ◌++◌, ◌<◌, map, length, Some, arith}
 use Rattle.std.specs.Prelude.{slice_get}
 use Rattle.csv.specs.Records.{fields_of}
 use Rattle.sms_recovery.specs.Rest.{is_unsent, left_texts}

@@ -1,4 +1,4 @@
-use Rattle.std.proofs.Common.{◌≡◌, ◌≢◌, ◌∙◌, sym, length, map, arith, rules}
+use Rattle.std.proofs.Common.{◌≢◌, ◌∙◌, sym, length, map, arith, rules}
 use Rattle.csv.specs.Records.{fields_of}
 use Rattle.sms_book.specs.Openings.{names_of}
 use Rattle.sms_journal.proofs.Lists.{got_at}
