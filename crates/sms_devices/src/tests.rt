@@ -6,6 +6,5 @@ mod paper;
 mod progress;
 mod rated;
 mod same;
-mod shared;
 mod standard;
 mod stopping;

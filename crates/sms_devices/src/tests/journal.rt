@@ -177,6 +177,33 @@ fn send_requests<G: Gate, W: Write>(gate: &G, writer: &mut W) -> u32 {
     passed
 }
 
+// Sends them over a connection behind this journal: what that took, and how many passed.
+fn send_over<'j, R: Wait + Clock, F: Write + OpenFile>(
+    rt: &'j R,
+    alloc: Global,
+    journal: &'j Journal<F>,
+) -> Result<(Vec<u8>, u32), AllocError> {
+    let noting = Noting {
+        rt,
+        gate: &OpenGate,
+        journal: Some(journal),
+    };
+    let guarded = Guarded {
+        connection: Line {
+            octets: Vec::new(alloc),
+        },
+        rt,
+        journal: Some(journal),
+    };
+    let Ok(mut writer) = BufWriter::with_capacity(alloc, 10, guarded) else {
+        return Err(AllocError);
+    };
+    let passed = send_requests(&noting, &mut writer);
+    let mut octets = Vec::new(alloc);
+    octets.extend_from_slice(writer.get_ref().connection.octets.as_slice())?;
+    Ok((octets, passed))
+}
+
 // Sends requests behind a journal whose file takes so many octets: what the connection took, and how
 // many requests passed the gate.
 fn send_behind<'r, R: Wait + Clock + Abort>(
@@ -197,28 +224,10 @@ fn send_behind<'r, R: Wait + Clock + Abort>(
     };
     let journal = Journal::new(alloc, file, room % 2 == 0);
     journal.begin(rt, &DIGESTS);
-    let noting = Noting {
-        rt: &still,
-        gate: &OpenGate,
-        journal: Some(&journal),
-    };
-    let line = Line {
-        octets: Vec::new(alloc),
-    };
-    let guarded = Guarded {
-        connection: line,
-        rt,
-        journal: Some(&journal),
-    };
-    let Ok(mut writer) = BufWriter::with_capacity(alloc, 10, guarded) else {
-        return Err(AllocError);
-    };
-    let passed = send_requests(&noting, &mut writer);
+    let sent = send_over(&still, alloc, &journal)?;
     let is_whole = journal.let_out(rt);
     assert!(rt; is_whole != journal.has_failed(rt));
-    let mut octets = Vec::new(alloc);
-    octets.extend_from_slice(writer.get_ref().connection.octets.as_slice())?;
-    Ok((octets, passed))
+    Ok(sent)
 }
 
 // How many whole lines of a text begin with a word.

@@ -284,9 +284,9 @@ fn waits_for_the_bind_so_long(rt: HostRuntime) {
     put(&rt, &mut to_late, &ALIVE[..15]);
     put(&rt, &mut to_bound, &ALIVE);
     let mut octets = [0u8; 8];
-    for reader in [&mut late, &mut bound] {
-        assert!(rt; reader.read(&mut octets).is_ok());
-        assert!(rt; reader.read(&mut octets).is_ok());
+    for _part in 0..2 {
+        assert!(rt; late.read(&mut octets).is_ok());
+        assert!(rt; bound.read(&mut octets).is_ok());
     }
     thread::sleep(&rt, Duration::from_millis(400));
     put(&rt, &mut to_late, &ALIVE[15..]);
