@@ -1,16 +1,18 @@
 -- Sums of parts and of messages, one at a time.
 use Rattle.std.proofs.Common.{◌≡◌, ℕ, zero, suc, ◌+◌, ◌-◌, ◌<◌, ◌≤◌, min, List, [], ◌∷◌, ◌++◌, length, take, drop, Some, None, inl, inr, refl, sym, ap, ◌∙◌, subst, Bool, true, false, get_or, add-one, arith}
 use Rattle.std.specs.Prelude.{Option, slice_get, slice_set, if◌then◌else◌, ◌==◌}
+use Rattle.std.proofs.lemmas.Option.{slice_get_within}
 use Rattle.std.proofs.lemmas.Bool.{eqb-true, eqb-false, eq-eqb, ne_eqb}
 use Rattle.sms_core.specs.declared.request.Phase.{Phase}
 use Rattle.sms_core.specs.declared.row.Row.{Row}
-use Rattle.sms_core.specs.Rows.{reserved_of, charged_of, returned_of}
+use Rattle.sms_core.specs.Rows.{IsBalanced, reserved_of, charged_of, returned_of}
+use Rattle.sms_book.specs.declared.opening.Opening.{Opening}
 use Rattle.sms_worker.specs.declared.message.Message.{Message}
 use Rattle.sms_worker.specs.Ends.{phase_of}
 use Rattle.sms_journal.specs.declared.rows.Sums.{Sums}
 use Rattle.sms_journal.specs.declared.told.PartTold.{PartTold}
 use Rattle.sms_journal.specs.declared.told.MessageTold.{MessageTold}
-use Rattle.sms_journal.specs.Sums.{AreSums, AreSumsBefore, HasAdded, HasCredit, IsGrown, credit_told, credits_told, no_sums, over_parts, parts_in, row_told, row_with, sum_parts}
+use Rattle.sms_journal.specs.Sums.{AreCovered, AreFew, AreSums, AreSumsBefore, Fits, FitsAt, HasAdded, HasCredit, IsCovered, IsGrown, IsSmall, credit_told, credits_told, no_sums, over_parts, parts_in, row_told, row_with, sum_parts}
 
 -- ---- lists
 
@@ -158,3 +160,69 @@ over_drop f parts i s low is = ap (over_parts f) (drop_step parts i s low is)
 
 pub over_end : (f : Phase → ℕ → ℕ) (parts : List PartTold) (i : ℕ) → length parts ≤ i → over_parts f (drop i parts) ≡ 0
 over_end f parts i low = ap (over_parts f) (drop_whole parts i low)
+
+-- ---- sums that fit
+
+-- what fits with all parts fits with the one at hand
+pub fits_front : (parts : List PartTold) (k : ℕ) (s : PartTold) (old kept : Sums) → k < length parts → s ≡ get_or parts k s → kept.reserved + over_parts reserved_of (drop k parts) ≡ old.reserved + over_parts reserved_of parts
+    → kept.charged + over_parts charged_of (drop k parts) ≡ old.charged + over_parts charged_of parts → kept.returned + over_parts returned_of (drop k parts) ≡ old.returned + over_parts returned_of parts → Fits parts old
+    → Fits (s ∷ []) kept
+fits_front parts k s old kept low is reserved charged returned fits =
+    let r = over_drop reserved_of parts k s low is in
+    let c = over_drop charged_of parts k s low is in
+    let b = over_drop returned_of parts k s low is in
+    let used = fits.used in
+    let back = fits.returned in
+    record { used = omega (arith, r, c, used, reserved, charged); returned = omega (arith, b, back, returned) }
+
+-- where the sums over all messages are few, those with the parts of the message at hand are
+pub fits_told : (accounts : ℕ) (ms : List Message) (es : List MessageTold) (k : ℕ) (m : Message) (e : MessageTold) (sums : List Sums) → length sums ≡ accounts → k < length ms → k < length es → m ≡ get_or ms k m → e ≡ get_or es k e
+    → ((i : ℕ) (s : Sums) → slice_get sums i ≡ Some s → AreSumsBefore i ms (drop k ms) es (drop k es) s) → AreFew accounts ms es → FitsAt m.account (parts_in e.result) sums
+fits_told accounts ms es k m e sums long low lower is its before few = λ a s pays at.
+    let within = slice_get_within sums a s at in
+    let all = few a (omega (arith, within, long)) in
+    let h = before a s at in
+    let parts = parts_in e.result in
+    let over = λ (f : Phase → ℕ → ℕ). ap (λ (o : Option ℕ). sum_parts (credit_told f a o) parts) pays ∙ its_account f a parts in
+    let r = credits_drop reserved_of a ms es k m e low lower is its in
+    let c = credits_drop charged_of a ms es k m e low lower is its in
+    let b = credits_drop returned_of a ms es k m e low lower is its in
+    let r' = over reserved_of in
+    let c' = over charged_of in
+    let b' = over returned_of in
+    let hr = h.reserved in
+    let hc = h.charged in
+    let hb = h.returned in
+    let used = all.used in
+    let back = all.returned in
+    record { used = omega (arith, r, c, r', c', hr, hc, used); returned = omega (arith, b, b', hb, back) }
+
+-- a part that doesn't fit
+pub full_charged : (s : PartTold) (old : Sums) → charged_of (phase_of s.outcome) s.cost ≡ s.cost → 18446744073709551616 ≤ old.charged + s.cost → Fits (s ∷ []) old → ⊥
+full_charged s old is high fits = let used = fits.used in omega (arith, is, high, used)
+
+pub full_reserved : (s : PartTold) (old : Sums) → reserved_of (phase_of s.outcome) s.cost ≡ s.cost → 18446744073709551616 ≤ old.reserved + s.cost → Fits (s ∷ []) old → ⊥
+full_reserved s old is high fits = let used = fits.used in omega (arith, is, high, used)
+
+pub full_returned : (s : PartTold) (old : Sums) → returned_of (phase_of s.outcome) s.cost ≡ s.cost → 18446744073709551616 ≤ old.returned + s.cost → Fits (s ∷ []) old → ⊥
+full_returned s old is high fits = let back = fits.returned in omega (arith, is, high, back)
+
+-- ---- rows that cover
+
+pub got_within : {X : Type 0} (xs : List X) (i : ℕ) → i < length xs → (x : X) × (slice_get xs i ≡ Some x)
+got_within [] i low = absurd (omega (arith, low))
+got_within (x ∷ xs) zero low = (x, refl)
+got_within (x ∷ xs) (suc i) low = got_within xs i (omega (arith, low))
+
+pub few_of_covered : (os : List Opening) (ms : List Message) (es : List MessageTold) → AreCovered os ms es → AreFew (length os) ms es
+few_of_covered os ms es covered = λ i low. let o = got_within os i low in (covered i o.0 o.1).few
+
+pub row_covers : (topped i : ℕ) (ms : List Message) (es : List MessageTold) (row : Row) → row ≡ row_told topped i ms es → IsBalanced row → IsSmall row → IsCovered topped i ms es
+row_covers topped i ms es row is balanced small =
+    let t : row.topped ≡ topped = ap (λ (x : Row). x.topped) is in
+    let r : row.reserved ≡ credits_told reserved_of i ms es = ap (λ (x : Row). x.reserved) is in
+    let c : row.charged ≡ credits_told charged_of i ms es = ap (λ (x : Row). x.charged) is in
+    let b : row.returned ≡ credits_told returned_of i ms es = ap (λ (x : Row). x.returned) is in
+    let low = small.topped in
+    let back = small.returned in
+    record { few = record { used = omega (arith, r, c, balanced, low); returned = omega (arith, b, back) }; enough = omega (arith, t, r, c, balanced) }

@@ -13,7 +13,9 @@ use Rattle.sms_journal.specs.declared.told.PartTold.{PartTold}
 use Rattle.sms_journal.specs.declared.told.MessageTold.{MessageTold}
 use Rattle.sms_journal.specs.Lawful.{IsJournal}
 use Rattle.sms_journal.specs.Recovered.{answers_told, IsPartTold, IsTold}
+use Rattle.sms_journal.specs.Lines.{IsNote, IsU64}
 use Rattle.sms_journal.specs.Sums.{parts_in}
+use Rattle.sms_journal.specs.Text.{note_text}
 
 -- a request for the part was noted, and a submit_sm_resp with its number and ESME_ROK, which its worker was brought
 pub record HasCharge (notes : List Note) (m p : ℕ) : Type 0 where
@@ -52,3 +54,9 @@ abbrev pub ChargesStayCharges : Type 0
 ChargesStayCharges =
     (rules : Rules) (accounts : ℕ) (ms : List Message) (notes later : List Note) (m : Message) (e f : MessageTold) (p : ℕ) → IsJournal rules accounts ms (notes ++ later)
     → IsTold rules notes m e → IsTold rules (notes ++ later) m f → HasChargedPart (parts_in e.result) p → HasChargedPart (parts_in f.result) p
+
+-- the lines of two notes differ, and those of one note at two times
+abbrev pub LinesAreOfOneNote : Type 0
+LinesAreOfOneNote =
+    (time other_time : ℕ) (note other : Note) → IsU64 time → IsU64 other_time → IsNote note → IsNote other → note_text time note ≡ note_text other_time other
+    → (time ≡ other_time) × (note ≡ other)

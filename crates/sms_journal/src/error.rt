@@ -6,6 +6,10 @@ use thiserror::Error;
 /// Why a journal can't be used.
 #[derive(Clone, Copy, Debug, PartialEq, Eq, Error)]
 pub enum JournalError {
+    /// The record at this place, from 1, isn't one that a run of these files writes. The first record is
+    /// the header.
+    #[error("record {0} is faulty")]
+    BadRecord(usize),
     /// The note at this place, from 0, can't have been written behind those before it.
     #[error("note {0} doesn't follow")]
     BadNote(usize),

@@ -4,13 +4,16 @@
 #![tactic(auto)]
 
 mod checking;
+mod digests;
 mod error;
 mod grouping;
 mod header;
 mod index;
 pub mod laws;
+mod lines;
 mod note;
 mod parts;
+mod reading;
 mod recovering;
 mod rows;
 mod seen;
@@ -20,8 +23,10 @@ mod text;
 mod told;
 
 pub use checking::check_notes;
+pub use digests::digests_of;
 pub use error::JournalError;
 pub use header::{Digests, write_header};
+pub use lines::read_notes;
 pub use note::{Call, Note};
 pub use recovering::recover;
 pub use rows::rows_told;

@@ -1,12 +1,13 @@
 //! The accounts' rows, from what is told of messages.
 
-ghost use Rattle.std.specs.Prelude.{◌≡◌, ℕ, ◌+◌, Some, IfOk, IfSome, OnSome, length, slice_get};
+ghost use Rattle.std.specs.Prelude.{◌≡◌, ℕ, ◌+◌, ◌≤◌, ◌∷◌, [], Some, IfOk, IfSome, IsErrOf, IsNone, OnOk, OnSome, length, slice_get};
 ghost use Rattle.sms_core.specs.Rows.{IsBalanced, charged_of, reserved_of, returned_of};
 ghost use Rattle.sms_core.specs.declared.row.Row.{Row as TheRow};
 ghost use Rattle.sms_book.specs.declared.opening.Opening.{Opening as TheOpening};
 ghost use Rattle.sms_worker.specs.Ends.{phase_of};
 ghost use Rattle.sms_journal.specs.declared.rows.Sums.{Sums as TheSums};
-ghost use Rattle.sms_journal.specs.Sums.{AreSums, HasAdded, IsGrown, no_sums as nothing, parts_in, row_told, row_with};
+ghost use Rattle.sms_journal.specs.Sums.{AreCovered, AreFew, AreSums, Fits, FitsAt, HasAdded, IsGrown, IsSmall, no_sums as nothing, parts_in, row_told, row_with};
+ghost use Rattle.sms_journal.specs.declared.error.JournalError.TheVariants.{Overdrawn};
 
 use crate::error::JournalError;
 use crate::told::{MessageTold, PartTold, ResultTold};
@@ -28,6 +29,7 @@ fn with_part(sums: Sums, part: &PartTold) -> Option<Sums>
     ensures reserved { IfSome result (λ new. new.reserved ≡ sums.reserved + reserved_of (phase_of part.now.outcome) part.now.cost) }
     ensures charged { IfSome result (λ new. new.charged ≡ sums.charged + charged_of (phase_of part.now.outcome) part.now.cost) }
     ensures returned { IfSome result (λ new. new.returned ≡ sums.returned + returned_of (phase_of part.now.outcome) part.now.cost) }
+    ensures none { IsNone result → ¬ Fits (part.now ∷ []) sums }
 {
     let Sums {
         reserved,
@@ -73,7 +75,8 @@ fn with_part(sums: Sums, part: &PartTold) -> Option<Sums>
 
 /// The same with these parts.
 fn with_parts(sums: Sums, parts: &[PartTold]) -> Option<Sums>
-    ensures { IfSome result (HasAdded parts.now sums) }
+    ensures added { IfSome result (HasAdded parts.now sums) }
+    ensures none { IsNone result → ¬ Fits parts.now sums }
 {
     let mut kept = sums;
     for part in parts {
@@ -96,6 +99,7 @@ fn sums_at(sums: &[Sums], place: usize) -> Option<Sums>
 fn add_parts(sums: &mut Vec<Sums>, account: usize, parts: &[PartTold]) -> Option<()>
     ensures length { length sums.new.items ≡ length sums.old.items }
     ensures grown { OnSome result ((i : ℕ) → IsGrown i (Some account) parts.now (slice_get sums.old.items i) (slice_get sums.new.items i)) }
+    ensures none { IsNone result → ¬ FitsAt (Some account) parts.now sums.old.items }
 {
     match sums_at(sums.as_slice(), account) {
         None => Some(()),
@@ -113,6 +117,7 @@ fn add_parts(sums: &mut Vec<Sums>, account: usize, parts: &[PartTold]) -> Option
 fn add_message(sums: &mut Vec<Sums>, account: Option<usize>, told: &ResultTold) -> Option<()>
     ensures length { length sums.new.items ≡ length sums.old.items }
     ensures grown { OnSome result ((i : ℕ) → IsGrown i account (parts_in told.now) (slice_get sums.old.items i) (slice_get sums.new.items i)) }
+    ensures none { IsNone result → ¬ FitsAt account (parts_in told.now) sums.old.items }
 {
     match account {
         None => Some(()),
@@ -148,6 +153,7 @@ fn sums_of(
 ) -> Result<Vec<Sums>, JournalError>
     ensures length { IfOk result (λ sums. length sums.items ≡ accounts) }
     ensures each { IfOk result (λ sums. (i : ℕ) (s : TheSums) → slice_get sums.items i ≡ Some s → AreSums i messages.now told.now s) }
+    ensures overdrawn { IsErrOf result Overdrawn → ¬ AreFew accounts messages.now told.now }
 {
     let mut sums = no_sums(alloc, accounts)?;
     for place in 0..messages.len().min(told.len()) {
@@ -160,19 +166,22 @@ fn sums_of(
     Ok(sums)
 }
 
-/// The row of an account that began with so many credits.
-fn row_of(credits: u64, sums: &Sums) -> Option<Row>
-    ensures row { IfSome result (λ row. row ≡ row_with credits sums.now) }
+/// The row of an account that began with so many credits, and of which so many are reserved and
+/// charged and came back.
+fn row_of(credits: u64, reserved: u64, charged: u64, returned: u64) -> Option<Row>
+    ensures row { IfSome result (λ row. row ≡ row_with credits (record { reserved = reserved; charged = charged; returned = returned })) }
     ensures balanced { IfSome result IsBalanced }
+    ensures small { IfSome result IsSmall }
+    ensures none { IsNone result → ¬ (reserved + charged ≤ credits) }
 {
-    let used = sums.reserved.checked_add(sums.charged)?;
+    let used = reserved.checked_add(charged)?;
     let free = credits.checked_sub(used)?;
     Some(Row {
         topped: credits,
         free,
-        reserved: sums.reserved,
-        charged: sums.charged,
-        returned: sums.returned,
+        reserved,
+        charged,
+        returned,
     })
 }
 
@@ -182,6 +191,8 @@ fn rows_with(alloc: Global, openings: &[Opening], sums: &[Sums]) -> Result<Vec<R
     ensures length { IfOk result (λ rows. length rows.items ≡ length openings.now) }
     ensures each { IfOk result (λ rows. (i : ℕ) (row : TheRow) → slice_get rows.items i ≡ Some row → (o : TheOpening) → slice_get openings.now i ≡ Some o → (s : TheSums) → slice_get sums.now i ≡ Some s → row ≡ row_with o.credits s) }
     ensures balanced { IfOk result (λ rows. (i : ℕ) (row : TheRow) → slice_get rows.items i ≡ Some row → IsBalanced row) }
+    ensures small { IfOk result (λ rows. (i : ℕ) (row : TheRow) → slice_get rows.items i ≡ Some row → IsSmall row) }
+    ensures overdrawn { IsErrOf result Overdrawn → ¬ ((i : ℕ) (o : TheOpening) → slice_get openings.now i ≡ Some o → (s : TheSums) → slice_get sums.now i ≡ Some s → s.reserved + s.charged ≤ o.credits) }
 {
     let mut rows = Vec::new(alloc);
     for place in 0..openings.len() {
@@ -189,7 +200,7 @@ fn rows_with(alloc: Global, openings: &[Opening], sums: &[Sums]) -> Result<Vec<R
         let Some(its) = sums_at(sums, place) else {
             return Err(JournalError::Overdrawn);
         };
-        let Some(row) = row_of(opening.credits, &its) else {
+        let Some(row) = row_of(opening.credits, its.reserved, its.charged, its.returned) else {
             return Err(JournalError::Overdrawn);
         };
         rows.push(row)?;
@@ -208,6 +219,8 @@ pub fn rows_told(
     ensures length { IfOk result (λ rows. length rows.items ≡ length openings.now) }
     ensures each { IfOk result (λ rows. (i : ℕ) (row : TheRow) → slice_get rows.items i ≡ Some row → (o : TheOpening) → slice_get openings.now i ≡ Some o → row ≡ row_told o.credits i messages.now told.now) }
     ensures balanced { IfOk result (λ rows. (i : ℕ) (row : TheRow) → slice_get rows.items i ≡ Some row → IsBalanced row) }
+    ensures covered { OnOk result (AreCovered openings.now messages.now told.now) }
+    ensures overdrawn { IsErrOf result Overdrawn → ¬ AreCovered openings.now messages.now told.now }
 {
     let sums = sums_of(alloc, openings.len(), messages, told)?;
     let rows = rows_with(alloc, openings, sums.as_slice())?;

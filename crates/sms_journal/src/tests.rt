@@ -1,6 +1,7 @@
 //! Journals written by hand, and what is told of them.
 
 mod lines;
+mod reading;
 
 use crate::{Call, JournalError, MessageTold, Note, ResultTold, check_notes, recover, rows_told};
 use sms_book::{Opening, Tariff};

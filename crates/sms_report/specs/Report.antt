@@ -75,10 +75,14 @@ abbrev pub segment_texts : ℕ → ℕ → List SegmentEnd → List ℕ
 segment_texts index part [] = []
 segment_texts index part (s ∷ ss) = segment_text index part s ++ segment_texts index (part + 1) ss
 
+-- the line of a message that was refused as a whole
+abbrev pub refused_text : ℕ → MessageRefusal → List ℕ
+refused_text index refusal = decimal index ++ codes ",0,0," ++ refusal_name refusal ++ codes ",,\n"
+
 -- the lines of a message: its segments', or that of its refusal
 abbrev pub result_text : ℕ → MessageResult → List ℕ
 result_text index (result.Sent segments) = segment_texts index 1 segments
-result_text index (result.Refused refusal) = decimal index ++ codes ",0,0," ++ refusal_name refusal ++ codes ",,\n"
+result_text index (result.Refused refusal) = refused_text index refusal
 
 abbrev pub end_text : MessageEnd → List ℕ
 end_text e = result_text e.index e.result
@@ -104,11 +108,16 @@ row_texts [] rows = []
 row_texts (o ∷ os) [] = []
 row_texts (o ∷ os) (row ∷ rows) = row_text o row ++ row_texts os rows
 
+-- the report's first line, and the statement's
+abbrev pub report_header : List ℕ
+report_header = codes "message,part,attempts,outcome,status,id\n"
+
+abbrev pub statement_header : List ℕ
+statement_header = codes "account,topped,free,reserved,charged,returned\n"
+
 -- the report and the statement
 abbrev pub report_of : List Opening → List MessageEnd → List Row → List ℕ
-report_of openings ends rows =
-    codes "message,part,attempts,outcome,status,id\n" ++ end_texts ends ++ codes "account,topped,free,reserved,charged,returned\n"
-    ++ row_texts openings rows
+report_of openings ends rows = report_header ++ end_texts ends ++ statement_header ++ row_texts openings rows
 
 -- a segment of the message is unanswered
 abbrev pub is_unanswered : Outcome → Bool

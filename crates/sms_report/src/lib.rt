@@ -20,7 +20,10 @@ pub use fault::OutputFault;
 pub use output::write_out;
 pub use plan::plan_text;
 pub use replay::replay_text;
-pub use report::{report_text, write_report_of};
+pub use report::{
+    begin_report, needs_quotes, report_text, write_answer, write_head, write_refused,
+    write_report_of, write_statement,
+};
 pub use status::exit_status_of;
 pub use summary::{Credits, EndLine, Summary, summary_of};
 pub use tally::{Tally, WayLine, tally_of};

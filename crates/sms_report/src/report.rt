@@ -3,7 +3,7 @@
 ghost use Rattle.std.specs.Prelude.{◌≡◌, ◌⊎◌, ◌++◌, IfErr, IfOk, OnOk, string_bytes};
 ghost use Rattle.std.specs.Io.KnownBytes.{Appends};
 ghost use Rattle.sms_report.specs.Output.{WritesFront};
-ghost use Rattle.sms_report.specs.Report.{amount_text, amounts_text, answer_text, end_text, end_texts, field_text, head_text, last_text, needs_quotes as wants_quotes, outcome_name as name_of_outcome, quoted, refusal_name as name_of_refusal, report_of, row_text, row_texts, segment_text, segment_texts, shown_id};
+ghost use Rattle.sms_report.specs.Report.{amount_text, amounts_text, answer_text, end_text, end_texts, field_text, head_text, last_text, needs_quotes as wants_quotes, outcome_name as name_of_outcome, quoted, refusal_name as name_of_refusal, refused_text, report_header, report_of, row_text, row_texts, segment_text, segment_texts, shown_id, statement_header};
 ghost use Rattle.sms_report.specs.declared.fault.OutputFault.TheVariants.{OutOfMemory, Output};
 
 use crate::fault::OutputFault;
@@ -72,8 +72,8 @@ fn write_quoted(text: &mut String, field: &str) -> Result<(), AllocError>
     Ok(())
 }
 
-/// Whether the field has a comma, a quote or a line's end.
-fn needs_quotes(field: &[u8]) -> bool
+/// Whether the field has a comma, a quote or a line's end, so that it stands in quotes (RFC 4180 2).
+pub fn needs_quotes(field: &[u8]) -> bool
     ensures { result ≡ wants_quotes field.now }
 {
     for octet in field {
@@ -115,7 +115,11 @@ fn write_last(alloc: Global, text: &mut String, attempts: &[Attempt]) -> Result<
 }
 
 /// The status and the message_id of a reply, and the end of the line.
-fn write_answer(alloc: Global, text: &mut String, reply: &Option<Reply>) -> Result<(), AllocError>
+pub fn write_answer(
+    alloc: Global,
+    text: &mut String,
+    reply: &Option<Reply>,
+) -> Result<(), AllocError>
     ensures { OnOk result (string_bytes text.new ≡ string_bytes text.old ++ answer_text reply.now) }
 {
     match reply {
@@ -128,8 +132,9 @@ fn write_answer(alloc: Global, text: &mut String, reply: &Option<Reply>) -> Resu
     }
 }
 
-/// What stands before the last reply in a segment's line.
-fn write_head(
+/// What stands before the last reply in a segment's line: the message's index, the segment's number
+/// from 1, how often it was tried, and what became of it.
+pub fn write_head(
     text: &mut String,
     index: u64,
     part: usize,
@@ -172,6 +177,18 @@ fn write_segments(
     Ok(())
 }
 
+/// The line of a message that was refused as a whole.
+pub fn write_refused(
+    text: &mut String,
+    index: u64,
+    refusal: MessageRefusal,
+) -> Result<(), AllocError>
+    ensures { OnOk result (string_bytes text.new ≡ string_bytes text.old ++ refused_text index refusal) }
+{
+    let name = refusal_name(refusal);
+    writeln!(text, "{index},0,0,{name},,")
+}
+
 /// The lines of a message.
 fn write_end(alloc: Global, text: &mut String, end: &MessageEnd) -> Result<(), AllocError>
     ensures { OnOk result (string_bytes text.new ≡ string_bytes text.old ++ end_text end.now) }
@@ -180,10 +197,7 @@ fn write_end(alloc: Global, text: &mut String, end: &MessageEnd) -> Result<(), A
         MessageResult::Sent(segments) => {
             write_segments(alloc, text, end.index, segments.as_slice())
         }
-        MessageResult::Refused(refusal) => {
-            let name = refusal_name(*refusal);
-            writeln!(text, "{},0,0,{name},,", end.index)
-        }
+        MessageResult::Refused(refusal) => write_refused(text, end.index, *refusal),
     }
 }
 
@@ -234,6 +248,25 @@ fn write_rows(text: &mut String, openings: &[Opening], rows: &[Row]) -> Result<(
     Ok(())
 }
 
+/// The text of a report that has its first line.
+pub fn begin_report(alloc: Global) -> Result<String, AllocError>
+    ensures { IfOk result (λ text. string_bytes text ≡ report_header) }
+{
+    String::from_str(alloc, "message,part,attempts,outcome,status,id\n")
+}
+
+/// The statement: its first line, and a line for each account that has a row.
+pub fn write_statement(
+    text: &mut String,
+    openings: &[Opening],
+    rows: &[Row],
+) -> Result<(), AllocError>
+    ensures { OnOk result (string_bytes text.new ≡ string_bytes text.old ++ statement_header ++ row_texts openings.now rows.now) }
+{
+    text.push_str("account,topped,free,reserved,charged,returned\n")?;
+    write_rows(text, openings, rows)
+}
+
 /// What is printed of what became of the messages, and of the accounts.
 pub fn report_text(
     alloc: Global,
@@ -243,10 +276,9 @@ pub fn report_text(
 ) -> Result<String, AllocError>
     ensures { IfOk result (λ text. string_bytes text ≡ report_of openings.now ends.now statement.now) }
 {
-    let mut text = String::from_str(alloc, "message,part,attempts,outcome,status,id\n")?;
+    let mut text = begin_report(alloc)?;
     write_ends(alloc, &mut text, ends)?;
-    text.push_str("account,topped,free,reserved,charged,returned\n")?;
-    write_rows(&mut text, openings, statement.rows())?;
+    write_statement(&mut text, openings, statement.rows())?;
     Ok(text)
 }
 

@@ -1,10 +1,11 @@
-use Rattle.std.proofs.Common.{◌≡◌, ◌<◌, ℕ, ◌∙◌, sym, subst, ap, Some, length, arith, rules}
+use Rattle.std.proofs.Common.{◌≡◌, ◌<◌, ℕ, ◌∙◌, sym, subst, ap, None, Some, length, arith, rules}
 use Rattle.std.specs.Prelude.{slice_get}
 use Rattle.sms_core.specs.declared.row.Row.{Row}
 use Rattle.sms_core.specs.Rows.{IsBalanced}
 use Rattle.sms_book.specs.declared.opening.Opening.{Opening}
 use Rattle.sms_journal.specs.declared.rows.Sums.{Sums}
-use Rattle.sms_journal.specs.Sums.{row_with}
+use Rattle.sms_journal.specs.Sums.{IsSmall, row_with}
+use Rattle.sms_journal.proofs.Adding.{got_within}
 use Rattle.sms_journal.proofs.Lists.{each_more, got_at}
 use Rattle.sms_journal.proofs.rows.rows_with.Goals as goal
 
@@ -27,4 +28,19 @@ loop-place-preserved c =
           (search rules);
       balanced = each_more (λ (i : ℕ) (row : Row). IsBalanced row) c.loop-place.rows.items c.loop-place.place c.in-Some-row_of.row c.push.new.self.items
           c.loop-place.invariant.length c.loop-place.invariant.balanced c.in-Some-row_of.ensures.balanced (search rules);
+      small = each_more (λ (i : ℕ) (row : Row). IsSmall row) c.loop-place.rows.items c.loop-place.place c.in-Some-row_of.row c.push.new.self.items
+          c.loop-place.invariant.length c.loop-place.invariant.small c.in-Some-row_of.ensures.small (search rules);
     }
+
+pub returns-in_default-clause-overdrawn : goal.returns-in_default-clause-overdrawn
+returns-in_default-clause-overdrawn c = λ is enough.
+    let its = got_within c.args.sums.now c.loop-place.place (omega arith) in
+    let none : slice_get c.args.sums.now c.loop-place.place ≡ None = search rules in
+    let both : None ≡ Some its.0 = sym none ∙ its.1 in
+    absurd (cc)
+
+pub returns-in_default-row_of-clause-overdrawn : goal.returns-in_default-row_of-clause-overdrawn
+returns-in_default-row_of-clause-overdrawn c = λ is enough.
+    let opening = c.index-openings-place.result in
+    let there : slice_get c.args.sums.now c.loop-place.place ≡ Some c.in-Some.its = search rules in
+    c.row_of.ensures.none (search rules) (enough c.loop-place.place opening (got_at c.args.openings.now c.loop-place.place opening (omega arith) c.index-openings-place.is) c.in-Some.its there)

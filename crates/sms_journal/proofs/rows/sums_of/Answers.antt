@@ -2,7 +2,7 @@ use Rattle.std.proofs.Common.{◌≡◌, ℕ, ◌∙◌, Some, subst, arith, rul
 use Rattle.std.specs.Prelude.{Option, slice_get}
 use Rattle.sms_journal.specs.declared.rows.Sums.{Sums}
 use Rattle.sms_journal.specs.Sums.{IsGrown, parts_in}
-use Rattle.sms_journal.proofs.Adding.{all_sums, first_sums, sums_more}
+use Rattle.sms_journal.proofs.Adding.{all_sums, first_sums, fits_told, sums_more}
 use Rattle.sms_journal.proofs.rows.sums_of.Goals as goal
 
 pub loop-place-init : goal.loop-place-init
@@ -22,3 +22,9 @@ loop-place-preserved c = record {
 
 pub returns-clause-each : goal.returns-clause-each
 returns-clause-each c = λ i s there. all_sums i c.args.messages.now c.args.told.now c.loop-place.place s (omega arith) (c.loop-place.invariant.each i s there)
+
+pub returns-in_default-clause-overdrawn : goal.returns-in_default-clause-overdrawn
+returns-in_default-clause-overdrawn c = λ is few.
+    c.add_message.ensures.none (search rules)
+    (fits_told c.args.accounts c.args.messages.now c.args.told.now c.loop-place.place c.index-messages-place.result c.index-told-place.result c.loop-place.sums.items c.loop-place.invariant.length
+    (omega arith) (omega arith) c.index-messages-place.is c.index-told-place.is c.loop-place.invariant.each few)

@@ -1,0 +1,132 @@
+-- The text of a journal and the notes that it tells: one relation.
+use Rattle.std.specs.Prelude.{◌≡◌, ◌≢◌, ℕ, ◌+◌, ◌<◌, ◌≤◌, ◌==◌, ◌⊎◌, ⊤, List, [], ◌∷◌, ◌++◌, length, map, flat_map, position, Option, Some, None}
+use Rattle.sms_journal.specs.declared.error.JournalError.{JournalError}
+use Rattle.sms_journal.specs.declared.error.JournalError.TheVariants.{BadRecord, BadNote, Overdrawn, OutOfMemory}
+use Rattle.sms_journal.specs.declared.header.Digests.{Digests}
+use Rattle.sms_journal.specs.declared.note.Call.{Call}
+use Rattle.sms_journal.specs.declared.note.Note.{Note}
+use Rattle.sms_journal.specs.declared.note.Note.TheVariants.{Begun, Sent, Unsent, Heard, Refused, End}
+use Rattle.sms_journal.specs.Text.{header_text, note_text}
+
+-- ---- notes that a run can write: their numbers are those of their fields
+
+abbrev pub IsU64 : ℕ → Type 0
+IsU64 n = n < 18446744073709551616
+
+abbrev pub IsU32 : ℕ → Type 0
+IsU32 n = n < 4294967296
+
+-- a message_id is a C-Octet String (SMPP 3.4 3.1): none of its octets is 0
+abbrev pub AreIdOctets : List ℕ → Type 0
+AreIdOctets [] = ⊤
+AreIdOctets (c ∷ cs) = (0 < c) × (c < 256) × AreIdOctets cs
+
+-- and it has at most 64 (SMPP 3.4 5.2.23)
+abbrev pub IsId : List ℕ → Type 0
+IsId id = (length id ≤ 64) × AreIdOctets id
+
+abbrev pub IsNote : Note → Type 0
+IsNote (Begun m) = IsU64 m
+IsNote (Sent call m p) = IsU32 call.worker × IsU32 call.number × IsU64 m × (p < 256)
+IsNote (Unsent call) = IsU32 call.worker × IsU32 call.number
+IsNote (Heard by reply) = IsU32 by × IsU32 reply.number × IsU32 reply.status × IsId reply.id
+IsNote (Refused m refusal) = IsU64 m
+IsNote (End status) = status < 256
+
+-- ---- lines
+
+-- the note has this line at some time
+abbrev pub IsLineOf : List ℕ → Note → Type 0
+IsLineOf line note = (time : ℕ) × IsU64 time × (line ≡ note_text time note)
+
+-- no note has this line, at no time
+abbrev pub IsNoLine : List ℕ → Type 0
+IsNoLine line = (time : ℕ) (note : Note) → IsU64 time → IsNote note → line ≢ note_text time note
+
+abbrev pub IsRead : List ℕ → Option Note → Type 0
+IsRead line None = IsNoLine line
+IsRead line (Some note) = IsLineOf line note
+
+-- where the first line feed stands
+abbrev pub feed_at : List ℕ → Option ℕ
+feed_at text = position (λ c. c == 10) text
+
+-- the text begins with this line, whose last octet is the first line feed, and the rest comes behind it
+pub record BeginsWith (line rest text : List ℕ) : Type 0 where
+  pub at : ℕ
+  pub is : text ≡ line ++ rest
+  pub feed : feed_at text ≡ Some at
+  pub long : length line ≡ at + 1
+
+-- the line of a note that was made at a time
+abbrev pub timed_text : ℕ × Note → List ℕ
+timed_text e = note_text e.0 e.1
+
+abbrev pub AreU64 : List (ℕ × Note) → Type 0
+AreU64 [] = ⊤
+AreU64 (e ∷ es) = IsU64 e.0 × AreU64 es
+
+-- these are lines of these notes, in order, and nothing else
+pub record AreLines (text : List ℕ) (notes : List Note) : Type 0 where
+  pub timed : List (ℕ × Note)
+  pub times : AreU64 timed
+  pub are : map (λ (e : ℕ × Note). e.1) timed ≡ notes
+  pub is : text ≡ flat_map timed_text timed
+
+-- the text is lines of these notes, and behind them a line that was cut, which doesn't count
+pub record AreNotes (text : List ℕ) (notes : List Note) : Type 0 where
+  pub lines : List ℕ
+  pub cut : List ℕ
+  pub are : AreLines lines notes
+  pub is : text ≡ lines ++ cut
+  pub whole : feed_at cut ≡ None
+
+-- the record at this place of a journal, of which this text stands behind the header, is the first that isn't the line of a note
+pub record IsBadLine (place : ℕ) (text : List ℕ) : Type 0 where
+  pub notes : List Note
+  pub lines : List ℕ
+  pub left : List ℕ
+  pub line : List ℕ
+  pub rest : List ℕ
+  pub counted : place ≡ length notes + 2
+  pub are : AreLines lines notes
+  pub is : text ≡ lines ++ left
+  pub begins : BeginsWith line rest left
+  pub bad : IsNoLine line
+
+-- ---- journals
+
+-- the text begins with the header
+pub record IsBegun (digests : Digests) (text behind : List ℕ) : Type 0 where
+  pub is : text ≡ header_text digests ++ behind
+
+-- the text is a front of the header: the run ended before it had noted anything
+pub record IsUnbegun (digests : Digests) (text : List ℕ) : Type 0 where
+  pub rest : List ℕ
+  pub is : header_text digests ≡ text ++ rest
+
+-- the text is a journal of these files that tells these notes
+abbrev pub IsJournalText : Digests → List ℕ → List Note → Type 0
+IsJournalText digests text notes = ((behind : List ℕ) × IsBegun digests text behind × AreNotes behind notes) ⊎ (IsUnbegun digests text × (notes ≡ []))
+
+-- its first record isn't the header
+pub record HasNoHeader (digests : Digests) (text : List ℕ) : Type 0 where
+  pub begun : (behind : List ℕ) → text ≢ header_text digests ++ behind
+  pub unbegun : (rest : List ℕ) → header_text digests ≢ text ++ rest
+
+-- the first faulty record of the text is the one at this place
+abbrev pub IsBadRecord : Digests → List ℕ → ℕ → Type 0
+IsBadRecord digests text place = ((place ≡ 1) × HasNoHeader digests text) ⊎ ((behind : List ℕ) × IsBegun digests text behind × IsBadLine place behind)
+
+-- what is wrong with it
+abbrev pub IsFaultyText : Digests → List ℕ → JournalError → Type 0
+IsFaultyText digests text (BadRecord place) = IsBadRecord digests text place
+IsFaultyText digests text (BadNote place) = ⊥
+IsFaultyText digests text Overdrawn = ⊥
+IsFaultyText digests text OutOfMemory = ⊤
+
+abbrev pub AreFaultyLines : List ℕ → JournalError → Type 0
+AreFaultyLines text (BadRecord place) = IsBadLine place text
+AreFaultyLines text (BadNote place) = ⊥
+AreFaultyLines text Overdrawn = ⊥
+AreFaultyLines text OutOfMemory = ⊤

@@ -1,0 +1,102 @@
+-- What is told of ends is printed as the ends are, and notes tell one report.
+use Rattle.std.proofs.Common.{◌≡◌, ◌∙◌, ℕ, zero, suc, ◌+◌, ◌++◌, Bool, List, [], ◌∷◌, length, map, refl, sym, ap, Some, None, arith}
+use Rattle.std.specs.Prelude.{Option, slice_get, ◌||◌, codes, flat_map}
+use Rattle.std.specs.List.{AllZip}
+use Rattle.sms_core.specs.declared.row.Row.{Row}
+use Rattle.sms_book.specs.declared.opening.Opening.{Opening}
+use Rattle.sms_worker.specs.declared.ends.Attempt.{Attempt}
+use Rattle.sms_worker.specs.declared.ends.MessageEnd.{MessageEnd}
+use Rattle.sms_worker.specs.declared.ends.MessageResult.{MessageResult}
+use Rattle.sms_worker.specs.declared.ends.MessageResult.TheVariants as ends
+use Rattle.sms_worker.specs.declared.ends.SegmentEnd.{SegmentEnd}
+use Rattle.sms_worker.specs.declared.message.Message.{Message}
+use Rattle.sms_worker.specs.declared.rules.Rules.{Rules}
+use Rattle.sms_journal.specs.declared.note.Note.{Note}
+use Rattle.sms_journal.specs.declared.told.MessageTold.{MessageTold}
+use Rattle.sms_journal.specs.declared.told.Tried.{Tried}
+use Rattle.sms_journal.specs.Recovered.{IsTold}
+use Rattle.sms_journal.specs.Laws.{ToldOnce}
+use Rattle.sms_journal.specs.Sums.{part_of_end, result_of_end, row_told, told_of_end}
+use Rattle.sms_journal.proofs.Once.{told_once}
+use Rattle.sms_report.specs.Report as report
+use Rattle.sms_recovery.specs.Laws.{ReportsAgree, RunsAreRecovered, StatusesAgree}
+use Rattle.sms_recovery.specs.Recovering.{AreRowsTold}
+use Rattle.sms_recovery.specs.Reports.{has_unanswered, is_open_result, last_text, part_text, part_texts, result_text, some_unanswered, told_report_of, told_text, told_texts}
+
+-- ---- lines
+
+last_same : (attempts : List Attempt) → last_text (map (λ a. record { number = a.number; reply = a.reply }) attempts) ≡ report.last_text attempts
+last_same [] = refl
+last_same (a ∷ []) = refl
+last_same (a ∷ (b ∷ attempts)) = last_same (b ∷ attempts)
+
+length_same : {X Y : Type 0} (f : X → Y) (xs : List X) → length (map f xs) ≡ length xs
+length_same f [] = refl
+length_same f (x ∷ xs) = ap suc (length_same f xs)
+
+part_same : (index number : ℕ) (s : SegmentEnd) → part_text index number (part_of_end s) ≡ report.segment_text index number s
+part_same index number s = λ j. report.head_text index number (length_same {Y = Tried} (λ (a : Attempt). record { number = a.number; reply = a.reply }) s.attempts j) s.outcome ++ last_same s.attempts j
+
+parts_same : (index number : ℕ) (ss : List SegmentEnd) → part_texts index number (map part_of_end ss) ≡ report.segment_texts index number ss
+parts_same index number [] = refl
+parts_same index number (s ∷ ss) = λ j. part_same index number s j ++ parts_same index (number + 1) ss j
+
+result_same : (index : ℕ) (r : MessageResult) → result_text index (result_of_end r) ≡ report.result_text index r
+result_same index (ends.Sent ss) = parts_same index 1 ss
+result_same index (ends.Refused refusal) = refl
+
+texts_same : (es : List MessageEnd) → told_texts (map told_of_end es) ≡ report.end_texts es
+texts_same [] = refl
+texts_same (e ∷ es) = λ j. result_same e.index e.result j ++ texts_same es j
+
+pub reports_agree : ReportsAgree
+reports_agree os es rows = λ j. report.report_header ++ texts_same es j ++ report.statement_header ++ report.row_texts os rows
+
+-- ---- the exit status
+
+parts_open : (ss : List SegmentEnd) → has_unanswered (map part_of_end ss) ≡ report.has_unanswered ss
+parts_open [] = refl
+parts_open (s ∷ ss) = ap (λ (b : Bool). report.is_unanswered s.outcome || b) (parts_open ss)
+
+result_open : (r : MessageResult) → is_open_result (result_of_end r) ≡ report.is_open_end r
+result_open (ends.Sent ss) = parts_open ss
+result_open (ends.Refused refusal) = refl
+
+some_open : (es : List MessageEnd) → some_unanswered (map told_of_end es) ≡ report.some_unanswered es
+some_open [] = refl
+some_open (e ∷ es) = λ j. result_open e.result j || some_open es j
+
+pub statuses_agree : StatusesAgree
+statuses_agree es = rw (some_open es) refl
+
+-- ---- notes tell one report
+
+told_same : (rules : Rules) (notes : List Note) (ms : List Message) (es fs : List MessageTold) → AllZip (IsTold rules notes) ms es → AllZip (IsTold rules notes) ms fs → es ≡ fs
+told_same rules notes [] [] [] a b = refl
+told_same rules notes [] [] (f ∷ fs) a b = absurd b
+told_same rules notes [] (e ∷ es) fs a b = absurd a
+told_same rules notes (m ∷ ms) [] fs a b = absurd a
+told_same rules notes (m ∷ ms) (e ∷ es) [] a b = absurd b
+told_same rules notes (m ∷ ms) (e ∷ es) (f ∷ fs) a b = λ j. told_once rules notes m e f a.0 b.0 j ∷ told_same rules notes ms es fs a.1 b.1 j
+
+same_at_all : {X : Type 0} (xs ys : List X) → length xs ≡ length ys → ((i : ℕ) (x y : X) → slice_get xs i ≡ Some x → slice_get ys i ≡ Some y → x ≡ y) → xs ≡ ys
+same_at_all [] [] long each = refl
+same_at_all [] (y ∷ ys) long each = absurd (omega (arith, long))
+same_at_all (x ∷ xs) [] long each = absurd (omega (arith, long))
+same_at_all (x ∷ xs) (y ∷ ys) long each = λ j. each 0 x y refl refl j ∷ same_at_all xs ys (omega (arith, long)) (λ i a b. each (suc i) a b) j
+
+opening_at : {X Y : Type 0} (xs : List X) (ys : List Y) (i : ℕ) (x : X) → length ys ≡ length xs → slice_get xs i ≡ Some x → (y : Y) × (slice_get ys i ≡ Some y)
+opening_at [] ys i x long e = absurd (cc)
+opening_at (x' ∷ xs) [] i x long e = absurd (omega (arith, long))
+opening_at (x' ∷ xs) (y ∷ ys) zero x long e = (y, refl)
+opening_at (x' ∷ xs) (y ∷ ys) (suc i) x long e = opening_at xs ys i x (omega (arith, long)) e
+
+rows_same : (os : List Opening) (ms : List Message) (told : List MessageTold) (rows others : List Row) → AreRowsTold os ms told rows → AreRowsTold os ms told others → rows ≡ others
+rows_same os ms told rows others a b = same_at_all rows others (a.count ∙ sym b.count) (λ i x y at at'. let o = opening_at rows os i x (sym a.count) at in a.each i x at o.0 o.1 ∙ sym (b.each i y at' o.0 o.1))
+
+pub runs_are_recovered : RunsAreRecovered
+runs_are_recovered rules os ms notes told rows es statement is tells rows_are =
+    let same = told_same rules notes ms told (map told_of_end es) is.tells tells in
+    let its : AreRowsTold os ms (map told_of_end es) rows = rw (← same) is.rows_are in
+    let rows_is = rows_same os ms (map told_of_end es) rows statement its rows_are in
+    ap (λ (t : List MessageTold). told_report_of os t rows) same ∙ ap (told_report_of os (map told_of_end es)) rows_is ∙ reports_agree os es statement

@@ -1,0 +1,37 @@
+-- What is recovered of an input and of a journal, from what is recovered of its notes.
+use Rattle.std.proofs.Common.{◌≡◌, inr, inl, subst, ℕ, List, Option}
+use Rattle.sms_book.specs.declared.opening.Opening.{Opening}
+use Rattle.sms_worker.specs.declared.message.Message.{Message}
+use Rattle.sms_worker.specs.declared.rules.Rules.{Rules}
+use Rattle.sms_files.specs.declared.input.Input.{Input}
+use Rattle.sms_journal.specs.declared.note.Note.{Note}
+use Rattle.sms_journal.specs.Digests.{digests_of}
+use Rattle.sms_journal.specs.Lines.{IsJournalText}
+use Rattle.sms_recovery.specs.Files.{Reads}
+use Rattle.sms_recovery.specs.Recovering.{Recovers, RecoversInput, RecoversJournal, TellsInputsRecovery, TellsJournal, TellsRecovery}
+use Rattle.sms_recovery.specs.Rules.{IsRulesOf}
+use Rattle.sms_recovery.specs.declared.fault.RecoveryFault.{RecoveryFault}
+
+module _ (input : Input) (notes : List Note) (old new : Option (List ℕ)) (rules : Rules) (os : List Opening) (ms : List Message)
+    (says : IsRulesOf input.config.retry input.config.limits input.config.flags input.tariff rules) (os_are : os ≡ input.openings.items) (ms_are : ms ≡ input.messages.items) where
+  pub recovers_input : (status : ℕ) → Recovers rules os ms notes old new status → RecoversInput input notes old new status
+  recovers_input status h = record {
+    rules = rules;
+    says = says;
+    recovers = subst (λ (o : List Opening). Recovers rules o input.messages.items notes old new status) os_are (subst (λ (m : List Message). Recovers rules os m notes old new status) ms_are h);
+  }
+
+  pub tells_input : (fault : RecoveryFault) → TellsRecovery rules os ms notes old new fault → TellsInputsRecovery input notes old new fault
+  tells_input fault h = record {
+    rules = rules;
+    says = says;
+    tells = subst (λ (o : List Opening). TellsRecovery rules o input.messages.items notes old new fault) os_are (subst (λ (m : List Message). TellsRecovery rules os m notes old new fault) ms_are h);
+  }
+
+module _ (config accounts messages : List ℕ) (tariff : Option (List ℕ)) (journal : List ℕ) (old new : Option (List ℕ)) (input : Input) (notes slice : List Note)
+    (read : Reads config accounts messages tariff input) (text : IsJournalText (digests_of config accounts messages tariff) journal notes) (is : slice ≡ notes) where
+  pub recovers_journal : (status : ℕ) → RecoversInput input slice old new status → RecoversJournal config accounts messages tariff journal old new status
+  recovers_journal status h = record { input = input; read = read; notes = notes; text = text; recovers = subst (λ (n : List Note). RecoversInput input n old new status) is h }
+
+  pub tells_journal : (fault : RecoveryFault) → TellsInputsRecovery input slice old new fault → TellsJournal config accounts messages tariff journal old new fault
+  tells_journal fault h = inr (inr (input, read, notes, text, subst (λ (n : List Note). TellsInputsRecovery input n old new fault) is h))

@@ -1,0 +1,10 @@
+pub mod Agreeing
+pub mod Failing
+pub mod Journals
+pub mod LastTry
+pub mod Lefts
+pub mod Printings
+pub mod Recoveries
+pub mod Stages
+pub mod Taken
+pub mod Texts

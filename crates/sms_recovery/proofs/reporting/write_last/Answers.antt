@@ -1,0 +1,11 @@
+use Rattle.std.proofs.Common.{◌≡◌, ◌-◌, ap, sym, List, ℕ, ◌++◌, ◌∙◌, length, Some, rules}
+use Rattle.std.specs.Prelude.{slice_get, string_bytes}
+use Rattle.std.proofs.lemmas.Result.{on_ok_weaker}
+use Rattle.sms_recovery.proofs.LastTry.{last_is}
+use Rattle.sms_recovery.proofs.reporting.write_last.Goals as goal
+
+pub returns-in-Some : goal.returns-in-Some
+returns-in-Some c =
+    let found : slice_get c.args.tries.now (length c.args.tries.now - 1) ≡ Some c.in-Some.tried.now = search rules in
+    let same = last_is c.args.tries.now c.in-Some.tried.now found in
+    on_ok_weaker c.write_answer.result (λ h. h ∙ ap (λ (t : List ℕ). string_bytes c.args.text.now ++ t) (sym same)) c.write_answer.ensures

@@ -1,0 +1,24 @@
+-- The files of a run, as octets, and what a fault of them, or of the output, says.
+use Rattle.std.specs.Prelude.{◌≡◌, ◌⊎◌, ℕ, List, Option, Some, option_map}
+use Rattle.sms_files.specs.Inputs.{IsInput, Told, TellsInput}
+use Rattle.sms_files.specs.declared.fault.InputFault.{InputFault}
+use Rattle.sms_files.specs.declared.input.Input.{Input as TheInput}
+use Rattle.sms_recovery.specs.declared.fault.RecoveryFault.{RecoveryFault}
+use Rattle.sms_recovery.specs.declared.fault.RecoveryFault.TheVariants.{Input, OutOfMemory, Output}
+use Rattle.sms_report.specs.Output.{WritesFront}
+
+-- octets that there may be, as a reader tells them
+abbrev pub told_of : Option (List ℕ) → Option Told
+told_of file = option_map (λ octets. Some octets) file
+
+-- the input is what these octets say
+abbrev pub Reads : List ℕ → List ℕ → List ℕ → Option (List ℕ) → TheInput → Type 0
+Reads config accounts messages tariff input = IsInput config (Some accounts) (Some messages) (told_of tariff) input
+
+-- one of them has a fault
+abbrev pub TellsFiles : List ℕ → List ℕ → List ℕ → Option (List ℕ) → RecoveryFault → Type 0
+TellsFiles config accounts messages tariff fault = (f : InputFault) × TellsInput config (Some accounts) (Some messages) (told_of tariff) f × (fault ≡ Input f)
+
+-- the output failed behind a front of the text, or memory was refused
+abbrev pub IsCut : List ℕ → Option (List ℕ) → Option (List ℕ) → RecoveryFault → Type 0
+IsCut text old new fault = (fault ≡ OutOfMemory) ⊎ ((fault ≡ Output) × WritesFront old new text)

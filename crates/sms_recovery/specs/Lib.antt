@@ -1,0 +1,10 @@
+pub mod Faults
+pub mod Files
+pub mod Laws
+pub mod Lines
+pub mod Recovering
+pub mod Reports
+pub mod Rest
+pub mod Resting
+pub mod Rules
+pub mod Stages

@@ -1,0 +1,53 @@
+//! Why nothing is recovered.
+
+use sms_files::InputFault;
+use sms_report::OutputFault;
+use std::alloc::AllocError;
+
+/// Why there is no report of a journal, or nothing left of a report.
+#[derive(Debug, Drop, thiserror::Error)]
+pub enum RecoveryFault {
+    /// What the run read can't be used.
+    #[error("input")]
+    Input(InputFault),
+    /// The journal's record, counted from 1, isn't one that the run can have written there.
+    #[error("journal record {0}")]
+    Journal(usize),
+    /// By the journal more is reserved and charged than an account had.
+    #[error("journal")]
+    Overdrawn,
+    /// The report's record, counted from 1, isn't one of a report of the run's messages and accounts.
+    #[error("report record {0}")]
+    Report(usize),
+    /// The output failed.
+    #[error("output")]
+    Output,
+    /// Memory was refused.
+    #[error("out of memory")]
+    OutOfMemory,
+}
+
+impl From<AllocError> for RecoveryFault {
+    ghost use Rattle.std.specs.Prelude.{◌≡◌};
+    ghost use Rattle.sms_recovery.specs.declared.fault.RecoveryFault.TheVariants.{OutOfMemory};
+
+    ghost from_gives = { λ _ f. f ≡ OutOfMemory };
+
+    fn from(_e: AllocError) -> RecoveryFault {
+        RecoveryFault::OutOfMemory
+    }
+}
+
+impl From<OutputFault> for RecoveryFault {
+    ghost use Rattle.std.specs.Prelude.{◌≡◌};
+    ghost use Rattle.sms_recovery.specs.Faults.{told_output};
+
+    ghost from_gives = { λ f told. told ≡ told_output f };
+
+    fn from(fault: OutputFault) -> RecoveryFault {
+        match fault {
+            OutputFault::Output => RecoveryFault::Output,
+            OutputFault::OutOfMemory => RecoveryFault::OutOfMemory,
+        }
+    }
+}

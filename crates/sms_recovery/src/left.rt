@@ -1,0 +1,47 @@
+//! What of the messages is left, by a report.
+
+ghost use Rattle.std.specs.Prelude.{◌≡◌, ◌<◌, ◌&&◌, ℕ, IfOk, Some, map, option_map, slice_get, true};
+ghost use Rattle.csv.specs.Records.{fields_of};
+ghost use Rattle.sms_recovery.specs.Rest.{is_unsent, stays};
+
+use crate::line::{is_left, line_of};
+use csv::ByteRecord;
+use std::alloc::{AllocError, Global};
+
+/// Takes the message out of those that are left whose line this is, where it went out.
+fn pass(left: &mut Vec<bool>, record: &ByteRecord)
+    ensures { (i : ℕ) → slice_get left.new.items i ≡ option_map (λ b. b && stays i (fields_of «record».now)) (slice_get left.old.items i) }
+{
+    let Some(line) = line_of(record) else {
+        return;
+    };
+    if is_left(&line) {
+        return;
+    }
+    let place = line.message as usize;
+    if place < left.len() {
+        left[place] = false;
+    }
+}
+
+/// So many messages that are left.
+fn all_left(alloc: Global, count: usize) -> Result<Vec<bool>, AllocError>
+    ensures { IfOk result (λ left. (i : ℕ) → i < count → slice_get left.items i ≡ Some true) }
+{
+    let mut left = Vec::new(alloc);
+    for _ in 0..count {
+        left.push(true)?;
+    }
+    Ok(left)
+}
+
+/// Which of so many messages are left, by the records of a report.
+pub fn left_by(alloc: Global, count: usize, report: &[ByteRecord]) -> Result<Vec<bool>, AllocError>
+    ensures { IfOk result (λ left. (i : ℕ) → i < count → slice_get left.items i ≡ Some (is_unsent i (map fields_of report.now))) }
+{
+    let mut left = all_left(alloc, count)?;
+    for record in report {
+        pass(&mut left, record);
+    }
+    Ok(left)
+}

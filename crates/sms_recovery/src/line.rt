@@ -1,0 +1,210 @@
+//! The lines of a report: what they say of messages and of accounts.
+
+ghost use Rattle.std.specs.Prelude.{◌≡◌};
+ghost use Rattle.csv.specs.Records.{fields_of};
+ghost use Rattle.sms_files.specs.Rows.{field_is};
+ghost use Rattle.sms_recovery.specs.Lines.{account_in, amount_in, ending_in as ending_said, fits as they_fit, is_header, is_left as stays, is_statement_header, line_in, number_in, outcome_in as outcome_said, refusal_in as refusal_said, status_in};
+
+use csv::ByteRecord;
+use sms_core::decimal_of;
+use sms_worker::{MessageRefusal, Outcome};
+
+/// What a line says of a part, or of a message that was refused as a whole.
+#[derive(Clone, Copy, Debug, PartialEq, Eq)]
+pub(crate) enum Ending {
+    Part(Outcome),
+    Message(MessageRefusal),
+}
+
+/// A line of a message.
+#[derive(Clone, Copy, Debug, PartialEq, Eq)]
+pub(crate) struct Line {
+    /// The message's index.
+    pub(crate) message: u32,
+    /// The part's number from 1, or 0 of a message that was refused as a whole.
+    pub(crate) part: u32,
+    /// How often it was sent.
+    pub(crate) attempts: u32,
+    pub(crate) ending: Ending,
+}
+
+/// The number in the record's field at a place.
+fn number_at(record: &ByteRecord, place: usize) -> Option<u32>
+    ensures { result ≡ number_in (fields_of «record».now) place }
+{
+    let number = decimal_of(record.get(place)?, u64::from(u32::MAX))?;
+    Some(number as u32)
+}
+
+/// The same of an amount of credits.
+fn amount_at(record: &ByteRecord, place: usize) -> Option<u64>
+    ensures { result ≡ amount_in (fields_of «record».now) place }
+{
+    decimal_of(record.get(place)?, u64::MAX)
+}
+
+fn outcome_in(word: &[u8]) -> Option<Outcome>
+    ensures { result ≡ outcome_said word.now }
+{
+    if word == b"charged".as_slice() {
+        return Some(Outcome::Charged);
+    }
+    if word == b"refused".as_slice() {
+        return Some(Outcome::Refused);
+    }
+    if word == b"unanswered".as_slice() {
+        return Some(Outcome::Unanswered);
+    }
+    if word == b"unsent".as_slice() {
+        return Some(Outcome::Unsent);
+    }
+    None
+}
+
+fn refusal_in(word: &[u8]) -> Option<MessageRefusal>
+    ensures { result ≡ refusal_said word.now }
+{
+    if word == b"no-account".as_slice() {
+        return Some(MessageRefusal::NoAccount);
+    }
+    if word == b"no-credit".as_slice() {
+        return Some(MessageRefusal::NoCredit);
+    }
+    if word == b"too-long".as_slice() {
+        return Some(MessageRefusal::TooLong);
+    }
+    if word == b"bad-address".as_slice() {
+        return Some(MessageRefusal::BadAddress);
+    }
+    if word == b"bind-closed".as_slice() {
+        return Some(MessageRefusal::BindClosed);
+    }
+    if word == b"out-of-memory".as_slice() {
+        return Some(MessageRefusal::OutOfMemory);
+    }
+    None
+}
+
+fn ending_in(word: &[u8]) -> Option<Ending>
+    ensures { result ≡ ending_said word.now }
+{
+    match outcome_in(word) {
+        Some(outcome) => Some(Ending::Part(outcome)),
+        None => match refusal_in(word) {
+            Some(refusal) => Some(Ending::Message(refusal)),
+            None => None,
+        },
+    }
+}
+
+/// Whether the record has the status of a reply, or nothing of none.
+fn has_status(record: &ByteRecord) -> bool
+    ensures { result ≡ status_in (fields_of «record».now) }
+{
+    match record.get(4) {
+        None => false,
+        Some(status) => status.is_empty() || decimal_of(status, u64::from(u32::MAX)).is_some(),
+    }
+}
+
+/// Whether the numbers fit the word.
+fn fits(part: u32, attempts: u32, ending: Ending) -> bool
+    ensures { result ≡ they_fit part attempts ending }
+{
+    match ending {
+        Ending::Part(_) => part >= 1,
+        Ending::Message(_) => part == 0 && attempts == 0,
+    }
+}
+
+/// What the record says, where it is a line of a message.
+pub(crate) fn line_of(record: &ByteRecord) -> Option<Line>
+    ensures { result ≡ line_in (fields_of «record».now) }
+{
+    if record.len() != 6 || !has_status(record) {
+        return None;
+    }
+    let message = number_at(record, 0)?;
+    let part = number_at(record, 1)?;
+    let attempts = number_at(record, 2)?;
+    let ending = ending_in(record.get(3)?)?;
+    if !fits(part, attempts, ending) {
+        return None;
+    }
+    Some(Line {
+        message,
+        part,
+        attempts,
+        ending,
+    })
+}
+
+/// Whether the line's message, or its part, did not go out.
+pub(crate) fn is_left(line: &Line) -> bool
+    ensures { result ≡ stays line.now }
+{
+    match line.ending {
+        Ending::Part(Outcome::Unsent) => line.attempts == 0,
+        Ending::Part(_) => false,
+        Ending::Message(MessageRefusal::NoCredit)
+        | Ending::Message(MessageRefusal::BindClosed)
+        | Ending::Message(MessageRefusal::OutOfMemory) => true,
+        Ending::Message(_) => false,
+    }
+}
+
+/// Whether the record's field at a place is this one.
+fn is_field(record: &ByteRecord, place: usize, name: &[u8]) -> bool
+    ensures { result ≡ field_is (fields_of «record».now) place name.now }
+{
+    match record.get(place) {
+        Some(field) => field == name,
+        None => false,
+    }
+}
+
+/// Whether the record is the report's first.
+pub(crate) fn is_report_header(record: &ByteRecord) -> bool
+    ensures { result ≡ is_header (fields_of «record».now) }
+{
+    record.len() == 6
+        && is_field(record, 0, b"message")
+        && is_field(record, 1, b"part")
+        && is_field(record, 2, b"attempts")
+        && is_field(record, 3, b"outcome")
+        && is_field(record, 4, b"status")
+        && is_field(record, 5, b"id")
+}
+
+/// Whether the record is the statement's first.
+pub(crate) fn is_accounts_header(record: &ByteRecord) -> bool
+    ensures { result ≡ is_statement_header (fields_of «record».now) }
+{
+    record.len() == 6
+        && is_field(record, 0, b"account")
+        && is_field(record, 1, b"topped")
+        && is_field(record, 2, b"free")
+        && is_field(record, 3, b"reserved")
+        && is_field(record, 4, b"charged")
+        && is_field(record, 5, b"returned")
+}
+
+/// Whether the record is the row of an account with this name.
+pub(crate) fn is_account(record: &ByteRecord, name: &[u8]) -> bool
+    ensures { result ≡ account_in name.now (fields_of «record».now) }
+{
+    record.len() == 6
+        && is_field(record, 0, name)
+        && amount_at(record, 1).is_some()
+        && amount_at(record, 2).is_some()
+        && amount_at(record, 3).is_some()
+        && amount_at(record, 4).is_some()
+        && amount_at(record, 5).is_some()
+}
+
+/// The free credits in an account's row.
+pub(crate) fn free_of(record: &ByteRecord) -> Option<u64>
+    ensures { result ≡ amount_in (fields_of «record».now) 2 }
+{
+    amount_at(record, 2)
+}

@@ -1,0 +1,149 @@
+//! What is left of a sending, by its report.
+
+ghost use Rattle.std.specs.Prelude.{◌≡◌, ◌≢◌, IfErr, IfOk, OnOk, map, option_copied};
+ghost use Rattle.std.specs.Io.KnownBytes.{Appends};
+ghost use Rattle.csv.specs.Records.{fields_of};
+ghost use Rattle.sms_files.specs.Fields.{records_of};
+ghost use Rattle.sms_recovery.specs.Files.{IsCut, Reads};
+ghost use Rattle.sms_recovery.specs.Rest.{rest_accounts_of, rest_of};
+ghost use Rattle.sms_recovery.specs.Resting.{IsReportOf, Prints, TellsPrinting, TellsReport, TellsReported, accounts_by, rest_by};
+ghost use Rattle.sms_recovery.specs.declared.fault.RecoveryFault.TheVariants.{Output};
+
+use crate::fault::RecoveryFault;
+use crate::files::input_of;
+use crate::printing::{accounts_text, rest_text};
+use crate::records::records_in;
+use crate::stage::check_report;
+use csv::ByteRecord;
+use sms_book::Opening;
+use sms_files::Input;
+use sms_report::write_out;
+use std::alloc::Global;
+use std::io::Write;
+
+/// What a run read, and the records of a report of it.
+#[derive(Drop)]
+struct Reported {
+    input: Input,
+    records: Vec<ByteRecord>,
+}
+
+/// The records of a report of this input.
+fn report_of(alloc: Global, input: &Input, report: &[u8]) -> Result<Vec<ByteRecord>, RecoveryFault>
+    ensures records { IfOk result (λ records. map fields_of records.items ≡ records_of report.now) }
+    ensures report { OnOk result (IsReportOf input.now report.now) }
+    ensures refused { IfErr result (TellsReport input.now report.now) }
+{
+    let records = records_in(alloc, report)?;
+    check_report(input.messages().len(), input.openings(), records.as_slice())?;
+    Ok(records)
+}
+
+/// Reads what a run read, and a report of it.
+fn read_report(
+    alloc: Global,
+    config: &[u8],
+    accounts: &[u8],
+    messages: &[u8],
+    tariff: Option<&[u8]>,
+    report: &[u8],
+) -> Result<Reported, RecoveryFault>
+    ensures read { IfOk result (λ r. Reads config.now accounts.now messages.now (option_copied tariff.entry) r.input) }
+    ensures records { IfOk result (λ r. map fields_of r.records.items ≡ records_of report.now) }
+    ensures report { IfOk result (λ r. IsReportOf r.input report.now) }
+    ensures refused { IfErr result (TellsReported config.now accounts.now messages.now (option_copied tariff.entry) report.now) }
+{
+    let input = match input_of(alloc, config, accounts, messages, tariff) {
+        Ok(input) => input,
+        Err(fault) => return Err(fault),
+    };
+    match report_of(alloc, &input, report) {
+        Ok(records) => Ok(Reported { input, records }),
+        Err(fault) => {
+            drop(input);
+            Err(fault)
+        }
+    }
+}
+
+/// Prints the messages that are left.
+fn print_rest<W: Write>(
+    alloc: Global,
+    report: &[ByteRecord],
+    messages: &[u8],
+    output: &mut W,
+) -> Result<(), RecoveryFault>
+    ensures written { OnOk result (Appends (W.contents output.old) (W.contents output.new) (rest_of (map fields_of report.now) (records_of messages.now))) }
+    ensures refused { IfErr result (IsCut (rest_of (map fields_of report.now) (records_of messages.now)) (W.contents output.old) (W.contents output.new)) }
+    ensures quiet { IfErr result (λ fault. fault ≢ Output → output.new ≡ output.old) }
+{
+    let messages = records_in(alloc, messages)?;
+    let text = rest_text(alloc, report, messages.as_slice())?;
+    write_out(output, text.as_slice())?;
+    Ok(())
+}
+
+/// Prints the accounts for them.
+fn print_accounts<W: Write>(
+    alloc: Global,
+    openings: &[Opening],
+    report: &[ByteRecord],
+    output: &mut W,
+) -> Result<(), RecoveryFault>
+    ensures written { OnOk result (Appends (W.contents output.old) (W.contents output.new) (rest_accounts_of openings.now (map fields_of report.now))) }
+    ensures refused { IfErr result (IsCut (rest_accounts_of openings.now (map fields_of report.now)) (W.contents output.old) (W.contents output.new)) }
+    ensures quiet { IfErr result (λ fault. fault ≢ Output → output.new ≡ output.old) }
+{
+    let text = accounts_text(alloc, openings, report)?;
+    write_out(output, text.as_slice())?;
+    Ok(())
+}
+
+/// Prints the messages file of the messages that did not go out by the report of a run of these
+/// files: those that were refused for a lost bind, for credit or for memory, and those of which no
+/// part was sent. The records stand as in the messages file, in their order.
+pub fn run_rest<W: Write>(
+    alloc: Global,
+    config: &[u8],
+    accounts: &[u8],
+    messages: &[u8],
+    tariff: Option<&[u8]>,
+    report: &[u8],
+    output: &mut W,
+) -> Result<(), RecoveryFault>
+    ensures printed { OnOk result (Prints config.now accounts.now messages.now (option_copied tariff.entry) report.now (rest_by report.now messages.now) (W.contents output.old) (W.contents output.new)) }
+    ensures refused { IfErr result (TellsPrinting config.now accounts.now messages.now (option_copied tariff.entry) report.now (rest_by report.now messages.now) (W.contents output.old) (W.contents output.new)) }
+    ensures quiet { IfErr result (λ fault. fault ≢ Output → output.new ≡ output.old) }
+{
+    let reported = match read_report(alloc, config, accounts, messages, tariff, report) {
+        Ok(reported) => reported,
+        Err(fault) => return Err(fault),
+    };
+    let printed = print_rest(alloc, reported.records.as_slice(), messages, output);
+    drop(reported);
+    printed
+}
+
+/// Prints the accounts file that goes with it: each account with its free credits by the report.
+pub fn run_rest_accounts<W: Write>(
+    alloc: Global,
+    config: &[u8],
+    accounts: &[u8],
+    messages: &[u8],
+    tariff: Option<&[u8]>,
+    report: &[u8],
+    output: &mut W,
+) -> Result<(), RecoveryFault>
+    ensures printed { OnOk result (Prints config.now accounts.now messages.now (option_copied tariff.entry) report.now (accounts_by report.now) (W.contents output.old) (W.contents output.new)) }
+    ensures refused { IfErr result (TellsPrinting config.now accounts.now messages.now (option_copied tariff.entry) report.now (accounts_by report.now) (W.contents output.old) (W.contents output.new)) }
+    ensures quiet { IfErr result (λ fault. fault ≢ Output → output.new ≡ output.old) }
+{
+    let reported = match read_report(alloc, config, accounts, messages, tariff, report) {
+        Ok(reported) => reported,
+        Err(fault) => return Err(fault),
+    };
+    let openings = reported.input.openings();
+    let printed = print_accounts(alloc, openings, reported.records.as_slice(), output);
+    drop(reported);
+    printed
+}

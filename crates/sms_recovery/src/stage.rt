@@ -1,0 +1,144 @@
+//! Whether records are a report of a run's messages and accounts.
+
+ghost use Rattle.std.specs.Prelude.{◌≡◌, ◌⊎◌, ℕ, ◌+◌, ◌↔◌, IfErr, IsTrue, OnOk, length, map, slice_get};
+ghost use Rattle.csv.specs.Records.{fields_of};
+ghost use Rattle.sms_book.specs.Openings.{names_of};
+ghost use Rattle.sms_recovery.specs.Stages.{IsFirstFaulty, IsReport, begins as may_begin, goes_on as may_go_on, step, with_line, with_row};
+ghost use Rattle.sms_recovery.specs.Lines.{line_in};
+ghost use Rattle.sms_recovery.specs.declared.fault.RecoveryFault.TheVariants.{OutOfMemory, Report};
+ghost use Rattle.sms_recovery.specs.declared.stage.Stage.TheVariants.{Rows};
+
+use crate::fault::RecoveryFault;
+use crate::line::{Line, is_account, is_accounts_header, is_report_header, line_of};
+use csv::ByteRecord;
+use sms_book::Opening;
+
+/// How far the records of a report are.
+#[derive(Clone, Copy, Debug, PartialEq, Eq)]
+pub(crate) enum Stage {
+    /// No record yet.
+    Start,
+    /// So many messages have a line; so many parts of the last of them have one.
+    Lines(u64, u32),
+    /// So many accounts have a row.
+    Rows(usize),
+}
+
+/// Whether the line is the first of the next message.
+fn begins(count: usize, begun: u64, line: &Line) -> bool
+    ensures { result ≡ may_begin count begun line.now }
+{
+    u64::from(line.message) == begun && begun < count as u64 && line.part <= 1
+}
+
+/// Whether the line is of the next part.
+fn goes_on(begun: u64, parts: u32, line: &Line) -> bool
+    ensures { result ≡ may_go_on begun parts line.now }
+{
+    u64::from(line.message) + 1 == begun
+        && parts >= 1
+        && u64::from(line.part) == u64::from(parts) + 1
+}
+
+/// How far they are with a line.
+fn after_line(count: usize, begun: u64, parts: u32, record: &ByteRecord) -> Option<Stage>
+    ensures { result ≡ with_line count begun parts (line_in (fields_of «record».now)) }
+{
+    let line = match line_of(record) {
+        Some(line) => line,
+        None => return None,
+    };
+    if begins(count, begun, &line) || goes_on(begun, parts, &line) {
+        Some(Stage::Lines(u64::from(line.message) + 1, line.part))
+    } else {
+        None
+    }
+}
+
+/// How far they are with the row of an account.
+fn after_row(openings: &[Opening], done: usize, record: &ByteRecord) -> Option<Stage>
+    ensures { result ≡ with_row done (slice_get (names_of openings.now) done) (fields_of «record».now) }
+{
+    match openings.get(done) {
+        Some(opening) => {
+            if is_account(record, opening.name.as_bytes()) {
+                Some(Stage::Rows(done + 1))
+            } else {
+                None
+            }
+        }
+        None => None,
+    }
+}
+
+/// How far they are with one record more, where it may stand there.
+fn next_stage(
+    count: usize,
+    openings: &[Opening],
+    stage: Stage,
+    record: &ByteRecord,
+) -> Option<Stage>
+    ensures { result ≡ step count (names_of openings.now) (fields_of «record».now) stage }
+{
+    match stage {
+        Stage::Start => {
+            if is_report_header(record) {
+                Some(Stage::Lines(0, 0))
+            } else {
+                None
+            }
+        }
+        Stage::Lines(begun, parts) => {
+            if begun == count as u64 && is_accounts_header(record) {
+                Some(Stage::Rows(0))
+            } else {
+                after_line(count, begun, parts, record)
+            }
+        }
+        Stage::Rows(done) => after_row(openings, done, record),
+    }
+}
+
+/// The fault of a record that is faulty or missing behind so many.
+fn fault_behind(before: usize) -> RecoveryFault
+    ensures { (result ≡ Report (before + 1)) ⊎ (result ≡ OutOfMemory) }
+{
+    match before.checked_add(1) {
+        Some(record) => RecoveryFault::Report(record),
+        None => RecoveryFault::OutOfMemory,
+    }
+}
+
+/// Whether all rows are there.
+fn is_end(stage: Stage, openings: &[Opening]) -> bool
+    ensures { IsTrue result ↔ (stage ≡ Rows (length (names_of openings.now))) }
+{
+    match stage {
+        Stage::Rows(done) => done == openings.len(),
+        _ => false,
+    }
+}
+
+/// That the records are a report of so many messages and of these accounts. The first faulty record
+/// is told, or the one that is missing at the end.
+pub(crate) fn check_report(
+    count: usize,
+    openings: &[Opening],
+    records: &[ByteRecord],
+) -> Result<(), RecoveryFault>
+    ensures report { OnOk result (IsReport count (names_of openings.now) (map fields_of records.now)) }
+    ensures faulty { IfErr result (λ fault. (fault ≡ OutOfMemory) ⊎ ((k : ℕ) × (fault ≡ Report k) × IsFirstFaulty count (names_of openings.now) (map fields_of records.now) k)) }
+{
+    let mut stage = Stage::Start;
+    for place in 0..records.len() {
+        match next_stage(count, openings, stage, &records[place]) {
+            Some(next) => stage = next,
+            None => return Err(fault_behind(place)),
+        }
+    }
+    if is_end(stage, openings) {
+        Ok(())
+    } else {
+        Err(fault_behind(records.len()))
+    }
+}
