@@ -1,12 +1,14 @@
 -- From what the parser gives to the job.
-use Rattle.std.proofs.Common.{◌≡◌, ◌∙◌, ap, ap₂, false, refl, List, Option, None, Some, Result, Ok, Err}
-use Rattle.std.specs.Prelude.{Box, option_map, IfOk, IsOkAnd}
+use Rattle.std.proofs.Common.{◌≡◌, ◌∙◌, ap, ap₂, false, inl, inr, refl, List, Option, None, Some, Result, Ok, Err}
+use Rattle.std.specs.Prelude.{Box, ◌||◌, option_map, IfOk, IsOkAnd}
 use Rattle.std.specs.Box.{box_value}
-use Rattle.clap.specs.Words.{AddsSubcommand, App, Row, Text, app_of, subcommand_rows, with_subcommand}
+use Rattle.clap.specs.Words.{AddsArg, AddsSubcommand, App, Row, Rule, Text, app_of, rule_of, subcommand_rows, with_rule, with_subcommand}
+use Rattle.clap.specs.declared.builder.Arg.{Arg}
 use Rattle.clap.specs.declared.builder.Command.{Command}
-use Rattle.clap.specs.declared.builder.Command.TheViews.{out-Command as fields_of}
 use Rattle.clap.specs.declared.parser.matches.ArgMatches.TheViews.{out-SubCommand}
 use Rattle.clap.specs.declared.parser.matches.SubCommand.{SubCommand}
+use Rattle.sms_send.specs.CommandLine.{IsLine, TellsFor}
+use Rattle.sms_send.specs.declared.fault.Fault.{Fault}
 
 -- the name that stands with a subcommand's matches is the subcommand's
 pub name-of-rows : {Z : Type 0} → (o : Option (Box SubCommand Z)) → option_map (λ p. p.0) (subcommand_rows o) ≡ option_map (λ b. (out-SubCommand (box_value b)).name.now) o
@@ -24,6 +26,17 @@ met (Some found) name rows n r =
 
 -- a program with one subcommand more, of this line
 pub subcommand-added : {E : Type 0} (command joined : Command) (program line : App) (r : Result Command E) → IsOkAnd r (λ s. AddsSubcommand command s joined)
-    → IfOk r (λ s. app_of s ≡ line) → IfOk r (λ s. (fields_of s).has_globals ≡ false) → app_of command ≡ program → app_of joined ≡ with_subcommand program line.top
-subcommand-added command joined program line (Ok s) adds is local was = adds.shape local ∙ ap₂ with_subcommand was (ap (λ (a : App). a.top) is)
-subcommand-added command joined program line (Err e) adds is local was = absurd adds
+    → IfOk r (IsLine line) → app_of command ≡ program → app_of joined ≡ with_subcommand program line.top
+subcommand-added command joined program line (Ok s) adds is was = adds.shape is.1 ∙ ap₂ with_subcommand was (ap (λ (a : App). a.top) is.0)
+subcommand-added command joined program line (Err e) adds is was = absurd adds
+
+-- a command with one argument more
+pub argument-added : (command joined : Command) (a : Arg) (line : App) (rule : Rule) → AddsArg command a joined → a.global ≡ false → rule_of a ≡ rule → IsLine line command
+    → IsLine (with_rule line rule) joined
+argument-added command joined a line rule adds local is was =
+    (adds.shape local ∙ ap₂ with_rule was.0 is, adds.globals ∙ ap₂ (λ x y. x || y) was.1 local)
+
+-- a fault that refuses words for one reason refuses them for each that it gives
+pub tells-weaker : {A B : Type 0} (fault : Fault) → (A → B) → TellsFor A fault → TellsFor B fault
+tells-weaker fault gives (inl memory) = inl memory
+tells-weaker fault gives (inr tells) = inr (tells.0, gives tells.1)

@@ -6,5 +6,6 @@ pub mod Lines
 pub mod Names
 pub mod Plans
 pub mod Replaying
+pub mod Runs
 pub mod Sendings
 pub mod Telling

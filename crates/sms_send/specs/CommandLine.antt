@@ -1,41 +1,59 @@
 -- The command line, in the words of the parser, and the job that it asks for.
-use Rattle.std.specs.Prelude.{◌≡◌, ◌≢◌, ◌⊎◌, String, Bool, true, false, List, [], Option, Some, None, codes, option_and_then, option_map, if◌then◌else◌}
+use Rattle.std.specs.Prelude.{◌≡◌, ◌≢◌, ◌⊎◌, String, Bool, true, false, List, [], ◌∷◌, Option, Some, None, codes, option_and_then, option_map, if◌then◌else◌}
 use Rattle.std.specs.Str.{bytes_eq}
 use Rattle.std.specs.String.{string_bytes}
 use Rattle.std.specs.declared.alloc.Global.{Global}
-use Rattle.clap.specs.Words.{App, Kinds, IsAmong, Row, Rule, Text, fault_of, first_of, new_app, new_rule, subcommand_of, with_rule, with_subcommand}
+use Rattle.clap.specs.Words.{App, Kinds, IsAmong, Row, Rule, Text, app_of, fault_of, first_of, new_app, new_rule, subcommand_of, with_rule, with_subcommand}
+use Rattle.clap.specs.declared.builder.Command.{Command}
+use Rattle.clap.specs.declared.builder.Command.TheViews.{out-Command as fields_of}
 use Rattle.clap.specs.declared.builder.action.ArgAction.TheVariants.{SetTrue}
 use Rattle.clap.specs.declared.error.kind.ErrorKind.{ErrorKind}
 use Rattle.clap.specs.declared.error.kind.ErrorKind.TheVariants as kind
 use Rattle.sms_send.specs.declared.fault.Fault.{Fault}
 use Rattle.sms_send.specs.declared.fault.Fault.TheVariants.{Words, Help, Version, OutOfMemory}
 use Rattle.sms_send.specs.declared.job.Job.{Job}
-use Rattle.sms_send.specs.declared.job.Job.TheVariants.{Loop, Plan, Replay, Send}
+use Rattle.sms_send.specs.declared.job.Job.TheVariants.{Loop, Plan, Recover, Replay, Rest, Send}
 use Rattle.sms_send.specs.declared.job.Subcommand.{Subcommand}
+use Rattle.sms_send.specs.declared.order.Order.{Order}
 use Rattle.sms_send.specs.declared.job.Subcommand.TheVariants as sub
 
--- `replay FILE`
-abbrev pub replay_line : App
-replay_line = with_rule (new_app (codes "replay")) (record (new_rule (codes "FILE")) { required = true })
+-- a subcommand with these arguments more, in this order
+abbrev pub with_rules : App → List Rule → App
+with_rules app [] = app
+with_rules app (rule ∷ rules) = with_rules (with_rule app rule) rules
 
--- an option that has to be given a file, and one that is given or not
+-- the command is as this line says; no argument of it is one of its subcommands too
+abbrev pub IsLine : App → Command → Type 0
+IsLine line command = (app_of command ≡ line) × ((fields_of command).has_globals ≡ false)
+
+-- a word that has to be given, an option that has to be given a file, and one that is given or not
+abbrev pub name_rule : Text → Rule
+name_rule name = record (new_rule name) { required = true }
+
 abbrev pub file_rule : Text → Rule
 file_rule name = record (new_rule name) { long = Some name; value_names = 1; required = true }
 
 abbrev pub flag_rule : Text → Rule
 flag_rule name = record (new_rule name) { long = Some name; action = Some SetTrue }
 
--- a subcommand with a file and a flag
-abbrev pub file_line : Text → Text → Text → App
-file_line name file flag = with_rule (with_rule (new_app name) (file_rule file)) (flag_rule flag)
+-- `replay FILE`
+abbrev pub replay_line : App
+replay_line = with_rule (new_app (codes "replay")) (name_rule (codes "FILE"))
 
 -- `plan --messages FILE`, with `--long` or without
 abbrev pub plan_line : App
-plan_line = file_line (codes "plan") (codes "messages") (codes "long")
+plan_line = with_rules (new_app (codes "plan")) (file_rule (codes "messages") ∷ flag_rule (codes "long") ∷ [])
 
 -- `loop --config FILE` or `send --config FILE`, with `--quiet` or without
 abbrev pub sender_line : Text → App
-sender_line name = file_line name (codes "config") (codes "quiet")
+sender_line name = with_rules (new_app name) (file_rule (codes "config") ∷ flag_rule (codes "quiet") ∷ [])
+
+-- `recover --config FILE --journal FILE`, and `rest --config FILE --report FILE`, with `--accounts` or without
+abbrev pub recover_line : App
+recover_line = with_rules (new_app (codes "recover")) (file_rule (codes "config") ∷ file_rule (codes "journal") ∷ [])
+
+abbrev pub rest_line : App
+rest_line = with_rules (new_app (codes "rest")) (file_rule (codes "config") ∷ file_rule (codes "report") ∷ flag_rule (codes "accounts") ∷ [])
 
 -- the program before its subcommands: it has a version, and its own name is not among the words
 abbrev pub program_line : App
@@ -46,8 +64,8 @@ program_line =
 -- no word, or a subcommand
 abbrev pub command_line : App
 command_line =
-    with_subcommand (with_subcommand (with_subcommand (with_subcommand program_line replay_line.top) plan_line.top) (sender_line (codes "loop")).top)
-    (sender_line (codes "send")).top
+    with_subcommand (with_subcommand (with_subcommand (with_subcommand (with_subcommand (with_subcommand program_line replay_line.top) plan_line.top)
+    (sender_line (codes "loop")).top) (sender_line (codes "send")).top) recover_line.top) rest_line.top
 
 -- the subcommand and its matches that the parser reads from the words
 abbrev pub subcommand_in : List Text → Option (Text × List Row)
@@ -72,34 +90,32 @@ subcommand_named name =
     if bytes_eq name (codes "replay") then Some sub.Replay
     else (if bytes_eq name (codes "plan") then Some sub.Plan
     else (if bytes_eq name (codes "loop") then Some sub.Loop
-    else (if bytes_eq name (codes "send") then Some sub.Send else None)))
-
--- the argument that names a subcommand's file
-abbrev pub file_word : Subcommand → Text
-file_word sub.Replay = codes "FILE"
-file_word sub.Plan = codes "messages"
-file_word sub.Loop = codes "config"
-file_word sub.Send = codes "config"
-
--- the name that a subcommand was given with its words
-abbrev pub name_given : Text × List Row → Option Text
-name_given found = option_and_then (λ s. first_of (file_word s) found.1) (subcommand_named found.0)
+    else (if bytes_eq name (codes "send") then Some sub.Send
+    else (if bytes_eq name (codes "recover") then Some sub.Recover
+    else (if bytes_eq name (codes "rest") then Some sub.Rest else None)))))
 
 -- a flag was given, by the parser's value of it
 abbrev pub is_set : Option Text → Bool
 is_set None = false
 is_set (Some value) = bytes_eq value (codes "true")
 
--- the matches of a subcommand name this file, and this flag was given with them or not
-abbrev pub Gives : Text → Text → List Row → String Global → Bool → Type 0
-Gives file flag rows name given = (first_of file rows ≡ Some (string_bytes name)) × (is_set (first_of flag rows) ≡ given)
+-- the sending that the matches of a sender ask for
+pub record AsksToSend (rows : List Row) (order : Order) : Type 0 where
+  pub config : first_of (codes "config") rows ≡ Some (string_bytes order.config)
+  pub quiet : is_set (first_of (codes "quiet") rows) ≡ order.quiet
+
+-- the names of the config and of the file of this other option
+abbrev pub HasNames : Text → List Row → String Global → String Global → Type 0
+HasNames other rows config name = (first_of (codes "config") rows ≡ Some (string_bytes config)) × (first_of other rows ≡ Some (string_bytes name))
 
 -- the job that a subcommand with these matches asks for
 abbrev pub AsksFor : Subcommand → List Row → Job → Type 0
 AsksFor sub.Replay rows (Replay file) = option_map file_named (first_of (codes "FILE") rows) ≡ Some (bytes_of file)
-AsksFor sub.Plan rows (Plan messages long) = Gives (codes "messages") (codes "long") rows messages long
-AsksFor sub.Loop rows (Loop config quiet) = Gives (codes "config") (codes "quiet") rows config quiet
-AsksFor sub.Send rows (Send config quiet) = Gives (codes "config") (codes "quiet") rows config quiet
+AsksFor sub.Plan rows (Plan messages long) = (first_of (codes "messages") rows ≡ Some (string_bytes messages)) × (is_set (first_of (codes "long") rows) ≡ long)
+AsksFor sub.Loop rows (Loop order) = AsksToSend rows order
+AsksFor sub.Send rows (Send order) = AsksToSend rows order
+AsksFor sub.Recover rows (Recover order) = HasNames (codes "journal") rows order.config order.journal
+AsksFor sub.Rest rows (Rest order) = HasNames (codes "report") rows order.config order.report × (is_set (first_of (codes "accounts") rows) ≡ order.accounts)
 AsksFor _ rows _ = ⊥
 
 -- the job of a subcommand and its matches; without one it is to replay standard input
@@ -108,16 +124,28 @@ IsJob None (Replay file) = bytes_of file ≡ None
 IsJob None _ = ⊥
 IsJob (Some found) job = (s : Subcommand) × (subcommand_named found.0 ≡ Some s) × AsksFor s found.1 job
 
--- what a fault says of an argument that is needed: it wasn't given
-abbrev pub TellsName : Option Text → Fault → Type 0
-TellsName given Words = given ≡ None
-TellsName given OutOfMemory = Unit {0}
-TellsName given _ = ⊥
+-- a fault refuses words for this reason, or memory ran out
+abbrev pub TellsFor : Type 0 → Fault → Type 0
+TellsFor reason fault = (fault ≡ OutOfMemory) ⊎ ((fault ≡ Words) × reason)
 
--- what a fault says of the subcommand that the parser met, where it took the words: it lacks the name that it needs
+-- the name of the config or of the file of this other option is missing
+abbrev pub LacksName : Text → List Row → Type 0
+LacksName other rows = (first_of (codes "config") rows ≡ None) ⊎ (first_of other rows ≡ None)
+
+-- what is wrong with the matches of a subcommand that asks for no job: a name is missing
+abbrev pub IsRefused : Subcommand → List Row → Type 0
+IsRefused sub.Replay rows = first_of (codes "FILE") rows ≡ None
+IsRefused sub.Plan rows = first_of (codes "messages") rows ≡ None
+IsRefused sub.Loop rows = first_of (codes "config") rows ≡ None
+IsRefused sub.Send rows = first_of (codes "config") rows ≡ None
+IsRefused sub.Recover rows = LacksName (codes "journal") rows
+IsRefused sub.Rest rows = LacksName (codes "report") rows
+
+-- what a fault says of the subcommand that the parser met, where it took the words: there is none of the name, or its
+-- matches ask for no job
 abbrev pub TellsMet : Option (Text × List Row) → Fault → Type 0
 TellsMet None fault = ⊥
-TellsMet (Some found) fault = TellsName (name_given found) fault
+TellsMet (Some found) fault = TellsFor ((subcommand_named found.0 ≡ None) ⊎ ((s : Subcommand) × (subcommand_named found.0 ≡ Some s) × IsRefused s found.1)) fault
 
 -- what a fault says of the words that the parser refuses: help or the version was asked for, or neither
 abbrev pub TellsRefusal : Kinds → Fault → Type 0
@@ -127,7 +155,7 @@ TellsRefusal kinds Words = (k : ErrorKind) × (k ≢ kind.DisplayHelp) × (k ≢
 TellsRefusal kinds OutOfMemory = Unit {0}
 TellsRefusal kinds _ = ⊥
 
--- what a fault says of the words: the parser refuses them, or takes them and a name is missing
+-- what a fault says of the words: the parser refuses them, or takes them and they ask for no job
 abbrev pub TellsWords : List Text → Fault → Type 0
 TellsWords words fault =
     TellsRefusal (refusals_of words) fault ⊎ ((refusals_of words ≡ []) × TellsMet (subcommand_in words) fault)

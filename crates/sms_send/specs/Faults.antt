@@ -5,12 +5,14 @@ use Rattle.std.specs.Fmt.{radix_digits}
 use Rattle.std.specs.List.{flat_map}
 use Rattle.std.specs.Str.{chars}
 use Rattle.sms_send.specs.declared.fault.Fault.{Fault}
-use Rattle.sms_send.specs.declared.fault.Fault.TheVariants.{Words, Help, Version, File, Unreadable, BadRecord, NotToml, BadKey, BindRefused, BindFailed, Output, OutOfMemory}
+use Rattle.sms_send.specs.declared.fault.Fault.TheVariants.{Words, Help, Version, File, Unreadable, BadRecord, NotToml, BadKey, BindRefused, BindFailed, BadNote, BadReport, Journal, Output, OutOfMemory}
 use Rattle.sms_driver.specs.declared.fault.SendFault.{SendFault}
 use Rattle.sms_driver.specs.declared.fault.SendFault.TheVariants as send
 use Rattle.sms_files.specs.Faults.{source_name}
 use Rattle.sms_files.specs.declared.fault.InputFault.{InputFault}
 use Rattle.sms_files.specs.declared.fault.InputFault.TheVariants as input
+use Rattle.sms_recovery.specs.declared.fault.RecoveryFault.{RecoveryFault}
+use Rattle.sms_recovery.specs.declared.fault.RecoveryFault.TheVariants as recovery
 use Rattle.sms_report.specs.declared.fault.OutputFault.{OutputFault}
 use Rattle.sms_report.specs.declared.fault.OutputFault.TheVariants as output
 
@@ -40,6 +42,9 @@ fault_text NotToml = codes "fault: config"
 fault_text (BadKey key) = codes "fault: config " ++ shown (string_bytes key)
 fault_text (BindRefused bind status) = codes "fault: bind " ++ decimal bind ++ codes " refused " ++ decimal status
 fault_text (BindFailed bind) = codes "fault: bind " ++ decimal bind ++ codes " failed"
+fault_text (BadNote place) = codes "fault: journal record " ++ decimal place
+fault_text (BadReport place) = codes "fault: report record " ++ decimal place
+fault_text Journal = codes "fault: journal"
 fault_text Output = codes "fault: output"
 fault_text OutOfMemory = codes "fault: out of memory"
 
@@ -66,6 +71,15 @@ told_sending (send.BindFailed bind why) = BindFailed bind
 told_sending send.ThreadRefused = OutOfMemory
 told_sending send.OutOfMemory = OutOfMemory
 told_sending send.EndsLost = OutOfMemory
+
+-- why nothing is recovered
+abbrev pub told_recovery : RecoveryFault → Fault
+told_recovery (recovery.Input fault) = told_input fault
+told_recovery (recovery.Journal place) = BadNote place
+told_recovery recovery.Overdrawn = Journal
+told_recovery (recovery.Report place) = BadReport place
+told_recovery recovery.Output = Output
+told_recovery recovery.OutOfMemory = OutOfMemory
 
 -- why a text isn't written
 abbrev pub told_output : OutputFault → Fault

@@ -9,43 +9,52 @@ use Rattle.sms_files.specs.Messages.{messages_fault}
 use Rattle.sms_report.specs.PlanText.{kind_of, plan_of}
 use Rattle.sms_send.specs.Opened.{OfInput}
 use Rattle.sms_send.specs.Plans.{TellsPlan}
+use Rattle.sms_send.specs.Recovered.{PrintsLeft, RecoversRun, TellsRecoverJob, TellsRestJob}
 use Rattle.sms_send.specs.Replays.{Replays, TellsReplay}
+use Rattle.sms_send.specs.Runs.{IsRun}
 use Rattle.sms_send.specs.Sent.{SendsFiles, TellsSent}
 use Rattle.sms_send.specs.declared.fault.Fault.{Fault}
 use Rattle.sms_send.specs.declared.fault.Fault.TheVariants.{File}
 use Rattle.sms_send.specs.declared.job.Job.{Job}
-use Rattle.sms_send.specs.declared.job.Job.TheVariants.{Loop, Plan, Replay, Send}
+use Rattle.sms_send.specs.declared.job.Job.TheVariants.{Loop, Plan, Recover, Replay, Rest, Send}
+use Rattle.sms_send.specs.declared.run_files.RunFiles.{RunFiles}
 use Rattle.sms_send.specs.declared.send_job.Centre.TheVariants.{Named, Own}
 
 -- the bytes are a messages file, and its plan with references of 16 bits or of 8 was written and nothing else
 abbrev pub Plans : Bool → List ℕ → Option (List ℕ) → Option (List ℕ) → Type 0
 Plans long bytes old new = (messages_fault (records_of bytes) ≡ None) × Appends old new (plan_of (kind_of long) (records_of bytes))
 
--- the exit status of a job that was done: 0, and of the sender also 4
+-- the exit status of a job that was done: 0, and of the sender and of what a journal tells also 4
 abbrev pub IsStatus : ℕ → Type 0
 IsStatus status = (status ≡ 0) ⊎ (status ≡ 4)
 
 abbrev pub IsStatusOf : Job → ℕ → Type 0
 IsStatusOf (Replay file) status = status ≡ 0
 IsStatusOf (Plan name long) status = status ≡ 0
-IsStatusOf (Loop name quiet) status = IsStatus status
-IsStatusOf (Send name quiet) status = IsStatus status
+IsStatusOf (Loop order) status = IsStatus status
+IsStatusOf (Send order) status = IsStatus status
+IsStatusOf (Recover order) status = IsStatus status
+IsStatusOf (Rest order) status = status ≡ 0
 
--- the job was done with this status: standard input or a file was replayed, a file planned, or the files that a config names sent
+-- the job was done with this status: standard input or a file was replayed, a file planned, the files that a config names sent, or what is left of a run printed
 abbrev pub Does : {S F : Type 0} → (S → Told) → (F → Told) → Job → Option (List ℕ) → Option (List ℕ) → ℕ → Type 0
 Does standard file (Replay None) old new status = OfInput standard (λ bytes. Replays bytes old new)
 Does standard file (Replay (Some name)) old new status = OfInput file (λ bytes. Replays bytes old new)
 Does standard file (Plan name long) old new status = OfInput file (λ bytes. Plans long bytes old new)
-Does standard file (Loop name quiet) old new status = OfInput file (λ octets. SendsFiles file octets old new status)
-Does standard file (Send name quiet) old new status = OfInput file (λ octets. SendsFiles file octets old new status)
+Does standard file (Loop order) old new status = OfInput file (λ octets. SendsFiles file octets old new status)
+Does standard file (Send order) old new status = OfInput file (λ octets. SendsFiles file octets old new status)
+Does standard file (Recover order) old new status = (run : RunFiles) × IsRun file run × RecoversRun run old new status
+Does standard file (Rest order) old new status = (run : RunFiles) × IsRun file run × PrintsLeft order.accounts run old new
 
 -- what a fault of a job says: its file can't be opened, or what the fault says of the input
 abbrev pub TellsJob : {S F : Type 0} → (S → Told) → (F → Told) → Job → Option (List ℕ) → Option (List ℕ) → Fault → Type 0
 TellsJob standard file (Replay None) old new fault = OfInput standard (λ bytes. TellsReplay (records_of bytes) fault)
 TellsJob standard file (Replay (Some name)) old new fault = (fault ≡ File name) ⊎ OfInput file (λ bytes. TellsReplay (records_of bytes) fault)
 TellsJob standard file (Plan name long) old new fault = (fault ≡ File name) ⊎ OfInput file (λ bytes. TellsPlan (records_of bytes) fault)
-TellsJob standard file (Loop name quiet) old new fault = TellsSent file Own name old new fault
-TellsJob standard file (Send name quiet) old new fault = TellsSent file Named name old new fault
+TellsJob standard file (Loop order) old new fault = TellsSent file Own order.config old new fault
+TellsJob standard file (Send order) old new fault = TellsSent file Named order.config old new fault
+TellsJob standard file (Recover order) old new fault = TellsRecoverJob file order old new fault
+TellsJob standard file (Rest order) old new fault = TellsRestJob file order old new fault
 
 -- these words ask for a job, and it was done
 abbrev pub Works : {S F : Type 0} → (S → Told) → (F → Told) → List Text → ℕ → Option (List ℕ) → Option (List ℕ) → Type 0

@@ -2,7 +2,9 @@ pub mod Faults
 pub mod Opened
 pub mod CommandLine
 pub mod Plans
+pub mod Recovered
 pub mod Replays
+pub mod Runs
 pub mod Sent
 pub mod Laws
 pub mod Jobs

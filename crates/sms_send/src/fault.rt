@@ -6,6 +6,7 @@ ghost use Rattle.sms_send.specs.Faults.{shown, shown_char};
 
 use sms_driver::SendFault;
 use sms_files::{InputFault, Source};
+use sms_recovery::RecoveryFault;
 use sms_report::OutputFault;
 use std::alloc::{AllocError, AllocFailed};
 use std::fmt;
@@ -35,6 +36,12 @@ pub enum Fault {
     BindRefused(u32, u32),
     /// The bind of this number failed otherwise, or there was no connection.
     BindFailed(u32),
+    /// The record of a journal, counted from 1, isn't one that may stand there.
+    BadNote(usize),
+    /// The record of a report, counted from 1, isn't one that may stand there.
+    BadReport(usize),
+    /// The journal can't be written, or what it notes takes more of an account than that has.
+    Journal,
     /// What is to be printed can't be written.
     Output,
     /// Memory was refused, or a thread; of a sending maybe once messages had gone out.
@@ -58,6 +65,9 @@ impl fmt::Display for Fault {
             Fault::BadKey(key) => write_named(f, "fault: config ", key.as_str()),
             Fault::BindRefused(bind, status) => write_refused(f, *bind, *status),
             Fault::BindFailed(bind) => write_failed(f, *bind),
+            Fault::BadNote(place) => write_record(f, "journal", *place),
+            Fault::BadReport(place) => write_record(f, "report", *place),
+            Fault::Journal => f.write_str("fault: journal"),
             Fault::Output => f.write_str("fault: output"),
             Fault::OutOfMemory => f.write_str("fault: out of memory"),
         }
@@ -205,6 +215,23 @@ impl From<OutputFault> for Fault {
         match fault {
             OutputFault::Output => Fault::Output,
             OutputFault::OutOfMemory => Fault::OutOfMemory,
+        }
+    }
+}
+
+impl From<RecoveryFault> for Fault {
+    ghost use Rattle.sms_send.specs.Faults.{told_recovery};
+
+    ghost from_gives = { λ fault f. f ≡ told_recovery fault };
+
+    fn from(fault: RecoveryFault) -> Fault {
+        match fault {
+            RecoveryFault::Input(fault) => Fault::from(fault),
+            RecoveryFault::Journal(place) => Fault::BadNote(place),
+            RecoveryFault::Overdrawn => Fault::Journal,
+            RecoveryFault::Report(place) => Fault::BadReport(place),
+            RecoveryFault::Output => Fault::Output,
+            RecoveryFault::OutOfMemory => Fault::OutOfMemory,
         }
     }
 }

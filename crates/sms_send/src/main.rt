@@ -3,17 +3,22 @@
 
 #![tactic(auto)]
 
+mod command_line;
 mod fault;
 mod job;
 pub mod laws;
 mod opened;
+mod order;
 mod plan;
 mod reading;
+mod recover_job;
 mod replay;
+mod run_files;
 mod send_job;
 mod sender;
 #[cfg(test)]
 mod tests;
+mod words;
 
 ghost use Rattle.std.specs.Prelude.{◌≡◌, ◌≢◌, ◌⊎◌, List, IfErr, IfOk, is_ok, map, string_bytes, if◌then◌else◌};
 ghost use Rattle.clap.specs.Words.{Text};
@@ -25,6 +30,7 @@ use crate::fault::Fault;
 use crate::job::{Job, job_of};
 use crate::opened::open;
 use crate::plan::run_plan;
+use crate::recover_job::{recover_job, rest_job};
 use crate::replay::run_replay;
 use crate::send_job::{Centre, send_job};
 use sms_devices::{Host, stand_ins};
@@ -98,8 +104,10 @@ fn do_job<R: Host + Net<Stream = TcpStream, Listener = TcpListener>, W: Write>(
         Job::Replay(None) => run_replay(rt.alloc(), rt.reader(), output),
         Job::Replay(Some(name)) => run_replay(rt.alloc(), open(rt, name)?, output),
         Job::Plan(name, long) => run_plan(rt.alloc(), open(rt, name)?, long, output),
-        Job::Loop(config, quiet) => send_job(rt, Centre::Own, config, quiet, output),
-        Job::Send(config, quiet) => send_job(rt, Centre::Named, config, quiet, output),
+        Job::Loop(order) => send_job(rt, Centre::Own, order, output),
+        Job::Send(order) => send_job(rt, Centre::Named, order, output),
+        Job::Recover(order) => recover_job(rt, order, output),
+        Job::Rest(order) => rest_job(rt, order, output),
     }
 }
 

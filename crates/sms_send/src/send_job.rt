@@ -8,6 +8,7 @@ ghost use Rattle.sms_send.specs.declared.fault.Fault.TheVariants.{Output};
 
 use crate::fault::Fault;
 use crate::opened::{octets_of, open, open_named};
+use crate::order::Order;
 use crate::reading::{read_input, setup_of};
 use crate::sender::{send_all, write_report};
 use sms_devices::{
@@ -74,15 +75,15 @@ pub fn run_sender<
 pub fn send_job<R: Host + Net<Stream = TcpStream, Listener = TcpListener>, W: Write>(
     rt: &R,
     centre: Centre,
-    config: String,
-    quiet: bool,
+    order: Order,
     output: &mut W,
 ) -> Result<u8, Fault>
     ensures sent { IfOk result (λ status. OfInput R.File.remaining (λ octets. SendsFiles R.File.remaining octets (W.contents output.old) (W.contents output.new) status)) }
     ensures status { IfOk result IsStatus }
-    ensures refused { IfErr result (TellsSent R.File.remaining centre config (W.contents output.old) (W.contents output.new)) }
+    ensures refused { IfErr result (TellsSent R.File.remaining centre order.config (W.contents output.old) (W.contents output.new)) }
     ensures unwritten { IfErr result (λ fault. fault ≢ Output → output.new ≡ output.old) }
 {
+    let Order { config, quiet } = order;
     let config = octets_of(rt, config)?;
     let Setup {
         accounts,

@@ -11,3 +11,4 @@ mod sending;
 mod simulator;
 mod told;
 mod trial;
+mod words;

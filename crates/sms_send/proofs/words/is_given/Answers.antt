@@ -3,7 +3,7 @@ use Rattle.std.specs.Prelude.{option_map}
 use Rattle.clap.specs.Words.{found_of}
 use Rattle.clap.proofs.WalkLemmas.{first_value-rows}
 use Rattle.sms_send.specs.CommandLine.{is_set}
-use Rattle.sms_send.proofs.job.is_given.Goals as goal
+use Rattle.sms_send.proofs.words.is_given.Goals as goal
 
 pub returns-in-Some : goal.returns-in-Some
 returns-in-Some c =

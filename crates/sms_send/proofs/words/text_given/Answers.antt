@@ -1,8 +1,8 @@
-use Rattle.std.proofs.Common.{rules, refl, sym, ◌≡◌, ◌∙◌, None, Some}
+use Rattle.std.proofs.Common.{rules, inr, refl, sym, ◌≡◌, ◌∙◌, None, Some}
 use Rattle.std.specs.Prelude.{option_map, string_bytes}
 use Rattle.clap.specs.Words.{found_of}
 use Rattle.clap.proofs.WalkLemmas.{first_value-rows}
-use Rattle.sms_send.proofs.job.text_given.Goals as goal
+use Rattle.sms_send.proofs.words.text_given.Goals as goal
 
 pub returns-in_ok-from_str-in-Some-clause-given : goal.returns-in_ok-from_str-in-Some-clause-given
 returns-in_ok-from_str-in-Some-clause-given c =
@@ -12,4 +12,4 @@ returns-in_ok-from_str-in-Some-clause-given c =
 pub returns-in-None-clause-missing : goal.returns-in-None-clause-missing
 returns-in-None-clause-missing c =
     let none : option_map (λ s. s.now) c.get_str.result ≡ None = rw c.in-None.is refl in
-    sym (c.get_str.ensures ∙ first_value-rows (found_of c.args.matches.now) c.args.word.now) ∙ none
+    inr (refl, sym (c.get_str.ensures ∙ first_value-rows (found_of c.args.matches.now) c.args.word.now) ∙ none)

@@ -1,0 +1,208 @@
+//! What the parser is told of the command line.
+
+ghost use Rattle.std.specs.Prelude.{◌≡◌, false, IfOk, IsOkAnd};
+ghost use Rattle.clap.specs.Words.{AddsSubcommand, App, Rule, app_of, new_app, rule_of, with_rule};
+ghost use Rattle.sms_send.specs.CommandLine.{IsLine, command_line as words_allowed, file_rule, flag_rule, name_rule, plan_line, program_line, recover_line, replay_line, rest_line, sender_line};
+
+use clap::{Arg, ArgAction, Command};
+use std::alloc::{AllocError, Global};
+
+/// The program's name, as its help and version have it.
+const NAME: &str = "sms-send";
+
+/// The program's version.
+const VERSION: &str = "0.1.0";
+
+/// What the parser is told of the command line.
+pub fn command_line<'a>(alloc: Global) -> Result<Command<'a>, AllocError>
+    ensures { IfOk result (λ command. app_of command ≡ words_allowed) }
+{
+    let program = program_command(alloc)?;
+    let replaying = with_subcommand(program, replay_command(alloc))?;
+    let planning = with_subcommand(replaying, plan_command(alloc))?;
+    let looping = sender_command(
+        alloc,
+        "loop",
+        "Sends the messages that the config names through a test centre in this process, and prints a report",
+    );
+    let either = with_subcommand(planning, looping)?;
+    let sending = sender_command(
+        alloc,
+        "send",
+        "Sends the messages that the config names to its message centre, and prints a report",
+    );
+    let three = with_subcommand(either, sending)?;
+    let four = with_subcommand(three, recover_command(alloc))?;
+    with_subcommand(four, rest_command(alloc))
+}
+
+/// The command with this subcommand too, where there was memory for both.
+//
+// What dies here is dropped by a call: behind a `?` each of its parts would die on a way of its own,
+// which the prover goes through.
+fn with_subcommand<'a>(
+    command: Command<'a>,
+    subcommand: Result<Command<'a>, AllocError>,
+) -> Result<Command<'a>, AllocError>
+    ensures { IfOk result (λ r. IsOkAnd subcommand.entry (λ s. AddsSubcommand command.entry s r)) }
+{
+    match subcommand {
+        Ok(subcommand) => command.subcommand(subcommand),
+        Err(error) => {
+            drop(command);
+            Err(error)
+        }
+    }
+}
+
+/// What the parser is told of the program before its subcommands.
+fn program_command<'a>(alloc: Global) -> Result<Command<'a>, AllocError>
+    ensures { IfOk result (λ command. app_of command ≡ program_line) }
+{
+    Command::new(alloc, NAME)
+        .about(
+            "Sends prepaid short messages over SMPP 3.4; with no words it replays the schedule on standard input",
+        )
+        .version(VERSION)
+        .no_binary_name(true)
+        .bin_name(NAME)
+}
+
+/// What the parser is told of `replay`.
+fn replay_command<'a>(alloc: Global) -> Result<Command<'a>, AllocError>
+    ensures { IfOk result (IsLine replay_line) }
+{
+    let begun = subcommand(
+        alloc,
+        "replay",
+        "Replays a schedule of events and prints what became of each",
+    );
+    with_argument(
+        Ok(begun),
+        name_argument(alloc, "FILE", "The schedule; - is standard input"),
+    )
+}
+
+/// What the parser is told of `plan`.
+fn plan_command<'a>(alloc: Global) -> Result<Command<'a>, AllocError>
+    ensures { IfOk result (IsLine plan_line) }
+{
+    let messages = file_option(alloc, "messages", "The messages file");
+    let long = flag(
+        alloc,
+        "long",
+        "Cuts for references of 16 bits, and not of 8",
+    );
+    let begun = subcommand(
+        alloc,
+        "plan",
+        "Prints how the text of each message is coded and cut into parts",
+    );
+    let filed = with_argument(Ok(begun), messages);
+    with_argument(filed, long)
+}
+
+/// What the parser is told of `recover`.
+fn recover_command<'a>(alloc: Global) -> Result<Command<'a>, AllocError>
+    ensures { IfOk result (IsLine recover_line) }
+{
+    let config = file_option(alloc, "config", "The config of the run");
+    let journal = file_option(alloc, "journal", "The journal of the run");
+    let begun = subcommand(
+        alloc,
+        "recover",
+        "Prints the report of a run that was cut off, by its journal",
+    );
+    let configured = with_argument(Ok(begun), config);
+    with_argument(configured, journal)
+}
+
+/// What the parser is told of `rest`.
+fn rest_command<'a>(alloc: Global) -> Result<Command<'a>, AllocError>
+    ensures { IfOk result (IsLine rest_line) }
+{
+    let config = file_option(alloc, "config", "The config of the run");
+    let report = file_option(alloc, "report", "The report of the run");
+    let accounts = flag(
+        alloc,
+        "accounts",
+        "Prints the accounts with what they have left, and not the messages",
+    );
+    let begun = subcommand(
+        alloc,
+        "rest",
+        "Prints the messages that a run did not send at all, by its report",
+    );
+    let configured = with_argument(Ok(begun), config);
+    let reported = with_argument(configured, report);
+    with_argument(reported, accounts)
+}
+
+/// What the parser is told of `loop` or of `send`.
+fn sender_command<'a>(
+    alloc: Global,
+    name: &'a str,
+    about: &'a str,
+) -> Result<Command<'a>, AllocError>
+    ensures { IfOk result (IsLine (sender_line name.now)) }
+{
+    let config = file_option(alloc, "config", "The config, which names the other files");
+    let quiet = flag(alloc, "quiet", "Tells nothing but faults on standard error");
+    let begun = with_argument(Ok(subcommand(alloc, name, about)), config);
+    with_argument(begun, quiet)
+}
+
+/// A subcommand before its arguments.
+fn subcommand<'a>(alloc: Global, name: &'a str, about: &'a str) -> Command<'a>
+    ensures { IsLine (new_app name.now) result }
+{
+    Command::new(alloc, name).about(about)
+}
+
+/// The command with this argument too, where there was memory for both.
+fn with_argument<'a>(
+    command: Result<Command<'a>, AllocError>,
+    argument: Arg<'a>,
+) -> Result<Command<'a>, AllocError>
+    requires local { argument.global ≡ false }
+    ensures { (line : App) → (rule : Rule) → rule_of argument.entry ≡ rule → IfOk command.entry (IsLine line) → IfOk result (IsLine (with_rule line rule)) }
+{
+    match command {
+        Ok(command) => command.arg(argument),
+        Err(error) => {
+            drop(argument);
+            Err(error)
+        }
+    }
+}
+
+/// A word that has to be given.
+fn name_argument<'a>(alloc: Global, name: &'a str, help: &'a str) -> Arg<'a>
+    ensures rule { rule_of result ≡ name_rule name.now }
+    ensures local { result.global ≡ false }
+{
+    Arg::new(alloc, name).required(true).help(help)
+}
+
+/// An option that has to be given a file.
+fn file_option<'a>(alloc: Global, name: &'a str, help: &'a str) -> Arg<'a>
+    ensures rule { rule_of result ≡ file_rule name.now }
+    ensures local { result.global ≡ false }
+{
+    Arg::new(alloc, name)
+        .long(name)
+        .value_name("FILE")
+        .required(true)
+        .help(help)
+}
+
+/// An option that is given or not.
+fn flag<'a>(alloc: Global, name: &'a str, help: &'a str) -> Arg<'a>
+    ensures rule { rule_of result ≡ flag_rule name.now }
+    ensures local { result.global ≡ false }
+{
+    Arg::new(alloc, name)
+        .long(name)
+        .action(ArgAction::SetTrue)
+        .help(help)
+}

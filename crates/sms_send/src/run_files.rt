@@ -1,0 +1,132 @@
+//! The files of a run as octets: those that its config names, and one that was written of it.
+
+ghost use Rattle.std.specs.Prelude.{◌≡◌, ◌⊎◌, IfErr, IfOk, IfSome, option_copied, option_map};
+ghost use Rattle.sms_send.specs.Opened.{OfInput};
+ghost use Rattle.sms_send.specs.Runs.{AreNamed, AreOpened, IsRun, TellsNamedFiles, TellsOpened, TellsRunFiles};
+ghost use Rattle.sms_send.specs.declared.fault.Fault.TheVariants.{OutOfMemory, Unreadable};
+
+use crate::fault::Fault;
+use crate::opened::{octets_of, open, open_named};
+use crate::reading::setup_of;
+use sms_files::{FileNames, Setup, Source};
+use std::alloc::Global;
+use std::io::{ErrorKind, Read};
+use std::rt::Files;
+
+/// The octets of the files that a config names; none of a tariff without a name.
+#[derive(Drop)]
+pub struct NamedFiles {
+    pub accounts: Vec<u8>,
+    pub messages: Vec<u8>,
+    pub tariff: Option<Vec<u8>>,
+}
+
+impl NamedFiles {
+    /// The octets of the tariff.
+    pub fn tariff(&self) -> Option<&[u8]>
+        ensures { option_copied result ≡ option_map (λ tariff. tariff.items) self.now.tariff }
+    {
+        match &self.tariff {
+            Some(tariff) => Some(tariff.as_slice()),
+            None => None,
+        }
+    }
+}
+
+/// The octets of a run's config, of the files that it names, and of what was written of the run: its
+/// journal, or its report.
+#[derive(Drop)]
+pub struct RunFiles {
+    pub config: Vec<u8>,
+    pub named: NamedFiles,
+    pub written: Vec<u8>,
+}
+
+/// Reads the config of this name, the files that it names, and then the file that was written of the run.
+pub fn read_run<R: AllocGlobal + Files>(
+    rt: &R,
+    config: String,
+    written: String,
+) -> Result<RunFiles, Fault>
+    ensures read { IfOk result (IsRun R.File.remaining) }
+    ensures refused { IfErr result (TellsRunFiles R.File.remaining config written) }
+{
+    let config = octets_of(rt, config)?;
+    let Setup {
+        accounts,
+        messages,
+        tariff,
+        ..
+    } = setup_of(rt.alloc(), config.as_slice())?;
+    let names = FileNames {
+        accounts,
+        messages,
+        tariff,
+    };
+    let named = read_named(rt, names)?;
+    let written = octets_of(rt, written)?;
+    Ok(RunFiles {
+        config,
+        named,
+        written,
+    })
+}
+
+/// Opens the files of these names, and then reads them.
+pub fn read_named<R: AllocGlobal + Files>(rt: &R, names: FileNames) -> Result<NamedFiles, Fault>
+    ensures read { IfOk result (AreNamed R.File.remaining names) }
+    ensures refused { IfErr result (TellsNamedFiles R.File names) }
+{
+    let accounts = open(rt, names.accounts)?;
+    let messages = open(rt, names.messages)?;
+    let tariff = open_named(rt, names.tariff)?;
+    read_opened(rt.alloc(), accounts, messages, tariff)
+}
+
+/// Reads these files to their ends, in this order.
+fn read_opened<F: Read + Drop>(
+    alloc: Global,
+    accounts: F,
+    messages: F,
+    tariff: Option<F>,
+) -> Result<NamedFiles, Fault>
+    ensures read { IfOk result (AreOpened F.remaining accounts messages tariff) }
+    ensures refused { IfErr result (TellsOpened tariff) }
+{
+    let accounts = match whole_of(alloc, accounts, Source::Accounts) {
+        Ok(octets) => octets,
+        Err(fault) => return Err(fault),
+    };
+    let messages = match whole_of(alloc, messages, Source::Messages) {
+        Ok(octets) => octets,
+        Err(fault) => return Err(fault),
+    };
+    match tariff {
+        Some(tariff) => match whole_of(alloc, tariff, Source::Tariff) {
+            Ok(octets) => Ok(NamedFiles {
+                accounts,
+                messages,
+                tariff: Some(octets),
+            }),
+            Err(fault) => Err(fault),
+        },
+        None => Ok(NamedFiles {
+            accounts,
+            messages,
+            tariff: None,
+        }),
+    }
+}
+
+/// The octets of a file that was opened.
+fn whole_of<F: Read + Drop>(alloc: Global, mut file: F, source: Source) -> Result<Vec<u8>, Fault>
+    ensures octets { IfOk result (λ octets. IfSome (F.remaining file) (λ bytes. octets.items ≡ bytes)) }
+    ensures refused { IfErr result (λ fault. (fault ≡ OutOfMemory) ⊎ (fault ≡ Unreadable source)) }
+{
+    let mut octets = Vec::new(alloc);
+    match file.read_to_end(&mut octets) {
+        Ok(_) => Ok(octets),
+        Err(error) if error.kind() == ErrorKind::OutOfMemory => Err(Fault::OutOfMemory),
+        Err(_unread) => Err(Fault::Unreadable(source)),
+    }
+}
