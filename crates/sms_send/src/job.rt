@@ -135,11 +135,7 @@ fn job_asked(alloc: Global, subcommand: Subcommand, found: &ArgMatches<'_>) -> R
 }
 
 /// The names of the config and of the file of this other option.
-fn names_of(
-    alloc: Global,
-    found: &ArgMatches<'_>,
-    other: &str,
-) -> Result<(String, String), Fault>
+fn names_of(alloc: Global, found: &ArgMatches<'_>, other: &str) -> Result<(String, String), Fault>
     ensures names { IfOk result (λ names. HasNames other.now (rows_of (found_of found.now)) names.0 names.1) }
     ensures refused { IfErr result (TellsFor (LacksName other.now (rows_of (found_of found.now)))) }
 {

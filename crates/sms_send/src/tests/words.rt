@@ -56,11 +56,17 @@ const READ: [(&str, &str); 54] = [
     ("recover --config c --journal j --quiet", "fault: words"),
     ("recover --config c --report r", "fault: words"),
     ("rest --config c --report r", "rest of r"),
-    ("rest --accounts --config c --report r", "accounts left of r"),
+    (
+        "rest --accounts --config c --report r",
+        "accounts left of r",
+    ),
     ("rest --config c", "fault: words"),
     ("rest --report r", "fault: words"),
     ("rest --config c --journal j", "fault: words"),
-    ("rest --config c --report r --accounts --accounts", "fault: words"),
+    (
+        "rest --config c --report r --accounts --accounts",
+        "fault: words",
+    ),
     ("plan --messages x --report r", "fault: words"),
     ("send --config c --journal j", "fault: words"),
 ];

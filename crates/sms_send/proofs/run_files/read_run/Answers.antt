@@ -23,8 +23,8 @@ returns-in_err-written-clause-refused g c =
     (elim c.in_err-written.ensures.refused [
       | inl memory ↦ inl memory
       | inr named ↦ inr (inr (of_config g.R.File.Read.remaining _ _ _ c.in_ok-accounts.field-0
-      (λ names octets. TellsNamedFiles g.row.R-File.Denot names fault ⊎ (fault ≡ File c.args.written)) (λ octets. TellsConfigured g.row.R-File.Denot c.args.written octets fault)
-      c.in_ok-config.ensures.octets c.as_slice.ensures.value refl c.in_ok-accounts.ensures.setup (λ octets so. inr so) (inr named)))
+          (λ names octets. TellsNamedFiles g.row.R-File.Denot names fault ⊎ (fault ≡ File c.args.written)) (λ octets. TellsConfigured g.row.R-File.Denot c.args.written octets fault)
+          c.in_ok-config.ensures.octets c.as_slice.ensures.value refl c.in_ok-accounts.ensures.setup (λ octets so. inr so) (inr named)))
     ])
 
 pub returns-clause-read : goal.returns-clause-read
