@@ -4,6 +4,7 @@ pub mod Covering
 pub mod Jobs
 pub mod Lines
 pub mod Names
+pub mod Noting
 pub mod Plans
 pub mod Replaying
 pub mod Runs

@@ -1,5 +1,5 @@
 -- The command line, in the words of the parser, and the job that it asks for.
-use Rattle.std.specs.Prelude.{◌≡◌, ◌≢◌, ◌⊎◌, String, Bool, true, false, List, [], ◌∷◌, Option, Some, None, codes, option_and_then, option_map, if◌then◌else◌}
+use Rattle.std.specs.Prelude.{◌≡◌, ◌≢◌, ◌⊎◌, nat_le, ℕ, String, Bool, true, false, List, [], ◌∷◌, Option, Some, None, codes, option_and_then, option_map, if◌then◌else◌}
 use Rattle.std.specs.Str.{bytes_eq}
 use Rattle.std.specs.String.{string_bytes}
 use Rattle.std.specs.declared.alloc.Global.{Global}
@@ -9,12 +9,15 @@ use Rattle.clap.specs.declared.builder.Command.TheViews.{out-Command as fields_o
 use Rattle.clap.specs.declared.builder.action.ArgAction.TheVariants.{SetTrue}
 use Rattle.clap.specs.declared.error.kind.ErrorKind.{ErrorKind}
 use Rattle.clap.specs.declared.error.kind.ErrorKind.TheVariants as kind
+use Rattle.sms_core.specs.Decimal.{decimal_in}
 use Rattle.sms_send.specs.declared.fault.Fault.{Fault}
 use Rattle.sms_send.specs.declared.fault.Fault.TheVariants.{Words, Help, Version, OutOfMemory}
 use Rattle.sms_send.specs.declared.job.Job.{Job}
 use Rattle.sms_send.specs.declared.job.Job.TheVariants.{Loop, Plan, Recover, Replay, Rest, Send}
 use Rattle.sms_send.specs.declared.job.Subcommand.{Subcommand}
+use Rattle.sms_send.specs.declared.order.JournalFile.{JournalFile}
 use Rattle.sms_send.specs.declared.order.Order.{Order}
+use Rattle.sms_send.specs.declared.order.Pace.{Pace}
 use Rattle.sms_send.specs.declared.job.Subcommand.TheVariants as sub
 
 -- a subcommand with these arguments more, in this order
@@ -26,12 +29,16 @@ with_rules app (rule ∷ rules) = with_rules (with_rule app rule) rules
 abbrev pub IsLine : App → Command → Type 0
 IsLine line command = (app_of command ≡ line) × ((fields_of command).has_globals ≡ false)
 
--- a word that has to be given, an option that has to be given a file, and one that is given or not
+-- a word that has to be given, an option that has to be given a file, one that may be given a value, and one that is given
+-- or not
 abbrev pub name_rule : Text → Rule
 name_rule name = record (new_rule name) { required = true }
 
 abbrev pub file_rule : Text → Rule
 file_rule name = record (new_rule name) { long = Some name; value_names = 1; required = true }
+
+abbrev pub value_rule : Text → Rule
+value_rule name = record (new_rule name) { long = Some name; value_names = 1 }
 
 abbrev pub flag_rule : Text → Rule
 flag_rule name = record (new_rule name) { long = Some name; action = Some SetTrue }
@@ -44,9 +51,15 @@ replay_line = with_rule (new_app (codes "replay")) (name_rule (codes "FILE"))
 abbrev pub plan_line : App
 plan_line = with_rules (new_app (codes "plan")) (file_rule (codes "messages") ∷ flag_rule (codes "long") ∷ [])
 
--- `loop --config FILE` or `send --config FILE`, with `--quiet` or without
+-- what bounds a sending
+abbrev pub pace_rules : List Rule
+pace_rules = value_rule (codes "connect-ms") ∷ value_rule (codes "rate") ∷ value_rule (codes "stop-after") ∷ []
+
+-- `loop --config FILE` or `send --config FILE`, with the other words or without
 abbrev pub sender_line : Text → App
-sender_line name = with_rules (new_app name) (file_rule (codes "config") ∷ flag_rule (codes "quiet") ∷ [])
+sender_line name = with_rules
+    (with_rules (new_app name) (file_rule (codes "config") ∷ flag_rule (codes "quiet") ∷ value_rule (codes "journal") ∷ flag_rule (codes "sync") ∷ []))
+    pace_rules
 
 -- `recover --config FILE --journal FILE`, and `rest --config FILE --report FILE`, with `--accounts` or without
 abbrev pub recover_line : App
@@ -99,10 +112,35 @@ abbrev pub is_set : Option Text → Bool
 is_set None = false
 is_set (Some value) = bytes_eq value (codes "true")
 
--- the sending that the matches of a sender ask for
+-- the number that a text spells, from 1 to so much
+abbrev pub at_least_one : ℕ → Option ℕ
+at_least_one number = if nat_le 1 number then Some number else None
+
+abbrev pub number_in : ℕ → Text → Option ℕ
+number_in most text = option_and_then at_least_one (decimal_in most text)
+
+-- what an option says of a number that needn't be given; nothing where its text spells none in range
+abbrev pub number_of : ℕ → Option Text → Option (Option ℕ)
+number_of most None = Some None
+number_of most (Some text) = option_map (λ number. Some number) (number_in most text)
+
+-- the journal that the matches of a sender ask for
+abbrev pub AsksToNote : List Row → Option JournalFile → Type 0
+AsksToNote rows None = (first_of (codes "journal") rows ≡ None) × (is_set (first_of (codes "sync") rows) ≡ false)
+AsksToNote rows (Some file) = (first_of (codes "journal") rows ≡ Some (string_bytes file.name)) × (is_set (first_of (codes "sync") rows) ≡ file.sync)
+
+-- what they say bounds the sending
+pub record HasPace (rows : List Row) (pace : Pace) : Type 0 where
+  pub connect_ms : number_of 600000 (first_of (codes "connect-ms") rows) ≡ Some pace.connect_ms
+  pub rate : number_of 100000 (first_of (codes "rate") rows) ≡ Some pace.rate
+  pub stop_after : number_of 1000000 (first_of (codes "stop-after") rows) ≡ Some pace.stop_after
+
+-- the sending that they ask for
 pub record AsksToSend (rows : List Row) (order : Order) : Type 0 where
   pub config : first_of (codes "config") rows ≡ Some (string_bytes order.config)
   pub quiet : is_set (first_of (codes "quiet") rows) ≡ order.quiet
+  pub journal : AsksToNote rows order.journal
+  pub pace : HasPace rows order.pace
 
 -- the names of the config and of the file of this other option
 abbrev pub HasNames : Text → List Row → String Global → String Global → Type 0
@@ -128,16 +166,31 @@ IsJob (Some found) job = (s : Subcommand) × (subcommand_named found.0 ≡ Some 
 abbrev pub TellsFor : Type 0 → Fault → Type 0
 TellsFor reason fault = (fault ≡ OutOfMemory) ⊎ ((fault ≡ Words) × reason)
 
+-- the disk is to have a journal that isn't asked for
+abbrev pub IsWrongSync : List Row → Type 0
+IsWrongSync rows = (first_of (codes "journal") rows ≡ None) × (is_set (first_of (codes "sync") rows) ≡ true)
+
+-- a number is out of range
+abbrev pub IsWrongPace : List Row → Type 0
+IsWrongPace rows =
+    (number_of 600000 (first_of (codes "connect-ms") rows) ≡ None)
+    ⊎ (number_of 100000 (first_of (codes "rate") rows) ≡ None)
+    ⊎ (number_of 1000000 (first_of (codes "stop-after") rows) ≡ None)
+
+-- what is wrong with the matches of a sender
+abbrev pub IsRefusedOrder : List Row → Type 0
+IsRefusedOrder rows = (first_of (codes "config") rows ≡ None) ⊎ IsWrongSync rows ⊎ IsWrongPace rows
+
 -- the name of the config or of the file of this other option is missing
 abbrev pub LacksName : Text → List Row → Type 0
 LacksName other rows = (first_of (codes "config") rows ≡ None) ⊎ (first_of other rows ≡ None)
 
--- what is wrong with the matches of a subcommand that asks for no job: a name is missing
+-- what is wrong with the matches of a subcommand that asks for no job: a name is missing, or it is a sender's
 abbrev pub IsRefused : Subcommand → List Row → Type 0
 IsRefused sub.Replay rows = first_of (codes "FILE") rows ≡ None
 IsRefused sub.Plan rows = first_of (codes "messages") rows ≡ None
-IsRefused sub.Loop rows = first_of (codes "config") rows ≡ None
-IsRefused sub.Send rows = first_of (codes "config") rows ≡ None
+IsRefused sub.Loop rows = IsRefusedOrder rows
+IsRefused sub.Send rows = IsRefusedOrder rows
 IsRefused sub.Recover rows = LacksName (codes "journal") rows
 IsRefused sub.Rest rows = LacksName (codes "report") rows
 

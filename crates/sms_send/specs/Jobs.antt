@@ -12,7 +12,7 @@ use Rattle.sms_send.specs.Plans.{TellsPlan}
 use Rattle.sms_send.specs.Recovered.{PrintsLeft, RecoversRun, TellsRecoverJob, TellsRestJob}
 use Rattle.sms_send.specs.Replays.{Replays, TellsReplay}
 use Rattle.sms_send.specs.Runs.{IsRun}
-use Rattle.sms_send.specs.Sent.{SendsFiles, TellsSent}
+use Rattle.sms_send.specs.Noted.{SendsBy, TellsOrder}
 use Rattle.sms_send.specs.declared.fault.Fault.{Fault}
 use Rattle.sms_send.specs.declared.fault.Fault.TheVariants.{File}
 use Rattle.sms_send.specs.declared.job.Job.{Job}
@@ -41,8 +41,8 @@ abbrev pub Does : {S F : Type 0} → (S → Told) → (F → Told) → Job → O
 Does standard file (Replay None) old new status = OfInput standard (λ bytes. Replays bytes old new)
 Does standard file (Replay (Some name)) old new status = OfInput file (λ bytes. Replays bytes old new)
 Does standard file (Plan name long) old new status = OfInput file (λ bytes. Plans long bytes old new)
-Does standard file (Loop order) old new status = OfInput file (λ octets. SendsFiles file octets old new status)
-Does standard file (Send order) old new status = OfInput file (λ octets. SendsFiles file octets old new status)
+Does standard file (Loop order) old new status = OfInput file (λ octets. SendsBy file order.journal octets old new status)
+Does standard file (Send order) old new status = OfInput file (λ octets. SendsBy file order.journal octets old new status)
 Does standard file (Recover order) old new status = (run : RunFiles) × IsRun file run × RecoversRun run old new status
 Does standard file (Rest order) old new status = (run : RunFiles) × IsRun file run × PrintsLeft order.accounts run old new
 
@@ -51,8 +51,8 @@ abbrev pub TellsJob : {S F : Type 0} → (S → Told) → (F → Told) → Job �
 TellsJob standard file (Replay None) old new fault = OfInput standard (λ bytes. TellsReplay (records_of bytes) fault)
 TellsJob standard file (Replay (Some name)) old new fault = (fault ≡ File name) ⊎ OfInput file (λ bytes. TellsReplay (records_of bytes) fault)
 TellsJob standard file (Plan name long) old new fault = (fault ≡ File name) ⊎ OfInput file (λ bytes. TellsPlan (records_of bytes) fault)
-TellsJob standard file (Loop order) old new fault = TellsSent file Own order.config old new fault
-TellsJob standard file (Send order) old new fault = TellsSent file Named order.config old new fault
+TellsJob standard file (Loop order) old new fault = TellsOrder file Own order old new fault
+TellsJob standard file (Send order) old new fault = TellsOrder file Named order old new fault
 TellsJob standard file (Recover order) old new fault = TellsRecoverJob file order old new fault
 TellsJob standard file (Rest order) old new fault = TellsRestJob file order old new fault
 

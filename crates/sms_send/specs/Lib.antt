@@ -7,4 +7,5 @@ pub mod Replays
 pub mod Runs
 pub mod Sent
 pub mod Laws
+pub mod Noted
 pub mod Jobs

@@ -2,7 +2,7 @@
 
 ghost use Rattle.std.specs.Prelude.{◌≡◌, false, IfOk, IsOkAnd};
 ghost use Rattle.clap.specs.Words.{AddsSubcommand, App, Rule, app_of, new_app, rule_of, with_rule};
-ghost use Rattle.sms_send.specs.CommandLine.{IsLine, command_line as words_allowed, file_rule, flag_rule, name_rule, plan_line, program_line, recover_line, replay_line, rest_line, sender_line};
+ghost use Rattle.sms_send.specs.CommandLine.{IsLine, command_line as words_allowed, file_rule, flag_rule, name_rule, pace_rules, plan_line, program_line, recover_line, replay_line, rest_line, sender_line, value_rule, with_rules};
 
 use clap::{Arg, ArgAction, Command};
 use std::alloc::{AllocError, Global};
@@ -148,8 +148,52 @@ fn sender_command<'a>(
 {
     let config = file_option(alloc, "config", "The config, which names the other files");
     let quiet = flag(alloc, "quiet", "Tells nothing but faults on standard error");
+    let journal = value_option(
+        alloc,
+        "journal",
+        "FILE",
+        "Notes what is sent and heard in this file, which must not be there yet",
+    );
+    let sync = flag(
+        alloc,
+        "sync",
+        "Sends nothing that the disk doesn't have in the journal",
+    );
     let begun = with_argument(Ok(subcommand(alloc, name, about)), config);
-    with_argument(begun, quiet)
+    let quieted = with_argument(begun, quiet);
+    let noted = with_argument(quieted, journal);
+    let synced = with_argument(noted, sync);
+    with_pace(alloc, synced)
+}
+
+/// The command with the options of its pace too.
+fn with_pace<'a>(
+    alloc: Global,
+    command: Result<Command<'a>, AllocError>,
+) -> Result<Command<'a>, AllocError>
+    ensures { (line : App) → IfOk command.entry (IsLine line) → IfOk result (IsLine (with_rules line pace_rules)) }
+{
+    let connect = value_option(
+        alloc,
+        "connect-ms",
+        "N",
+        "How many milliseconds it may take to connect and to bind, 1 to 600000",
+    );
+    let rate = value_option(
+        alloc,
+        "rate",
+        "N",
+        "How many requests a bind sends in a second at the most, 1 to 100000",
+    );
+    let stop = value_option(
+        alloc,
+        "stop-after",
+        "N",
+        "After how many unanswered requests in a row a bind goes down, 1 to 1000000",
+    );
+    let connected = with_argument(command, connect);
+    let rated = with_argument(connected, rate);
+    with_argument(rated, stop)
 }
 
 /// A subcommand before its arguments.
@@ -193,6 +237,17 @@ fn file_option<'a>(alloc: Global, name: &'a str, help: &'a str) -> Arg<'a>
         .long(name)
         .value_name("FILE")
         .required(true)
+        .help(help)
+}
+
+/// An option that may be given a value.
+fn value_option<'a>(alloc: Global, name: &'a str, value: &'a str, help: &'a str) -> Arg<'a>
+    ensures rule { rule_of result ≡ value_rule name.now }
+    ensures local { result.global ≡ false }
+{
+    Arg::new(alloc, name)
+        .long(name)
+        .value_name(value)
         .help(help)
 }
 

@@ -1,17 +1,26 @@
 //! What the command line asks for.
 
-ghost use Rattle.std.specs.Prelude.{◌≡◌, ◌≢◌, ◌↔◌, [], None, Some, codes, IfErr, IfOk, OnOk, map, string_bytes};
-ghost use Rattle.clap.specs.Words.{HasKind, Kinds, first_of, found_of, kind_of, rows_of, subcommand_rows_of};
-ghost use Rattle.sms_send.specs.CommandLine.{AsksFor, AsksToSend, HasNames, IsJob, IsRefused, LacksName, TellsFor, TellsMet, TellsRefusal, TellsWords, bytes_of, file_named, refusals_of, subcommand_in, subcommand_named as named};
+ghost use Rattle.std.specs.Prelude.{◌≡◌, ◌≢◌, ◌↔◌, [], None, Some, IfErr, IfOk, IfSome, OnOk, map, string_bytes};
+ghost use Rattle.clap.specs.Words.{HasKind, Kinds, found_of, kind_of, rows_of, subcommand_rows_of};
+ghost use Rattle.sms_send.specs.CommandLine.{AsksFor, AsksToNote, AsksToSend, HasNames, HasPace, IsJob, IsRefused, IsRefusedOrder, IsWrongPace, IsWrongSync, LacksName, TellsFor, TellsMet, TellsRefusal, TellsWords, bytes_of, file_named, refusals_of, subcommand_in, subcommand_named as named};
 ghost use Rattle.sms_send.specs.declared.fault.Fault.TheVariants.{OutOfMemory, Words};
 
 use crate::command_line::command_line;
 use crate::fault::Fault;
-use crate::order::{Order, RecoverOrder, RestOrder};
-use crate::words::{is_given, text_given};
+use crate::order::{JournalFile, Order, Pace, RecoverOrder, RestOrder};
+use crate::words::{is_given, number_given, text_given, text_if_given};
 use clap::error::ErrorKind;
 use clap::{ArgMatches, Error};
 use std::alloc::Global;
+
+/// The most milliseconds until a bind has to be made.
+const MOST_CONNECT_MS: u64 = 600_000;
+
+/// The most requests a second.
+const MOST_RATE: u64 = 100_000;
+
+/// The most unanswered requests in a row.
+const MOST_UNANSWERED: u64 = 1_000_000;
 
 /// What the program is asked to do.
 #[derive(Debug, Drop)]
@@ -155,15 +164,53 @@ fn names_of(alloc: Global, found: &ArgMatches<'_>, other: &str) -> Result<(Strin
 /// What `loop` or `send` is asked for.
 fn order_of(alloc: Global, found: &ArgMatches<'_>) -> Result<Order, Fault>
     ensures order { IfOk result (AsksToSend (rows_of (found_of found.now))) }
-    ensures refused { IfErr result (TellsFor (first_of (codes "config") (rows_of (found_of found.now)) ≡ None)) }
+    ensures refused { IfErr result (TellsFor (IsRefusedOrder (rows_of (found_of found.now)))) }
 {
+    let Some(pace) = pace_of(found) else {
+        return Err(Fault::Words);
+    };
+    let journal = match journal_of(alloc, found) {
+        Ok(journal) => journal,
+        Err(fault) => return Err(fault),
+    };
     match text_given(alloc, found, "config") {
         Ok(config) => Ok(Order {
             config,
             quiet: is_given(found, "quiet"),
+            journal,
+            pace,
         }),
+        Err(fault) => {
+            drop(journal);
+            Err(fault)
+        }
+    }
+}
+
+/// The journal that is asked for. That the disk has it can't be asked of none.
+fn journal_of(alloc: Global, found: &ArgMatches<'_>) -> Result<Option<JournalFile>, Fault>
+    ensures journal { IfOk result (AsksToNote (rows_of (found_of found.now))) }
+    ensures refused { IfErr result (TellsFor (IsWrongSync (rows_of (found_of found.now)))) }
+{
+    let sync = is_given(found, "sync");
+    match text_if_given(alloc, found, "journal") {
+        Ok(Some(name)) => Ok(Some(JournalFile { name, sync })),
+        Ok(None) if sync => Err(Fault::Words),
+        Ok(None) => Ok(None),
         Err(fault) => Err(fault),
     }
+}
+
+/// What bounds a sending; none where a number is out of range.
+fn pace_of(found: &ArgMatches<'_>) -> Option<Pace>
+    ensures pace { IfSome result (HasPace (rows_of (found_of found.now))) }
+    ensures refused { result ≡ None → IsWrongPace (rows_of (found_of found.now)) }
+{
+    Some(Pace {
+        connect_ms: number_given(found, "connect-ms", MOST_CONNECT_MS)?,
+        rate: number_given(found, "rate", MOST_RATE)?,
+        stop_after: number_given(found, "stop-after", MOST_UNANSWERED)?,
+    })
 }
 
 /// The file of this name; `-` is standard input, which is none.

@@ -7,6 +7,7 @@ mod command_line;
 mod fault;
 mod job;
 pub mod laws;
+mod noted;
 mod opened;
 mod order;
 mod plan;
@@ -16,6 +17,7 @@ mod replay;
 mod run_files;
 mod send_job;
 mod sender;
+mod sending;
 #[cfg(test)]
 mod tests;
 mod words;
@@ -24,7 +26,7 @@ ghost use Rattle.std.specs.Prelude.{◌≡◌, ◌≢◌, ◌⊎◌, List, IfErr
 ghost use Rattle.clap.specs.Words.{Text};
 ghost use Rattle.sms_send.specs.Faults.{status_of};
 ghost use Rattle.sms_send.specs.Jobs.{Does, IsStatusOf, TellsJob, TellsRun, Works};
-ghost use Rattle.sms_send.specs.declared.fault.Fault.TheVariants.{Output, OutOfMemory, Words};
+ghost use Rattle.sms_send.specs.declared.fault.Fault.TheVariants.{Journal, Output, OutOfMemory, Words};
 
 use crate::fault::Fault;
 use crate::job::{Job, job_of};
@@ -56,7 +58,7 @@ fn run<R: Host + Net<Stream = TcpStream, Listener = TcpListener>, W: Write>(
     output: &mut W,
 ) -> Result<u8, Fault>
     ensures done { IfOk result (λ status. (words : List Text) × Works R.Reader.remaining R.File.remaining words status (W.contents output.old) (W.contents output.new)) }
-    ensures unwritten { IfErr result (λ fault. fault ≢ Output → output.new ≡ output.old) }
+    ensures unwritten { IfErr result (λ fault. fault ≢ Output → fault ≢ Journal → output.new ≡ output.old) }
 {
     let words = words_of(rt)?;
     do_words(rt, words.as_slice(), output)
@@ -81,7 +83,7 @@ fn do_words<R: Host + Net<Stream = TcpStream, Listener = TcpListener>, W: Write>
 ) -> Result<u8, Fault>
     ensures done { IfOk result (λ status. Works R.Reader.remaining R.File.remaining (map string_bytes words.now) status (W.contents output.old) (W.contents output.new)) }
     ensures refused { IfErr result (TellsRun R.Reader.remaining R.File.remaining (map string_bytes words.now) (W.contents output.old) (W.contents output.new)) }
-    ensures unwritten { IfErr result (λ fault. fault ≢ Output → output.new ≡ output.old) }
+    ensures unwritten { IfErr result (λ fault. fault ≢ Output → fault ≢ Journal → output.new ≡ output.old) }
 {
     match job_of(rt.alloc(), words) {
         Ok(job) => do_job(rt, job, output),
@@ -98,7 +100,7 @@ fn do_job<R: Host + Net<Stream = TcpStream, Listener = TcpListener>, W: Write>(
     ensures status { IfOk result (IsStatusOf job) }
     ensures done { IfOk result (Does R.Reader.remaining R.File.remaining job (W.contents output.old) (W.contents output.new)) }
     ensures refused { IfErr result (TellsJob R.Reader.remaining R.File.remaining job (W.contents output.old) (W.contents output.new)) }
-    ensures unwritten { IfErr result (λ fault. fault ≢ Output → output.new ≡ output.old) }
+    ensures unwritten { IfErr result (λ fault. fault ≢ Output → fault ≢ Journal → output.new ≡ output.old) }
 {
     match job {
         Job::Replay(None) => run_replay(rt.alloc(), rt.reader(), output),

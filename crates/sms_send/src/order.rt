@@ -7,6 +7,19 @@ pub struct Order {
     pub config: String,
     /// Whether nothing but a fault is told on standard error.
     pub quiet: bool,
+    /// Where it is noted what is sent and what is heard; nowhere without the word.
+    pub journal: Option<JournalFile>,
+    /// How long is waited for the binds, and how fast and how far is sent.
+    pub pace: Pace,
+}
+
+/// The journal that a sending is to write.
+#[derive(Debug, Drop)]
+pub struct JournalFile {
+    /// The name of its file, which is made new.
+    pub name: String,
+    /// Whether the disk has it before a request goes out.
+    pub sync: bool,
 }
 
 /// A report by a journal as the command line asks for it.
@@ -27,4 +40,15 @@ pub struct RestOrder {
     pub report: String,
     /// Whether the accounts are asked for, and not the messages.
     pub accounts: bool,
+}
+
+/// What bounds a sending. Without its word nothing does.
+#[derive(Clone, Copy, Debug, PartialEq, Eq)]
+pub struct Pace {
+    /// How many milliseconds it may take to connect and to bind, 1 to 600,000.
+    pub connect_ms: Option<u32>,
+    /// How many requests a bind sends in a second at the most, 1 to 100,000.
+    pub rate: Option<u32>,
+    /// After how many unanswered requests in a row a bind goes down, 1 to 1,000,000.
+    pub stop_after: Option<u32>,
 }

@@ -6,7 +6,7 @@ use super::told::told_of;
 use crate::do_job;
 use crate::fault::Fault;
 use crate::job::Job;
-use crate::order::Order;
+use crate::order::{Order, Pace};
 use crate::replay::run_replay;
 use std::alloc::Global;
 use std::io::{Read, Write};
@@ -142,11 +142,20 @@ fn tells_a_broken_schedule(rt: HostRuntime) -> Result<(), Fail> {
     Ok(())
 }
 
+// What bounds nothing.
+const UNBOUND: Pace = Pace {
+    connect_ms: None,
+    rate: None,
+    stop_after: None,
+};
+
 // A sending by this config, of which nothing but a fault is told.
 fn quiet_order(config: String) -> Order {
     Order {
         config,
         quiet: true,
+        journal: None,
+        pace: UNBOUND,
     }
 }
 

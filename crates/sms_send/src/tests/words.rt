@@ -3,12 +3,13 @@
 use super::same::same;
 use crate::fault::Fault;
 use crate::job::{Job, job_of};
+use crate::order::{JournalFile, Order};
 use std::alloc::Global;
 use std::process::Abort;
 use std::test::Fail;
 
 /// Words, and the file of the job, or the text of the fault.
-const READ: [(&str, &str); 54] = [
+const READ: [(&str, &str); 56] = [
     ("", "standard input"),
     ("replay -", "standard input"),
     ("replay events.csv", "events.csv"),
@@ -68,7 +69,9 @@ const READ: [(&str, &str); 54] = [
         "fault: words",
     ),
     ("plan --messages x --report r", "fault: words"),
-    ("send --config c --journal j", "fault: words"),
+    ("plan --messages x --journal y", "fault: words"),
+    ("replay --rate 5 x", "fault: words"),
+    ("send --journal y", "fault: words"),
 ];
 
 // The words of a line.
@@ -141,6 +144,101 @@ fn reads_the_words(rt: HostRuntime) {
     }
 }
 
+/// Words behind `--config c.toml`, and what they ask for beside it: the journal, whether it is synced, and
+/// the three numbers, 0 where there is none; or nothing where they are refused.
+const ORDERED: [(&str, Option<(&str, bool, [u32; 3])>); 33] = [
+    ("", Some(("", false, [0, 0, 0]))),
+    ("--journal j.csv", Some(("j.csv", false, [0, 0, 0]))),
+    ("--journal=j.csv --sync", Some(("j.csv", true, [0, 0, 0]))),
+    ("--sync --journal -", Some(("-", true, [0, 0, 0]))),
+    ("--sync", None),
+    ("--journal", None),
+    ("--journal a --journal b", None),
+    ("--journal a --sync --sync", None),
+    ("--journal a --sync=true", None),
+    ("--connect-ms 1", Some(("", false, [1, 0, 0]))),
+    ("--connect-ms 600000", Some(("", false, [600_000, 0, 0]))),
+    ("--connect-ms 600001", None),
+    ("--connect-ms 0", None),
+    ("--connect-ms", None),
+    ("--connect-ms 5 --connect-ms 5", None),
+    ("--connect-ms +5", None),
+    ("--connect-ms=-5", None),
+    ("--connect-ms 5ms", None),
+    ("--connect-ms 1.5", None),
+    ("--connect-ms 4294967297", None),
+    ("--connect-ms 18446744073709551617", None),
+    (
+        "--connect-ms 00000000000000000007",
+        Some(("", false, [7, 0, 0])),
+    ),
+    ("--connect-ms 000000000000000000007", None),
+    ("--rate 1", Some(("", false, [0, 1, 0]))),
+    ("--rate=100000", Some(("", false, [0, 100_000, 0]))),
+    ("--rate 100001", None),
+    ("--rate 0", None),
+    ("--stop-after 1", Some(("", false, [0, 0, 1]))),
+    ("--stop-after 1000000", Some(("", false, [0, 0, 1_000_000]))),
+    ("--stop-after 1000001", None),
+    ("--stop-after 0", None),
+    (
+        "--stop-after 3 --rate 2 --connect-ms 1 --sync --journal j",
+        Some(("j", true, [1, 2, 3])),
+    ),
+    ("--frob", None),
+];
+
+// The sending that a job asks for.
+fn order_in(rt: &impl Abort, job: Job) -> Order {
+    match job {
+        Job::Loop(order) | Job::Send(order) => order,
+        _ => panic!(rt; "another job"),
+    }
+}
+
+// What a journal is called, and whether it is synced.
+fn journal_in(journal: &Option<JournalFile>) -> (&str, bool) {
+    match journal {
+        Some(file) => (file.name.as_str(), file.sync),
+        None => ("", false),
+    }
+}
+
+// That the sending is asked for so.
+fn want_order(rt: &impl Abort, order: &Order, wanted: (&str, bool, [u32; 3])) {
+    let (name, sync) = journal_in(&order.journal);
+    let pace = order.pace;
+    let numbers = [
+        pace.connect_ms.unwrap_or(0),
+        pace.rate.unwrap_or(0),
+        pace.stop_after.unwrap_or(0),
+    ];
+    same(rt, (name, sync, numbers), wanted);
+    same(rt, order.config.as_str(), "c.toml");
+}
+
+// That this is read of the words.
+fn want_ordered(rt: &impl Abort, read: Result<Job, Fault>, wanted: Option<(&str, bool, [u32; 3])>) {
+    match (read, wanted) {
+        (Ok(job), Some(wanted)) => want_order(rt, &order_in(rt, job), wanted),
+        (Err(fault), None) => same(rt, fault.exit_status(), 2),
+        _ => panic!(rt; "read otherwise"),
+    }
+}
+
+#[test]
+fn reads_what_bounds_a_sending(rt: HostRuntime) {
+    for (line, wanted) in &ORDERED {
+        for name in ["loop", "send"] {
+            let Ok(whole) = format!(in rt.alloc(); "{name} --config c.toml {line}") else {
+                panic!(rt; "no memory")
+            };
+            let words = words_of(&rt, whole.as_str());
+            want_ordered(&rt, job_of(rt.alloc(), words.as_slice()), *wanted);
+        }
+    }
+}
+
 /// The fault that these words are answered with.
 fn answer_to(alloc: Global, words: &str) -> Result<Fault, Fail> {
     let mut given = Vec::new(alloc);
@@ -158,8 +256,8 @@ fn gives_help_and_version(rt: HostRuntime) -> Result<(), Fail> {
         ("loop --help", "Usage: sms-send loop"),
         ("send -h", "Usage: sms-send send"),
         ("help send", "--quiet"),
-        ("help recover", "--journal <FILE>"),
-        ("help rest", "--accounts"),
+        ("help loop", "--journal <FILE>"),
+        ("help send", "--connect-ms <N>"),
         ("help replay", "Usage: sms-send replay"),
     ] {
         let fault = answer_to(rt.alloc(), words)?;

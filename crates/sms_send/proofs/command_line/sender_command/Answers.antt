@@ -3,4 +3,7 @@ use Rattle.sms_send.proofs.command_line.sender_command.Goals as goal
 pub returns : goal.returns
 returns c =
     let begun = c.with_argument-begun.ensures _ _ c.file_option-config.ensures.rule c.subcommand.ensures in
-    c.with_argument.ensures _ _ c.flag-quiet.ensures.rule begun
+    let quieted = c.with_argument-quieted.ensures _ _ c.flag-quiet.ensures.rule begun in
+    let noted = c.with_argument-noted.ensures _ _ c.value_option-journal.ensures.rule quieted in
+    let synced = c.with_argument-synced.ensures _ _ c.flag-sync.ensures.rule noted in
+    c.with_pace.ensures _ synced

@@ -1,23 +1,44 @@
 use Rattle.std.proofs.Common.{inl, inr, refl}
+use Rattle.std.proofs.lemmas.Result.{IfErr-weaker, IfOk-weaker}
 use Rattle.sms_send.proofs.Telling.{told_so}
-use Rattle.sms_send.proofs.Sendings.{unwritten_told}
-use Rattle.sms_send.proofs.send_job.send_files.Goals as goal
+use Rattle.sms_send.proofs.sending.send_files.Goals as goal
 
 pub returns-clause-sent : goal.returns-clause-sent
-returns-clause-sent g c = (
-  c.in_ok-accounts.accounts,
-  c.in_ok-messages.messages,
-  c.in_ok-tariff.tariff,
-  c.in_ok-tariff.ensures.named,
-  record {
-    input = c.in_ok-input.input;
-    read = c.in_ok-input.ensures.read;
-    ended = c.in_ok-ended.ended;
-    sent = c.in_ok-ended.ensures.sent;
-    written = c.in_ok-write_report.ensures.written;
-    status_is = c.exit_status-status.ensures;
-  },
-)
+returns-clause-sent g c =
+    IfOk-weaker c.send_input.result _ _
+    (λ status sends. (
+      c.in_ok-accounts.accounts,
+      c.in_ok-messages.messages,
+      c.in_ok-tariff.tariff,
+      c.in_ok-tariff.ensures.named,
+      record {
+        input = c.in_ok-input.input;
+        read = c.in_ok-input.ensures.read;
+        ended = sends.ended;
+        sent = sends.sent;
+        written = sends.written;
+        status_is = sends.status_is;
+      },
+    ))
+    c.send_input.ensures.sent
+
+pub returns-clause-refused : goal.returns-clause-refused
+returns-clause-refused g c =
+    IfErr-weaker c.send_input.result _ _
+    (λ fault tells. inr (inr (inr (
+      c.in_ok-accounts.accounts,
+      c.in_ok-messages.messages,
+      c.in_ok-tariff.tariff,
+      c.in_ok-tariff.ensures.named,
+      inr (c.in_ok-input.input, c.in_ok-input.ensures.read, tells),
+    ))))
+    c.send_input.ensures.refused
+
+pub returns-clause-status : goal.returns-clause-status
+returns-clause-status g c = c.send_input.ensures.status
+
+pub returns-clause-unwritten : goal.returns-clause-unwritten
+returns-clause-unwritten g c = c.send_input.ensures.unwritten
 
 pub returns-in_err-accounts-clause-refused : goal.returns-in_err-accounts-clause-refused
 returns-in_err-accounts-clause-refused g c = told_so c.from_residual.result _ _ c.from_residual.ensures.1 (inl c.in_err-accounts.ensures)
@@ -33,32 +54,6 @@ returns-in_err-input-clause-refused g c =
     told_so c.from_residual-in_err-input.result _ _ c.from_residual-in_err-input.ensures.1
     (inr (inr (inr (c.in_ok-accounts.accounts, c.in_ok-messages.messages, c.in_ok-tariff.tariff, c.in_ok-tariff.ensures.named, inl c.in_err-input.ensures.refused))))
 
-pub returns-in_err-ended-clause-refused : goal.returns-in_err-ended-clause-refused
-returns-in_err-ended-clause-refused g c =
-    told_so c.from_residual-in_err-ended.result _ _ c.from_residual-in_err-ended.ensures.1
-    (inr (inr (inr (
-      c.in_ok-accounts.accounts,
-      c.in_ok-messages.messages,
-      c.in_ok-tariff.tariff,
-      c.in_ok-tariff.ensures.named,
-      inr (c.in_ok-input.input, c.in_ok-input.ensures.read, inl c.in_err-ended.ensures.refused),
-    ))))
-
-pub returns-in_err-write_report-clause-refused : goal.returns-in_err-write_report-clause-refused
-returns-in_err-write_report-clause-refused g c =
-    told_so c.from_residual-in_err-write_report.result _ _ c.from_residual-in_err-write_report.ensures.1
-    (inr (inr (inr (
-      c.in_ok-accounts.accounts,
-      c.in_ok-messages.messages,
-      c.in_ok-tariff.tariff,
-      c.in_ok-tariff.ensures.named,
-      inr (
-        c.in_ok-input.input,
-        c.in_ok-input.ensures.read,
-        unwritten_told _ _ c.in_ok-ended.ended _ _ _ c.in_ok-ended.ensures.sent c.in_err-write_report.ensures.failed c.in_err-write_report.ensures.front,
-      ),
-    ))))
-
 pub returns-in_err-accounts-clause-unwritten : goal.returns-in_err-accounts-clause-unwritten
 returns-in_err-accounts-clause-unwritten g c = told_so c.from_residual.result _ _ c.from_residual.ensures.1 (λ other. refl)
 
@@ -70,6 +65,3 @@ returns-in_err-tariff-clause-unwritten g c = told_so c.from_residual-in_err-tari
 
 pub returns-in_err-input-clause-unwritten : goal.returns-in_err-input-clause-unwritten
 returns-in_err-input-clause-unwritten g c = told_so c.from_residual-in_err-input.result _ _ c.from_residual-in_err-input.ensures.1 (λ other. refl)
-
-pub returns-in_err-ended-clause-unwritten : goal.returns-in_err-ended-clause-unwritten
-returns-in_err-ended-clause-unwritten g c = told_so c.from_residual-in_err-ended.result _ _ c.from_residual-in_err-ended.ensures.1 (λ other. refl)

@@ -1,0 +1,32 @@
+use Rattle.std.proofs.Common.{inl, inr, refl}
+use Rattle.std.proofs.lemmas.Result.{IfErr-weaker, IfOk-weaker}
+use Rattle.sms_send.specs.Noted.{IsDeaf, SendsInput}
+use Rattle.sms_send.specs.Sent.{TellsSending, untold}
+use Rattle.sms_send.specs.Jobs.{IsStatus}
+use Rattle.sms_send.proofs.Noting.{ended_err, ended_ok, ended_quiet}
+use Rattle.sms_send.proofs.Telling.{told_so}
+use Rattle.sms_send.proofs.noted.send_noted.Goals as goal
+
+pub returns-clause-sent : goal.returns-clause-sent
+returns-clause-sent g c =
+    IfOk-weaker c.end_journal.result _ _
+    (λ status sends. record {
+      named = c.in_ok-named.named;
+      are = c.in_ok-named.ensures.read;
+      input = c.in_ok-input.input;
+      read = c.in_ok-input.ensures.read;
+      sends = sends;
+    })
+    (ended_ok c.end_journal.result c.send_over-sent.result _ c.end_journal.ensures.ended c.send_over-sent.ensures.sent)
+
+pub returns-clause-status : goal.returns-clause-status
+returns-clause-status g c = ended_ok c.end_journal.result c.send_over-sent.result IsStatus c.end_journal.ensures.ended c.send_over-sent.ensures.status
+
+pub returns-clause-refused : goal.returns-clause-refused
+returns-clause-refused g c =
+    IfErr-weaker c.end_journal.result _ _
+    (λ fault tells. inr (c.in_ok-named.named, c.in_ok-named.ensures.read, inr (inr (inr (c.in_ok-input.input, c.in_ok-input.ensures.read, tells)))))
+    (ended_err c.end_journal.result c.send_over-sent.result _ _ _ c.end_journal.ensures.refused c.send_over-sent.ensures.refused c.send_over-sent.ensures.sent)
+
+pub returns-clause-unwritten : goal.returns-clause-unwritten
+returns-clause-unwritten g c = ended_quiet c.end_journal.result c.send_over-sent.result _ c.end_journal.ensures.refused c.send_over-sent.ensures.unwritten

@@ -1,0 +1,126 @@
+//! A sending that is noted in a journal.
+
+ghost use Rattle.std.specs.Prelude.{◌≡◌, ◌≢◌, ◌⊎◌, ℕ, Err, Ok, IfErr, IfOk};
+ghost use Rattle.sms_journal.specs.Digests.{digests_of as of_files};
+ghost use Rattle.sms_send.specs.Jobs.{IsStatus};
+ghost use Rattle.sms_send.specs.Noted.{IsInputOf, SendsNoted, TellsInputOf, TellsNoted};
+ghost use Rattle.sms_send.specs.Runs.{tariff_in};
+ghost use Rattle.sms_send.specs.declared.fault.Fault.TheVariants.{File, Journal as JournalFault, Output};
+
+use crate::fault::Fault;
+use crate::order::{JournalFile, Pace};
+use crate::reading::read_input;
+use crate::run_files::{NamedFiles, read_named};
+use crate::sending::{Reach, Wanted, send_over};
+use sms_devices::{Host, Journal, JournalFiles, Telling};
+use sms_files::{FileNames, Input};
+use sms_journal::{Digests, Note, digests_of};
+use std::alloc::Global;
+use std::fs::OpenFile;
+use std::io::Write;
+use std::net::{Net, TcpListener, TcpStream};
+use std::sync::Wait;
+use std::time::Clock;
+
+/// What the files say beside a config.
+fn input_in(alloc: Global, config: &[u8], named: &NamedFiles) -> Result<Input, Fault>
+    ensures read { IfOk result (IsInputOf config.now named.now) }
+    ensures refused { IfErr result (TellsInputOf config.now named.now) }
+{
+    read_input(
+        alloc,
+        config,
+        named.accounts.as_slice(),
+        named.messages.as_slice(),
+        named.tariff(),
+    )
+}
+
+/// The digests of a run's files.
+fn digests_in(config: &[u8], named: &NamedFiles) -> Digests
+    ensures { result ≡ of_files config.now named.now.accounts.items named.now.messages.items (tariff_in named.now) }
+{
+    digests_of(
+        config,
+        named.accounts.as_slice(),
+        named.messages.as_slice(),
+        named.tariff(),
+    )
+}
+
+/// A journal in a new file, which has its first line.
+fn begin_journal<R: AllocGlobal + JournalFiles + Wait>(
+    rt: &R,
+    wanted: JournalFile,
+    digests: &Digests,
+) -> Result<Journal<R::JournalFile>, Fault>
+    ensures { IfErr result (λ fault. (fault ≡ File wanted.name) ⊎ (fault ≡ JournalFault)) }
+{
+    let JournalFile { name, sync } = wanted;
+    let Ok(file) = rt.create_journal(name.as_str()) else {
+        return Err(Fault::File(name));
+    };
+    let journal = Journal::new(rt.alloc(), file, sync);
+    journal.begin(rt, digests);
+    if journal.let_out(rt) {
+        Ok(journal)
+    } else {
+        Err(Fault::Journal)
+    }
+}
+
+/// Notes that a sending has ended with its report. A journal that has failed is a fault behind that.
+fn end_journal<R: Wait + Clock, F: Write + OpenFile>(
+    rt: &R,
+    journal: &Journal<F>,
+    sent: Result<u8, Fault>,
+) -> Result<u8, Fault>
+    ensures ended { IfOk result (λ status. sent ≡ Ok status) }
+    ensures refused { IfErr result (λ fault. (sent ≡ Err fault) ⊎ ((fault ≡ JournalFault) × (status : ℕ) × (sent ≡ Ok status))) }
+{
+    match sent {
+        Ok(status) => {
+            let _noted = journal.note(rt, &Note::End(status));
+            if journal.let_out(rt) {
+                Ok(status)
+            } else {
+                Err(Fault::Journal)
+            }
+        }
+        Err(fault) => Err(fault),
+    }
+}
+
+/// Reads the files that the config names to their ends, begins the journal, and sends what they say.
+pub fn send_noted<R: Host + Net<Stream = TcpStream, Listener = TcpListener>, W: Write>(
+    rt: &R,
+    reach: &Reach,
+    config: &[u8],
+    files: FileNames,
+    wanted: JournalFile,
+    telling: Telling,
+    pace: Pace,
+    output: &mut W,
+) -> Result<u8, Fault>
+    ensures sent { IfOk result (SendsNoted R.File.remaining files config.now (W.contents output.old) (W.contents output.new)) }
+    ensures status { IfOk result IsStatus }
+    ensures refused { IfErr result (TellsNoted R.File.remaining reach.now.centre wanted files config.now (W.contents output.old) (W.contents output.new)) }
+    ensures unwritten { IfErr result (λ fault. fault ≢ Output → fault ≢ JournalFault → output.new ≡ output.old) }
+{
+    let named = read_named(rt, files)?;
+    let input = input_in(rt.alloc(), config, &named)?;
+    let digests = digests_in(config, &named);
+    drop(named);
+    let journal = begin_journal(rt, wanted, &digests)?;
+    let sent = send_over(
+        rt,
+        reach,
+        config,
+        Wanted::Read(input),
+        Some(&journal),
+        telling,
+        pace,
+        output,
+    );
+    end_journal(rt, &journal, sent)
+}

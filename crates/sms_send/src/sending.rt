@@ -1,0 +1,222 @@
+//! A sending: what it stands on, and how it goes to its report.
+
+ghost use Rattle.std.specs.Prelude.{◌≡◌, ◌≢◌, IfErr, IfOk};
+ghost use Rattle.sms_send.specs.Jobs.{IsStatus};
+ghost use Rattle.sms_send.specs.Noted.{SendsInput, SendsWanted, TellsOver, TellsWanted};
+ghost use Rattle.sms_send.specs.Sent.{SendsNamed, TellsNamed, TellsSending, untold};
+ghost use Rattle.sms_send.specs.declared.fault.Fault.TheVariants.{Output};
+
+use crate::fault::Fault;
+use crate::opened::{open, open_named};
+use crate::order::Pace;
+use crate::reading::read_input;
+use crate::send_job::Centre;
+use crate::sender::{send_all, write_report};
+use sms_devices::{
+    Bell, Host, Journal, JournalFiles, LoopDial, Noting, Outboxes, Progress, Rated, Rest, Screen,
+    Stopping, TcpDial, Telling, Ticks, listen,
+};
+use sms_driver::Dial;
+use sms_files::{FileNames, Input};
+use sms_worker::Pause;
+use std::io::{Eprint, Write};
+use std::net::{Net, TcpListener, TcpStream};
+use std::rt::Files;
+use std::sync::Wait;
+use std::thread::Threads;
+use std::{mem, time};
+
+/// The message centre of a sending, and what a centre of the program's own says.
+#[derive(Drop)]
+pub struct Reach {
+    pub centre: Centre,
+    pub host: String,
+    pub port: u16,
+    pub bind_status: u32,
+    pub answers: Vec<String>,
+}
+
+/// What is to be sent.
+#[derive(Drop)]
+pub enum Wanted {
+    /// What the files of these names say.
+    Files(FileNames),
+    /// What was read.
+    Read(Input),
+}
+
+/// Makes what a sending stands on, and sends over connections to the centre, behind the journal if
+/// there is one.
+pub fn send_over<R: Host + Net<Stream = TcpStream, Listener = TcpListener>, W: Write>(
+    rt: &R,
+    reach: &Reach,
+    config: &[u8],
+    wanted: Wanted,
+    journal: Option<&Journal<R::JournalFile>>,
+    telling: Telling,
+    pace: Pace,
+    output: &mut W,
+) -> Result<u8, Fault>
+    ensures sent { IfOk result (SendsWanted untold R.File.remaining wanted config.now (W.contents output.old) (W.contents output.new)) }
+    ensures status { IfOk result IsStatus }
+    ensures refused { IfErr result (TellsOver reach.now.centre R.File.remaining wanted config.now (W.contents output.old) (W.contents output.new)) }
+    ensures unwritten { IfErr result (λ fault. fault ≢ Output → output.new ≡ output.old) }
+{
+    let bell = Bell::new();
+    let outboxes = Outboxes::new(rt, journal);
+    let pause = Rest {
+        rt,
+        bell: &bell,
+        outboxes: &outboxes,
+    };
+    match reach.centre {
+        Centre::Named => {
+            let dial = TcpDial {
+                rt,
+                alloc: rt.alloc(),
+                bell: &bell,
+                outboxes: &outboxes,
+                connect_ms: pace.connect_ms,
+                host: reach.host.as_str(),
+                port: reach.port,
+            };
+            send_wanted(
+                rt, config, wanted, &outboxes, &dial, &pause, telling, pace, output,
+            )
+        }
+        Centre::Own => {
+            let Some(listener) = listen(rt) else {
+                return Err(Fault::BindFailed(0));
+            };
+            let dial = LoopDial {
+                rt,
+                alloc: rt.alloc(),
+                bell: &bell,
+                outboxes: &outboxes,
+                connect_ms: pace.connect_ms,
+                listener,
+                bind_status: reach.bind_status,
+                answers: reach.answers.as_slice(),
+            };
+            send_wanted(
+                rt, config, wanted, &outboxes, &dial, &pause, telling, pace, output,
+            )
+        }
+    }
+}
+
+/// Sends what is wanted over the connections that the dial makes.
+fn send_wanted<
+    'j,
+    R: AllocGlobal + Files + JournalFiles + Threads + Wait + time::Clock + Eprint + Sync,
+    D: Dial,
+    P: Pause + Sync,
+    W: Write,
+>(
+    rt: &'j R,
+    config: &[u8],
+    wanted: Wanted,
+    outboxes: &Outboxes<'j, R, R::JournalFile>,
+    dial: &D,
+    pause: &P,
+    telling: Telling,
+    pace: Pace,
+    output: &mut W,
+) -> Result<u8, Fault>
+    ensures sent { IfOk result (SendsWanted (D.told dial.now) R.File.remaining wanted config.now (W.contents output.old) (W.contents output.new)) }
+    ensures status { IfOk result IsStatus }
+    ensures refused { IfErr result (TellsWanted (D.told dial.now) R.File.remaining wanted config.now (W.contents output.old) (W.contents output.new)) }
+    ensures unwritten { IfErr result (λ fault. fault ≢ Output → output.new ≡ output.old) }
+{
+    match wanted {
+        Wanted::Files(names) => send_files(
+            rt, config, names, outboxes, dial, pause, telling, pace, output,
+        ),
+        Wanted::Read(input) => send_input(rt, input, outboxes, dial, pause, telling, pace, output),
+    }
+}
+
+/// Opens the files that the config names, and sends what they say.
+fn send_files<
+    'j,
+    R: AllocGlobal + Files + JournalFiles + Threads + Wait + time::Clock + Eprint + Sync,
+    D: Dial,
+    P: Pause + Sync,
+    W: Write,
+>(
+    rt: &'j R,
+    config: &[u8],
+    names: FileNames,
+    outboxes: &Outboxes<'j, R, R::JournalFile>,
+    dial: &D,
+    pause: &P,
+    telling: Telling,
+    pace: Pace,
+    output: &mut W,
+) -> Result<u8, Fault>
+    ensures sent { IfOk result (SendsNamed (D.told dial.now) R.File.remaining names config.now (W.contents output.old) (W.contents output.new)) }
+    ensures status { IfOk result IsStatus }
+    ensures refused { IfErr result (TellsNamed (D.told dial.now) R.File.remaining names config.now (W.contents output.old) (W.contents output.new)) }
+    ensures unwritten { IfErr result (λ fault. fault ≢ Output → output.new ≡ output.old) }
+{
+    let accounts = open(rt, names.accounts)?;
+    let messages = open(rt, names.messages)?;
+    let tariff = open_named(rt, names.tariff)?;
+    let input = read_input(rt.alloc(), config, accounts, messages, tariff)?;
+    send_input(rt, input, outboxes, dial, pause, telling, pace, output)
+}
+
+/// Sends what was read over the connections that the dial makes, and writes the report. What is noted
+/// of it is let out before the report is formed. A person is told how it goes.
+fn send_input<
+    'j,
+    R: AllocGlobal + JournalFiles + Threads + Wait + time::Clock + Eprint + Sync,
+    D: Dial,
+    P: Pause + Sync,
+    W: Write,
+>(
+    rt: &'j R,
+    input: Input,
+    outboxes: &Outboxes<'j, R, R::JournalFile>,
+    dial: &D,
+    pause: &P,
+    telling: Telling,
+    pace: Pace,
+    output: &mut W,
+) -> Result<u8, Fault>
+    ensures sent { IfOk result (SendsInput (D.told dial.now) input (W.contents output.old) (W.contents output.new)) }
+    ensures status { IfOk result IsStatus }
+    ensures refused { IfErr result (TellsSending (D.told dial.now) input (W.contents output.old) (W.contents output.new)) }
+    ensures unwritten { IfErr result (λ fault. fault ≢ Output → output.new ≡ output.old) }
+{
+    let limits = input.config().limits;
+    let answer_ms = input.config().retry.answer_ms;
+    outboxes.set_patience(answer_ms);
+    let clock = Ticks::new(rt);
+    let progress = Progress::new(rt, &clock, telling, input.messages().len());
+    let noting = Noting {
+        rt,
+        gate: &progress,
+        journal: outboxes.journal(),
+    };
+    let rated = Rated::new(rt, &noting, &clock, limits.workers, limits.depth, pace.rate);
+    let gate = Stopping::new(
+        rt,
+        &rated,
+        &clock,
+        outboxes,
+        limits.workers,
+        answer_ms,
+        pace.stop_after,
+    );
+    let sent = send_all(rt, rt.alloc(), input, dial, &gate, &clock, pause);
+    outboxes.flush();
+    progress.clear();
+    let ended = sent?;
+    write_report(rt.alloc(), &ended, output)?;
+    progress.sum_up(ended.ends(), ended.statement());
+    let status = ended.exit_status();
+    // The process ends next, which frees it at once.
+    mem::forget(ended);
+    Ok(status)
+}
