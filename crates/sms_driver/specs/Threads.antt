@@ -13,9 +13,13 @@ use Rattle.sms_driver.specs.BindEnds.{IsTried}
 use Rattle.sms_driver.specs.Reads.{listener_of, listener_promised, reading_of, HasRead, IsUnread}
 use Rattle.sms_driver.specs.Worked.{IsHandedBack, IsResultOf}
 
--- each worker's and each reader's seat is of the window that it works at, and the driver's seats are of the binds, in order
-pub record AreSeated {N Rd W : Type 0} (tasks : List (WorkerTask N W)) (reader_tasks : List (ReaderTask Rd W)) (driver_seats : List DriverSeat) (shared_binds : List (SharedBind W)) : Type 0 where
-  pub workers : AllByRecursion (λ t. t.assignment.worker.seat.window ≡ t.window.now) tasks
+-- it works at its seat's window, and has room for as many open requests as the rules allow
+abbrev pub IsPrepared : {N W : Type 0} → Rules → WorkerTask N W → Type 0
+IsPrepared rules t = (t.assignment.worker.seat.window ≡ t.window.now) × (rules.depth ≤ t.assignment.room)
+
+-- each worker is prepared, each worker's and each reader's seat is of the window that it works at, and the driver's seats are of the binds, in order
+pub record AreSeated {N Rd W : Type 0} (rules : Rules) (tasks : List (WorkerTask N W)) (reader_tasks : List (ReaderTask Rd W)) (driver_seats : List DriverSeat) (shared_binds : List (SharedBind W)) : Type 0 where
+  pub workers : AllByRecursion (IsPrepared rules) tasks
   pub readers : AllByRecursion (λ t. t.seat.window ≡ t.window.now) reader_tasks
   pub driver : map (λ s. s.seat.window) driver_seats ≡ map (λ b. b.window) shared_binds
 

@@ -16,6 +16,7 @@ ghost use Rattle.sms_driver.specs.Statements.{AreRows};
 ghost use Rattle.sms_driver.specs.Seated.{IsSeated, windows};
 ghost use Rattle.sms_driver.specs.SendFaults.{IsFaultOfOne, IsOfNoBind};
 ghost use Rattle.sms_driver.specs.Settled.{AreSettled};
+ghost use Rattle.sms_driver.specs.Threads.{IsPrepared};
 
 use crate::binding::{BindSettings, Binds, Dial, make_binds};
 use crate::dealing::deal;
@@ -57,7 +58,8 @@ struct Ready<'a, N: BookName, Rd, W> {
     reader_tasks: Vec<ReaderTask<'a, Rd, W>>,
 }
 
-/// Seats all workers and readers, and gives each worker its share and its messages.
+/// Seats all workers and readers, and gives each worker its share, its messages and all memory that its
+/// call begins with.
 fn make_ready<'a, N: BookName, Rd: Drop, W: Drop>(
     alloc: Global,
     shared_binds: &'a [SharedBind<W>],
@@ -65,24 +67,25 @@ fn make_ready<'a, N: BookName, Rd: Drop, W: Drop>(
     workers: usize,
     shares: Vec<Shares<N>>,
     batches: Vec<Vec<Message>>,
+    rules: &Rules,
 ) -> Result<Ready<'a, N, Rd, W>, AllocError>
     requires bind_parts { AllZip (IsSeated workers) shared_binds.now bind_parts.items }
     requires shares { length shares.items ≡ length shared_binds.now * workers }
     requires batches { length batches.items ≡ length shares.items }
     ensures shares { IfOk result (λ r. map (λ t. t.assignment.worker.shares) r.tasks.items ≡ shares.items) }
-    ensures messages { IfOk result (λ r. map (λ t. t.assignment.messages.items) r.tasks.items ≡ map (λ l. l.items) batches.items) }
+    ensures messages { IfOk result (λ r. map (λ t. t.assignment.messages) r.tasks.items ≡ map (λ l. l.items) batches.items) }
     ensures windows { IfOk result (λ r. map (λ t. t.assignment.worker.seat.window) r.tasks.items ≡ windows workers (map (λ b. b.window) shared_binds.now)) }
     ensures keepers { IfOk result (λ r. map (λ t. t.seat.window) r.reader_tasks.items ≡ map (λ b. b.window) shared_binds.now) }
     ensures rings { IfOk result (λ r. map (λ t. t.assignment.worker.consumer) r.tasks.items ≡ flat (map (λ p. p.consumers.items) bind_parts.items)) }
     ensures readings { IfOk result (λ r. map reading_of r.reader_tasks.items ≡ map reading_in bind_parts.items) }
-    ensures own { IfOk result (λ r. AllByRecursion (λ t. t.assignment.worker.seat.window ≡ t.window.now) r.tasks.items) }
+    ensures own { IfOk result (λ r. AllByRecursion (IsPrepared rules.now) r.tasks.items) }
     ensures reader_tasks { IfOk result (λ r. AllByRecursion (λ t. t.seat.window ≡ t.window.now) r.reader_tasks.items) }
 {
     let Seating {
         places,
         reader_tasks,
     } = seat_all(alloc, shared_binds, bind_parts, workers)?;
-    let tasks = tasks(alloc, places, shares, batches)?;
+    let tasks = tasks(alloc, places, shares, batches, rules)?;
     Ok(Ready {
         tasks,
         reader_tasks,
@@ -146,7 +149,15 @@ fn send_over<
     let Ready {
         tasks,
         reader_tasks,
-    } = match make_ready(alloc, shared_binds, bind_parts, workers, shares, batches) {
+    } = match make_ready(
+        alloc,
+        shared_binds,
+        bind_parts,
+        workers,
+        shares,
+        batches,
+        rules,
+    ) {
         Ok(ready) => ready,
         Err(_refused) => {
             unbind_all(rt, alloc, shared_binds, &mut driver_seats);

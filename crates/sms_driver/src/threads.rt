@@ -6,13 +6,12 @@ ghost use Rattle.sms_driver.specs.Latches.{AreOfOneLatch, IsBackBy, word_of};
 
 use crate::following::Following;
 use crate::latch::{Latch, Said, Told};
-use crate::task::Assignment;
 use rtrb::Producer;
 use sms_bind::{Bound, Line, ReaderEnd};
 use sms_book::{Book, BookName};
 use sms_pdu::{Reply, Tap};
 use sms_window::{Window, WindowSeat};
-use sms_worker::{Message, Rules, Worker, WorkerEnd};
+use sms_worker::{Message, ReadyWorker, Rules, Worker, WorkerEnd};
 use std::alloc::{AllocError, Global};
 use std::io::Read;
 use std::snapshot::Snapshot;
@@ -27,7 +26,7 @@ pub type WorkerResult<N> = Result<WorkerEnd<N>, (AllocError, Worker<N>, Vec<Mess
 #[derive(Drop)]
 pub struct WorkerPromise<'s, N: BookName> {
     pub latch: &'s Latch,
-    pub assignment: Snapshot<Assignment<N>>,
+    pub assignment: Snapshot<ReadyWorker<N>>,
     pub rules: Snapshot<Rules>,
 }
 
