@@ -47,12 +47,12 @@ pub enum Wanted {
 
 /// Makes what a sending stands on, and sends over connections to the centre, behind the journal if
 /// there is one.
-pub fn send_over<R: Host + Net<Stream = TcpStream, Listener = TcpListener>, W: Write>(
-    rt: &R,
+pub fn send_over<'j, R: Host + Net<Stream = TcpStream, Listener = TcpListener>, W: Write>(
+    rt: &'j R,
     reach: &Reach,
     config: &[u8],
     wanted: Wanted,
-    journal: Option<&Journal<R::JournalFile>>,
+    journal: Option<&'j Journal<R::JournalFile>>,
     telling: Telling,
     pace: Pace,
     output: &mut W,
