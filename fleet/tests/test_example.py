@@ -1,7 +1,8 @@
-"""The example's job from end to end: split, each run sent by the released program to the test centre in its process, merged."""
+"""The example's job from end to end: split, sent by the released program to the test centre in its process, merged."""
 import os
 import shutil
 import subprocess
+import unittest
 
 from reports import STATEMENT, Report
 from tables import put_lines, records
@@ -46,6 +47,16 @@ class Example(Case):
         rows = Report(names[0]).rows
         self.assertEqual([[it, str(rows[it]["topped"])] for it in rows], accounts)
         self.assertGreater(sum(it["returned"] for it in rows.values()), 0)
+
+    @unittest.skipUnless(shutil.which("parallel"), "GNU parallel isn't installed")
+    def test_a_job_is_sent_by_fleet_run(self):
+        self.does("split", self.folder, "--jobs", "3", "--run-size", "25")
+        for _ in range(2):
+            self.does("run", self.folder, "--program", PROGRAM, "--loop", "--jobs", "3")
+        self.assertIn("200 messages", self.does("merge", self.folder))
+        names = [f"{self.folder}/report.csv", f"{self.folder}/messages.csv"]
+        subprocess.run([f"{HOME}/tools/balances", *names], check=True)
+        self.assertEqual({it[0][2] for it in Report(names[0]).ends}, {"charged", "refused"})
 
     def test_words_and_faults(self):
         self.assertIn("usage: fleet/split", self.does("split", "--help"))
