@@ -1,8 +1,22 @@
 -- What a sending ended with, and what it ends with once its journal has ended.
-use Rattle.std.proofs.Common.{◌≡◌, ◌⊎◌, inl, inr, ℕ, Result, Ok, Err, IfOk, IfErr}
+use Rattle.std.proofs.Common.{◌≡◌, ◌⊎◌, inl, inr, subst, sym, ℕ, List, Option, Some, None, Result, Ok, Err, IfOk, IfErr}
 use Rattle.std.specs.Prelude.{◌≢◌}
+use Rattle.sms_files.specs.ConfigFaults.{IsConfig, TellsConfig}
+use Rattle.sms_files.specs.Inputs.{Told}
+use Rattle.sms_files.specs.Setups.{names_in, setup_in}
+use Rattle.sms_files.specs.declared.config.Config.{Config}
+use Rattle.sms_files.specs.declared.setup.Setup.{Setup}
+use Rattle.sms_send.specs.Faults.{TellsRead}
+use Rattle.sms_send.specs.Noted.{SendsBy, SendsNoted, TellsBy, TellsJournaled, TellsNoted, TellsOver}
+use Rattle.sms_send.specs.Opened.{OfInput}
+use Rattle.sms_send.specs.Sent.{SendsNamed, TellsFiles, untold}
 use Rattle.sms_send.specs.declared.fault.Fault.{Fault}
-use Rattle.sms_send.specs.declared.fault.Fault.TheVariants.{Journal, Output}
+use Rattle.sms_send.specs.declared.fault.Fault.TheVariants.{File, Journal, OutOfMemory, Output}
+use Rattle.sms_send.specs.declared.order.JournalFile.{JournalFile}
+use Rattle.sms_send.specs.declared.order.Order.{Order}
+use Rattle.sms_send.specs.declared.send_job.Centre.{Centre}
+use Rattle.sms_send.specs.declared.sending.Wanted.TheVariants.{Files}
+use Rattle.sms_send.proofs.Sendings.{beside, of_config, of_two}
 
 -- the same, or a fault of the journal behind a status
 abbrev pub Ends : Result ℕ Fault → Fault → Type 0
@@ -12,17 +26,73 @@ pub ended_ok : (r x : Result ℕ Fault) (P : ℕ → Type 0) → IfOk r (λ s. x
 ended_ok (Ok s) x P same holds = rw same at holds
 ended_ok (Err f) x P same holds = tt
 
+-- one of three, from one of two
+pub three_of : {A B C : Type 0} → A ⊎ B → A ⊎ (B ⊎ C)
+three_of (inl a) = inl a
+three_of (inr b) = inr (inl b)
+
 pub ended_err : (r x : Result ℕ Fault) (A B : Fault → Type 0) (P : ℕ → Type 0) → IfErr r (Ends x) → IfErr x (λ f. A f ⊎ B f) → IfOk x P
     → IfErr r (λ f. A f ⊎ (B f ⊎ ((f ≡ Journal) × (s : ℕ) × P s)))
 ended_err (Ok s) x A B P told bad good = tt
-ended_err (Err f) x A B P (inl same) bad good = three f A B P (rw same at bad)
+ended_err (Err f) x A B P (inl same) bad good = three_of (rw same at bad)
 ended_err (Err f) x A B P (inr told) bad good = inr (inr (told.0, told.1, rw told.2 at good))
-where
-  three : (f : Fault) (A B : Fault → Type 0) (P : ℕ → Type 0) → A f ⊎ B f → A f ⊎ (B f ⊎ ((f ≡ Journal) × (s : ℕ) × P s))
-  three f A B P (inl a) = inl a
-  three f A B P (inr b) = inr (inl b)
 
 pub ended_quiet : (r x : Result ℕ Fault) (A : Type 0) → IfErr r (Ends x) → IfErr x (λ f. f ≢ Output → A) → IfErr r (λ f. f ≢ Output → f ≢ Journal → A)
 ended_quiet (Ok s) x A told quiet = tt
 ended_quiet (Err f) x A (inl same) quiet = λ other _. (rw same at quiet) other
 ended_quiet (Err f) x A (inr told) quiet = λ other not. absurd (not told.0)
+
+-- a fault of a journal that is begun, before anything is written
+pub begun_fault : {A B C D : Type 0} → C → A ⊎ B → A ⊎ ((B × C) ⊎ D)
+begun_fault same (inl a) = inl a
+begun_fault same (inr b) = inr (inl (b, same))
+
+-- a fault of the config is told alike with a journal and without
+pub tells_config : {F : Type 0} (remaining : F → Told) (centre : Centre) (order : Order) (journal : Option JournalFile) (old new : Option (List ℕ)) (fault : Fault)
+    → (fault ≡ OutOfMemory) ⊎ (fault ≡ File order.config) → TellsJournaled remaining centre order journal old new fault
+tells_config remaining centre order None old new fault told = of_two told
+tells_config remaining centre order (Some file) old new fault told = of_two told
+
+pub tells_setup : {F : Type 0} (remaining : F → Told) (centre : Centre) (order : Order) (journal : Option JournalFile) (old new : Option (List ℕ)) (fault : Fault) (items octets : List ℕ)
+    → OfInput remaining (λ bytes. items ≡ bytes) → octets ≡ items → TellsRead (TellsConfig octets) fault → TellsJournaled remaining centre order journal old new fault
+tells_setup remaining centre order None old new fault items octets input same told =
+    inr (inr (beside remaining items octets (λ bytes. TellsFiles remaining centre bytes old new fault) input same (inl told)))
+tells_setup remaining centre order (Some file) old new fault items octets input same told =
+    inr (inr (beside remaining items octets (λ bytes. TellsBy remaining centre file bytes old new fault) input same (inl told)))
+
+-- what was read of a config: its octets are an input's, and the setup is of the config that they are
+pub record IsSetUp {F : Type 0} (remaining : F → Told) (items read handed : List ℕ) (setup : Setup) : Type 0 where
+  pub input : OfInput remaining (λ bytes. items ≡ bytes)
+  pub one : read ≡ items
+  pub two : handed ≡ items
+  pub says : (config : Config) × IsConfig read config × (setup ≡ setup_in config)
+
+-- a sending without a journal
+pub plain_sends : {F : Type 0} (remaining : F → Told) (items read handed : List ℕ) (setup : Setup) (journal : Option JournalFile) (old new : Option (List ℕ)) (status : ℕ)
+    → journal ≡ None → IsSetUp remaining items read handed setup → SendsNamed untold remaining (names_in setup) handed old new status
+    → OfInput remaining (λ octets. SendsBy remaining journal octets old new status)
+plain_sends remaining items read handed setup journal old new status is set sent =
+    of_config remaining items read handed setup (λ names octets. SendsNamed untold remaining names octets old new status) (λ octets. SendsBy remaining journal octets old new status)
+    set.input set.one set.two set.says (λ octets so. subst (λ (j : Option JournalFile). SendsBy remaining j octets old new status) (sym is) so) sent
+
+pub plain_tells : {F : Type 0} (remaining : F → Told) (items read handed : List ℕ) (setup : Setup) (centre : Centre) (order : Order) (journal : Option JournalFile) (old new : Option (List ℕ)) (fault : Fault)
+    → journal ≡ None → IsSetUp remaining items read handed setup → TellsOver centre remaining (Files (names_in setup)) handed old new fault → TellsJournaled remaining centre order journal old new fault
+plain_tells remaining items read handed setup centre order journal old new fault is set tells =
+    subst (λ (j : Option JournalFile). TellsJournaled remaining centre order j old new fault) (sym is)
+    (inr (inr (of_config remaining items read handed setup (λ names octets. TellsOver centre remaining (Files names) octets old new fault) (λ octets. TellsFiles remaining centre octets old new fault)
+    set.input set.one set.two set.says (λ octets so. inr so) tells)))
+
+-- and one with a journal
+pub noted_sends : {F : Type 0} (remaining : F → Told) (items read handed : List ℕ) (setup : Setup) (journal : Option JournalFile) (file : JournalFile) (old new : Option (List ℕ)) (status : ℕ)
+    → journal ≡ Some file → IsSetUp remaining items read handed setup → SendsNoted remaining (names_in setup) handed old new status
+    → OfInput remaining (λ octets. SendsBy remaining journal octets old new status)
+noted_sends remaining items read handed setup journal file old new status is set sent =
+    of_config remaining items read handed setup (λ names octets. SendsNoted remaining names octets old new status) (λ octets. SendsBy remaining journal octets old new status)
+    set.input set.one set.two set.says (λ octets so. subst (λ (j : Option JournalFile). SendsBy remaining j octets old new status) (sym is) so) sent
+
+pub noted_tells : {F : Type 0} (remaining : F → Told) (items read handed : List ℕ) (setup : Setup) (centre : Centre) (order : Order) (journal : Option JournalFile) (file : JournalFile) (old new : Option (List ℕ)) (fault : Fault)
+    → journal ≡ Some file → IsSetUp remaining items read handed setup → TellsNoted remaining centre file (names_in setup) handed old new fault → TellsJournaled remaining centre order journal old new fault
+noted_tells remaining items read handed setup centre order journal file old new fault is set tells =
+    subst (λ (j : Option JournalFile). TellsJournaled remaining centre order j old new fault) (sym is)
+    (inr (inr (of_config remaining items read handed setup (λ names octets. TellsNoted remaining centre file names octets old new fault) (λ octets. TellsBy remaining centre file octets old new fault)
+    set.input set.one set.two set.says (λ octets so. inr so) tells)))

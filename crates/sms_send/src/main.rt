@@ -10,6 +10,7 @@ pub mod laws;
 mod noted;
 mod opened;
 mod order;
+mod pacing;
 mod plan;
 mod reading;
 mod recover_job;

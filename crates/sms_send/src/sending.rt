@@ -9,12 +9,13 @@ ghost use Rattle.sms_send.specs.declared.fault.Fault.TheVariants.{Output};
 use crate::fault::Fault;
 use crate::opened::{open, open_named};
 use crate::order::Pace;
+use crate::pacing::send_paced;
 use crate::reading::read_input;
 use crate::send_job::Centre;
-use crate::sender::{send_all, write_report};
+use crate::sender::write_report;
 use sms_devices::{
-    Bell, Host, Journal, JournalFiles, LoopDial, Noting, Outboxes, Progress, Rated, Rest, Screen,
-    Stopping, TcpDial, Telling, Ticks, listen,
+    Bell, Host, Journal, JournalFiles, LoopDial, Noting, Outboxes, Progress, Rest, Screen, TcpDial,
+    Telling, Ticks, listen,
 };
 use sms_driver::Dial;
 use sms_files::{FileNames, Input};
@@ -189,9 +190,7 @@ fn send_input<
     ensures refused { IfErr result (TellsSending (D.told dial.now) input (W.contents output.old) (W.contents output.new)) }
     ensures unwritten { IfErr result (λ fault. fault ≢ Output → output.new ≡ output.old) }
 {
-    let limits = input.config().limits;
-    let answer_ms = input.config().retry.answer_ms;
-    outboxes.set_patience(answer_ms);
+    outboxes.set_patience(input.config().retry.answer_ms);
     let clock = Ticks::new(rt);
     let progress = Progress::new(rt, &clock, telling, input.messages().len());
     let noting = Noting {
@@ -199,17 +198,7 @@ fn send_input<
         gate: &progress,
         journal: outboxes.journal(),
     };
-    let rated = Rated::new(rt, &noting, &clock, limits.workers, limits.depth, pace.rate);
-    let gate = Stopping::new(
-        rt,
-        &rated,
-        &clock,
-        outboxes,
-        limits.workers,
-        answer_ms,
-        pace.stop_after,
-    );
-    let sent = send_all(rt, rt.alloc(), input, dial, &gate, &clock, pause);
+    let sent = send_paced(rt, input, &*outboxes, dial, &noting, &clock, pause, pace);
     outboxes.flush();
     progress.clear();
     let ended = sent?;

@@ -3,7 +3,7 @@ use Rattle.std.proofs.lemmas.Result.{IfErr-weaker, IfOk-weaker}
 use Rattle.sms_send.specs.Noted.{IsDeaf, SendsInput}
 use Rattle.sms_send.specs.Sent.{TellsSending, untold}
 use Rattle.sms_send.specs.Jobs.{IsStatus}
-use Rattle.sms_send.proofs.Noting.{ended_err, ended_ok, ended_quiet}
+use Rattle.sms_send.proofs.Noting.{begun_fault, ended_err, ended_ok, ended_quiet}
 use Rattle.sms_send.proofs.Telling.{told_so}
 use Rattle.sms_send.proofs.noted.send_noted.Goals as goal
 
@@ -30,3 +30,13 @@ returns-clause-refused g c =
 
 pub returns-clause-unwritten : goal.returns-clause-unwritten
 returns-clause-unwritten g c = ended_quiet c.end_journal.result c.send_over-sent.result _ c.end_journal.ensures.refused c.send_over-sent.ensures.unwritten
+
+pub returns-in_err-input-clause-refused : goal.returns-in_err-input-clause-refused
+returns-in_err-input-clause-refused g c =
+    told_so c.from_residual-in_err-input.result _ _ c.from_residual-in_err-input.ensures.1
+    (inr (c.in_ok-named.named, c.in_ok-named.ensures.read, inl c.in_err-input.ensures.refused))
+
+pub returns-in_err-journal-clause-refused : goal.returns-in_err-journal-clause-refused
+returns-in_err-journal-clause-refused g c =
+    told_so c.from_residual-in_err-journal.result _ _ c.from_residual-in_err-journal.ensures.1
+    (inr (c.in_ok-named.named, c.in_ok-named.ensures.read, inr (begun_fault refl c.in_err-journal.ensures)))

@@ -1,0 +1,81 @@
+//! How fast a sending goes, and how far without answers: gates around the one that notes it.
+
+ghost use Rattle.std.specs.Prelude.{◌≡◌, IfErr, IfOk};
+ghost use Rattle.sms_driver.specs.SendFaults.{IsFaultOfOne};
+ghost use Rattle.sms_driver.specs.declared.fault.SendFault.{SendFault};
+ghost use Rattle.sms_send.specs.Faults.{told_sending};
+ghost use Rattle.sms_send.specs.Sent.{IsSent};
+
+use crate::fault::Fault;
+use crate::order::Pace;
+use crate::sender::{Ended, send_all};
+use sms_devices::{Outboxes, Rated, Stopping};
+use sms_driver::Dial;
+use sms_files::Input;
+use sms_worker::{Clock, Gate, Pause};
+use std::fs::OpenFile;
+use std::io::Write;
+use std::sync::Wait;
+use std::thread::Threads;
+
+/// Sends as `send_all` does, as fast and as far without answers as is asked for.
+pub fn send_paced<
+    'r,
+    'j,
+    F: Write + OpenFile + Send,
+    G: Gate + Sync,
+    K: Clock + Sync,
+    D: Dial,
+    P: Pause + Sync,
+    R: AllocGlobal + Threads + Wait + Sync,
+>(
+    rt: &'j R,
+    input: Input,
+    outboxes: &'r Outboxes<'j, R, F>,
+    dial: &D,
+    gate: &'r G,
+    clock: &'r K,
+    pause: &P,
+    pace: Pace,
+) -> Result<Ended, Fault>
+    ensures sent { IfOk result (IsSent (D.told dial.now) input) }
+    ensures refused { IfErr result (λ fault. (f : SendFault) × IsFaultOfOne input.config.limits.binds f × (fault ≡ told_sending f)) }
+{
+    let workers = input.config().limits.workers;
+    let answer_ms = input.config().retry.answer_ms;
+    let stopping = Stopping::new(
+        rt,
+        gate,
+        clock,
+        outboxes,
+        workers,
+        answer_ms,
+        pace.stop_after,
+    );
+    send_rated(rt, input, dial, &stopping, clock, pause, pace.rate)
+}
+
+/// The same with no more requests of a bind in a second than are asked for.
+fn send_rated<
+    'r,
+    G: Gate + Sync,
+    K: Clock + Sync,
+    D: Dial,
+    P: Pause + Sync,
+    R: AllocGlobal + Threads + Wait + Sync,
+>(
+    rt: &'r R,
+    input: Input,
+    dial: &D,
+    gate: &'r G,
+    clock: &'r K,
+    pause: &P,
+    rate: Option<u32>,
+) -> Result<Ended, Fault>
+    ensures sent { IfOk result (IsSent (D.told dial.now) input) }
+    ensures refused { IfErr result (λ fault. (f : SendFault) × IsFaultOfOne input.config.limits.binds f × (fault ≡ told_sending f)) }
+{
+    let limits = input.config().limits;
+    let rated = Rated::new(rt, gate, clock, limits.workers, limits.depth, rate);
+    send_all(rt, rt.alloc(), input, dial, &rated, clock, pause)
+}
