@@ -186,9 +186,9 @@ rest_behind ys xs ess r = record {
 }
 
 -- of one bind: it was opened, new rings came to its reader, which handed on what it read
-pub bind_is_heard : {Rd : Type 0} (remaining : Rd → Option (List ℕ)) (mode : Mode) (told : Option (List ℕ)) (given : Reading Rd) (end : ReaderEnd) (cs : Consumers) (ess : List (List MessageEnd)) → IsOpened mode told (remaining (device given.reader)) given.bound
-    → AllByRecursion (λ p. sent p ≡ []) given.rings → HasRead remaining given end → AllZip HasReceived end.producers.items cs → AllZip (λ c es. Hears (received c) es) cs ess → IsHeard told ess
-bind_is_heard remaining mode told given end cs ess opened new read meet hear =
+pub bind_is_heard : {Rd : Type 0} (turns : ℕ) (remaining : Rd → Option (List ℕ)) (mode : Mode) (told : Option (List ℕ)) (given : Reading Rd) (end : ReaderEnd) (cs : Consumers) (ess : List (List MessageEnd)) → IsOpened mode told (remaining (device given.reader)) given.bound
+    → AllByRecursion (λ p. sent p ≡ []) given.rings → HasRead turns remaining given end → AllZip HasReceived end.producers.items cs → AllZip (λ c es. Hears (received c) es) cs ess → IsHeard told ess
+bind_is_heard turns remaining mode told given end cs ess opened new read meet hear =
     let h = read.hands in
     let first : List ℕ = opened.bounds.0 in
     let d = opened.bounds.1 in

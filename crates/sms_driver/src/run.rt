@@ -9,11 +9,12 @@ ghost use Rattle.rtrb.specs.Ring.{received, IsPair};
 ghost use Rattle.sms_driver.specs.Answered.{AreHeard, Hears};
 ghost use Rattle.sms_driver.specs.BindEnds.{AreBinds, IsTried};
 ghost use Rattle.sms_driver.specs.Deals.{dealt};
-ghost use Rattle.sms_driver.specs.Numbered.{AreNumbered, HasNumbers};
+ghost use Rattle.sms_driver.specs.Ended.{HaveEnded};
+ghost use Rattle.sms_driver.specs.Numbered.{AreBelow, AreNumbered, HasNumbers};
 ghost use Rattle.sms_driver.specs.Reads.{reading_in, reading_of, HasRead};
 ghost use Rattle.sms_driver.specs.Rings.{flat};
 ghost use Rattle.sms_driver.specs.Statements.{AreRows};
-ghost use Rattle.sms_driver.specs.Seated.{IsSeated, windows};
+ghost use Rattle.sms_driver.specs.Seated.{all_keep, all_sit, keeping_of, sitting_of, CountFrom, IsSeated, windows};
 ghost use Rattle.sms_driver.specs.SendFaults.{IsFaultOfOne, IsOfNoBind};
 ghost use Rattle.sms_driver.specs.Settled.{AreSettled};
 ghost use Rattle.sms_driver.specs.Threads.{IsPrepared};
@@ -78,6 +79,9 @@ fn make_ready<'a, N: BookName, Rd: Drop, W: Drop>(
     ensures keepers { IfOk result (λ r. map (λ t. t.seat.window) r.reader_tasks.items ≡ map (λ b. b.window) shared_binds.now) }
     ensures rings { IfOk result (λ r. map (λ t. t.assignment.worker.consumer) r.tasks.items ≡ flat (map (λ p. p.consumers.items) bind_parts.items)) }
     ensures readings { IfOk result (λ r. map reading_of r.reader_tasks.items ≡ map reading_in bind_parts.items) }
+    ensures sitting { IfOk result (λ r. map sitting_of r.tasks.items ≡ all_sit shared_binds.now bind_parts.items) }
+    ensures keeping { IfOk result (λ r. map keeping_of r.reader_tasks.items ≡ all_keep shared_binds.now bind_parts.items) }
+    ensures indexes { IfOk result (λ r. CountFrom 0 (map (λ t. t.assignment.worker.index) r.tasks.items)) }
     ensures own { IfOk result (λ r. AllByRecursion (IsPrepared rules.now) r.tasks.items) }
     ensures reader_tasks { IfOk result (λ r. AllByRecursion (λ t. t.seat.window ≡ t.window.now) r.reader_tasks.items) }
 {
@@ -138,7 +142,7 @@ fn send_over<
     ensures seats { IfOk result (λ r. map (λ d. d.seat.window) r.done.items ≡ windows workers (map (λ b. b.window) shared_binds.now)) }
     ensures hears { IfOk result (λ r. AllByRecursion (λ d. Hears (received d.consumer) d.ends.items) r.done.items) }
     ensures numbers { IfOk result (λ r. AllByRecursion (λ d. HasNumbers d.seat.view d.ends.items) r.done.items) }
-    ensures read { IfOk result (λ r. AllZip (HasRead Rd.remaining) (map reading_in bind_parts.items) r.readers.items) }
+    ensures read { IfOk result (λ r. AllZip (HasRead rules.now.turns Rd.remaining) (map reading_in bind_parts.items) r.readers.items) }
     ensures rings { IfOk result (λ r. AllZip IsPair (flat (map (λ d. d.producers.items) r.readers.items)) (map (λ d. d.consumer) r.done.items)) }
     ensures readers { IfOk result (λ r. map (λ d. d.seat.window) r.readers.items ≡ map (λ b. b.window) shared_binds.now) }
     ensures driver_seats { IfOk result (λ r. map (λ s. s.seat.window) r.driver_seats.items ≡ map (λ b. b.window) shared_binds.now) }
@@ -217,8 +221,12 @@ pub fn run<
     ensures ends { IfOk result (λ r. AllZip (IsEndOf rules.now blank.book.accounts) messages.items r.ends.items) }
     // Bind by bind, each answered attempt of its workers rests on an answer of its own that was read of it.
     ensures heard { IfOk result (λ r. AreHeard (D.told dial.now) binds workers (dealt (binds * workers) 0 r.ends.items)) }
+    // The cause and the counts of each bind's reader are those of what was read of the bind.
+    ensures readers { IfOk result (λ r. HaveEnded bind_settings.now rules.now.turns (D.told dial.now) r.binds.items) }
     // No two attempts of the workers of one bind have one sequence_number.
     ensures numbers { IfOk result (λ r. AreNumbered binds workers (dealt (binds * workers) 0 r.ends.items)) }
+    // They are below the number that the bind's window would have given next.
+    ensures below { IfOk result (λ r. AreBelow workers r.binds.items (dealt (binds * workers) 0 r.ends.items)) }
     ensures rows { IfOk result (λ r. AreRows blank.credits messages.items r.ends.items r.statement) }
     ensures binds { IfOk result (λ r. AreBinds binds workers r.binds.items) }
     ensures refused { IfErr result (IsFaultOfOne binds) }

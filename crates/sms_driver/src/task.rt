@@ -2,6 +2,7 @@
 
 ghost use Rattle.std.specs.Prelude.{◌≡◌, ◌≤◌, ℕ, List, length, map, IfOk};
 ghost use Rattle.std.specs.List.{AllByRecursion};
+ghost use Rattle.sms_driver.specs.Seated.{sitting_at, sitting_of, CountFrom};
 ghost use Rattle.sms_driver.specs.Threads.{IsPrepared};
 
 use rtrb::Consumer;
@@ -45,6 +46,7 @@ fn make_task<'a, N: BookName, W>(
     ensures place { IfOk result (λ t. t.assignment.worker.place ≡ place.entry.place) }
     ensures ring { IfOk result (λ t. t.assignment.worker.consumer ≡ place.entry.consumer) }
     ensures seat { IfOk result (λ t. t.assignment.worker.seat ≡ place.entry.seat) }
+    ensures sitting { IfOk result (λ t. sitting_of t ≡ sitting_at place.entry) }
     ensures window { IfOk result (λ t. t.window.now ≡ place.entry.window.now) }
     ensures room { IfOk result (λ t. rules.now.depth ≤ t.assignment.room) }
 {
@@ -89,6 +91,9 @@ pub fn tasks<'a, N: BookName, W>(
     ensures windows { IfOk result (λ v. map (λ t. t.assignment.worker.seat.window) v.items ≡ map (λ p. p.seat.window) places.entry.items) }
     ensures rings { IfOk result (λ v. map (λ t. t.assignment.worker.consumer) v.items ≡ map (λ p. p.consumer) places.entry.items) }
     ensures own { IfOk result (λ v. AllByRecursion (IsPrepared rules.now) v.items) }
+    ensures sitting { IfOk result (λ v. map sitting_of v.items ≡ map sitting_at places.entry.items) }
+    // A worker's index is its place among all.
+    ensures indexes { IfOk result (λ v. CountFrom 0 (map (λ t. t.assignment.worker.index) v.items)) }
 {
     let mut tasks = Vec::with_capacity(alloc, shares.len())?;
     let mut places = VecDeque::from(places);

@@ -108,7 +108,7 @@ returns-clause-numbers g c =
     all_numbers rules assignments ds (all_ok (IsWorkOf rules) (λ j e. ⊥) assignments ds (subst (AllZip (IsResultOf rules) assignments) (sym c.in_ok-done.ensures) c.in_ok-returned.ensures.returned.results))
 
 pub returns-clause-read : goal.returns-clause-read
-returns-clause-read g c = subst (λ l. AllZip (HasRead g.Rd.Read.remaining) l c.in_ok-returned.returned.readers.items) c.in-Ok.ensures.readings c.in_ok-returned.ensures.returned.read
+returns-clause-read g c = subst (λ l. AllZip (HasRead c.args.rules.now.turns g.Rd.Read.remaining) l c.in_ok-returned.returned.readers.items) c.in-Ok.ensures.readings c.in_ok-returned.ensures.returned.read
 
 pub returns-clause-rings : goal.returns-clause-rings
 returns-clause-rings g c =
@@ -124,9 +124,9 @@ returns-clause-rings g c =
     subst (λ l. AllZip SameConsumer l (map (λ d. d.consumer) ds)) (map_map assignment (λ j. j.worker.consumer) c.in-Ok.ready.tasks.items ∙ c.in-Ok.ensures.rings)
     (zip_map (λ j. j.worker.consumer) (λ d. d.consumer) (IsWorkOf rules) SameConsumer (λ j d w. w.ring) assignments ds back)
     in
-    let read = subst (λ l. AllZip (HasRead remaining) l rs) c.in-Ok.ensures.readings c.in_ok-returned.ensures.returned.read in
+    let read = subst (λ l. AllZip (HasRead rules.turns remaining) l rs) c.in-Ok.ensures.readings c.in_ok-returned.ensures.returned.read in
     let producers =
     subst (λ l. AllZip SameProducer (flat l) (flat (map (λ d. d.producers.items) rs))) (map_map reading_in (λ r. r.rings) parts)
-    (flat_zip (λ r. r.rings) (λ d. d.producers.items) SameProducer (map reading_in parts) rs (zip_to (HasRead remaining) (λ r d. AllZip SameProducer r.rings d.producers.items) (λ r d h. h.same) (map reading_in parts) rs read))
+    (flat_zip (λ r. r.rings) (λ d. d.producers.items) SameProducer (map reading_in parts) rs (zip_to (HasRead rules.turns remaining) (λ r d. AllZip SameProducer r.rings d.producers.items) (λ r d h. h.same) (map reading_in parts) rs read))
     in
     pairs_kept _ _ _ _ (seated_pairs c.args.workers c.args.shared_binds.now parts c.requires.bind_parts) producers consumers

@@ -1,4 +1,8 @@
-use Rattle.std.proofs.Common.{◌≡◌, ap, sym, ◌∙◌, rules}
+use Rattle.std.proofs.Common.{◌≡◌, ap, arith, length, map, sym, ◌∙◌, rules}
+use Rattle.std.proofs.lemmas.List.{length-map}
+use Rattle.sms_driver.specs.Seated.{sitting_at, sitting_of}
+use Rattle.sms_driver.proofs.Sitting.{count_more}
+use Rattle.sms_driver.proofs.Windows.{map_more}
 use Rattle.std.specs.Vec.Iter.{into_iter_items}
 use Rattle.sms_driver.proofs.Moves.{moved, moved_in}
 use Rattle.sms_driver.proofs.Returning.{first_holds, more_hold}
@@ -11,6 +15,7 @@ loop-share-preserved g c =
     let made = c.in_ok-task.ensures in
     let adds = c.in_ok-push.ensures.items in
     let place = c.in-Some-Some.ensures.items in
+    let long : c.len-index.result ≡ length c.loop-share.tasks.items = omega (arith, c.len-index.ensures) in
     let first = first_holds (λ p. p.seat.window ≡ p.window.now) _ _ _ place i.rest in
     record {
       places = search rules;
@@ -19,6 +24,8 @@ loop-share-preserved g c =
       messages = moved (λ t. t.assignment.messages) (λ l. l.items) c.loop-share.tasks.items _ c.loop-share.batches.items _ _ _ _ adds c.in-Some-Some.ensures'.items made.messages i.messages;
       windows = moved (λ t. t.assignment.worker.seat.window) (λ p. p.seat.window) c.loop-share.tasks.items _ c.loop-share.places.items _ _ _ _ adds place (ap (λ s. s.window) made.seat) i.windows;
       rings = moved (λ t. t.assignment.worker.consumer) (λ p. p.consumer) c.loop-share.tasks.items _ c.loop-share.places.items _ _ _ _ adds place made.ring i.rings;
+      sitting = moved sitting_of sitting_at c.loop-share.tasks.items _ c.loop-share.places.items _ _ _ _ adds place made.sitting i.sitting;
+      indexes = count_more (map (λ t. t.assignment.worker.index) c.loop-share.tasks.items) _ _ (ap (map (λ t. t.assignment.worker.index)) adds ∙ map_more (λ t. t.assignment.worker.index) c.loop-share.tasks.items _) (made.index ∙ long ∙ sym (length-map c.loop-share.tasks.items (λ t. t.assignment.worker.index))) i.indexes;
       rest = first.1;
       own = more_hold (IsPrepared c.args.rules.now) c.loop-share.tasks.items _ _ adds i.own (ap (λ s. s.window) made.seat ∙ first.0 ∙ sym made.window, made.room);
     }

@@ -1,6 +1,6 @@
 use Rattle.std.proofs.Common.{◌≡◌, rules}
 use Rattle.std.specs.Vec.Iter.{into_iter_items}
-use Rattle.sms_driver.proofs.Moves.{moved, first_moved}
+use Rattle.sms_driver.proofs.Moves.{moved}
 use Rattle.sms_driver.proofs.Returning.{first_holds, more_hold}
 use Rattle.sms_driver.specs.Threads.{IsPrepared}
 use Rattle.sms_driver.proofs.working.start_workers.Goals as goal
