@@ -33,7 +33,7 @@ use Rattle.sms_worker.specs.declared.rules.Rules.{Rules}
 use Rattle.sms_worker.specs.declared.work.WorkerEnd.{WorkerEnd}
 use Rattle.sms_worker.proofs.Tries.{all_at}
 use Rattle.sms_worker.proofs.EndLemmas.{get_there, get_low, end_at}
-use Rattle.sms_driver.specs.declared.task.Assignment.{Assignment}
+use Rattle.sms_worker.specs.ReadyState.{ReadyState}
 use Rattle.sms_driver.specs.Answered.{Answered, RestOn, Hears, IsHeard}
 use Rattle.sms_driver.specs.Reads.{Reading, HasRead, IsOpened}
 use Rattle.sms_worker.specs.Rests.{HasReceived}
@@ -186,9 +186,9 @@ rest_behind ys xs ess r = record {
 }
 
 -- of one bind: it was opened, new rings came to its reader, which handed on what it read
-pub bind_is_heard : {Rd : Type 0} (remaining : Rd → Option (List ℕ)) (mode : Mode) (told : Option (List ℕ)) (given : Reading Rd) (end : ReaderEnd) (cs : Consumers) (ess : List (List MessageEnd)) → IsOpened mode told (remaining (device given.reader)) given.bound
-    → AllByRecursion (λ p. sent p ≡ []) given.rings → HasRead remaining given end → AllZip HasReceived end.producers.items cs → AllZip (λ c es. Hears (received c) es) cs ess → IsHeard told ess
-bind_is_heard remaining mode told given end cs ess opened new read meet hear =
+pub bind_is_heard : {Rd : Type 0} (turns : ℕ) (remaining : Rd → Option (List ℕ)) (mode : Mode) (told : Option (List ℕ)) (given : Reading Rd) (end : ReaderEnd) (cs : Consumers) (ess : List (List MessageEnd)) → IsOpened mode told (remaining (device given.reader)) given.bound
+    → AllByRecursion (λ p. sent p ≡ []) given.rings → HasRead turns remaining given end → AllZip HasReceived end.producers.items cs → AllZip (λ c es. Hears (received c) es) cs ess → IsHeard told ess
+bind_is_heard turns remaining mode told given end cs ess opened new read meet hear =
     let h = read.hands in
     let first : List ℕ = opened.bounds.0 in
     let d = opened.bounds.1 in
@@ -215,10 +215,10 @@ ends_within rules accounts (m ∷ ms) [] z = absurd z
 ends_within rules accounts (m ∷ ms) (e ∷ es) z = let x = ends_within rules accounts ms es z.1 in omega arith
 
 -- so of all workers
-pub all_hears : {N : Type 0} (rules : Rules) (js : List (Assignment N)) (ds : List (WorkerEnd N)) → AllZip (IsWorkOf rules) js ds → AllByRecursion (λ d. Hears (received d.consumer) d.ends.items) ds
+pub all_hears : {N : Type 0} (rules : Rules) (js : List (ReadyState N)) (ds : List (WorkerEnd N)) → AllZip (IsWorkOf rules) js ds → AllByRecursion (λ d. Hears (received d.consumer) d.ends.items) ds
 all_hears rules [] [] z = tt
 all_hears rules [] (d ∷ ds) z = absurd z
 all_hears rules (j ∷ js) [] z = absurd z
 all_hears rules (j ∷ js) (d ∷ ds) z =
     let p = z.0 in
-    (hears_of rules _ (received d.consumer) j.messages.items d.ends.items (ends_within rules _ j.messages.items d.ends.items p.worked.ends) p.answers p.places, all_hears rules js ds z.1)
+    (hears_of rules _ (received d.consumer) j.messages d.ends.items (ends_within rules _ j.messages d.ends.items p.worked.ends) p.answers p.places, all_hears rules js ds z.1)

@@ -1,13 +1,14 @@
 -- The numbers of a bind's seats, as they are joined into its keeper's.
 use Rattle.std.proofs.Common.{◌≡◌, ◌+◌, ◌-◌, ◌++◌, ◌≤◌, ◌<◌, ℕ, zero, suc, List, [], ◌∷◌, length, map, refl, sym, ap, ◌∙◌, subst, arith, append_assoc, append-nil}
 use Rattle.std.specs.Prelude.{take, drop}
-use Rattle.sms_core.specs.Numbers.{times}
+use Rattle.sms_core.specs.Numbers.{times, AllBelow}
+use Rattle.sms_window.specs.declared.outcome.Closed.{Closed}
 use Rattle.sms_window.specs.declared.view.View.{View}
 use Rattle.sms_window.specs.Rule.{numbers_of}
 use Rattle.sms_window.specs.Seats.{met_with, joined}
 use Rattle.sms_driver.specs.Deals.{of_bind}
-use Rattle.sms_driver.specs.Joined.{HasJoined}
-use Rattle.sms_driver.specs.Numbered.{DrewOnce, AllDrewOnce}
+use Rattle.sms_driver.specs.Joined.{AreClosed, HasJoined, IsClosed}
+use Rattle.sms_driver.specs.Numbered.{DrewBelow, DrewOnce, AllDrewOnce}
 use Rattle.sms_driver.proofs.Numbering.{times_both}
 
 -- the first of those that are left
@@ -60,3 +61,37 @@ first_once workers bs bs' b vs vs' is left one rest (suc bind) low =
 pub once_as : (binds n workers w : ℕ) (vs us : List View) → n ≡ binds → w ≡ workers → us ≡ vs → AllDrewOnce n w us → AllDrewOnce binds workers vs
 once_as binds n workers w vs us e f s h bind low =
     subst (λ (l : List View). DrewOnce (of_bind workers bind l)) s (subst (λ (k : ℕ). DrewOnce (of_bind k bind us)) f (h bind (omega (arith, e, low))))
+
+-- the window of one bind more was closed
+pub closed_more : (workers : ℕ) (ks ks' ds ds' vs vs' : List View) (k d : View) (made more rest : List Closed) (c : Closed) (All : List Closed → Type 0) → more ≡ made ++ c ∷ [] → ks ≡ k ∷ ks' → ds ≡ d ∷ ds' → vs' ≡ drop workers vs
+    → IsClosed k (d ∷ take workers vs) c → AreClosed workers ks' ds' vs' rest → (AreClosed workers ks ds vs (c ∷ rest) → All (made ++ (c ∷ rest))) → All (more ++ rest)
+closed_more workers ks ks' ds ds' vs vs' k d made more rest c All adds ke de left one h goes =
+    let others = subst (λ (l : List View). AreClosed workers ks' ds' l rest) left h in
+    let all : AreClosed workers ks ds vs (c ∷ rest) = subst (λ (l : List View). AreClosed workers l ds vs (c ∷ rest)) (sym ke) (subst (λ (l : List View). AreClosed workers (k ∷ ks') l vs (c ∷ rest)) (sym de) (one, others)) in
+    subst All (sym (ap (λ l. l ++ rest) adds ∙ append_assoc made (c ∷ []) rest)) (goes all)
+
+-- before the first
+pub none_closed : (workers : ℕ) (ks ks' ds ds' vs vs' : List View) (made rest : List Closed) → ks' ≡ ks → ds' ≡ ds → vs' ≡ vs → made ≡ [] → AreClosed workers ks' ds' vs' rest → AreClosed workers ks ds vs (made ++ rest)
+none_closed workers ks ks' ds ds' vs vs' made rest k d v none h =
+    subst (λ (l : List Closed). AreClosed workers ks ds vs (l ++ rest)) (sym none)
+    (subst (λ (l : List View). AreClosed workers ks ds l rest) v (subst (λ (l : List View). AreClosed workers ks l vs' rest) d (subst (λ (l : List View). AreClosed workers l ds' vs' rest) k h)))
+
+pub all_closed : (workers : ℕ) (ks ds vs : List View) (cs : List Closed) → AreClosed workers ks ds vs (cs ++ []) → AreClosed workers ks ds vs cs
+all_closed workers ks ds vs cs h = subst (AreClosed workers ks ds vs) (append-nil cs) h
+
+-- of two lists, each is below the top where they are below it together
+below_behind : (top : ℕ) (xs ys : List ℕ) → AllBelow top (xs ++ ys) → AllBelow top ys
+below_behind top [] ys a = a
+below_behind top (x ∷ xs) ys a = below_behind top xs ys a.1
+
+-- what the workers of each bind drew is below the number that its window was closed with
+pub drew_below : (workers : ℕ) (ks ds vs : List View) (cs : List Closed) → AreClosed workers ks ds vs cs → DrewBelow workers vs cs
+drew_below workers ks ds vs [] h bind c at = absurd (cc)
+drew_below workers [] ds vs (x ∷ cs) h bind c at = absurd h
+drew_below workers (k ∷ ks) [] vs (x ∷ cs) h bind c at = absurd h
+drew_below workers (k ∷ ks) (d ∷ ds) vs (x ∷ cs) h zero c at =
+    let same : x ≡ c = cc in
+    let theirs = numbers_of (take workers vs) in
+    let all = subst (AllBelow x.next) h.0.joined.numbers h.0.end.numbers in
+    subst (λ (y : Closed). AllBelow y.next theirs) same (below_behind x.next d.numbers theirs (below_behind x.next k.numbers (d.numbers ++ theirs) all))
+drew_below workers (k ∷ ks) (d ∷ ds) vs (x ∷ cs) h (suc bind) c at = drew_below workers ks ds (drop workers vs) cs h.1 bind c at

@@ -103,9 +103,9 @@ none_sent (p ∷ ps) [] z = absurd z
 none_sent (p ∷ ps) (c ∷ cs) z = (z.0.1, none_sent ps cs z.1)
 
 -- what was read of each bind with so many workers was heard by them
-module _ {W Rd : Type 0} (remaining : Rd → Option (List ℕ)) (mode : Mode) (told : ℕ → Option (List ℕ)) (workers : ℕ) where
+module _ {W Rd : Type 0} (turns : ℕ) (remaining : Rd → Option (List ℕ)) (mode : Mode) (told : ℕ → Option (List ℕ)) (workers : ℕ) where
   heard_from : (place : ℕ) (bs : List (SharedBind W)) (parts : List (BindParts Rd)) (rs : List ReaderEnd) (cs : List (Consumer Reply Global AnyItems)) (ess : List (List MessageEnd)) → AreOpened remaining mode told place parts
-      → AllZip (IsSeated workers) bs parts → AllZip (HasRead remaining) (map reading_in parts) rs → AllZip HasReceived (flat (map (λ d. d.producers.items) rs)) cs → AllZip (λ c es. Hears (received c) es) cs ess
+      → AllZip (IsSeated workers) bs parts → AllZip (HasRead turns remaining) (map reading_in parts) rs → AllZip HasReceived (flat (map (λ d. d.producers.items) rs)) cs → AllZip (λ c es. Hears (received c) es) cs ess
       → (bind : ℕ) → bind < length parts → IsHeard (told (place + bind)) (ends_at workers bind ess)
   heard_from place [] [] rs cs ess o s z r h bind low = absurd (omega (arith, low))
   heard_from place [] (p ∷ parts) rs cs ess o s z r h bind low = absurd s
@@ -119,7 +119,7 @@ module _ {W Rd : Type 0} (remaining : Rd → Option (List ℕ)) (mode : Mode) (t
       let long : length ps ≡ workers = l ∙ sym m ∙ s.0.rings in
       let same : place ≡ place + 0 = omega arith in
       subst (λ (n : ℕ). IsHeard (told n) (take workers ess)) same
-      (bind_is_heard remaining mode (told place) (reading_in p) d (take workers cs) (take workers ess) o.0 (none_sent p.producers.items p.consumers.items s.0.pairs) z.0 (zip_front HasReceived workers ps others cs long r) (zip_take (λ c es. Hears (received c) es) workers cs ess h))
+      (bind_is_heard turns remaining mode (told place) (reading_in p) d (take workers cs) (take workers ess) o.0 (none_sent p.producers.items p.consumers.items s.0.pairs) z.0 (zip_front HasReceived workers ps others cs long r) (zip_take (λ c es. Hears (received c) es) workers cs ess h))
   heard_from place (b ∷ bs) (p ∷ parts) (d ∷ rs) cs ess o s z r h (suc bind) low =
       let ps = d.producers.items in
       let others = flat (map (λ (d : ReaderEnd). d.producers.items) rs) in
@@ -131,5 +131,5 @@ module _ {W Rd : Type 0} (remaining : Rd → Option (List ℕ)) (mode : Mode) (t
       subst (λ (n : ℕ). IsHeard (told n) (ends_at workers (suc bind) ess)) same later
 
   pub are_heard : (bs : List (SharedBind W)) (parts : List (BindParts Rd)) (rs : List ReaderEnd) (cs : List (Consumer Reply Global AnyItems)) (ess : List (List MessageEnd)) → AreOpened remaining mode told 0 parts
-      → AllZip (IsSeated workers) bs parts → AllZip (HasRead remaining) (map reading_in parts) rs → AllZip HasReceived (flat (map (λ d. d.producers.items) rs)) cs → AllZip (λ c es. Hears (received c) es) cs ess → AreHeard told (length parts) workers ess
+      → AllZip (IsSeated workers) bs parts → AllZip (HasRead turns remaining) (map reading_in parts) rs → AllZip HasReceived (flat (map (λ d. d.producers.items) rs)) cs → AllZip (λ c es. Hears (received c) es) cs ess → AreHeard told (length parts) workers ess
   are_heard bs parts rs cs ess o s z r h bind low = let same : 0 + bind ≡ bind = omega arith in subst (λ (n : ℕ). IsHeard (told n) (ends_at workers bind ess)) same (heard_from 0 bs parts rs cs ess o s z r h bind low)

@@ -2,6 +2,7 @@ pub mod Answering
 pub mod Conclusions
 pub mod Dealings
 pub mod Drawn
+pub mod Endings
 pub mod Grouping
 pub mod Heads
 pub mod Joins
@@ -9,6 +10,7 @@ pub mod Moves
 pub mod Numbering
 pub mod Openings
 pub mod Returning
+pub mod Sitting
 pub mod Sums
 pub mod Takes
 pub mod Telling

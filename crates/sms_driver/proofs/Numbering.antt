@@ -1,12 +1,13 @@
 -- The numbers of a bind's attempts, from those that its workers' seats drew.
-use Rattle.std.proofs.Common.{◌≡◌, ◌+◌, ◌++◌, ◌≤◌, ◌<◌, ℕ, zero, suc, List, [], ◌∷◌, length, map, Some, refl, sym, ap, ◌∙◌, subst, arith, eq-eqb}
-use Rattle.std.specs.Prelude.{slice_get, take, drop}
+use Rattle.std.proofs.Common.{◌≡◌, ◌+◌, ◌==◌, ◌++◌, ◌≤◌, ◌<◌, ℕ, zero, suc, Bool, true, false, List, [], ◌∷◌, length, map, Some, refl, sym, ap, ◌∙◌, subst, arith, eq-eqb, ne_eqb}
+use Rattle.std.specs.Prelude.{slice_get, drop, if◌then◌else◌}
+use mathlib.Core.Logic.{dite}
+use native.Mathlib.Decide.{ℕ_discrete}
 use Rattle.std.specs.List.{AllByRecursion, AllZip}
-use Rattle.sms_core.specs.Numbers.{times}
+use Rattle.sms_core.specs.Numbers.{times, AllBelow}
 use Rattle.sms_window.specs.declared.view.View.{View}
 use Rattle.sms_window.specs.Rule.{numbers_of}
 use Rattle.sms_worker.specs.Apart.{IsAttempt, NumbersApart}
-use Rattle.sms_worker.specs.EndOf.{IsEndOf}
 use Rattle.sms_worker.specs.Ends.{segments_in, segment_at, total, total_in, uses}
 use Rattle.sms_worker.specs.Told.{Drew}
 use Rattle.sms_worker.specs.declared.ends.Attempt.{Attempt}
@@ -15,10 +16,11 @@ use Rattle.sms_worker.specs.declared.ends.MessageEnd.{MessageEnd}
 use Rattle.sms_worker.specs.declared.message.Message.{Message}
 use Rattle.sms_worker.specs.declared.rules.Rules.{Rules}
 use Rattle.sms_worker.specs.declared.work.WorkerEnd.{WorkerEnd}
-use Rattle.sms_driver.specs.declared.task.Assignment.{Assignment}
+use Rattle.sms_worker.specs.ReadyState.{ReadyState}
+use Rattle.sms_driver.specs.declared.bind_end.BindEnd.{BindEnd}
 use Rattle.sms_driver.specs.Answered.{ends_at}
 use Rattle.sms_driver.specs.Deals.{of_bind}
-use Rattle.sms_driver.specs.Numbered.{AttemptIn, NumbersDiffer, AreNumbered, HasNumbers, DrewOnce, AllDrewOnce}
+use Rattle.sms_driver.specs.Numbered.{NumbersDiffer, AreBelow, AreNumbered, DrewBelow, HasNumbers, DrewOnce, AllDrewOnce}
 use Rattle.sms_driver.specs.Worked.{IsWorkOf}
 use Rattle.sms_driver.proofs.Answering.{ends_within}
 use Rattle.sms_driver.proofs.Grouping.{zip_take, zip_drop}
@@ -61,13 +63,13 @@ has_numbers before v ms es long drew apart = record { apart = apart; drawn = one
         omega arith
 
 -- so each worker's seat has its attempts' numbers
-pub all_numbers : {N : Type 0} (rules : Rules) (js : List (Assignment N)) (ds : List (WorkerEnd N)) → AllZip (IsWorkOf rules) js ds → AllByRecursion (λ d. HasNumbers d.seat.view d.ends.items) ds
+pub all_numbers : {N : Type 0} (rules : Rules) (js : List (ReadyState N)) (ds : List (WorkerEnd N)) → AllZip (IsWorkOf rules) js ds → AllByRecursion (λ d. HasNumbers d.seat.view d.ends.items) ds
 all_numbers rules [] [] z = tt
 all_numbers rules [] (d ∷ ds) z = absurd z
 all_numbers rules (j ∷ js) [] z = absurd z
 all_numbers rules (j ∷ js) (d ∷ ds) z =
     let p = z.0 in
-    (has_numbers _ d.seat.view j.messages.items d.ends.items (ends_within rules _ j.messages.items d.ends.items p.worked.ends) p.numbers p.apart, all_numbers rules js ds z.1)
+    (has_numbers _ d.seat.view j.messages d.ends.items (ends_within rules _ j.messages d.ends.items p.worked.ends) p.numbers p.apart, all_numbers rules js ds z.1)
 
 one_in : (x es : List MessageEnd) (k p i : ℕ) (a : Attempt) → Some x ≡ Some es → IsAttempt es k p i a → IsAttempt x k p i a
 one_in x es k p i a at is = let e : x ≡ es = cc in subst (λ (l : List MessageEnd). IsAttempt l k p i a) (sym e) is
@@ -122,3 +124,26 @@ zip_of_bind R workers (suc bind) xs ys z = zip_of_bind R workers bind (drop work
 -- bind by bind
 pub are_numbered : (binds workers : ℕ) (vs : List View) (ess : List (List MessageEnd)) → AllZip HasNumbers vs ess → AllDrewOnce binds workers vs → AreNumbered binds workers ess
 are_numbered binds workers vs ess z once bind low = differ (of_bind workers bind vs) (ends_at workers bind ess) (zip_of_bind HasNumbers workers bind vs ess z) (once bind low)
+
+passed : (b : Bool) (m : ℕ) → b ≡ false → 1 ≤ (if b then 1 else 0) + m → 1 ≤ m
+passed true m e h = absurd (cc)
+passed false m e h = omega arith
+
+low_in : (n top : ℕ) (xs : List ℕ) → AllBelow top xs → 1 ≤ times n xs → n < top
+low_in n top [] b h = absurd (omega arith)
+low_in n top (x ∷ xs) b h = dite (ℕ_discrete x n)
+    (λ e. let lt = b.0 in omega arith)
+    (λ ne. low_in n top xs b.1 (passed (x == n) (times n xs) (ne_eqb x n ne) h))
+
+get_mapped : {A B : Type 0} (f : A → B) (xs : List A) (i : ℕ) (x : A) → slice_get xs i ≡ Some x → slice_get (map f xs) i ≡ Some (f x)
+get_mapped f [] i x at = absurd (cc)
+get_mapped f (y ∷ xs) zero x at = let same : y ≡ x = cc in ap (λ z. Some (f z)) same
+get_mapped f (y ∷ xs) (suc i) x at = get_mapped f xs i x at
+
+-- the attempts' numbers are among those that the seats drew
+pub are_below : (workers : ℕ) (vs : List View) (ess : List (List MessageEnd)) (bs : List BindEnd) → AllZip HasNumbers vs ess → DrewBelow workers vs (map (λ b. b.window) bs) → AreBelow workers bs ess
+are_below workers vs ess bs z below bind b at a =
+    let closed : slice_get (map (λ (y : BindEnd). y.window) bs) bind ≡ Some b.window = get_mapped (λ (y : BindEnd). y.window) bs bind b at in
+    let theirs = of_bind workers bind vs in
+    low_in a.one.number b.window.next (numbers_of theirs) (below bind b.window closed)
+    (some_drew theirs (ends_at workers bind ess) (zip_of_bind HasNumbers workers bind vs ess z) a.worker a.ends a.theirs a.message a.part a.attempt a.one a.is)

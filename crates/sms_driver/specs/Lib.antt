@@ -1,6 +1,7 @@
 pub mod Answered
 pub mod BindEnds
 pub mod Deals
+pub mod Ended
 pub mod Joined
 pub mod Latches
 pub mod Numbered

@@ -1,11 +1,13 @@
 -- The sequence numbers of a bind's attempts: no two have one (SMPP 3.4 3.2).
 use Rattle.std.specs.Prelude.{◌≡◌, ◌<◌, ◌≤◌, ℕ, List, Some, slice_get}
-use Rattle.sms_core.specs.Numbers.{times}
+use Rattle.sms_core.specs.Numbers.{times, AllBelow}
+use Rattle.sms_window.specs.declared.outcome.Closed.{Closed}
 use Rattle.sms_window.specs.declared.view.View.{View}
 use Rattle.sms_window.specs.Rule.{numbers_of}
 use Rattle.sms_worker.specs.Apart.{IsAttempt, NumbersApart}
 use Rattle.sms_worker.specs.declared.ends.Attempt.{Attempt}
 use Rattle.sms_worker.specs.declared.ends.MessageEnd.{MessageEnd}
+use Rattle.sms_driver.specs.declared.bind_end.BindEnd.{BindEnd}
 use Rattle.sms_driver.specs.Answered.{ends_at}
 use Rattle.sms_driver.specs.Deals.{of_bind}
 
@@ -40,3 +42,15 @@ DrewOnce views = (n : ℕ) → times n (numbers_of views) ≤ 1
 -- nor by the seats of the workers of one of so many binds
 abbrev pub AllDrewOnce : ℕ → ℕ → List View → Type 0
 AllDrewOnce binds workers views = (bind : ℕ) → bind < binds → DrewOnce (of_bind workers bind views)
+
+-- the numbers of all these attempts are below this one
+abbrev pub NumbersBelow : ℕ → List (List MessageEnd) → Type 0
+NumbersBelow next ess = (a : AttemptIn ess) → a.one.number < next
+
+-- so of each bind, whose window would have given this number next
+abbrev pub AreBelow : ℕ → List BindEnd → List (List MessageEnd) → Type 0
+AreBelow workers binds ess = (bind : ℕ) (b : BindEnd) → slice_get binds bind ≡ Some b → NumbersBelow b.window.next (ends_at workers bind ess)
+
+-- what the seats of each bind's workers drew is below the number that its window was closed with
+abbrev pub DrewBelow : ℕ → List View → List Closed → Type 0
+DrewBelow workers views ends = (bind : ℕ) (c : Closed) → slice_get ends bind ≡ Some c → AllBelow c.next (numbers_of (of_bind workers bind views))

@@ -1,6 +1,6 @@
 -- What the binds' readers are given, and what they do with it.
 use Rattle.std.specs.Prelude.{◌≡◌, ◌++◌, ◌+◌, ℕ, List, [], ◌∷◌, map, Option}
-use Rattle.std.specs.Io.KnownBytes.{Consumes}
+use Rattle.std.specs.Io.KnownBytes.{Consumes, IsAtEnd}
 use Rattle.std.specs.List.{concat, AllZip}
 use Rattle.std.specs.declared.alloc.Global.{Global}
 use Rattle.rtrb.specs.declared.AnyItems.{AnyItems}
@@ -9,32 +9,37 @@ use Rattle.rtrb.specs.Ring.{SameProducer, sent}
 use Rattle.sms_pdu.specs.declared.command.Mode.{Mode}
 use Rattle.sms_pdu.specs.declared.reply.Reply.{Reply}
 use Rattle.sms_bind.specs.declared.bound.Bound.{Bound}
-use Rattle.sms_bind.specs.declared.ending.ReaderCause.TheVariants.{Stopped}
+use Rattle.sms_bind.specs.declared.ending.ReaderCause.TheVariants.{Ended, Stopped, Turns}
 use Rattle.sms_bind.specs.declared.ending.ReaderEnd.{ReaderEnd}
 use Rattle.sms_pdu.specs.declared.tap.Tap.{Tap}
 use Rattle.sms_bind.specs.Answers.{Bounds}
-use Rattle.sms_pdu.specs.Devices.{device}
+use Rattle.sms_pdu.specs.Devices.{device, faults_of}
+use Rattle.sms_pdu.specs.Turn.{Turned}
+use Rattle.sms_bind.specs.Follows.{most_held}
+use Rattle.sms_bind.specs.Turns.{Stops}
 use Rattle.sms_bind.specs.Ends.{HandsOn}
 use Rattle.sms_bind.specs.Held.{Held}
 use Rattle.sms_window.specs.SeatState.{SeatState}
+use Rattle.sms_driver.specs.declared.following.Following.{Following}
 use Rattle.sms_driver.specs.declared.seating.BindParts.{BindParts}
 use Rattle.sms_driver.specs.declared.threads.ReaderTask.{ReaderTask}
 use Rattle.sms_driver.specs.declared.threads.ReaderPromise.{ReaderPromise}
 
--- a bind's reader with what was read of it before, and the rings of the bind's workers
+-- a bind's reader with what was read of it before, the rings of the bind's workers, and how it is to follow
 pub record Reading (Rd : Type 0) : Type 0 where
   pub reader : Tap Rd
   pub bound : Bound
   pub rings : List (Producer Reply Global AnyItems)
+  pub follow : Following
 
 abbrev pub reading_in : {Rd : Type 0} → BindParts Rd → Reading Rd
-reading_in parts = record { reader = parts.reader; bound = parts.bound; rings = parts.producers.items }
+reading_in parts = record { reader = parts.reader; bound = parts.bound; rings = parts.producers.items; follow = parts.follow }
 
 abbrev pub reading_of : {Rd W : Type 0} → ReaderTask Rd W → Reading Rd
-reading_of task = record { reader = task.reader; bound = task.bound; rings = task.producers.items }
+reading_of task = record { reader = task.reader; bound = task.bound; rings = task.producers.items; follow = task.follow }
 
 abbrev pub reading_promised : {Rd : Type 0} → ReaderPromise Rd → Reading Rd
-reading_promised promise = record { reader = promise.reader.value; bound = promise.bound.value; rings = promise.producers.value.items }
+reading_promised promise = record { reader = promise.reader.value; bound = promise.bound.value; rings = promise.producers.value.items; follow = promise.follow }
 
 -- what a reader is given: its seat, and what it reads from
 abbrev pub listener_of : {Rd W : Type 0} → ReaderTask Rd W → SeatState × Reading Rd
@@ -49,12 +54,19 @@ pub record IsUnread (seat : SeatState) (rings : List (Producer Reply Global AnyI
   pub same_rings : end.producers.items ≡ rings
   pub stopped : end.cause ≡ Stopped
 
--- the answers of what was read went to the rings that were given, where `remaining` tells what there is to read
-pub record HasRead {Rd : Type 0} (remaining : Rd → Option (List ℕ)) (given : Reading Rd) (end : ReaderEnd) : Type 0 where
+-- the answers of what was read went to the rings that were given, where `remaining` tells what there is to read; it was read in
+-- so many turns at most, in no fewer where the cause is that they were used up, and to its end where that is the cause
+pub record HasRead {Rd : Type 0} (turns : ℕ) (remaining : Rd → Option (List ℕ)) (given : Reading Rd) (end : ReaderEnd) : Type 0 where
   pub same : AllZip SameProducer given.rings end.producers.items
   pub left : Option (List ℕ)
   pub held : Held
   pub hands : HandsOn given.bound.session (concat given.bound.frames ++ given.bound.framer) (remaining (device given.reader)) left (map sent given.rings) (map sent end.producers.items) held end
+  -- as many slots are held back as it is to follow by
+  pub follows : held.most ≡ most_held given.follow.limit
+  pub faults : ℕ
+  pub turned : Turned turns (end.cause ≡ Turns) (remaining (device given.reader)) left (faults_of given.reader) faults
+  pub stopped : end.cause ≡ Stopped → Stops turns (remaining (device given.reader)) left
+  pub ended : end.cause ≡ Ended → IsAtEnd left
 
 -- what was read while it was bound: the octets were told, and what is left; the first frame bound the session, and the bound
 -- session has what came behind it

@@ -13,9 +13,13 @@ use Rattle.sms_driver.specs.BindEnds.{IsTried}
 use Rattle.sms_driver.specs.Reads.{listener_of, listener_promised, reading_of, HasRead, IsUnread}
 use Rattle.sms_driver.specs.Worked.{IsHandedBack, IsResultOf}
 
--- each worker's and each reader's seat is of the window that it works at, and the driver's seats are of the binds, in order
-pub record AreSeated {N Rd W : Type 0} (tasks : List (WorkerTask N W)) (reader_tasks : List (ReaderTask Rd W)) (driver_seats : List DriverSeat) (shared_binds : List (SharedBind W)) : Type 0 where
-  pub workers : AllByRecursion (λ t. t.assignment.worker.seat.window ≡ t.window.now) tasks
+-- it works at its seat's window, and has room for as many open requests as the rules allow
+abbrev pub IsPrepared : {N W : Type 0} → Rules → WorkerTask N W → Type 0
+IsPrepared rules t = (t.assignment.worker.seat.window ≡ t.window.now) × (rules.depth ≤ t.assignment.room)
+
+-- each worker is prepared, each worker's and each reader's seat is of the window that it works at, and the driver's seats are of the binds, in order
+pub record AreSeated {N Rd W : Type 0} (rules : Rules) (tasks : List (WorkerTask N W)) (reader_tasks : List (ReaderTask Rd W)) (driver_seats : List DriverSeat) (shared_binds : List (SharedBind W)) : Type 0 where
+  pub workers : AllByRecursion (IsPrepared rules) tasks
   pub readers : AllByRecursion (λ t. t.seat.window ≡ t.window.now) reader_tasks
   pub driver : map (λ s. s.seat.window) driver_seats ≡ map (λ b. b.window) shared_binds
 
@@ -24,7 +28,7 @@ pub record AreSeated {N Rd W : Type 0} (tasks : List (WorkerTask N W)) (reader_t
 pub record HaveReturned {N Rd W : Type 0} (rules : Rules) (remaining : Rd → Option (List ℕ)) (tasks : List (WorkerTask N W)) (reader_tasks : List (ReaderTask Rd W)) (shared_binds : List (SharedBind W)) (returned : Returned N) : Type 0 where
   pub results : AllZip (IsResultOf rules) (map (λ t. t.assignment) tasks) returned.worker_results.items
   pub readers : map (λ d. d.seat.window) returned.readers.items ≡ map (λ t. t.seat.window) reader_tasks
-  pub read : AllZip (HasRead remaining) (map reading_of reader_tasks) returned.readers.items
+  pub read : AllZip (HasRead rules.turns remaining) (map reading_of reader_tasks) returned.readers.items
   pub driver : map (λ s. s.seat.window) returned.driver_seats.items ≡ map (λ b. b.window) shared_binds
   pub tried : AllByRecursion (λ s. IsTried s.unbinding) returned.driver_seats.items
 
@@ -55,7 +59,7 @@ module _ {N Rd : Type 0} where
     pub workers : map (λ h. h.promise.assignment.value) crew.workers.items ≡ take (length crew.workers.items) (map (λ t. t.assignment) tasks)
     pub readers : map (λ h. listener_promised h.promise) crew.readers.items ≡ take (length crew.readers.items) (map listener_of reader_tasks)
     pub given : AllByRecursion (λ h. (h.promise.rules.value ≡ rules) × (h.promise.latch.now ≡ latch)) crew.workers.items
-    pub latches : AllByRecursion (λ h. h.promise.latch.now ≡ latch) crew.readers.items
+    pub latches : AllByRecursion (λ h. (h.promise.latch.now ≡ latch) × (h.promise.turns ≡ rules.turns)) crew.readers.items
     pub no_result : crew.worker_results.items ≡ []
     pub no_end : crew.reader_ends.items ≡ []
     pub results_fit : length crew.workers.items ≤ vec_capacity crew.worker_results

@@ -13,7 +13,7 @@ use Rattle.sms_worker.specs.declared.work.WorkerEnd.{WorkerEnd}
 use Rattle.sms_worker.specs.EndOf.{IsEndOf}
 use Rattle.sms_worker.specs.Apart.{NumbersApart, PlacesApart}
 use Rattle.sms_worker.specs.Told.{AllTold, Drew, Grew}
-use Rattle.sms_driver.specs.declared.task.Assignment.{Assignment}
+use Rattle.sms_worker.specs.ReadyState.{ReadyState}
 
 -- its ends are its messages', and its share grew by them
 pub record Worked (rules : Rules) (old new : List Amounts) (ms : List Message) (es : List MessageEnd) : Type 0 where
@@ -22,23 +22,23 @@ pub record Worked (rules : Rules) (old new : List Amounts) (ms : List Message) (
 
 -- the work of an assignment, by the same worker: its share has the same number, its seat the same window, and it has the same
 -- end of its ring
-pub record IsWorkOf {N : Type 0} (rules : Rules) (a : Assignment N) (d : WorkerEnd N) : Type 0 where
-  pub worked : Worked rules a.worker.shares.amounts d.shares.amounts a.messages.items d.ends.items
+pub record IsWorkOf {N : Type 0} (rules : Rules) (a : ReadyState N) (d : WorkerEnd N) : Type 0 where
+  pub worked : Worked rules a.worker.shares.amounts d.shares.amounts a.messages d.ends.items
   pub number : d.shares.number ≡ a.worker.shares.number
   pub window : d.seat.window ≡ a.worker.seat.window
   pub ring : SameConsumer a.worker.consumer d.consumer
   pub heard : (rest : List Reply) × (received d.consumer ≡ received a.worker.consumer ++ rest)
   -- each answer was received in this work, and no place of what was received answers two attempts
-  pub answers : AllTold rules (length (received a.worker.consumer)) (received d.consumer) a.messages.items d.ends.items
+  pub answers : AllTold rules (length (received a.worker.consumer)) (received d.consumer) a.messages d.ends.items
   pub places : PlacesApart (received d.consumer) d.ends.items
   -- the numbers were drawn by the seat, each for one attempt
-  pub numbers : Drew a.worker.seat.view d.seat.view a.messages.items d.ends.items
+  pub numbers : Drew a.worker.seat.view d.seat.view a.messages d.ends.items
   pub apart : NumbersApart d.ends.items
 
--- what comes back of an assignment: its work, or where memory was refused a worker with the seat
-abbrev pub IsResultOf : {N E M : Type 0} → Rules → Assignment N → Result (WorkerEnd N) (E × Worker N × M) → Type 0
-IsResultOf rules a r = MatchResult r (IsWorkOf rules a) (λ e. e.1.seat.window ≡ a.worker.seat.window)
+-- what comes back of an assignment: its work
+abbrev pub IsResultOf : {N E M : Type 0} → Rules → ReadyState N → Result (WorkerEnd N) (E × Worker N × M) → Type 0
+IsResultOf rules a r = MatchResult r (IsWorkOf rules a) (λ e. ⊥)
 
 -- nothing was done: the worker and its messages came back as they were given
-abbrev pub IsHandedBack : {N E : Type 0} → Assignment N → Result (WorkerEnd N) (E × Worker N × Vec Message Global) → Type 0
-IsHandedBack a r = MatchResult r (λ d. ⊥) (λ e. (e.1 ≡ a.worker) × (e.2.items ≡ a.messages.items))
+abbrev pub IsHandedBack : {N E : Type 0} → ReadyState N → Result (WorkerEnd N) (E × Worker N × Vec Message Global) → Type 0
+IsHandedBack a r = MatchResult r (λ d. ⊥) (λ e. (e.1 ≡ a.worker) × (e.2.items ≡ a.messages))

@@ -1,11 +1,12 @@
 //! How the binds are made, one after the other (SMPP 3.4 4.1).
 
-ghost use Rattle.std.specs.Prelude.{◌≡◌, ◌⊎◌, ℕ, ◌<◌, ◌≤◌, [], length, map, vec_capacity, Some, None, if◌then◌else◌, IfErr, IfOk, OnOk};
+ghost use Rattle.std.specs.Prelude.{◌≡◌, ◌⊎◌, ℕ, ◌<◌, ◌≤◌, [], length, map, vec_capacity, IfErr, IfOk, OnOk};
 ghost use Rattle.std.specs.List.{AllByRecursion, AllZip};
 ghost use Rattle.sms_core.specs.Limits.{most_slots};
 ghost use Rattle.sms_pdu.specs.Devices.{device};
 ghost use Rattle.sms_bind.specs.Wires.{writer};
-ghost use Rattle.sms_driver.specs.BindEnds.{HasBound};
+ghost use Rattle.sms_driver.specs.BindEnds.{follow_of, HasBound, IsSetUp};
+ghost use Rattle.sms_window.specs.declared.view.View.{View};
 ghost use Rattle.sms_driver.specs.Reads.{AreOpened, IsOpened};
 ghost use Rattle.sms_driver.specs.Rings.{IsNewPair};
 ghost use Rattle.sms_driver.specs.Seated.{IsSeated};
@@ -27,6 +28,7 @@ use sms_window::{Window, WindowSeat};
 use sms_worker::{Number, draw};
 use std::alloc::Global;
 use std::io::{Read, Write};
+use std::snapshot::Snapshot;
 use std::sync::Wait;
 
 /// Where connections come from.
@@ -55,12 +57,14 @@ pub struct BindSettings {
     pub follow: bool,
 }
 
-/// A bind that was made.
+/// A bind that was made; its wire as it was dialled, and once the bind was asked for.
 #[derive(Drop)]
 struct Made<Rd, W> {
     shared: SharedBind<W>,
     parts: BindParts<Rd>,
     driver_seat: DriverSeat,
+    dialled: Snapshot<Wire<W>>,
+    asked: Snapshot<Wire<W>>,
 }
 
 /// All binds, each at its place in each list: what its threads share, what they are given, and the
@@ -90,7 +94,7 @@ fn fault_of(bind: u32, fault: BindFault) -> SendFault
 /// The window's limit for a reader that follows.
 fn following(bind_settings: &BindSettings) -> Following
     requires limit { (1 ≤ bind_settings.now.limit) × (bind_settings.now.limit ≤ most_slots) }
-    ensures { result.limit ≡ (if bind_settings.now.follow then Some bind_settings.now.limit else None) }
+    ensures { result.limit ≡ follow_of bind_settings.now }
 {
     if bind_settings.follow {
         Following {
@@ -141,12 +145,13 @@ fn connect<D: Dial>(dial: &D, bind_place: u32) -> Result<(D::Reader, D::Writer),
     }
 }
 
-/// A connection that is bound.
+/// A connection that is bound, and its wire as it was dialled.
 #[derive(Drop)]
 struct Connected<Rd, W> {
     reader: Tap<Rd>,
     wire: Wire<W>,
     bound: Bound,
+    dialled: Snapshot<Wire<W>>,
 }
 
 /// Dials and binds.
@@ -161,11 +166,13 @@ fn dial_and_bind<D: Dial>(
     requires own { seat.old.window ≡ window.now }
     ensures window { seat.new.window ≡ seat.old.window }
     ensures opened { IfOk result (λ c. IsOpened settings.now.mode (D.told dial.now bind_place) (D.Reader.remaining (device c.reader)) c.bound) }
+    ensures asked { IfOk result (λ c. HasBound seat.old.view settings.now (D.Writer.contents (writer c.dialled.value)) (D.Writer.contents (writer c.wire)) seat.new.view) }
     ensures refused { IfErr result (IsFaultOf bind_place) }
 {
     let (reader, writer) = connect(dial, bind_place)?;
     let mut reader = Tap::new(reader);
     let mut wire = Wire::new(Tap::new(writer));
+    let dialled = Snapshot::of(&wire);
     match bind_with(
         alloc,
         window,
@@ -179,6 +186,7 @@ fn dial_and_bind<D: Dial>(
             reader,
             wire,
             bound,
+            dialled,
         }),
         Err(fault) => Err(fault),
     }
@@ -198,6 +206,9 @@ fn make_bind<D: Dial>(
     requires few { workers < 62 }
     ensures seated { IfOk result (λ m. IsSeated workers m.shared m.parts) }
     ensures opened { IfOk result (λ m. IsOpened bind_settings.now.settings.mode (D.told dial.now bind_place) (D.Reader.remaining (device m.parts.reader)) m.parts.bound) }
+    ensures set { IfOk result (λ m. IsSetUp bind_settings.now m.parts) }
+    // The settings' bind went out, with a number that the driver's seat drew.
+    ensures asked { IfOk result (λ m. (before : View) × HasBound before bind_settings.now.settings (D.Writer.contents (writer m.dialled.value)) (D.Writer.contents (writer m.asked.value)) m.driver_seat.seat.view) }
     ensures driver_seat { IfOk result (λ m. m.driver_seat.seat.window ≡ m.shared.window) }
     ensures refused { IfErr result (IsFaultOf bind_place) }
 {
@@ -220,7 +231,9 @@ fn make_bind<D: Dial>(
         reader,
         wire,
         bound,
+        dialled,
     } = dial_and_bind(alloc, dial, &window, &mut seat, settings, bind_place)?;
+    let asked = Snapshot::of(&wire);
     Ok(Made {
         shared: SharedBind {
             line: Line::new(slots, wire),
@@ -239,6 +252,8 @@ fn make_bind<D: Dial>(
             seat,
             unbinding: Unbinding::NotYet,
         },
+        dialled,
+        asked,
     })
 }
 
@@ -259,6 +274,7 @@ fn bind_each<D: Dial>(
     requires room { (length rings.items ≤ vec_capacity binds.shared_binds) × (length rings.items ≤ vec_capacity binds.bind_parts) × (length rings.items ≤ vec_capacity binds.driver_seats) }
     ensures driver_seats { map (λ s. s.seat.window) result.0.driver_seats.items ≡ map (λ b. b.window) result.0.shared_binds.items }
     ensures opened { AreOpened D.Reader.remaining bind_settings.now.settings.mode (D.told dial.now) 0 result.0.bind_parts.items }
+    ensures set { AllByRecursion (IsSetUp bind_settings.now) result.0.bind_parts.items }
     ensures seated { AllZip (IsSeated workers) result.0.shared_binds.items result.0.bind_parts.items }
     ensures long { OnOk result.1 (length result.0.shared_binds.items ≡ length rings.items) }
     // The first that failed is told.
@@ -277,6 +293,8 @@ fn bind_each<D: Dial>(
                     shared,
                     parts,
                     driver_seat,
+                    dialled: _,
+                    asked: _,
                 } = made;
                 shared_binds.push_reserved(shared);
                 bind_parts.push_reserved(parts);
@@ -320,6 +338,7 @@ pub(crate) fn make_binds<D: Dial, R: Wait>(
     requires binds { length rings.items ≤ 4 }
     ensures driver_seats { IfOk result (λ b. map (λ s. s.seat.window) b.driver_seats.items ≡ map (λ b. b.window) b.shared_binds.items) }
     ensures opened { IfOk result (λ b. AreOpened D.Reader.remaining bind_settings.now.settings.mode (D.told dial.now) 0 b.bind_parts.items) }
+    ensures set { IfOk result (λ b. AllByRecursion (IsSetUp bind_settings.now) b.bind_parts.items) }
     ensures seated { IfOk result (λ b. AllZip (IsSeated workers) b.shared_binds.items b.bind_parts.items) }
     ensures long { IfOk result (λ b. length b.shared_binds.items ≡ length rings.items) }
     ensures refused { IfErr result (IsFaultOfOne (length rings.items)) }

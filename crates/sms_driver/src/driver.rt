@@ -7,7 +7,8 @@ ghost use Rattle.sms_worker.specs.EndOf.{IsEndOf};
 ghost use Rattle.sms_driver.specs.Answered.{AreHeard};
 ghost use Rattle.sms_driver.specs.BindEnds.{AreBinds};
 ghost use Rattle.sms_driver.specs.Deals.{dealt};
-ghost use Rattle.sms_driver.specs.Numbered.{AreNumbered};
+ghost use Rattle.sms_driver.specs.Ended.{HaveEnded};
+ghost use Rattle.sms_driver.specs.Numbered.{AreBelow, AreNumbered};
 ghost use Rattle.sms_driver.specs.SendFaults.{IsFaultOfOne};
 ghost use Rattle.sms_driver.specs.Statements.{AreRows};
 
@@ -47,8 +48,12 @@ pub fn drive_all<
     ensures ends { IfOk result (λ r. AllZip (IsEndOf rules.now (length openings.now)) messages.items r.ends.items) }
     // Bind by bind, each answered attempt of its workers rests on an answer of its own that was read of it.
     ensures heard { IfOk result (λ r. AreHeard (D.told dial.now) binds workers (dealt (binds * workers) 0 r.ends.items)) }
+    // The cause and the counts of each bind's reader are those of what was read of the bind.
+    ensures readers { IfOk result (λ r. HaveEnded bind_settings.now rules.now.turns (D.told dial.now) r.binds.items) }
     // No two attempts of the workers of one bind have one sequence_number.
     ensures numbers { IfOk result (λ r. AreNumbered binds workers (dealt (binds * workers) 0 r.ends.items)) }
+    // They are below the number that the bind's window would have given next.
+    ensures below { IfOk result (λ r. AreBelow workers r.binds.items (dealt (binds * workers) 0 r.ends.items)) }
     ensures rows { IfOk result (λ r. AreRows (credits_of openings.now) messages.items r.ends.items r.statement) }
     // Each bind was made and ended, and had its workers.
     ensures binds { IfOk result (λ r. AreBinds binds workers r.binds.items) }

@@ -7,9 +7,9 @@ ghost use Rattle.sms_book.specs.Portions.{row_at};
 ghost use Rattle.sms_book.specs.Shares.{AreAll};
 ghost use Rattle.sms_book.specs.Sums.{IsSumOf};
 ghost use Rattle.sms_worker.specs.declared.ends.MessageEnd.{MessageEnd};
-ghost use Rattle.sms_driver.specs.BindEnds.{AreBinds, IsTried};
+ghost use Rattle.sms_driver.specs.BindEnds.{outcome_of, AreBinds, IsTried};
 ghost use Rattle.sms_driver.specs.Deals.{dealt};
-ghost use Rattle.sms_driver.specs.Numbered.{AllDrewOnce};
+ghost use Rattle.sms_driver.specs.Numbered.{AllDrewOnce, DrewBelow};
 ghost use Rattle.sms_driver.specs.Rings.{flat};
 ghost use Rattle.sms_worker.specs.Rests.{HasReceived};
 ghost use Rattle.sms_driver.specs.Seated.{windows};
@@ -122,6 +122,7 @@ fn join_ends<W: Drop>(
     ensures received { OnOk result (AllZip HasReceived (flat (map (λ d. d.producers.items) left.readers.items)) consumers.items) }
     ensures shared_binds { IfOk result (λ l. l.shared_binds ≡ left.shared_binds) }
     ensures readers { IfOk result (λ l. map (λ d. d.seat.window) l.readers.items ≡ map (λ d. d.seat.window) left.readers.items) }
+    ensures outcomes { IfOk result (λ l. map outcome_of l.readers.items ≡ map outcome_of left.readers.items) }
     ensures driver_seats { IfOk result (λ l. l.driver_seats ≡ left.driver_seats) }
     ensures workers { IfOk result (λ l. l.workers ≡ left.workers) }
 {
@@ -164,8 +165,10 @@ pub fn conclude<N: BookName, W: Drop>(
     ensures accounts { IfOk result (λ r. length r.statement ≡ N.book.accounts) }
     ensures sums { IfOk result (λ r. (i : ℕ) → i < length r.statement → IsSumOf (row_at r.statement i) i till (map (λ d. d.shares) done.items)) }
     ensures binds { IfOk result (λ r. AreBinds (length left.shared_binds.items) left.workers r.binds.items) }
+    ensures outcomes { IfOk result (λ r. map (λ b. b.reader) r.binds.items ≡ map outcome_of left.readers.items) }
     // No two workers of a bind drew one number.
     ensures once { IfOk result (λ _. AllDrewOnce (length left.shared_binds.items) left.workers (map (λ d. d.seat.view) done.items)) }
+    ensures below { IfOk result (λ r. DrewBelow left.workers (map (λ d. d.seat.view) done.items) (map (λ b. b.window) r.binds.items)) }
 {
     let out = Vec::with_capacity(alloc, count)?;
     let parts = take_apart(alloc, done)?;

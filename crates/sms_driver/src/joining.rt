@@ -1,6 +1,7 @@
 //! The readers' ends of the rings, in one list again.
 
 ghost use Rattle.std.specs.Prelude.{◌≡◌, map, IfOk};
+ghost use Rattle.sms_driver.specs.BindEnds.{outcome_of};
 ghost use Rattle.sms_driver.specs.Rings.{flat};
 
 use rtrb::Producer;
@@ -19,6 +20,7 @@ pub(crate) struct Taken {
 pub(crate) fn take_rings(alloc: Global, readers: Vec<ReaderEnd>) -> Result<Taken, AllocError>
     ensures producers { IfOk result (λ r. r.producers.items ≡ flat (map (λ d. d.producers.items) readers.items)) }
     ensures seats { IfOk result (λ r. map (λ d. d.seat.window) r.readers.items ≡ map (λ d. d.seat.window) readers.items) }
+    ensures outcomes { IfOk result (λ r. map outcome_of r.readers.items ≡ map outcome_of readers.items) }
 {
     let mut producers = Vec::new(alloc);
     let mut bare = Vec::with_capacity(alloc, readers.len())?;

@@ -3,6 +3,7 @@
 ghost use Rattle.std.specs.Prelude.{◌≡◌};
 ghost use Rattle.sms_driver.specs.Latches.{IsAtOne, IsSaidAt, word_of};
 
+use std::snapshot::Snapshot;
 use std::sync::{OnceLock, OnceToken, Wait};
 
 /// What a thread is told before its first turn.
@@ -20,6 +21,12 @@ pub struct Latch {
     word: OnceLock<Word>,
 }
 
+/// The leave to say the word of a latch. There is one for each, so nobody says a second word there.
+#[derive(Drop)]
+pub struct Unsaid {
+    pub latch: Snapshot<Latch>,
+}
+
 /// That a word was said at a latch. All that have one of the same latch have the same word.
 #[derive(Drop)]
 pub struct Said<'a> {
@@ -34,18 +41,26 @@ pub struct Told<'a, T> {
 }
 
 impl Latch {
-    /// A latch at which nothing was said yet.
-    pub fn new() -> Latch {
-        Latch {
+    /// A latch at which nothing was said yet, and the leave to say its word.
+    pub fn new() -> (Latch, Unsaid)
+        ensures { result.1.latch.value ≡ result.0 }
+    {
+        let latch = Latch {
             word: OnceLock::new(),
-        }
+        };
+        let unsaid = Unsaid {
+            latch: Snapshot::of(&latch),
+        };
+        (latch, unsaid)
     }
 
-    /// Says the word, and wakes all that wait for it. It is said once: a second call doesn't return.
-    pub fn say<R: Wait>(&self, rt: &R, word: Word) -> Said<'_>
+    /// Says the word, and wakes all that wait for it.
+    pub fn say<R: Wait>(&self, rt: &R, word: Word, unsaid: Unsaid) -> Said<'_>
+        requires leave { unsaid.latch.value ≡ self.now }
         ensures at { IsSaidAt self.now result }
         ensures word { word_of result ≡ word }
     {
+        drop(unsaid);
         for _turn in rt.forever() {
             if let Ok(token) = self.word.set(rt, word) {
                 return Said { token };

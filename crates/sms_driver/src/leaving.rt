@@ -3,15 +3,15 @@
 ghost use Rattle.std.specs.Prelude.{◌≡◌, ◌<◌, ◌∷◌, ◌++◌, IfOk, List, length, map, replicate, take, drop};
 ghost use Rattle.std.specs.List.{AllByRecursion};
 ghost use Rattle.atomic_table.specs.Seated.{TableId};
-ghost use Rattle.sms_driver.specs.BindEnds.{AreBinds, IsTried};
-ghost use Rattle.sms_driver.specs.Joined.{HasJoined};
+ghost use Rattle.sms_driver.specs.BindEnds.{outcome_of, AreBinds, IsTried};
+ghost use Rattle.sms_driver.specs.Joined.{AreClosed, HasJoined, IsClosed};
 ghost use Rattle.sms_driver.specs.Numbered.{AllDrewOnce, DrewOnce};
 ghost use Rattle.sms_driver.specs.Seated.{windows};
 
-use crate::bind_end::BindEnd;
+use crate::bind_end::{BindEnd, outcome_in};
 use crate::seating::{DriverSeat, SharedBind};
 use sms_bind::ReaderEnd;
-use sms_window::{Window, WindowSeat};
+use sms_window::{Closed, Window, WindowSeat};
 use std::alloc::{AllocError, Global};
 use std::collections::VecDeque;
 
@@ -44,7 +44,7 @@ fn close_one<W: Drop>(
     driver: WindowSeat,
     seats: &mut VecDeque<WindowSeat>,
     workers: usize,
-)
+) -> Closed
     requires keeper { keeper.window ≡ shared.window }
     requires driver { driver.window ≡ shared.window }
     requires seats { (rest : List TableId) × (map (λ s. s.window) seats.old.items ≡ replicate workers shared.window ++ rest) }
@@ -52,12 +52,13 @@ fn close_one<W: Drop>(
     ensures left { map (λ s. s.view) seats.new.items ≡ drop workers (map (λ s. s.view) seats.old.items) }
     // No two of them drew one number.
     ensures once { DrewOnce (take workers (map (λ s. s.view) seats.old.items)) }
+    ensures closed { IsClosed keeper.view (driver.view ∷ take workers (map (λ s. s.view) seats.old.items)) result }
 {
     let SharedBind { line: _, window } = shared;
     let mut keeper = keeper;
     window.join(&mut keeper, driver);
     join_workers(&window, &mut keeper, seats, workers);
-    let _closed = window.close(keeper);
+    window.close(keeper)
 }
 
 // Takes the first of a queue that has one.
@@ -93,6 +94,8 @@ pub(crate) fn close_all<W: Drop>(
     requires tried { AllByRecursion (λ s. IsTried s.unbinding) left.driver_seats.items }
     requires seats { map (λ s. s.window) seats.items ≡ windows left.workers (map (λ b. b.window) left.shared_binds.items) }
     ensures binds { IfOk result (λ ends. AreBinds (length left.shared_binds.items) left.workers ends.items) }
+    ensures outcomes { IfOk result (λ ends. map (λ b. b.reader) ends.items ≡ map outcome_of left.readers.items) }
+    ensures closed { IfOk result (λ ends. AreClosed left.workers (map (λ d. d.seat.view) left.readers.items) (map (λ s. s.seat.view) left.driver_seats.items) (map (λ s. s.view) seats.items) (map (λ b. b.window) ends.items)) }
     ensures once { IfOk result (λ _. AllDrewOnce (length left.shared_binds.items) left.workers (map (λ s. s.view) seats.items)) }
 {
     let Left {
@@ -108,10 +111,16 @@ pub(crate) fn close_all<W: Drop>(
     for shared in shared_binds {
         let reader = take_first(&mut readers);
         let driver_seat = take_first(&mut driver_seats);
+        let outcome = outcome_in(&reader);
         let ReaderEnd { seat: keeper, .. } = reader;
         let DriverSeat { seat, unbinding } = driver_seat;
-        close_one(shared, keeper, seat, &mut seats, workers);
-        ends.push(BindEnd { workers, unbinding })?;
+        let window = close_one(shared, keeper, seat, &mut seats, workers);
+        ends.push(BindEnd {
+            workers,
+            unbinding,
+            reader: outcome,
+            window,
+        })?;
     }
     Ok(ends)
 }

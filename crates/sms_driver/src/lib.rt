@@ -27,7 +27,7 @@ mod thread_scope;
 mod threads;
 mod working;
 
-pub use bind_end::{BindEnd, Unasked, Unbinding};
+pub use bind_end::{BindEnd, ReaderOutcome, Unasked, Unbinding};
 pub use binding::{BindSettings, Dial};
 pub use driver::drive_all;
 pub use ending::Sending;

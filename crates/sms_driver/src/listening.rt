@@ -53,7 +53,7 @@ where
     Rd: Drop,
     requires own { reader_task.seat.window ≡ reader_task.window.now }
     ensures { IsTold latch.now
-        (λ r. (r.seat.window ≡ reader_task.entry.seat.window) × HasRead Rd.remaining (reading_of reader_task.entry) r)
+        (λ r. (r.seat.window ≡ reader_task.entry.seat.window) × HasRead rules.now.turns Rd.remaining (reading_of reader_task.entry) r)
         (IsUnread reader_task.entry.seat reader_task.entry.producers.items) result }
 {
     let said = latch.hear(rt);
@@ -100,7 +100,7 @@ fn start_reader<'s, E, Rd: Read + Send + Drop + 's, W: Write + Send + 's, R: Thr
 ) -> Result<ReaderHandle<'s, Rd>, SendFault>
     requires own { reader_task.seat.window ≡ reader_task.window.now }
     ensures listener { IfOk result (λ h. listener_promised h.promise ≡ listener_of reader_task.entry) }
-    ensures latch { IfOk result (λ h. h.promise.latch.now ≡ latch.now) }
+    ensures given { IfOk result (λ h. (h.promise.latch.now ≡ latch.now) × (h.promise.turns ≡ rules.now.turns)) }
     ensures refused { IfErr result (λ fault. fault ≡ ThreadRefused) }
 {
     let promise = ReaderPromise {
@@ -109,6 +109,8 @@ fn start_reader<'s, E, Rd: Read + Send + Drop + 's, W: Write + Send + 's, R: Thr
         reader: Snapshot::of(&reader_task.reader),
         bound: Snapshot::of(&reader_task.bound),
         producers: Snapshot::of(&reader_task.producers),
+        follow: reader_task.follow,
+        turns: rules.turns,
     };
     match scope.spawn_with(promise, move || {
         listen(rt, alloc, latch, reader_task, rules)
@@ -139,7 +141,7 @@ pub(crate) fn start_readers<
     ensures all { OnOk result (map (λ h. listener_promised h.promise) handles.new.items ≡ map listener_of reader_tasks.entry.items) }
     ensures few { length handles.new.items ≤ length reader_tasks.entry.items }
     ensures first { map (λ h. listener_promised h.promise) handles.new.items ≡ take (length handles.new.items) (map listener_of reader_tasks.entry.items) }
-    ensures latch { AllByRecursion (λ h. h.promise.latch.now ≡ latch.now) handles.new.items }
+    ensures given { AllByRecursion (λ h. (h.promise.latch.now ≡ latch.now) × (h.promise.turns ≡ rules.now.turns)) handles.new.items }
     ensures refused { IfErr result (λ fault. fault ≡ ThreadRefused) }
 {
     for reader_task in reader_tasks {

@@ -9,13 +9,15 @@ ghost use Rattle.rtrb.specs.Ring.{received, IsPair};
 ghost use Rattle.sms_driver.specs.Answered.{AreHeard, Hears};
 ghost use Rattle.sms_driver.specs.BindEnds.{AreBinds, IsTried};
 ghost use Rattle.sms_driver.specs.Deals.{dealt};
-ghost use Rattle.sms_driver.specs.Numbered.{AreNumbered, HasNumbers};
+ghost use Rattle.sms_driver.specs.Ended.{HaveEnded};
+ghost use Rattle.sms_driver.specs.Numbered.{AreBelow, AreNumbered, HasNumbers};
 ghost use Rattle.sms_driver.specs.Reads.{reading_in, reading_of, HasRead};
 ghost use Rattle.sms_driver.specs.Rings.{flat};
 ghost use Rattle.sms_driver.specs.Statements.{AreRows};
-ghost use Rattle.sms_driver.specs.Seated.{IsSeated, windows};
+ghost use Rattle.sms_driver.specs.Seated.{all_keep, all_sit, keeping_of, sitting_of, CountFrom, IsSeated, windows};
 ghost use Rattle.sms_driver.specs.SendFaults.{IsFaultOfOne, IsOfNoBind};
 ghost use Rattle.sms_driver.specs.Settled.{AreSettled};
+ghost use Rattle.sms_driver.specs.Threads.{IsPrepared};
 
 use crate::binding::{BindSettings, Binds, Dial, make_binds};
 use crate::dealing::deal;
@@ -57,7 +59,8 @@ struct Ready<'a, N: BookName, Rd, W> {
     reader_tasks: Vec<ReaderTask<'a, Rd, W>>,
 }
 
-/// Seats all workers and readers, and gives each worker its share and its messages.
+/// Seats all workers and readers, and gives each worker its share, its messages and all memory that its
+/// call begins with.
 fn make_ready<'a, N: BookName, Rd: Drop, W: Drop>(
     alloc: Global,
     shared_binds: &'a [SharedBind<W>],
@@ -65,24 +68,28 @@ fn make_ready<'a, N: BookName, Rd: Drop, W: Drop>(
     workers: usize,
     shares: Vec<Shares<N>>,
     batches: Vec<Vec<Message>>,
+    rules: &Rules,
 ) -> Result<Ready<'a, N, Rd, W>, AllocError>
     requires bind_parts { AllZip (IsSeated workers) shared_binds.now bind_parts.items }
     requires shares { length shares.items ≡ length shared_binds.now * workers }
     requires batches { length batches.items ≡ length shares.items }
     ensures shares { IfOk result (λ r. map (λ t. t.assignment.worker.shares) r.tasks.items ≡ shares.items) }
-    ensures messages { IfOk result (λ r. map (λ t. t.assignment.messages.items) r.tasks.items ≡ map (λ l. l.items) batches.items) }
+    ensures messages { IfOk result (λ r. map (λ t. t.assignment.messages) r.tasks.items ≡ map (λ l. l.items) batches.items) }
     ensures windows { IfOk result (λ r. map (λ t. t.assignment.worker.seat.window) r.tasks.items ≡ windows workers (map (λ b. b.window) shared_binds.now)) }
     ensures keepers { IfOk result (λ r. map (λ t. t.seat.window) r.reader_tasks.items ≡ map (λ b. b.window) shared_binds.now) }
     ensures rings { IfOk result (λ r. map (λ t. t.assignment.worker.consumer) r.tasks.items ≡ flat (map (λ p. p.consumers.items) bind_parts.items)) }
     ensures readings { IfOk result (λ r. map reading_of r.reader_tasks.items ≡ map reading_in bind_parts.items) }
-    ensures own { IfOk result (λ r. AllByRecursion (λ t. t.assignment.worker.seat.window ≡ t.window.now) r.tasks.items) }
+    ensures sitting { IfOk result (λ r. map sitting_of r.tasks.items ≡ all_sit shared_binds.now bind_parts.items) }
+    ensures keeping { IfOk result (λ r. map keeping_of r.reader_tasks.items ≡ all_keep shared_binds.now bind_parts.items) }
+    ensures indexes { IfOk result (λ r. CountFrom 0 (map (λ t. t.assignment.worker.index) r.tasks.items)) }
+    ensures own { IfOk result (λ r. AllByRecursion (IsPrepared rules.now) r.tasks.items) }
     ensures reader_tasks { IfOk result (λ r. AllByRecursion (λ t. t.seat.window ≡ t.window.now) r.reader_tasks.items) }
 {
     let Seating {
         places,
         reader_tasks,
     } = seat_all(alloc, shared_binds, bind_parts, workers)?;
-    let tasks = tasks(alloc, places, shares, batches)?;
+    let tasks = tasks(alloc, places, shares, batches, rules)?;
     Ok(Ready {
         tasks,
         reader_tasks,
@@ -135,7 +142,7 @@ fn send_over<
     ensures seats { IfOk result (λ r. map (λ d. d.seat.window) r.done.items ≡ windows workers (map (λ b. b.window) shared_binds.now)) }
     ensures hears { IfOk result (λ r. AllByRecursion (λ d. Hears (received d.consumer) d.ends.items) r.done.items) }
     ensures numbers { IfOk result (λ r. AllByRecursion (λ d. HasNumbers d.seat.view d.ends.items) r.done.items) }
-    ensures read { IfOk result (λ r. AllZip (HasRead Rd.remaining) (map reading_in bind_parts.items) r.readers.items) }
+    ensures read { IfOk result (λ r. AllZip (HasRead rules.now.turns Rd.remaining) (map reading_in bind_parts.items) r.readers.items) }
     ensures rings { IfOk result (λ r. AllZip IsPair (flat (map (λ d. d.producers.items) r.readers.items)) (map (λ d. d.consumer) r.done.items)) }
     ensures readers { IfOk result (λ r. map (λ d. d.seat.window) r.readers.items ≡ map (λ b. b.window) shared_binds.now) }
     ensures driver_seats { IfOk result (λ r. map (λ s. s.seat.window) r.driver_seats.items ≡ map (λ b. b.window) shared_binds.now) }
@@ -146,7 +153,15 @@ fn send_over<
     let Ready {
         tasks,
         reader_tasks,
-    } = match make_ready(alloc, shared_binds, bind_parts, workers, shares, batches) {
+    } = match make_ready(
+        alloc,
+        shared_binds,
+        bind_parts,
+        workers,
+        shares,
+        batches,
+        rules,
+    ) {
         Ok(ready) => ready,
         Err(_refused) => {
             unbind_all(rt, alloc, shared_binds, &mut driver_seats);
@@ -206,8 +221,12 @@ pub fn run<
     ensures ends { IfOk result (λ r. AllZip (IsEndOf rules.now blank.book.accounts) messages.items r.ends.items) }
     // Bind by bind, each answered attempt of its workers rests on an answer of its own that was read of it.
     ensures heard { IfOk result (λ r. AreHeard (D.told dial.now) binds workers (dealt (binds * workers) 0 r.ends.items)) }
+    // The cause and the counts of each bind's reader are those of what was read of the bind.
+    ensures readers { IfOk result (λ r. HaveEnded bind_settings.now rules.now.turns (D.told dial.now) r.binds.items) }
     // No two attempts of the workers of one bind have one sequence_number.
     ensures numbers { IfOk result (λ r. AreNumbered binds workers (dealt (binds * workers) 0 r.ends.items)) }
+    // They are below the number that the bind's window would have given next.
+    ensures below { IfOk result (λ r. AreBelow workers r.binds.items (dealt (binds * workers) 0 r.ends.items)) }
     ensures rows { IfOk result (λ r. AreRows blank.credits messages.items r.ends.items r.statement) }
     ensures binds { IfOk result (λ r. AreBinds binds workers r.binds.items) }
     ensures refused { IfErr result (IsFaultOfOne binds) }

@@ -4,7 +4,7 @@ ghost use Rattle.std.specs.Prelude.{◌≡◌, ℕ, ◌+◌, ◌*◌, ◌++◌, 
 ghost use Rattle.std.specs.List.{AllByRecursion, AllZip};
 ghost use Rattle.sms_driver.specs.Reads.{reading_in, reading_of};
 ghost use Rattle.sms_driver.specs.Rings.{flat};
-ghost use Rattle.sms_driver.specs.Seated.{IsSeated, windows};
+ghost use Rattle.sms_driver.specs.Seated.{all_keep, all_sit, keeping_of, sit_from, sitting_at, IsSeated, windows};
 
 use crate::bind_end::Unbinding;
 use crate::following::Following;
@@ -64,10 +64,13 @@ fn seat_workers<'a, W>(
     ensures long { OnOk result (length places.new.items ≡ length places.old.items + length seats.items) }
     ensures windows { OnOk result (map (λ p. p.seat.window) places.new.items ≡ map (λ p. p.seat.window) places.old.items ++ map (λ s. s.window) seats.items) }
     ensures rings { OnOk result (map (λ p. p.consumer) places.new.items ≡ map (λ p. p.consumer) places.old.items ++ consumers.items) }
+    // Each has the next place, seat and ring, at the bind's line and window.
+    ensures sitting { OnOk result (map sitting_at places.new.items ≡ map sitting_at places.old.items ++ sit_from shared.now 0 seats.items consumers.items) }
 {
+    let all = consumers.len();
     let mut consumers = VecDeque::from(consumers);
-    let mut place = 0usize;
     for seat in seats {
+        let place = all - consumers.len();
         let Some(consumer) = consumers.pop_front() else {
             unreachable!()
         };
@@ -78,7 +81,6 @@ fn seat_workers<'a, W>(
             line: &shared.line,
             window: &shared.window,
         })?;
-        place = place.wrapping_add(1);
     }
     Ok(())
 }
@@ -102,6 +104,10 @@ where
     // Each place has its ring, and each reader task what its bind's parts have, as they were given.
     ensures rings { IfOk result (λ s. map (λ p. p.consumer) s.places.items ≡ flat (map (λ p. p.consumers.items) bind_parts.items)) }
     ensures readings { IfOk result (λ s. map reading_of s.reader_tasks.items ≡ map reading_in bind_parts.items) }
+    // Bind by bind, each worker has its place, its seat, its ring, and the line and the window of the bind; and each
+    // reader the keeper's seat, and what it is to follow.
+    ensures sitting { IfOk result (λ s. map sitting_at s.places.items ≡ all_sit shared_binds.now bind_parts.items) }
+    ensures keeping { IfOk result (λ s. map keeping_of s.reader_tasks.items ≡ all_keep shared_binds.now bind_parts.items) }
 {
     let mut places = Vec::new(alloc);
     let mut reader_tasks = Vec::with_capacity(alloc, shared_binds.len())?;

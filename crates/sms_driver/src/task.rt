@@ -1,28 +1,23 @@
 //! What each worker is given.
 
-ghost use Rattle.std.specs.Prelude.{◌≡◌, ℕ, List, length, map, IfOk};
+ghost use Rattle.std.specs.Prelude.{◌≡◌, ◌≤◌, ℕ, List, length, map, IfOk};
 ghost use Rattle.std.specs.List.{AllByRecursion};
+ghost use Rattle.sms_driver.specs.Seated.{sitting_at, sitting_of, CountFrom};
+ghost use Rattle.sms_driver.specs.Threads.{IsPrepared};
 
 use rtrb::Consumer;
 use sms_bind::Line;
 use sms_book::{BookName, Shares};
 use sms_pdu::Reply;
 use sms_window::{Window, WindowSeat};
-use sms_worker::{Message, Worker};
+use sms_worker::{Message, ReadyWorker, Rules, Worker};
 use std::alloc::{AllocError, Global};
 use std::collections::VecDeque;
 
-/// A worker and its messages.
-#[derive(Drop)]
-pub struct Assignment<N: BookName> {
-    pub worker: Worker<N>,
-    pub messages: Vec<Message>,
-}
-
-/// An assignment, and the bind that it is carried out at.
+/// A worker with its messages and all memory that its call begins with, and the bind that it works at.
 #[derive(Drop)]
 pub struct WorkerTask<'a, N: BookName, W> {
-    pub assignment: Assignment<N>,
+    pub assignment: ReadyWorker<N>,
     pub line: &'a Line<W>,
     pub window: &'a Window,
 }
@@ -38,18 +33,22 @@ pub struct WorkerPlace<'a, W> {
 }
 
 fn make_task<'a, N: BookName, W>(
+    alloc: Global,
     place: WorkerPlace<'a, W>,
     index: usize,
     shares: Shares<N>,
     messages: Vec<Message>,
-) -> WorkerTask<'a, N, W>
-    ensures shares { result.assignment.worker.shares ≡ shares }
-    ensures messages { result.assignment.messages ≡ messages }
-    ensures index { result.assignment.worker.index ≡ index }
-    ensures place { result.assignment.worker.place ≡ place.entry.place }
-    ensures ring { result.assignment.worker.consumer ≡ place.entry.consumer }
-    ensures seat { result.assignment.worker.seat ≡ place.entry.seat }
-    ensures window { result.window.now ≡ place.entry.window.now }
+    rules: &Rules,
+) -> Result<WorkerTask<'a, N, W>, AllocError>
+    ensures shares { IfOk result (λ t. t.assignment.worker.shares ≡ shares) }
+    ensures messages { IfOk result (λ t. t.assignment.messages ≡ messages.items) }
+    ensures index { IfOk result (λ t. t.assignment.worker.index ≡ index) }
+    ensures place { IfOk result (λ t. t.assignment.worker.place ≡ place.entry.place) }
+    ensures ring { IfOk result (λ t. t.assignment.worker.consumer ≡ place.entry.consumer) }
+    ensures seat { IfOk result (λ t. t.assignment.worker.seat ≡ place.entry.seat) }
+    ensures sitting { IfOk result (λ t. sitting_of t ≡ sitting_at place.entry) }
+    ensures window { IfOk result (λ t. t.window.now ≡ place.entry.window.now) }
+    ensures room { IfOk result (λ t. rules.now.depth ≤ t.assignment.room) }
 {
     let WorkerPlace {
         seat,
@@ -65,28 +64,36 @@ fn make_task<'a, N: BookName, W>(
         shares,
         consumer,
     };
-    WorkerTask {
-        assignment: Assignment { worker, messages },
-        line,
-        window,
+    match ReadyWorker::new(alloc, worker, messages, rules) {
+        Ok(assignment) => Ok(WorkerTask {
+            assignment,
+            line,
+            window,
+        }),
+        Err(_refused) => Err(AllocError),
     }
 }
 
-/// Each place gets a share and a batch of messages.
+/// Each place gets a share and a batch of messages, and all memory that its worker's call by these
+/// rules begins with.
 pub fn tasks<'a, N: BookName, W>(
     alloc: Global,
     places: Vec<WorkerPlace<'a, W>>,
     shares: Vec<Shares<N>>,
     batches: Vec<Vec<Message>>,
+    rules: &Rules,
 ) -> Result<Vec<WorkerTask<'a, N, W>>, AllocError>
     requires places { length places.items ≡ length shares.items }
     requires batches { length batches.items ≡ length shares.items }
     requires own { AllByRecursion (λ p. p.seat.window ≡ p.window.now) places.items }
     ensures shares { IfOk result (λ v. map (λ t. t.assignment.worker.shares) v.items ≡ shares.items) }
-    ensures messages { IfOk result (λ v. map (λ t. t.assignment.messages.items) v.items ≡ map (λ l. l.items) batches.items) }
+    ensures messages { IfOk result (λ v. map (λ t. t.assignment.messages) v.items ≡ map (λ l. l.items) batches.items) }
     ensures windows { IfOk result (λ v. map (λ t. t.assignment.worker.seat.window) v.items ≡ map (λ p. p.seat.window) places.entry.items) }
     ensures rings { IfOk result (λ v. map (λ t. t.assignment.worker.consumer) v.items ≡ map (λ p. p.consumer) places.entry.items) }
-    ensures own { IfOk result (λ v. AllByRecursion (λ t. t.assignment.worker.seat.window ≡ t.window.now) v.items) }
+    ensures own { IfOk result (λ v. AllByRecursion (IsPrepared rules.now) v.items) }
+    ensures sitting { IfOk result (λ v. map sitting_of v.items ≡ map sitting_at places.entry.items) }
+    // A worker's index is its place among all.
+    ensures indexes { IfOk result (λ v. CountFrom 0 (map (λ t. t.assignment.worker.index) v.items)) }
 {
     let mut tasks = Vec::with_capacity(alloc, shares.len())?;
     let mut places = VecDeque::from(places);
@@ -96,7 +103,8 @@ pub fn tasks<'a, N: BookName, W>(
             unreachable!()
         };
         let index = tasks.len();
-        tasks.push(make_task(place, index, share, messages))?;
+        let task = make_task(alloc, place, index, share, messages, rules)?;
+        tasks.push(task)?;
     }
     Ok(tasks)
 }

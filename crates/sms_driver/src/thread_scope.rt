@@ -4,12 +4,12 @@ ghost use Rattle.std.specs.Prelude.{◌≡◌, map, IfErr, IfOk, MatchResult, On
 ghost use Rattle.std.specs.List.{AllByRecursion};
 ghost use Rattle.sms_driver.specs.BindEnds.{IsTried};
 ghost use Rattle.sms_driver.specs.SendFaults.{IsOfStart};
-ghost use Rattle.sms_driver.specs.Threads.{AreSeated, HasRoom, HaveLeft, HaveReturned, IsCrew, IsNoCrew, IsWhole};
+ghost use Rattle.sms_driver.specs.Threads.{AreSeated, HasRoom, HaveLeft, HaveReturned, IsCrew, IsNoCrew, IsPrepared, IsWhole};
 ghost use Rattle.sms_driver.specs.declared.latch.Word.TheVariants.{Go, Leave};
 
 use crate::fault::SendFault;
 use crate::hanging_up::{hang_up_all, unbind_all};
-use crate::latch::{Latch, Word};
+use crate::latch::{Latch, Unsaid, Word};
 use crate::listening::{ReaderHandle, start_readers};
 use crate::seating::{DriverSeat, SharedBind};
 use crate::task::WorkerTask;
@@ -106,7 +106,7 @@ fn start_all<
     reader_tasks: Vec<ReaderTask<'s, Rd, W>>,
     crew: &mut Crew<'s, N, Rd>,
 ) -> Result<(), SendFault>
-    requires workers { AllByRecursion (λ t. t.assignment.worker.seat.window ≡ t.window.now) tasks.items }
+    requires workers { AllByRecursion (IsPrepared context.now.rules.now) tasks.items }
     requires readers { AllByRecursion (λ t. t.seat.window ≡ t.window.now) reader_tasks.items }
     requires none { IsNoCrew crew.old }
     ensures crew { IsCrew context.now.rules.now latch.now tasks.entry.items reader_tasks.entry.items crew.new }
@@ -153,12 +153,14 @@ fn drive<
     scope: &Scope<'s, E>,
     context: &'s RunContext<'s, N, G, K, P, R>,
     latch: &'s Latch,
+    unsaid: Unsaid,
     tasks: Vec<WorkerTask<'s, N, W>>,
     reader_tasks: Vec<ReaderTask<'s, Rd, W>>,
     shared_binds: &'s [SharedBind<W>],
     driver_seats: Vec<DriverSeat>,
 ) -> Result<Returned<N>, Unsent<N>>
-    requires seated { AreSeated tasks.items reader_tasks.items driver_seats.items shared_binds.now }
+    requires seated { AreSeated context.now.rules.now tasks.items reader_tasks.items driver_seats.items shared_binds.now }
+    requires leave { unsaid.latch.value ≡ latch.now }
     ensures returned { IfOk result (HaveReturned context.now.rules.now Rd.remaining tasks.entry.items reader_tasks.entry.items shared_binds.now) }
     // Nothing was sent: each thread that was started gave back what it was given.
     ensures left { IfErr result (λ unsent. HaveLeft tasks.entry.items reader_tasks.entry.items shared_binds.now unsent.left) }
@@ -168,7 +170,7 @@ fn drive<
     let mut crew = Crew::new(context.alloc);
     let started = start_all(scope, context, latch, tasks, reader_tasks, &mut crew);
     let word = word_for(&started);
-    let said = latch.say(rt, word);
+    let said = latch.say(rt, word, unsaid);
     let Crew {
         workers,
         readers,
@@ -235,18 +237,19 @@ pub fn work_all<
     shared_binds: &'a [SharedBind<W>],
     driver_seats: Vec<DriverSeat>,
 ) -> Result<Returned<N>, Unsent<N>>
-    requires seated { AreSeated tasks.items reader_tasks.items driver_seats.items shared_binds.now }
+    requires seated { AreSeated context.now.rules.now tasks.items reader_tasks.items driver_seats.items shared_binds.now }
     ensures returned { IfOk result (HaveReturned context.now.rules.now Rd.remaining tasks.entry.items reader_tasks.entry.items shared_binds.now) }
     ensures left { IfErr result (λ unsent. HaveLeft tasks.entry.items reader_tasks.entry.items shared_binds.now unsent.left) }
     ensures refused { IfErr result (λ unsent. IsOfStart unsent.fault) }
 {
-    let latch = Latch::new();
+    let (latch, unsaid) = Latch::new();
     let latch = &latch;
     thread::scope(
         thread::scope_env(),
         context.rt,
         move |scope| -> Result<Returned<N>, Unsent<N>>
-            requires seated { AreSeated tasks.items reader_tasks.items driver_seats.items shared_binds.now }
+            requires seated { AreSeated context.now.rules.now tasks.items reader_tasks.items driver_seats.items shared_binds.now }
+            requires leave { unsaid.latch.value ≡ latch.now }
             ensures returned { IfOk result (HaveReturned context.entry.now.rules.now Rd.remaining tasks.entry.items reader_tasks.entry.items shared_binds.entry.now) }
             ensures left { IfErr result (λ unsent. HaveLeft tasks.entry.items reader_tasks.entry.items shared_binds.entry.now unsent.left) }
             ensures refused { IfErr result (λ unsent. IsOfStart unsent.fault) }
@@ -255,6 +258,7 @@ pub fn work_all<
                 scope,
                 context,
                 latch,
+                unsaid,
                 tasks,
                 reader_tasks,
                 shared_binds,

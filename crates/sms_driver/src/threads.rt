@@ -6,13 +6,12 @@ ghost use Rattle.sms_driver.specs.Latches.{AreOfOneLatch, IsBackBy, word_of};
 
 use crate::following::Following;
 use crate::latch::{Latch, Said, Told};
-use crate::task::Assignment;
 use rtrb::Producer;
 use sms_bind::{Bound, Line, ReaderEnd};
 use sms_book::{Book, BookName};
 use sms_pdu::{Reply, Tap};
 use sms_window::{Window, WindowSeat};
-use sms_worker::{Message, Rules, Worker, WorkerEnd};
+use sms_worker::{Message, ReadyWorker, Rules, Worker, WorkerEnd};
 use std::alloc::{AllocError, Global};
 use std::io::Read;
 use std::snapshot::Snapshot;
@@ -27,7 +26,7 @@ pub type WorkerResult<N> = Result<WorkerEnd<N>, (AllocError, Worker<N>, Vec<Mess
 #[derive(Drop)]
 pub struct WorkerPromise<'s, N: BookName> {
     pub latch: &'s Latch,
-    pub assignment: Snapshot<Assignment<N>>,
+    pub assignment: Snapshot<ReadyWorker<N>>,
     pub rules: Snapshot<Rules>,
 }
 
@@ -63,7 +62,7 @@ pub struct ReaderTask<'a, Rd, W> {
 }
 
 /// That a reader waited at this latch, that what it gives back is the seat's window, and that it
-/// handed on what it read to the rings that it was given; where it was told to leave, that it stopped
+/// handed on what it read in so many turns to the rings that it was given; where it was told to leave, that it stopped
 /// with the seat and the rings as they were.
 #[derive(Drop)]
 pub struct ReaderPromise<'s, Rd> {
@@ -72,6 +71,8 @@ pub struct ReaderPromise<'s, Rd> {
     pub reader: Snapshot<Tap<Rd>>,
     pub bound: Snapshot<Bound>,
     pub producers: Snapshot<Vec<Producer<Reply>>>,
+    pub follow: Following,
+    pub turns: u64,
 }
 
 impl<'s, Rd: Read> Promise<Told<'s, ReaderEnd>> for ReaderPromise<'s, Rd> {
@@ -80,7 +81,7 @@ impl<'s, Rd: Read> Promise<Told<'s, ReaderEnd>> for ReaderPromise<'s, Rd> {
     ghost use Rattle.sms_driver.specs.Reads.{reading_promised, HasRead, IsUnread};
 
     ghost kept_by = { λ p told. IsTold p.latch.now
-        (λ r. (r.seat.window ≡ p.seat.value.window) × HasRead Rd.remaining (reading_promised p) r)
+        (λ r. (r.seat.window ≡ p.seat.value.window) × HasRead p.turns Rd.remaining (reading_promised p) r)
         (IsUnread p.seat.value p.producers.value.items) told };
 }
 

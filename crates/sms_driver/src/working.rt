@@ -3,15 +3,16 @@
 ghost use Rattle.std.specs.Prelude.{◌≡◌, ◌≤◌, [], length, map, take, IfErr, IfOk, OnOk, vec_capacity};
 ghost use Rattle.std.specs.List.{AllByRecursion};
 ghost use Rattle.sms_driver.specs.Latches.{IsTold};
+ghost use Rattle.sms_driver.specs.Threads.{IsPrepared};
 ghost use Rattle.sms_driver.specs.Worked.{IsHandedBack, IsResultOf};
 ghost use Rattle.sms_driver.specs.declared.fault.SendFault.TheVariants.{ThreadRefused};
 
 use crate::fault::SendFault;
 use crate::latch::{Latch, Told, Word};
-use crate::task::{Assignment, WorkerTask};
+use crate::task::WorkerTask;
 use crate::threads::{RunContext, WorkerPromise, WorkerResult};
 use sms_book::BookName;
-use sms_worker::{Clock, Gate, Pause, run_worker};
+use sms_worker::{Clock, Gate, Pause};
 use std::alloc::AllocError;
 use std::io::Write;
 use std::snapshot::Snapshot;
@@ -27,7 +28,7 @@ fn work<'s, N: BookName, W: Write, G: Gate, K: Clock, P: Pause, R: Wait>(
     latch: &'s Latch,
     task: WorkerTask<N, W>,
 ) -> Told<'s, WorkerResult<N>>
-    requires own { task.assignment.worker.seat.window ≡ task.window.now }
+    requires own { IsPrepared context.now.rules.now task }
     ensures { IsTold latch.now (IsResultOf context.now.rules.now task.entry.assignment) (IsHandedBack task.entry.assignment) result }
 {
     let said = latch.hear(context.rt);
@@ -36,14 +37,11 @@ fn work<'s, N: BookName, W: Write, G: Gate, K: Clock, P: Pause, R: Wait>(
         line,
         window,
     } = task;
-    let Assignment { worker, messages } = assignment;
     match latch.word(&said) {
         Word::Go => {
-            let back = run_worker(
+            let end = assignment.run(
                 context.rt,
                 context.alloc,
-                worker,
-                messages,
                 line,
                 window,
                 context.book,
@@ -52,12 +50,18 @@ fn work<'s, N: BookName, W: Write, G: Gate, K: Clock, P: Pause, R: Wait>(
                 context.clock,
                 context.pause,
             );
-            Told { said, back }
+            Told {
+                said,
+                back: Ok(end),
+            }
         }
-        Word::Leave => Told {
-            said,
-            back: Err((AllocError, worker, messages)),
-        },
+        Word::Leave => {
+            let (worker, messages) = assignment.into_parts();
+            Told {
+                said,
+                back: Err((AllocError, worker, messages)),
+            }
+        }
     }
 }
 
@@ -77,7 +81,7 @@ fn start_worker<
     latch: &'s Latch,
     task: WorkerTask<'s, N, W>,
 ) -> Result<WorkerHandle<'s, N>, SendFault>
-    requires own { task.assignment.worker.seat.window ≡ task.window.now }
+    requires own { IsPrepared context.now.rules.now task }
     ensures assignment { IfOk result (λ h. h.promise.assignment.value ≡ task.entry.assignment) }
     ensures given { IfOk result (λ h. (h.promise.rules.value ≡ context.now.rules.now) × (h.promise.latch.now ≡ latch.now)) }
     ensures refused { IfErr result (λ fault. fault ≡ ThreadRefused) }
@@ -110,7 +114,7 @@ pub(crate) fn start_workers<
     tasks: Vec<WorkerTask<'s, N, W>>,
     handles: &mut Vec<WorkerHandle<'s, N>>,
 ) -> Result<(), SendFault>
-    requires own { AllByRecursion (λ t. t.assignment.worker.seat.window ≡ t.window.now) tasks.items }
+    requires own { AllByRecursion (IsPrepared context.now.rules.now) tasks.items }
     requires room { (handles.old.items ≡ []) × (length tasks.items ≤ vec_capacity handles.old) }
     ensures all { OnOk result (map (λ h. h.promise.assignment.value) handles.new.items ≡ map (λ t. t.assignment) tasks.entry.items) }
     ensures few { length handles.new.items ≤ length tasks.entry.items }

@@ -1,5 +1,6 @@
-//! Whole sendings over pipes in memory, each refusal before one, and what faults say.
+//! Whole sendings over pipes in memory, each refusal before one, why each bind's reader ended, and what faults say.
 
+mod causes;
 mod driving;
 mod faults;
 mod same;

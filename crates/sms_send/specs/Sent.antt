@@ -5,11 +5,13 @@ use Rattle.std.specs.List.{AllZip}
 use Rattle.std.specs.declared.alloc.Global.{Global}
 use Rattle.sms_book.specs.Openings.{credits_of}
 use Rattle.sms_worker.specs.EndOf.{IsEndOf}
+use Rattle.sms_worker.specs.Limits.{most_turns}
 use Rattle.sms_worker.specs.declared.rules.Rules.{Rules}
 use Rattle.sms_driver.specs.Answered.{AreHeard}
 use Rattle.sms_driver.specs.BindEnds.{AreBinds}
 use Rattle.sms_driver.specs.Deals.{dealt}
-use Rattle.sms_driver.specs.Numbered.{AreNumbered}
+use Rattle.sms_driver.specs.Ended.{HaveEnded}
+use Rattle.sms_driver.specs.Numbered.{AreBelow, AreNumbered}
 use Rattle.sms_files.specs.ConfigFaults.{IsConfig, TellsConfig}
 use Rattle.sms_files.specs.Inputs.{IsInput, Told, TellsInput}
 use Rattle.sms_send.specs.Faults.{TellsRead, told_sending}
@@ -34,13 +36,14 @@ use Rattle.sms_send.specs.declared.sender.Ended.{Ended}
 use Rattle.sms_send.specs.declared.send_job.Centre.{Centre}
 use Rattle.sms_send.specs.declared.send_job.Centre.TheVariants.{Own}
 
--- the rules say what the config and the tariff say
+-- the rules say what the config and the tariff say, and of turns the most that may be taken
 pub record IsRulesOf (retry : Retry) (limits : Limits) (flags : Flags) (tariff : List Price) (rules : Rules) : Type 0 where
   pub policy : rules.policy ≡ retry.policy
   pub depth : rules.depth ≡ limits.depth
   pub answer_ms : rules.answer_ms ≡ retry.answer_ms
   pub receipts : rules.receipts ≡ flags.receipts
   pub long_reference : rules.long_reference ≡ flags.long_reference
+  pub turns : rules.turns ≡ most_turns
   pub tariff_is : rules.tariff ≡ tariff
 
 -- all binds have the config's window, follow as it says, and are asked for with what it says (SMPP 3.4 4.1)
@@ -53,7 +56,8 @@ pub record AreSettingsOf (connection : Connection) (limits : Limits) (flags : Fl
 -- whose amounts are the sums over these ends, and an end for each of the config's binds, each of so
 -- many workers as the config says; and bind by bind each attempt with a reply has a place of its own,
 -- where that reply stands, among the answers in what was read of the bind, of which `told` tells what it will give, and no
--- other attempt of the bind has its sequence_number
+-- other attempt of the bind has its sequence_number, which is below the one that the bind's window would have given next;
+-- and the end of each bind tells how its reader ended: the bind was opened, and the reader followed, as the config says
 pub record IsSent (told : ℕ → Told) (input : Input) (ended : Ended) : Type 0 where
   pub openings : ended.openings ≡ input.openings
   pub rules : Rules
@@ -61,7 +65,11 @@ pub record IsSent (told : ℕ → Told) (input : Input) (ended : Ended) : Type 0
   pub ends : AllZip (IsEndOf rules (length input.openings.items)) input.messages.items ended.ends.items
   pub rows : AreRows (credits_of input.openings.items) input.messages.items ended.ends.items ended.statement
   pub binds : AreBinds input.config.limits.binds input.config.limits.workers ended.binds.items
+  pub settings : BindSettings
+  pub asks : AreSettingsOf input.config.connection input.config.limits input.config.flags settings
+  pub readers : HaveEnded settings rules.turns told ended.binds.items
   pub numbers : AreNumbered input.config.limits.binds input.config.limits.workers (dealt (input.config.limits.binds * input.config.limits.workers) 0 ended.ends.items)
+  pub below : AreBelow input.config.limits.workers ended.binds.items (dealt (input.config.limits.binds * input.config.limits.workers) 0 ended.ends.items)
   pub heard : AreHeard told input.config.limits.binds input.config.limits.workers (dealt (input.config.limits.binds * input.config.limits.workers) 0 ended.ends.items)
 
 -- a TCP connection tells contracts nothing of the octets that will come

@@ -47,8 +47,8 @@ impl<'a, S: Wait + time::Clock + Sync> Dial for Pipes<'a, S> {
 
 // Lets all pass, and pauses in real time. Its clock stands still.
 #[derive(Drop)]
-struct Beside<'a, S> {
-    rt: &'a S,
+pub(super) struct Beside<'a, S> {
+    pub rt: &'a S,
 }
 
 impl<'a, S> Gate for Beside<'a, S> {
@@ -93,7 +93,7 @@ fn octets(alloc: Global, text: &[u8]) -> Result<Octets, AllocError> {
     Ok(Octets::new(all))
 }
 
-fn messages(alloc: Global, count: u64) -> Result<Vec<Message>, AllocError> {
+pub(super) fn messages(alloc: Global, count: u64) -> Result<Vec<Message>, AllocError> {
     let mut messages = Vec::new(alloc);
     for index in 0..count {
         messages.push(Message {

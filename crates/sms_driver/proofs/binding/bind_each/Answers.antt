@@ -2,7 +2,9 @@ use Rattle.std.proofs.Common.{rules, arith, ℕ, subst, ◌∙◌, sym, ap, map,
 use Rattle.sms_driver.specs.SendFaults.{IsFaultOf}
 use Rattle.sms_driver.specs.Seated.{IsSeated}
 use Rattle.sms_pdu.specs.Devices.{device}
+use Rattle.sms_driver.specs.BindEnds.{IsSetUp}
 use Rattle.sms_driver.specs.Reads.{IsOpened}
+use Rattle.sms_driver.proofs.Returning.{more_hold}
 use Rattle.sms_driver.proofs.Openings.{one_opened}
 use Rattle.sms_driver.proofs.Grouping.{zip_length}
 use Rattle.sms_driver.proofs.Windows.{zip_more, both_more}
@@ -42,5 +44,6 @@ loop-theirs-preserved g c =
           ∙ both_more (λ s. s.seat.window) (λ b. b.window) c.loop-theirs.driver_seats.items c.loop-theirs.shared_binds.items m.driver_seat m.shared i.windows c.in-Ok.ensures.driver_seat
           ∙ sym (ap (λ l. map (λ b. b.window) l) c.push_reserved.ensures.items);
       opened = rw c.push_reserved-in-Ok.ensures.items (one_opened remaining mode told c.loop-theirs.bind_parts.items m.parts i.opened (subst (λ (n : ℕ). IsOpened mode (told n) (remaining (device m.parts.reader)) m.parts.bound) place c.in-Ok.ensures.opened));
+      set = more_hold (IsSetUp c.args.bind_settings.now) c.loop-theirs.bind_parts.items _ _ c.push_reserved-in-Ok.ensures.items i.set c.in-Ok.ensures.set;
       seated = rw c.push_reserved.ensures.items (rw c.push_reserved-in-Ok.ensures.items (zip_more (IsSeated c.args.workers) c.loop-theirs.shared_binds.items c.loop-theirs.bind_parts.items m.shared m.parts i.seated c.in-Ok.ensures.seated));
     }

@@ -1,9 +1,13 @@
-use Rattle.std.proofs.Common.{◌∙◌, List, length, ap, sym, subst}
+use Rattle.std.proofs.Common.{◌∙◌, ℕ, List, length, map, ap, sym, subst}
 use Rattle.sms_book.specs.Portions.{row_at}
 use Rattle.sms_book.specs.Shares.{Share, AreAll}
 use Rattle.sms_book.specs.Sums.{IsSumOf}
 use Rattle.sms_driver.specs.Deals.{dealt}
-use Rattle.sms_driver.proofs.Drawn.{once_as}
+use Rattle.sms_window.specs.SeatState.{SeatState}
+use Rattle.sms_window.specs.declared.view.View.{View}
+use Rattle.sms_driver.specs.declared.bind_end.BindEnd.{BindEnd}
+use Rattle.sms_driver.specs.Numbered.{DrewBelow}
+use Rattle.sms_driver.proofs.Drawn.{drew_below, once_as}
 use Rattle.sms_driver.proofs.ending.conclude.Goals as goal
 
 pub settle-requires : goal.settle-requires
@@ -20,3 +24,12 @@ pub returns-clause-once : goal.returns-clause-once
 returns-clause-once g c =
     let l = c.in_ok-left.ensures in
     once_as _ _ _ _ _ _ (ap (λ v. length v.items) l.shared_binds) l.workers c.in_ok-parts.ensures.views c.in_ok-binds.ensures.once
+
+pub returns-clause-outcomes : goal.returns-clause-outcomes
+returns-clause-outcomes g c = c.in_ok-binds.ensures.outcomes ∙ c.in_ok-left.ensures.outcomes
+
+pub returns-clause-below : goal.returns-clause-below
+returns-clause-below g c =
+    let ends = map (λ (b : BindEnd). b.window) c.in_ok-binds.binds.items in
+    subst (λ (vs : List View). DrewBelow c.args.left.workers vs ends) c.in_ok-parts.ensures.views
+    (subst (λ (w : ℕ). DrewBelow w (map (λ (s : SeatState). s.view) c.in_ok-parts.parts.seats.items) ends) c.in_ok-left.ensures.workers (drew_below _ _ _ _ _ c.in_ok-binds.ensures.closed))

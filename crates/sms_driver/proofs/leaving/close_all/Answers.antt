@@ -1,7 +1,11 @@
-use Rattle.std.proofs.Common.{◌≡◌, rules, arith, ap, sym, refl, length, map}
+use Rattle.std.proofs.Common.{◌≡◌, rules, arith, ◌∙◌, [], ◌∷◌, ap, sym, refl, length, map}
+use Rattle.std.proofs.lemmas.List.{length-map}
 use Rattle.std.specs.Vec.Iter.{into_iter_items}
-use Rattle.sms_driver.specs.BindEnds.{IsBindEnd, IsTried}
-use Rattle.sms_driver.proofs.Drawn.{first_once}
+use Rattle.sms_driver.specs.BindEnds.{outcome_of, IsBindEnd, IsTried}
+use Rattle.sms_driver.proofs.Drawn.{all_closed, closed_more, first_once, none_closed}
+use Rattle.sms_driver.specs.Joined.{AreClosed}
+use Rattle.sms_driver.proofs.Moves.{all_moved, moved, none_moved}
+use Rattle.sms_driver.proofs.Windows.{map_more}
 use Rattle.sms_driver.proofs.Returning.{firsts, same_length, first_windows, first_holds, more_hold}
 use Rattle.sms_driver.proofs.leaving.close_all.Goals as goal
 
@@ -24,6 +28,8 @@ loop-shared-init g c = record {
   tried = search rules;
   seats = search rules;
   each = search rules;
+  outcomes = none_moved (λ b. b.reader) _ _ _ (search rules) (ap (map outcome_of) c.from-readers.ensures.0);
+  closed = λ rest h. none_closed c.args.left.workers _ _ _ _ _ _ _ rest (ap (map (λ d. d.seat.view)) c.from-readers.ensures.0) (ap (map (λ s. s.seat.view)) c.from-driver_seats.ensures.0) (ap (map (λ s. s.view)) c.from-seats.ensures.0) (search rules) h;
   once = λ all bind low.
       let binds = ap length c.into_iter-shared-iterator.ensures.into_iter_gives.0 in
       rw (sym c.from-seats.ensures.0) (all bind (omega (arith, low, binds)));
@@ -41,9 +47,11 @@ loop-shared-preserved g c =
       readers = readers.1;
       driver_seats = driver_seats.1;
       tried = tried.1;
-      seats = c.close_one.ensures.rest _ (first_windows (λ s. s.window) (λ b. b.window) c.args.left.workers c.loop-shared.seats.items _ _ c.in-Some.shared steps i.seats);
+      seats = c.close_one-window.ensures.rest _ (first_windows (λ s. s.window) (λ b. b.window) c.args.left.workers c.loop-shared.seats.items _ _ c.in-Some.shared steps i.seats);
       each = search rules;
-      once = λ rest. i.once (first_once c.args.left.workers _ _ c.in-Some.shared (map (λ s. s.view) c.loop-shared.seats.items) _ steps c.close_one.ensures.left c.close_one.ensures.once rest);
+      outcomes = moved (λ b. b.reader) outcome_of c.loop-shared.ends.items _ c.loop-shared.readers.items _ _ _ _ c.in_ok-push.ensures.items c.take_first-reader.ensures c.outcome_in-outcome.ensures i.outcomes;
+      closed = λ rest h. closed_more c.args.left.workers _ _ _ _ _ _ _ _ _ _ rest _ (AreClosed c.args.left.workers (map (λ d. d.seat.view) c.args.left.readers.items) (map (λ s. s.seat.view) c.args.left.driver_seats.items) (map (λ s. s.view) c.args.seats.items)) (ap (map (λ b. b.window)) c.in_ok-push.ensures.items ∙ map_more (λ b. b.window) c.loop-shared.ends.items _) (ap (map (λ d. d.seat.view)) c.take_first-reader.ensures) (ap (map (λ s. s.seat.view)) c.take_first-driver_seat.ensures) c.close_one-window.ensures.left c.close_one-window.ensures.closed h (i.closed (_ ∷ rest));
+      once = λ rest. i.once (first_once c.args.left.workers _ _ c.in-Some.shared (map (λ s. s.view) c.loop-shared.seats.items) _ steps c.close_one-window.ensures.left c.close_one-window.ensures.once rest);
       ended = more_hold (IsBindEnd c.args.left.workers) c.loop-shared.ends.items _ _ c.in_ok-push.ensures.items i.ended (record { workers_are = refl; unbound = tried.0 });
     }
 
@@ -51,3 +59,12 @@ pub returns-clause-once : goal.returns-clause-once
 returns-clause-once g c =
     let none : length (into_iter_items c.loop-shared.shared-iterator) ≡ 0 = search rules in
     c.loop-shared.invariant.once (λ bind low. absurd (omega (arith, low, none)))
+
+pub returns-clause-closed : goal.returns-clause-closed
+returns-clause-closed g c = all_closed _ _ _ _ _ (c.loop-shared.invariant.closed [] tt)
+
+pub returns-clause-outcomes : goal.returns-clause-outcomes
+returns-clause-outcomes g c =
+    let none : length (into_iter_items c.loop-shared.shared-iterator) ≡ 0 = search rules in
+    let long = same_length (λ d. d.seat.window) (λ b. b.window) c.loop-shared.readers.items _ c.loop-shared.invariant.readers in
+    all_moved (map (λ b. b.reader) c.loop-shared.ends.items) (map outcome_of c.loop-shared.readers.items) _ (length-map c.loop-shared.readers.items outcome_of ∙ long ∙ none) c.loop-shared.invariant.outcomes

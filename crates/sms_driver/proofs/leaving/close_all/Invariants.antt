@@ -1,7 +1,9 @@
-use Rattle.std.proofs.Common.{◌≡◌, ◌+◌, length, map}
+use Rattle.std.proofs.Common.{◌≡◌, ◌+◌, ◌++◌, List, length, map}
 use Rattle.std.specs.List.{AllByRecursion}
 use Rattle.std.specs.Vec.Iter.{into_iter_items}
-use Rattle.sms_driver.specs.BindEnds.{IsBindEnd, IsTried}
+use Rattle.sms_driver.specs.BindEnds.{outcome_of, IsBindEnd, IsTried}
+use Rattle.sms_window.specs.declared.outcome.Closed.{Closed}
+use Rattle.sms_driver.specs.Joined.{AreClosed}
 use Rattle.sms_driver.specs.Numbered.{AllDrewOnce}
 use Rattle.sms_driver.specs.Seated.{windows}
 use Rattle.sms_driver.proofs.leaving.close_all.Given as goal
@@ -13,6 +15,9 @@ invariant-loop-shared g l = record {
   tried : AllByRecursion (λ s. IsTried s.unbinding) l.driver_seats.items;
   seats : map (λ s. s.window) l.seats.items ≡ windows l.workers (map (λ b. b.window) (into_iter_items l.shared-iterator));
   each : length l.ends.items + length (into_iter_items l.shared-iterator) ≡ length l.fn.left.shared_binds.items;
+  outcomes : map (λ b. b.reader) l.ends.items ++ map outcome_of l.readers.items ≡ map outcome_of l.fn.left.readers.items;
+  closed : (rest : List Closed) → AreClosed l.workers (map (λ d. d.seat.view) l.readers.items) (map (λ s. s.seat.view) l.driver_seats.items) (map (λ s. s.view) l.seats.items) rest
+      → AreClosed l.fn.left.workers (map (λ d. d.seat.view) l.fn.left.readers.items) (map (λ s. s.seat.view) l.fn.left.driver_seats.items) (map (λ s. s.view) l.fn.seats.items) (map (λ b. b.window) l.ends.items ++ rest);
   once : AllDrewOnce (length (into_iter_items l.shared-iterator)) l.workers (map (λ s. s.view) l.seats.items) → AllDrewOnce (length l.fn.left.shared_binds.items) l.fn.left.workers (map (λ s. s.view) l.fn.seats.items);
   ended : AllByRecursion (IsBindEnd l.workers) l.ends.items;
 }

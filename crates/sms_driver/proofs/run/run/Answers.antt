@@ -15,8 +15,9 @@ use Rattle.rtrb.specs.Ring.{received}
 use Rattle.sms_driver.specs.Answered.{Hears, IsHeard, ends_at}
 use Rattle.sms_driver.proofs.Conclusions.{rows_of}
 use Rattle.sms_driver.proofs.Grouping.{are_heard, zip_length, zip_of_all}
-use Rattle.sms_driver.specs.Numbered.{AllDrewOnce, AreNumbered, HasNumbers}
-use Rattle.sms_driver.proofs.Numbering.{are_numbered}
+use Rattle.sms_driver.specs.Numbered.{AllDrewOnce, AreBelow, AreNumbered, HasNumbers}
+use Rattle.sms_driver.proofs.Endings.{have_ended}
+use Rattle.sms_driver.proofs.Numbering.{are_below, are_numbered}
 use Rattle.sms_driver.proofs.Telling.{told_so}
 use Rattle.sms_driver.proofs.run.run.Goals as goal
 
@@ -91,7 +92,7 @@ returns-clause-heard g c =
     let ess : map (λ (d : WorkerEnd g.row.N.Denot). d.ends.items) ds ≡ dealt (c.args.binds * w) 0 c.in_ok-ended.ended.ends.items = all ∙ (λ i. dealt (workers i) 0 (sym ends i)) in
     let told = g.D.Dial.told c.args.dial.now in
     let long : length parts ≡ c.args.binds = zip_length (IsSeated w) shared_binds parts c.in_ok-made.ensures.seated ∙ c.in_ok-made.ensures.long ∙ c.in_ok-rings.ensures.binds in
-    let heard = are_heard remaining c.args.bind_settings.now.settings.mode told w shared_binds parts c.in_ok-over.over.readers.items (map (λ (d : WorkerEnd g.row.N.Denot). d.consumer) ds) (map (λ (d : WorkerEnd g.row.N.Denot). d.ends.items) ds)
+    let heard = are_heard c.args.rules.now.turns remaining c.args.bind_settings.now.settings.mode told w shared_binds parts c.in_ok-over.over.readers.items (map (λ (d : WorkerEnd g.row.N.Denot). d.consumer) ds) (map (λ (d : WorkerEnd g.row.N.Denot). d.ends.items) ds)
     c.in_ok-made.ensures.opened c.in_ok-made.ensures.seated c.in_ok-over.ensures.read c.in_ok-ended.ensures.received
     (zip_of_all (λ (d : WorkerEnd g.row.N.Denot). d.consumer) (λ (d : WorkerEnd g.row.N.Denot). d.ends.items) (λ c es. Hears (received c) es) ds c.in_ok-over.ensures.hears)
     in
@@ -114,3 +115,24 @@ returns-clause-numbers g c =
     (are_numbered c.args.binds w views (map (λ (d : WorkerEnd g.row.N.Denot). d.ends.items) ds)
     (zip_of_all (λ (d : WorkerEnd g.row.N.Denot). d.seat.view) (λ (d : WorkerEnd g.row.N.Denot). d.ends.items) HasNumbers ds c.in_ok-over.ensures.numbers)
     once)
+
+pub returns-clause-readers : goal.returns-clause-readers
+returns-clause-readers g c =
+    have_ended c.args.rules.now.turns g.D.Reader.Read.remaining c.args.bind_settings.now (g.D.Dial.told c.args.dial.now) c.in_ok-made.made.bind_parts.items c.in_ok-over.over.readers.items c.in_ok-ended.ended.binds.items
+    c.in_ok-made.ensures.opened c.in_ok-made.ensures.set c.in_ok-over.ensures.read c.in_ok-ended.ensures.outcomes
+
+pub returns-clause-below : goal.returns-clause-below
+returns-clause-below g c =
+    let w = c.args.workers in
+    let ds = c.in_ok-over.over.done.items in
+    let binds = c.in_ok-ended.ended.binds.items in
+    let s = c.in_ok-over.ensures.settled c.args.messages.items c.in_ok-batches.ensures.dealt in
+    let count : c.len-count.result ≡ length c.args.messages.items = omega (arith, c.len-count.ensures) in
+    let all : map (λ (d : WorkerEnd g.row.N.Denot). d.ends.items) ds ≡ dealt (length ds) 0 s.es = s.dealt_is ∙ ap (λ n. dealt n 0 s.es) (sym c.in_ok-over.ensures.all) in
+    let ends = c.in_ok-ended.ensures.ends s.es (s.long ∙ sym count) all in
+    let workers : length ds ≡ c.args.binds * w = c.in_ok-over.ensures.all ∙ ap (λ (b : BookId). b.workers) (sym c.requires.name) ∙ c.requires.count.1 in
+    let ess : map (λ (d : WorkerEnd g.row.N.Denot). d.ends.items) ds ≡ dealt (c.args.binds * w) 0 c.in_ok-ended.ended.ends.items = all ∙ (λ i. dealt (workers i) 0 (sym ends i)) in
+    subst (λ (l : List (List MessageEnd)). AreBelow w binds l) ess
+    (are_below w (map (λ (d : WorkerEnd g.row.N.Denot). d.seat.view) ds) (map (λ (d : WorkerEnd g.row.N.Denot). d.ends.items) ds) binds
+    (zip_of_all (λ (d : WorkerEnd g.row.N.Denot). d.seat.view) (λ (d : WorkerEnd g.row.N.Denot). d.ends.items) HasNumbers ds c.in_ok-over.ensures.numbers)
+    c.in_ok-ended.ensures.below)

@@ -4,7 +4,7 @@ use Rattle.atomic_table.specs.Seated.{TableId}
 use Rattle.sms_driver.proofs.Sums.{length-opening}
 use Rattle.sms_worker.specs.declared.rules.Rules.{Rules}
 use Rattle.sms_worker.specs.declared.work.WorkerEnd.{WorkerEnd}
-use Rattle.sms_driver.specs.declared.task.Assignment.{Assignment}
+use Rattle.sms_worker.specs.ReadyState.{ReadyState}
 use Rattle.sms_driver.specs.declared.task.WorkerTask.{WorkerTask}
 use Rattle.rtrb.specs.Ring.{SameConsumer, SameProducer}
 use Rattle.sms_driver.specs.Reads.{reading_in, HasRead}
@@ -34,7 +34,7 @@ returns-clause-all g c =
     all_back
     (λ (t : WorkerTask g.row.N.Denot g.row.W.Denot). t.assignment)
     (IsWorkOf rules)
-    (λ j e. e.1.seat.window ≡ j.worker.seat.window)
+    (λ j e. ⊥)
     c.in-Ok.ready.tasks.items
     c.in_ok-done.done.items
     c.in_ok-returned.returned.worker_results.items
@@ -48,14 +48,14 @@ returns-clause-settled g c ms batches =
     let w = g.N.BookName.book.workers in
     let accounts = g.N.BookName.book.accounts in
     all_settled
-    (λ (j : Assignment g.row.N.Denot). j.worker.shares)
-    (λ (j : Assignment g.row.N.Denot). j.messages.items)
+    (λ (j : ReadyState g.row.N.Denot). j.worker.shares)
+    (λ (j : ReadyState g.row.N.Denot). j.messages)
     (λ (d : WorkerEnd g.row.N.Denot). d.shares)
     (λ (d : WorkerEnd g.row.N.Denot). d.ends.items)
     rules
     (λ (t : WorkerTask g.row.N.Denot g.row.W.Denot). t.assignment)
     (IsWorkOf rules)
-    (λ j e. e.1.seat.window ≡ j.worker.seat.window)
+    (λ j e. ⊥)
     (λ t d w. (w.worked, w.number))
     accounts
     w
@@ -73,7 +73,7 @@ pub returns-clause-seats : goal.returns-clause-seats
 returns-clause-seats g c =
     let rules : Rules = c.args.rules.now in
     let assignment = λ (t : WorkerTask g.row.N.Denot g.row.W.Denot). t.assignment in
-    let given : Assignment g.row.N.Denot → TableId = λ j. j.worker.seat.window in
+    let given : ReadyState g.row.N.Denot → TableId = λ j. j.worker.seat.window in
     let back : WorkerEnd g.row.N.Denot → TableId = λ d. d.seat.window in
     let bs = c.in_ok-returned.returned.worker_results.items in
     let is = c.in_ok-done.ensures in
@@ -86,7 +86,7 @@ returns-clause-seats g c =
     c.in_ok-done.done.items
     (all_ok
     (IsWorkOf rules)
-    (λ j e. e.1.seat.window ≡ j.worker.seat.window)
+    (λ j e. ⊥)
     (map assignment c.in-Ok.ready.tasks.items)
     c.in_ok-done.done.items
     (subst (AllZip (IsResultOf rules) (map assignment c.in-Ok.ready.tasks.items)) (sym is) c.in_ok-returned.ensures.returned.results)))
@@ -98,17 +98,17 @@ returns-clause-hears g c =
     let rules : Rules = c.args.rules.now in
     let assignments = map (λ (t : WorkerTask g.row.N.Denot g.row.W.Denot). t.assignment) c.in-Ok.ready.tasks.items in
     let ds = c.in_ok-done.done.items in
-    all_hears rules assignments ds (all_ok (IsWorkOf rules) (λ j e. e.1.seat.window ≡ j.worker.seat.window) assignments ds (subst (AllZip (IsResultOf rules) assignments) (sym c.in_ok-done.ensures) c.in_ok-returned.ensures.returned.results))
+    all_hears rules assignments ds (all_ok (IsWorkOf rules) (λ j e. ⊥) assignments ds (subst (AllZip (IsResultOf rules) assignments) (sym c.in_ok-done.ensures) c.in_ok-returned.ensures.returned.results))
 
 pub returns-clause-numbers : goal.returns-clause-numbers
 returns-clause-numbers g c =
     let rules : Rules = c.args.rules.now in
     let assignments = map (λ (t : WorkerTask g.row.N.Denot g.row.W.Denot). t.assignment) c.in-Ok.ready.tasks.items in
     let ds = c.in_ok-done.done.items in
-    all_numbers rules assignments ds (all_ok (IsWorkOf rules) (λ j e. e.1.seat.window ≡ j.worker.seat.window) assignments ds (subst (AllZip (IsResultOf rules) assignments) (sym c.in_ok-done.ensures) c.in_ok-returned.ensures.returned.results))
+    all_numbers rules assignments ds (all_ok (IsWorkOf rules) (λ j e. ⊥) assignments ds (subst (AllZip (IsResultOf rules) assignments) (sym c.in_ok-done.ensures) c.in_ok-returned.ensures.returned.results))
 
 pub returns-clause-read : goal.returns-clause-read
-returns-clause-read g c = subst (λ l. AllZip (HasRead g.Rd.Read.remaining) l c.in_ok-returned.returned.readers.items) c.in-Ok.ensures.readings c.in_ok-returned.ensures.returned.read
+returns-clause-read g c = subst (λ l. AllZip (HasRead c.args.rules.now.turns g.Rd.Read.remaining) l c.in_ok-returned.returned.readers.items) c.in-Ok.ensures.readings c.in_ok-returned.ensures.returned.read
 
 pub returns-clause-rings : goal.returns-clause-rings
 returns-clause-rings g c =
@@ -119,14 +119,14 @@ returns-clause-rings g c =
     let ds = c.in_ok-done.done.items in
     let rs = c.in_ok-returned.returned.readers.items in
     let remaining = g.Rd.Read.remaining in
-    let back = all_ok (IsWorkOf rules) (λ j e. e.1.seat.window ≡ j.worker.seat.window) assignments ds (subst (AllZip (IsResultOf rules) assignments) (sym c.in_ok-done.ensures) c.in_ok-returned.ensures.returned.results) in
+    let back = all_ok (IsWorkOf rules) (λ j e. ⊥) assignments ds (subst (AllZip (IsResultOf rules) assignments) (sym c.in_ok-done.ensures) c.in_ok-returned.ensures.returned.results) in
     let consumers =
     subst (λ l. AllZip SameConsumer l (map (λ d. d.consumer) ds)) (map_map assignment (λ j. j.worker.consumer) c.in-Ok.ready.tasks.items ∙ c.in-Ok.ensures.rings)
     (zip_map (λ j. j.worker.consumer) (λ d. d.consumer) (IsWorkOf rules) SameConsumer (λ j d w. w.ring) assignments ds back)
     in
-    let read = subst (λ l. AllZip (HasRead remaining) l rs) c.in-Ok.ensures.readings c.in_ok-returned.ensures.returned.read in
+    let read = subst (λ l. AllZip (HasRead rules.turns remaining) l rs) c.in-Ok.ensures.readings c.in_ok-returned.ensures.returned.read in
     let producers =
     subst (λ l. AllZip SameProducer (flat l) (flat (map (λ d. d.producers.items) rs))) (map_map reading_in (λ r. r.rings) parts)
-    (flat_zip (λ r. r.rings) (λ d. d.producers.items) SameProducer (map reading_in parts) rs (zip_to (HasRead remaining) (λ r d. AllZip SameProducer r.rings d.producers.items) (λ r d h. h.same) (map reading_in parts) rs read))
+    (flat_zip (λ r. r.rings) (λ d. d.producers.items) SameProducer (map reading_in parts) rs (zip_to (HasRead rules.turns remaining) (λ r d. AllZip SameProducer r.rings d.producers.items) (λ r d h. h.same) (map reading_in parts) rs read))
     in
     pairs_kept _ _ _ _ (seated_pairs c.args.workers c.args.shared_binds.now parts c.requires.bind_parts) producers consumers

@@ -3,7 +3,8 @@ use Rattle.std.specs.List.{AllByRecursion, AllZip}
 use Rattle.sms_pdu.proofs.Fronts.{AllByRecursion-append}
 use Rattle.sms_driver.specs.Reads.{reading_in, reading_of}
 use Rattle.sms_driver.specs.Rings.{flat}
-use Rattle.sms_driver.specs.Seated.{IsSeated}
+use Rattle.sms_driver.specs.Seated.{all_keep, all_sit, keeping_of, sitting_at, IsSeated}
+use Rattle.sms_driver.proofs.Sitting.{all_kept, all_sat, bind_keeps, bind_sits}
 use Rattle.sms_driver.proofs.Heads.{first_seated, none_seated, none_left}
 use Rattle.sms_driver.proofs.Moves.{moved, none_moved, all_moved, lists_moved}
 use Rattle.sms_driver.proofs.Windows.{map_more}
@@ -19,6 +20,8 @@ loop-bind-init g c = record {
   keepers = search rules;
   rings = none_moved (λ p. p.consumer) _ _ _ (search rules) (ap (λ l. flat (map (λ p. p.consumers.items) l)) c.from-bind_parts.ensures.0);
   readings = none_moved reading_of _ _ _ (search rules) (ap (map reading_in) c.from-bind_parts.ensures.0);
+  sitting = none_moved sitting_at _ _ _ (search rules) (ap (all_sit c.args.shared_binds.now) c.from-bind_parts.ensures.0);
+  keeping = none_moved keeping_of _ _ _ (search rules) (ap (all_keep c.args.shared_binds.now) c.from-bind_parts.ensures.0);
   long = search rules;
 }
 
@@ -49,6 +52,8 @@ loop-bind-preserved g c =
           i.keepers;
       rings = lists_moved (λ p. p.consumers.items) (map (λ p. p.consumer) c.loop-bind.places.items) _ c.loop-bind.bind_parts.items _ c.in-Some.parts _ c.in_ok-seat_workers.ensures.rings c.in-Some.ensures.items i.rings;
       readings = moved reading_of reading_in c.loop-bind.reader_tasks.items _ c.loop-bind.bind_parts.items _ _ _ _ c.in_ok-push.ensures.items c.in-Some.ensures.items refl i.readings;
+      sitting = bind_sits c.args.shared_binds.now c.loop-bind.bind c.index-shared_binds-bind.result c.loop-bind.bind_parts.items _ c.in-Some.parts (map sitting_at c.loop-bind.places.items) _ _ (search rules) c.index-shared_binds-bind.is c.in-Some.ensures.items c.in_ok-seat_workers.ensures.sitting i.sitting;
+      keeping = bind_keeps c.args.shared_binds.now c.loop-bind.bind c.index-shared_binds-bind.result c.loop-bind.bind_parts.items _ c.in-Some.parts (map keeping_of c.loop-bind.reader_tasks.items) _ _ (search rules) c.index-shared_binds-bind.is c.in-Some.ensures.items (ap (map keeping_of) c.in_ok-push.ensures.items ∙ map_more keeping_of c.loop-bind.reader_tasks.items _) i.keeping;
       long = let n = c.in_ok-seat_workers.ensures.long in let a = f.0.all in let l = i.long in n ∙ (λ j. l j + a j) ∙ (omega arith);
     }
 
@@ -72,3 +77,9 @@ pub returns-clause-readings : goal.returns-clause-readings
 returns-clause-readings g c =
     let none = none_left c.args.workers c.loop-bind.bind c.args.shared_binds.now c.loop-bind.bind_parts.items (search rules) c.loop-bind.invariant.bind_parts in
     all_moved _ (map reading_in c.loop-bind.bind_parts.items) _ (ap (λ l. length (map reading_in l)) none) c.loop-bind.invariant.readings
+
+pub returns-clause-sitting : goal.returns-clause-sitting
+returns-clause-sitting g c = all_sat c.loop-bind.bind c.args.shared_binds.now c.loop-bind.bind_parts.items _ _ (search rules) c.loop-bind.invariant.sitting
+
+pub returns-clause-keeping : goal.returns-clause-keeping
+returns-clause-keeping g c = all_kept c.loop-bind.bind c.args.shared_binds.now c.loop-bind.bind_parts.items _ _ (search rules) c.loop-bind.invariant.keeping

@@ -2,7 +2,7 @@ use Rattle.std.proofs.Common.{◌≡◌, ◌*◌, ◌++◌, length, map, drop}
 use Rattle.std.specs.List.{AllByRecursion, AllZip}
 use Rattle.sms_driver.specs.Reads.{reading_in, reading_of}
 use Rattle.sms_driver.specs.Rings.{flat}
-use Rattle.sms_driver.specs.Seated.{IsSeated, windows}
+use Rattle.sms_driver.specs.Seated.{all_keep, all_sit, keeping_of, sitting_at, IsSeated, windows}
 use Rattle.sms_driver.proofs.seating.seat_all.Given as goal
 
 abbrev pub invariant-loop-bind : goal.invariant-loop-bind
@@ -14,5 +14,7 @@ invariant-loop-bind g l = record {
   keepers : map (λ t. t.seat.window) l.reader_tasks.items ++ map (λ b. b.window) (drop l.bind l.shared_binds) ≡ map (λ b. b.window) l.shared_binds;
   rings : map (λ p. p.consumer) l.places.items ++ flat (map (λ p. p.consumers.items) l.bind_parts.items) ≡ flat (map (λ p. p.consumers.items) l.fn.bind_parts.items);
   readings : map reading_of l.reader_tasks.items ++ map reading_in l.bind_parts.items ≡ map reading_in l.fn.bind_parts.items;
+  sitting : map sitting_at l.places.items ++ all_sit (drop l.bind l.shared_binds) l.bind_parts.items ≡ all_sit l.shared_binds l.fn.bind_parts.items;
+  keeping : map keeping_of l.reader_tasks.items ++ all_keep (drop l.bind l.shared_binds) l.bind_parts.items ≡ all_keep l.shared_binds l.fn.bind_parts.items;
   long : length l.places.items ≡ l.bind * l.workers;
 }

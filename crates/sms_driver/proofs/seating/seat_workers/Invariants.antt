@@ -1,6 +1,7 @@
-use Rattle.std.proofs.Common.{◌≡◌, ◌+◌, ◌++◌, length, map}
+use Rattle.std.proofs.Common.{◌≡◌, ◌≤◌, ◌+◌, ◌-◌, ◌++◌, length, map}
 use Rattle.std.specs.List.{AllByRecursion}
 use Rattle.std.specs.Vec.Iter.{into_iter_items}
+use Rattle.sms_driver.specs.Seated.{sit_from, sitting_at}
 use Rattle.sms_driver.proofs.seating.seat_workers.Given as goal
 
 abbrev pub invariant-loop-seat : goal.invariant-loop-seat
@@ -10,5 +11,7 @@ invariant-loop-seat g l = record {
   own : AllByRecursion (λ p. p.seat.window ≡ p.window.now) l.places.items;
   windows : map (λ p. p.seat.window) l.places.items ++ map (λ s. s.window) (into_iter_items l.seat-iterator) ≡ map (λ p. p.seat.window) l.initial.places.items ++ map (λ s. s.window) l.fn.seats.items;
   rings : map (λ p. p.consumer) l.places.items ++ l.consumers.items ≡ map (λ p. p.consumer) l.initial.places.items ++ l.fn.consumers.items;
+  left : length l.consumers.items ≤ l.all;
+  sitting : map sitting_at l.places.items ++ sit_from l.shared (l.all - length l.consumers.items) (into_iter_items l.seat-iterator) l.consumers.items ≡ map sitting_at l.initial.places.items ++ sit_from l.shared 0 l.fn.seats.items l.fn.consumers.items;
   long : length l.places.items + length (into_iter_items l.seat-iterator) ≡ length l.initial.places.items + length l.fn.seats.items;
 }

@@ -1,6 +1,8 @@
 use Rattle.std.proofs.Common.{◌≡◌, ◌++◌, length, map}
 use Rattle.std.specs.List.{AllByRecursion}
 use Rattle.std.specs.Vec.Iter.{into_iter_items}
+use Rattle.sms_driver.specs.Threads.{IsPrepared}
+use Rattle.sms_driver.specs.Seated.{sitting_at, sitting_of, CountFrom}
 use Rattle.sms_driver.proofs.task.tasks.Given as goal
 
 abbrev pub invariant-loop-share : goal.invariant-loop-share
@@ -8,9 +10,11 @@ invariant-loop-share g l = record {
   places : length l.places.items ≡ length (into_iter_items l.share-iterator);
   batches : length l.batches.items ≡ length (into_iter_items l.share-iterator);
   shares : map (λ t. t.assignment.worker.shares) l.tasks.items ++ into_iter_items l.share-iterator ≡ l.fn.shares.items;
-  messages : map (λ t. t.assignment.messages.items) l.tasks.items ++ map (λ l. l.items) l.batches.items ≡ map (λ l. l.items) l.fn.batches.items;
+  messages : map (λ t. t.assignment.messages) l.tasks.items ++ map (λ l. l.items) l.batches.items ≡ map (λ l. l.items) l.fn.batches.items;
   windows : map (λ t. t.assignment.worker.seat.window) l.tasks.items ++ map (λ p. p.seat.window) l.places.items ≡ map (λ p. p.seat.window) l.fn.places.items;
   rings : map (λ t. t.assignment.worker.consumer) l.tasks.items ++ map (λ p. p.consumer) l.places.items ≡ map (λ p. p.consumer) l.fn.places.items;
+  sitting : map sitting_of l.tasks.items ++ map sitting_at l.places.items ≡ map sitting_at l.fn.places.items;
+  indexes : CountFrom 0 (map (λ t. t.assignment.worker.index) l.tasks.items);
   rest : AllByRecursion (λ p. p.seat.window ≡ p.window.now) l.places.items;
-  own : AllByRecursion (λ t. t.assignment.worker.seat.window ≡ t.window.now) l.tasks.items;
+  own : AllByRecursion (IsPrepared l.fn.rules) l.tasks.items;
 }

@@ -1,10 +1,10 @@
-use Rattle.std.proofs.Common.{◌≡◌, map, take, length, refl, sym, ap, ◌∙◌, subst}
+use Rattle.std.proofs.Common.{◌≡◌, ℕ, map, take, refl, sym, ap, ◌∙◌, subst}
 use Rattle.std.specs.List.{AllZip}
 use Rattle.sms_worker.specs.declared.rules.Rules.{Rules}
 use Rattle.sms_driver.specs.declared.latch.Latch.{Latch}
 use Rattle.sms_driver.specs.declared.latch.Word.TheVariants.{Go, Leave}
 use Rattle.sms_driver.specs.Latches.{IsSaidAt, word_of}
-use Rattle.sms_driver.specs.Reads.{listener_of, listener_promised, reading_of, reading_promised, HasRead, IsUnread}
+use Rattle.sms_driver.specs.Reads.{listener_of, listener_promised, reading_promised, HasRead, IsUnread}
 use Rattle.sms_driver.specs.Worked.{IsHandedBack, IsResultOf}
 use Rattle.sms_driver.proofs.Joins.{back_zip, one_latch, zip_given}
 use Rattle.sms_driver.proofs.Conclusions.{map_map, zip_to}
@@ -22,8 +22,9 @@ join_told-worker_results-requires g c lives =
 pub join_told-requires : goal.join_told-requires
 join_told-requires g c lives =
     let crew = c.start_all-started.ensures.crew in
+    let rules : Rules = c.args.context.now.rules.now in
     let latch : Latch = c.args.latch.now in
-    ((refl, tt), ((crew.no_end, crew.ends_fit), one_latch _ (λ p. p.latch.now ≡ latch) latch c.say-said.result (λ p told f k. subst (λ (l : Latch). IsSaidAt l told.said) f k.at) c.say-said.ensures.at c.start_all-started.new.crew.readers.items crew.latches))
+    ((refl, tt), ((crew.no_end, crew.ends_fit), one_latch _ (λ p. (p.latch.now ≡ latch) × (p.turns ≡ rules.turns)) latch c.say-said.result (λ p told f k. subst (λ (l : Latch). IsSaidAt l told.said) f.0 k.at) c.say-said.ensures.at c.start_all-started.new.crew.readers.items crew.latches))
 
 pub returns-in-Ok-clause-returned : goal.returns-in-Ok-clause-returned
 returns-in-Ok-clause-returned g c =
@@ -39,9 +40,9 @@ returns-in-Ok-clause-returned g c =
     let results = c.join_told-worker_results.result.items in
     let ends = c.join_told.result.items in
     let heard =
-    subst (λ l. AllZip (λ l d. (d.seat.window ≡ l.0.window) × HasRead remaining l.1 d) l ends) all.all_readers
-    (back_zip _ (word_of c.say-said.result) (λ p. listener_promised p) (λ p. p.latch.now ≡ latch) (λ l d. (d.seat.window ≡ l.0.window) × HasRead remaining l.1 d)
-    (λ p r f b. subst (λ d. (d.seat.window ≡ p.seat.value.window) × HasRead remaining (reading_promised p) d) b.is (b.keeps.went (b.word_is ∙ word)))
+    subst (λ l. AllZip (λ l d. (d.seat.window ≡ l.0.window) × HasRead rules.turns remaining l.1 d) l ends) all.all_readers
+    (back_zip _ (word_of c.say-said.result) (λ p. listener_promised p) (λ p. (p.latch.now ≡ latch) × (p.turns ≡ rules.turns)) (λ l d. (d.seat.window ≡ l.0.window) × HasRead rules.turns remaining l.1 d)
+    (λ p r f b. subst (λ (n : ℕ). (r.seat.window ≡ p.seat.value.window) × HasRead n remaining (reading_promised p) r) f.1 (subst (λ d. (d.seat.window ≡ p.seat.value.window) × HasRead p.turns remaining (reading_promised p) d) b.is (b.keeps.went (b.word_is ∙ word))))
     readers ends crew.latches c.join_told.ensures.each)
     in
     record {
@@ -52,11 +53,11 @@ returns-in-Ok-clause-returned g c =
           workers results crew.given c.join_told-worker_results.ensures.each);
       readers =
           kept_windows (λ l. l.0.window) (λ d. d.seat.window) (map listener_of c.args.reader_tasks.items) ends
-          (zip_to (λ l d. (d.seat.window ≡ l.0.window) × HasRead remaining l.1 d) (λ l d. d.seat.window ≡ l.0.window) (λ l d k. k.0) (map listener_of c.args.reader_tasks.items) ends heard)
+          (zip_to (λ l d. (d.seat.window ≡ l.0.window) × HasRead rules.turns remaining l.1 d) (λ l d. d.seat.window ≡ l.0.window) (λ l d k. k.0) (map listener_of c.args.reader_tasks.items) ends heard)
           ∙ map_map listener_of (λ l. l.0.window) c.args.reader_tasks.items;
       read =
-          subst (λ l. AllZip (HasRead remaining) l ends) (map_map listener_of (λ l. l.1) c.args.reader_tasks.items)
-          (zip_given (λ l. l.1) (λ l d. (d.seat.window ≡ l.0.window) × HasRead remaining l.1 d) (HasRead remaining) (λ l d k. k.1) (map listener_of c.args.reader_tasks.items) ends heard);
+          subst (λ l. AllZip (HasRead rules.turns remaining) l ends) (map_map listener_of (λ l. l.1) c.args.reader_tasks.items)
+          (zip_given (λ l. l.1) (λ l d. (d.seat.window ≡ l.0.window) × HasRead rules.turns remaining l.1 d) (HasRead rules.turns remaining) (λ l d k. k.1) (map listener_of c.args.reader_tasks.items) ends heard);
       driver = c.end_binds.ensures.driver_seats ∙ c.requires.seated.driver;
       tried = c.end_binds.ensures.tried;
     }
@@ -82,7 +83,7 @@ returns-clause-left g c =
       readers =
           subst (λ l. AllZip (λ given end. IsUnread given.0 given.1.rings end) l ends)
           (crew.readers ∙ ap (λ n. take n (map listener_of c.args.reader_tasks.items)) (sym (zip_length _ readers ends c.join_told.ensures.each)))
-          (back_zip _ (word_of c.say-said.result) (λ p. listener_promised p) (λ p. p.latch.now ≡ latch) (λ given end. IsUnread given.0 given.1.rings end)
+          (back_zip _ (word_of c.say-said.result) (λ p. listener_promised p) (λ p. (p.latch.now ≡ latch) × (p.turns ≡ rules.turns)) (λ given end. IsUnread given.0 given.1.rings end)
           (λ p r f b. subst (λ x. IsUnread p.seat.value p.producers.value.items x) b.is (b.keeps.left (b.word_is ∙ word)))
           readers ends crew.latches c.join_told.ensures.each);
       driver = c.end_binds.ensures.driver_seats ∙ c.requires.seated.driver;

@@ -1,4 +1,4 @@
-use Rattle.std.proofs.Common.{◌≡◌, rules, refl}
+use Rattle.std.proofs.Common.{rules, refl}
 use Rattle.std.specs.Vec.Iter.{into_iter_items}
 use Rattle.sms_driver.specs.declared.latch.Told.{Told}
 use Rattle.sms_driver.specs.Latches.{IsAtOne, IsBackBy, word_of}

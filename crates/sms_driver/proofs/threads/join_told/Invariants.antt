@@ -1,4 +1,4 @@
-use Rattle.std.proofs.Common.{◌≡◌, ◌≤◌, ◌+◌, ◌++◌, List, length, vec_len, vec_capacity}
+use Rattle.std.proofs.Common.{◌≤◌, ◌+◌, ◌++◌, List, length, vec_len, vec_capacity}
 use Rattle.std.specs.List.{AllZip}
 use Rattle.std.specs.Vec.Iter.{into_iter_items}
 use Rattle.sms_driver.specs.Latches.{AreOfOneLatch, IsBackBy, word_of}

@@ -1,7 +1,8 @@
 use Rattle.std.proofs.Common.{◌≡◌, rules}
 use Rattle.std.specs.Vec.Iter.{into_iter_items}
-use Rattle.sms_driver.proofs.Moves.{moved, first_moved}
+use Rattle.sms_driver.proofs.Moves.{moved}
 use Rattle.sms_driver.proofs.Returning.{first_holds, more_hold}
+use Rattle.sms_driver.specs.Threads.{IsPrepared}
 use Rattle.sms_driver.proofs.working.start_workers.Goals as goal
 
 pub loop-task-preserved : goal.loop-task-preserved
@@ -13,5 +14,5 @@ loop-task-preserved g c =
       given = more_hold (λ h. (h.promise.rules.value ≡ c.args.context.now.rules.now) × (h.promise.latch.now ≡ c.args.latch.now)) c.loop-task.handles.items _ _ c.push_reserved.ensures.items i.given c.in_ok-handle.ensures.given;
       room = search rules;
       few = search rules;
-      own = (first_holds (λ t. t.assignment.worker.seat.window ≡ t.window.now) _ _ _ takes i.own).1;
+      own = (first_holds (IsPrepared c.args.context.now.rules.now) _ _ _ takes i.own).1;
     }

@@ -1,6 +1,7 @@
 use Rattle.std.proofs.Common.{◌≡◌, ◌≤◌, ◌+◌, ◌++◌, map, length, vec_len, vec_capacity}
 use Rattle.std.specs.List.{AllByRecursion}
 use Rattle.std.specs.Vec.Iter.{into_iter_items}
+use Rattle.sms_driver.specs.Threads.{IsPrepared}
 use Rattle.sms_driver.proofs.working.start_workers.Given as goal
 
 abbrev pub invariant-loop-task : goal.invariant-loop-task
@@ -9,5 +10,5 @@ invariant-loop-task g l = record {
   given : AllByRecursion (λ h. (h.promise.rules.value ≡ l.context.rules.now) × (h.promise.latch.now ≡ l.latch)) l.handles.items;
   room : vec_len l.handles + length (into_iter_items l.task-iterator) ≤ vec_capacity l.handles;
   few : length l.handles.items + length (into_iter_items l.task-iterator) ≤ length l.fn.tasks.items;
-  own : AllByRecursion (λ t. t.assignment.worker.seat.window ≡ t.window.now) (into_iter_items l.task-iterator);
+  own : AllByRecursion (IsPrepared l.context.rules.now) (into_iter_items l.task-iterator);
 }

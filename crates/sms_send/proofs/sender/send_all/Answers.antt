@@ -8,9 +8,9 @@ use Rattle.sms_worker.specs.declared.message.Message.{Message}
 use Rattle.sms_driver.specs.Answered.{AreHeard}
 use Rattle.sms_driver.specs.BindEnds.{AreBinds}
 use Rattle.sms_driver.specs.Deals.{dealt}
-use Rattle.sms_driver.specs.Numbered.{AreNumbered}
+use Rattle.sms_driver.specs.Numbered.{AreBelow, AreNumbered}
 use Rattle.sms_driver.specs.SendFaults.{IsFaultOfOne}
-use Rattle.sms_send.specs.Sent.{IsRulesOf}
+use Rattle.sms_send.specs.Sent.{AreSettingsOf, IsRulesOf}
 use Rattle.sms_driver.specs.Statements.{AreRows}
 use Rattle.sms_files.specs.declared.config.Config.{Config}
 use Rattle.sms_send.proofs.sender.send_all.Goals as goal
@@ -19,6 +19,7 @@ pub returns-clause-sent : goal.returns-clause-sent
 returns-clause-sent g c =
     let input = c.args.input in
     let rules = c.rules_of-rules.result in
+    let settings = c.settings_of-settings.result in
     let ends = c.in-Ok.sending.ends.items in
     let e = c.into_parts-config.ensures in
     let slice : c.as_slice.result.now ≡ input.openings.items = c.as_slice.ensures.value ∙ ap (λ (v : Vec Opening Global). v.items) e.openings in
@@ -30,7 +31,11 @@ returns-clause-sent g c =
       ends = subst (λ (os : List Opening). AllZip (IsEndOf rules (length os)) input.messages.items ends) slice
           (subst (λ (ms : Vec Message Global). AllZip (IsEndOf rules (length c.as_slice.result.now)) ms.items ends) e.messages c.in-Ok.ensures.ends);
       heard = subst (λ (k : Config). AreHeard (g.D.Dial.told c.args.dial.now) k.limits.binds k.limits.workers (dealt (k.limits.binds * k.limits.workers) 0 ends)) e.config c.in-Ok.ensures.heard;
+      settings = settings;
+      asks = subst (λ (k : Config). AreSettingsOf k.connection k.limits k.flags settings) e.config c.settings_of-settings.ensures;
+      readers = c.in-Ok.ensures.readers;
       numbers = subst (λ (k : Config). AreNumbered k.limits.binds k.limits.workers (dealt (k.limits.binds * k.limits.workers) 0 ends)) e.config c.in-Ok.ensures.numbers;
+      below = subst (λ (k : Config). AreBelow k.limits.workers c.in-Ok.sending.binds.items (dealt (k.limits.binds * k.limits.workers) 0 ends)) e.config c.in-Ok.ensures.below;
       binds = subst (λ (k : Config). AreBinds k.limits.binds k.limits.workers c.in-Ok.sending.binds.items) e.config c.in-Ok.ensures.binds;
       rows = subst (λ (os : List Opening). AreRows (credits_of os) input.messages.items ends c.in-Ok.sending.statement) slice
           (subst (λ (ms : Vec Message Global). AreRows (credits_of c.as_slice.result.now) ms.items ends c.in-Ok.sending.statement) e.messages c.in-Ok.ensures.rows);

@@ -1,0 +1,40 @@
+-- How each bind's reader ended.
+use Rattle.std.specs.Prelude.{◌≡◌, ◌++◌, ℕ, List, Option, Some, slice_get}
+use Rattle.std.specs.Io.KnownBytes.{IsAtEnd}
+use Rattle.std.specs.List.{concat}
+use Rattle.sms_pdu.specs.declared.reply.Reply.{Reply}
+use Rattle.sms_bind.specs.declared.bound.Bound.{Bound}
+use Rattle.sms_bind.specs.declared.ending.ReaderCause.TheVariants.{Ended, Stopped}
+use Rattle.sms_bind.specs.declared.ending.ReaderEnd.{ReaderEnd}
+use Rattle.sms_bind.specs.Ends.{HandsOn}
+use Rattle.sms_bind.specs.Follows.{most_held}
+use Rattle.sms_bind.specs.Held.{Held}
+use Rattle.sms_bind.specs.Turns.{Stops}
+use Rattle.sms_driver.specs.declared.bind_end.BindEnd.{BindEnd}
+use Rattle.sms_driver.specs.declared.bind_end.ReaderOutcome.{ReaderOutcome}
+use Rattle.sms_driver.specs.declared.binding.BindSettings.{BindSettings}
+use Rattle.sms_driver.specs.BindEnds.{follow_of, outcome_of}
+use Rattle.sms_driver.specs.Reads.{IsOpened}
+
+-- a bind was opened in the octets that were told, and what came behind that was worked by a reader, whose end says this: its cause
+-- by the frames that were worked and the rest behind them, its counts by what was done with the frames
+pub record HasEnded (all : BindSettings) (turns : ℕ) (told : Option (List ℕ)) (outcome : ReaderOutcome) : Type 0 where
+  pub bound : Bound
+  pub between : Option (List ℕ)
+  pub opened : IsOpened all.settings.mode told between bound
+  pub left : Option (List ℕ)
+  pub old : List (List Reply)
+  pub new : List (List Reply)
+  pub held : Held
+  pub end : ReaderEnd
+  pub hands : HandsOn bound.session (concat bound.frames ++ bound.framer) between left old new held end
+  pub is : outcome ≡ outcome_of end
+  -- it followed as it was to
+  pub follows : held.most ≡ most_held (follow_of all)
+  -- the input is told as ended where all of it was read, and the reader as stopped where a turn was left
+  pub ended : outcome.cause ≡ Ended → IsAtEnd left
+  pub stopped : outcome.cause ≡ Stopped → Stops turns between left
+
+-- so of each bind
+abbrev pub HaveEnded : BindSettings → ℕ → (ℕ → Option (List ℕ)) → List BindEnd → Type 0
+HaveEnded all turns told ends = (bind : ℕ) (b : BindEnd) → slice_get ends bind ≡ Some b → HasEnded all turns (told bind) b.reader

@@ -1,0 +1,226 @@
+//! What a sending tells of how a bind's reader ended, for each of the causes.
+
+use super::driving::{Beside, bind_settings, messages, rules};
+use super::same::same;
+use sms_bind::ReaderCause;
+use sms_book::Opening;
+use sms_driver::{Dial, drive_all};
+use std::alloc::Global;
+use std::test::Fail;
+use std::thread::Threads;
+use std::time::Duration;
+use std::{io, sync, thread, time};
+
+// What comes behind the octets of an input.
+#[derive(Clone, Copy)]
+enum Then {
+    // its end
+    Ends,
+    // a fault
+    Fails,
+    // nothing yet
+    Waits,
+}
+
+// What a centre sends, in how many octets it takes what is sent to it, and how a bind of it ends.
+#[derive(Clone, Copy)]
+struct Ending<'a> {
+    sends: &'a [u8],
+    then: Then,
+    room: usize,
+    turns: u64,
+    answer_ms: u32,
+    cause: ReaderCause,
+}
+
+// Gives the octets that it has, and then what comes behind them.
+#[derive(Drop)]
+struct Input<'a, S> {
+    rt: &'a S,
+    left: &'a [u8],
+    then: Then,
+}
+
+impl<'a, S: time::Clock> io::Read for Input<'a, S> {
+    fn read(&mut self, buf: &mut [u8]) -> io::Result<usize> {
+        if !self.left.is_empty() {
+            return self.left.read(buf);
+        }
+        match self.then {
+            Then::Ends => Ok(0),
+            Then::Fails => Err(io::Error::from(io::ErrorKind::BrokenPipe)),
+            Then::Waits => {
+                thread::sleep(self.rt, Duration::from_millis(1));
+                Err(io::Error::from(io::ErrorKind::WouldBlock))
+            }
+        }
+    }
+}
+
+// Takes so many octets, and then fails.
+#[derive(Drop)]
+struct Output {
+    room: usize,
+}
+
+impl io::Write for Output {
+    fn write(&mut self, buf: &[u8]) -> io::Result<usize> {
+        if self.room == 0 {
+            return Err(io::Error::from(io::ErrorKind::BrokenPipe));
+        }
+        let taken = buf.len().min(self.room);
+        self.room -= taken;
+        Ok(taken)
+    }
+
+    fn flush(&mut self) -> io::Result<()> {
+        Ok(())
+    }
+}
+
+// One connection, to a centre of that kind.
+#[derive(Drop)]
+struct One<'a, S> {
+    rt: &'a S,
+    ending: Ending<'a>,
+}
+
+impl<'a, S: time::Clock + Sync> Dial for One<'a, S> {
+    type Reader = Input<'a, S>;
+
+    type Writer = Output;
+
+    fn dial(&self, _bind: u32) -> Option<(Input<'a, S>, Output)> {
+        let input = Input {
+            rt: self.rt,
+            left: self.ending.sends,
+            then: self.ending.then,
+        };
+        let output = Output {
+            room: self.ending.room,
+        };
+        Some((input, output))
+    }
+}
+
+// How the reader of the one bind of a sending of one message ended.
+fn cause_of<R: Threads + sync::Wait + time::Clock + Sync>(
+    rt: &R,
+    alloc: Global,
+    ending: Ending<'_>,
+) -> Result<ReaderCause, Fail> {
+    let mut openings = Vec::new(alloc);
+    openings.push(Opening {
+        name: String::from_str(alloc, "main")?,
+        credits: 1,
+    })?;
+    let (bind_settings, mut rules) = (bind_settings(alloc)?, rules(alloc)?);
+    rules.turns = ending.turns;
+    rules.answer_ms = ending.answer_ms;
+    let beside = Beside { rt };
+    let driven = drive_all(
+        rt,
+        alloc,
+        1,
+        1,
+        &bind_settings,
+        &rules,
+        openings.as_slice(),
+        messages(alloc, 1)?,
+        &One { rt, ending },
+        &beside,
+        &beside,
+        &beside,
+    );
+    match driven {
+        Ok(sending) => match sending.binds.first() {
+            Some(bind) => Ok(bind.reader.cause),
+            None => Err(Fail::new("no bind")),
+        },
+        Err(fault) => Err(Fail::new(fault)),
+    }
+}
+
+// A bind_transceiver_resp (SMPP 3.4 4.1.6), and behind it an unbind, an enquire_link, and a command_length of 4.
+const BOUND: &[u8] = b"\0\0\0\x11\x80\0\0\x09\0\0\0\0\0\0\0\x01\0";
+
+const UNBINDS: &[u8] =
+    b"\0\0\0\x11\x80\0\0\x09\0\0\0\0\0\0\0\x01\0\0\0\0\x10\0\0\0\x06\0\0\0\0\0\0\0\x01";
+
+const ASKS: &[u8] =
+    b"\0\0\0\x11\x80\0\0\x09\0\0\0\0\0\0\0\x01\0\0\0\0\x10\0\0\0\x15\0\0\0\0\0\0\0\x01";
+
+const BAD_LENGTH: &[u8] = b"\0\0\0\x11\x80\0\0\x09\0\0\0\0\0\0\0\x01\0\0\0\0\x04";
+
+// How many octets the bind_transceiver has.
+const BIND: usize = 31;
+
+// Room for all that is sent.
+const ALL: usize = 10_000;
+
+const ENDINGS: [Ending<'static>; 7] = [
+    Ending {
+        sends: BOUND,
+        then: Then::Ends,
+        room: ALL,
+        turns: 20_000,
+        answer_ms: 1_000,
+        cause: ReaderCause::Ended,
+    },
+    Ending {
+        sends: UNBINDS,
+        then: Then::Waits,
+        room: ALL,
+        turns: 20_000,
+        answer_ms: 1_000,
+        cause: ReaderCause::Unbound,
+    },
+    Ending {
+        sends: BAD_LENGTH,
+        then: Then::Waits,
+        room: ALL,
+        turns: 20_000,
+        answer_ms: 1_000,
+        cause: ReaderCause::Lost,
+    },
+    Ending {
+        sends: BOUND,
+        then: Then::Fails,
+        room: ALL,
+        turns: 20_000,
+        answer_ms: 1_000,
+        cause: ReaderCause::ReadFault,
+    },
+    Ending {
+        sends: ASKS,
+        then: Then::Waits,
+        room: BIND,
+        turns: 20_000,
+        answer_ms: 1_000,
+        cause: ReaderCause::WriteFault,
+    },
+    Ending {
+        sends: BOUND,
+        then: Then::Waits,
+        room: ALL,
+        turns: 20_000,
+        answer_ms: 0,
+        cause: ReaderCause::Stopped,
+    },
+    Ending {
+        sends: BOUND,
+        then: Then::Waits,
+        room: ALL,
+        turns: 20,
+        answer_ms: 1_000,
+        cause: ReaderCause::Turns,
+    },
+];
+
+#[test]
+fn each_cause_is_told(rt: HostRuntime) -> Result<(), Fail> {
+    for ending in &ENDINGS {
+        same(&rt, cause_of(&rt, rt.alloc(), *ending)?, ending.cause);
+    }
+    Ok(())
+}
