@@ -56,8 +56,8 @@ pub record AreSettingsOf (connection : Connection) (limits : Limits) (flags : Fl
 -- whose amounts are the sums over these ends, and an end for each of the config's binds, each of so
 -- many workers as the config says; and bind by bind each attempt with a reply has a place of its own,
 -- where that reply stands, among the answers in what was read of the bind, of which `told` tells what it will give, and no
--- other attempt of the bind has its sequence_number, which is below the one that the bind's window would have given next; and the end of each bind tells how its reader ended, which was opened, and
--- followed, as the config says
+-- other attempt of the bind has its sequence_number, which is below the one that the bind's window would have given next;
+-- and the end of each bind tells how its reader ended: the bind was opened, and the reader followed, as the config says
 pub record IsSent (told : ℕ → Told) (input : Input) (ended : Ended) : Type 0 where
   pub openings : ended.openings ≡ input.openings
   pub rules : Rules

@@ -5,7 +5,8 @@ use super::same::same;
 use sms_bind::ReaderCause;
 use sms_book::Opening;
 use sms_driver::{Dial, drive_all};
-use std::alloc::Global;
+use sms_worker::Rules;
+use std::alloc::{AllocError, Global};
 use std::test::Fail;
 use std::thread::Threads;
 use std::time::Duration;
@@ -28,7 +29,7 @@ struct Ending<'a> {
     sends: &'a [u8],
     then: Then,
     room: usize,
-    turns: u64,
+    turns: u16,
     answer_ms: u32,
     cause: ReaderCause,
 }
@@ -103,6 +104,14 @@ impl<'a, S: time::Clock + Sync> Dial for One<'a, S> {
     }
 }
 
+// The rules of all tests, but with so many turns and so long a wait.
+fn rules_with(alloc: Global, turns: u16, answer_ms: u32) -> Result<Rules, AllocError> {
+    let mut rules = rules(alloc)?;
+    rules.turns = u64::from(turns);
+    rules.answer_ms = answer_ms;
+    Ok(rules)
+}
+
 // How the reader of the one bind of a sending of one message ended.
 fn cause_of<R: Threads + sync::Wait + time::Clock + Sync>(
     rt: &R,
@@ -114,9 +123,8 @@ fn cause_of<R: Threads + sync::Wait + time::Clock + Sync>(
         name: String::from_str(alloc, "main")?,
         credits: 1,
     })?;
-    let (bind_settings, mut rules) = (bind_settings(alloc)?, rules(alloc)?);
-    rules.turns = ending.turns;
-    rules.answer_ms = ending.answer_ms;
+    let bind_settings = bind_settings(alloc)?;
+    let rules = rules_with(alloc, ending.turns, ending.answer_ms)?;
     let beside = Beside { rt };
     let driven = drive_all(
         rt,
