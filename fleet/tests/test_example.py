@@ -56,7 +56,7 @@ class Example(Case):
         self.assertIn("200 messages", self.does("merge", self.folder))
         names = [f"{self.folder}/report.csv", f"{self.folder}/messages.csv"]
         subprocess.run([f"{HOME}/tools/balances", *names], check=True)
-        self.assertEqual({it[0][2] for it in Report(names[0]).ends}, {"charged", "refused"})
+        self.assertEqual({it[0][2] for it in Report(names[0]).ends}, {"charged", "refused", "no-credit"})
 
     def test_words_and_faults(self):
         self.assertIn("usage: fleet/split", self.does("split", "--help"))
