@@ -264,6 +264,29 @@ class Running(Case):
         self.assertEqual(said[-1], "loop --rate 50 --stop-after 3 --quiet --config send.toml --journal journal")
         self.assertEqual([it.split()[0] for it in said], ["send", "recover", "rest", "rest", "loop"])
 
+    @unittest.skipIf(shutil.which("sms-send", path="/usr/bin:/bin"), "sms-send is installed")
+    def test_the_program_is_found(self):
+        """sms-send on the PATH, or else the launcher of the checkout that the scripts lie in."""
+        home, path = f"{self.folder}-home", f"{self.folder}-path"
+        shutil.copytree(HERE, f"{home}/fleet")
+        os.makedirs(path)
+        for place, wanted in ((None, "No such file"), (home, "launcher"), (path, "on the path")):
+            if place:
+                put_text(f'#!/bin/sh\necho "{wanted}" >> {self.folder}/asked\nexec {PROGRAM} "$@"\n', f"{place}/sms-send")
+                os.chmod(f"{place}/sms-send", 0o755)
+            self.job({"a": 5})
+            split(self.folder, 1)
+            more = {"capture_output": True, "text": True, "env": {**os.environ, "PATH": f"{path}:/usr/bin:/bin"}}
+            ended = subprocess.run([f"{home}/fleet/run", self.folder], **more)
+            self.assertEqual(ended.returncode, 0 if place else 1, ended.stderr)
+            if place:
+                with open(f"{self.folder}/asked") as file:
+                    self.assertEqual(file.read().split("\n")[-2], wanted)
+                os.remove(f"{self.folder}/submits")
+            else:
+                self.assertIn(wanted, ended.stderr)
+            shutil.rmtree(f"{self.folder}/parts")
+
     def test_a_rest_that_is_another(self):
         self.job({"a": 5})
         split(self.folder, 1)
