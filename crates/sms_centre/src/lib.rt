@@ -13,8 +13,6 @@ mod said;
 mod saying;
 mod script;
 mod serving;
-#[cfg(test)]
-mod tests;
 mod text;
 mod treatment;
 

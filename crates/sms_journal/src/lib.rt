@@ -17,8 +17,6 @@ mod reading;
 mod recovering;
 mod rows;
 mod seen;
-#[cfg(test)]
-mod tests;
 mod text;
 mod told;
 

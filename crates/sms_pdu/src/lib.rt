@@ -50,6 +50,3 @@ pub use sizes::encoded_length;
 pub use tap::Tap;
 pub use turn::{PIECE, drop_front, fault_of, gave_nothing};
 pub use writing::write_octets;
-
-#[cfg(test)]
-mod tests;

@@ -17,8 +17,6 @@ mod reporting;
 mod rest;
 mod rules;
 mod stage;
-#[cfg(test)]
-mod tests;
 
 pub use fault::RecoveryFault;
 pub use recovering::run_recover;

@@ -13,8 +13,6 @@ mod report;
 mod status;
 mod summary;
 mod tally;
-#[cfg(test)]
-mod tests;
 
 pub use fault::OutputFault;
 pub use output::write_out;

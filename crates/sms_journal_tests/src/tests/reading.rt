@@ -1,0 +1,270 @@
+//! Journals written by hand and read, and the digests of files.
+
+use super::same;
+use sms_journal::{Call, Digests, JournalError, Note, digests_of, read_notes, write_header, write_note};
+use sms_pdu::reply_of;
+use sms_worker::MessageRefusal;
+use std::alloc::{AllocError, Global};
+use std::process::Abort;
+use std::test::Fail;
+
+const DIGESTS: Digests = Digests {
+    config: [0x10; 32],
+    accounts: [0x2A; 32],
+    messages: [0xFF; 32],
+    tariff: None,
+};
+
+/// The header of these files.
+const HEADER: &str = concat!(
+    "journal,1,1010101010101010101010101010101010101010101010101010101010101010,",
+    "2a2a2a2a2a2a2a2a2a2a2a2a2a2a2a2a2a2a2a2a2a2a2a2a2a2a2a2a2a2a2a2a,",
+    "ffffffffffffffffffffffffffffffffffffffffffffffffffffffffffffffff,\n"
+);
+
+/// What stands behind the header, how many notes it has, and which record is faulty.
+struct Row {
+    text: &'static str,
+    wanted: Result<usize, usize>,
+}
+
+const ROWS: [Row; 33] = [
+    Row {
+        text: "",
+        wanted: Ok(0),
+    },
+    Row {
+        text: "begun,1,0\n",
+        wanted: Ok(1),
+    },
+    Row {
+        text: "begun,0,18446744073709551615\nsent,18446744073709551615,4294967295,0,5,255\n",
+        wanted: Ok(2),
+    },
+    Row {
+        text: "unsent,1,7,4294967295\nheard,1,7,12,88,0,\nheard,1,7,12,0,1,\n",
+        wanted: Ok(3),
+    },
+    Row {
+        text: "heard,1,7,12,0,0,a7%2c%25%22~%e9%20\nrefused,1,9,bind-closed\nend,1,255\n",
+        wanted: Ok(3),
+    },
+    Row {
+        text: "refused,1,9,no-account\nrefused,1,9,no-credit\nrefused,1,9,too-long\n",
+        wanted: Ok(3),
+    },
+    Row {
+        text: "refused,1,9,bad-address\nrefused,1,9,out-of-memory\n",
+        wanted: Ok(2),
+    },
+    // The last line was cut.
+    Row {
+        text: "begun,1,0\nbegun,1,1",
+        wanted: Ok(1),
+    },
+    Row {
+        text: "begun,1,0\nrubbish",
+        wanted: Ok(1),
+    },
+    // Lines that no note has.
+    Row {
+        text: "\n",
+        wanted: Err(2),
+    },
+    Row {
+        text: "begun,1,0\n\n",
+        wanted: Err(3),
+    },
+    Row {
+        text: "begun,1,0\r\n",
+        wanted: Err(2),
+    },
+    Row {
+        text: "begun,1,0\nbegun,1,1,\n",
+        wanted: Err(3),
+    },
+    Row {
+        text: "begun,1\n",
+        wanted: Err(2),
+    },
+    Row {
+        text: "begun\n",
+        wanted: Err(2),
+    },
+    Row {
+        text: "begun,01,0\n",
+        wanted: Err(2),
+    },
+    Row {
+        text: "begun,,0\n",
+        wanted: Err(2),
+    },
+    Row {
+        text: "begun,1,+0\n",
+        wanted: Err(2),
+    },
+    Row {
+        text: "begun, 1,0\n",
+        wanted: Err(2),
+    },
+    Row {
+        text: "Begun,1,0\n",
+        wanted: Err(2),
+    },
+    Row {
+        text: "begun,18446744073709551616,0\n",
+        wanted: Err(2),
+    },
+    Row {
+        text: "sent,1,4294967296,0,5,1\n",
+        wanted: Err(2),
+    },
+    Row {
+        text: "sent,1,0,0,5,256\n",
+        wanted: Err(2),
+    },
+    Row {
+        text: "end,1,256\n",
+        wanted: Err(2),
+    },
+    Row {
+        text: "refused,1,9,no-reason\n",
+        wanted: Err(2),
+    },
+    Row {
+        text: "heard,1,7,12,0,2,\n",
+        wanted: Err(2),
+    },
+    Row {
+        text: "heard,1,7,12,0,0,a%2C\n",
+        wanted: Err(2),
+    },
+    Row {
+        text: "heard,1,7,12,0,0,%61\n",
+        wanted: Err(2),
+    },
+    Row {
+        text: "heard,1,7,12,0,0,a b\n",
+        wanted: Err(2),
+    },
+    Row {
+        text: "heard,1,7,12,0,0,a\u{7}\n",
+        wanted: Err(2),
+    },
+    Row {
+        text: "heard,1,7,12,0,0,a%2\n",
+        wanted: Err(2),
+    },
+    Row {
+        text: "heard,1,7,12,0,0,%00\n",
+        wanted: Err(2),
+    },
+    Row {
+        text: "heard,1,7,12,0,0,1234567890123456789012345678901234567890123456789012345678901234x\n",
+        wanted: Err(2),
+    },
+];
+
+fn text_of(alloc: Global, front: &str, behind: &str) -> Result<String, AllocError> {
+    let mut text = String::from_str(alloc, front)?;
+    text.push_str(behind)?;
+    Ok(text)
+}
+
+/// How many notes are read, or which record is faulty.
+fn count_of(alloc: Global, text: &str) -> Result<Result<usize, usize>, JournalError> {
+    match read_notes(alloc, text.as_bytes(), &DIGESTS) {
+        Ok(notes) => Ok(Ok(notes.len())),
+        Err(JournalError::BadRecord(place)) => Ok(Err(place)),
+        Err(other) => Err(other),
+    }
+}
+
+fn check_row(rt: &impl Abort, alloc: Global, row: &Row) -> Result<(), Fail> {
+    let text = text_of(alloc, HEADER, row.text)?;
+    same(rt, count_of(alloc, text.as_str())?, row.wanted);
+    Ok(())
+}
+
+#[test]
+fn journals_are_read(rt: HostRuntime) -> Result<(), Fail> {
+    for row in &ROWS {
+        check_row(&rt, rt.alloc(), row)?;
+    }
+    Ok(())
+}
+
+/// Texts, from their first octet on.
+const WHOLE: [(&str, Result<usize, usize>); 6] = [
+    // The run ended before it had noted anything.
+    ("", Ok(0)),
+    ("journal,1,10", Ok(0)),
+    // No journal, and one of other files.
+    ("journal,2,10", Err(1)),
+    ("message,part\n", Err(1)),
+    ("\n", Err(1)),
+    ("begun,1,0\n", Err(1)),
+];
+
+#[test]
+fn headers_are_of_the_files(rt: HostRuntime) -> Result<(), Fail> {
+    let alloc = rt.alloc();
+    for (text, wanted) in &WHOLE {
+        same(&rt, count_of(alloc, text)?, *wanted);
+    }
+    let doubled = text_of(alloc, HEADER, HEADER)?;
+    same(&rt, count_of(alloc, doubled.as_str())?, Err(2));
+    Ok(())
+}
+
+/// A submit_sm_resp with status 0, the number 1 and a message_id.
+const ANSWER: &[u8] = b"\0\0\0\x19\x80\0\0\x04\0\0\0\0\0\0\0\x01a7,%\"~\xE9 \0";
+
+fn written(alloc: Global, notes: &[Note]) -> Result<String, AllocError> {
+    let mut text = String::new(alloc);
+    write_header(&mut text, &DIGESTS)?;
+    for note in notes {
+        write_note(&mut text, 1_700_000_000_123, note)?;
+    }
+    Ok(text)
+}
+
+#[test]
+fn what_was_written_is_read(rt: HostRuntime) -> Result<(), Fail> {
+    let alloc = rt.alloc();
+    let Some(reply) = reply_of(ANSWER) else {
+        return Err("no answer".into());
+    };
+    let call = Call {
+        worker: 7,
+        number: 1,
+    };
+    let notes = [
+        Note::Begun(3),
+        Note::Sent(call, 3, 1),
+        Note::Unsent(call),
+        Note::Heard(7, reply),
+        Note::Refused(9, MessageRefusal::NoCredit),
+        Note::End(4),
+    ];
+    let text = written(alloc, notes.as_slice())?;
+    let read = read_notes(alloc, text.as_bytes(), &DIGESTS)?;
+    same(&rt, read.as_slice(), notes.as_slice());
+    Ok(())
+}
+
+/// The digest of nothing, and of `abc` (FIPS 180-4's example).
+const OF_NOTHING: [u8; 4] = [0xE3, 0xB0, 0xC4, 0x42];
+
+const OF_ABC: [u8; 4] = [0xBA, 0x78, 0x16, 0xBF];
+
+#[test]
+fn files_have_digests(rt: HostRuntime) -> Result<(), Fail> {
+    let digests = digests_of(b"abc", b"", b"abc", Some(b"abc".as_slice()));
+    same(&rt, &digests.config[..4], OF_ABC.as_slice());
+    same(&rt, &digests.accounts[..4], OF_NOTHING.as_slice());
+    same(&rt, &digests.messages[..4], OF_ABC.as_slice());
+    same(&rt, digests.tariff, Some(digests.config));
+    same(&rt, digests_of(b"", b"", b"", None).tariff, None);
+    Ok(())
+}
