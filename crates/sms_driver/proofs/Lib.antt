@@ -9,6 +9,7 @@ pub mod Joins
 pub mod Moves
 pub mod Numbering
 pub mod Openings
+pub mod Refusals
 pub mod Returning
 pub mod Sitting
 pub mod Sums

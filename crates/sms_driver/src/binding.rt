@@ -1,6 +1,6 @@
 //! How the binds are made, one after the other (SMPP 3.4 4.1).
 
-ghost use Rattle.std.specs.Prelude.{◌≡◌, ◌⊎◌, ℕ, ◌<◌, ◌≤◌, [], length, map, vec_capacity, IfErr, IfOk, OnOk};
+ghost use Rattle.std.specs.Prelude.{◌≡◌, ◌⊎◌, ℕ, ◌<◌, ◌≤◌, [], length, map, vec_capacity, Err, IfErr, IfOk, IsOk, OnOk};
 ghost use Rattle.std.specs.List.{AllByRecursion, AllZip};
 ghost use Rattle.sms_core.specs.Limits.{most_slots};
 ghost use Rattle.sms_pdu.specs.Devices.{device};
@@ -323,6 +323,33 @@ fn bind_each<D: Dial>(
     )
 }
 
+/// Gives the binds if all were made. If one failed, those that were made are unbound, and its fault is told.
+fn unless_failed<Rd: Drop, W: Write + Drop, R: Wait>(
+    rt: &R,
+    alloc: Global,
+    binds: Binds<Rd, W>,
+    made: Result<(), SendFault>,
+) -> Result<Binds<Rd, W>, SendFault>
+    requires driver_seats { map (λ s. s.seat.window) binds.driver_seats.items ≡ map (λ b. b.window) binds.shared_binds.items }
+    ensures given { IfOk result (λ b. b ≡ binds) }
+    ensures all { OnOk result (IsOk made) }
+    ensures told { IfErr result (λ fault. made ≡ Err fault) }
+{
+    let mut binds = binds;
+    match made {
+        Ok(()) => Ok(binds),
+        Err(fault) => {
+            unbind_all(
+                rt,
+                alloc,
+                binds.shared_binds.as_slice(),
+                &mut binds.driver_seats,
+            );
+            Err(fault)
+        }
+    }
+}
+
 /// Makes a bind for each set of rings. If one fails, those made are unbound.
 pub(crate) fn make_binds<D: Dial, R: Wait>(
     rt: &R,
@@ -348,17 +375,6 @@ pub(crate) fn make_binds<D: Dial, R: Wait>(
         bind_parts: Vec::with_capacity(alloc, rings.len())?,
         driver_seats: Vec::with_capacity(alloc, rings.len())?,
     };
-    let (mut binds, made) = bind_each(alloc, dial, bind_settings, workers, rings, none);
-    match made {
-        Ok(()) => Ok(binds),
-        Err(fault) => {
-            unbind_all(
-                rt,
-                alloc,
-                binds.shared_binds.as_slice(),
-                &mut binds.driver_seats,
-            );
-            Err(fault)
-        }
-    }
+    let (binds, made) = bind_each(alloc, dial, bind_settings, workers, rings, none);
+    unless_failed(rt, alloc, binds, made)
 }

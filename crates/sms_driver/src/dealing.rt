@@ -1,6 +1,6 @@
 //! Messages dealt out to workers in turn, and the workers' ends put back into the order of the messages.
 
-ghost use Rattle.std.specs.Prelude.{◌≡◌, [], ℕ, ◌+◌, ◌<◌, ◌≤◌, List, length, map, vec_len, vec_capacity, IfOk, OnOk};
+ghost use Rattle.std.specs.Prelude.{◌≡◌, [], ◌∷◌, ◌++◌, ℕ, ◌+◌, ◌<◌, ◌≤◌, List, length, map, vec_len, vec_capacity, IfOk, OnOk};
 ghost use Rattle.sms_worker.specs.declared.message.Message.{Message};
 ghost use Rattle.sms_worker.specs.declared.ends.MessageEnd.{MessageEnd};
 ghost use Rattle.sms_driver.specs.Deals.{cons_at, dealt, next, onto};
@@ -71,6 +71,19 @@ fn take_next(parts: &mut Vec<VecDeque<MessageEnd>>, place: usize) -> MessageEnd
     end
 }
 
+// Takes the first end of the part at a place, which was dealt there, behind those that were taken.
+fn take_over(parts: &mut Vec<VecDeque<MessageEnd>>, place: usize, out: &mut Vec<MessageEnd>)
+    requires there { place < length parts.old.items }
+    requires dealt { (ls : List (List MessageEnd)) × (x : MessageEnd) × (map (λ p. p.items) parts.old.items ≡ cons_at ls place x) }
+    requires room { vec_len out.old < vec_capacity out.old }
+    ensures len { length parts.new.items ≡ length parts.old.items }
+    ensures room { (vec_len out.new ≡ vec_len out.old + 1) × (vec_capacity out.new ≡ vec_capacity out.old) }
+    ensures taken { (ls : List (List MessageEnd)) (x : MessageEnd) → map (λ p. p.items) parts.old.items ≡ cons_at ls place x → (out.new.items ≡ out.old.items ++ x ∷ []) × (map (λ p. p.items) parts.new.items ≡ ls) }
+{
+    let end = take_next(parts, place);
+    out.push_reserved(end);
+}
+
 /// Takes the ends back in the order in which their messages were dealt out.
 pub fn merged(
     parts: Vec<VecDeque<MessageEnd>>,
@@ -86,8 +99,7 @@ pub fn merged(
     let mut out = out;
     let mut place = 0;
     for _i in 0..count {
-        let end = take_next(&mut parts, place);
-        out.push_reserved(end);
+        take_over(&mut parts, place, &mut out);
         place = next_place(place, parts.len());
     }
     out

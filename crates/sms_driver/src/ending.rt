@@ -1,6 +1,6 @@
 //! What a run ends with.
 
-ghost use Rattle.std.specs.Prelude.{◌≡◌, ℕ, ◌<◌, List, length, map, IfOk, OnOk, Ok, vec_len, vec_capacity};
+ghost use Rattle.std.specs.Prelude.{◌≡◌, ◌∷◌, ◌++◌, [], ℕ, ◌<◌, List, length, map, IfOk, OnOk, Ok, vec_len, vec_capacity};
 ghost use Rattle.std.specs.List.{AllByRecursion, AllZip};
 ghost use Rattle.rtrb.specs.Ring.{IsPair};
 ghost use Rattle.sms_book.specs.Portions.{row_at};
@@ -54,6 +54,14 @@ struct Parts<N: BookName> {
     consumers: Vec<Consumer<Reply>>,
 }
 
+/// Keeps a worker's share behind those of the workers before it.
+fn keep_share<N: BookName>(shares: &mut Vec<Shares<N>>, share: Shares<N>) -> Result<(), AllocError>
+    ensures { OnOk result (shares.new.items ≡ shares.old.items ++ share ∷ []) }
+{
+    shares.push(share)?;
+    Ok(())
+}
+
 fn take_apart<N: BookName>(alloc: Global, done: Vec<WorkerEnd<N>>) -> Result<Parts<N>, AllocError>
     ensures shares { IfOk result (λ p. p.shares.items ≡ map (λ d. d.shares) done.items) }
     ensures ends { IfOk result (λ p. map (λ q. q.items) p.ends.items ≡ map (λ d. d.ends.items) done.items) }
@@ -73,7 +81,7 @@ fn take_apart<N: BookName>(alloc: Global, done: Vec<WorkerEnd<N>>) -> Result<Par
             seat,
             consumer,
         } = end;
-        shares.push(share)?;
+        keep_share(&mut shares, share)?;
         ends.push(VecDeque::from(theirs))?;
         seats.push(seat)?;
         consumers.push(consumer)?;

@@ -1,6 +1,6 @@
 //! How binds are ended (SMPP 3.4 4.2).
 
-ghost use Rattle.std.specs.Prelude.{◌≡◌, IfSome, map, length};
+ghost use Rattle.std.specs.Prelude.{◌≡◌, ◌+◌, ◌<◌, IfSome, map, length, take};
 ghost use Rattle.std.specs.List.{AllByRecursion};
 ghost use Rattle.sms_driver.specs.BindEnds.{HasAsked, IsTried, SpellsUnbind};
 
@@ -75,6 +75,24 @@ fn unbind<W: Write, R: Wait>(
     driver_seat.unbinding = ask(rt, alloc, shared, &mut driver_seat.seat);
 }
 
+/// Writes an unbind to the bind at a place, and keeps what came of it: then one was tried at each bind up to it, if at
+/// each before it.
+fn unbind_at<W: Write, R: Wait>(
+    rt: &R,
+    alloc: Global,
+    shared_binds: &[SharedBind<W>],
+    driver_seats: &mut Vec<DriverSeat>,
+    bind: usize,
+)
+    requires there { bind < length shared_binds.now }
+    requires driver_seats { map (λ s. s.seat.window) driver_seats.old.items ≡ map (λ b. b.window) shared_binds.now }
+    ensures driver_seats { map (λ s. s.seat.window) driver_seats.new.items ≡ map (λ s. s.seat.window) driver_seats.old.items }
+    ensures tried { AllByRecursion (λ s. IsTried s.unbinding) (take bind driver_seats.old.items) → AllByRecursion (λ s. IsTried s.unbinding) (take (bind + 1) driver_seats.new.items) }
+{
+    let driver_seat = &mut driver_seats[bind];
+    unbind(rt, alloc, &shared_binds[bind], driver_seat);
+}
+
 /// Writes an unbind to each bind.
 pub(crate) fn unbind_all<W: Write, R: Wait>(
     rt: &R,
@@ -87,8 +105,7 @@ pub(crate) fn unbind_all<W: Write, R: Wait>(
     ensures tried { AllByRecursion (λ s. IsTried s.unbinding) driver_seats.new.items }
 {
     for bind in 0..shared_binds.len() {
-        let driver_seat = &mut driver_seats[bind];
-        unbind(rt, alloc, &shared_binds[bind], driver_seat);
+        unbind_at(rt, alloc, shared_binds, driver_seats, bind);
     }
 }
 

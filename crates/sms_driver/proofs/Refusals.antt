@@ -1,0 +1,22 @@
+-- What is given unless something failed before.
+use Rattle.std.specs.Prelude.{◌≡◌, Result, Ok, Err, IfOk, IfErr, IsOk, OnOk}
+use Rattle.std.proofs.Common.{sym, subst, true≢false}
+use Rattle.std.proofs.lemmas.Result.{IfErr-at_err}
+
+-- what holds of the value that was there holds of the one that is given
+pub if_given : {A E : Type 0} (r : Result A E) (a : A) (P : A → Type 0) → IfOk r (λ b. b ≡ a) → P a → IfOk r P
+if_given (Ok b) a P is h = subst P (sym is) h
+if_given (Err e) a P is h = tt
+
+module _ {A U E : Type 0} where
+  -- and what holds of it where nothing failed
+  pub if_all : (made : Result U E) (r : Result A E) (a : A) (P : A → Type 0) → IfOk r (λ b. b ≡ a) → OnOk r (IsOk made) → OnOk made (P a) → IfOk r P
+  if_all (Ok u) (Ok b) a P is all h = subst P (sym is) h
+  if_all (Err e) (Ok b) a P is all h = absurd (true≢false (sym all))
+  if_all (Ok u) (Err e) a P is all h = tt
+  if_all (Err d) (Err e) a P is all h = tt
+
+  -- what holds of the fault holds of the one that is told
+  pub if_told : (made : Result U E) (r : Result A E) (P Q : E → Type 0) → IfErr r (λ e. made ≡ Err e) → IfErr made P → ((e : E) → P e → Q e) → IfErr r Q
+  if_told made (Ok b) P Q is h f = tt
+  if_told made (Err e) P Q is h f = f e (IfErr-at_err P is h)

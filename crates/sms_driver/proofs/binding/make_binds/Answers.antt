@@ -1,0 +1,22 @@
+use Rattle.std.proofs.Common.{length, inr}
+use Rattle.sms_driver.proofs.Refusals.{if_given, if_all, if_told}
+use Rattle.sms_driver.proofs.binding.make_binds.Goals as goal
+
+pub returns-clause-driver_seats : goal.returns-clause-driver_seats
+returns-clause-driver_seats g c = if_given _ _ _ c.unless_failed.ensures.given c.bind_each-binds.ensures.driver_seats
+
+pub returns-clause-opened : goal.returns-clause-opened
+returns-clause-opened g c = if_given _ _ _ c.unless_failed.ensures.given c.bind_each-binds.ensures.opened
+
+pub returns-clause-set : goal.returns-clause-set
+returns-clause-set g c = if_given _ _ _ c.unless_failed.ensures.given c.bind_each-binds.ensures.set
+
+pub returns-clause-seated : goal.returns-clause-seated
+returns-clause-seated g c = if_given _ _ _ c.unless_failed.ensures.given c.bind_each-binds.ensures.seated
+
+pub returns-clause-long : goal.returns-clause-long
+returns-clause-long g c = if_all _ _ _ _ c.unless_failed.ensures.given c.unless_failed.ensures.all c.bind_each-binds.ensures.long
+
+pub returns-clause-refused : goal.returns-clause-refused
+returns-clause-refused g c =
+    if_told _ _ _ _ c.unless_failed.ensures.told c.bind_each-binds.ensures.refused (λ fault h. inr (length c.bind_each-binds.result.0.shared_binds.items, h.0, h.1))
