@@ -2,3 +2,4 @@ pub mod Laws
 pub mod QuoteText
 pub mod Quotes
 pub mod Totals
+pub mod Warnings

@@ -1,6 +1,6 @@
 //! Quotes, worked out by hand.
 
-use crate::quote_text;
+use crate::{quote_text, warnings_text};
 use sms_files::{Input, read_input};
 use std::alloc::{AllocError, Global};
 use std::fmt::Debug;
@@ -102,4 +102,55 @@ fn no_header_counts_more_than_255_parts(rt: HostRuntime) -> Result<(), Fail> {
             "\"a,b\",3,0,0,0,3\n"
         ),
     )
+}
+
+/// Texts, and whether they are warned of: a line feed, and at least four commas behind the first one.
+const TEXTS: [(&str, bool); 10] = [
+    ("", false),
+    ("\n", false),
+    (",,,,,", false),
+    ("\n,,,", false),
+    ("\n,,,,", true),
+    (",,,,\n,,,", false),
+    ("a\nbank,1,33,x\nbank,1,33,y", true),
+    ("a\r,b,c,d,e", false),
+    (",\n,\n,\n,\n,", true),
+    ("Dear all,\nbread, milk, tea", false),
+];
+
+/// A messages file of a message that isn't warned of, and one of this text.
+fn messages_of(alloc: Global, text: &str) -> Result<String, AllocError> {
+    format!(in alloc; "account,source,destination,text\nbank,1,33,x\nbank,1,33,\"{text}\"\n")
+}
+
+/// What is warned of where the second message is, and where none is.
+fn warning_of(open: bool) -> &'static str {
+    if open {
+        "warning: message 1: its text has a line end and commas: is a quote left open?\n"
+    } else {
+        ""
+    }
+}
+
+fn check_warning(
+    rt: &impl Abort,
+    alloc: Global,
+    text: &str,
+    messages: &str,
+    open: bool,
+) -> Result<(), Fail> {
+    let input = input_of(alloc, messages)?;
+    let warnings = warnings_text(alloc, &input)?;
+    same(rt, (text, warnings.as_str()), (text, warning_of(open)));
+    Ok(())
+}
+
+#[test]
+fn texts_with_records_are_warned_of(rt: HostRuntime) -> Result<(), Fail> {
+    let alloc = rt.alloc();
+    for (text, open) in &TEXTS {
+        let messages = messages_of(alloc, text)?;
+        check_warning(&rt, alloc, text, messages.as_str(), *open)?;
+    }
+    Ok(())
 }

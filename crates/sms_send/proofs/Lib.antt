@@ -6,7 +6,9 @@ pub mod Lines
 pub mod Names
 pub mod Noting
 pub mod Plans
+pub mod Quoting
 pub mod Replaying
 pub mod Runs
 pub mod Sendings
+pub mod Statuses
 pub mod Telling

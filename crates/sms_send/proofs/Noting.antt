@@ -1,5 +1,5 @@
 -- What a sending ended with, and what it ends with once its journal has ended.
-use Rattle.std.proofs.Common.{◌≡◌, ◌⊎◌, inl, inr, subst, sym, ℕ, List, Option, Some, None, Result, Ok, Err, IfOk, IfErr}
+use Rattle.std.proofs.Common.{◌≡◌, ◌⊎◌, inl, inr, subst, sym, ℕ, Bool, List, Option, Some, None, Result, Ok, Err, IfOk, IfErr}
 use Rattle.std.specs.Prelude.{◌≢◌}
 use Rattle.sms_files.specs.ConfigFaults.{IsConfig, TellsConfig}
 use Rattle.sms_files.specs.Inputs.{Told}
@@ -58,7 +58,7 @@ pub tells_setup : {F : Type 0} (remaining : F → Told) (centre : Centre) (order
 tells_setup remaining centre order None old new fault items octets input same told =
     inr (inr (beside remaining items octets (λ bytes. TellsFiles remaining centre bytes old new fault) input same (inl told)))
 tells_setup remaining centre order (Some file) old new fault items octets input same told =
-    inr (inr (beside remaining items octets (λ bytes. TellsBy remaining centre file bytes old new fault) input same (inl told)))
+    inr (inr (beside remaining items octets (λ bytes. TellsBy order.strict remaining centre file bytes old new fault) input same (inl told)))
 
 -- what was read of a config: its octets are an input's, and the setup is of the config that they are
 pub record IsSetUp {F : Type 0} (remaining : F → Told) (items read handed : List ℕ) (setup : Setup) : Type 0 where
@@ -68,12 +68,12 @@ pub record IsSetUp {F : Type 0} (remaining : F → Told) (items read handed : Li
   pub says : (config : Config) × IsConfig read config × (setup ≡ setup_in config)
 
 -- a sending without a journal
-pub plain_sends : {F : Type 0} (remaining : F → Told) (items read handed : List ℕ) (setup : Setup) (journal : Option JournalFile) (old new : Option (List ℕ)) (status : ℕ)
-    → journal ≡ None → IsSetUp remaining items read handed setup → SendsNamed untold remaining (names_in setup) handed old new status
-    → OfInput remaining (λ octets. SendsBy remaining journal octets old new status)
-plain_sends remaining items read handed setup journal old new status is set sent =
-    of_config remaining items read handed setup (λ names octets. SendsNamed untold remaining names octets old new status) (λ octets. SendsBy remaining journal octets old new status)
-    set.input set.one set.two set.says (λ octets so. subst (λ (j : Option JournalFile). SendsBy remaining j octets old new status) (sym is) so) sent
+pub plain_sends : {F : Type 0} (strict : Bool) (remaining : F → Told) (items read handed : List ℕ) (setup : Setup) (journal : Option JournalFile) (old new : Option (List ℕ)) (status : ℕ)
+    → journal ≡ None → IsSetUp remaining items read handed setup → SendsNamed untold strict remaining (names_in setup) handed old new status
+    → OfInput remaining (λ octets. SendsBy strict remaining journal octets old new status)
+plain_sends strict remaining items read handed setup journal old new status is set sent =
+    of_config remaining items read handed setup (λ names octets. SendsNamed untold strict remaining names octets old new status) (λ octets. SendsBy strict remaining journal octets old new status)
+    set.input set.one set.two set.says (λ octets so. subst (λ (j : Option JournalFile). SendsBy strict remaining j octets old new status) (sym is) so) sent
 
 pub plain_tells : {F : Type 0} (remaining : F → Told) (items read handed : List ℕ) (setup : Setup) (centre : Centre) (order : Order) (journal : Option JournalFile) (old new : Option (List ℕ)) (fault : Fault)
     → journal ≡ None → IsSetUp remaining items read handed setup → TellsOver centre remaining (Files (names_in setup)) handed old new fault → TellsJournaled remaining centre order journal old new fault
@@ -83,16 +83,16 @@ plain_tells remaining items read handed setup centre order journal old new fault
     set.input set.one set.two set.says (λ octets so. inr so) tells)))
 
 -- and one with a journal
-pub noted_sends : {F : Type 0} (remaining : F → Told) (items read handed : List ℕ) (setup : Setup) (journal : Option JournalFile) (file : JournalFile) (old new : Option (List ℕ)) (status : ℕ)
-    → journal ≡ Some file → IsSetUp remaining items read handed setup → SendsNoted remaining (names_in setup) handed old new status
-    → OfInput remaining (λ octets. SendsBy remaining journal octets old new status)
-noted_sends remaining items read handed setup journal file old new status is set sent =
-    of_config remaining items read handed setup (λ names octets. SendsNoted remaining names octets old new status) (λ octets. SendsBy remaining journal octets old new status)
-    set.input set.one set.two set.says (λ octets so. subst (λ (j : Option JournalFile). SendsBy remaining j octets old new status) (sym is) so) sent
+pub noted_sends : {F : Type 0} (strict : Bool) (remaining : F → Told) (items read handed : List ℕ) (setup : Setup) (journal : Option JournalFile) (file : JournalFile) (old new : Option (List ℕ)) (status : ℕ)
+    → journal ≡ Some file → IsSetUp remaining items read handed setup → SendsNoted strict remaining (names_in setup) handed old new status
+    → OfInput remaining (λ octets. SendsBy strict remaining journal octets old new status)
+noted_sends strict remaining items read handed setup journal file old new status is set sent =
+    of_config remaining items read handed setup (λ names octets. SendsNoted strict remaining names octets old new status) (λ octets. SendsBy strict remaining journal octets old new status)
+    set.input set.one set.two set.says (λ octets so. subst (λ (j : Option JournalFile). SendsBy strict remaining j octets old new status) (sym is) so) sent
 
 pub noted_tells : {F : Type 0} (remaining : F → Told) (items read handed : List ℕ) (setup : Setup) (centre : Centre) (order : Order) (journal : Option JournalFile) (file : JournalFile) (old new : Option (List ℕ)) (fault : Fault)
-    → journal ≡ Some file → IsSetUp remaining items read handed setup → TellsNoted remaining centre file (names_in setup) handed old new fault → TellsJournaled remaining centre order journal old new fault
+    → journal ≡ Some file → IsSetUp remaining items read handed setup → TellsNoted order.strict remaining centre file (names_in setup) handed old new fault → TellsJournaled remaining centre order journal old new fault
 noted_tells remaining items read handed setup centre order journal file old new fault is set tells =
     subst (λ (j : Option JournalFile). TellsJournaled remaining centre order j old new fault) (sym is)
-    (inr (inr (of_config remaining items read handed setup (λ names octets. TellsNoted remaining centre file names octets old new fault) (λ octets. TellsBy remaining centre file octets old new fault)
+    (inr (inr (of_config remaining items read handed setup (λ names octets. TellsNoted order.strict remaining centre file names octets old new fault) (λ octets. TellsBy order.strict remaining centre file octets old new fault)
     set.input set.one set.two set.says (λ octets so. inr so) tells)))

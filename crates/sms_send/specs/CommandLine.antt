@@ -13,7 +13,7 @@ use Rattle.sms_core.specs.Decimal.{decimal_in}
 use Rattle.sms_send.specs.declared.fault.Fault.{Fault}
 use Rattle.sms_send.specs.declared.fault.Fault.TheVariants.{Words, Help, Version, OutOfMemory}
 use Rattle.sms_send.specs.declared.job.Job.{Job}
-use Rattle.sms_send.specs.declared.job.Job.TheVariants.{Loop, Plan, Recover, Replay, Rest, Send}
+use Rattle.sms_send.specs.declared.job.Job.TheVariants.{Loop, Plan, Quote, Recover, Replay, Rest, Send}
 use Rattle.sms_send.specs.declared.job.Subcommand.{Subcommand}
 use Rattle.sms_send.specs.declared.order.JournalFile.{JournalFile}
 use Rattle.sms_send.specs.declared.order.Order.{Order}
@@ -51,6 +51,10 @@ replay_line = with_rule (new_app (codes "replay")) (name_rule (codes "FILE"))
 abbrev pub plan_line : App
 plan_line = with_rules (new_app (codes "plan")) (file_rule (codes "messages") ∷ flag_rule (codes "long") ∷ [])
 
+-- `quote --config FILE`
+abbrev pub quote_line : App
+quote_line = with_rule (new_app (codes "quote")) (file_rule (codes "config"))
+
 -- what bounds a sending
 abbrev pub pace_rules : List Rule
 pace_rules = value_rule (codes "connect-ms") ∷ value_rule (codes "rate") ∷ value_rule (codes "stop-after") ∷ []
@@ -58,7 +62,7 @@ pace_rules = value_rule (codes "connect-ms") ∷ value_rule (codes "rate") ∷ v
 -- `loop --config FILE` or `send --config FILE`, with the other words or without
 abbrev pub sender_line : Text → App
 sender_line name = with_rules
-    (with_rules (new_app name) (file_rule (codes "config") ∷ flag_rule (codes "quiet") ∷ value_rule (codes "journal") ∷ flag_rule (codes "sync") ∷ []))
+    (with_rules (new_app name) (file_rule (codes "config") ∷ flag_rule (codes "quiet") ∷ value_rule (codes "journal") ∷ flag_rule (codes "sync") ∷ flag_rule (codes "strict") ∷ []))
     pace_rules
 
 -- `recover --config FILE --journal FILE`, and `rest --config FILE --report FILE`, with `--accounts` or without
@@ -77,7 +81,7 @@ program_line =
 -- no word, or a subcommand
 abbrev pub command_line : App
 command_line =
-    with_subcommand (with_subcommand (with_subcommand (with_subcommand (with_subcommand (with_subcommand program_line replay_line.top) plan_line.top)
+    with_subcommand (with_subcommand (with_subcommand (with_subcommand (with_subcommand (with_subcommand (with_subcommand program_line replay_line.top) plan_line.top) quote_line.top)
     (sender_line (codes "loop")).top) (sender_line (codes "send")).top) recover_line.top) rest_line.top
 
 -- the subcommand and its matches that the parser reads from the words
@@ -102,10 +106,11 @@ abbrev pub subcommand_named : Text → Option Subcommand
 subcommand_named name =
     if bytes_eq name (codes "replay") then Some sub.Replay
     else (if bytes_eq name (codes "plan") then Some sub.Plan
+    else (if bytes_eq name (codes "quote") then Some sub.Quote
     else (if bytes_eq name (codes "loop") then Some sub.Loop
     else (if bytes_eq name (codes "send") then Some sub.Send
     else (if bytes_eq name (codes "recover") then Some sub.Recover
-    else (if bytes_eq name (codes "rest") then Some sub.Rest else None)))))
+    else (if bytes_eq name (codes "rest") then Some sub.Rest else None))))))
 
 -- a flag was given, by the parser's value of it
 abbrev pub is_set : Option Text → Bool
@@ -141,6 +146,7 @@ pub record AsksToSend (rows : List Row) (order : Order) : Type 0 where
   pub quiet : is_set (first_of (codes "quiet") rows) ≡ order.quiet
   pub journal : AsksToNote rows order.journal
   pub pace : HasPace rows order.pace
+  pub strict : is_set (first_of (codes "strict") rows) ≡ order.strict
 
 -- the names of the config and of the file of this other option
 abbrev pub HasNames : Text → List Row → String Global → String Global → Type 0
@@ -150,6 +156,7 @@ HasNames other rows config name = (first_of (codes "config") rows ≡ Some (stri
 abbrev pub AsksFor : Subcommand → List Row → Job → Type 0
 AsksFor sub.Replay rows (Replay file) = option_map file_named (first_of (codes "FILE") rows) ≡ Some (bytes_of file)
 AsksFor sub.Plan rows (Plan messages long) = (first_of (codes "messages") rows ≡ Some (string_bytes messages)) × (is_set (first_of (codes "long") rows) ≡ long)
+AsksFor sub.Quote rows (Quote config) = first_of (codes "config") rows ≡ Some (string_bytes config)
 AsksFor sub.Loop rows (Loop order) = AsksToSend rows order
 AsksFor sub.Send rows (Send order) = AsksToSend rows order
 AsksFor sub.Recover rows (Recover order) = HasNames (codes "journal") rows order.config order.journal
@@ -189,6 +196,7 @@ LacksName other rows = (first_of (codes "config") rows ≡ None) ⊎ (first_of o
 abbrev pub IsRefused : Subcommand → List Row → Type 0
 IsRefused sub.Replay rows = first_of (codes "FILE") rows ≡ None
 IsRefused sub.Plan rows = first_of (codes "messages") rows ≡ None
+IsRefused sub.Quote rows = first_of (codes "config") rows ≡ None
 IsRefused sub.Loop rows = IsRefusedOrder rows
 IsRefused sub.Send rows = IsRefusedOrder rows
 IsRefused sub.Recover rows = LacksName (codes "journal") rows

@@ -1,5 +1,5 @@
 -- What the program does: a job, of an input of the kind that the job names.
-use Rattle.std.specs.Prelude.{◌≡◌, ◌⊎◌, Bool, ℕ, List, Option, None, Some}
+use Rattle.std.specs.Prelude.{◌≡◌, ◌⊎◌, Bool, true, ℕ, List, Option, None, Some}
 use Rattle.std.specs.Io.KnownBytes.{Appends}
 use Rattle.clap.specs.Words.{Text}
 use Rattle.sms_send.specs.CommandLine.{IsJob, TellsWords, subcommand_in}
@@ -9,6 +9,7 @@ use Rattle.sms_files.specs.Messages.{messages_fault}
 use Rattle.sms_report.specs.PlanText.{kind_of, plan_of}
 use Rattle.sms_send.specs.Opened.{OfInput}
 use Rattle.sms_send.specs.Plans.{TellsPlan}
+use Rattle.sms_send.specs.Quoted.{QuotesFiles, TellsQuoteJob}
 use Rattle.sms_send.specs.Recovered.{PrintsLeft, RecoversRun, TellsRecoverJob, TellsRestJob}
 use Rattle.sms_send.specs.Replays.{Replays, TellsReplay}
 use Rattle.sms_send.specs.Runs.{IsRun}
@@ -16,7 +17,7 @@ use Rattle.sms_send.specs.Noted.{SendsBy, TellsOrder}
 use Rattle.sms_send.specs.declared.fault.Fault.{Fault}
 use Rattle.sms_send.specs.declared.fault.Fault.TheVariants.{File}
 use Rattle.sms_send.specs.declared.job.Job.{Job}
-use Rattle.sms_send.specs.declared.job.Job.TheVariants.{Loop, Plan, Recover, Replay, Rest, Send}
+use Rattle.sms_send.specs.declared.job.Job.TheVariants.{Loop, Plan, Quote, Recover, Replay, Rest, Send}
 use Rattle.sms_send.specs.declared.run_files.RunFiles.{RunFiles}
 use Rattle.sms_send.specs.declared.send_job.Centre.TheVariants.{Named, Own}
 
@@ -24,25 +25,30 @@ use Rattle.sms_send.specs.declared.send_job.Centre.TheVariants.{Named, Own}
 abbrev pub Plans : Bool → List ℕ → Option (List ℕ) → Option (List ℕ) → Type 0
 Plans long bytes old new = (messages_fault (records_of bytes) ≡ None) × Appends old new (plan_of (kind_of long) (records_of bytes))
 
--- the exit status of a job that was done: 0, and of the sender and of what a journal tells also 4
+-- the exit status of a job that was done: 0, of the sender and of what a journal tells also 4, and of the sender with `--strict` also 5
 abbrev pub IsStatus : ℕ → Type 0
 IsStatus status = (status ≡ 0) ⊎ (status ≡ 4)
+
+abbrev pub IsStatusBy : Bool → ℕ → Type 0
+IsStatusBy strict status = IsStatus status ⊎ ((strict ≡ true) × (status ≡ 5))
 
 abbrev pub IsStatusOf : Job → ℕ → Type 0
 IsStatusOf (Replay file) status = status ≡ 0
 IsStatusOf (Plan name long) status = status ≡ 0
-IsStatusOf (Loop order) status = IsStatus status
-IsStatusOf (Send order) status = IsStatus status
+IsStatusOf (Quote config) status = status ≡ 0
+IsStatusOf (Loop order) status = IsStatusBy order.strict status
+IsStatusOf (Send order) status = IsStatusBy order.strict status
 IsStatusOf (Recover order) status = IsStatus status
 IsStatusOf (Rest order) status = status ≡ 0
 
--- the job was done with this status: standard input or a file was replayed, a file planned, the files that a config names sent, or what is left of a run printed
+-- the job was done with this status: standard input or a file was replayed, a file planned, the files that a config names quoted or sent, or what is left of a run printed
 abbrev pub Does : {S F : Type 0} → (S → Told) → (F → Told) → Job → Option (List ℕ) → Option (List ℕ) → ℕ → Type 0
 Does standard file (Replay None) old new status = OfInput standard (λ bytes. Replays bytes old new)
 Does standard file (Replay (Some name)) old new status = OfInput file (λ bytes. Replays bytes old new)
 Does standard file (Plan name long) old new status = OfInput file (λ bytes. Plans long bytes old new)
-Does standard file (Loop order) old new status = OfInput file (λ octets. SendsBy file order.journal octets old new status)
-Does standard file (Send order) old new status = OfInput file (λ octets. SendsBy file order.journal octets old new status)
+Does standard file (Quote config) old new status = OfInput file (λ octets. QuotesFiles file octets old new)
+Does standard file (Loop order) old new status = OfInput file (λ octets. SendsBy order.strict file order.journal octets old new status)
+Does standard file (Send order) old new status = OfInput file (λ octets. SendsBy order.strict file order.journal octets old new status)
 Does standard file (Recover order) old new status = (run : RunFiles) × IsRun file run × RecoversRun run old new status
 Does standard file (Rest order) old new status = (run : RunFiles) × IsRun file run × PrintsLeft order.accounts run old new
 
@@ -51,6 +57,7 @@ abbrev pub TellsJob : {S F : Type 0} → (S → Told) → (F → Told) → Job �
 TellsJob standard file (Replay None) old new fault = OfInput standard (λ bytes. TellsReplay (records_of bytes) fault)
 TellsJob standard file (Replay (Some name)) old new fault = (fault ≡ File name) ⊎ OfInput file (λ bytes. TellsReplay (records_of bytes) fault)
 TellsJob standard file (Plan name long) old new fault = (fault ≡ File name) ⊎ OfInput file (λ bytes. TellsPlan (records_of bytes) fault)
+TellsJob standard file (Quote config) old new fault = TellsQuoteJob file config old new fault
 TellsJob standard file (Loop order) old new fault = TellsOrder file Own order old new fault
 TellsJob standard file (Send order) old new fault = TellsOrder file Named order old new fault
 TellsJob standard file (Recover order) old new fault = TellsRecoverJob file order old new fault

@@ -2,9 +2,11 @@ pub mod Faults
 pub mod Opened
 pub mod CommandLine
 pub mod Plans
+pub mod Quoted
 pub mod Recovered
 pub mod Replays
 pub mod Runs
+pub mod Statuses
 pub mod Sent
 pub mod Laws
 pub mod Noted

@@ -1,5 +1,5 @@
 -- What a sending with a journal or without promises, from the input on, and what it makes of its files.
-use Rattle.std.specs.Prelude.{◌≡◌, ◌⊎◌, ℕ, List, Option, Some, None}
+use Rattle.std.specs.Prelude.{◌≡◌, ◌⊎◌, ℕ, Bool, List, Option, Some, None}
 use Rattle.std.specs.Io.KnownBytes.{Appends}
 use Rattle.sms_files.specs.ConfigFaults.{IsConfig, TellsConfig}
 use Rattle.sms_files.specs.Inputs.{Told, TellsInput}
@@ -7,11 +7,11 @@ use Rattle.sms_files.specs.declared.config.Config.{Config}
 use Rattle.sms_files.specs.declared.config.FileNames.{FileNames}
 use Rattle.sms_files.specs.declared.input.Input.{Input}
 use Rattle.sms_recovery.specs.Files.{Reads, told_of}
-use Rattle.sms_report.specs.Report.{ends_status}
 use Rattle.sms_send.specs.Faults.{TellsRead}
 use Rattle.sms_send.specs.Opened.{OfInput}
 use Rattle.sms_send.specs.Runs.{AreNamed, TellsNamedFiles, tariff_in}
 use Rattle.sms_send.specs.Sent.{IsSent, SendsFiles, SendsNamed, TellsNamed, TellsSending, TellsSent, report_in, untold}
+use Rattle.sms_send.specs.Statuses.{status_by}
 use Rattle.sms_send.specs.declared.fault.Fault.{Fault}
 use Rattle.sms_send.specs.declared.fault.Fault.TheVariants.{BindFailed, File, Journal, OutOfMemory}
 use Rattle.sms_send.specs.declared.order.JournalFile.{JournalFile}
@@ -26,16 +26,16 @@ use Rattle.sms_send.specs.declared.sending.Wanted.TheVariants.{Files, Read}
 -- ---- what is sent
 
 -- the input was sent; the report of that was written and nothing else, and the status is by the ends
-pub record SendsInput (told : ℕ → Told) (input : Input) (old new : Option (List ℕ)) (status : ℕ) : Type 0 where
+pub record SendsInput (told : ℕ → Told) (strict : Bool) (input : Input) (old new : Option (List ℕ)) (status : ℕ) : Type 0 where
   pub ended : Ended
   pub sent : IsSent told input ended
   pub written : Appends old new (report_in ended)
-  pub status_is : status ≡ ends_status ended.ends.items
+  pub status_is : status ≡ status_by strict ended.ends.items
 
 -- what is wanted was sent: the files of these names beside a config of these octets, or an input that was read
-abbrev pub SendsWanted : {F : Type 0} → (ℕ → Told) → (F → Told) → Wanted → List ℕ → Option (List ℕ) → Option (List ℕ) → ℕ → Type 0
-SendsWanted told remaining (Files names) octets old new status = SendsNamed told remaining names octets old new status
-SendsWanted told remaining (Read input) octets old new status = SendsInput told input old new status
+abbrev pub SendsWanted : {F : Type 0} → (ℕ → Told) → Bool → (F → Told) → Wanted → List ℕ → Option (List ℕ) → Option (List ℕ) → ℕ → Type 0
+SendsWanted told strict remaining (Files names) octets old new status = SendsNamed told strict remaining names octets old new status
+SendsWanted told strict remaining (Read input) octets old new status = SendsInput told strict input old new status
 
 -- what a fault says of that
 abbrev pub TellsWanted : {F : Type 0} → (ℕ → Told) → (F → Told) → Wanted → List ℕ → Option (List ℕ) → Option (List ℕ) → Fault → Type 0
@@ -60,43 +60,43 @@ abbrev pub TellsInputOf : List ℕ → NamedFiles → Fault → Type 0
 TellsInputOf octets named fault = TellsRead (TellsInput octets (Some named.accounts.items) (Some named.messages.items) (told_of (tariff_in named))) fault
 
 -- the files of these names were read to their ends, and what they say beside a config of these octets was sent
-pub record SendsNoted {F : Type 0} (remaining : F → Told) (names : FileNames) (octets : List ℕ) (old new : Option (List ℕ)) (status : ℕ) : Type 0 where
+pub record SendsNoted {F : Type 0} (strict : Bool) (remaining : F → Told) (names : FileNames) (octets : List ℕ) (old new : Option (List ℕ)) (status : ℕ) : Type 0 where
   pub named : NamedFiles
   pub are : AreNamed remaining names named
   pub input : Input
   pub read : IsInputOf octets named input
-  pub sends : SendsInput untold input old new status
+  pub sends : SendsInput untold strict input old new status
 
 -- what a fault says of them once they were read: it is of what they say; the journal's file can't be made, or it failed before
 -- anything was sent or behind the report; a centre of the program's own can't listen; or it is of the sending
-abbrev pub TellsReadFiles : Centre → JournalFile → NamedFiles → List ℕ → Option (List ℕ) → Option (List ℕ) → Fault → Type 0
-TellsReadFiles centre journal named octets old new fault =
+abbrev pub TellsReadFiles : Bool → Centre → JournalFile → NamedFiles → List ℕ → Option (List ℕ) → Option (List ℕ) → Fault → Type 0
+TellsReadFiles strict centre journal named octets old new fault =
     TellsInputOf octets named fault
     ⊎ (fault ≡ File journal.name)
     ⊎ ((fault ≡ Journal) × (new ≡ old))
     ⊎ ((input : Input) × IsInputOf octets named input
-    × (IsDeaf centre fault ⊎ TellsSending untold input old new fault ⊎ ((fault ≡ Journal) × (status : ℕ) × SendsInput untold input old new status)))
+    × (IsDeaf centre fault ⊎ TellsSending untold input old new fault ⊎ ((fault ≡ Journal) × (status : ℕ) × SendsInput untold strict input old new status)))
 
-abbrev pub TellsNoted : {F : Type 0} → (F → Told) → Centre → JournalFile → FileNames → List ℕ → Option (List ℕ) → Option (List ℕ) → Fault → Type 0
-TellsNoted {F} remaining centre journal names octets old new fault =
-    TellsNamedFiles F names fault ⊎ ((named : NamedFiles) × AreNamed remaining names named × TellsReadFiles centre journal named octets old new fault)
+abbrev pub TellsNoted : {F : Type 0} → Bool → (F → Told) → Centre → JournalFile → FileNames → List ℕ → Option (List ℕ) → Option (List ℕ) → Fault → Type 0
+TellsNoted {F} strict remaining centre journal names octets old new fault =
+    TellsNamedFiles F names fault ⊎ ((named : NamedFiles) × AreNamed remaining names named × TellsReadFiles strict centre journal named octets old new fault)
 
 -- ---- the job
 
 -- the octets are a config's, and the files that it names were sent
-abbrev pub SendsBy : {F : Type 0} → (F → Told) → Option JournalFile → List ℕ → Option (List ℕ) → Option (List ℕ) → ℕ → Type 0
-SendsBy remaining None octets old new status = SendsFiles remaining octets old new status
-SendsBy remaining (Some journal) octets old new status = (config : Config) × IsConfig octets config × SendsNoted remaining config.files octets old new status
+abbrev pub SendsBy : {F : Type 0} → Bool → (F → Told) → Option JournalFile → List ℕ → Option (List ℕ) → Option (List ℕ) → ℕ → Type 0
+SendsBy strict remaining None octets old new status = SendsFiles strict remaining octets old new status
+SendsBy strict remaining (Some journal) octets old new status = (config : Config) × IsConfig octets config × SendsNoted strict remaining config.files octets old new status
 
-abbrev pub TellsBy : {F : Type 0} → (F → Told) → Centre → JournalFile → List ℕ → Option (List ℕ) → Option (List ℕ) → Fault → Type 0
-TellsBy remaining centre journal octets old new fault =
-    TellsRead (TellsConfig octets) fault ⊎ ((config : Config) × IsConfig octets config × TellsNoted remaining centre journal config.files octets old new fault)
+abbrev pub TellsBy : {F : Type 0} → Bool → (F → Told) → Centre → JournalFile → List ℕ → Option (List ℕ) → Option (List ℕ) → Fault → Type 0
+TellsBy strict remaining centre journal octets old new fault =
+    TellsRead (TellsConfig octets) fault ⊎ ((config : Config) × IsConfig octets config × TellsNoted strict remaining centre journal config.files octets old new fault)
 
 -- what a fault of a sending that is ordered so says
 abbrev pub TellsJournaled : {F : Type 0} → (F → Told) → Centre → Order → Option JournalFile → Option (List ℕ) → Option (List ℕ) → Fault → Type 0
 TellsJournaled remaining centre order None old new fault = TellsSent remaining centre order.config old new fault
 TellsJournaled remaining centre order (Some journal) old new fault =
-    (fault ≡ OutOfMemory) ⊎ (fault ≡ File order.config) ⊎ OfInput remaining (λ octets. TellsBy remaining centre journal octets old new fault)
+    (fault ≡ OutOfMemory) ⊎ (fault ≡ File order.config) ⊎ OfInput remaining (λ octets. TellsBy order.strict remaining centre journal octets old new fault)
 
 abbrev pub TellsOrder : {F : Type 0} → (F → Told) → Centre → Order → Option (List ℕ) → Option (List ℕ) → Fault → Type 0
 TellsOrder remaining centre order old new fault = TellsJournaled remaining centre order order.journal old new fault

@@ -1,5 +1,5 @@
 -- What a sending promises of what was read.
-use Rattle.std.specs.Prelude.{◌≡◌, ◌≢◌, ◌⊎◌, ◌*◌, ℕ, List, [], Option, None, String, length, option_map, string_bytes}
+use Rattle.std.specs.Prelude.{◌≡◌, ◌≢◌, ◌⊎◌, ◌*◌, ℕ, Bool, List, [], Option, None, String, length, option_map, string_bytes}
 use Rattle.std.specs.Io.KnownBytes.{Appends}
 use Rattle.std.specs.List.{AllZip}
 use Rattle.std.specs.declared.alloc.Global.{Global}
@@ -16,8 +16,9 @@ use Rattle.sms_files.specs.ConfigFaults.{IsConfig, TellsConfig}
 use Rattle.sms_files.specs.Inputs.{IsInput, Told, TellsInput}
 use Rattle.sms_send.specs.Faults.{TellsRead, told_sending}
 use Rattle.sms_send.specs.Opened.{IsNamed, OfInput}
+use Rattle.sms_send.specs.Statuses.{status_by}
 use Rattle.sms_report.specs.Output.{WritesFront}
-use Rattle.sms_report.specs.Report.{report_of, ends_status}
+use Rattle.sms_report.specs.Report.{report_of}
 use Rattle.sms_driver.specs.SendFaults.{IsFaultOfOne}
 use Rattle.sms_driver.specs.Statements.{AreRows}
 use Rattle.sms_book.specs.Tariffs.{Price}
@@ -82,13 +83,13 @@ report_in ended = report_of ended.openings.items ended.ends.items ended.statemen
 
 -- the config, the accounts, the messages and the tariff were read, and sent; the report of that was written and nothing
 -- else, and the status is by the ends
-pub record RunsSender (told : ℕ → Told) (config : List ℕ) (accounts messages : Told) (tariff : Option Told) (old new : Option (List ℕ)) (status : ℕ) : Type 0 where
+pub record RunsSender (told : ℕ → Told) (strict : Bool) (config : List ℕ) (accounts messages : Told) (tariff : Option Told) (old new : Option (List ℕ)) (status : ℕ) : Type 0 where
   pub input : Input
   pub read : IsInput config accounts messages tariff input
   pub ended : Ended
   pub sent : IsSent told input ended
   pub written : Appends old new (report_in ended)
-  pub status_is : status ≡ ends_status ended.ends.items
+  pub status_is : status ≡ status_by strict ended.ends.items
 
 -- what a fault says once the input was read: it is of one of the config's binds, or of memory; or all was sent, and the
 -- output failed behind a front of the report of that
@@ -104,10 +105,10 @@ TellsSender told config accounts messages tariff old new fault =
     ⊎ ((input : Input) × IsInput config accounts messages tariff input × TellsSending told input old new fault)
 
 -- some files were read beside a config of these octets, that of the tariff just where it has a name, and sent so
-abbrev pub SendsNamed : {F : Type 0} → (ℕ → Told) → (F → Told) → FileNames → List ℕ → Option (List ℕ) → Option (List ℕ) → ℕ → Type 0
-SendsNamed {F} told remaining names config old new status =
+abbrev pub SendsNamed : {F : Type 0} → (ℕ → Told) → Bool → (F → Told) → FileNames → List ℕ → Option (List ℕ) → Option (List ℕ) → ℕ → Type 0
+SendsNamed {F} told strict remaining names config old new status =
     (accounts : F) × (messages : F) × (tariff : Option F) × IsNamed (string_bytes names.tariff) tariff
-    × RunsSender told config (remaining accounts) (remaining messages) (option_map remaining tariff) old new status
+    × RunsSender told strict config (remaining accounts) (remaining messages) (option_map remaining tariff) old new status
 
 -- what a fault says of files of these names: one can't be opened, or what it says of the sending of them all
 abbrev pub TellsNamed : {F : Type 0} → (ℕ → Told) → (F → Told) → FileNames → List ℕ → Option (List ℕ) → Option (List ℕ) → Fault → Type 0
@@ -119,8 +120,8 @@ TellsNamed {F} told remaining names config old new fault =
     × TellsSender told config (remaining accounts) (remaining messages) (option_map remaining tariff) old new fault)
 
 -- the octets are a config's, and the files that it names were read and sent
-abbrev pub SendsFiles : {F : Type 0} → (F → Told) → List ℕ → Option (List ℕ) → Option (List ℕ) → ℕ → Type 0
-SendsFiles remaining octets old new status = (config : Config) × IsConfig octets config × SendsNamed untold remaining config.files octets old new status
+abbrev pub SendsFiles : {F : Type 0} → Bool → (F → Told) → List ℕ → Option (List ℕ) → Option (List ℕ) → ℕ → Type 0
+SendsFiles strict remaining octets old new status = (config : Config) × IsConfig octets config × SendsNamed untold strict remaining config.files octets old new status
 
 -- what a fault says of a config's octets: they are none, a centre of the program's own can't listen, or what it says of
 -- the files that the config names

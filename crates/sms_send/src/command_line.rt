@@ -2,7 +2,7 @@
 
 ghost use Rattle.std.specs.Prelude.{◌≡◌, false, IfOk, IsOkAnd};
 ghost use Rattle.clap.specs.Words.{AddsSubcommand, App, Rule, app_of, new_app, rule_of, with_rule};
-ghost use Rattle.sms_send.specs.CommandLine.{IsLine, command_line as words_allowed, file_rule, flag_rule, name_rule, pace_rules, plan_line, program_line, recover_line, replay_line, rest_line, sender_line, value_rule, with_rules};
+ghost use Rattle.sms_send.specs.CommandLine.{IsLine, command_line as words_allowed, file_rule, flag_rule, name_rule, pace_rules, plan_line, program_line, quote_line, recover_line, replay_line, rest_line, sender_line, value_rule, with_rules};
 
 use clap::{Arg, ArgAction, Command};
 use std::alloc::{AllocError, Global};
@@ -20,20 +20,21 @@ pub fn command_line<'a>(alloc: Global) -> Result<Command<'a>, AllocError>
     let program = program_command(alloc)?;
     let replaying = with_subcommand(program, replay_command(alloc))?;
     let planning = with_subcommand(replaying, plan_command(alloc))?;
+    let quoting = with_subcommand(planning, quote_command(alloc))?;
     let looping = sender_command(
         alloc,
         "loop",
         "Sends the messages that the config names through a test centre in this process, and prints a report",
     );
-    let either = with_subcommand(planning, looping)?;
+    let either = with_subcommand(quoting, looping)?;
     let sending = sender_command(
         alloc,
         "send",
         "Sends the messages that the config names to its message centre, and prints a report",
     );
-    let three = with_subcommand(either, sending)?;
-    let four = with_subcommand(three, recover_command(alloc))?;
-    with_subcommand(four, rest_command(alloc))
+    let both = with_subcommand(either, sending)?;
+    let recovering = with_subcommand(both, recover_command(alloc))?;
+    with_subcommand(recovering, rest_command(alloc))
 }
 
 /// The command with this subcommand too, where there was memory for both.
@@ -102,6 +103,19 @@ fn plan_command<'a>(alloc: Global) -> Result<Command<'a>, AllocError>
     with_argument(filed, long)
 }
 
+/// What the parser is told of `quote`.
+fn quote_command<'a>(alloc: Global) -> Result<Command<'a>, AllocError>
+    ensures { IfOk result (IsLine quote_line) }
+{
+    let config = file_option(alloc, "config", "The config of the sending");
+    let begun = subcommand(
+        alloc,
+        "quote",
+        "Prints what the messages that the config names would cost, and which would be refused; sends nothing",
+    );
+    with_argument(Ok(begun), config)
+}
+
 /// What the parser is told of `recover`.
 fn recover_command<'a>(alloc: Global) -> Result<Command<'a>, AllocError>
     ensures { IfOk result (IsLine recover_line) }
@@ -159,11 +173,17 @@ fn sender_command<'a>(
         "sync",
         "Sends nothing that the disk doesn't have in the journal",
     );
+    let strict = flag(
+        alloc,
+        "strict",
+        "Ends with 5 where a lost bind or want of memory kept a message back",
+    );
     let begun = with_argument(Ok(subcommand(alloc, name, about)), config);
     let quieted = with_argument(begun, quiet);
     let noted = with_argument(quieted, journal);
     let synced = with_argument(noted, sync);
-    with_pace(alloc, synced)
+    let stricter = with_argument(synced, strict);
+    with_pace(alloc, stricter)
 }
 
 /// The command with the options of its pace too.

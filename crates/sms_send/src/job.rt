@@ -29,6 +29,8 @@ pub enum Job {
     Replay(Option<String>),
     /// To plan the messages in the file of this name; with references of 16 bits where it is true.
     Plan(String, bool),
+    /// To print what a sending by the config of this name would come to.
+    Quote(String),
     /// To send through a test centre in the same process.
     Loop(Order),
     /// The same to the message centre that the config names.
@@ -44,6 +46,7 @@ pub enum Job {
 enum Subcommand {
     Replay,
     Plan,
+    Quote,
     Loop,
     Send,
     Recover,
@@ -92,6 +95,8 @@ fn subcommand_named(name: &str) -> Option<Subcommand>
         Some(Subcommand::Replay)
     } else if name == "plan" {
         Some(Subcommand::Plan)
+    } else if name == "quote" {
+        Some(Subcommand::Quote)
     } else if name == "loop" {
         Some(Subcommand::Loop)
     } else if name == "send" {
@@ -118,6 +123,10 @@ fn job_asked(alloc: Global, subcommand: Subcommand, found: &ArgMatches<'_>) -> R
         },
         Subcommand::Plan => match text_given(alloc, found, "messages") {
             Ok(messages) => Ok(Job::Plan(messages, is_given(found, "long"))),
+            Err(fault) => Err(fault),
+        },
+        Subcommand::Quote => match text_given(alloc, found, "config") {
+            Ok(config) => Ok(Job::Quote(config)),
             Err(fault) => Err(fault),
         },
         Subcommand::Loop => match order_of(alloc, found) {
@@ -179,6 +188,7 @@ fn order_of(alloc: Global, found: &ArgMatches<'_>) -> Result<Order, Fault>
             quiet: is_given(found, "quiet"),
             journal,
             pace,
+            strict: is_given(found, "strict"),
         }),
         Err(fault) => {
             drop(journal);

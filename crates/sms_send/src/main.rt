@@ -1,5 +1,5 @@
-//! The program `sms-send`: it sends prepaid messages, plans how their texts are coded and cut, and
-//! replays schedules of events on accounts, requests and slots.
+//! The program `sms-send`: it sends prepaid messages, plans how their texts are coded and cut, says
+//! what they would cost, and replays schedules of events on accounts, requests and slots.
 
 #![tactic(auto)]
 
@@ -12,6 +12,7 @@ mod opened;
 mod order;
 mod pacing;
 mod plan;
+mod quote_job;
 mod reading;
 mod recover_job;
 mod replay;
@@ -19,6 +20,8 @@ mod run_files;
 mod send_job;
 mod sender;
 mod sending;
+mod standard_error;
+mod status;
 #[cfg(test)]
 mod tests;
 mod words;
@@ -33,6 +36,7 @@ use crate::fault::Fault;
 use crate::job::{Job, job_of};
 use crate::opened::open;
 use crate::plan::run_plan;
+use crate::quote_job::quote_job;
 use crate::recover_job::{recover_job, rest_job};
 use crate::replay::run_replay;
 use crate::send_job::{Centre, send_job};
@@ -107,6 +111,7 @@ fn do_job<R: Host + Net<Stream = TcpStream, Listener = TcpListener>, W: Write>(
         Job::Replay(None) => run_replay(rt.alloc(), rt.reader(), output),
         Job::Replay(Some(name)) => run_replay(rt.alloc(), open(rt, name)?, output),
         Job::Plan(name, long) => run_plan(rt.alloc(), open(rt, name)?, long, output),
+        Job::Quote(config) => quote_job(rt, config, output),
         Job::Loop(order) => send_job(rt, Centre::Own, order, output),
         Job::Send(order) => send_job(rt, Centre::Named, order, output),
         Job::Recover(order) => recover_job(rt, order, output),

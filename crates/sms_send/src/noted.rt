@@ -2,7 +2,7 @@
 
 ghost use Rattle.std.specs.Prelude.{◌≡◌, ◌≢◌, ◌⊎◌, ℕ, Err, Ok, IfErr, IfOk};
 ghost use Rattle.sms_journal.specs.Digests.{digests_of as of_files};
-ghost use Rattle.sms_send.specs.Jobs.{IsStatus};
+ghost use Rattle.sms_send.specs.Jobs.{IsStatusBy};
 ghost use Rattle.sms_send.specs.Noted.{IsInputOf, SendsNoted, TellsInputOf, TellsNoted};
 ghost use Rattle.sms_send.specs.Runs.{tariff_in};
 ghost use Rattle.sms_send.specs.declared.fault.Fault.TheVariants.{File, Journal as JournalFault, Output};
@@ -100,11 +100,12 @@ pub fn send_noted<R: Host + Net<Stream = TcpStream, Listener = TcpListener>, W: 
     wanted: JournalFile,
     telling: Telling,
     pace: Pace,
+    strict: bool,
     output: &mut W,
 ) -> Result<u8, Fault>
-    ensures sent { IfOk result (SendsNoted R.File.remaining files config.now (W.contents output.old) (W.contents output.new)) }
-    ensures status { IfOk result IsStatus }
-    ensures refused { IfErr result (TellsNoted R.File.remaining reach.now.centre wanted files config.now (W.contents output.old) (W.contents output.new)) }
+    ensures sent { IfOk result (SendsNoted strict R.File.remaining files config.now (W.contents output.old) (W.contents output.new)) }
+    ensures status { IfOk result (IsStatusBy strict) }
+    ensures refused { IfErr result (TellsNoted strict R.File.remaining reach.now.centre wanted files config.now (W.contents output.old) (W.contents output.new)) }
     ensures unwritten { IfErr result (λ fault. fault ≢ Output → fault ≢ JournalFault → output.new ≡ output.old) }
 {
     let named = read_named(rt, files)?;
@@ -120,6 +121,7 @@ pub fn send_noted<R: Host + Net<Stream = TcpStream, Listener = TcpListener>, W: 
         Some(&journal),
         telling,
         pace,
+        strict,
         output,
     );
     end_journal(rt, &journal, sent)

@@ -11,6 +11,8 @@ pub struct Order {
     pub journal: Option<JournalFile>,
     /// How long is waited for the binds, and how fast and how far is sent.
     pub pace: Pace,
+    /// Whether the exit status tells of messages that a lost bind or want of memory kept back.
+    pub strict: bool,
 }
 
 /// The journal that a sending is to write.

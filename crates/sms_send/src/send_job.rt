@@ -2,7 +2,7 @@
 
 ghost use Rattle.std.specs.Prelude.{◌≡◌, ◌≢◌, IfErr, IfOk, option_map};
 ghost use Rattle.sms_send.specs.Opened.{OfInput};
-ghost use Rattle.sms_send.specs.Jobs.{IsStatus};
+ghost use Rattle.sms_send.specs.Jobs.{IsStatusBy};
 ghost use Rattle.sms_send.specs.Noted.{SendsBy, TellsOrder};
 ghost use Rattle.sms_send.specs.Sent.{RunsSender, TellsSender};
 ghost use Rattle.sms_send.specs.declared.fault.Fault.TheVariants.{Journal, Output};
@@ -34,7 +34,8 @@ pub enum Centre {
 }
 
 /// Reads the config's octets and the files, sends all messages, and writes the report. Gives the
-/// exit status: 4 where a segment is unanswered, else 0.
+/// exit status: 4 where a segment is unanswered; else, if it is to be strict, 5 where a message was kept
+/// back; else 0.
 pub fn run_sender<
     A: Read + Drop,
     M: Read + Drop,
@@ -56,9 +57,10 @@ pub fn run_sender<
     gate: &G,
     clock: &K,
     pause: &P,
+    strict: bool,
     output: &mut W,
 ) -> Result<u8, Fault>
-    ensures sent { IfOk result (λ status. RunsSender (D.told dial.now) config.now (A.remaining accounts) (M.remaining messages) (option_map T.remaining tariff) (W.contents output.old) (W.contents output.new) status) }
+    ensures sent { IfOk result (λ status. RunsSender (D.told dial.now) strict config.now (A.remaining accounts) (M.remaining messages) (option_map T.remaining tariff) (W.contents output.old) (W.contents output.new) status) }
     // A fault is of the first of these that has one, or of the sending of what they say.
     ensures refused { IfErr result (TellsSender (D.told dial.now) config.now (A.remaining accounts) (M.remaining messages) (option_map T.remaining tariff) (W.contents output.old) (W.contents output.new)) }
     ensures unwritten { IfErr result (λ fault. fault ≢ Output → output.new ≡ output.old) }
@@ -66,7 +68,7 @@ pub fn run_sender<
     let input = read_input(alloc, config, accounts, messages, tariff)?;
     let ended = send_all(rt, alloc, input, dial, gate, clock, pause)?;
     write_report(alloc, &ended, output)?;
-    Ok(ended.exit_status())
+    Ok(ended.exit_status(strict))
 }
 
 /// Reads the config of this name and the files that it names, and sends. Where a journal is asked for,
@@ -77,8 +79,8 @@ pub fn send_job<R: Host + Net<Stream = TcpStream, Listener = TcpListener>, W: Wr
     order: Order,
     output: &mut W,
 ) -> Result<u8, Fault>
-    ensures sent { IfOk result (λ status. OfInput R.File.remaining (λ octets. SendsBy R.File.remaining order.journal octets (W.contents output.old) (W.contents output.new) status)) }
-    ensures status { IfOk result IsStatus }
+    ensures sent { IfOk result (λ status. OfInput R.File.remaining (λ octets. SendsBy order.strict R.File.remaining order.journal octets (W.contents output.old) (W.contents output.new) status)) }
+    ensures status { IfOk result (IsStatusBy order.strict) }
     ensures refused { IfErr result (TellsOrder R.File.remaining centre order (W.contents output.old) (W.contents output.new)) }
     ensures unwritten { IfErr result (λ fault. fault ≢ Output → fault ≢ Journal → output.new ≡ output.old) }
 {
@@ -87,6 +89,7 @@ pub fn send_job<R: Host + Net<Stream = TcpStream, Listener = TcpListener>, W: Wr
         quiet,
         journal,
         pace,
+        strict,
     } = order;
     let config = octets_of(rt, config)?;
     let Setup {
@@ -120,6 +123,7 @@ pub fn send_job<R: Host + Net<Stream = TcpStream, Listener = TcpListener>, W: Wr
             None,
             telling,
             pace,
+            strict,
             output,
         ),
         Some(journal) => send_noted(
@@ -130,6 +134,7 @@ pub fn send_job<R: Host + Net<Stream = TcpStream, Listener = TcpListener>, W: Wr
             journal,
             telling,
             pace,
+            strict,
             output,
         ),
     }

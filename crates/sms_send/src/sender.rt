@@ -3,18 +3,20 @@
 ghost use Rattle.std.specs.Prelude.{◌≡◌, ◌⊎◌, IfErr, IfOk, OnOk};
 ghost use Rattle.std.specs.Io.KnownBytes.{Appends};
 ghost use Rattle.sms_report.specs.Output.{WritesFront};
-ghost use Rattle.sms_report.specs.Report.{ends_status, report_of};
+ghost use Rattle.sms_report.specs.Report.{report_of};
 ghost use Rattle.sms_driver.specs.SendFaults.{IsFaultOfOne};
 ghost use Rattle.sms_send.specs.Faults.{told_sending};
 ghost use Rattle.sms_send.specs.Sent.{AreSettingsOf, IsRulesOf, IsSent};
+ghost use Rattle.sms_send.specs.Statuses.{status_by};
 ghost use Rattle.sms_driver.specs.declared.fault.SendFault.{SendFault};
 ghost use Rattle.sms_send.specs.declared.fault.Fault.TheVariants.{Output, OutOfMemory};
 
 use crate::fault::Fault;
+use crate::status::status_of;
 use sms_book::{Opening, Statement, Tariff};
 use sms_driver::{BindEnd, BindSettings, Dial, Sending, drive_all};
 use sms_files::{Config, Connection, Flags, Input, Limits, Retry};
-use sms_report::{exit_status_of, write_report_of};
+use sms_report::write_report_of;
 use sms_worker::{Clock, Gate, MessageEnd, Pause, Rules};
 use std::alloc::Global;
 use std::io::Write;
@@ -50,11 +52,12 @@ impl Ended {
         self.ends.as_slice()
     }
 
-    /// The program's exit status: 4 where a segment is unanswered, else 0.
-    pub fn exit_status(&self) -> u8
-        ensures { result ≡ ends_status self.now.ends.items }
+    /// The program's exit status: 4 where a segment is unanswered; else, if it is to be strict, 5 where a
+    /// message was kept back; else 0.
+    pub fn exit_status(&self, strict: bool) -> u8
+        ensures { result ≡ status_by strict self.now.ends.items }
     {
-        exit_status_of(self.ends.as_slice())
+        status_of(self.ends.as_slice(), strict)
     }
 
     /// What became of the accounts.

@@ -1,7 +1,7 @@
 //! A sending: what it stands on, and how it goes to its report.
 
 ghost use Rattle.std.specs.Prelude.{◌≡◌, ◌≢◌, IfErr, IfOk};
-ghost use Rattle.sms_send.specs.Jobs.{IsStatus};
+ghost use Rattle.sms_send.specs.Jobs.{IsStatusBy};
 ghost use Rattle.sms_send.specs.Noted.{SendsInput, SendsWanted, TellsOver, TellsWanted};
 ghost use Rattle.sms_send.specs.Sent.{SendsNamed, TellsNamed, TellsSending, untold};
 ghost use Rattle.sms_send.specs.declared.fault.Fault.TheVariants.{Output};
@@ -56,10 +56,11 @@ pub fn send_over<'j, R: Host + Net<Stream = TcpStream, Listener = TcpListener>, 
     journal: Option<&'j Journal<R::JournalFile>>,
     telling: Telling,
     pace: Pace,
+    strict: bool,
     output: &mut W,
 ) -> Result<u8, Fault>
-    ensures sent { IfOk result (SendsWanted untold R.File.remaining wanted config.now (W.contents output.old) (W.contents output.new)) }
-    ensures status { IfOk result IsStatus }
+    ensures sent { IfOk result (SendsWanted untold strict R.File.remaining wanted config.now (W.contents output.old) (W.contents output.new)) }
+    ensures status { IfOk result (IsStatusBy strict) }
     ensures refused { IfErr result (TellsOver reach.now.centre R.File.remaining wanted config.now (W.contents output.old) (W.contents output.new)) }
     ensures unwritten { IfErr result (λ fault. fault ≢ Output → output.new ≡ output.old) }
 {
@@ -82,7 +83,7 @@ pub fn send_over<'j, R: Host + Net<Stream = TcpStream, Listener = TcpListener>, 
                 port: reach.port,
             };
             send_wanted(
-                rt, config, wanted, &outboxes, &dial, &pause, telling, pace, output,
+                rt, config, wanted, &outboxes, &dial, &pause, telling, pace, strict, output,
             )
         }
         Centre::Own => {
@@ -100,7 +101,7 @@ pub fn send_over<'j, R: Host + Net<Stream = TcpStream, Listener = TcpListener>, 
                 answers: reach.answers.as_slice(),
             };
             send_wanted(
-                rt, config, wanted, &outboxes, &dial, &pause, telling, pace, output,
+                rt, config, wanted, &outboxes, &dial, &pause, telling, pace, strict, output,
             )
         }
     }
@@ -122,18 +123,21 @@ fn send_wanted<
     pause: &P,
     telling: Telling,
     pace: Pace,
+    strict: bool,
     output: &mut W,
 ) -> Result<u8, Fault>
-    ensures sent { IfOk result (SendsWanted (D.told dial.now) R.File.remaining wanted config.now (W.contents output.old) (W.contents output.new)) }
-    ensures status { IfOk result IsStatus }
+    ensures sent { IfOk result (SendsWanted (D.told dial.now) strict R.File.remaining wanted config.now (W.contents output.old) (W.contents output.new)) }
+    ensures status { IfOk result (IsStatusBy strict) }
     ensures refused { IfErr result (TellsWanted (D.told dial.now) R.File.remaining wanted config.now (W.contents output.old) (W.contents output.new)) }
     ensures unwritten { IfErr result (λ fault. fault ≢ Output → output.new ≡ output.old) }
 {
     match wanted {
         Wanted::Files(names) => send_files(
-            rt, config, names, outboxes, dial, pause, telling, pace, output,
+            rt, config, names, outboxes, dial, pause, telling, pace, strict, output,
         ),
-        Wanted::Read(input) => send_input(rt, input, outboxes, dial, pause, telling, pace, output),
+        Wanted::Read(input) => send_input(
+            rt, input, outboxes, dial, pause, telling, pace, strict, output,
+        ),
     }
 }
 
@@ -153,10 +157,11 @@ fn send_files<
     pause: &P,
     telling: Telling,
     pace: Pace,
+    strict: bool,
     output: &mut W,
 ) -> Result<u8, Fault>
-    ensures sent { IfOk result (SendsNamed (D.told dial.now) R.File.remaining names config.now (W.contents output.old) (W.contents output.new)) }
-    ensures status { IfOk result IsStatus }
+    ensures sent { IfOk result (SendsNamed (D.told dial.now) strict R.File.remaining names config.now (W.contents output.old) (W.contents output.new)) }
+    ensures status { IfOk result (IsStatusBy strict) }
     ensures refused { IfErr result (TellsNamed (D.told dial.now) R.File.remaining names config.now (W.contents output.old) (W.contents output.new)) }
     ensures unwritten { IfErr result (λ fault. fault ≢ Output → output.new ≡ output.old) }
 {
@@ -164,7 +169,9 @@ fn send_files<
     let messages = open(rt, names.messages)?;
     let tariff = open_named(rt, names.tariff)?;
     let input = read_input(rt.alloc(), config, accounts, messages, tariff)?;
-    send_input(rt, input, outboxes, dial, pause, telling, pace, output)
+    send_input(
+        rt, input, outboxes, dial, pause, telling, pace, strict, output,
+    )
 }
 
 /// Sends what was read over the connections that the dial makes, and writes the report. What is noted
@@ -183,10 +190,11 @@ fn send_input<
     pause: &P,
     telling: Telling,
     pace: Pace,
+    strict: bool,
     output: &mut W,
 ) -> Result<u8, Fault>
-    ensures sent { IfOk result (SendsInput (D.told dial.now) input (W.contents output.old) (W.contents output.new)) }
-    ensures status { IfOk result IsStatus }
+    ensures sent { IfOk result (SendsInput (D.told dial.now) strict input (W.contents output.old) (W.contents output.new)) }
+    ensures status { IfOk result (IsStatusBy strict) }
     ensures refused { IfErr result (TellsSending (D.told dial.now) input (W.contents output.old) (W.contents output.new)) }
     ensures unwritten { IfErr result (λ fault. fault ≢ Output → output.new ≡ output.old) }
 {
@@ -204,7 +212,7 @@ fn send_input<
     let ended = sent?;
     write_report(rt.alloc(), &ended, output)?;
     progress.sum_up(ended.ends(), ended.statement());
-    let status = ended.exit_status();
+    let status = ended.exit_status(strict);
     // The process ends next, which frees it at once.
     mem::forget(ended);
     Ok(status)

@@ -156,6 +156,7 @@ fn quiet_order(config: String) -> Order {
         quiet: true,
         journal: None,
         pace: UNBOUND,
+        strict: false,
     }
 }
 
@@ -163,6 +164,7 @@ fn quiet_order(config: String) -> Order {
 fn job_with(word: &str, name: String) -> Job {
     match word {
         "plan" => Job::Plan(name, false),
+        "quote" => Job::Quote(name),
         "loop" => Job::Loop(quiet_order(name)),
         "send" => Job::Send(quiet_order(name)),
         _ => Job::Replay(Some(name)),
@@ -182,7 +184,7 @@ fn want_fault(rt: &(impl AllocGlobal + Abort), done: Result<u8, Fault>, wanted: 
 }
 
 // A subcommand, a file that can't be opened or a folder, which opens and can't be read, and the fault.
-const UNREAD: [(&str, &str, &str); 8] = [
+const UNREAD: [(&str, &str, &str); 10] = [
     ("replay", "nowhere.csv", "fault: file nowhere.csv"),
     ("plan", "nowhere.csv", "fault: file nowhere.csv"),
     ("replay", "/", "fault: file schedule"),
@@ -191,6 +193,8 @@ const UNREAD: [(&str, &str, &str); 8] = [
     ("send", "nowhere.toml", "fault: file nowhere.toml"),
     ("loop", "/", "fault: file /"),
     ("send", "/", "fault: file /"),
+    ("quote", "nowhere.toml", "fault: file nowhere.toml"),
+    ("quote", "/", "fault: file /"),
 ];
 
 #[test]

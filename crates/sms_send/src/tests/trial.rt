@@ -111,6 +111,7 @@ pub fn send<R: Threads + Wait + Sync, G: Gate + Sync>(
         gate,
         &beside,
         &beside,
+        false,
         &mut Fuse::new(&mut printed, sending.prints),
     );
     let (fault, status) = match ended {

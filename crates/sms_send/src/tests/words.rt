@@ -9,7 +9,7 @@ use std::process::Abort;
 use std::test::Fail;
 
 /// Words, and the file of the job, or the text of the fault.
-const READ: [(&str, &str); 56] = [
+const READ: [(&str, &str); 69] = [
     ("", "standard input"),
     ("replay -", "standard input"),
     ("replay events.csv", "events.csv"),
@@ -72,6 +72,19 @@ const READ: [(&str, &str); 56] = [
     ("plan --messages x --journal y", "fault: words"),
     ("replay --rate 5 x", "fault: words"),
     ("send --journal y", "fault: words"),
+    ("quote --config c", "quote of c"),
+    ("quote --config=-", "quote of -"),
+    ("quote", "fault: words"),
+    ("quote c", "fault: words"),
+    ("quote --config", "fault: words"),
+    ("quote --config c --config d", "fault: words"),
+    ("quote --config c --quiet", "fault: words"),
+    ("quote --messages m", "fault: words"),
+    ("loop --config c --strict", "strict loop of c"),
+    ("send --strict --config c", "strict send of c"),
+    ("send --strict", "fault: words"),
+    ("send --config c --strict --strict", "fault: words"),
+    ("recover --config c --journal j --strict", "fault: words"),
 ];
 
 // The words of a line.
@@ -95,6 +108,9 @@ fn called(job: &Job) -> &str {
         Job::Replay(Some(_)) => "",
         Job::Plan(_, true) => "long plan of ",
         Job::Plan(_, false) => "plan of ",
+        Job::Quote(_) => "quote of ",
+        Job::Loop(order) if order.strict => "strict loop of ",
+        Job::Send(order) if order.strict => "strict send of ",
         Job::Loop(order) if order.quiet => "quiet loop of ",
         Job::Loop(_) => "loop of ",
         Job::Send(order) if order.quiet => "quiet send of ",
@@ -110,7 +126,7 @@ fn file_of(job: &Job) -> &str {
     match job {
         Job::Replay(None) => "",
         Job::Replay(Some(name)) => name.as_str(),
-        Job::Plan(name, _) => name.as_str(),
+        Job::Plan(name, _) | Job::Quote(name) => name.as_str(),
         Job::Loop(order) | Job::Send(order) => order.config.as_str(),
         Job::Recover(order) => order.journal.as_str(),
         Job::Rest(order) => order.report.as_str(),
@@ -258,6 +274,8 @@ fn gives_help_and_version(rt: HostRuntime) -> Result<(), Fail> {
         ("help send", "--quiet"),
         ("help loop", "--journal <FILE>"),
         ("help send", "--connect-ms <N>"),
+        ("help loop", "--strict"),
+        ("quote --help", "Usage: sms-send quote"),
         ("help replay", "Usage: sms-send replay"),
     ] {
         let fault = answer_to(rt.alloc(), words)?;

@@ -6,4 +6,5 @@ returns c =
     let quieted = c.with_argument-quieted.ensures _ _ c.flag-quiet.ensures.rule begun in
     let noted = c.with_argument-noted.ensures _ _ c.value_option-journal.ensures.rule quieted in
     let synced = c.with_argument-synced.ensures _ _ c.flag-sync.ensures.rule noted in
-    c.with_pace.ensures _ synced
+    let stricter = c.with_argument-stricter.ensures _ _ c.flag-strict.ensures.rule synced in
+    c.with_pace.ensures _ stricter

@@ -2,7 +2,7 @@ use Rattle.std.proofs.Common.{inl, inr, refl}
 use Rattle.std.proofs.lemmas.Result.{IfErr-weaker, IfOk-weaker}
 use Rattle.sms_send.specs.Noted.{IsDeaf, SendsInput}
 use Rattle.sms_send.specs.Sent.{TellsSending, untold}
-use Rattle.sms_send.specs.Jobs.{IsStatus}
+use Rattle.sms_send.specs.Jobs.{IsStatusBy}
 use Rattle.sms_send.proofs.Noting.{begun_fault, ended_err, ended_ok, ended_quiet}
 use Rattle.sms_send.proofs.Telling.{told_so}
 use Rattle.sms_send.proofs.noted.send_noted.Goals as goal
@@ -20,7 +20,7 @@ returns-clause-sent g c =
     (ended_ok c.end_journal.result c.send_over-sent.result _ c.end_journal.ensures.ended c.send_over-sent.ensures.sent)
 
 pub returns-clause-status : goal.returns-clause-status
-returns-clause-status g c = ended_ok c.end_journal.result c.send_over-sent.result IsStatus c.end_journal.ensures.ended c.send_over-sent.ensures.status
+returns-clause-status g c = ended_ok c.end_journal.result c.send_over-sent.result (IsStatusBy c.args.strict) c.end_journal.ensures.ended c.send_over-sent.ensures.status
 
 pub returns-clause-refused : goal.returns-clause-refused
 returns-clause-refused g c =

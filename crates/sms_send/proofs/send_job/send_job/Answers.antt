@@ -7,7 +7,7 @@ use Rattle.sms_send.proofs.send_job.send_job.Goals as goal
 pub returns-in-None-clause-sent : goal.returns-in-None-clause-sent
 returns-in-None-clause-sent g c =
     IfOk-weaker c.send_over.result _ _
-    (λ status sent. plain_sends g.R.File.Read.remaining _ _ _ c.in_ok-accounts.field-0 c.args.order.journal _ _ status c.in-None.is
+    (λ status sent. plain_sends c.args.order.strict g.R.File.Read.remaining _ _ _ c.in_ok-accounts.field-0 c.args.order.journal _ _ status c.in-None.is
     (record { input = c.in_ok-config.ensures.octets; one = c.as_slice.ensures.value; two = c.as_slice-in-None.ensures.value; says = c.in_ok-accounts.ensures.setup }) sent)
     c.send_over.ensures.sent
 
@@ -21,7 +21,7 @@ returns-in-None-clause-refused g c =
 pub returns-clause-sent : goal.returns-clause-sent
 returns-clause-sent g c =
     IfOk-weaker c.send_noted.result _ _
-    (λ status sent. noted_sends g.R.File.Read.remaining _ _ _ c.in_ok-accounts.field-0 c.args.order.journal _ _ _ status c.in-Some.is
+    (λ status sent. noted_sends c.args.order.strict g.R.File.Read.remaining _ _ _ c.in_ok-accounts.field-0 c.args.order.journal _ _ _ status c.in-Some.is
     (record { input = c.in_ok-config.ensures.octets; one = c.as_slice.ensures.value; two = c.as_slice-in-Some.ensures.value; says = c.in_ok-accounts.ensures.setup }) sent)
     c.send_noted.ensures.sent
 

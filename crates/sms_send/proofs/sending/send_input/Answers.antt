@@ -1,6 +1,7 @@
 use Rattle.std.proofs.Common.{inl, refl}
 use Rattle.sms_send.proofs.Telling.{told_so}
 use Rattle.sms_send.proofs.Sendings.{unwritten_told}
+use Rattle.sms_send.proofs.Statuses.{is_status}
 use Rattle.sms_send.proofs.sending.send_input.Goals as goal
 
 pub returns-clause-sent : goal.returns-clause-sent
@@ -10,6 +11,9 @@ returns-clause-sent g c = record {
   written = c.in_ok-write_report.ensures.written;
   status_is = c.exit_status-status.ensures;
 }
+
+pub returns-clause-status : goal.returns-clause-status
+returns-clause-status g c = is_status c.args.strict c.in_ok-ended.ended.ends.items _ c.exit_status-status.ensures
 
 pub returns-in_err-ended-clause-refused : goal.returns-in_err-ended-clause-refused
 returns-in_err-ended-clause-refused g c = told_so c.from_residual.result _ _ c.from_residual.ensures.1 (inl c.in_err-ended.ensures.refused)

@@ -1,0 +1,77 @@
+-- What was written of a quote, from its parts to the job.
+use Rattle.std.proofs.Common.{◌≡◌, ◌∙◌, ◌⊎◌, inl, inr, refl, sym, subst, ℕ, List, [], Option, Result, Ok, Err}
+use Rattle.std.specs.Prelude.{OnOk, String, option_map, string_bytes}
+use Rattle.std.specs.Io.KnownBytes.{Appends}
+use Rattle.std.specs.declared.alloc.Global.{Global}
+use Rattle.std.proofs.KnownBytes.{Appends-nil}
+use Rattle.sms_files.specs.ConfigFaults.{TellsConfig}
+use Rattle.sms_files.specs.Inputs.{Told}
+use Rattle.sms_files.specs.Setups.{names_in}
+use Rattle.sms_files.specs.declared.config.FileNames.{FileNames}
+use Rattle.sms_files.specs.declared.fault.InputFault.{InputFault}
+use Rattle.sms_files.specs.declared.fault.InputFault.TheVariants as input
+use Rattle.sms_files.specs.declared.input.Input.{Input}
+use Rattle.sms_files.specs.declared.setup.Setup.{Setup}
+use Rattle.sms_report.specs.Output.{WritesFront}
+use Rattle.sms_send.specs.Faults.{TellsRead, told_input}
+use Rattle.sms_send.specs.Opened.{IsNamed, OfInput}
+use Rattle.sms_send.specs.Quoted.{HasQuote, PrintsFront, PrintsQuote, QuotesAndWarns, QuotesFiles, QuotesNamed, TellsQuoteFiles, TellsQuoteJob, TellsQuoteNamed}
+use Rattle.sms_send.specs.declared.fault.Fault.{Fault}
+use Rattle.sms_send.specs.declared.fault.Fault.TheVariants.{File, OutOfMemory, Output}
+use Rattle.sms_send.proofs.Noting.{IsSetUp}
+use Rattle.sms_send.proofs.Sendings.{beside, of_config, of_two}
+
+pub on_ok_both : {T E P Q R : Type 0} (r : Result T E) → (P → Q → R) → OnOk r P → OnOk r Q → OnOk r R
+on_ok_both (Ok x) f p q = f p q
+on_ok_both (Err e) f p q = tt
+
+-- nothing is a front of each text
+pub front_of_none : (known : Option (List ℕ)) (text : List ℕ) → WritesFront known known text
+front_of_none known text = record { front = []; back = text; whole = refl; out = Appends-nil known }
+
+-- a quote that was written, and one behind a front of which the output failed
+pub printed : (given : Input) (text out : List ℕ) (old new : Option (List ℕ)) → HasQuote given text → out ≡ text → Appends old new out → PrintsQuote given old new
+printed given text out old new quote same written = record { text = text; quote = quote; written = subst (Appends old new) same written }
+
+pub printed_front : (given : Input) (text out : List ℕ) (old new : Option (List ℕ)) → HasQuote given text → out ≡ text → WritesFront old new out → PrintsFront given old new
+printed_front given text out old new quote same front = record { text = text; quote = quote; front = subst (WritesFront old new) same front }
+
+-- a fault of what is read is none of the output
+never_output : (f : InputFault) → told_input f ≡ Output → ⊥
+never_output (input.Unreadable source) e = cc
+never_output (input.BadRecord source place) e = cc
+never_output input.NotToml e = cc
+never_output (input.BadKey key) e = cc
+never_output input.OutOfMemory e = cc
+
+pub read_is_no_output : {A : Type 0} (P : InputFault → Type 0) (fault : Fault) → TellsRead P fault → fault ≡ Output → A
+read_is_no_output P fault (f, holds, told) is = absurd (never_output f (sym told ∙ is))
+
+-- of files that were opened
+pub named_quotes : {F : Type 0} (remaining : F → Told) (names : FileNames) (config : List ℕ) (accounts messages : F) (tariff : Option F) (old new told_old told_new : Option (List ℕ))
+    → IsNamed (string_bytes names.tariff) tariff → QuotesAndWarns config (remaining accounts) (remaining messages) (option_map remaining tariff) old new told_old told_new
+    → QuotesNamed remaining names config old new
+named_quotes remaining names config accounts messages tariff old new told_old told_new named quotes =
+    (accounts, messages, tariff, named, record { input = quotes.input; read = quotes.read; printed = quotes.printed })
+
+-- of those that a config names
+pub set_up_quotes : {F : Type 0} (remaining : F → Told) (items read handed : List ℕ) (setup : Setup) (old new : Option (List ℕ))
+    → IsSetUp remaining items read handed setup → QuotesNamed remaining (names_in setup) handed old new → OfInput remaining (λ octets. QuotesFiles remaining octets old new)
+set_up_quotes remaining items read handed setup old new set quotes =
+    of_config remaining items read handed setup (λ names octets. QuotesNamed remaining names octets old new) (λ octets. QuotesFiles remaining octets old new)
+    set.input set.one set.two set.says (λ octets so. so) quotes
+
+pub set_up_tells : {F : Type 0} (remaining : F → Told) (items read handed : List ℕ) (setup : Setup) (name : String Global) (old new : Option (List ℕ)) (fault : Fault)
+    → IsSetUp remaining items read handed setup → TellsQuoteNamed remaining (names_in setup) handed old new fault → TellsQuoteJob remaining name old new fault
+set_up_tells remaining items read handed setup name old new fault set tells =
+    inr (inr (of_config remaining items read handed setup (λ names octets. TellsQuoteNamed remaining names octets old new fault) (λ octets. TellsQuoteFiles remaining octets old new fault)
+    set.input set.one set.two set.says (λ octets so. inr so) tells))
+
+pub config_tells : {F : Type 0} (remaining : F → Told) (name : String Global) (old new : Option (List ℕ)) (fault : Fault)
+    → (fault ≡ OutOfMemory) ⊎ (fault ≡ File name) → TellsQuoteJob remaining name old new fault
+config_tells remaining name old new fault told = of_two told
+
+pub setup_tells : {F : Type 0} (remaining : F → Told) (name : String Global) (old new : Option (List ℕ)) (fault : Fault) (items octets : List ℕ)
+    → OfInput remaining (λ bytes. items ≡ bytes) → octets ≡ items → TellsRead (TellsConfig octets) fault → TellsQuoteJob remaining name old new fault
+setup_tells remaining name old new fault items octets given same told =
+    inr (inr (beside remaining items octets (λ bytes. TellsQuoteFiles remaining bytes old new fault) given same (inl told)))

@@ -1,0 +1,100 @@
+-- What `quote` prints of the files that a config names, what it warns of, and what a fault of it says.
+use Rattle.std.specs.Prelude.{◌≡◌, ◌≢◌, ◌⊎◌, ℕ, List, [], Option, String, option_map, string_bytes}
+use Rattle.std.specs.Io.KnownBytes.{Appends}
+use Rattle.std.specs.declared.alloc.Global.{Global}
+use Rattle.sms_files.specs.ConfigFaults.{IsConfig, TellsConfig}
+use Rattle.sms_files.specs.Inputs.{IsInput, Told, TellsInput}
+use Rattle.sms_files.specs.declared.config.Config.{Config}
+use Rattle.sms_files.specs.declared.config.FileNames.{FileNames}
+use Rattle.sms_files.specs.declared.input.Input.{Input}
+use Rattle.sms_quote.specs.QuoteText.{IsQuoteText}
+use Rattle.sms_quote.specs.Warnings.{warning_lines}
+use Rattle.sms_report.specs.Output.{WritesFront}
+use Rattle.sms_send.specs.Faults.{TellsRead}
+use Rattle.sms_send.specs.Opened.{IsNamed, OfInput}
+use Rattle.sms_send.specs.declared.fault.Fault.{Fault}
+use Rattle.sms_send.specs.declared.fault.Fault.TheVariants.{File, OutOfMemory, Output}
+
+-- ---- of an input
+
+-- the text is the input's quote
+abbrev pub HasQuote : Input → List ℕ → Type 0
+HasQuote input text = IsQuoteText input.openings.items input.config.flags.long_reference input.tariff input.messages.items text
+
+-- what is told of its messages
+abbrev pub warnings_of : Input → List ℕ
+warnings_of input = warning_lines input.messages.items
+
+-- its quote was written and nothing else
+pub record PrintsQuote (input : Input) (old new : Option (List ℕ)) : Type 0 where
+  pub text : List ℕ
+  pub quote : HasQuote input text
+  pub written : Appends old new text
+
+-- a front of its quote was written and nothing else
+pub record PrintsFront (input : Input) (old new : Option (List ℕ)) : Type 0 where
+  pub text : List ℕ
+  pub quote : HasQuote input text
+  pub front : WritesFront old new text
+
+-- what a fault says: memory ran out, or the output failed behind a front of the quote
+abbrev pub TellsQuoting : Input → Option (List ℕ) → Option (List ℕ) → Fault → Type 0
+TellsQuoting input old new fault = (fault ≡ OutOfMemory) ⊎ ((fault ≡ Output) × PrintsFront input old new)
+
+-- ---- of octets
+
+-- the config, the accounts, the messages and the tariff were read, and the quote of what they say was written and nothing else
+pub record Quotes (config : List ℕ) (accounts messages : Told) (tariff : Option Told) (old new : Option (List ℕ)) : Type 0 where
+  pub input : Input
+  pub read : IsInput config accounts messages tariff input
+  pub printed : PrintsQuote input old new
+
+-- and on standard error its warnings and nothing else
+pub record QuotesAndWarns (config : List ℕ) (accounts messages : Told) (tariff : Option Told) (old new told_old told_new : Option (List ℕ)) : Type 0 where
+  pub input : Input
+  pub read : IsInput config accounts messages tariff input
+  pub printed : PrintsQuote input old new
+  pub warned : Appends told_old told_new (warnings_of input)
+
+-- what a fault says of these octets: it is of the first that have one, or of the quote of what they all say
+abbrev pub TellsQuote : List ℕ → Told → Told → Option Told → Option (List ℕ) → Option (List ℕ) → Fault → Type 0
+TellsQuote config accounts messages tariff old new fault =
+    TellsRead (TellsInput config accounts messages tariff) fault
+    ⊎ ((input : Input) × IsInput config accounts messages tariff input × TellsQuoting input old new fault)
+
+-- where the output failed, a front of the warnings of what they say was told
+abbrev pub WarnsFront : List ℕ → Told → Told → Option Told → Option (List ℕ) → Option (List ℕ) → Type 0
+WarnsFront config accounts messages tariff told_old told_new =
+    (input : Input) × IsInput config accounts messages tariff input × WritesFront told_old told_new (warnings_of input)
+
+-- ---- of files
+
+-- some files were read beside a config of these octets, that of the tariff just where it has a name, and quoted so
+abbrev pub QuotesNamed : {F : Type 0} → (F → Told) → FileNames → List ℕ → Option (List ℕ) → Option (List ℕ) → Type 0
+QuotesNamed {F} remaining names config old new =
+    (accounts : F) × (messages : F) × (tariff : Option F) × IsNamed (string_bytes names.tariff) tariff
+    × Quotes config (remaining accounts) (remaining messages) (option_map remaining tariff) old new
+
+-- what a fault says of files of these names: one can't be opened, or what it says of the quote of them all
+abbrev pub TellsQuoteNamed : {F : Type 0} → (F → Told) → FileNames → List ℕ → Option (List ℕ) → Option (List ℕ) → Fault → Type 0
+TellsQuoteNamed {F} remaining names config old new fault =
+    (fault ≡ File names.accounts)
+    ⊎ (fault ≡ File names.messages)
+    ⊎ ((fault ≡ File names.tariff) × (string_bytes names.tariff ≢ []))
+    ⊎ ((accounts : F) × (messages : F) × (tariff : Option F) × IsNamed (string_bytes names.tariff) tariff
+    × TellsQuote config (remaining accounts) (remaining messages) (option_map remaining tariff) old new fault)
+
+-- the octets are a config's, and the files that it names were quoted
+abbrev pub QuotesFiles : {F : Type 0} → (F → Told) → List ℕ → Option (List ℕ) → Option (List ℕ) → Type 0
+QuotesFiles remaining octets old new = (config : Config) × IsConfig octets config × QuotesNamed remaining config.files octets old new
+
+-- what a fault says of a config's octets: they are none, or what it says of the files that the config names
+abbrev pub TellsQuoteFiles : {F : Type 0} → (F → Told) → List ℕ → Option (List ℕ) → Option (List ℕ) → Fault → Type 0
+TellsQuoteFiles remaining octets old new fault =
+    TellsRead (TellsConfig octets) fault ⊎ ((config : Config) × IsConfig octets config × TellsQuoteNamed remaining config.files octets old new fault)
+
+-- what a fault of a quote by the config of this name says: its file can't be read, memory ran out, or what it says of
+-- the octets of some file
+abbrev pub TellsQuoteJob : {F : Type 0} → (F → Told) → String Global → Option (List ℕ) → Option (List ℕ) → Fault → Type 0
+TellsQuoteJob remaining name old new fault =
+    (fault ≡ OutOfMemory) ⊎ (fault ≡ File name) ⊎ OfInput remaining (λ octets. TellsQuoteFiles remaining octets old new fault)

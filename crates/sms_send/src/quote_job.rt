@@ -1,0 +1,153 @@
+//! The job of `quote`: the files that the config names are opened and read, and what a sending of them
+//! would come to is printed.
+
+ghost use Rattle.std.specs.Prelude.{◌≡◌, ◌≢◌, IfErr, IfOk, OnOk, option_map, string_bytes};
+ghost use Rattle.std.specs.Io.KnownBytes.{Appends};
+ghost use Rattle.sms_report.specs.Output.{WritesFront};
+ghost use Rattle.sms_send.specs.Opened.{OfInput};
+ghost use Rattle.sms_send.specs.Quoted.{HasQuote, PrintsQuote, QuotesAndWarns, QuotesFiles, QuotesNamed, TellsQuote, TellsQuoteJob, TellsQuoteNamed, TellsQuoting, WarnsFront, warnings_of};
+ghost use Rattle.sms_send.specs.declared.fault.Fault.TheVariants.{Output};
+
+use crate::fault::Fault;
+use crate::opened::{octets_of, open, open_named};
+use crate::reading::{read_input, setup_of};
+use crate::standard_error::StandardError;
+use sms_files::{FileNames, Input, Setup};
+use sms_quote::{quote_text, warnings_text};
+use sms_report::write_out;
+use std::alloc::{AllocError, Global};
+use std::io::{Eprint, Read, Write};
+use std::rt::Files;
+
+/// What is printed of an input, and what is told of its messages.
+fn texts_of(alloc: Global, input: &Input) -> Result<(String, String), AllocError>
+    ensures quote { IfOk result (λ texts. HasQuote input.now (string_bytes texts.0)) }
+    ensures warnings { IfOk result (λ texts. string_bytes texts.1 ≡ warnings_of input.now) }
+{
+    let quote = quote_text(alloc, input)?;
+    let warnings = warnings_text(alloc, input)?;
+    Ok((quote, warnings))
+}
+
+/// Writes a quote, and then its warnings.
+fn write_both<W: Write, E: Write>(
+    output: &mut W,
+    error: &mut E,
+    quote: &[u8],
+    warnings: &[u8],
+) -> Result<u8, Fault>
+    ensures status { IfOk result (λ status. status ≡ 0) }
+    ensures written { OnOk result (Appends (W.contents output.old) (W.contents output.new) quote.now) }
+    ensures warned { OnOk result (Appends (E.contents error.old) (E.contents error.new) warnings.now) }
+    ensures front { WritesFront (W.contents output.old) (W.contents output.new) quote.now }
+    ensures told { WritesFront (E.contents error.old) (E.contents error.new) warnings.now }
+    ensures failed { IfErr result (λ fault. fault ≡ Output) }
+{
+    match write_out(output, quote) {
+        Ok(()) => {}
+        Err(fault) => return Err(Fault::from(fault)),
+    }
+    match write_out(error, warnings) {
+        Ok(()) => Ok(0),
+        Err(fault) => Err(Fault::from(fault)),
+    }
+}
+
+/// Prints the quote of an input, and tells its warnings.
+fn quote_input<W: Write, E: Write>(
+    alloc: Global,
+    input: &Input,
+    output: &mut W,
+    error: &mut E,
+) -> Result<u8, Fault>
+    ensures status { IfOk result (λ status. status ≡ 0) }
+    ensures printed { OnOk result (PrintsQuote input.now (W.contents output.old) (W.contents output.new)) }
+    ensures warned { OnOk result (Appends (E.contents error.old) (E.contents error.new) (warnings_of input.now)) }
+    ensures refused { IfErr result (TellsQuoting input.now (W.contents output.old) (W.contents output.new)) }
+    ensures told { IfErr result (λ fault. fault ≡ Output → WritesFront (E.contents error.old) (E.contents error.new) (warnings_of input.now)) }
+    ensures unwritten { IfErr result (λ fault. fault ≢ Output → (output.new ≡ output.old) × (error.new ≡ error.old)) }
+{
+    match texts_of(alloc, input) {
+        Ok((quote, warnings)) => write_both(output, error, quote.as_bytes(), warnings.as_bytes()),
+        Err(_) => Err(Fault::OutOfMemory),
+    }
+}
+
+/// Reads the config's octets and the files, and prints what a sending of them would come to: of each
+/// message whether it passes and what it costs, and of each account what its messages take. Nothing is
+/// sent. Texts that look as if a quote had been left open are told on standard error. That either
+/// can't be written is a fault of the output. The exit status is 0.
+pub fn run_quote<A: Read + Drop, M: Read + Drop, T: Read + Drop, W: Write, E: Write>(
+    alloc: Global,
+    config: &[u8],
+    accounts: A,
+    messages: M,
+    tariff: Option<T>,
+    output: &mut W,
+    error: &mut E,
+) -> Result<u8, Fault>
+    ensures status { IfOk result (λ status. status ≡ 0) }
+    ensures quoted { OnOk result (QuotesAndWarns config.now (A.remaining accounts) (M.remaining messages) (option_map T.remaining tariff) (W.contents output.old) (W.contents output.new) (E.contents error.old) (E.contents error.new)) }
+    // A fault is of the first of these that has one, or of the quote of what they say.
+    ensures refused { IfErr result (TellsQuote config.now (A.remaining accounts) (M.remaining messages) (option_map T.remaining tariff) (W.contents output.old) (W.contents output.new)) }
+    ensures told { IfErr result (λ fault. fault ≡ Output → WarnsFront config.now (A.remaining accounts) (M.remaining messages) (option_map T.remaining tariff) (E.contents error.old) (E.contents error.new)) }
+    ensures unwritten { IfErr result (λ fault. fault ≢ Output → (output.new ≡ output.old) × (error.new ≡ error.old)) }
+{
+    match read_input(alloc, config, accounts, messages, tariff) {
+        Ok(input) => quote_input(alloc, &input, output, error),
+        Err(fault) => Err(fault),
+    }
+}
+
+/// Opens the files that the config names, and prints what a sending of them would come to.
+fn quote_named<R: AllocGlobal + Files + Eprint, W: Write>(
+    rt: &R,
+    config: &[u8],
+    names: FileNames,
+    output: &mut W,
+) -> Result<u8, Fault>
+    ensures status { IfOk result (λ status. status ≡ 0) }
+    ensures quoted { OnOk result (QuotesNamed R.File.remaining names config.now (W.contents output.old) (W.contents output.new)) }
+    ensures refused { IfErr result (TellsQuoteNamed R.File.remaining names config.now (W.contents output.old) (W.contents output.new)) }
+    ensures unwritten { IfErr result (λ fault. fault ≢ Output → output.new ≡ output.old) }
+{
+    let accounts = open(rt, names.accounts)?;
+    let messages = open(rt, names.messages)?;
+    let tariff = open_named(rt, names.tariff)?;
+    run_quote(
+        rt.alloc(),
+        config,
+        accounts,
+        messages,
+        tariff,
+        output,
+        &mut StandardError { rt },
+    )
+}
+
+/// Reads the config of this name and the files that it names, and prints what a sending of them would
+/// come to.
+pub fn quote_job<R: AllocGlobal + Files + Eprint, W: Write>(
+    rt: &R,
+    config: String,
+    output: &mut W,
+) -> Result<u8, Fault>
+    ensures status { IfOk result (λ status. status ≡ 0) }
+    ensures quoted { OnOk result (OfInput R.File.remaining (λ octets. QuotesFiles R.File.remaining octets (W.contents output.old) (W.contents output.new))) }
+    ensures refused { IfErr result (TellsQuoteJob R.File.remaining config (W.contents output.old) (W.contents output.new)) }
+    ensures unwritten { IfErr result (λ fault. fault ≢ Output → output.new ≡ output.old) }
+{
+    let config = octets_of(rt, config)?;
+    let Setup {
+        accounts,
+        messages,
+        tariff,
+        ..
+    } = setup_of(rt.alloc(), config.as_slice())?;
+    let names = FileNames {
+        accounts,
+        messages,
+        tariff,
+    };
+    quote_named(rt, config.as_slice(), names, output)
+}
