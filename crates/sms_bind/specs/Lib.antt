@@ -1,6 +1,7 @@
 pub mod Binds
 pub mod Answers
 pub mod Wires
+pub mod Downs
 pub mod Held
 pub mod Follows
 pub mod Deeds

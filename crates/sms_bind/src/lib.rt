@@ -8,6 +8,7 @@ mod bound;
 mod context;
 mod counts;
 mod deed;
+mod down;
 mod ending;
 mod follower;
 mod line;
@@ -23,6 +24,7 @@ mod wire;
 
 pub use binding::{BindFault, bind};
 pub use bound::Bound;
+pub use down::{Down, DownCause, DownMark};
 pub use ending::{ReaderCause, ReaderEnd};
 pub use line::Line;
 pub use reader::read_loop;

@@ -2,21 +2,22 @@
 
 ghost use Rattle.std.specs.Prelude.{◌≡◌};
 
+use crate::down::DownMark;
 use crate::wire::Wire;
 use sms_slot::SlotRow;
 use std::sync::Mutex;
 use std::sync::atomic::AtomicBool;
 
-/// What the reader and the workers of a bind share. What stands behind the wire's lock and in the two
-/// flags is whatever was left there last, so no clause tells it.
+/// What the reader and the workers of a bind share. What stands behind the wire's lock and in `stop` is
+/// whatever was left there last, so no clause tells it; that a line is down is told by a `Down`.
 #[derive(Drop)]
 pub struct Line<W> {
     /// The requests that wait for their answers.
     pub slots: SlotRow,
     /// The wire, which writes one frame in each holding of its lock.
     pub wire: Mutex<Wire<W>>,
-    /// No answer comes any more.
-    pub down: AtomicBool,
+    /// Whether no answer comes any more, and why.
+    pub down: DownMark,
     /// The reader is to end.
     pub stop: AtomicBool,
 }
@@ -29,7 +30,7 @@ impl<W> Line<W> {
         Line {
             slots,
             wire: Mutex::new(wire),
-            down: AtomicBool::new(false),
+            down: DownMark::new(),
             stop: AtomicBool::new(false),
         }
     }

@@ -9,13 +9,16 @@ ghost use Rattle.sms_pdu.specs.Devices.{device, faults_of, failures_of};
 ghost use Rattle.sms_pdu.specs.Faults.{Counts as CountsOne, IsCounted};
 ghost use Rattle.sms_pdu.specs.Turn.{Turned};
 ghost use Rattle.sms_bind.specs.Follows.{HoldsBack, most_held, held_none};
+ghost use Rattle.sms_bind.specs.Downs.{IsMarked};
 ghost use Rattle.sms_bind.specs.Ends.{HandsOn, LeavesRoom};
 ghost use Rattle.sms_bind.specs.Turns.{Stops};
+ghost use Rattle.sms_bind.specs.declared.down.DownCause.TheVariants.{Reader};
 ghost use Rattle.sms_bind.specs.declared.ending.ReaderCause.TheVariants.{Ended, ReadFault, Stopped, Turns};
 
 use crate::bound::Bound;
 use crate::context::ReaderContext;
 use crate::counts::Counts;
+use crate::down::Down;
 use crate::ending::{ReaderCause, ReaderEnd};
 use crate::follower::Follower;
 use crate::line::Line;
@@ -26,13 +29,49 @@ use sms_window::{Window, WindowSeat};
 use std::alloc::Global;
 use std::io::{Read, Write};
 use std::sync::Wait;
-use std::sync::atomic::Ordering;
 
 /// Reads what comes in on a bind for so many turns, works each frame by the session's table, and
 /// hands the answers to the rings of the workers whose requests wait for them. One turn reads at most
-/// 65,536 octets. At its end the line is down. Where `follow` is the window's limit, fewer requests
-/// are let through while the message centre throttles.
-pub fn read_loop<R: Read, W: Write, S: Wait>(
+/// 65,536 octets. At its end the line is down: Ok where this brought it down, Err where it was before. Where
+/// `follow` is the window's limit, fewer requests are let through while the message centre throttles.
+pub fn read_loop<'l, R: Read, W: Write, S: Wait>(
+    rt: &S,
+    alloc: Global,
+    reader: &mut Tap<R>,
+    bound: Bound,
+    producers: Vec<Producer<Reply>>,
+    line: &'l Line<W>,
+    window: &Window,
+    seat: WindowSeat,
+    follow: Option<u32>,
+    turns: u64,
+) -> (ReaderEnd, Result<Down<'l>, Down<'l>>)
+    requires turns { turns ≤ 2 ^ 40 }
+    requires own { seat.window ≡ window.now }
+    requires limit { IfSome follow (λ limit. (1 ≤ limit) × (limit ≤ most_slots)) }
+    ensures answers { HandsOn bound.session (concat bound.frames ++ bound.framer) (R.remaining (device reader.old)) (R.remaining (device reader.new)) (map sent producers.items) (map sent result.0.producers.items) (held_none seat (most_held follow)) result.0 }
+    ensures room { LeavesRoom (map sent producers.items) (map sent result.0.producers.items) (map known_free producers.items) (map known_free result.0.producers.items) result.0 }
+    ensures rings { AllZip SameProducer producers.items result.0.producers.items }
+    ensures seat { HoldsBack (most_held follow) seat.view result.0.seat.view }
+    ensures window { result.0.seat.window ≡ seat.window }
+    ensures turned { Turned turns (result.0.cause ≡ Turns) (R.remaining (device reader.old)) (R.remaining (device reader.new)) (faults_of reader.old) (faults_of reader.new) }
+    ensures stopped { result.0.cause ≡ Stopped → Stops turns (R.remaining (device reader.old)) (R.remaining (device reader.new)) }
+    ensures end { result.0.cause ≡ Ended → IsAtEnd (R.remaining (device reader.new)) }
+    ensures fault { result.0.cause ≡ ReadFault → IsCounted (faults_of reader.old) (faults_of reader.new) }
+    ensures failed { result.0.cause ≡ ReadFault → CountsOne (failures_of reader.old) (failures_of reader.new) }
+    ensures quiet { result.0.cause ≢ ReadFault → failures_of reader.new ≡ failures_of reader.old }
+    // The line is down: for this cause, if it wasn't before.
+    ensures down { IsMarked line.now.down (Reader result.0.cause) result.1 }
+{
+    let end = read_all(
+        rt, alloc, reader, bound, producers, line, window, seat, follow, turns,
+    );
+    let down = line.down.reader_ended(rt, end.cause);
+    (end, down)
+}
+
+/// Reads as `read_loop` does, which marks the line down at its end.
+fn read_all<R: Read, W: Write, S: Wait>(
     rt: &S,
     alloc: Global,
     reader: &mut Tap<R>,
@@ -62,7 +101,6 @@ pub fn read_loop<R: Read, W: Write, S: Wait>(
     let follower = match Follower::new(alloc, seat, most_of(follow)) {
         Ok(follower) => follower,
         Err((_e, seat)) => {
-            line.down.store(true, Ordering::SeqCst);
             return ended(producers, seat, Counts::new(), ReaderCause::OutOfMemory);
         }
     };
@@ -85,7 +123,6 @@ pub fn read_loop<R: Read, W: Write, S: Wait>(
     };
     let rest = framer.into_rest();
     let cause = reader_state.read(&context, reader, frames.as_slice(), rest, turns);
-    line.down.store(true, Ordering::SeqCst);
     let ReaderState {
         session: _,
         producers,

@@ -1,4 +1,5 @@
 pub mod Answering
+pub mod Closings
 pub mod Conclusions
 pub mod Dealings
 pub mod Drawn

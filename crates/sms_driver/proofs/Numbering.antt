@@ -117,7 +117,7 @@ apart_at (v ∷ vs) (x ∷ ess) z once (suc w) (suc w') es es' at at' k p i k' p
 differ : (vs : List View) (ess : List (List MessageEnd)) → AllZip HasNumbers vs ess → DrewOnce vs → NumbersDiffer ess
 differ vs ess z once a b same = apart_at vs ess z once a.worker b.worker a.ends b.ends a.theirs b.theirs a.message a.part a.attempt b.message b.part b.attempt a.one b.one a.is b.is same
 
-zip_of_bind : {A B : Type 0} (R : A → B → Type 0) (workers bind : ℕ) (xs : List A) (ys : List B) → AllZip R xs ys → AllZip R (of_bind workers bind xs) (of_bind workers bind ys)
+pub zip_of_bind : {A B : Type 0} (R : A → B → Type 0) (workers bind : ℕ) (xs : List A) (ys : List B) → AllZip R xs ys → AllZip R (of_bind workers bind xs) (of_bind workers bind ys)
 zip_of_bind R workers zero xs ys z = zip_take R workers xs ys z
 zip_of_bind R workers (suc bind) xs ys z = zip_of_bind R workers bind (drop workers xs) (drop workers ys) (zip_drop R workers xs ys z)
 
@@ -135,7 +135,7 @@ low_in n top (x ∷ xs) b h = dite (ℕ_discrete x n)
     (λ e. let lt = b.0 in omega arith)
     (λ ne. low_in n top xs b.1 (passed (x == n) (times n xs) (ne_eqb x n ne) h))
 
-get_mapped : {A B : Type 0} (f : A → B) (xs : List A) (i : ℕ) (x : A) → slice_get xs i ≡ Some x → slice_get (map f xs) i ≡ Some (f x)
+pub get_mapped : {A B : Type 0} (f : A → B) (xs : List A) (i : ℕ) (x : A) → slice_get xs i ≡ Some x → slice_get (map f xs) i ≡ Some (f x)
 get_mapped f [] i x at = absurd (cc)
 get_mapped f (y ∷ xs) zero x at = let same : y ≡ x = cc in ap (λ z. Some (f z)) same
 get_mapped f (y ∷ xs) (suc i) x at = get_mapped f xs i x at

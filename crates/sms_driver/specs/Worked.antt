@@ -14,6 +14,7 @@ use Rattle.sms_worker.specs.EndOf.{IsEndOf}
 use Rattle.sms_worker.specs.Apart.{NumbersApart, PlacesApart}
 use Rattle.sms_worker.specs.Told.{AllTold, Drew, Grew}
 use Rattle.sms_worker.specs.ReadyState.{ReadyState}
+use Rattle.sms_driver.specs.Closings.{SaysWhy}
 
 -- its ends are its messages', and its share grew by them
 pub record Worked (rules : Rules) (old new : List Amounts) (ms : List Message) (es : List MessageEnd) : Type 0 where
@@ -34,6 +35,8 @@ pub record IsWorkOf {N : Type 0} (rules : Rules) (a : ReadyState N) (d : WorkerE
   -- the numbers were drawn by the seat, each for one attempt
   pub numbers : Drew a.worker.seat.view d.seat.view a.messages d.ends.items
   pub apart : NumbersApart d.ends.items
+  -- where it says no cause, it refused no message as bind-closed
+  pub says_why : SaysWhy d.closed d.ends.items
 
 -- what comes back of an assignment: its work
 abbrev pub IsResultOf : {N E M : Type 0} → Rules → ReadyState N → Result (WorkerEnd N) (E × Worker N × M) → Type 0

@@ -6,6 +6,7 @@ ghost use Rattle.sms_book.specs.Openings.{credits_of};
 ghost use Rattle.sms_worker.specs.EndOf.{IsEndOf};
 ghost use Rattle.sms_driver.specs.Answered.{AreHeard};
 ghost use Rattle.sms_driver.specs.BindEnds.{AreBinds};
+ghost use Rattle.sms_driver.specs.Closings.{AreExplained};
 ghost use Rattle.sms_driver.specs.Deals.{dealt};
 ghost use Rattle.sms_driver.specs.Ended.{HaveEnded};
 ghost use Rattle.sms_driver.specs.Numbered.{AreBelow, AreNumbered};
@@ -54,6 +55,8 @@ pub fn drive_all<
     ensures numbers { IfOk result (λ r. AreNumbered binds workers (dealt (binds * workers) 0 r.ends.items)) }
     // They are below the number that the bind's window would have given next.
     ensures below { IfOk result (λ r. AreBelow workers r.binds.items (dealt (binds * workers) 0 r.ends.items)) }
+    // A message was refused as bind-closed only where its bind's end tells why.
+    ensures explained { IfOk result (λ r. AreExplained workers r.binds.items (dealt (binds * workers) 0 r.ends.items)) }
     ensures rows { IfOk result (λ r. AreRows (credits_of openings.now) messages.items r.ends.items r.statement) }
     // Each bind was made and ended, and had its workers.
     ensures binds { IfOk result (λ r. AreBinds binds workers r.binds.items) }

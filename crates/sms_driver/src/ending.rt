@@ -8,6 +8,7 @@ ghost use Rattle.sms_book.specs.Shares.{AreAll};
 ghost use Rattle.sms_book.specs.Sums.{IsSumOf};
 ghost use Rattle.sms_worker.specs.declared.ends.MessageEnd.{MessageEnd};
 ghost use Rattle.sms_driver.specs.BindEnds.{outcome_of, AreBinds, IsTried};
+ghost use Rattle.sms_driver.specs.Closings.{AreTold};
 ghost use Rattle.sms_driver.specs.Deals.{dealt};
 ghost use Rattle.sms_driver.specs.Numbered.{AllDrewOnce, DrewBelow};
 ghost use Rattle.sms_driver.specs.Rings.{flat};
@@ -25,7 +26,7 @@ use sms_book::{Book, BookName, GatherFault, Shares, Statement, Till, gather};
 use sms_pdu::Reply;
 use sms_window::WindowSeat;
 use sms_worker::laws::received_are_prefixes;
-use sms_worker::{MessageEnd, WorkerEnd};
+use sms_worker::{ClosedBy, MessageEnd, WorkerEnd};
 use std::alloc::{AllocError, Global};
 use std::collections::VecDeque;
 
@@ -52,6 +53,7 @@ struct Parts<N: BookName> {
     ends: Vec<VecDeque<MessageEnd>>,
     seats: Vec<WindowSeat>,
     consumers: Vec<Consumer<Reply>>,
+    causes: Vec<Option<ClosedBy>>,
 }
 
 /// Keeps a worker's share behind those of the workers before it.
@@ -68,29 +70,34 @@ fn take_apart<N: BookName>(alloc: Global, done: Vec<WorkerEnd<N>>) -> Result<Par
     ensures seats { IfOk result (λ p. map (λ s. s.window) p.seats.items ≡ map (λ d. d.seat.window) done.items) }
     ensures views { IfOk result (λ p. map (λ s. s.view) p.seats.items ≡ map (λ d. d.seat.view) done.items) }
     ensures consumers { IfOk result (λ p. p.consumers.items ≡ map (λ d. d.consumer) done.items) }
+    ensures causes { IfOk result (λ p. p.causes.items ≡ map (λ d. d.closed) done.items) }
     ensures long { IfOk result (λ p. length p.ends.items ≡ length done.items) }
 {
     let mut shares = Vec::with_capacity(alloc, done.len())?;
     let mut ends = Vec::with_capacity(alloc, done.len())?;
     let mut seats = Vec::with_capacity(alloc, done.len())?;
     let mut consumers = Vec::with_capacity(alloc, done.len())?;
+    let mut causes = Vec::with_capacity(alloc, done.len())?;
     for end in done {
         let WorkerEnd {
             shares: share,
             ends: theirs,
             seat,
             consumer,
+            closed,
         } = end;
         keep_share(&mut shares, share)?;
         ends.push(VecDeque::from(theirs))?;
         seats.push(seat)?;
         consumers.push(consumer)?;
+        causes.push(closed)?;
     }
     Ok(Parts {
         shares,
         ends,
         seats,
         consumers,
+        causes,
     })
 }
 
@@ -174,6 +181,8 @@ pub fn conclude<N: BookName, W: Drop>(
     ensures sums { IfOk result (λ r. (i : ℕ) → i < length r.statement → IsSumOf (row_at r.statement i) i till (map (λ d. d.shares) done.items)) }
     ensures binds { IfOk result (λ r. AreBinds (length left.shared_binds.items) left.workers r.binds.items) }
     ensures outcomes { IfOk result (λ r. map (λ b. b.reader) r.binds.items ≡ map outcome_of left.readers.items) }
+    // Each bind was closed as its workers say.
+    ensures told { IfOk result (λ r. AreTold left.workers (map (λ d. d.closed) done.items) (map (λ b. b.closing) r.binds.items)) }
     // No two workers of a bind drew one number.
     ensures once { IfOk result (λ _. AllDrewOnce (length left.shared_binds.items) left.workers (map (λ d. d.seat.view) done.items)) }
     ensures below { IfOk result (λ r. DrewBelow left.workers (map (λ d. d.seat.view) done.items) (map (λ b. b.window) r.binds.items)) }
@@ -185,9 +194,10 @@ pub fn conclude<N: BookName, W: Drop>(
         ends,
         seats,
         consumers,
+        causes,
     } = parts;
     let left = join_ends(alloc, left, consumers)?;
-    let binds = close_all(alloc, left, seats)?;
+    let binds = close_all(alloc, left, seats, causes)?;
     let statement = settle(book, till, shares)?;
     Ok(Sending {
         ends: merged(ends, count, out),

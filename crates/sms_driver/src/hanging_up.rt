@@ -44,7 +44,7 @@ fn ask<W: Write, R: Wait>(
     ensures tried { IsTried result }
     ensures asked { HasAsked seat.old.view result seat.new.view }
 {
-    if shared.line.down.load(Ordering::SeqCst) {
+    if shared.line.down.look().is_some() {
         return Unbinding::Unasked(Unasked::Down);
     }
     let Number::Drawn(number) = draw(&shared.window, seat) else {
@@ -113,7 +113,7 @@ pub(crate) fn unbind_all<W: Write, R: Wait>(
 fn is_awaited<W>(shared: &SharedBind<W>, driver_seat: Option<&DriverSeat>) -> bool {
     match driver_seat {
         Some(driver_seat) => match driver_seat.unbinding {
-            Unbinding::Sent(_) => !shared.line.down.load(Ordering::SeqCst),
+            Unbinding::Sent(_) => shared.line.down.look().is_none(),
             Unbinding::NotYet | Unbinding::Failed(_) | Unbinding::Unasked(_) => false,
         },
         None => false,

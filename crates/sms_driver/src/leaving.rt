@@ -4,14 +4,17 @@ ghost use Rattle.std.specs.Prelude.{◌≡◌, ◌<◌, ◌∷◌, ◌++◌, IfO
 ghost use Rattle.std.specs.List.{AllByRecursion};
 ghost use Rattle.atomic_table.specs.Seated.{TableId};
 ghost use Rattle.sms_driver.specs.BindEnds.{outcome_of, AreBinds, IsTried};
+ghost use Rattle.sms_driver.specs.Closings.{AreTold};
 ghost use Rattle.sms_driver.specs.Joined.{AreClosed, HasJoined, IsClosed};
 ghost use Rattle.sms_driver.specs.Numbered.{AllDrewOnce, DrewOnce};
 ghost use Rattle.sms_driver.specs.Seated.{windows};
 
 use crate::bind_end::{BindEnd, outcome_in};
+use crate::causes::next_closing;
 use crate::seating::{DriverSeat, SharedBind};
 use sms_bind::ReaderEnd;
 use sms_window::{Closed, Window, WindowSeat};
+use sms_worker::ClosedBy;
 use std::alloc::{AllocError, Global};
 use std::collections::VecDeque;
 
@@ -88,6 +91,7 @@ pub(crate) fn close_all<W: Drop>(
     alloc: Global,
     left: Left<W>,
     seats: Vec<WindowSeat>,
+    causes: Vec<Option<ClosedBy>>,
 ) -> Result<Vec<BindEnd>, AllocError>
     requires readers { map (λ d. d.seat.window) left.readers.items ≡ map (λ b. b.window) left.shared_binds.items }
     requires driver_seats { map (λ s. s.seat.window) left.driver_seats.items ≡ map (λ b. b.window) left.shared_binds.items }
@@ -96,6 +100,8 @@ pub(crate) fn close_all<W: Drop>(
     ensures binds { IfOk result (λ ends. AreBinds (length left.shared_binds.items) left.workers ends.items) }
     ensures outcomes { IfOk result (λ ends. map (λ b. b.reader) ends.items ≡ map outcome_of left.readers.items) }
     ensures closed { IfOk result (λ ends. AreClosed left.workers (map (λ d. d.seat.view) left.readers.items) (map (λ s. s.seat.view) left.driver_seats.items) (map (λ s. s.view) seats.items) (map (λ b. b.window) ends.items)) }
+    // Each was closed as its workers say.
+    ensures told { IfOk result (λ ends. AreTold left.workers causes.items (map (λ b. b.closing) ends.items)) }
     ensures once { IfOk result (λ _. AllDrewOnce (length left.shared_binds.items) left.workers (map (λ s. s.view) seats.items)) }
 {
     let Left {
@@ -108,17 +114,20 @@ pub(crate) fn close_all<W: Drop>(
     let mut readers = VecDeque::from(readers);
     let mut driver_seats = VecDeque::from(driver_seats);
     let mut seats = VecDeque::from(seats);
+    let mut causes = VecDeque::from(causes);
     for shared in shared_binds {
         let reader = take_first(&mut readers);
         let driver_seat = take_first(&mut driver_seats);
         let outcome = outcome_in(&reader);
         let ReaderEnd { seat: keeper, .. } = reader;
         let DriverSeat { seat, unbinding } = driver_seat;
+        let closing = next_closing(&mut causes, workers);
         let window = close_one(shared, keeper, seat, &mut seats, workers);
         ends.push(BindEnd {
             workers,
             unbinding,
             reader: outcome,
+            closing,
             window,
         })?;
     }

@@ -8,6 +8,7 @@
 
 mod bind_end;
 mod binding;
+mod causes;
 mod dealing;
 mod driver;
 mod ending;
@@ -27,7 +28,7 @@ mod thread_scope;
 mod threads;
 mod working;
 
-pub use bind_end::{BindEnd, ReaderOutcome, Unasked, Unbinding};
+pub use bind_end::{BindClosing, BindEnd, DownBy, ReaderOutcome, Unasked, Unbinding};
 pub use binding::{BindSettings, Dial};
 pub use driver::drive_all;
 pub use ending::Sending;

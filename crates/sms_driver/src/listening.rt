@@ -68,7 +68,7 @@ where
     } = reader_task;
     match latch.word(&said) {
         Word::Go => {
-            let back = read_loop(
+            let (back, _down) = read_loop(
                 rt,
                 alloc,
                 &mut reader,

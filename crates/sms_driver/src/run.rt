@@ -8,6 +8,7 @@ ghost use Rattle.sms_worker.specs.declared.message.Message.{Message};
 ghost use Rattle.rtrb.specs.Ring.{received, IsPair};
 ghost use Rattle.sms_driver.specs.Answered.{AreHeard, Hears};
 ghost use Rattle.sms_driver.specs.BindEnds.{AreBinds, IsTried};
+ghost use Rattle.sms_driver.specs.Closings.{AreExplained, SaysWhy};
 ghost use Rattle.sms_driver.specs.Deals.{dealt};
 ghost use Rattle.sms_driver.specs.Ended.{HaveEnded};
 ghost use Rattle.sms_driver.specs.Numbered.{AreBelow, AreNumbered, HasNumbers};
@@ -142,6 +143,7 @@ fn send_over<
     ensures seats { IfOk result (λ r. map (λ d. d.seat.window) r.done.items ≡ windows workers (map (λ b. b.window) shared_binds.now)) }
     ensures hears { IfOk result (λ r. AllByRecursion (λ d. Hears (received d.consumer) d.ends.items) r.done.items) }
     ensures numbers { IfOk result (λ r. AllByRecursion (λ d. HasNumbers d.seat.view d.ends.items) r.done.items) }
+    ensures say { IfOk result (λ r. AllByRecursion (λ d. SaysWhy d.closed d.ends.items) r.done.items) }
     ensures read { IfOk result (λ r. AllZip (HasRead rules.now.turns Rd.remaining) (map reading_in bind_parts.items) r.readers.items) }
     ensures rings { IfOk result (λ r. AllZip IsPair (flat (map (λ d. d.producers.items) r.readers.items)) (map (λ d. d.consumer) r.done.items)) }
     ensures readers { IfOk result (λ r. map (λ d. d.seat.window) r.readers.items ≡ map (λ b. b.window) shared_binds.now) }
@@ -227,6 +229,8 @@ pub fn run<
     ensures numbers { IfOk result (λ r. AreNumbered binds workers (dealt (binds * workers) 0 r.ends.items)) }
     // They are below the number that the bind's window would have given next.
     ensures below { IfOk result (λ r. AreBelow workers r.binds.items (dealt (binds * workers) 0 r.ends.items)) }
+    // A message was refused as bind-closed only where its bind's end tells why.
+    ensures explained { IfOk result (λ r. AreExplained workers r.binds.items (dealt (binds * workers) 0 r.ends.items)) }
     ensures rows { IfOk result (λ r. AreRows blank.credits messages.items r.ends.items r.statement) }
     ensures binds { IfOk result (λ r. AreBinds binds workers r.binds.items) }
     ensures refused { IfErr result (IsFaultOfOne binds) }

@@ -39,7 +39,7 @@ fn work<'s, N: BookName, W: Write, G: Gate, K: Clock, P: Pause, R: Wait>(
     } = task;
     match latch.word(&said) {
         Word::Go => {
-            let end = assignment.run(
+            let (end, _seen) = assignment.run(
                 context.rt,
                 context.alloc,
                 line,

@@ -2,6 +2,7 @@
 use Rattle.std.specs.Prelude.{List, [], false}
 use Rattle.std.proofs.Common.{arith}
 use Rattle.atomic_table.specs.Seated.{TableId}
+use Rattle.sms_bind.specs.declared.down.DownMark.{DownMark}
 use Rattle.sms_book.specs.Shares.{Share}
 use Rattle.sms_pdu.specs.declared.reply.Reply.{Reply}
 use Rattle.sms_window.specs.SeatState.{SeatState}
@@ -16,6 +17,8 @@ pub record Start : Type 0 where
   pub share : Share
   -- what its consumer had received
   pub received : List Reply
+  -- the mark of its bind's line
+  pub mark : DownMark
 
 abbrev pub no_table : TableId
 no_table = record { words = 0; slots = 0; views_name = 0; atom = 0; block = 0; offset = 0; slot_names = [] }
@@ -36,4 +39,5 @@ no_start = record {
   seat = record { window = no_table; view = nobody };
   share = record { number = 0; amounts = [] };
   received = [];
+  mark = record { cause = record { id = 0 } };
 }

@@ -31,7 +31,6 @@ use sms_window::{Claim, Draw, Window, WindowSeat};
 use std::alloc::Global;
 use std::io::Write;
 use std::sync::Wait;
-use std::sync::atomic::Ordering;
 
 /// What came of a try to send a segment.
 #[derive(Clone, Copy, Debug, PartialEq, Eq)]
@@ -174,7 +173,7 @@ fn post_and_send<N: BookName, W: Write, G: Gate, K: Clock, R: Wait>(
         frame,
     );
     if handed.is_some() && wire.broken() {
-        context.line.down.store(true, Ordering::SeqCst);
+        drop(context.line.down.write_failed(context.rt, &*wire));
     }
     handed
 }

@@ -26,7 +26,7 @@ fn find(opened: &[Open], number: u32) -> Option<usize>
     opened.iter().position(|open| open.number == number)
 }
 
-impl<N: BookName, C: Call> Run<N, C> {
+impl<N: BookName, C: Call> Run<'_, N, C> {
     /// Notes what the consumer has received after one more pop.
     fn note(&mut self, consumer: &Consumer<Reply>)
         requires more { (reply : Reply) × (received consumer.now ≡ self.old.heard ++ reply ∷ []) }

@@ -7,6 +7,7 @@ mod address;
 mod attempt;
 mod begin;
 mod call;
+mod closure;
 mod context;
 mod devices;
 mod ends;
@@ -28,6 +29,7 @@ mod waits;
 mod work;
 
 pub use attempt::{Number, draw};
+pub use closure::ClosedBy;
 pub use devices::{Clock, Gate, Pause};
 pub use ends::{
     Attempt, Attempts, MessageEnd, MessageRefusal, MessageResult, Outcome, SegmentEnd, Segments,

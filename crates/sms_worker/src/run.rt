@@ -1,6 +1,7 @@
 //! The state of one call of `run_worker`.
 
 use crate::call::Call;
+use crate::closure::Closing;
 use crate::ends::MessageEnd;
 use crate::message::Message;
 use crate::open::Open;
@@ -17,7 +18,7 @@ use std::snapshot::Snapshot;
 /// `opened`, `queues` and `next` say where to look; what they say is checked against the ends.
 /// Contracts see the replies that it has heard, the ends, whether the bind is closed for it, and `next`.
 #[derive(Drop)]
-pub struct Run<N: BookName, C: Call> {
+pub struct Run<'l, N: BookName, C: Call> {
     pub messages: Vec<Message>,
     pub ends: Vec<MessageEnd>,
     pub texts: Vec<Texts>,
@@ -26,8 +27,8 @@ pub struct Run<N: BookName, C: Call> {
     pub queues: Queues,
     /// The part of the last message begun that is sent next.
     pub next: usize,
-    /// Whether the line was seen down, or is taken as down. It stays so.
-    pub closed: bool,
+    /// Whether the line was seen down, or the turns are over.
+    pub closed: Closing<'l, C>,
     pub seat: WindowSeat,
     pub shares: Shares<N>,
     /// The consumer as it was after the last pop.
@@ -35,7 +36,7 @@ pub struct Run<N: BookName, C: Call> {
     pub of: PhantomData<C>,
 }
 
-impl<N: BookName, C: Call> Model for Run<N, C> {
+impl<'l, N: BookName, C: Call> Model for Run<'l, N, C> {
     ghost use Rattle.std.specs.Prelude.{◌≤◌, map, vec_len, vec_capacity};
     ghost use Rattle.rtrb.specs.Ring.{received};
     ghost use Rattle.sms_worker.specs.RunState.{RunState};

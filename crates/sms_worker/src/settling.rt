@@ -74,7 +74,7 @@ fn tell_fate<G: Gate>(gate: &G, worker: usize, end: &MessageEnd) {
     }
 }
 
-impl<N: BookName, C: Call> Run<N, C> {
+impl<N: BookName, C: Call> Run<'_, N, C> {
     /// Gives up the segment at the place, if it waits. Its part isn't needed then.
     pub(crate) fn give_up<W, G, K, R: Wait>(
         &mut self,
@@ -284,6 +284,7 @@ impl<N: BookName, C: Call> Run<N, C> {
         if place >= self.messages.len() {
             return false;
         }
+        let down = self.closed.is_closed();
         let message = &self.messages[place];
         let (texts, end) = begun(
             context.rt,
@@ -291,7 +292,7 @@ impl<N: BookName, C: Call> Run<N, C> {
             context.book,
             context.rules,
             &mut self.shares,
-            self.closed,
+            down,
             message,
         );
         tell_fate(context.gate, context.worker, &end);

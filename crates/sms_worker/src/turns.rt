@@ -21,7 +21,6 @@ use sms_book::BookName;
 use sms_pdu::Reply;
 use std::io::Write;
 use std::sync::Wait;
-use std::sync::atomic::Ordering;
 
 /// How many starts a turn makes at the most. What is left then is for the next turn, which comes at
 /// once.
@@ -69,7 +68,7 @@ fn has_ended(down: bool, waiting: usize, to_send: bool) -> bool
     waiting == 0 && (down || !to_send)
 }
 
-impl<N: BookName, C: Call> Run<N, C> {
+impl<N: BookName, C: Call> Run<'_, N, C> {
     // How many segments a message has.
     fn count(&self, message: usize) -> usize
         ensures within { (q : ℕ) (s : SegmentEnd) → segment_at self.now.ends message q ≡ Some s → q < result }
@@ -127,25 +126,21 @@ impl<N: BookName, C: Call> Run<N, C> {
     }
 
     // Whether the line is down, or was when it was looked at before.
-    fn sees_closed<W, G, K, R>(&mut self, context: &WorkerContext<N, W, G, K, R>) -> bool
+    fn sees_closed(&mut self) -> bool
         ensures is { result ≡ self.new.closed }
         ensures stays { IsTrue self.old.closed → IsTrue self.new.closed }
         ensures same { (self.new.heard ≡ self.old.heard) × (self.new.ends ≡ self.old.ends) }
     {
-        if self.closed {
-            return true;
-        }
-        let down = context.line.down.load(Ordering::SeqCst);
-        self.closed = down;
-        down
+        self.closed.look()
     }
 
-    // From now on the line is taken as down.
-    fn close_line(&mut self)
+    // All turns are taken: from now on the line is taken as down.
+    fn close_line(&mut self, taken: u64)
+        requires all { taken ≡ C.start.rules.turns }
         ensures closed { IsTrue self.new.closed }
         ensures same { (self.new.heard ≡ self.old.heard) × (self.new.ends ≡ self.old.ends) }
     {
-        self.closed = true;
+        self.closed.turns_are_over(taken);
     }
 
     // Starts an attempt, or begins a message. Where the line is down by now a message is refused, and what
@@ -159,7 +154,7 @@ impl<N: BookName, C: Call> Run<N, C> {
         requires rules { context.now.rules.now ≡ C.start.rules }
         ensures heard { self.new.heard ≡ self.old.heard }
     {
-        let closed = self.sees_closed(context);
+        let closed = self.sees_closed();
         let Some((place, source)) = self.next_place(now_ms) else {
             if self.begin(context) {
                 return Started::One;
@@ -262,7 +257,7 @@ impl<N: BookName, C: Call> Run<N, C> {
         ensures heard { self.new.heard ≡ received consumer.new }
     {
         let heard = self.hear(context, consumer);
-        let down = self.sees_closed(context);
+        let down = self.sees_closed();
         let expired = self.expire(context, down);
         let started = self.start_or_sweep(context, down);
         context
@@ -279,7 +274,8 @@ impl<N: BookName, C: Call> Run<N, C> {
         true
     }
 
-    // Takes turns until nothing is left to do, at most as many as the rules say.
+    // Takes turns until nothing is left to do, at most as many as the rules say. Where they are over the line
+    // is taken as down.
     pub(crate) fn take_turns<W: Write, G: Gate, K: Clock, P: Pause, R: Wait>(
         &mut self,
         context: &WorkerContext<N, W, G, K, R>,
@@ -292,11 +288,14 @@ impl<N: BookName, C: Call> Run<N, C> {
         ensures ring { SameConsumer consumer.old consumer.new }
         ensures heard { self.new.heard ≡ received consumer.new }
     {
-        for _ in 0..context.rules.turns {
+        let mut taken = 0;
+        for _turn in 0..context.rules.turns {
             if !self.turn(context, pause, consumer) {
                 return;
             }
+            taken += 1;
         }
+        self.close_line(taken);
     }
 
     // Starts attempts, or gives up all that wait where the line is down.
@@ -348,7 +347,6 @@ impl<N: BookName, C: Call> Run<N, C> {
         ensures all { length self.new.ends ≡ length C.start.messages }
         ensures settled { SettledTo C.start.rules.policy.attempts (length C.start.messages) 0 self.new.ends }
     {
-        self.close_line();
         self.expire(context, true);
         self.hear(context, consumer);
         self.refuse_rest(context);

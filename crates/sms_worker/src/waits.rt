@@ -25,7 +25,7 @@ fn time_left(since_ms: u64, now_ms: u64, limit_ms: u64) -> u64
     limit_ms.saturating_sub(now_ms.saturating_sub(since_ms))
 }
 
-impl<N: BookName, C: Call> Run<N, C> {
+impl<N: BookName, C: Call> Run<'_, N, C> {
     // How long it is until the first open request has waited for too long.
     fn answer_in(&self, answer_ms: u32, now_ms: u64) -> u64 {
         match self.opened.as_slice().first() {

@@ -1,12 +1,12 @@
 //! One call of a worker.
 
-ghost use Rattle.std.specs.Prelude.{◌≡◌, ℕ, ◌+◌, ◌<◌, ◌≤◌, ◌++◌, List, [], Some, false, length, vec_len, vec_capacity, IfOk, IfErr};
+ghost use Rattle.std.specs.Prelude.{◌≡◌, ℕ, ◌+◌, ◌<◌, ◌≤◌, ◌++◌, List, [], None, Some, false, length, vec_len, vec_capacity, IfOk, IfErr};
 ghost use Rattle.rtrb.specs.Ring.{received, SameConsumer};
 ghost use Rattle.sms_window.specs.OpenSlots.{IsOpen};
 ghost use Rattle.sms_window.specs.Drawing.{HasDrawn};
 ghost use Rattle.sms_worker.specs.Keeps.{slots_of};
 ghost use Rattle.std.specs.List.{AllZip};
-ghost use Rattle.sms_worker.specs.Closing.{StaysClosed};
+ghost use Rattle.sms_worker.specs.Closing.{IsSeen, NoneIsClosed, StaysClosed};
 ghost use Rattle.sms_worker.specs.EndOf.{IsEndOf};
 ghost use Rattle.sms_worker.specs.Apart.{NumbersApart, PlacesApart};
 ghost use Rattle.sms_worker.specs.Rising.{FirstsRise};
@@ -14,6 +14,7 @@ ghost use Rattle.sms_worker.specs.Told.{AllTold, AreEnds, Drew, Grew};
 ghost use Rattle.sms_pdu.specs.declared.reply.Reply.{Reply};
 
 use crate::call::Call;
+use crate::closure::{ClosedBy, Closing};
 use crate::context::WorkerContext;
 use crate::devices::{Clock, Gate, Pause};
 use crate::ends::MessageEnd;
@@ -24,7 +25,7 @@ use crate::ready::{Lists, ReadyWorker};
 use crate::rules::Rules;
 use crate::run::Run;
 use rtrb::Consumer;
-use sms_bind::Line;
+use sms_bind::{Down, DownMark, Line};
 use sms_book::{Book, BookName, Shares};
 use sms_pdu::Reply;
 use sms_window::{Window, WindowSeat};
@@ -52,6 +53,8 @@ pub struct WorkerEnd<N: BookName> {
     pub shares: Shares<N>,
     pub consumer: Consumer<Reply>,
     pub ends: Vec<MessageEnd>,
+    /// Why messages were refused as bind-closed, where some were.
+    pub closed: Option<ClosedBy>,
 }
 
 // Gives back whatever slots are open still. Each was answered, and the ring didn't show its answer: it
@@ -73,47 +76,57 @@ fn release_all<N: BookName, W, G, K, R: Wait>(
     }
 }
 
-// Ends a run.
-fn into_end<N: BookName, W, G, K, R: Wait, C: Call>(
+// Ends a run. Where it saw the line down, that is put into `seen`.
+fn into_end<'l, N: BookName, W, G, K, R: Wait, C: Call>(
     context: &WorkerContext<N, W, G, K, R>,
-    run: Run<N, C>,
+    run: Run<'l, N, C>,
     consumer: Consumer<Reply>,
+    seen: &mut Option<Down<'l>>,
 ) -> WorkerEnd<N>
     requires window { context.now.window.now ≡ C.start.seat.window }
-    ensures ends { result.ends.items ≡ run.ends }
-    ensures closed { StaysClosed run.ends }
-    ensures rising { FirstsRise run.ends }
+    ensures ends { result.ends.items ≡ run.entry.ends }
+    ensures closed { StaysClosed run.entry.ends }
+    ensures why { result.closed ≡ None → NoneIsClosed run.entry.ends }
+    ensures seen { IsSeen C.start.mark result.closed seen.new }
+    ensures rising { FirstsRise run.entry.ends }
     ensures consumer { result.consumer ≡ consumer }
-    ensures shape { AreEnds C.start.rules (length C.start.share.amounts) C.start.messages run.ends }
-    ensures told { AllTold C.start.rules (length C.start.received) run.heard C.start.messages run.ends }
-    ensures numbers { Drew C.start.seat.view result.seat.view C.start.messages run.ends }
-    ensures credits { Grew C.start.share.amounts result.shares.amounts C.start.messages run.ends }
+    ensures shape { AreEnds C.start.rules (length C.start.share.amounts) C.start.messages run.entry.ends }
+    ensures told { AllTold C.start.rules (length C.start.received) run.entry.heard C.start.messages run.entry.ends }
+    ensures numbers { Drew C.start.seat.view result.seat.view C.start.messages run.entry.ends }
+    ensures credits { Grew C.start.share.amounts result.shares.amounts C.start.messages run.entry.ends }
     ensures slots { (result.seat.view.slots ≡ C.start.seat.view.slots) × (result.seat.window ≡ C.start.seat.window) }
     ensures number { result.shares.number ≡ C.start.share.number }
-    ensures heard { (rest : List Reply) × (run.heard ≡ C.start.received ++ rest) }
+    ensures heard { (rest : List Reply) × (run.entry.heard ≡ C.start.received ++ rest) }
 {
     let Run {
         ends,
         mut seat,
         shares,
         opened,
+        closed,
         ..
     } = run;
     release_all(context, &mut seat, opened);
+    let (closed, down) = closed.told();
+    *seen = down;
     WorkerEnd {
         seat,
         shares,
         consumer,
         ends,
+        closed,
     }
 }
 
-fn work<N: BookName, W: Write, G: Gate, K: Clock, P: Pause, R: Wait, C: Call>(
+// Sends the messages at a line of this mark. Where it was seen down, that is put into `seen`.
+fn work<'l, N: BookName, W: Write, G: Gate, K: Clock, P: Pause, R: Wait, C: Call>(
     context: &WorkerContext<N, W, G, K, R>,
+    mark: &'l DownMark,
     pause: &P,
     worker: Worker<N>,
     messages: Vec<Message>,
     lists: Lists,
+    seen: &mut Option<Down<'l>>,
 ) -> WorkerEnd<N>
     requires window { context.now.window.now ≡ C.start.seat.window }
     requires rules { context.now.rules.now ≡ C.start.rules }
@@ -121,6 +134,7 @@ fn work<N: BookName, W: Write, G: Gate, K: Clock, P: Pause, R: Wait, C: Call>(
     requires seat { worker.seat ≡ C.start.seat }
     requires share { worker.shares ≡ C.start.share }
     requires received { received worker.consumer ≡ C.start.received }
+    requires mark { mark.now ≡ C.start.mark }
     requires no_ends { lists.ends.items ≡ [] }
     requires no_texts { lists.texts.items ≡ [] }
     requires none_opened { lists.opened.items ≡ [] }
@@ -128,6 +142,8 @@ fn work<N: BookName, W: Write, G: Gate, K: Clock, P: Pause, R: Wait, C: Call>(
     requires texts_fit { vec_len messages ≤ vec_capacity lists.texts }
     ensures each { AllZip (IsEndOf C.start.rules (length C.start.share.amounts)) C.start.messages result.ends.items }
     ensures closed { StaysClosed result.ends.items }
+    ensures why { result.closed ≡ None → NoneIsClosed result.ends.items }
+    ensures seen { IsSeen C.start.mark result.closed seen.new }
     ensures rising { FirstsRise result.ends.items }
     ensures told { AllTold C.start.rules (length C.start.received) (received result.consumer) C.start.messages result.ends.items }
     ensures numbers { Drew C.start.seat.view result.seat.view C.start.messages result.ends.items }
@@ -152,14 +168,14 @@ fn work<N: BookName, W: Write, G: Gate, K: Clock, P: Pause, R: Wait, C: Call>(
     } = lists;
     let heard = Snapshot::of(&consumer);
     let mut consumer = consumer;
-    let mut run: Run<N, C> = Run {
+    let mut run: Run<'_, N, C> = Run {
         messages,
         ends,
         texts,
         opened,
         queues: Queues::none(),
         next: 0,
-        closed: false,
+        closed: Closing::not_yet(mark),
         seat,
         shares,
         heard,
@@ -167,7 +183,7 @@ fn work<N: BookName, W: Write, G: Gate, K: Clock, P: Pause, R: Wait, C: Call>(
     };
     run.take_turns(context, pause, &mut consumer);
     run.finish(context, &mut consumer);
-    let end = into_end(context, run, consumer);
+    let end = into_end(context, run, consumer, seen);
     context.gate.see_last(context.worker, end.ends.as_slice());
     end
 }
@@ -175,37 +191,41 @@ fn work<N: BookName, W: Write, G: Gate, K: Clock, P: Pause, R: Wait, C: Call>(
 impl<N: BookName> ReadyWorker<N> {
     /// Sends the messages in order, in at most so many turns. Each message has one end, in order; each
     /// segment was settled by the last of its attempts; the share grew by the sums over the ends; the
-    /// seat holds what it held. A step that finds no memory gives up its segment or its message alone.
-    pub fn run<W: Write, G: Gate, K: Clock, P: Pause, R: Wait>(
+    /// seat holds what it held. A step that finds no memory gives up its segment or its message alone. Beside
+    /// the end it gives that the line was seen down, where that closed the bind.
+    pub fn run<'l, W: Write, G: Gate, K: Clock, P: Pause, R: Wait>(
         self,
         rt: &R,
         alloc: Global,
-        line: &Line<W>,
+        line: &'l Line<W>,
         window: &Window,
         book: &Mutex<Book<N>>,
         rules: &Rules,
         gate: &G,
         clock: &K,
         pause: &P,
-    ) -> WorkerEnd<N>
+    ) -> (WorkerEnd<N>, Option<Down<'l>>)
         requires own { self.worker.seat.window ≡ window.now }
         requires room { rules.now.depth ≤ self.room }
         // Each message has its end, in order: its result, and of each of its parts the cost, the receipts and the outcome.
-        ensures each { AllZip (IsEndOf rules.now (length self.worker.shares.amounts)) self.messages result.ends.items }
+        ensures each { AllZip (IsEndOf rules.now (length self.worker.shares.amounts)) self.messages result.0.ends.items }
         // Once the bind was closed for a message, it was closed for all behind it.
-        ensures closed { StaysClosed result.ends.items }
+        ensures closed { StaysClosed result.0.ends.items }
+        // It was closed for a cause: the line was seen down, which all see for that cause, or the turns were over.
+        ensures why { result.0.closed ≡ None → NoneIsClosed result.0.ends.items }
+        ensures seen { IsSeen line.now.down result.0.closed result.1 }
         // Segments are sent for the first time in the order in which they stand.
-        ensures rising { FirstsRise result.ends.items }
+        ensures rising { FirstsRise result.0.ends.items }
         // Each answer was received in this call.
-        ensures answers { AllTold rules.now (length (received self.worker.consumer)) (received result.consumer) self.messages result.ends.items }
-        ensures numbers { Drew self.worker.seat.view result.seat.view self.messages result.ends.items }
-        ensures apart { NumbersApart result.ends.items }
-        ensures places { PlacesApart (received result.consumer) result.ends.items }
-        ensures credits { Grew self.worker.shares.amounts result.shares.amounts self.messages result.ends.items }
-        ensures slots { (result.seat.view.slots ≡ self.worker.seat.view.slots) × (result.seat.window ≡ self.worker.seat.window) }
-        ensures number { result.shares.number ≡ self.worker.shares.number }
-        ensures ring { SameConsumer self.worker.consumer result.consumer }
-        ensures heard { (rest : List Reply) × (received result.consumer ≡ received self.worker.consumer ++ rest) }
+        ensures answers { AllTold rules.now (length (received self.worker.consumer)) (received result.0.consumer) self.messages result.0.ends.items }
+        ensures numbers { Drew self.worker.seat.view result.0.seat.view self.messages result.0.ends.items }
+        ensures apart { NumbersApart result.0.ends.items }
+        ensures places { PlacesApart (received result.0.consumer) result.0.ends.items }
+        ensures credits { Grew self.worker.shares.amounts result.0.shares.amounts self.messages result.0.ends.items }
+        ensures slots { (result.0.seat.view.slots ≡ self.worker.seat.view.slots) × (result.0.seat.window ≡ self.worker.seat.window) }
+        ensures number { result.0.shares.number ≡ self.worker.shares.number }
+        ensures ring { SameConsumer self.worker.consumer result.0.consumer }
+        ensures heard { (rest : List Reply) × (received result.0.consumer ≡ received self.worker.consumer ++ rest) }
     {
         let ReadyWorker {
             worker,
@@ -224,41 +244,48 @@ impl<N: BookName> ReadyWorker<N> {
             worker: worker.index,
             place: worker.place,
         };
-        work::<N, W, G, K, P, R, Brand>(&context, pause, worker, messages, lists)
+        let mut seen = None;
+        let end = work::<N, W, G, K, P, R, Brand>(
+            &context, &line.down, pause, worker, messages, lists, &mut seen,
+        );
+        (end, seen)
     }
 }
 
 /// Makes a worker ready and runs it. Where memory is refused before the first step, all is handed back.
-pub fn run_worker<N: BookName, W: Write, G: Gate, K: Clock, P: Pause, R: Wait>(
+pub fn run_worker<'l, N: BookName, W: Write, G: Gate, K: Clock, P: Pause, R: Wait>(
     rt: &R,
     alloc: Global,
     worker: Worker<N>,
     messages: Vec<Message>,
-    line: &Line<W>,
+    line: &'l Line<W>,
     window: &Window,
     book: &Mutex<Book<N>>,
     rules: &Rules,
     gate: &G,
     clock: &K,
     pause: &P,
-) -> Result<WorkerEnd<N>, (AllocError, Worker<N>, Vec<Message>)>
+) -> Result<(WorkerEnd<N>, Option<Down<'l>>), (AllocError, Worker<N>, Vec<Message>)>
     requires own { worker.seat.window ≡ window.now }
     // Each message has its end, in order: its result, and of each of its parts the cost, the receipts and the outcome.
-    ensures each { IfOk result (λ d. AllZip (IsEndOf rules.now (length worker.shares.amounts)) messages.items d.ends.items) }
+    ensures each { IfOk result (λ d. AllZip (IsEndOf rules.now (length worker.shares.amounts)) messages.items d.0.ends.items) }
     // Once the bind was closed for a message, it was closed for all behind it.
-    ensures closed { IfOk result (λ d. StaysClosed d.ends.items) }
+    ensures closed { IfOk result (λ d. StaysClosed d.0.ends.items) }
+    // It was closed for a cause: the line was seen down, which all see for that cause, or the turns were over.
+    ensures why { IfOk result (λ d. d.0.closed ≡ None → NoneIsClosed d.0.ends.items) }
+    ensures seen { IfOk result (λ d. IsSeen line.now.down d.0.closed d.1) }
     // Segments are sent for the first time in the order in which they stand.
-    ensures rising { IfOk result (λ d. FirstsRise d.ends.items) }
+    ensures rising { IfOk result (λ d. FirstsRise d.0.ends.items) }
     // Each answer was received in this call.
-    ensures answers { IfOk result (λ d. AllTold rules.now (length (received worker.consumer)) (received d.consumer) messages.items d.ends.items) }
-    ensures numbers { IfOk result (λ d. Drew worker.seat.view d.seat.view messages.items d.ends.items) }
-    ensures apart { IfOk result (λ d. NumbersApart d.ends.items) }
-    ensures places { IfOk result (λ d. PlacesApart (received d.consumer) d.ends.items) }
-    ensures credits { IfOk result (λ d. Grew worker.shares.amounts d.shares.amounts messages.items d.ends.items) }
-    ensures slots { IfOk result (λ d. (d.seat.view.slots ≡ worker.seat.view.slots) × (d.seat.window ≡ worker.seat.window)) }
-    ensures number { IfOk result (λ d. d.shares.number ≡ worker.shares.number) }
-    ensures ring { IfOk result (λ d. SameConsumer worker.consumer d.consumer) }
-    ensures heard { IfOk result (λ d. (rest : List Reply) × (received d.consumer ≡ received worker.consumer ++ rest)) }
+    ensures answers { IfOk result (λ d. AllTold rules.now (length (received worker.consumer)) (received d.0.consumer) messages.items d.0.ends.items) }
+    ensures numbers { IfOk result (λ d. Drew worker.seat.view d.0.seat.view messages.items d.0.ends.items) }
+    ensures apart { IfOk result (λ d. NumbersApart d.0.ends.items) }
+    ensures places { IfOk result (λ d. PlacesApart (received d.0.consumer) d.0.ends.items) }
+    ensures credits { IfOk result (λ d. Grew worker.shares.amounts d.0.shares.amounts messages.items d.0.ends.items) }
+    ensures slots { IfOk result (λ d. (d.0.seat.view.slots ≡ worker.seat.view.slots) × (d.0.seat.window ≡ worker.seat.window)) }
+    ensures number { IfOk result (λ d. d.0.shares.number ≡ worker.shares.number) }
+    ensures ring { IfOk result (λ d. SameConsumer worker.consumer d.0.consumer) }
+    ensures heard { IfOk result (λ d. (rest : List Reply) × (received d.0.consumer ≡ received worker.consumer ++ rest)) }
     ensures refused { IfErr result (λ e. (e.1 ≡ worker) × (e.2.items ≡ messages.items)) }
 {
     match ReadyWorker::new(alloc, worker, messages, rules) {

@@ -2,7 +2,7 @@
 
 ghost use Rattle.std.specs.Prelude.{◌≡◌, IfSome};
 
-use self::beside::{Beside, line_with_fuse};
+use self::beside::{Beside, bring_down, line_with_fuse};
 use self::notes::{Log, Note, want_told};
 use rtrb::{Consumer, Producer, RingBuffer};
 use sms_bind::Line;
@@ -12,15 +12,14 @@ use sms_pdu::Reply;
 use sms_session::Policy;
 use sms_window::{Window, WindowSeat};
 use sms_worker::{
-    Attempt, Clock, Gate, Message, MessageEnd, MessageRefusal, MessageResult, Outcome, Pause,
-    Rules, SegmentEnd, Worker, run_worker,
+    Attempt, Clock, ClosedBy, Gate, Message, MessageEnd, MessageRefusal, MessageResult, Outcome,
+    Pause, Rules, SegmentEnd, Worker, run_worker,
 };
 use std::alloc::{AllocError, Global};
 use std::fmt::Debug;
 use std::io::Write;
 use std::marker::Brand;
 use std::process::Abort;
-use std::sync::atomic::Ordering;
 use std::sync::{Mutex, Wait};
 
 mod answered;
@@ -119,6 +118,7 @@ const PLAIN: Case<'static> = Case {
 #[derive(Drop)]
 struct Done {
     ends: Vec<MessageEnd>,
+    closed: Option<ClosedBy>,
     row: Row,
     /// What was told meanwhile; nothing where memory was refused for it.
     notes: Vec<Note>,
@@ -260,11 +260,12 @@ fn sends<N: BookName, W: Write, B: Gate + Clock + Pause, R: Abort + Wait>(
     match run_worker(
         rt, alloc, worker, messages, line, window, book, rules, beside, beside, beside,
     ) {
-        Ok(mut end) => {
+        Ok((mut end, _seen)) => {
             let row = book.lock(rt).look(&mut end.shares, 0)?;
             let notes = notes_of(rt, alloc, log, end.ends.as_slice());
             Some(Done {
                 ends: end.ends,
+                closed: end.closed,
                 row,
                 notes,
             })
@@ -292,7 +293,9 @@ fn works<N: BookName, R: Abort + Wait>(
     producers.push(producer).ok()?;
     let log = Log::new(alloc);
     let line = line_with_fuse(alloc, case.room, &log)?;
-    line.down.store(case.down, Ordering::SeqCst);
+    if case.down {
+        bring_down(rt, alloc, &line.down);
+    }
     let beside = Beside::new(rt, alloc, &line, producers, case, &log);
     let Ok((book, _till, mut all)) = blank.open::<N>(alloc) else {
         return None;

@@ -46,7 +46,7 @@ fn throttling_is_followed(rt: HostRuntime) -> Result<(), Fail> {
         };
         let bound = bound_as(&rt, alloc, Mode::Transmitter);
         let mut reader = source_of(0, octets.as_slice(), false);
-        let end = read_loop(
+        let (end, _down) = read_loop(
             &rt,
             alloc,
             &mut reader,
@@ -98,7 +98,7 @@ fn throttling_beside_a_worker(rt: HostRuntime) -> Result<(), Fail> {
     claim(&rt, &window, &mut worker, 2);
     let bound = bound_as(&rt, alloc, Mode::Transmitter);
     let mut reader = source_of(0, octets.as_slice(), false);
-    let end = read_loop(
+    let (end, _down) = read_loop(
         &rt,
         alloc,
         &mut reader,

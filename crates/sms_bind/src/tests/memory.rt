@@ -13,7 +13,6 @@ use sms_slot::SlotRow;
 use sms_window::Window;
 use std::alloc::{AllocError, Global};
 use std::process::Abort;
-use std::sync::atomic::Ordering;
 
 // A wire that needs no memory for its first 100 octets.
 fn wire_of(alloc: Global) -> Result<Wire<Sink>, AllocError> {
@@ -99,7 +98,7 @@ fn memory_of_a_reader(rt: HostRuntime) {
     producers.push_reserved(producer);
     let bound = bound_as(&rt, alloc, Mode::Transceiver);
     let mut reader = source_of(0, STREAM, true);
-    let end = read_loop(
+    let (end, down) = read_loop(
         &rt,
         alloc,
         &mut reader,
@@ -111,7 +110,8 @@ fn memory_of_a_reader(rt: HostRuntime) {
         Some(4),
         10,
     );
-    assert!(rt; line.down.load(Ordering::SeqCst));
+    assert!(rt; down.is_ok());
+    drop(down);
     same(&rt, end.producers.len(), 1);
     same(
         &rt,

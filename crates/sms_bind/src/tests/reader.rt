@@ -1,10 +1,11 @@
 //! The reader of a bind over devices in memory.
 
 ghost use Rattle.std.specs.Prelude.{◌≤◌};
+ghost use Rattle.sms_bind.specs.Downs.{IsDownAt};
 ghost use Rattle.sms_core.specs.Limits.{most_slots};
 
-use super::{ACCEPTED, ENQUIRE_LINK, Sink, Source, bound_by, same, source_of, wire_to};
-use crate::{Bound, Line, ReaderCause, ReaderEnd, read_loop};
+use super::{ACCEPTED, ENQUIRE_LINK, Sink, Source, bound_by, frame, same, source_of, wire_to};
+use crate::{Bound, Down, DownCause, Line, ReaderCause, ReaderEnd, read_loop};
 use rtrb::{Consumer, Producer, RingBuffer};
 use sms_pdu::{
     BIND_TRANSCEIVER_RESP, BIND_TRANSMITTER_RESP, Framer, Frames, Header, Mode, Reply, Tap,
@@ -59,7 +60,7 @@ pub(crate) fn line_of<S: Abort + Wait>(
         same(rt, slots.post(rt, slot, 0, slot + 1), Ok(()));
     }
     let line = Line::new(slots, wire_to(room, Vec::new(alloc)));
-    assert!(rt; !line.down.load(Ordering::SeqCst));
+    assert!(rt; line.down.look().is_none());
     assert!(rt; !line.stop.load(Ordering::SeqCst));
     line
 }
@@ -91,7 +92,7 @@ pub(crate) fn read_from<S: Abort + Wait>(
     let Ok((window, seat)) = Window::make(alloc, 4) else {
         panic!(rt; "no window")
     };
-    read_loop(
+    let (end, down) = read_loop(
         rt,
         alloc,
         &mut reader,
@@ -102,7 +103,22 @@ pub(crate) fn read_from<S: Abort + Wait>(
         seat,
         None,
         10,
-    )
+    );
+    if let Ok(down) = down {
+        want_down(rt, line, &down, DownCause::Reader(end.cause));
+    }
+    end
+}
+
+// The line is down for this cause, for all that look at it.
+fn want_down<'l>(rt: &impl Abort, line: &'l Line<Sink>, down: &Down<'l>, wanted: DownCause)
+    requires { IsDownAt line.now.down down.now }
+{
+    let Some(seen) = line.down.look() else {
+        panic!(rt; "not down")
+    };
+    same(rt, line.down.cause(down), wanted);
+    same(rt, line.down.cause(&seen), wanted);
 }
 
 pub(crate) fn counts(end: &ReaderEnd) -> [u64; 7] {
@@ -119,7 +135,7 @@ pub(crate) fn counts(end: &ReaderEnd) -> [u64; 7] {
 
 // What stands in the line at the end: it is down, and these octets were written.
 pub(crate) fn want_written(rt: &impl Abort, line: Line<Sink>, wanted: &[u8]) {
-    assert!(rt; line.down.load(Ordering::SeqCst));
+    assert!(rt; line.down.look().is_some());
     let Line {
         slots: _,
         wire,
@@ -334,5 +350,27 @@ fn readers_that_end_early(rt: HostRuntime) -> Result<(), Fail> {
         };
         want_written(&rt, line, written);
     }
+    Ok(())
+}
+
+// The first cause stands: of a wire that breaks, and not of the reader that ends behind it.
+#[test]
+fn the_first_cause_stands(rt: HostRuntime) -> Result<(), Fail> {
+    let alloc = rt.alloc();
+    let line = line_of(&rt, alloc, 0, 0);
+    let mut broken = wire_to(0, Vec::new(alloc));
+    drop(broken.send(frame(alloc, ENQUIRE_LINK)?));
+    if !broken.broken() {
+        return Err("it isn't broken".into());
+    }
+    let Ok(down) = line.down.write_failed(&rt, &broken) else {
+        panic!(&rt; "down before")
+    };
+    want_down(&rt, &line, &down, DownCause::Write);
+    let bound = bound_as(&rt, alloc, Mode::Transmitter);
+    let source = source_of(0, b"", false);
+    let end = read_from(&rt, alloc, source, bound, Vec::new(alloc), &line);
+    same(&rt, end.cause, ReaderCause::Ended);
+    want_down(&rt, &line, &down, DownCause::Write);
     Ok(())
 }

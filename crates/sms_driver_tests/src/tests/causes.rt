@@ -4,8 +4,8 @@ use super::driving::{Beside, bind_settings, messages, rules};
 use super::same::same;
 use sms_bind::ReaderCause;
 use sms_book::Opening;
-use sms_driver::{Dial, drive_all};
-use sms_worker::Rules;
+use sms_driver::{BindClosing, Dial, DownBy, Sending, drive_all};
+use sms_worker::{MessageRefusal, MessageResult, Rules};
 use std::alloc::{AllocError, Global};
 use std::test::Fail;
 use std::thread::Threads;
@@ -112,12 +112,39 @@ fn rules_with(alloc: Global, turns: u16, answer_ms: u32) -> Result<Rules, AllocE
     Ok(rules)
 }
 
-// How the reader of the one bind of a sending of one message ended.
-fn cause_of<R: Threads + sync::Wait + time::Clock + Sync>(
+// How the reader of the one bind of a sending ended, why the bind was closed to its worker, and how many
+// messages were refused for that.
+#[derive(Drop)]
+struct Told {
+    cause: ReaderCause,
+    closing: BindClosing,
+    refused: usize,
+}
+
+fn told_of(sending: &Sending) -> Result<Told, Fail> {
+    let Some(bind) = sending.binds.first() else {
+        return Err(Fail::new("no bind"));
+    };
+    let mut refused = 0usize;
+    for end in &sending.ends {
+        if let MessageResult::Refused(MessageRefusal::BindClosed) = end.result {
+            refused = refused.saturating_add(1);
+        }
+    }
+    Ok(Told {
+        cause: bind.reader.cause,
+        closing: bind.closing,
+        refused,
+    })
+}
+
+// What is told of a sending of so many messages over one bind.
+fn told<R: Threads + sync::Wait + time::Clock + Sync>(
     rt: &R,
     alloc: Global,
     ending: Ending<'_>,
-) -> Result<ReaderCause, Fail> {
+    count: u64,
+) -> Result<Told, Fail> {
     let mut openings = Vec::new(alloc);
     openings.push(Opening {
         name: String::from_str(alloc, "main")?,
@@ -134,17 +161,14 @@ fn cause_of<R: Threads + sync::Wait + time::Clock + Sync>(
         &bind_settings,
         &rules,
         openings.as_slice(),
-        messages(alloc, 1)?,
+        messages(alloc, count)?,
         &One { rt, ending },
         &beside,
         &beside,
         &beside,
     );
     match driven {
-        Ok(sending) => match sending.binds.first() {
-            Some(bind) => Ok(bind.reader.cause),
-            None => Err(Fail::new("no bind")),
-        },
+        Ok(sending) => told_of(&sending),
         Err(fault) => Err(Fail::new(fault)),
     }
 }
@@ -228,7 +252,28 @@ const ENDINGS: [Ending<'static>; 7] = [
 #[test]
 fn each_cause_is_told(rt: HostRuntime) -> Result<(), Fail> {
     for ending in &ENDINGS {
-        same(&rt, cause_of(&rt, rt.alloc(), *ending)?, ending.cause);
+        same(&rt, told(&rt, rt.alloc(), *ending, 1)?.cause, ending.cause);
     }
+    Ok(())
+}
+
+// A bind that takes nothing but its bind, and of which nothing comes: the first write fails.
+#[test]
+fn a_write_that_fails_closes_its_bind(rt: HostRuntime) -> Result<(), Fail> {
+    let ending = Ending {
+        sends: BOUND,
+        then: Then::Waits,
+        room: BIND,
+        turns: 20_000,
+        answer_ms: 1_000,
+        cause: ReaderCause::Stopped,
+    };
+    let told = told(&rt, rt.alloc(), ending, 3)?;
+    same(&rt, told.cause, ending.cause);
+    let wanted = BindClosing {
+        down: Some(DownBy::Write),
+        turns_over: false,
+    };
+    same(&rt, (told.closing, told.refused), (wanted, 2));
     Ok(())
 }

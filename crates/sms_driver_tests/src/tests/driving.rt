@@ -5,7 +5,7 @@ use sms_bind::Settings;
 use sms_book::{Opening, Statement, Tariff};
 use sms_centre::{Pipe, PipeEnd, Script, ServeCause, ServeEnd, serve};
 use sms_driver::{
-    BindEnd, BindFailure, BindSettings, Dial, SendFault, Sending, Unbinding, drive_all,
+    BindClosing, BindEnd, BindFailure, BindSettings, Dial, SendFault, Sending, Unbinding, drive_all,
 };
 use sms_pdu::{Mode, Octets, Tap};
 use sms_session::Policy;
@@ -233,9 +233,16 @@ const HANGS_UP: &str = "hangs up";
 
 const REFUSES: &str = "bind_status = 14\nanswers = [\"status 0\"]";
 
-// That a bind had so many workers and was unbound.
+// That no worker found a bind closed.
+const OPEN: BindClosing = BindClosing {
+    down: None,
+    turns_over: false,
+};
+
+// That a bind had so many workers, was open to them, and was unbound.
 pub(super) fn want_unbound(rt: &impl Abort, bind: &BindEnd, workers: usize) {
     same(rt, bind.workers, workers);
+    same(rt, bind.closing, OPEN);
     match bind.unbinding {
         Unbinding::Sent(_) => {}
         Unbinding::NotYet | Unbinding::Failed(_) | Unbinding::Unasked(_) => {

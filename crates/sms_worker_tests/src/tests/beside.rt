@@ -5,8 +5,8 @@ use super::centre::{answer_of, nack_of, status_of};
 use super::notes::{Log, Note};
 use super::{Case, NACK, SILENT};
 use rtrb::Producer;
-use sms_bind::{Line, Wire};
-use sms_pdu::{Reply, SUBMIT_SM, Tap, header_of, reply_of};
+use sms_bind::{DownMark, Line, Wire};
+use sms_pdu::{BodyRef, Frame, PduRef, Reply, SUBMIT_SM, Tap, encode_into, header_of, reply_of};
 use sms_slot::SlotRow;
 use sms_worker::{Clock, Gate, MessageRefusal, Pause};
 use std::alloc::Global;
@@ -57,11 +57,44 @@ pub fn line_with_fuse(alloc: Global, room: u64, log: &Log) -> Option<Line<Fuse<'
     Some(Line::new(slots, Wire::new(Tap::new(fuse))))
 }
 
+// Takes nothing.
+#[derive(Drop)]
+struct Shut;
+
+impl Write for Shut {
+    fn write(&mut self, _buf: &[u8]) -> io::Result<usize> {
+        Err(io::Error::from(io::ErrorKind::BrokenPipe))
+    }
+
+    fn flush(&mut self) -> io::Result<()> {
+        Ok(())
+    }
+}
+
+/// Marks a line down, as one that found a broken wire.
+pub fn bring_down(rt: &impl Wait, alloc: Global, mark: &DownMark) {
+    let pdu = PduRef {
+        status: 0,
+        number: 1,
+        body: BodyRef::EnquireLink,
+    };
+    let mut octets = Vec::new(alloc);
+    if encode_into(&mut octets, &pdu).is_err() {
+        return;
+    }
+    let mut wire = Wire::new(Tap::new(Shut));
+    drop(wire.send(Frame::new(octets)));
+    if wire.broken() {
+        drop(mark.write_failed(rt, &wire));
+    }
+}
+
 /// What stands beside the worker: a gate that remembers the numbers that pass and notes all that it is
 /// told, a clock that goes on at each pause, and a pause in which the answers come.
 #[derive(Drop)]
 pub struct Beside<'a, R, W> {
     rt: &'a R,
+    alloc: Global,
     line: &'a Line<W>,
     producers: RefCell<Vec<Producer<Reply>>>,
     asked: RefCell<Vec<u32>>,
@@ -88,6 +121,7 @@ impl<'a, R, W> Beside<'a, R, W> {
     ) -> Beside<'a, R, W> {
         Beside {
             rt,
+            alloc,
             line,
             producers: RefCell::new(producers),
             asked: RefCell::new(Vec::new(alloc)),
@@ -158,7 +192,7 @@ impl<R: Wait, W> Pause for Beside<'_, R, W> {
             self.answer_all();
         }
         if self.pauses.get() == self.down_at {
-            self.line.down.store(true, Ordering::SeqCst);
+            bring_down(self.rt, self.alloc, &self.line.down);
         }
     }
 

@@ -204,7 +204,7 @@ pub fn reads<S: Wait>(
 {
     let bound = bound(alloc)?;
     let mut reader = Tap::new(centre);
-    Some(read_loop(
+    let (end, _down) = read_loop(
         rt,
         alloc,
         &mut reader,
@@ -215,5 +215,6 @@ pub fn reads<S: Wait>(
         seat,
         None,
         1 << 40,
-    ))
+    );
+    Some(end)
 }

@@ -2,9 +2,10 @@
 
 use super::{
     Case, Done, OK, PLAIN, SILENT, THROTTLED, letters, message, messages_of, push_message, run,
-    want_refused, want_row, want_sent,
+    same, want_refused, want_row, want_sent,
 };
-use sms_worker::{Message, MessageRefusal, Outcome};
+use sms_bind::DownCause;
+use sms_worker::{ClosedBy, Message, MessageRefusal, Outcome};
 use std::alloc::{AllocError, Global};
 use std::process::Abort;
 use std::sync::Wait;
@@ -27,6 +28,7 @@ fn a_line_that_goes_down_ends_all(rt: HostRuntime) -> Result<(), Fail> {
     for place in 3..5 {
         want_refused(&rt, &done, place, MessageRefusal::BindClosed);
     }
+    same(&rt, done.closed, Some(ClosedBy::Down(DownCause::Write)));
     want_row(&rt, &done, (2, 3, 0, 0));
     Ok(())
 }
@@ -133,6 +135,7 @@ fn messages_are_refused(rt: HostRuntime) -> Result<(), Fail> {
     push_from(alloc, &mut messages, 8, "")?;
     let done = run(&rt, alloc, PLAIN, messages);
     want_all_refused(&rt, &done);
+    same(&rt, done.closed, None);
     want_sent(&rt, &done, 8, &[(1, Outcome::Charged)]);
     want_row(&rt, &done, (2, 0, 1, 0));
     want_closed(&rt, alloc)
@@ -155,6 +158,7 @@ fn a_broken_wire_ends_the_line(rt: HostRuntime) -> Result<(), Fail> {
     want_sent(&rt, &done, 0, &[(1, Outcome::Charged)]);
     want_sent(&rt, &done, 1, &[(1, Outcome::Unanswered)]);
     want_refused(&rt, &done, 2, MessageRefusal::BindClosed);
+    same(&rt, done.closed, Some(ClosedBy::Down(DownCause::Write)));
     want_row(&rt, &done, (1, 1, 1, 0));
     Ok(())
 }

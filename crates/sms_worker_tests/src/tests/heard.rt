@@ -148,6 +148,7 @@ fn ring_of(alloc: Global) -> Option<(Vec<Producer<Reply>>, Consumer<Reply>)> {
 fn done_with(alloc: Global, ends: Vec<MessageEnd>, row: Row) -> Done {
     Done {
         ends,
+        closed: None,
         row,
         notes: Vec::new(alloc),
     }
@@ -275,7 +276,7 @@ fn end_of<N: BookName, B: Gate + Clock + Pause, R: Wait>(
     match run_worker(
         rt, alloc, worker, messages, line, window, book, rules, beside, beside, beside,
     ) {
-        Ok(end) => Some(end),
+        Ok((end, _seen)) => Some(end),
         Err(_) => None,
     }
 }

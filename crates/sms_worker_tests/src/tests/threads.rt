@@ -75,10 +75,12 @@ fn one_works<N: BookName>(
 ) -> Option<WorkerEnd<N>>
     requires own { worker.seat.window ≡ window.now }
 {
-    run_worker(
+    match run_worker(
         rt, alloc, worker, messages, line, window, book, rules, beside, beside, beside,
-    )
-    .ok()
+    ) {
+        Ok((end, _seen)) => Some(end),
+        Err(_) => None,
+    }
 }
 
 /// Both workers' ends, where memory was there.

@@ -5,7 +5,7 @@ use super::{
     Case, Done, OK, PLAIN, SILENT, THROTTLED, messages_of, run, same, want_refused, want_row,
     want_sent,
 };
-use sms_worker::{MessageRefusal, Outcome};
+use sms_worker::{ClosedBy, MessageRefusal, Outcome};
 use std::alloc::Global;
 use std::process::Abort;
 use std::sync::Wait;
@@ -196,6 +196,7 @@ fn takes_as_many_turns_as_it_may(rt: HostRuntime) -> Result<(), Fail> {
     let done = want_waits_of(&rt, rt.alloc(), case, 2, &[60_000, 59_990])?;
     want_sent(&rt, &done, 0, &[(1, Outcome::Unanswered)]);
     want_refused(&rt, &done, 1, MessageRefusal::BindClosed);
+    same(&rt, done.closed, Some(ClosedBy::Turns));
     want_row(&rt, &done, (2, 1, 0, 0));
     Ok(())
 }

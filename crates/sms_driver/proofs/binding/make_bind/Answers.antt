@@ -25,3 +25,6 @@ returns-clause-set g c =
       first = ap (λ (v : View). v.first) c.split-seat.ensures.giver ∙ kept.1 ∙ ap (λ (v : View). v.first) opened;
       follow = c.following.ensures;
     }
+
+pub returns-clause-asked : goal.returns-clause-asked
+returns-clause-asked g c = (c.split-seat.result.view, rw c.of-asked.ensures c.in_ok-reader.ensures.asked)

@@ -1,4 +1,4 @@
-use Rattle.std.proofs.Common.{◌∙◌, ℕ, List, length, map, ap, sym, subst}
+use Rattle.std.proofs.Common.{◌∙◌, ℕ, List, Option, length, map, ap, sym, subst}
 use Rattle.sms_book.specs.Portions.{row_at}
 use Rattle.sms_book.specs.Shares.{Share, AreAll}
 use Rattle.sms_book.specs.Sums.{IsSumOf}
@@ -6,7 +6,9 @@ use Rattle.sms_driver.specs.Deals.{dealt}
 use Rattle.sms_window.specs.SeatState.{SeatState}
 use Rattle.sms_window.specs.declared.view.View.{View}
 use Rattle.sms_driver.specs.declared.bind_end.BindEnd.{BindEnd}
+use Rattle.sms_driver.specs.Closings.{AreTold}
 use Rattle.sms_driver.specs.Numbered.{DrewBelow}
+use Rattle.sms_worker.specs.declared.closure.ClosedBy.{ClosedBy}
 use Rattle.sms_driver.proofs.Drawn.{drew_below, once_as}
 use Rattle.sms_driver.proofs.ending.conclude.Goals as goal
 
@@ -33,3 +35,9 @@ returns-clause-below g c =
     let ends = map (λ (b : BindEnd). b.window) c.in_ok-binds.binds.items in
     subst (λ (vs : List View). DrewBelow c.args.left.workers vs ends) c.in_ok-parts.ensures.views
     (subst (λ (w : ℕ). DrewBelow w (map (λ (s : SeatState). s.view) c.in_ok-parts.parts.seats.items) ends) c.in_ok-left.ensures.workers (drew_below _ _ _ _ _ c.in_ok-binds.ensures.closed))
+
+pub returns-clause-told : goal.returns-clause-told
+returns-clause-told g c =
+    let closings = map (λ (b : BindEnd). b.closing) c.in_ok-binds.binds.items in
+    subst (λ (xs : List (Option ClosedBy)). AreTold c.args.left.workers xs closings) c.in_ok-parts.ensures.causes
+    (subst (λ (w : ℕ). AreTold w c.in_ok-parts.parts.causes.items closings) c.in_ok-left.ensures.workers c.in_ok-binds.ensures.told)

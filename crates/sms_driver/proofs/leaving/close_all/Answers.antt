@@ -3,6 +3,8 @@ use Rattle.std.proofs.lemmas.List.{length-map}
 use Rattle.std.specs.Vec.Iter.{into_iter_items}
 use Rattle.sms_driver.specs.BindEnds.{outcome_of, IsBindEnd, IsTried}
 use Rattle.sms_driver.proofs.Drawn.{all_closed, closed_more, first_once, none_closed}
+use Rattle.sms_driver.specs.Closings.{AreTold}
+use Rattle.sms_driver.proofs.Closings.{all_told, none_told, told_more}
 use Rattle.sms_driver.specs.Joined.{AreClosed}
 use Rattle.sms_driver.proofs.Moves.{all_moved, moved, none_moved}
 use Rattle.sms_driver.proofs.Windows.{map_more}
@@ -33,6 +35,7 @@ loop-shared-init g c = record {
   once = λ all bind low.
       let binds = ap length c.into_iter-shared-iterator.ensures.into_iter_gives.0 in
       rw (sym c.from-seats.ensures.0) (all bind (omega (arith, low, binds)));
+  told = λ rest h. none_told c.args.left.workers _ _ _ rest c.from-causes.ensures.0 (search rules) h;
   ended = search rules;
 }
 
@@ -50,6 +53,7 @@ loop-shared-preserved g c =
       seats = c.close_one-window.ensures.rest _ (first_windows (λ s. s.window) (λ b. b.window) c.args.left.workers c.loop-shared.seats.items _ _ c.in-Some.shared steps i.seats);
       each = search rules;
       outcomes = moved (λ b. b.reader) outcome_of c.loop-shared.ends.items _ c.loop-shared.readers.items _ _ _ _ c.in_ok-push.ensures.items c.take_first-reader.ensures c.outcome_in-outcome.ensures i.outcomes;
+      told = λ rest h. told_more c.args.left.workers _ _ _ _ rest _ (AreTold c.args.left.workers c.args.causes.items) (ap (map (λ b. b.closing)) c.in_ok-push.ensures.items ∙ map_more (λ b. b.closing) c.loop-shared.ends.items _) c.next_closing-closing.ensures.left c.next_closing-closing.ensures.closing h (i.told (_ ∷ rest));
       closed = λ rest h. closed_more c.args.left.workers _ _ _ _ _ _ _ _ _ _ rest _ (AreClosed c.args.left.workers (map (λ d. d.seat.view) c.args.left.readers.items) (map (λ s. s.seat.view) c.args.left.driver_seats.items) (map (λ s. s.view) c.args.seats.items)) (ap (map (λ b. b.window)) c.in_ok-push.ensures.items ∙ map_more (λ b. b.window) c.loop-shared.ends.items _) (ap (map (λ d. d.seat.view)) c.take_first-reader.ensures) (ap (map (λ s. s.seat.view)) c.take_first-driver_seat.ensures) c.close_one-window.ensures.left c.close_one-window.ensures.closed h (i.closed (_ ∷ rest));
       once = λ rest. i.once (first_once c.args.left.workers _ _ c.in-Some.shared (map (λ s. s.view) c.loop-shared.seats.items) _ steps c.close_one-window.ensures.left c.close_one-window.ensures.once rest);
       ended = more_hold (IsBindEnd c.args.left.workers) c.loop-shared.ends.items _ _ c.in_ok-push.ensures.items i.ended (record { workers_are = refl; unbound = tried.0 });
@@ -59,6 +63,9 @@ pub returns-clause-once : goal.returns-clause-once
 returns-clause-once g c =
     let none : length (into_iter_items c.loop-shared.shared-iterator) ≡ 0 = search rules in
     c.loop-shared.invariant.once (λ bind low. absurd (omega (arith, low, none)))
+
+pub returns-clause-told : goal.returns-clause-told
+returns-clause-told g c = all_told _ _ _ (c.loop-shared.invariant.told [] tt)
 
 pub returns-clause-closed : goal.returns-clause-closed
 returns-clause-closed g c = all_closed _ _ _ _ _ (c.loop-shared.invariant.closed [] tt)

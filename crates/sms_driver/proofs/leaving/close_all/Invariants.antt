@@ -3,6 +3,8 @@ use Rattle.std.specs.List.{AllByRecursion}
 use Rattle.std.specs.Vec.Iter.{into_iter_items}
 use Rattle.sms_driver.specs.BindEnds.{outcome_of, IsBindEnd, IsTried}
 use Rattle.sms_window.specs.declared.outcome.Closed.{Closed}
+use Rattle.sms_driver.specs.Closings.{AreTold}
+use Rattle.sms_driver.specs.declared.bind_end.BindClosing.{BindClosing}
 use Rattle.sms_driver.specs.Joined.{AreClosed}
 use Rattle.sms_driver.specs.Numbered.{AllDrewOnce}
 use Rattle.sms_driver.specs.Seated.{windows}
@@ -19,5 +21,6 @@ invariant-loop-shared g l = record {
   closed : (rest : List Closed) → AreClosed l.workers (map (λ d. d.seat.view) l.readers.items) (map (λ s. s.seat.view) l.driver_seats.items) (map (λ s. s.view) l.seats.items) rest
       → AreClosed l.fn.left.workers (map (λ d. d.seat.view) l.fn.left.readers.items) (map (λ s. s.seat.view) l.fn.left.driver_seats.items) (map (λ s. s.view) l.fn.seats.items) (map (λ b. b.window) l.ends.items ++ rest);
   once : AllDrewOnce (length (into_iter_items l.shared-iterator)) l.workers (map (λ s. s.view) l.seats.items) → AllDrewOnce (length l.fn.left.shared_binds.items) l.fn.left.workers (map (λ s. s.view) l.fn.seats.items);
+  told : (rest : List BindClosing) → AreTold l.workers l.causes.items rest → AreTold l.fn.left.workers l.fn.causes.items (map (λ b. b.closing) l.ends.items ++ rest);
   ended : AllByRecursion (IsBindEnd l.workers) l.ends.items;
 }

@@ -17,6 +17,8 @@ use Rattle.sms_driver.proofs.Conclusions.{rows_of}
 use Rattle.sms_driver.proofs.Grouping.{are_heard, zip_length, zip_of_all}
 use Rattle.sms_driver.specs.Numbered.{AllDrewOnce, AreBelow, AreNumbered, HasNumbers}
 use Rattle.sms_driver.proofs.Endings.{have_ended}
+use Rattle.sms_driver.specs.Closings.{AreExplained, SaysWhy}
+use Rattle.sms_driver.proofs.Closings.{are_explained}
 use Rattle.sms_driver.proofs.Numbering.{are_below, are_numbered}
 use Rattle.sms_driver.proofs.Telling.{told_so}
 use Rattle.sms_driver.proofs.run.run.Goals as goal
@@ -136,3 +138,19 @@ returns-clause-below g c =
     (are_below w (map (λ (d : WorkerEnd g.row.N.Denot). d.seat.view) ds) (map (λ (d : WorkerEnd g.row.N.Denot). d.ends.items) ds) binds
     (zip_of_all (λ (d : WorkerEnd g.row.N.Denot). d.seat.view) (λ (d : WorkerEnd g.row.N.Denot). d.ends.items) HasNumbers ds c.in_ok-over.ensures.numbers)
     c.in_ok-ended.ensures.below)
+
+pub returns-clause-explained : goal.returns-clause-explained
+returns-clause-explained g c =
+    let w = c.args.workers in
+    let ds = c.in_ok-over.over.done.items in
+    let binds = c.in_ok-ended.ended.binds.items in
+    let s = c.in_ok-over.ensures.settled c.args.messages.items c.in_ok-batches.ensures.dealt in
+    let count : c.len-count.result ≡ length c.args.messages.items = omega (arith, c.len-count.ensures) in
+    let all : map (λ (d : WorkerEnd g.row.N.Denot). d.ends.items) ds ≡ dealt (length ds) 0 s.es = s.dealt_is ∙ ap (λ n. dealt n 0 s.es) (sym c.in_ok-over.ensures.all) in
+    let ends = c.in_ok-ended.ensures.ends s.es (s.long ∙ sym count) all in
+    let workers : length ds ≡ c.args.binds * w = c.in_ok-over.ensures.all ∙ ap (λ (b : BookId). b.workers) (sym c.requires.name) ∙ c.requires.count.1 in
+    let ess : map (λ (d : WorkerEnd g.row.N.Denot). d.ends.items) ds ≡ dealt (c.args.binds * w) 0 c.in_ok-ended.ended.ends.items = all ∙ (λ i. dealt (workers i) 0 (sym ends i)) in
+    subst (λ (l : List (List MessageEnd)). AreExplained w binds l) ess
+    (are_explained w (map (λ (d : WorkerEnd g.row.N.Denot). d.closed) ds) (map (λ (d : WorkerEnd g.row.N.Denot). d.ends.items) ds) binds
+    (zip_of_all (λ (d : WorkerEnd g.row.N.Denot). d.closed) (λ (d : WorkerEnd g.row.N.Denot). d.ends.items) SaysWhy ds c.in_ok-over.ensures.say)
+    c.in_ok-ended.ensures.told)

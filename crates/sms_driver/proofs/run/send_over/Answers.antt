@@ -11,6 +11,7 @@ use Rattle.sms_driver.specs.Reads.{reading_in, HasRead}
 use Rattle.sms_driver.specs.Rings.{flat}
 use Rattle.sms_driver.specs.Worked.{IsResultOf, IsWorkOf}
 use Rattle.sms_driver.proofs.Answering.{all_hears}
+use Rattle.sms_driver.proofs.Closings.{all_say}
 use Rattle.sms_driver.proofs.Numbering.{all_numbers}
 use Rattle.sms_driver.proofs.Grouping.{flat_zip, pairs_kept, seated_pairs}
 use Rattle.std.proofs.lemmas.List.{length-map}
@@ -130,3 +131,10 @@ returns-clause-rings g c =
     (flat_zip (λ r. r.rings) (λ d. d.producers.items) SameProducer (map reading_in parts) rs (zip_to (HasRead rules.turns remaining) (λ r d. AllZip SameProducer r.rings d.producers.items) (λ r d h. h.same) (map reading_in parts) rs read))
     in
     pairs_kept _ _ _ _ (seated_pairs c.args.workers c.args.shared_binds.now parts c.requires.bind_parts) producers consumers
+
+pub returns-clause-say : goal.returns-clause-say
+returns-clause-say g c =
+    let rules : Rules = c.args.rules.now in
+    let assignments = map (λ (t : WorkerTask g.row.N.Denot g.row.W.Denot). t.assignment) c.in-Ok.ready.tasks.items in
+    let ds = c.in_ok-done.done.items in
+    all_say rules assignments ds (all_ok (IsWorkOf rules) (λ j e. ⊥) assignments ds (subst (AllZip (IsResultOf rules) assignments) (sym c.in_ok-done.ensures) c.in_ok-returned.ensures.returned.results))

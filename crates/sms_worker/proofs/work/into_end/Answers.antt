@@ -1,4 +1,5 @@
 use Rattle.std.proofs.Common.{[], length, ap, subst, ◌∙◌}
+use Rattle.sms_worker.specs.Closing.{NoneIsClosed, StaysClosed}
 use Rattle.sms_worker.specs.Rising.{FirstsRise}
 use Rattle.sms_worker.specs.RunState.{RunState}
 use Rattle.sms_worker.specs.Told.{AllTold, Drew}
@@ -22,3 +23,9 @@ returns-clause-numbers g c =
 
 pub returns-clause-rising : goal.returns-clause-rising
 returns-clause-rising g c = subst (λ (x : RunState). FirstsRise x.ends) c.run.view_is c.run.invariant.order.rise
+
+pub returns-clause-why : goal.returns-clause-why
+returns-clause-why g c none = subst (λ (x : RunState). NoneIsClosed x.ends) c.run.view_is (c.run.invariant.closing.open_yet (c.told-closed.ensures.none none))
+
+pub returns-clause-closed : goal.returns-clause-closed
+returns-clause-closed g c = subst (λ (x : RunState). StaysClosed x.ends) c.run.view_is c.run.invariant.closing.stays

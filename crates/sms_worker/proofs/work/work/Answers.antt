@@ -1,6 +1,7 @@
 use Rattle.std.proofs.Common.{false, length, sym, ap, ◌∙◌, subst, map}
 use Rattle.rtrb.specs.Ring.{received, SameConsumer}
 use Rattle.sms_worker.specs.Told.{AllTold, Drew, Grew}
+use Rattle.sms_worker.specs.Closing.{NoneIsClosed, StaysClosed}
 use Rattle.sms_worker.specs.Rising.{FirstsRise}
 use Rattle.sms_worker.specs.Sweeps.{SettledTo}
 use Rattle.sms_worker.specs.TextsState.{carried}
@@ -18,7 +19,7 @@ invariant_of-run g c =
     let r = c.requires in
     record {
       keeps = rw c.of-heard.ensures (keeps_opening _ _ _ _ _ _ _ _ r.messages r.seat r.share r.received r.no_ends (ap (map carried) r.no_texts) r.none_opened);
-      closing = rw r.no_ends (closes_none false);
+      closing = rw (r.no_ends, c.not_yet.ensures) (closes_none false);
       order = order_opening _ 0 _ _ _ r.no_ends r.no_texts r.none_opened c.none.ensures;
       ends_fit = r.ends_fit;
       texts_fit = r.texts_fit;
@@ -105,3 +106,12 @@ into_end-end-requires g c = record { window = c.requires.window }
 
 pub returns-clause-rising : goal.returns-clause-rising
 returns-clause-rising g c = subst FirstsRise (sym c.into_end-end.ensures.ends) c.into_end-end.ensures.rising
+
+pub returns-clause-why : goal.returns-clause-why
+returns-clause-why g c none = subst NoneIsClosed (sym c.into_end-end.ensures.ends) (c.into_end-end.ensures.why none)
+
+pub returns-clause-seen : goal.returns-clause-seen
+returns-clause-seen g c = c.into_end-end.ensures.seen
+
+pub returns-clause-closed : goal.returns-clause-closed
+returns-clause-closed g c = subst StaysClosed (sym c.into_end-end.ensures.ends) c.into_end-end.ensures.closed

@@ -9,5 +9,6 @@ ghosts-work g a = record {
     seat = a.worker.seat;
     share = a.worker.shares;
     received = received a.worker.consumer;
+    mark = a.mark.now;
   };
 }

@@ -22,7 +22,7 @@ invariant_of-self g c =
     let done = keeps_begun _ _ _ _ _ _ _ _ _ c.index-message.result.now (carried c.begun-texts.result.0) c.begun-texts.result.1 i.keeps there low b in
     record {
       keeps = rw (c.push_reserved.ensures.items, c.push_reserved-2.ensures.items, map_more carried c.self.inside.texts.items c.begun-texts.result.0) done;
-      closing = rw c.push_reserved-2.ensures.items (closes_more c.self.inside.closed c.self.inside.ends.items c.begun-texts.result.1 i.closing c.begun-texts.ensures.closed c.begun-texts.ensures.down);
+      closing = rw c.push_reserved-2.ensures.items (closes_more c.self.inside.closed c.self.inside.ends.items c.begun-texts.result.1 i.closing (λ is. sym c.is_closed-down.ensures ∙ c.begun-texts.ensures.closed is) (λ on. c.begun-texts.ensures.down (c.is_closed-down.ensures ∙ on)));
       order = rw (c.push_reserved-2.ensures.items, c.push_reserved.ensures.items) (order_begun c.self.inside.ends.items c.begun-texts.result.1 c.self.inside.texts.items c.begun-texts.result.0 _ b.count b.segments c.self.inside.next c.self.inside.opened.items c.self.inside.queues.all c.begun-texts.ensures.unlinked i.order);
       ends_fit = (let r = i.ends_fit in let e = c.push_reserved-2.ensures.capacity in omega arith);
       texts_fit = (let r = i.texts_fit in let e = c.push_reserved.ensures.capacity in omega arith);

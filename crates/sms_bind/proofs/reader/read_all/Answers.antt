@@ -10,7 +10,7 @@ use Rattle.sms_bind.specs.Ends.{HandsOn, LeavesRoom}
 use Rattle.sms_bind.specs.Held.{Held}
 use Rattle.sms_bind.specs.Follows.{held_none, most_held}
 use Rattle.sms_bind.proofs.Hands.{hands_on, hands_none, leaves_room, leaves_room_none, end_of}
-use Rattle.sms_bind.proofs.reader.read_loop.Goals as goal
+use Rattle.sms_bind.proofs.reader.read_all.Goals as goal
 
 pub returns-in-Err-clause-rings : goal.returns-in-Err-clause-rings
 returns-in-Err-clause-rings g c =

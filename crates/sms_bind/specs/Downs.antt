@@ -1,0 +1,21 @@
+-- What contracts see of a line that is down.
+use Rattle.std.specs.Prelude.{◌≡◌, MatchResult, Result}
+use Rattle.sms_bind.specs.declared.down.Down.{Down}
+use Rattle.sms_bind.specs.declared.down.DownCause.{DownCause}
+use Rattle.sms_bind.specs.declared.down.DownMark.{DownMark}
+
+-- why a line is down
+abbrev pub cause_of : Down → DownCause
+cause_of down = down.token.value
+
+-- it is the line of this mark that is down
+abbrev pub IsDownAt : DownMark → Down → Type 0
+IsDownAt mark down = down.token.of ≡ mark.cause.id
+
+-- of one line
+abbrev pub AreOfOneMark : Down → Down → Type 0
+AreOfOneMark one other = one.token.of ≡ other.token.of
+
+-- the line of this mark is down: for this cause, or it was down before
+abbrev pub IsMarked : DownMark → DownCause → Result Down Down → Type 0
+IsMarked mark cause result = MatchResult result (λ down. IsDownAt mark down × (cause_of down ≡ cause)) (IsDownAt mark)
