@@ -1,5 +1,5 @@
 -- Which exit status a sending may have.
-use Rattle.std.proofs.Common.{◌≡◌, ◌∙◌, inl, inr, refl, ap, ℕ, Bool, true, false, List}
+use Rattle.std.proofs.Common.{◌≡◌, inl, inr, refl, ℕ, Bool, true, false, List}
 use Rattle.std.specs.Prelude.{◌==◌, ◌&&◌, if◌then◌else◌}
 use Rattle.sms_report.specs.Report.{ends_status, some_unanswered}
 use Rattle.sms_send.specs.Jobs.{IsStatusBy}

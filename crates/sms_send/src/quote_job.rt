@@ -17,6 +17,7 @@ use sms_quote::{quote_text, warnings_text};
 use sms_report::write_out;
 use std::alloc::{AllocError, Global};
 use std::io::{Eprint, Read, Write};
+use std::mem;
 use std::rt::Files;
 
 /// What is printed of an input, and what is told of its messages.
@@ -94,7 +95,12 @@ pub fn run_quote<A: Read + Drop, M: Read + Drop, T: Read + Drop, W: Write, E: Wr
     ensures unwritten { IfErr result (λ fault. fault ≢ Output → (output.new ≡ output.old) × (error.new ≡ error.old)) }
 {
     match read_input(alloc, config, accounts, messages, tariff) {
-        Ok(input) => quote_input(alloc, &input, output, error),
+        Ok(input) => {
+            let quoted = quote_input(alloc, &input, output, error);
+            // The process ends next, which frees it at once.
+            mem::forget(input);
+            quoted
+        }
         Err(fault) => Err(fault),
     }
 }
