@@ -11,6 +11,7 @@ use Rattle.sms_driver.specs.Answered.{AreHeard}
 use Rattle.sms_driver.specs.BindEnds.{AreBinds}
 use Rattle.sms_driver.specs.Deals.{dealt}
 use Rattle.sms_driver.specs.Ended.{HaveEnded}
+use Rattle.sms_driver.specs.Closings.{AreExplained}
 use Rattle.sms_driver.specs.Numbered.{AreBelow, AreNumbered}
 use Rattle.sms_files.specs.ConfigFaults.{IsConfig, TellsConfig}
 use Rattle.sms_files.specs.Inputs.{IsInput, Told, TellsInput}
@@ -58,7 +59,8 @@ pub record AreSettingsOf (connection : Connection) (limits : Limits) (flags : Fl
 -- many workers as the config says; and bind by bind each attempt with a reply has a place of its own,
 -- where that reply stands, among the answers in what was read of the bind, of which `told` tells what it will give, and no
 -- other attempt of the bind has its sequence_number, which is below the one that the bind's window would have given next;
--- and the end of each bind tells how its reader ended: the bind was opened, and the reader followed, as the config says
+-- and the end of each bind tells how its reader ended: the bind was opened, and the reader followed, as the config says;
+-- and why it was closed to its workers, where they refused a message as bind-closed
 pub record IsSent (told : ℕ → Told) (input : Input) (ended : Ended) : Type 0 where
   pub openings : ended.openings ≡ input.openings
   pub rules : Rules
@@ -71,6 +73,7 @@ pub record IsSent (told : ℕ → Told) (input : Input) (ended : Ended) : Type 0
   pub readers : HaveEnded settings rules.turns told ended.binds.items
   pub numbers : AreNumbered input.config.limits.binds input.config.limits.workers (dealt (input.config.limits.binds * input.config.limits.workers) 0 ended.ends.items)
   pub below : AreBelow input.config.limits.workers ended.binds.items (dealt (input.config.limits.binds * input.config.limits.workers) 0 ended.ends.items)
+  pub explained : AreExplained input.config.limits.workers ended.binds.items (dealt (input.config.limits.binds * input.config.limits.workers) 0 ended.ends.items)
   pub heard : AreHeard told input.config.limits.binds input.config.limits.workers (dealt (input.config.limits.binds * input.config.limits.workers) 0 ended.ends.items)
 
 -- a TCP connection tells contracts nothing of the octets that will come

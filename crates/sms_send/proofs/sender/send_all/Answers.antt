@@ -8,6 +8,7 @@ use Rattle.sms_worker.specs.declared.message.Message.{Message}
 use Rattle.sms_driver.specs.Answered.{AreHeard}
 use Rattle.sms_driver.specs.BindEnds.{AreBinds}
 use Rattle.sms_driver.specs.Deals.{dealt}
+use Rattle.sms_driver.specs.Closings.{AreExplained}
 use Rattle.sms_driver.specs.Numbered.{AreBelow, AreNumbered}
 use Rattle.sms_driver.specs.SendFaults.{IsFaultOfOne}
 use Rattle.sms_send.specs.Sent.{AreSettingsOf, IsRulesOf}
@@ -36,6 +37,7 @@ returns-clause-sent g c =
       readers = c.in-Ok.ensures.readers;
       numbers = subst (λ (k : Config). AreNumbered k.limits.binds k.limits.workers (dealt (k.limits.binds * k.limits.workers) 0 ends)) e.config c.in-Ok.ensures.numbers;
       below = subst (λ (k : Config). AreBelow k.limits.workers c.in-Ok.sending.binds.items (dealt (k.limits.binds * k.limits.workers) 0 ends)) e.config c.in-Ok.ensures.below;
+      explained = subst (λ (k : Config). AreExplained k.limits.workers c.in-Ok.sending.binds.items (dealt (k.limits.binds * k.limits.workers) 0 ends)) e.config c.in-Ok.ensures.explained;
       binds = subst (λ (k : Config). AreBinds k.limits.binds k.limits.workers c.in-Ok.sending.binds.items) e.config c.in-Ok.ensures.binds;
       rows = subst (λ (os : List Opening). AreRows (credits_of os) input.messages.items ends c.in-Ok.sending.statement) slice
           (subst (λ (ms : Vec Message Global). AreRows (credits_of c.as_slice.result.now) ms.items ends c.in-Ok.sending.statement) e.messages c.in-Ok.ensures.rows);
