@@ -18,6 +18,3 @@ pub use coded::{Coded, Coding};
 pub use reading::{TextError, text_of};
 pub use spelling::{choose, septets, ucs2};
 pub use units::Units;
-
-#[cfg(test)]
-mod tests;

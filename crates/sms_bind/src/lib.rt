@@ -17,8 +17,6 @@ mod reader_state;
 mod replying;
 mod settings;
 mod stream;
-#[cfg(test)]
-mod tests;
 mod turns;
 mod wire;
 

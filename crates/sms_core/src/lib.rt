@@ -19,8 +19,6 @@ mod row;
 mod slots;
 mod status;
 mod tables;
-#[cfg(test)]
-mod tests;
 mod world;
 
 pub use decimal::decimal_of;

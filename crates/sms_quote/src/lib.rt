@@ -10,8 +10,6 @@ mod field;
 pub mod laws;
 mod quote;
 mod quoting;
-#[cfg(test)]
-mod tests;
 mod text;
 mod total;
 mod warning;

@@ -14,8 +14,6 @@ pub mod laws;
 mod limits;
 mod part;
 mod place;
-#[cfg(test)]
-mod tests;
 
 pub use at_once::{ShortMessage, short_message_of};
 pub use cutting::{CutError, cut};

@@ -5,8 +5,6 @@
 
 mod row;
 mod slot;
-#[cfg(test)]
-mod tests;
 
 pub use row::{Search, SlotRow};
 pub use slot::{Answer, Expired, Slot, SlotError, Taken};

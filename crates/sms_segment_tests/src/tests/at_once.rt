@@ -2,7 +2,7 @@
 
 use super::same;
 use super::texts::had;
-use crate::{ShortMessage, short_message_of};
+use sms_segment::{ShortMessage, short_message_of};
 use std::alloc::Global;
 use std::process::Abort;
 

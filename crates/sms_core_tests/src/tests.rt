@@ -1,6 +1,6 @@
 //! A few schedules worked out by hand, and each call with memory at hand.
 
-use crate::*;
+use sms_core::*;
 use std::alloc::Global;
 use std::fmt::Debug;
 use std::process::Abort;

@@ -2,7 +2,7 @@
 
 use super::reader::{bound_as, counts, line_of, read_from, ring_of, want_written};
 use super::{ACCEPTED, BIND, Sink, bound_by, bound_over, same, settings_of, source_of, wire_to};
-use crate::{BindFault, ReaderCause, Settings, Wire};
+use sms_bind::{BindFault, ReaderCause, Settings, Wire};
 use sms_pdu::Mode;
 use std::alloc::Global;
 use std::process::Abort;

@@ -1,6 +1,6 @@
 //! A wire, and a bind over devices in memory.
 
-use crate::{BindFault, Bound, Settings, Wire, WireFault, bind};
+use sms_bind::{BindFault, Bound, Settings, Wire, WireFault, bind};
 use sms_pdu::{Field, Frame, Mode, Octets, PduError, Tap, is_frame};
 use sms_session::State;
 use std::alloc::Global;

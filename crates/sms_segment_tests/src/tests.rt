@@ -3,7 +3,7 @@
 ghost use Rattle.std.specs.Prelude.{All};
 ghost use Rattle.sms_segment.specs.Part.{HasSeptets};
 
-use crate::{CutError, JoinError, Part, Place, Reference, cut, join, laws};
+use sms_segment::{CutError, JoinError, Part, Place, Reference, cut, join, laws};
 use sms_alphabet::{Coded, Coding, Units, choose};
 use std::alloc::Global;
 use std::fmt::Debug;

@@ -3,7 +3,7 @@
 ghost use Rattle.std.specs.Prelude.{◌<◌};
 ghost use Rattle.sms_core.specs.Limits.{most_slots};
 
-use crate::{Answer, Expired, Search, Slot, SlotError, SlotRow, Taken};
+use sms_slot::{Answer, Expired, Search, Slot, SlotError, SlotRow, Taken};
 use rtrb::{Consumer, Producer, RingBuffer};
 use sms_pdu::{Reply, reply_of};
 use std::alloc::Global;

@@ -1,6 +1,6 @@
 //! What no contract says: that the calls succeed, and that the table is the standard's.
 
-use crate::{Coded, Coding, TextError, Units, choose, laws, septets, text_of, ucs2};
+use sms_alphabet::{Coded, Coding, TextError, Units, choose, laws, septets, text_of, ucs2};
 use std::alloc::Global;
 use std::fmt::Debug;
 use std::process::Abort;

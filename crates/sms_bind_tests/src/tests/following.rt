@@ -4,7 +4,7 @@ ghost use Rattle.std.specs.Prelude.{◌≡◌};
 
 use super::reader::{bound_as, line_of, ring_of};
 use super::{same, source_of};
-use crate::read_loop;
+use sms_bind::read_loop;
 use sms_pdu::Mode;
 use sms_window::{Claim, Window, WindowSeat};
 use std::alloc::Global;

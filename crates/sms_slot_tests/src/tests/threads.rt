@@ -1,7 +1,7 @@
 //! A reader of answers and a worker on one row.
 
 use super::{reply_to, rings, row_of, same};
-use crate::{Search, SlotRow, Taken};
+use sms_slot::{Search, SlotRow, Taken};
 use rtrb::{Consumer, Producer};
 use sms_pdu::Reply;
 use std::process::Abort;

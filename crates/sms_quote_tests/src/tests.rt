@@ -1,6 +1,6 @@
 //! Quotes, worked out by hand.
 
-use crate::{quote_text, warnings_text};
+use sms_quote::{quote_text, warnings_text};
 use sms_files::{Input, read_input};
 use std::alloc::{AllocError, Global};
 use std::fmt::Debug;
