@@ -14,7 +14,7 @@ use crate::reading::read_input;
 use crate::send_job::Centre;
 use crate::sender::write_report;
 use sms_devices::{
-    Bell, Host, Journal, JournalFiles, LoopDial, Noting, Outboxes, Progress, Rest, Screen, TcpDial,
+    Host, Journal, JournalFiles, LoopDial, Noting, Outboxes, Progress, Rest, Screen, TcpDial,
     Telling, Ticks, listen,
 };
 use sms_driver::Dial;
@@ -63,11 +63,9 @@ pub fn send_over<'j, R: Host + Net<Stream = TcpStream, Listener = TcpListener>, 
     ensures refused { IfErr result (TellsOver reach.now.centre R.File.remaining wanted config.now (W.contents output.old) (W.contents output.new)) }
     ensures unwritten { IfErr result (λ fault. fault ≢ Output → output.new ≡ output.old) }
 {
-    let bell = Bell::new();
     let outboxes = Outboxes::new(rt, journal);
     let pause = Rest {
         rt,
-        bell: &bell,
         outboxes: &outboxes,
     };
     match reach.centre {
@@ -75,8 +73,7 @@ pub fn send_over<'j, R: Host + Net<Stream = TcpStream, Listener = TcpListener>, 
             let dial = TcpDial {
                 rt,
                 alloc: rt.alloc(),
-                bell: &bell,
-                outboxes: &outboxes,
+                        outboxes: &outboxes,
                 connect_ms: pace.connect_ms,
                 host: reach.host.as_str(),
                 port: reach.port,
@@ -92,8 +89,7 @@ pub fn send_over<'j, R: Host + Net<Stream = TcpStream, Listener = TcpListener>, 
             let dial = LoopDial {
                 rt,
                 alloc: rt.alloc(),
-                bell: &bell,
-                outboxes: &outboxes,
+                        outboxes: &outboxes,
                 connect_ms: pace.connect_ms,
                 listener,
                 bind_status: reach.bind_status,
