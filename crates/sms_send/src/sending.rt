@@ -164,7 +164,8 @@ fn send_files<
 }
 
 /// Sends what was read over the connections that the dial makes, and writes the report. What is noted
-/// of it is let out before the report is formed. A person is told how it goes.
+/// of it is let out before the report is formed. A person is told how it goes, and what it came to also
+/// where the report couldn't be written.
 fn send_input<
     'j,
     R: AllocGlobal + JournalFiles + Threads + Wait + time::Clock + Eprint + Sync,
@@ -198,8 +199,9 @@ fn send_input<
     outboxes.flush();
     progress.clear();
     let ended = sent?;
-    write_report(rt.alloc(), &ended, output)?;
+    let written = write_report(rt.alloc(), &ended, output);
     progress.sum_up(ended.ends(), ended.statement());
+    written?;
     let status = ended.exit_status();
     // The process ends next, which frees it at once.
     mem::forget(ended);
