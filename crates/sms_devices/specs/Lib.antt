@@ -4,3 +4,6 @@ pub mod Standard
 pub mod Journals
 pub mod Openings
 pub mod Buckets
+pub mod Headers
+pub mod Wakes
+pub mod Rests

@@ -1,122 +1,182 @@
-//! How workers wait for answers: a bell that the readers of all binds ring. Whoever is about to wait
-//! sends what waits to be written first.
+//! How workers wait for answers: a bell for each of them, which the reader of its bind rings.
+//!
+//! No wake-up is missed. What a worker waits for is there before its bell is rung for it: an answer is
+//! in its ring when the bind's reader asks for octets again, and the line is down when the reader ends.
+//! A ring is kept under the bell's lock until a wait of the worker ends, and a worker looks at its ring
+//! of answers, and whether the line is down, between two waits. So a ring behind its look ends the wait
+//! that follows, at once where it came first. A worker of a bind to which a write failed isn't told when
+//! the line is down, since the worker that failed takes it down behind its ring; so nobody rests long at
+//! such a bind: one that looked before it was marked is rung behind the mark.
 
-ghost use Rattle.std.specs.Io.{ReadsAtMost};
-ghost use Rattle.std.specs.Io.KnownBytes.{ReadConsumes};
+ghost use Rattle.std.specs.Prelude.{◌≡◌};
+ghost use Rattle.sms_devices.specs.Rests.{rest_ms};
 
-use crate::journal::Journal;
-use crate::opening::Opening;
-use crate::outbox::{Outbox, Outboxes};
+use crate::outbox::Outboxes;
+use crate::rated::{MOST_BINDS, MOST_WORKERS, bind_of};
+use crate::wakes::Owners;
 use sms_worker::Pause;
+use std::array;
 use std::fs::OpenFile;
-use std::io;
-use std::io::{Error, ErrorKind, Read, Write};
+use std::io::Write;
+use std::sync::atomic::{AtomicBool, AtomicU32, Ordering};
 use std::sync::{Condvar, Mutex, Wait};
 use std::time::{Clock, Duration};
 
-/// How often the bell was rung, and how many of these rings ended a pause before it began.
-#[derive(Drop)]
-struct Rings {
-    rung: u64,
-    heard: u64,
-}
+/// How long a worker rests at most, in milliseconds: what a person sees of a sending goes on meanwhile.
+const MOST_REST_MS: u64 = 100;
 
-/// A bell that ends pauses.
+/// A bell that ends the waits of one thread.
 #[derive(Drop)]
-pub struct Bell {
-    rings: Mutex<Rings>,
+struct Bell {
+    /// Whether it rang since a wait ended.
+    has_rung: Mutex<bool>,
     sound: Condvar,
 }
 
 impl Bell {
     /// A bell that has not rung.
-    pub fn new() -> Bell {
+    fn new() -> Bell {
         Bell {
-            rings: Mutex::new(Rings { rung: 0, heard: 0 }),
+            has_rung: Mutex::new(false),
             sound: Condvar::new(),
         }
     }
 
-    /// Ends all pauses, or the next one where none lasts.
-    pub fn ring<R: Wait>(&self, rt: &R) {
-        let mut rings = self.rings.lock(rt);
-        rings.rung = rings.rung.wrapping_add(1);
-        drop(rings);
-        self.sound.notify_all();
+    /// Ends the wait, or the next one where none lasts.
+    fn ring<R: Wait>(&self, rt: &R) {
+        let mut has_rung = self.has_rung.lock(rt);
+        *has_rung = true;
+        drop(has_rung);
+        self.sound.notify_one();
     }
 
-    /// Waits until the bell rings, at most so long; not at all where it rang since a pause began.
-    fn wait<R: Wait + Clock>(&self, rt: &R, most: Duration) {
-        let mut rings = self.rings.lock(rt);
-        if rings.heard != rings.rung {
-            rings.heard = rings.rung;
+    /// Waits until the bell rings, at most so long; not at all where it rang since a wait ended.
+    fn wait<R: Wait + Clock>(&self, rt: &R, ms: u64) {
+        let mut has_rung = self.has_rung.lock(rt);
+        if *has_rung {
+            *has_rung = false;
             return;
         }
-        let (mut rings, _waited) = self.sound.wait_timeout(rt, rings, most);
-        rings.heard = rings.rung;
+        let most = Duration::from_millis(ms);
+        let (mut has_rung, _waited) = self.sound.wait_timeout(rt, has_rung, most);
+        *has_rung = false;
     }
 }
 
-/// A pause that the bell ends early.
+/// The bells of all workers and of the driver, whether each bind's workers are told all that they wait
+/// for, and whose request each number of a bind is.
+#[derive(Drop)]
+pub struct Bells {
+    /// How many workers each bind has.
+    workers: AtomicU32,
+    of_workers: [Bell; MOST_WORKERS],
+    of_driver: Bell,
+    /// Whether a write to the bind's connection failed.
+    has_failed: [AtomicBool; MOST_BINDS],
+    owners: [Owners; MOST_BINDS],
+}
+
+impl Bells {
+    /// Bells that have not rung, of binds with one worker each.
+    pub fn new() -> Bells {
+        Bells {
+            workers: AtomicU32::new(1),
+            of_workers: array::from_fn(|_| Bell::new()),
+            of_driver: Bell::new(),
+            has_failed: array::from_fn(|_| AtomicBool::new(false)),
+            owners: array::from_fn(|_| Owners::new()),
+        }
+    }
+
+    /// Each bind has so many workers.
+    pub fn set_workers(&self, workers: u32) {
+        self.workers.store(workers, Ordering::SeqCst);
+    }
+
+    /// The bind of a worker.
+    pub fn bind_of(&self, worker: usize) -> usize {
+        bind_of(worker, self.workers.load(Ordering::SeqCst) as usize)
+    }
+
+    /// Whose request each number of this bind is.
+    pub fn owners(&self, bind: usize) -> Option<&Owners> {
+        self.owners.get(bind)
+    }
+
+    /// Rings the bell of a worker.
+    pub fn ring_worker<R: Wait>(&self, rt: &R, worker: usize) {
+        if let Some(bell) = self.of_workers.get(worker) {
+            bell.ring(rt);
+        }
+    }
+
+    /// Rings the bells of a bind's workers, and the driver's.
+    pub fn ring_bind<R: Wait>(&self, rt: &R, bind: usize) {
+        for worker in 0..MOST_WORKERS {
+            if self.bind_of(worker) == bind {
+                self.ring_worker(rt, worker);
+            }
+        }
+        self.of_driver.ring(rt);
+    }
+
+    /// A write to the bind's connection failed, so whoever wrote takes the line down next.
+    pub fn fail<R: Wait>(&self, rt: &R, bind: usize) {
+        if let Some(has_failed) = self.has_failed.get(bind) {
+            has_failed.store(true, Ordering::SeqCst);
+        }
+        self.ring_bind(rt, bind);
+    }
+
+    /// Whether all that a worker of the bind waits for is told to it, but for what is due by the clock.
+    fn is_told(&self, bind: usize) -> bool {
+        match self.has_failed.get(bind) {
+            Some(has_failed) => !has_failed.load(Ordering::SeqCst),
+            None => false,
+        }
+    }
+
+    /// Waits until the worker's bell rings, at most so long.
+    fn wait<R: Wait + Clock>(&self, rt: &R, worker: usize, ms: u64) {
+        match self.of_workers.get(worker) {
+            Some(bell) => bell.wait(rt, ms),
+            None => self.of_driver.wait(rt, ms),
+        }
+    }
+}
+
+/// How long a worker rests.
+fn rest_ms(ms: u32, most: u64, is_told: bool) -> u64
+    ensures { result ≡ rest_ms ms most is_told }
+{
+    let least = u64::from(ms);
+    if is_told {
+        most.min(MOST_REST_MS).max(least)
+    } else {
+        least
+    }
+}
+
+/// A pause that a bell ends early. Whoever is about to wait sends what waits to be written first.
 #[derive(Drop)]
 pub struct Rest<'r, 'j, R: Wait, F: Write + OpenFile> {
     pub rt: &'j R,
-    pub bell: &'r Bell,
     pub outboxes: &'r Outboxes<'j, R, F>,
 }
 
 impl<'r, 'j, R: Wait + Clock, F: Write + OpenFile> Pause for Rest<'r, 'j, R, F> {
+    /// The driver's pause.
     fn pause(&self, ms: u32) {
         self.outboxes.flush();
-        self.bell
-            .wait(self.rt, Duration::from_millis(u64::from(ms)));
+        let bells = self.outboxes.bells();
+        bells.of_driver.wait(self.rt, u64::from(ms));
     }
-}
 
-/// A reader that rings the bell when it is asked for octets: a bind's reader has then handed on all
-/// answers that came before. It rings a last time when it is dropped: the line is down then. A read
-/// fails where the bind has to be answered in time and isn't.
-pub struct Ringing<'r, 'j, S, R: Wait, F: Write + OpenFile> {
-    pub inner: S,
-    pub rt: &'j R,
-    /// The journal of the run, where it has one, behind which the outbox is written.
-    pub journal: Option<&'j Journal<F>>,
-    pub bell: &'r Bell,
-    pub outbox: &'r Outbox<'j, R, F>,
-    pub opening: Opening,
-}
-
-impl<'r, 'j, S: Drop, R: Wait, F: Write + OpenFile> Drop for Ringing<'r, 'j, S, R, F> {
-    fn drop(self) {
-        let Ringing {
-            inner,
-            rt,
-            journal: _,
-            bell,
-            outbox: _,
-            opening: _,
-        } = self;
-        drop(inner);
-        bell.ring(rt);
-    }
-}
-
-impl<'r, 'j, S: Read, R: Wait + Clock, F: Write + OpenFile> Read for Ringing<'r, 'j, S, R, F> {
-    ghost remaining = { λ r. S.remaining r.inner };
-
-    fn read(&mut self, buf: &mut [u8]) -> io::Result<usize>
-        ensures bound { ReadsAtMost result buf.new }
-        ensures bytes { ReadConsumes (S.remaining self.old.inner) (S.remaining self.new.inner) result buf.new }
-    {
-        self.outbox.flush();
-        self.bell.ring(self.rt);
-        if self.opening.is_late(self.rt) {
-            return Err(Error::from(ErrorKind::ConnectionAborted));
-        }
-        let read = self.inner.read(buf);
-        if let Ok(count) = &read {
-            self.opening.see(&buf[..*count]);
-        }
-        read
+    fn wait(&self, worker: usize, ms: u32, most: u64) {
+        let bells = self.outboxes.bells();
+        let bind = bells.bind_of(worker);
+        self.outboxes.flush_bind(bind);
+        let ms = rest_ms(ms, most, bells.is_told(bind));
+        bells.wait(self.rt, worker, ms);
     }
 }

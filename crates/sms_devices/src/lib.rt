@@ -1,5 +1,5 @@
 //! The devices that a sending stands on in the program: connections over TCP, what waits to be
-//! written to them, the bell that ends a pause, the clock, standard streams, and what a person is
+//! written to them, the bells that end pauses, the clock, standard streams, and what a person is
 //! told on the way.
 
 #![tactic(auto)]
@@ -7,21 +7,25 @@
 mod bell;
 mod bucket;
 mod devices;
+mod headers;
 mod host;
 mod journal;
 mod network;
 mod noting;
 mod opening;
 mod outbox;
+mod owning;
 mod progress;
 mod rated;
+mod ringing;
 mod silence;
 mod standard;
 mod stopping;
 #[cfg(test)]
 mod tests;
+mod wakes;
 
-pub use bell::{Bell, Rest, Ringing};
+pub use bell::{Bells, Rest};
 pub use devices::Ticks;
 pub use host::Host;
 pub use journal::{Journal, JournalFiles};
@@ -29,7 +33,9 @@ pub use network::{LoopDial, TcpDial, listen};
 pub use noting::Noting;
 pub use opening::Opening;
 pub use outbox::{Guarded, Outbox, Outboxes, Posting};
+pub use owning::Owning;
 pub use progress::{Progress, Screen, Telling};
 pub use rated::Rated;
+pub use ringing::{Incoming, Ringing};
 pub use standard::stand_ins;
 pub use stopping::Stopping;

@@ -1,8 +1,8 @@
 //! Connections over TCP: to a message centre, or to test centres of the program's own.
 
-use crate::bell::{Bell, Ringing};
-use crate::opening::{Deadline, Opening};
+use crate::opening::Deadline;
 use crate::outbox::{Outbox, Outboxes, Posting};
+use crate::ringing::{Incoming, Ringing};
 use sms_centre::{Script, serve};
 use sms_driver::Dial;
 use sms_pdu::Tap;
@@ -60,12 +60,13 @@ fn connect<R: Net<Stream = TcpStream> + Clock, A: ToSocketAddrs>(
 fn ends_of<'r, 'j, R: Wait, F: Write + OpenFile>(
     rt: &'j R,
     alloc: Global,
-    bell: &'r Bell,
     outboxes: &'r Outboxes<'j, R, F>,
     outbox: &'r Outbox<'j, R, F>,
+    bind: u32,
     deadline: Option<Deadline>,
     stream: TcpStream,
 ) -> Option<(Ringing<'r, 'j, TcpStream, R, F>, Posting<'r, 'j, R, F>)> {
+    let incoming = Incoming::new(alloc, deadline)?;
     stream.set_nodelay(true).ok()?;
     stream
         .set_read_timeout(Some(Duration::from_millis(READ_MS)))
@@ -74,17 +75,22 @@ fn ends_of<'r, 'j, R: Wait, F: Write + OpenFile>(
     let inner = stream.try_clone().ok()?;
     outbox.open(alloc, outboxes.guard(stream))?;
     let journal = outboxes.journal();
+    let bells = outboxes.bells();
+    let bind = bind as usize;
     let reader = Ringing {
         inner,
         rt,
         journal,
-        bell,
+        bells,
+        bind,
         outbox,
-        opening: Opening::new(deadline),
+        incoming,
     };
     let writer = Posting {
         rt,
         journal,
+        bells,
+        bind,
         outbox,
     };
     Some((reader, writer))
@@ -95,7 +101,6 @@ fn ends_of<'r, 'j, R: Wait, F: Write + OpenFile>(
 pub struct TcpDial<'r, 'j, R: Wait, F: Write + OpenFile> {
     pub rt: &'j R,
     pub alloc: Global,
-    pub bell: &'r Bell,
     pub outboxes: &'r Outboxes<'j, R, F>,
     /// How many milliseconds it may take to connect and to bind; None is without an end.
     pub connect_ms: Option<u32>,
@@ -120,9 +125,9 @@ impl<
         ends_of(
             self.rt,
             self.alloc,
-            self.bell,
             self.outboxes,
             outbox,
+            bind,
             deadline,
             stream,
         )
@@ -134,7 +139,6 @@ impl<
 pub struct LoopDial<'r, 'j, R: Wait, F: Write + OpenFile> {
     pub rt: &'j R,
     pub alloc: Global,
-    pub bell: &'r Bell,
     pub outboxes: &'r Outboxes<'j, R, F>,
     /// How many milliseconds it may take to connect and to bind; None is without an end.
     pub connect_ms: Option<u32>,
@@ -165,9 +169,9 @@ impl<
         ends_of(
             self.rt,
             self.alloc,
-            self.bell,
             self.outboxes,
             outbox,
+            bind,
             deadline,
             near,
         )

@@ -58,7 +58,7 @@ impl Opening {
     }
 
     /// Whether the whole frame has come.
-    fn is_whole(&self) -> bool
+    pub(crate) fn is_whole(&self) -> bool
         ensures { result ≡ is_whole_frame self.now }
     {
         self.seen >= LENGTH_OCTETS && self.seen >= self.length

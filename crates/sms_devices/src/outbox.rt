@@ -6,6 +6,7 @@ ghost use Rattle.std.specs.Io.{WritesAtMost};
 ghost use Rattle.std.specs.Io.KnownBytes.{Keeps, WriteAppends};
 ghost use Rattle.sms_devices.specs.Outboxes.{outbox_of, put_in, waiting_in};
 
+use crate::bell::Bells;
 use crate::journal::{Journal, let_out_of};
 use std::alloc::Global;
 use std::fs::OpenFile;
@@ -182,11 +183,12 @@ impl<'j, R: Wait, F: Write + OpenFile> Outbox<'j, R, F> {
     }
 }
 
-/// The outboxes of all binds.
+/// The outboxes of all binds, and the bells of their workers.
 #[derive(Drop)]
 pub struct Outboxes<'j, R: Wait, F: Write + OpenFile> {
     rt: &'j R,
     journal: Option<&'j Journal<F>>,
+    bells: Bells,
     first: Outbox<'j, R, F>,
     second: Outbox<'j, R, F>,
     third: Outbox<'j, R, F>,
@@ -201,6 +203,7 @@ impl<'j, R: Wait, F: Write + OpenFile> Outboxes<'j, R, F> {
         Outboxes {
             rt,
             journal,
+            bells: Bells::new(),
             first: Outbox::new(),
             second: Outbox::new(),
             third: Outbox::new(),
@@ -243,6 +246,11 @@ impl<'j, R: Wait, F: Write + OpenFile> Outboxes<'j, R, F> {
         }
     }
 
+    /// The bells of the binds' workers.
+    pub fn bells(&self) -> &Bells {
+        &self.bells
+    }
+
     /// The journal of the run, where it has one.
     pub fn journal(&self) -> Option<&'j Journal<F>> {
         self.journal
@@ -257,6 +265,16 @@ impl<'j, R: Wait, F: Write + OpenFile> Outboxes<'j, R, F> {
         }
     }
 
+    /// Writes what waits for the connection of this bind, and then what is left to be noted.
+    pub fn flush_bind(&self, bind: usize) {
+        if let Ok(bind) = u32::try_from(bind) {
+            if let Some(outbox) = self.get(bind) {
+                outbox.flush();
+            }
+        }
+        let _let_out = let_out_of(self.rt, self.journal);
+    }
+
     /// Writes what waits for any connection, and then what is left to be noted.
     pub fn flush(&self) {
         self.first.flush();
@@ -267,12 +285,14 @@ impl<'j, R: Wait, F: Write + OpenFile> Outboxes<'j, R, F> {
     }
 }
 
-/// A bind's writer: what it is given goes to the outbox.
+/// A bind's writer: what it is given goes to the outbox. Where that fails the workers of the bind are told.
 #[derive(Drop)]
 pub struct Posting<'r, 'j, R: Wait, F: Write + OpenFile> {
     pub rt: &'j R,
     /// The journal of the run, where it has one, behind which it goes on.
     pub journal: Option<&'j Journal<F>>,
+    pub bells: &'r Bells,
+    pub bind: usize,
     pub outbox: &'r Outbox<'j, R, F>,
 }
 
@@ -283,7 +303,11 @@ impl<'r, 'j, R: Wait, F: Write + OpenFile> Write for Posting<'r, 'j, R, F> {
         ensures bound { WritesAtMost result buf.now }
         ensures bytes { WriteAppends None None result buf.now }
     {
-        self.outbox.put(self.rt, buf)
+        let put = self.outbox.put(self.rt, buf);
+        if put.is_err() {
+            self.bells.fail(self.rt, self.bind);
+        }
+        put
     }
 
     fn flush(&mut self) -> io::Result<()> {

@@ -10,9 +10,9 @@ use std::sync::atomic::{AtomicBool, Ordering};
 use std::sync::{Mutex, Wait};
 
 /// How many binds there are at most, and how many workers in all of them.
-const MOST_BINDS: usize = 4;
+pub(crate) const MOST_BINDS: usize = 4;
 
-const MOST_WORKERS: usize = 32;
+pub(crate) const MOST_WORKERS: usize = 32;
 
 /// The bind of a worker, of which each bind has so many.
 pub(crate) fn bind_of(worker: usize, workers: usize) -> usize

@@ -1,5 +1,6 @@
 //! The devices by themselves, over connections of the tests' own.
 
+mod bells;
 mod journal;
 mod network;
 mod paper;

@@ -1,4 +1,5 @@
-//! How fast a sending goes, and how far without answers: gates around the one that notes it.
+//! How fast a sending goes, how far without answers, and whom an answer wakes: gates around the one
+//! that notes it.
 
 ghost use Rattle.std.specs.Prelude.{◌≡◌, IfErr, IfOk};
 ghost use Rattle.sms_driver.specs.SendFaults.{IsFaultOfOne};
@@ -9,7 +10,7 @@ ghost use Rattle.sms_send.specs.Sent.{IsSent};
 use crate::fault::Fault;
 use crate::order::Pace;
 use crate::sender::{Ended, send_all};
-use sms_devices::{Outboxes, Rated, Stopping};
+use sms_devices::{Outboxes, Owning, Rated, Stopping};
 use sms_driver::Dial;
 use sms_files::Input;
 use sms_worker::{Clock, Gate, Pause};
@@ -20,6 +21,35 @@ use std::thread::Threads;
 
 /// Sends as `send_all` does, as fast and as far without answers as is asked for.
 pub fn send_paced<
+    'r,
+    'j,
+    F: Write + OpenFile + Send,
+    G: Gate + Sync,
+    K: Clock + Sync,
+    D: Dial,
+    P: Pause + Sync,
+    R: AllocGlobal + Threads + Wait + Sync,
+>(
+    rt: &'j R,
+    input: Input,
+    outboxes: &'r Outboxes<'j, R, F>,
+    dial: &D,
+    gate: &'r G,
+    clock: &'r K,
+    pause: &P,
+    pace: Pace,
+) -> Result<Ended, Fault>
+    ensures sent { IfOk result (IsSent (D.told dial.now) input) }
+    ensures refused { IfErr result (λ fault. (f : SendFault) × IsFaultOfOne input.config.limits.binds f × (fault ≡ told_sending f)) }
+{
+    let bells = outboxes.bells();
+    bells.set_workers(input.config().limits.workers);
+    let owning = Owning { gate, bells };
+    send_stopping(rt, input, &*outboxes, dial, &owning, clock, pause, pace)
+}
+
+/// The same where whom an answer wakes is seen to.
+fn send_stopping<
     'r,
     'j,
     F: Write + OpenFile + Send,

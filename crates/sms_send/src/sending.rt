@@ -14,7 +14,7 @@ use crate::reading::read_input;
 use crate::send_job::Centre;
 use crate::sender::write_report;
 use sms_devices::{
-    Bell, Host, Journal, JournalFiles, LoopDial, Noting, Outboxes, Progress, Rest, Screen, TcpDial,
+    Host, Journal, JournalFiles, LoopDial, Noting, Outboxes, Progress, Rest, Screen, TcpDial,
     Telling, Ticks, listen,
 };
 use sms_driver::Dial;
@@ -64,11 +64,9 @@ pub fn send_over<'j, R: Host + Net<Stream = TcpStream, Listener = TcpListener>, 
     ensures refused { IfErr result (TellsOver reach.now.centre R.File.remaining wanted config.now (W.contents output.old) (W.contents output.new)) }
     ensures unwritten { IfErr result (λ fault. fault ≢ Output → output.new ≡ output.old) }
 {
-    let bell = Bell::new();
     let outboxes = Outboxes::new(rt, journal);
     let pause = Rest {
         rt,
-        bell: &bell,
         outboxes: &outboxes,
     };
     match reach.centre {
@@ -76,8 +74,7 @@ pub fn send_over<'j, R: Host + Net<Stream = TcpStream, Listener = TcpListener>, 
             let dial = TcpDial {
                 rt,
                 alloc: rt.alloc(),
-                bell: &bell,
-                outboxes: &outboxes,
+                        outboxes: &outboxes,
                 connect_ms: pace.connect_ms,
                 host: reach.host.as_str(),
                 port: reach.port,
@@ -93,8 +90,7 @@ pub fn send_over<'j, R: Host + Net<Stream = TcpStream, Listener = TcpListener>, 
             let dial = LoopDial {
                 rt,
                 alloc: rt.alloc(),
-                bell: &bell,
-                outboxes: &outboxes,
+                        outboxes: &outboxes,
                 connect_ms: pace.connect_ms,
                 listener,
                 bind_status: reach.bind_status,
@@ -175,7 +171,8 @@ fn send_files<
 }
 
 /// Sends what was read over the connections that the dial makes, and writes the report. What is noted
-/// of it is let out before the report is formed. A person is told how it goes.
+/// of it is let out before the report is formed. A person is told how it goes, and what it came to also
+/// where the report couldn't be written.
 fn send_input<
     'j,
     R: AllocGlobal + JournalFiles + Threads + Wait + time::Clock + Eprint + Sync,
@@ -210,8 +207,9 @@ fn send_input<
     outboxes.flush();
     progress.clear();
     let ended = sent?;
-    write_report(rt.alloc(), &ended, output)?;
+    let written = write_report(rt.alloc(), &ended, output);
     progress.sum_up(ended.ends(), ended.statement());
+    written?;
     let status = ended.exit_status(strict);
     // The process ends next, which frees it at once.
     mem::forget(ended);

@@ -2,7 +2,7 @@
 //! someone waits, and who is served.
 
 use super::same::same;
-use crate::bell::{Bell, Rest};
+use crate::bell::Rest;
 use crate::devices::Ticks;
 use crate::journal::Journal;
 use crate::network::{LoopDial, TcpDial, listen};
@@ -57,13 +57,11 @@ fn want_set_up(rt: &impl Abort, stream: &TcpStream, patience: Option<Duration>) 
 /// most, and a write as long as the outboxes say when it is made. There are four binds.
 #[test]
 fn sets_up_each_connection(rt: HostRuntime) {
-    let bell = Bell::new();
     let outboxes = Outboxes::new(&rt, no_journal());
     let (_listener, port) = listening(&rt);
     let dial = TcpDial {
         rt: &rt,
         alloc: rt.alloc(),
-        bell: &bell,
         outboxes: &outboxes,
         connect_ms: None,
         host: "127.0.0.1",
@@ -84,7 +82,7 @@ fn sets_up_each_connection(rt: HostRuntime) {
 }
 
 // The other end of the connection.
-fn accepted(rt: &impl Abort, listener: &TcpListener) -> TcpStream {
+pub fn accepted(rt: &impl Abort, listener: &TcpListener) -> TcpStream {
     let Ok((far, _from)) = listener.accept() else {
         panic!(rt; "no connection")
     };
@@ -104,7 +102,7 @@ fn want(rt: &impl Abort, far: &mut TcpStream, wanted: &[u8]) {
 }
 
 // The octets are written.
-fn put(rt: &impl Abort, writer: &mut impl Write, octets: &[u8]) {
+pub fn put(rt: &impl Abort, writer: &mut impl Write, octets: &[u8]) {
     if writer.write_all(octets).is_err() {
         panic!(rt; "not written")
     }
@@ -116,17 +114,14 @@ pub fn want_nothing(rt: &impl Abort, reader: &mut impl Read) {
     assert!(rt; reader.read(&mut octets).is_err());
 }
 
-/// What was written goes out when the reader asks for octets. That rings the bell, so a pause ends
-/// at once, however long it may be. A pause sends what waits too, and ends where the bell is silent.
+/// What was written goes out when the reader asks for octets. A pause sends what waits too.
 #[test]
-fn writes_and_rings_before_it_reads(rt: HostRuntime) {
-    let bell = Bell::new();
+fn writes_before_it_reads(rt: HostRuntime) {
     let outboxes = Outboxes::new(&rt, no_journal());
     let (listener, port) = listening(&rt);
     let dial = TcpDial {
         rt: &rt,
         alloc: rt.alloc(),
-        bell: &bell,
         outboxes: &outboxes,
         connect_ms: None,
         host: "127.0.0.1",
@@ -141,10 +136,8 @@ fn writes_and_rings_before_it_reads(rt: HostRuntime) {
     want(&rt, &mut far, b"one");
     let rest = Rest {
         rt: &rt,
-        bell: &bell,
         outboxes: &outboxes,
     };
-    rest.pause(3_600_000);
     put(&rt, &mut writer, b"two");
     rest.pause(1);
     want(&rt, &mut far, b"two");
@@ -153,13 +146,11 @@ fn writes_and_rings_before_it_reads(rt: HostRuntime) {
 /// What is put waits until there are more than 8,192 octets of it, and goes out in one piece.
 #[test]
 fn keeps_8192_octets(rt: HostRuntime) {
-    let bell = Bell::new();
     let outboxes = Outboxes::new(&rt, no_journal());
     let (listener, port) = listening(&rt);
     let dial = TcpDial {
         rt: &rt,
         alloc: rt.alloc(),
-        bell: &bell,
         outboxes: &outboxes,
         connect_ms: None,
         host: "127.0.0.1",
@@ -185,13 +176,11 @@ fn keeps_8192_octets(rt: HostRuntime) {
 /// A reader that ends rings, too: a pause behind it ends at once.
 #[test]
 fn rings_at_its_end(rt: HostRuntime) {
-    let bell = Bell::new();
     let outboxes = Outboxes::new(&rt, no_journal());
     let (_listener, port) = listening(&rt);
     let dial = TcpDial {
         rt: &rt,
         alloc: rt.alloc(),
-        bell: &bell,
         outboxes: &outboxes,
         connect_ms: None,
         host: "127.0.0.1",
@@ -203,7 +192,6 @@ fn rings_at_its_end(rt: HostRuntime) {
     drop(reader);
     let rest = Rest {
         rt: &rt,
-        bell: &bell,
         outboxes: &outboxes,
     };
     let clock = Ticks::new(&rt);
@@ -220,7 +208,6 @@ const ALIVE: [u8; 16] = [0, 0, 0, 16, 0x80, 0, 0, 0x15, 0, 0, 0, 0, 0, 0, 0, 1];
 /// hung up.
 #[test]
 fn serves_its_own_sender(rt: HostRuntime) {
-    let bell = Bell::new();
     let outboxes = Outboxes::new(&rt, no_journal());
     let (listener, port) = listening(&rt);
     let Ok(mut stranger) = TcpStream::connect(&rt, (Ipv4Addr::LOCALHOST, port)) else {
@@ -230,7 +217,6 @@ fn serves_its_own_sender(rt: HostRuntime) {
     let dial = LoopDial {
         rt: &rt,
         alloc: rt.alloc(),
-        bell: &bell,
         outboxes: &outboxes,
         connect_ms: None,
         listener,
@@ -264,13 +250,11 @@ fn answering(rt: &(impl AllocGlobal + Abort)) -> String {
 /// octets come or not, up to the end of the first frame. Behind that frame it doesn't matter.
 #[test]
 fn waits_for_the_bind_so_long(rt: HostRuntime) {
-    let bell = Bell::new();
     let outboxes = Outboxes::new(&rt, no_journal());
     let (listener, port) = listening(&rt);
     let dial = TcpDial {
         rt: &rt,
         alloc: rt.alloc(),
-        bell: &bell,
         outboxes: &outboxes,
         connect_ms: Some(300),
         host: "127.0.0.1",

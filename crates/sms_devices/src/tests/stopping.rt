@@ -3,7 +3,6 @@
 use super::network::{listening, no_journal, want_nothing};
 use super::paper::{ManualClock, OpenGate};
 use super::same::same;
-use crate::bell::Bell;
 use crate::network::TcpDial;
 use crate::outbox::Outboxes;
 use crate::stopping::Stopping;
@@ -44,13 +43,11 @@ fn want_end(rt: &impl Abort, reader: &mut impl Read) {
 /// of them was waited for; an answer to any of its workers begins that anew. The other bind goes on.
 #[test]
 fn gives_up_a_silent_bind(rt: HostRuntime) {
-    let bell = Bell::new();
     let outboxes = Outboxes::new(&rt, no_journal());
     let (_listener, port) = listening(&rt);
     let dial = TcpDial {
         rt: &rt,
         alloc: rt.alloc(),
-        bell: &bell,
         outboxes: &outboxes,
         connect_ms: None,
         host: "127.0.0.1",
@@ -84,13 +81,11 @@ fn gives_up_a_silent_bind(rt: HostRuntime) {
 /// Without a number no bind is given up.
 #[test]
 fn gives_up_no_bind(rt: HostRuntime) {
-    let bell = Bell::new();
     let outboxes = Outboxes::new(&rt, no_journal());
     let (_listener, port) = listening(&rt);
     let dial = TcpDial {
         rt: &rt,
         alloc: rt.alloc(),
-        bell: &bell,
         outboxes: &outboxes,
         connect_ms: None,
         host: "127.0.0.1",

@@ -8,7 +8,7 @@ pub returns-clause-sent : goal.returns-clause-sent
 returns-clause-sent g c = record {
   ended = c.in_ok-ended.ended;
   sent = c.in_ok-ended.ensures.sent;
-  written = c.in_ok-write_report.ensures.written;
+  written = c.in_ok-written.ensures.written;
   status_is = c.exit_status-status.ensures;
 }
 
@@ -18,10 +18,10 @@ returns-clause-status g c = is_status c.args.strict c.in_ok-ended.ended.ends.ite
 pub returns-in_err-ended-clause-refused : goal.returns-in_err-ended-clause-refused
 returns-in_err-ended-clause-refused g c = told_so c.from_residual.result _ _ c.from_residual.ensures.1 (inl c.in_err-ended.ensures.refused)
 
-pub returns-in_err-write_report-clause-refused : goal.returns-in_err-write_report-clause-refused
-returns-in_err-write_report-clause-refused g c =
-    told_so c.from_residual-in_err-write_report.result _ _ c.from_residual-in_err-write_report.ensures.1
-    (unwritten_told _ _ c.in_ok-ended.ended _ _ _ c.in_ok-ended.ensures.sent c.in_err-write_report.ensures.failed c.in_err-write_report.ensures.front)
+pub returns-in_err-written-clause-refused : goal.returns-in_err-written-clause-refused
+returns-in_err-written-clause-refused g c =
+    told_so c.from_residual-in_err-written.result _ _ c.from_residual-in_err-written.ensures.1
+    (unwritten_told _ _ c.in_ok-ended.ended _ _ _ c.in_ok-ended.ensures.sent c.in_err-written.ensures.failed c.in_err-written.ensures.front)
 
 pub returns-in_err-ended-clause-unwritten : goal.returns-in_err-ended-clause-unwritten
 returns-in_err-ended-clause-unwritten g c = told_so c.from_residual.result _ _ c.from_residual.ensures.1 (λ other. refl)

@@ -1,0 +1,99 @@
+//! The reader of a bind's connection, which wakes the workers whose answers came in.
+
+ghost use Rattle.std.specs.Io.{ReadsAtMost};
+ghost use Rattle.std.specs.Io.KnownBytes.{ReadConsumes};
+
+use crate::bell::Bells;
+use crate::headers::Headers;
+use crate::journal::Journal;
+use crate::opening::{Deadline, Opening};
+use crate::outbox::Outbox;
+use crate::wakes::{Owners, Wakes};
+use std::alloc::Global;
+use std::fs::OpenFile;
+use std::io;
+use std::io::{Error, ErrorKind, Read, Write};
+use std::sync::Wait;
+use std::time::Clock;
+
+/// What has come in on a connection, as far as it matters to the device.
+#[derive(Drop)]
+pub struct Incoming {
+    opening: Opening,
+    headers: Headers,
+    /// Who is to be woken once the reader has handed on what came.
+    wakes: Wakes,
+}
+
+impl Incoming {
+    /// Nothing has come. None where memory runs out.
+    pub(crate) fn new(alloc: Global, deadline: Option<Deadline>) -> Option<Incoming> {
+        Some(Incoming {
+            opening: Opening::new(deadline),
+            headers: Headers::new(alloc)?,
+            wakes: Wakes::new(),
+        })
+    }
+
+    /// Octets came in.
+    fn see(&mut self, owners: Option<&Owners>, octets: &[u8]) {
+        if !self.opening.is_whole() {
+            self.opening.see(octets);
+        }
+        if let Some(owners) = owners {
+            self.wakes.see(owners, &mut self.headers, octets);
+        }
+    }
+}
+
+/// A reader that rings bells when it is asked for octets: a bind's reader has then handed on all
+/// answers that came before, so the workers whose answers ended in what it read are woken. It wakes all
+/// of the bind when it is dropped: the line is down then. A read fails where the bind has to be
+/// answered in time and isn't.
+pub struct Ringing<'r, 'j, S, R: Wait, F: Write + OpenFile> {
+    pub inner: S,
+    pub rt: &'j R,
+    /// The journal of the run, where it has one, behind which the outbox is written.
+    pub journal: Option<&'j Journal<F>>,
+    pub bells: &'r Bells,
+    pub bind: usize,
+    pub outbox: &'r Outbox<'j, R, F>,
+    pub incoming: Incoming,
+}
+
+impl<'r, 'j, S: Drop, R: Wait, F: Write + OpenFile> Drop for Ringing<'r, 'j, S, R, F> {
+    fn drop(self) {
+        let Ringing {
+            inner,
+            rt,
+            journal: _,
+            bells,
+            bind,
+            outbox: _,
+            incoming: _,
+        } = self;
+        drop(inner);
+        bells.ring_bind(rt, bind);
+    }
+}
+
+impl<'r, 'j, S: Read, R: Wait + Clock, F: Write + OpenFile> Read for Ringing<'r, 'j, S, R, F> {
+    ghost remaining = { λ r. S.remaining r.inner };
+
+    fn read(&mut self, buf: &mut [u8]) -> io::Result<usize>
+        ensures bound { ReadsAtMost result buf.new }
+        ensures bytes { ReadConsumes (S.remaining self.old.inner) (S.remaining self.new.inner) result buf.new }
+    {
+        self.outbox.flush();
+        self.incoming.wakes.ring(self.rt, self.bells, self.bind);
+        if self.incoming.opening.is_late(self.rt) {
+            return Err(Error::from(ErrorKind::ConnectionAborted));
+        }
+        let read = self.inner.read(buf);
+        if let Ok(count) = &read {
+            self.incoming
+                .see(self.bells.owners(self.bind), &buf[..*count]);
+        }
+        read
+    }
+}
