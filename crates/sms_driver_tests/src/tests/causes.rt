@@ -139,7 +139,7 @@ fn told_of(sending: &Sending) -> Result<Told, Fail> {
 }
 
 // What is told of a sending of so many messages over one bind.
-fn told<R: Threads + sync::Wait + time::Clock + Sync>(
+fn bind_told<R: Threads + sync::Wait + time::Clock + Sync>(
     rt: &R,
     alloc: Global,
     ending: Ending<'_>,
@@ -252,7 +252,11 @@ const ENDINGS: [Ending<'static>; 7] = [
 #[test]
 fn each_cause_is_told(rt: HostRuntime) -> Result<(), Fail> {
     for ending in &ENDINGS {
-        same(&rt, told(&rt, rt.alloc(), *ending, 1)?.cause, ending.cause);
+        same(
+            &rt,
+            bind_told(&rt, rt.alloc(), *ending, 1)?.cause,
+            ending.cause,
+        );
     }
     Ok(())
 }
@@ -268,7 +272,7 @@ fn a_write_that_fails_closes_its_bind(rt: HostRuntime) -> Result<(), Fail> {
         answer_ms: 1_000,
         cause: ReaderCause::Stopped,
     };
-    let told = told(&rt, rt.alloc(), ending, 3)?;
+    let told = bind_told(&rt, rt.alloc(), ending, 3)?;
     same(&rt, told.cause, ending.cause);
     let wanted = BindClosing {
         down: Some(DownBy::Write),
