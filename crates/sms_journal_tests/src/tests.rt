@@ -3,8 +3,10 @@
 mod lines;
 mod reading;
 
-use sms_journal::{Call, JournalError, MessageTold, Note, ResultTold, check_notes, recover, rows_told};
 use sms_book::{Opening, Tariff};
+use sms_journal::{
+    Call, JournalError, MessageTold, Note, ResultTold, check_notes, recover, rows_told,
+};
 use sms_pdu::{MessageId, Reply};
 use sms_session::Policy;
 use sms_worker::{Message, MessageRefusal, Outcome, Rules};

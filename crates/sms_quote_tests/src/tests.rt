@@ -1,7 +1,7 @@
 //! Quotes, worked out by hand.
 
-use sms_quote::{quote_text, warnings_text};
 use sms_files::{Input, read_input};
+use sms_quote::{quote_text, warnings_text};
 use std::alloc::{AllocError, Global};
 use std::fmt::Debug;
 use std::process::Abort;

@@ -3,8 +3,8 @@
 ghost use Rattle.std.specs.Prelude.{All};
 ghost use Rattle.sms_segment.specs.Part.{HasSeptets};
 
-use sms_segment::{CutError, JoinError, Part, Place, Reference, cut, join, laws};
 use sms_alphabet::{Coded, Coding, Units, choose};
+use sms_segment::{CutError, JoinError, Part, Place, Reference, cut, join, laws};
 use std::alloc::Global;
 use std::fmt::Debug;
 use std::process::Abort;

@@ -3,9 +3,9 @@
 ghost use Rattle.std.specs.Prelude.{◌<◌};
 ghost use Rattle.sms_core.specs.Limits.{most_slots};
 
-use sms_slot::{Answer, Expired, Search, Slot, SlotError, SlotRow, Taken};
 use rtrb::{Consumer, Producer, RingBuffer};
 use sms_pdu::{Reply, reply_of};
+use sms_slot::{Answer, Expired, Search, Slot, SlotError, SlotRow, Taken};
 use std::alloc::Global;
 use std::fmt::Debug;
 use std::process::Abort;

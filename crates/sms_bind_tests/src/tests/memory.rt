@@ -5,8 +5,8 @@
 use super::faults::{RESPONSES, STREAM};
 use super::reader::{bound_as, counts};
 use super::{ACCEPTED, BIND, Sink, bound_over, same, settings_of, source_of, wire_to};
-use sms_bind::{BindFault, Line, ReaderCause, Wire, read_loop};
 use rtrb::RingBuffer;
+use sms_bind::{BindFault, Line, ReaderCause, Wire, read_loop};
 use sms_pdu::Mode;
 use sms_session::State;
 use sms_slot::SlotRow;

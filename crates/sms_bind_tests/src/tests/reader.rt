@@ -5,8 +5,8 @@ ghost use Rattle.sms_bind.specs.Downs.{IsDownAt};
 ghost use Rattle.sms_core.specs.Limits.{most_slots};
 
 use super::{ACCEPTED, ENQUIRE_LINK, Sink, Source, bound_by, frame, same, source_of, wire_to};
-use sms_bind::{Bound, Down, DownCause, Line, ReaderCause, ReaderEnd, read_loop};
 use rtrb::{Consumer, Producer, RingBuffer};
+use sms_bind::{Bound, Down, DownCause, Line, ReaderCause, ReaderEnd, read_loop};
 use sms_pdu::{
     BIND_TRANSCEIVER_RESP, BIND_TRANSMITTER_RESP, Framer, Frames, Header, Mode, Reply, Tap,
 };

@@ -1,7 +1,9 @@
 //! Journals written by hand and read, and the digests of files.
 
 use super::same;
-use sms_journal::{Call, Digests, JournalError, Note, digests_of, read_notes, write_header, write_note};
+use sms_journal::{
+    Call, Digests, JournalError, Note, digests_of, read_notes, write_header, write_note,
+};
 use sms_pdu::reply_of;
 use sms_worker::MessageRefusal;
 use std::alloc::{AllocError, Global};

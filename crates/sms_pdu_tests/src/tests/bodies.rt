@@ -1,10 +1,10 @@
 //! Each kind of body, as chapter 4 of SMPP 3.4 lays it out, made of its fields and read as them.
 
-use sms_pdu::*;
 use super::{
     ESME, HI, NUMBER, SUBMIT, again_as, decoded, esme, had, has_length, hi, is_written, joined,
     message_of, one_parameter, pdu, same, want_octets, with_header,
 };
+use sms_pdu::*;
 use std::alloc::Global;
 use std::fmt::Debug;
 use std::process::Abort;

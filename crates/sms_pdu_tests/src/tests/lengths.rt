@@ -1,9 +1,9 @@
 //! PDUs of 70,000 octets, and of one more.
 
-use sms_pdu::*;
 use super::{
     again_as, decode_error, filled, had, has_length, is_written, pdu, want_error, zeros_behind,
 };
+use sms_pdu::*;
 use std::alloc::Global;
 use std::process::Abort;
 use std::test::*;

@@ -1,7 +1,7 @@
 //! Octets that spell no PDU: each field that ends too early, is too long or isn't what it has to be.
 
-use sms_pdu::*;
 use super::{ESME, HI, decode_error, had, joined, put, want_error, with_header};
+use sms_pdu::*;
 use std::alloc::Global;
 use std::process::Abort;
 use std::test::*;

@@ -1,7 +1,7 @@
 //! Values that no PDU has: each is refused by its field, and nothing is written.
 
-use sms_pdu::*;
 use super::{esme, had, has_length, hi, is_written, one_parameter, pdu, want_octets};
+use sms_pdu::*;
 use std::alloc::Global;
 use std::process::Abort;
 use std::test::*;

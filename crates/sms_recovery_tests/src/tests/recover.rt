@@ -2,8 +2,8 @@
 
 use super::same::same;
 use super::told::told_of;
-use sms_recovery::run_recover;
 use sms_journal::{digests_of, write_header};
+use sms_recovery::run_recover;
 use std::alloc::{AllocError, Global};
 use std::fmt::Write;
 use std::test::Fail;

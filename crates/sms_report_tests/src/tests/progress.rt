@@ -2,9 +2,9 @@
 
 use super::report::{reply, row, segment};
 use super::same::same;
-use sms_report::{EndLine, Tally, WayLine, summary_of, tally_of};
 use sms_book::Statement;
 use sms_pdu::Reply;
+use sms_report::{EndLine, Tally, WayLine, summary_of, tally_of};
 use sms_worker::{MessageEnd, MessageRefusal, MessageResult, Outcome, Segments};
 use std::alloc::Global;
 use std::test::Fail;

@@ -3,13 +3,12 @@
 ghost use Rattle.std.specs.Prelude.{◌≤◌, length};
 
 use super::same::same;
-use sms_report::OutputFault;
-use sms_report::{report_text, write_report_of};
 use sms_bind::{Receipt, Wire};
 use sms_book::{Opening, Statement};
 use sms_centre::Fuse;
 use sms_core::Row;
 use sms_pdu::{Frame, Reply, Tap, is_frame, reply_of};
+use sms_report::{OutputFault, report_text, write_report_of};
 use sms_worker::{
     Attempt, Attempts, MessageEnd, MessageRefusal, MessageResult, Outcome, SegmentEnd, Segments,
 };

@@ -1,9 +1,9 @@
 //! A reader of answers and a worker on one row.
 
 use super::{reply_to, rings, row_of, same};
-use sms_slot::{Search, SlotRow, Taken};
 use rtrb::{Consumer, Producer};
 use sms_pdu::Reply;
+use sms_slot::{Search, SlotRow, Taken};
 use std::process::Abort;
 use std::sync::Wait;
 use std::thread;
