@@ -12,9 +12,9 @@ abbrev pub behind_line : List ℕ → List ℕ
 behind_line [] = []
 behind_line (x ∷ xs) = if x == 10 then xs else behind_line xs
 
--- behind a line feed stand at least as many commas as a messages record has fields
+-- behind a line feed stand at least as many commas as a messages record has between its four fields
 abbrev pub looks_open : List ℕ → Bool
-looks_open text = nat_le 4 (commas (behind_line text))
+looks_open text = nat_le 3 (commas (behind_line text))
 
 -- the line of a message whose text looks so, and nothing of another
 abbrev pub warning_line : Message → List ℕ

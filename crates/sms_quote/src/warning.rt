@@ -8,8 +8,8 @@ use sms_worker::Message;
 use std::alloc::{AllocError, Global};
 use std::fmt::Write;
 
-/// How many commas behind a line feed look like records: as many as a messages record has fields.
-const FIELDS: usize = 4;
+/// How many commas behind a line feed look like records: as many as stand in a messages record.
+const COMMAS: usize = 3;
 
 /// How many commas there are.
 fn commas_in(text: &[u8]) -> usize
@@ -40,7 +40,7 @@ fn behind_line(text: &[u8]) -> &[u8]
 fn looks_open(text: &[u8]) -> bool
     ensures { result ≡ is_open text.now }
 {
-    commas_in(behind_line(text)) >= FIELDS
+    commas_in(behind_line(text)) >= COMMAS
 }
 
 /// The line of a message whose text looks so, and nothing of another.
@@ -68,7 +68,7 @@ fn write_warnings(text: &mut String, messages: &[Message]) -> Result<(), AllocEr
 }
 
 /// What is to be told of the messages of an input: a line for each whose text has a line feed and
-/// behind it at least as many commas as a messages record has fields. A quote that is left open in a
+/// behind it at least as many commas as stand in a messages record. A quote that is left open in a
 /// messages file makes such a text of the records behind it.
 pub fn warnings_text(alloc: Global, input: &Input) -> Result<String, AllocError>
     ensures { IfOk result (λ text. string_bytes text ≡ warning_lines input.now.messages.items) }
