@@ -25,8 +25,6 @@ mod share;
 mod statement;
 mod steps;
 mod tariff;
-#[cfg(test)]
-mod tests;
 mod till;
 
 pub use amounts::Amounts;

@@ -21,8 +21,6 @@ mod ringing;
 mod silence;
 mod standard;
 mod stopping;
-#[cfg(test)]
-mod tests;
 mod wakes;
 
 pub use bell::{Bells, Rest};

@@ -18,14 +18,14 @@ mod records;
 mod rows;
 mod schedule;
 mod setup;
-#[cfg(test)]
-mod tests;
 mod toml_value;
 
+pub use accounts::read_accounts;
 pub use config::{Answers, Config, Connection, FileNames, Flags, Retry};
 pub use fault::{InputFault, Source};
 pub use input::{Input, read_input};
 pub use limits::Limits;
+pub use message_rows::read_messages;
 pub use messages::{MessageText, read_texts};
 pub use schedule::{Schedule, read_schedule};
 pub use setup::{Setup, setup_of};

@@ -5,8 +5,6 @@
 
 mod policy;
 mod session;
-#[cfg(test)]
-mod tests;
 
 pub use policy::{Decision, Policy, PolicyError, decide};
 pub use session::{Action, OpenFault, Opened, Response, Session, State};

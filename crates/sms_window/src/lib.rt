@@ -8,8 +8,6 @@ pub mod laws;
 pub mod outcome;
 pub mod rule;
 pub mod seat;
-#[cfg(test)]
-mod tests;
 pub mod view;
 pub mod window;
 

@@ -1,4 +1,0 @@
-use Rattle.sms_book.proofs.tests.money_moves.Given as goal
-
-abbrev pub ghosts-moves : goal.ghosts-moves
-ghosts-moves g a = record { book = a.blank.book }

@@ -1,4 +1,0 @@
-use Rattle.sms_book.proofs.tests.threads.threads_share_a_book.Given as goal
-
-abbrev pub ghosts-many : goal.ghosts-many
-ghosts-many g a = record { book = a.blank.book }

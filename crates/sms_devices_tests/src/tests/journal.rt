@@ -1,0 +1,294 @@
+//! What a journal's file takes, and that no request goes out before its note.
+
+use super::paper::{Line, OpenGate, PaperFile, STILL_MS, Sheet, Still};
+use super::same::same;
+use sms_devices::{Guarded, Journal, JournalFiles, Noting};
+use sms_journal::{Digests, Note};
+use sms_pdu::{MessageId, Reply};
+use sms_worker::{Gate, MessageRefusal};
+use std::alloc::{AllocError, Global};
+use std::fs::OpenFile;
+use std::io::{BufWriter, Write};
+use std::process::Abort;
+use std::sync::Wait;
+use std::test::Fail;
+use std::time::Clock;
+use std::{fs, str};
+
+/// Room for all that the tests note.
+const ALL: usize = 1 << 20;
+
+const DIGESTS: Digests = Digests {
+    config: [1; 32],
+    accounts: [2; 32],
+    messages: [0xAB; 32],
+    tariff: None,
+};
+
+/// The first line of their journal.
+const HEADER: &str =
+    "journal,1,0101010101010101010101010101010101010101010101010101010101010101,0202020202020202020202020202020202020202020202020202020202020202,abababababababababababababababababababababababababababababababab,\n";
+
+/// What is noted of `told`.
+const LINES: &str =
+    "begun,1700000000123,4\nsent,1700000000123,7,1,4,1\nsent,1700000000123,31,2,4,255\nunsent,1700000000123,31,2\nheard,1700000000123,7,1,88,1,\nrefused,1700000000123,5,no-credit\nend,1700000000123,4\n";
+
+// A reply without a message_id.
+fn reply(number: u32) -> Reply {
+    Reply {
+        number,
+        status: 88,
+        nack: true,
+        id: MessageId::empty(),
+    }
+}
+
+// Tells the gate of two messages.
+fn tell<G: Gate>(rt: &impl Abort, gate: &G) {
+    assert!(rt; gate.ready(7));
+    gate.begun(7, 4);
+    assert!(rt; gate.pass(7, 1));
+    assert!(rt; gate.sending(7, 1, 4, 0));
+    assert!(rt; gate.sending(31, 2, 4, 254));
+    gate.unsent(31, 2);
+    gate.heard(7, &reply(1));
+    gate.refused(7, 5, MessageRefusal::NoCredit);
+    gate.see(7, &[], 0);
+    gate.see_last(7, &[]);
+}
+
+// The sheet has this text, and nothing was written since the last look at it.
+fn want<R: Wait + Abort>(rt: &R, alloc: Global, sheet: &Sheet, wanted: &str) {
+    let octets = sheet.take(rt, alloc);
+    match str::from_utf8(octets.as_slice()) {
+        Ok(text) => same(rt, text, wanted),
+        Err(_) => panic!(rt; "no text"),
+    }
+}
+
+/// Notes are written together when they are let out, in order; only then are they made durable, and
+/// only where that is asked for.
+#[test]
+fn writes_what_was_noted(rt: HostRuntime) {
+    let alloc = rt.alloc();
+    let still = Still {
+        rt: &rt,
+        can_be_read: true,
+    };
+    for (is_synced, syncs) in [(false, 0u32), (true, 2)] {
+        let sheet = Sheet::blank(alloc);
+        let file = PaperFile {
+            rt: &rt,
+            sheet: &sheet,
+            room: ALL,
+            syncs: is_synced,
+        };
+        let journal = Journal::new(alloc, file, is_synced);
+        journal.begin(&rt, &DIGESTS);
+        assert!(rt; journal.let_out(&rt));
+        want(&rt, alloc, &sheet, HEADER);
+        let noting = Noting {
+            rt: &still,
+            gate: &OpenGate,
+            journal: Some(&journal),
+        };
+        tell(&rt, &noting);
+        assert!(rt; journal.note(&still, &Note::End(4)));
+        want(&rt, alloc, &sheet, "");
+        assert!(rt; journal.let_out(&rt));
+        want(&rt, alloc, &sheet, LINES);
+        assert!(rt; journal.let_out(&rt));
+        assert!(rt; !journal.has_failed(&rt));
+        same(&rt, sheet.syncs(), syncs);
+    }
+}
+
+/// A clock that can't be read gives 0. A number that a note has no room for is as a failure.
+#[test]
+fn notes_without_a_clock(rt: HostRuntime) {
+    let alloc = rt.alloc();
+    let still = Still {
+        rt: &rt,
+        can_be_read: false,
+    };
+    let sheet = Sheet::blank(alloc);
+    let file = PaperFile {
+        rt: &rt,
+        sheet: &sheet,
+        room: ALL,
+        syncs: false,
+    };
+    let journal = Journal::new(alloc, file, false);
+    let noting = Noting {
+        rt: &still,
+        gate: &OpenGate,
+        journal: Some(&journal),
+    };
+    noting.begun(0, 3);
+    assert!(rt; !noting.sending(0, 1, 3, 255));
+    assert!(rt; journal.let_out(&rt));
+    want(&rt, alloc, &sheet, "begun,0,3\n");
+}
+
+/// A file that can't be made durable has failed, and nothing is written to it any more.
+#[test]
+fn fails_where_it_is_not_durable(rt: HostRuntime) {
+    let alloc = rt.alloc();
+    let sheet = Sheet::blank(alloc);
+    let file = PaperFile {
+        rt: &rt,
+        sheet: &sheet,
+        room: ALL,
+        syncs: false,
+    };
+    let journal = Journal::new(alloc, file, true);
+    journal.begin(&rt, &DIGESTS);
+    assert!(rt; !journal.let_out(&rt));
+    want(&rt, alloc, &sheet, HEADER);
+    assert!(rt; journal.has_failed(&rt));
+    assert!(rt; !journal.note(&rt, &Note::End(0)));
+    assert!(rt; !journal.let_out(&rt));
+    want(&rt, alloc, &sheet, "");
+    same(&rt, sheet.syncs(), 1);
+}
+
+/// How many octets a frame of the tests has.
+const FRAME: usize = 4;
+
+/// How many requests they send.
+const REQUESTS: u32 = 12;
+
+// Sends the requests that pass the gate, and gives how many did.
+fn send_requests<G: Gate, W: Write>(gate: &G, writer: &mut W) -> u32 {
+    let mut passed = 0u32;
+    for number in 1..=REQUESTS {
+        gate.begun(0, u64::from(number));
+        if gate.sending(0, number, u64::from(number), 0) {
+            passed = passed.saturating_add(1);
+            let _written = writer.write(&[number as u8; FRAME]);
+        }
+        if number % 5 == 0 {
+            let _flushed = writer.flush();
+        }
+    }
+    let _flushed = writer.flush();
+    passed
+}
+
+// Sends them over a connection behind this journal: what that took, and how many passed.
+fn send_over<'j, R: Wait + Clock, F: Write + OpenFile>(
+    rt: &'j R,
+    alloc: Global,
+    journal: &'j Journal<F>,
+) -> Result<(Vec<u8>, u32), AllocError> {
+    let noting = Noting {
+        rt,
+        gate: &OpenGate,
+        journal: Some(journal),
+    };
+    let guarded = Guarded {
+        connection: Line {
+            octets: Vec::new(alloc),
+        },
+        rt,
+        journal: Some(journal),
+    };
+    let Ok(mut writer) = BufWriter::with_capacity(alloc, 10, guarded) else {
+        return Err(AllocError);
+    };
+    let passed = send_requests(&noting, &mut writer);
+    let mut octets = Vec::new(alloc);
+    octets.extend_from_slice(writer.get_ref().connection.octets.as_slice())?;
+    Ok((octets, passed))
+}
+
+// Sends requests behind a journal whose file takes so many octets: what the connection took, and how
+// many requests passed the gate.
+fn send_behind<'r, R: Wait + Clock + Abort>(
+    rt: &'r R,
+    alloc: Global,
+    sheet: &'r Sheet,
+    room: usize,
+) -> Result<(Vec<u8>, u32), AllocError> {
+    let still = Still {
+        rt,
+        can_be_read: true,
+    };
+    let file = PaperFile {
+        rt,
+        sheet,
+        room,
+        syncs: true,
+    };
+    let journal = Journal::new(alloc, file, room % 2 == 0);
+    journal.begin(rt, &DIGESTS);
+    let sent = send_over(&still, alloc, &journal)?;
+    let is_whole = journal.let_out(rt);
+    assert!(rt; is_whole != journal.has_failed(rt));
+    Ok(sent)
+}
+
+// How many whole lines of a text begin with a word.
+fn lines_of(text: &str, word: &str) -> usize {
+    let mut count = 0usize;
+    for line in text.split_inclusive('\n') {
+        if line.starts_with(word) && line.ends_with('\n') {
+            count = count.saturating_add(1);
+        }
+    }
+    count
+}
+
+/// Wherever the file fails, it has a front of what was noted, and no octet of a request went to the
+/// connection whose note isn't whole in the file.
+#[test]
+fn sends_nothing_that_is_not_noted(rt: HostRuntime) -> Result<(), Fail> {
+    let alloc = rt.alloc();
+    let sheet = Sheet::blank(alloc);
+    let (octets, passed) = send_behind(&rt, alloc, &sheet, ALL)?;
+    same(&rt, passed, REQUESTS);
+    same(&rt, octets.len(), REQUESTS as usize * FRAME);
+    let whole = sheet.take(&rt, alloc);
+    let Ok(text) = str::from_utf8(whole.as_slice()) else {
+        return Err("no text".into());
+    };
+    assert!(rt; text.starts_with(HEADER));
+    same(&rt, lines_of(text, "sent,"), REQUESTS as usize);
+    for room in 0..text.len() {
+        let (octets, passed) = send_behind(&rt, alloc, &sheet, room)?;
+        let written = sheet.take(&rt, alloc);
+        let Some(front) = text.get(..room) else {
+            return Err("no text".into());
+        };
+        same(&rt, written.as_slice(), front.as_bytes());
+        let noted = lines_of(front, "sent,");
+        assert!(rt; octets.len() <= noted.saturating_mul(FRAME));
+        assert!(rt; octets.len() <= (passed as usize).saturating_mul(FRAME));
+    }
+    Ok(())
+}
+
+/// Without a journal a gate notes nothing and lets everything pass.
+#[test]
+fn passes_all_without_a_journal(rt: HostRuntime) {
+    let noting: Noting<'_, OpenGate, HostRuntime, PaperFile<'_, HostRuntime>> = Noting {
+        rt: &rt,
+        gate: &OpenGate,
+        journal: None,
+    };
+    tell(&rt, &noting);
+    assert!(rt; noting.sending(0, 1, 3, 255));
+}
+
+/// A journal's file is a new one.
+#[test]
+fn makes_a_new_file(rt: HostRuntime) {
+    const NAME: &str = "journal-of-a-test.csv";
+    let _removed = fs::remove_file(&rt, NAME);
+    let Ok(file) = rt.create_journal(NAME) else {
+        panic!(rt; "no file")
+    };
+    assert!(rt; rt.create_journal(NAME).is_err());
+    assert!(rt; file.sync_data().is_ok());
+    assert!(rt; fs::remove_file(&rt, NAME).is_ok());
+}

@@ -1,0 +1,37 @@
+//! What the program `sms-send` does: the jobs that its words ask for, over the files, the streams and the
+//! connections of the system or of a test, with their faults and exit statuses.
+
+#![tactic(auto)]
+
+mod command_line;
+mod fault;
+mod job;
+pub mod laws;
+mod noted;
+mod opened;
+mod order;
+mod pacing;
+mod plan;
+mod quote_job;
+mod reading;
+mod recover_job;
+mod replay;
+mod run;
+mod run_files;
+mod send_job;
+mod sender;
+mod sending;
+mod standard_error;
+mod status;
+mod words;
+
+pub use fault::Fault;
+pub use job::{Job, job_of};
+pub use order::{JournalFile, Order, Pace, RecoverOrder, RestOrder};
+pub use plan::run_plan;
+pub use quote_job::run_quote;
+pub use reading::setup_of;
+pub use replay::run_replay;
+pub use run::{do_job, run, status_after, tell};
+pub use send_job::run_sender;
+pub use status::status_of;

@@ -1,0 +1,109 @@
+//! The program over its words: the job that they ask for, and what is told of a fault.
+
+ghost use Rattle.std.specs.Prelude.{◌≡◌, ◌≢◌, ◌⊎◌, List, IfErr, IfOk, is_ok, map, string_bytes, if◌then◌else◌};
+ghost use Rattle.clap.specs.Words.{Text};
+ghost use Rattle.sms_send.specs.Faults.{status_of};
+ghost use Rattle.sms_send.specs.Jobs.{Does, IsStatusOf, TellsJob, TellsRun, Works};
+ghost use Rattle.sms_send.specs.declared.fault.Fault.TheVariants.{Journal, Output, OutOfMemory, Words};
+
+use crate::fault::Fault;
+use crate::job::{Job, job_of};
+use crate::opened::open;
+use crate::plan::run_plan;
+use crate::quote_job::quote_job;
+use crate::recover_job::{recover_job, rest_job};
+use crate::replay::run_replay;
+use crate::send_job::{Centre, send_job};
+use sms_devices::Host;
+use std::io::{ErrorKind, Write};
+use std::net::{Net, TcpListener, TcpStream};
+use std::rt::Env;
+use std::{env, io};
+
+/// Does the job that the program's words ask for, and gives the exit status.
+pub fn run<R: Host + Net<Stream = TcpStream, Listener = TcpListener>, W: Write>(
+    rt: &R,
+    output: &mut W,
+) -> Result<u8, Fault>
+    ensures done { IfOk result (λ status. (words : List Text) × Works R.Reader.remaining R.File.remaining words status (W.contents output.old) (W.contents output.new)) }
+    ensures unwritten { IfErr result (λ fault. fault ≢ Output → fault ≢ Journal → output.new ≡ output.old) }
+{
+    let words = words_of(rt)?;
+    do_words(rt, words.as_slice(), output)
+}
+
+/// The words after the program's name. One that is not UTF-8 is refused.
+fn words_of<R: AllocGlobal + Env>(rt: &R) -> Result<Vec<String>, Fault>
+    ensures { IfErr result (λ fault. (fault ≡ Words) ⊎ (fault ≡ OutOfMemory)) }
+{
+    match env::args(rt) {
+        Ok(words) => Ok(words.skip(1).collect(rt.alloc())?),
+        Err(error) if error.kind() == ErrorKind::OutOfMemory => Err(Fault::OutOfMemory),
+        Err(_) => Err(Fault::Words),
+    }
+}
+
+/// Does the job that these words ask for, and gives the exit status.
+fn do_words<R: Host + Net<Stream = TcpStream, Listener = TcpListener>, W: Write>(
+    rt: &R,
+    words: &[String],
+    output: &mut W,
+) -> Result<u8, Fault>
+    ensures done { IfOk result (λ status. Works R.Reader.remaining R.File.remaining (map string_bytes words.now) status (W.contents output.old) (W.contents output.new)) }
+    ensures refused { IfErr result (TellsRun R.Reader.remaining R.File.remaining (map string_bytes words.now) (W.contents output.old) (W.contents output.new)) }
+    ensures unwritten { IfErr result (λ fault. fault ≢ Output → fault ≢ Journal → output.new ≡ output.old) }
+{
+    match job_of(rt.alloc(), words) {
+        Ok(job) => do_job(rt, job, output),
+        Err(fault) => Err(fault),
+    }
+}
+
+/// Does a job, and gives the exit status.
+pub fn do_job<R: Host + Net<Stream = TcpStream, Listener = TcpListener>, W: Write>(
+    rt: &R,
+    job: Job,
+    output: &mut W,
+) -> Result<u8, Fault>
+    ensures status { IfOk result (IsStatusOf job) }
+    ensures done { IfOk result (Does R.Reader.remaining R.File.remaining job (W.contents output.old) (W.contents output.new)) }
+    ensures refused { IfErr result (TellsJob R.Reader.remaining R.File.remaining job (W.contents output.old) (W.contents output.new)) }
+    ensures unwritten { IfErr result (λ fault. fault ≢ Output → fault ≢ Journal → output.new ≡ output.old) }
+{
+    match job {
+        Job::Replay(None) => run_replay(rt.alloc(), rt.reader(), output),
+        Job::Replay(Some(name)) => run_replay(rt.alloc(), open(rt, name)?, output),
+        Job::Plan(name, long) => run_plan(rt.alloc(), open(rt, name)?, long, output),
+        Job::Quote(config) => quote_job(rt, config, output),
+        Job::Loop(order) => send_job(rt, Centre::Own, order, output),
+        Job::Send(order) => send_job(rt, Centre::Named, order, output),
+        Job::Recover(order) => recover_job(rt, order, output),
+        Job::Rest(order) => rest_job(rt, order, output),
+    }
+}
+
+/// Tells a fault in one line on standard error, and help or the version on standard output. That
+/// they can't be printed is a fault of the output, which is told in its turn.
+pub fn tell<R: Eprint + Print>(rt: &R, fault: &Fault) -> io::Result<()> {
+    match fault {
+        Fault::Help(text) | Fault::Version(text) => {
+            let printed = print!(rt; "{text}");
+            if printed.is_err() {
+                let unprinted = Fault::Output;
+                eprintln!(rt; "{unprinted}")?;
+            }
+            printed
+        }
+        _ => eprintln!(rt; "{fault}"),
+    }
+}
+
+/// The exit status after a fault was told: its own, and that of the output where telling failed.
+pub fn status_after(told: &io::Result<()>, fault: &Fault) -> u8
+    ensures { result ≡ (if is_ok told.now then status_of fault.now else status_of Output) }
+{
+    match told {
+        Ok(()) => fault.exit_status(),
+        Err(_) => Fault::Output.exit_status(),
+    }
+}

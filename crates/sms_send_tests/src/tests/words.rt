@@ -1,0 +1,285 @@
+//! The words of the command line, and the jobs that they ask for.
+
+use super::same::same;
+use sms_send::{Fault, Job, JournalFile, Order, job_of};
+use std::alloc::Global;
+use std::process::Abort;
+use std::test::Fail;
+
+/// Words, and the file of the job, or the text of the fault.
+const READ: [(&str, &str); 69] = [
+    ("", "standard input"),
+    ("replay -", "standard input"),
+    ("replay events.csv", "events.csv"),
+    ("replay", "fault: words"),
+    ("plan --messages x", "plan of x"),
+    ("plan --messages -", "plan of -"),
+    ("plan --messages x --long", "long plan of x"),
+    ("plan --long --messages x", "long plan of x"),
+    ("plan --long", "fault: words"),
+    ("plan --messages x --long=true", "fault: words"),
+    ("replay --long x", "fault: words"),
+    ("plan", "fault: words"),
+    ("plan x", "fault: words"),
+    ("plan --messages", "fault: words"),
+    ("plan --messages x y", "fault: words"),
+    ("replay a b", "fault: words"),
+    ("frob", "fault: words"),
+    ("plan --version", "fault: words"),
+    ("loop --config c.toml", "loop of c.toml"),
+    ("loop --config c.toml --quiet", "quiet loop of c.toml"),
+    ("loop --quiet --config=-", "quiet loop of -"),
+    ("send --config c.toml", "send of c.toml"),
+    ("send --quiet --config c.toml", "quiet send of c.toml"),
+    ("loop", "fault: words"),
+    ("loop --quiet", "fault: words"),
+    ("loop --config", "fault: words"),
+    ("loop c.toml", "fault: words"),
+    ("loop --config a b", "fault: words"),
+    ("loop --config a --config b", "fault: words"),
+    ("loop --config a --quiet=true", "fault: words"),
+    ("loop --config a --long", "fault: words"),
+    ("send", "fault: words"),
+    ("send --messages x", "fault: words"),
+    ("send --config a --quiet --quiet", "fault: words"),
+    ("plan --config x", "fault: words"),
+    ("plan --messages x --quiet", "fault: words"),
+    ("replay --quiet x", "fault: words"),
+    ("Loop --config a", "fault: words"),
+    ("loop send --config a", "fault: words"),
+    ("recover --config c --journal j", "recovery of j"),
+    ("recover --journal=j --config=c", "recovery of j"),
+    ("recover --config c", "fault: words"),
+    ("recover --journal j", "fault: words"),
+    ("recover --config c --journal", "fault: words"),
+    ("recover --config c --journal j --quiet", "fault: words"),
+    ("recover --config c --report r", "fault: words"),
+    ("rest --config c --report r", "rest of r"),
+    (
+        "rest --accounts --config c --report r",
+        "accounts left of r",
+    ),
+    ("rest --config c", "fault: words"),
+    ("rest --report r", "fault: words"),
+    ("rest --config c --journal j", "fault: words"),
+    (
+        "rest --config c --report r --accounts --accounts",
+        "fault: words",
+    ),
+    ("plan --messages x --report r", "fault: words"),
+    ("plan --messages x --journal y", "fault: words"),
+    ("replay --rate 5 x", "fault: words"),
+    ("send --journal y", "fault: words"),
+    ("quote --config c", "quote of c"),
+    ("quote --config=-", "quote of -"),
+    ("quote", "fault: words"),
+    ("quote c", "fault: words"),
+    ("quote --config", "fault: words"),
+    ("quote --config c --config d", "fault: words"),
+    ("quote --config c --quiet", "fault: words"),
+    ("quote --messages m", "fault: words"),
+    ("loop --config c --strict", "strict loop of c"),
+    ("send --strict --config c", "strict send of c"),
+    ("send --strict", "fault: words"),
+    ("send --config c --strict --strict", "fault: words"),
+    ("recover --config c --journal j --strict", "fault: words"),
+];
+
+// The words of a line.
+fn words_of(rt: &(impl AllocGlobal + Abort), line: &str) -> Vec<String> {
+    let mut words = Vec::new(rt.alloc());
+    for word in line.split_whitespace() {
+        let Ok(word) = String::from_str(rt.alloc(), word) else {
+            panic!(rt; "no memory")
+        };
+        if words.push(word).is_err() {
+            panic!(rt; "no memory")
+        }
+    }
+    words
+}
+
+// What a job is called, before its file.
+fn called(job: &Job) -> &str {
+    match job {
+        Job::Replay(None) => "standard input",
+        Job::Replay(Some(_)) => "",
+        Job::Plan(_, true) => "long plan of ",
+        Job::Plan(_, false) => "plan of ",
+        Job::Quote(_) => "quote of ",
+        Job::Loop(order) if order.strict => "strict loop of ",
+        Job::Send(order) if order.strict => "strict send of ",
+        Job::Loop(order) if order.quiet => "quiet loop of ",
+        Job::Loop(_) => "loop of ",
+        Job::Send(order) if order.quiet => "quiet send of ",
+        Job::Send(_) => "send of ",
+        Job::Recover(_) => "recovery of ",
+        Job::Rest(order) if order.accounts => "accounts left of ",
+        Job::Rest(_) => "rest of ",
+    }
+}
+
+// The file of a job.
+fn file_of(job: &Job) -> &str {
+    match job {
+        Job::Replay(None) => "",
+        Job::Replay(Some(name)) => name.as_str(),
+        Job::Plan(name, _) | Job::Quote(name) => name.as_str(),
+        Job::Loop(order) | Job::Send(order) => order.config.as_str(),
+        Job::Recover(order) => order.journal.as_str(),
+        Job::Rest(order) => order.report.as_str(),
+    }
+}
+
+// That the job is called so, with its file.
+fn want_job(rt: &impl Abort, job: &Job, wanted: &str) {
+    match wanted.strip_prefix(called(job)) {
+        Some(file) => same(rt, file_of(job), file),
+        None => panic!(rt; "another job"),
+    }
+}
+
+// That this is read of the words.
+fn want_read(rt: &(impl AllocGlobal + Abort), words: &[String], wanted: &str) {
+    match job_of(rt.alloc(), words) {
+        Ok(job) => want_job(rt, &job, wanted),
+        Err(fault) => match fault.to_string(rt.alloc()) {
+            Ok(text) => same(rt, text.as_str(), wanted),
+            Err(_) => panic!(rt; "no memory"),
+        },
+    }
+}
+
+#[test]
+fn reads_the_words(rt: HostRuntime) {
+    for (line, wanted) in &READ {
+        let words = words_of(&rt, line);
+        want_read(&rt, words.as_slice(), wanted);
+    }
+}
+
+/// Words behind `--config c.toml`, and what they ask for beside it: the journal, whether it is synced, and
+/// the three numbers, 0 where there is none; or nothing where they are refused.
+const ORDERED: [(&str, Option<(&str, bool, [u32; 3])>); 33] = [
+    ("", Some(("", false, [0, 0, 0]))),
+    ("--journal j.csv", Some(("j.csv", false, [0, 0, 0]))),
+    ("--journal=j.csv --sync", Some(("j.csv", true, [0, 0, 0]))),
+    ("--sync --journal -", Some(("-", true, [0, 0, 0]))),
+    ("--sync", None),
+    ("--journal", None),
+    ("--journal a --journal b", None),
+    ("--journal a --sync --sync", None),
+    ("--journal a --sync=true", None),
+    ("--connect-ms 1", Some(("", false, [1, 0, 0]))),
+    ("--connect-ms 600000", Some(("", false, [600_000, 0, 0]))),
+    ("--connect-ms 600001", None),
+    ("--connect-ms 0", None),
+    ("--connect-ms", None),
+    ("--connect-ms 5 --connect-ms 5", None),
+    ("--connect-ms +5", None),
+    ("--connect-ms=-5", None),
+    ("--connect-ms 5ms", None),
+    ("--connect-ms 1.5", None),
+    ("--connect-ms 4294967297", None),
+    ("--connect-ms 18446744073709551617", None),
+    (
+        "--connect-ms 00000000000000000007",
+        Some(("", false, [7, 0, 0])),
+    ),
+    ("--connect-ms 000000000000000000007", None),
+    ("--rate 1", Some(("", false, [0, 1, 0]))),
+    ("--rate=100000", Some(("", false, [0, 100_000, 0]))),
+    ("--rate 100001", None),
+    ("--rate 0", None),
+    ("--stop-after 1", Some(("", false, [0, 0, 1]))),
+    ("--stop-after 1000000", Some(("", false, [0, 0, 1_000_000]))),
+    ("--stop-after 1000001", None),
+    ("--stop-after 0", None),
+    (
+        "--stop-after 3 --rate 2 --connect-ms 1 --sync --journal j",
+        Some(("j", true, [1, 2, 3])),
+    ),
+    ("--frob", None),
+];
+
+// The sending that a job asks for.
+fn order_in(rt: &impl Abort, job: Job) -> Order {
+    match job {
+        Job::Loop(order) | Job::Send(order) => order,
+        _ => panic!(rt; "another job"),
+    }
+}
+
+// What a journal is called, and whether it is synced.
+fn journal_in(journal: &Option<JournalFile>) -> (&str, bool) {
+    match journal {
+        Some(file) => (file.name.as_str(), file.sync),
+        None => ("", false),
+    }
+}
+
+// That the sending is asked for so.
+fn want_order(rt: &impl Abort, order: &Order, wanted: (&str, bool, [u32; 3])) {
+    let (name, sync) = journal_in(&order.journal);
+    let pace = order.pace;
+    let numbers = [
+        pace.connect_ms.unwrap_or(0),
+        pace.rate.unwrap_or(0),
+        pace.stop_after.unwrap_or(0),
+    ];
+    same(rt, (name, sync, numbers), wanted);
+    same(rt, order.config.as_str(), "c.toml");
+}
+
+// That this is read of the words.
+fn want_ordered(rt: &impl Abort, read: Result<Job, Fault>, wanted: Option<(&str, bool, [u32; 3])>) {
+    match (read, wanted) {
+        (Ok(job), Some(wanted)) => want_order(rt, &order_in(rt, job), wanted),
+        (Err(fault), None) => same(rt, fault.exit_status(), 2),
+        _ => panic!(rt; "read otherwise"),
+    }
+}
+
+#[test]
+fn reads_what_bounds_a_sending(rt: HostRuntime) {
+    for (line, wanted) in &ORDERED {
+        for name in ["loop", "send"] {
+            let Ok(whole) = format!(in rt.alloc(); "{name} --config c.toml {line}") else {
+                panic!(rt; "no memory")
+            };
+            let words = words_of(&rt, whole.as_str());
+            want_ordered(&rt, job_of(rt.alloc(), words.as_slice()), *wanted);
+        }
+    }
+}
+
+/// The fault that these words are answered with.
+fn answer_to(alloc: Global, words: &str) -> Result<Fault, Fail> {
+    let mut given = Vec::new(alloc);
+    for word in words.split_whitespace() {
+        given.push(String::from_str(alloc, word)?)?;
+    }
+    Ok(job_of(alloc, given.as_slice()).err().ok_or("a job")?)
+}
+
+#[test]
+fn gives_help_and_version(rt: HostRuntime) -> Result<(), Fail> {
+    for (words, usage) in [
+        ("--help", "Usage: sms-send [COMMAND]"),
+        ("plan --help", "Usage: sms-send plan"),
+        ("loop --help", "Usage: sms-send loop"),
+        ("send -h", "Usage: sms-send send"),
+        ("help send", "--quiet"),
+        ("help loop", "--journal <FILE>"),
+        ("help send", "--connect-ms <N>"),
+        ("help loop", "--strict"),
+        ("quote --help", "Usage: sms-send quote"),
+        ("help replay", "Usage: sms-send replay"),
+    ] {
+        let fault = answer_to(rt.alloc(), words)?;
+        assert!(rt; matches!(&fault, Fault::Help(text) if text.as_str().contains(usage)));
+    }
+    let fault = answer_to(rt.alloc(), "--version")?;
+    assert!(rt; matches!(&fault, Fault::Version(text) if text.as_str().starts_with("sms-send ")));
+    Ok(())
+}
