@@ -14,4 +14,6 @@ pub struct Limits {
     /// Requests that a worker may have open at once, 1 to 64.
     pub depth: u32,
     pub ghost few: { (binds ≤ 4) × (workers ≤ 8) },
+    pub ghost some_open: { 1 ≤ depth },
+    pub ghost few_open: { depth ≤ 64 },
 }

@@ -7,9 +7,11 @@ pub mod Earliest
 pub mod EndLemmas
 pub mod EndsOf
 pub mod Events
+pub mod Finding
 pub mod Keeping
 pub mod Kept
 pub mod Naming
+pub mod Placed
 pub mod Leaving
 pub mod Resting
 pub mod Rising

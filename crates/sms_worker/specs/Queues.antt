@@ -113,6 +113,10 @@ pub record IsDue (texts : List TextsState) (qs : List Queue) (now k : ℕ) : Typ
 abbrev pub NoneIsDue : List TextsState → List Queue → ℕ → Type 0
 NoneIsDue texts qs now = (j : ℕ) (place : SegmentPlace) → first_in qs j ≡ Some place → now < due_at texts place
 
+-- the segment is that first one
+abbrev pub IsFirstDue : List TextsState → List Queue → ℕ → SegmentPlace → ℕ → Type 0
+IsFirstDue texts qs now place k = IsDue texts qs now k × (first_in qs k ≡ Some place)
+
 -- the one of two heads that is due before the other; none is as good as one that isn't due
 abbrev pub sooner_of : ℕ → Option Head → Head → Option Head
 sooner_of now None head = if nat_le head.due_ms now then Some head else None

@@ -2,10 +2,12 @@
 use Rattle.std.specs.Prelude.{◌≡◌, ℕ, ◌+◌, ◌<◌, ◌≤◌, ◌⊎◌, List, length, Some, slice_get}
 use Rattle.sms_worker.specs.declared.ends.Attempt.{Attempt}
 use Rattle.sms_worker.specs.declared.ends.MessageEnd.{MessageEnd}
+use Rattle.sms_worker.specs.declared.ends.SegmentEnd.{SegmentEnd}
 use Rattle.sms_worker.specs.declared.open.Open.{Open}
 use Rattle.sms_worker.specs.declared.open.SegmentPlace.{SegmentPlace}
 use Rattle.sms_worker.specs.declared.queue.Queue.{Queue}
 use Rattle.sms_worker.specs.Apart.{IsAttempt}
+use Rattle.sms_worker.specs.Ends.{segment_at}
 use Rattle.sms_worker.specs.Queues.{first_in}
 use Rattle.sms_worker.specs.TextsState.{TextsState, kept_at, link_of}
 
@@ -41,6 +43,14 @@ pub record InOrder (es : List MessageEnd) (next : ℕ) (opened : List Open) (qs 
 pub record IsNext (es : List MessageEnd) (next : ℕ) (place : SegmentPlace) : Type 0 where
   pub last : length es ≡ place.message + 1
   pub part : place.part ≡ next
+
+-- the segment has an end
+abbrev pub IsThere : List MessageEnd → SegmentPlace → Type 0
+IsThere es place = (s : SegmentEnd) × (segment_at es place.message place.part ≡ Some s)
+
+-- a part of the last message wasn't tried yet
+abbrev pub HasNext : List MessageEnd → ℕ → Type 0
+HasNext es next = (place : SegmentPlace) × IsNext es next place × IsThere es place
 
 -- its turn has come: it was sent before, or it is the next
 abbrev pub HasTurn : List MessageEnd → ℕ → SegmentPlace → Type 0

@@ -34,6 +34,8 @@ no_start = record {
     tariff = [];
     long_reference = false;
     bounded = omega arith;
+    some_open = omega arith;
+    few_open = omega arith;
   };
   messages = [];
   seat = record { window = no_table; view = nobody };

@@ -1,5 +1,5 @@
 -- What the steps on one segment end do.
-use Rattle.std.specs.Prelude.{◌≡◌, ℕ, ◌⊎◌, List, [], ◌∷◌, ◌++◌, Option, Some, None}
+use Rattle.std.specs.Prelude.{◌≡◌, ℕ, ◌⊎◌, List, [], ◌∷◌, ◌++◌, length, Option, Some, None}
 use Rattle.sms_pdu.specs.declared.reply.Reply.{Reply}
 use Rattle.sms_segment.specs.declared.part.Part.{Part}
 use Rattle.sms_session.specs.declared.policy.Decision.{Decision}
@@ -43,6 +43,13 @@ abbrev pub outcome_after : Decision → Outcome
 outcome_after Charge = Charged
 outcome_after Refuse = Refused
 outcome_after (RetryAfter ms) = Unanswered
+
+-- the segment at the place has so many attempts then, and that outcome; the others are as they were
+pub record SettlesTo (old : List MessageEnd) (place : SegmentPlace) (attempts : ℕ) (decision : Decision) (new : List MessageEnd) : Type 0 where
+  pub segment : SegmentEnd
+  pub now : new ≡ put old place.message place.part segment
+  pub count : attempts ≡ length segment.attempts
+  pub outcome : segment.outcome ≡ outcome_after decision
 
 abbrev pub with_outcome : Outcome → SegmentEnd → SegmentEnd
 with_outcome outcome s = record s { outcome = outcome }

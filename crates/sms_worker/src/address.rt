@@ -53,6 +53,14 @@ pub(crate) fn destination(text: &str) -> Option<AddressRef<'_>>
     None
 }
 
+/// How a destination is sent that is good.
+pub(crate) fn good_destination(text: &str) -> AddressRef<'_>
+    requires { IsNumber text.now }
+    ensures { IsDestination text.now (owned result) }
+{
+    number(text.as_bytes())
+}
+
 /// The source, where it is good.
 pub(crate) fn source(text: &str) -> Option<AddressRef<'_>>
     ensures good { IfSome result (λ a. IsSource text.now (owned a)) }
@@ -77,4 +85,21 @@ pub(crate) fn source(text: &str) -> Option<AddressRef<'_>>
         });
     }
     None
+}
+
+/// How a source is sent that is good.
+pub(crate) fn good_source(text: &str) -> AddressRef<'_>
+    requires { (a : Address) × IsSource text.now a }
+    ensures { IsSource text.now (owned result) }
+{
+    let text = text.as_bytes();
+    if is_number(text) {
+        return number(text);
+    }
+    let ton = if text.is_empty() { 0 } else { 5 };
+    AddressRef {
+        ton,
+        npi: 0,
+        octets: text,
+    }
 }

@@ -10,12 +10,12 @@ ghost use Rattle.sms_segment.specs.declared.part.Part.{Part};
 ghost use Rattle.sms_window.specs.OpenSlots.{IsOpen};
 ghost use Rattle.sms_window.specs.Seats.{used_up};
 ghost use Rattle.sms_worker.specs.Keeps.{slots_of};
-ghost use Rattle.sms_worker.specs.Submits.{SpellsSubmit};
+ghost use Rattle.sms_worker.specs.Submits.{HasAddresses, SpellsSubmit};
 ghost use Rattle.sms_worker.specs.Steps.{Tries, Draws, Opens};
 ghost use Rattle.sms_worker.specs.declared.attempt.Number.TheVariants.{UsedUp};
 ghost use Rattle.sms_worker.specs.UserData.{user_data};
 
-use crate::address::{destination, source};
+use crate::address::{good_destination, good_source};
 use crate::context::WorkerContext;
 use crate::devices::{Clock, Gate};
 use crate::ends::Attempt;
@@ -71,8 +71,8 @@ pub fn draw(window: &Window, seat: &mut WindowSeat) -> Number
     Number::Contended
 }
 
-/// The frame of the submit_sm with this number, of the part with this user data; none where memory runs
-/// out.
+/// The frame of the submit_sm with this number, of the part with this user data, for a message whose
+/// addresses are good; none where memory runs out.
 fn frame_for(
     alloc: Global,
     rules: &Rules,
@@ -80,14 +80,11 @@ fn frame_for(
     carried: &UserData,
     number: u32,
 ) -> Option<Frame>
+    requires { HasAddresses message.now }
     ensures { (part : Part) → carried.now ≡ user_data part → IfSome result (λ frame. SpellsSubmit rules.now message.now part number frame) }
 {
-    let Some(from) = source(message.source.as_str()) else {
-        return None;
-    };
-    let Some(to) = destination(message.dest.as_str()) else {
-        return None;
-    };
+    let from = good_source(message.source.as_str());
+    let to = good_destination(message.dest.as_str());
     let sm = SmRef {
         service_type: &[],
         source_ton: from.ton,
@@ -200,6 +197,7 @@ fn try_send<N: BookName, W: Write, G: Gate, K: Clock, R: Wait>(
 ) -> Tried
     requires own { seat.old.window ≡ context.now.window.now }
     requires slot { slot < most_slots }
+    requires addresses { HasAddresses message.now }
     ensures window { seat.new.window ≡ seat.old.window }
     ensures slots { seat.new.view.slots ≡ seat.old.view.slots }
     ensures tried { (part : Part) → carried.now ≡ user_data part → Tries context.now.rules.now message.now part seat.old.view attempts.old.items result seat.new.view attempts.new.items }
@@ -248,6 +246,7 @@ pub(crate) fn start<N: BookName, W: Write, G: Gate, K: Clock, R: Wait>(
 ) -> Tried
     requires own { seat.old.window ≡ context.now.window.now }
     requires room { vec_len opened.old < vec_capacity opened.old }
+    requires addresses { HasAddresses message.now }
     ensures window { seat.new.window ≡ seat.old.window }
     ensures open { (base : ℕ) → IsOpen base (slots_of opened.old.items) seat.old.view.slots → IsOpen base (slots_of opened.new.items) seat.new.view.slots }
     ensures opened { Opens result place opened.old.items opened.new.items }

@@ -3,6 +3,7 @@
 ghost use Rattle.std.specs.Prelude.{◌≡◌, ◌==◌, ℕ, ◌<◌, ◌∷◌, ◌++◌, [], List, length, position, IfSome};
 ghost use Rattle.rtrb.specs.Ring.{received, SameConsumer};
 ghost use Rattle.sms_pdu.specs.declared.reply.Reply.{Reply};
+ghost use Rattle.sms_worker.specs.RunState.{NewlyWait};
 ghost use Rattle.sms_worker.specs.Told.{HeardSince};
 
 use crate::call::Call;
@@ -47,6 +48,7 @@ impl<N: BookName, C: Call> Run<'_, N, C> {
         requires rules { context.now.rules.now ≡ C.start.rules }
         requires heard { HeardSince (length C.start.received) self.old.heard reply }
         ensures heard { self.new.heard ≡ self.old.heard }
+        ensures waits { NewlyWait self.old.ends self.new }
     {
         let Some(i) = find(self.opened.as_slice(), reply.number) else {
             return;
@@ -112,11 +114,9 @@ impl<N: BookName, C: Call> Run<'_, N, C> {
         i: usize,
     ) -> bool
         requires window { context.now.window.now ≡ C.start.seat.window }
+        requires waits { i < length self.old.opened }
         ensures heard { self.new.heard ≡ self.old.heard }
     {
-        if i >= self.opened.len() {
-            return false;
-        }
         let open = self.opened[i];
         if context
             .line

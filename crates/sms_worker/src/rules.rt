@@ -1,6 +1,7 @@
 //! How a worker works.
 
 ghost use Rattle.std.specs.Prelude.{◌≤◌};
+ghost use Rattle.sms_core.specs.Limits.{most_slots};
 ghost use Rattle.sms_worker.specs.Limits.{most_turns};
 
 use sms_book::Tariff;
@@ -10,8 +11,7 @@ use sms_session::Policy;
 #[derive(Drop)]
 pub struct Rules {
     pub policy: Policy,
-    /// How many requests a worker may have open at once, 1 to 64. With 0 it sends nothing, and waits
-    /// until its turns are over.
+    /// How many requests a worker may have open at once, 1 to 64: a window has no more slots.
     pub depth: u32,
     /// How many milliseconds a request waits for its answer.
     pub answer_ms: u32,
@@ -24,4 +24,6 @@ pub struct Rules {
     /// Whether the references of concatenated messages have 16 bits.
     pub long_reference: bool,
     pub ghost bounded: { turns ≤ most_turns },
+    pub ghost some_open: { 1 ≤ depth },
+    pub ghost few_open: { depth ≤ most_slots },
 }

@@ -16,7 +16,8 @@ use std::snapshot::Snapshot;
 
 /// What a worker has: its messages and what became of those that it began, and what it sends with.
 /// `opened`, `queues` and `next` say where to look; what they say is checked against the ends.
-/// Contracts see the replies that it has heard, the ends, whether the bind is closed for it, and `next`.
+/// Contracts see the replies that it has heard, the ends, whether the bind is closed for it, `next`,
+/// the open requests, and the queues and texts.
 #[derive(Drop)]
 pub struct Run<'l, N: BookName, C: Call> {
     pub messages: Vec<Message>,
@@ -47,7 +48,7 @@ impl<'l, N: BookName, C: Call> Model for Run<'l, N, C> {
 
     ghost Value = { RunState };
 
-    ghost view = { λ r. record { heard = received r.heard.value; ends = r.ends.items; closed = r.closed; next = r.next } };
+    ghost view = { λ r. record { heard = received r.heard.value; ends = r.ends.items; closed = r.closed; next = r.next; opened = r.opened.items; queues = r.queues.all; texts = r.texts.items } };
 
     ghost invariant = { λ r. record {
       keeps : Keeps C.start r.messages.items r.ends.items (map carried r.texts.items) r.opened.items r.seat r.shares (received r.heard.value);

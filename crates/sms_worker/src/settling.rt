@@ -1,15 +1,18 @@
 //! Steps on one segment of a run: an answer, an attempt, the end.
 
-ghost use Rattle.std.specs.Prelude.{◌≡◌, ℕ, ◌+◌, ◌≤◌, ◌<◌, ◌⊎◌, ◌++◌, ◌∷◌, [], true, false, IsTrue, Some, None, OnSome, length};
+ghost use Rattle.std.specs.Prelude.{◌≡◌, ◌≢◌, ℕ, ◌+◌, ◌-◌, ◌≤◌, ◌<◌, ◌⊎◌, ◌++◌, ◌∷◌, [], true, false, IsTrue, Some, None, IfSome, OnSome, length, slice_get};
 ghost use Rattle.sms_book.specs.Portions.{amounts_at};
 ghost use Rattle.sms_worker.specs.declared.ends.MessageEnd.{MessageEnd};
 ghost use Rattle.sms_worker.specs.declared.ends.MessageRefusal.TheVariants.{BindClosed};
 ghost use Rattle.sms_worker.specs.declared.ends.MessageResult.TheVariants.{Refused};
 ghost use Rattle.sms_worker.specs.declared.ends.SegmentEnd.{SegmentEnd};
+ghost use Rattle.sms_session.specs.declared.policy.Decision.TheVariants.{Charge, Refuse, RetryAfter};
 ghost use Rattle.sms_worker.specs.Ends.{segment_at};
+ghost use Rattle.sms_worker.specs.Queues.{last_in};
 ghost use Rattle.sms_worker.specs.Rising.{HasTurn, WasSent};
-ghost use Rattle.sms_worker.specs.Steps.{settled_to, outcome_after};
+ghost use Rattle.sms_worker.specs.Steps.{SettlesTo, settled_to, outcome_after};
 ghost use Rattle.sms_worker.specs.Sweeps.{SweptAt, InPlace};
+ghost use Rattle.sms_worker.specs.TextsState.{changed, settled_one};
 ghost use Rattle.sms_worker.specs.Told.{HeardSince, IsSettled};
 
 use crate::attempt::{Tried, start};
@@ -93,7 +96,7 @@ impl<N: BookName, C: Call> Run<'_, N, C> {
 
     /// A segment of the message is settled, and needs its part no more.
     pub(crate) fn forget(&mut self, alloc: Global, place: SegmentPlace)
-        ensures { self.new ≡ self.old }
+        ensures { self.new ≡ record self.old { texts = changed settled_one self.old.texts place.message } }
     {
         settle_text(alloc, &mut self.texts, place);
     }
@@ -108,7 +111,10 @@ impl<N: BookName, C: Call> Run<'_, N, C> {
         decision: Decision,
     )
         requires sent { WasSent self.old.ends place }
-        ensures { self.new ≡ self.old }
+        ensures same { (self.new.heard ≡ self.old.heard) × (self.new.ends ≡ self.old.ends) }
+        ensures waits { (ms : ℕ) → decision ≡ RetryAfter ms → 1 ≤ attempts → attempts ≤ 10 → last_in self.new.queues (attempts - 1) ≡ Some place }
+        ensures apart { (k : ℕ) → k + 1 ≢ attempts → slice_get self.new.queues k ≡ slice_get self.old.queues k }
+        ensures settled { (decision ≡ Charge) ⊎ (decision ≡ Refuse) → self.new ≡ record self.old { texts = changed settled_one self.old.texts place.message } }
     {
         match decision {
             Decision::RetryAfter(ms) => {
@@ -166,16 +172,16 @@ impl<N: BookName, C: Call> Run<'_, N, C> {
     ) -> Option<(usize, Decision)>
         requires rules { context.now.rules.now ≡ C.start.rules }
         requires heard { HeardSince (length C.start.received) self.old.heard reply }
+        requires was_sent { WasSent self.old.ends place }
         ensures heard { self.new.heard ≡ self.old.heard }
         ensures sent { OnSome result (WasSent self.new.ends place) }
+        ensures settled { IfSome result (λ r. SettlesTo self.old.ends place r.0 r.1 self.new.ends) }
+        ensures none { result ≡ None → self.new.ends ≡ self.old.ends }
     {
-        if place.message >= self.messages.len() {
-            return None;
-        }
         let message = &self.messages[place.message];
         let account = message.account;
         let Some(segment) = take(context.alloc, &mut self.ends, place) else {
-            return None;
+            unreachable!()
         };
         let (segment, decision) = answer(segment, reply, &context.rules.policy);
         let decision = match decision {
@@ -216,9 +222,6 @@ impl<N: BookName, C: Call> Run<'_, N, C> {
         requires turn { HasTurn self.old.ends self.old.next place }
         ensures heard { self.new.heard ≡ self.old.heard }
     {
-        if place.message >= self.messages.len() || place.message >= self.texts.len() {
-            return Tried::Never;
-        }
         let message = &self.messages[place.message];
         let Some(carried) = self.texts[place.message].part(place.part) else {
             return Tried::Never;
@@ -260,11 +263,10 @@ impl<N: BookName, C: Call> Run<'_, N, C> {
     /// Releases the slot of an open request, which is open no more.
     pub(crate) fn close<W, G, K, R>(&mut self, context: &WorkerContext<N, W, G, K, R>, i: usize)
         requires window { context.now.window.now ≡ C.start.seat.window }
+        requires waits { i < length self.old.opened }
         ensures heard { self.new.heard ≡ self.old.heard }
+        ensures ends { self.new.ends ≡ self.old.ends }
     {
-        if i >= self.opened.len() {
-            return;
-        }
         let open = self.opened.remove(i);
         context.window.release(&mut self.seat, open.slot);
     }

@@ -1,10 +1,13 @@
 //! The turns of a call, and its end.
 
-ghost use Rattle.std.specs.Prelude.{◌≡◌, ℕ, ◌+◌, ◌<◌, ◌≤◌, ◌⊎◌, ◌↔◌, None, Some, IfSome, IsTrue, false, length, slice_get};
+ghost use Rattle.std.specs.Prelude.{◌≡◌, ℕ, ◌+◌, ◌-◌, ◌^◌, ◌<◌, ◌≤◌, ◌⊎◌, ◌↔◌, List, None, Some, IfSome, IsTrue, false, length, min, slice_get};
 ghost use Rattle.rtrb.specs.Ring.{received, SameConsumer};
 ghost use Rattle.sms_worker.specs.declared.ends.SegmentEnd.{SegmentEnd};
 ghost use Rattle.sms_worker.specs.Ends.{segment_at, segments_in};
-ghost use Rattle.sms_worker.specs.Rising.{HasTurn, IsNext, WasSent};
+ghost use Rattle.sms_worker.specs.declared.open.SegmentPlace.{SegmentPlace};
+ghost use Rattle.sms_worker.specs.Queues.{IsFirstDue, NoneIsDue, SpellsAt, Waiting, later};
+ghost use Rattle.sms_worker.specs.Rising.{HasNext, HasTurn, IsNext, IsThere, WasSent};
+ghost use Rattle.sms_worker.specs.RunState.{HasMore, HasNothingToSend};
 ghost use Rattle.sms_worker.specs.Sweeps.{SettledTo};
 ghost use Rattle.sms_worker.specs.declared.turns.Source.TheVariants.{Queue, Next};
 
@@ -87,7 +90,9 @@ impl<N: BookName, C: Call> Run<'_, N, C> {
 
     // The segment of the last message that is to be sent next.
     fn next_part(&self) -> Option<SegmentPlace>
-        ensures { IfSome result (IsNext self.now.ends self.now.next) }
+        ensures next { IfSome result (IsNext self.now.ends self.now.next) }
+        ensures there { IfSome result (IsThere self.now.ends) }
+        ensures none { result ≡ None → ¬ HasNext self.now.ends self.now.next }
     {
         let begun = self.ends.len();
         if begun == 0 || self.next >= self.count(begun - 1) {
@@ -101,23 +106,30 @@ impl<N: BookName, C: Call> Run<'_, N, C> {
 
     // Where to look for a segment to send: a retry that is due, else the next of the last message.
     fn next_place(&self, now_ms: u64) -> Option<(SegmentPlace, Source)>
-        ensures { IfSome result (λ r. HasTurn self.now.ends self.now.next r.0) }
+        ensures turn { IfSome result (λ r. HasTurn self.now.ends self.now.next r.0) }
+        ensures retry { (place : SegmentPlace) (k : ℕ) → result ≡ Some (place, Queue k) → IsFirstDue self.now.texts self.now.queues now_ms place k }
+        ensures fresh { (place : SegmentPlace) → result ≡ Some (place, Next) → NoneIsDue self.now.texts self.now.queues now_ms × IsThere self.now.ends place }
+        ensures none { result ≡ None → NoneIsDue self.now.texts self.now.queues now_ms × (¬ HasNext self.now.ends self.now.next) }
     {
         first_of(self.due_retry(now_ms), self.next_part())
     }
 
     // The segment that is due to be sent again before all others, and its queue.
     fn due_retry(&self, now_ms: u64) -> Option<(SegmentPlace, usize)>
-        ensures { IfSome result (λ r. WasSent self.now.ends r.0) }
+        ensures sent { IfSome result (λ r. WasSent self.now.ends r.0) }
+        ensures due { IfSome result (λ r. IsFirstDue self.now.texts self.now.queues now_ms r.0 r.1) }
+        ensures none { result ≡ None → NoneIsDue self.now.texts self.now.queues now_ms }
     {
         let queue = self.queues.due(self.texts.as_slice(), now_ms)?;
         let place = self.queues.first(queue)?;
         Some((place, queue))
     }
 
-    // The segment that was found there was tried.
+    // The segment that was found there was tried: another is the first of its queue, or the next.
     fn advance(&mut self, source: Source)
-        ensures { (self.new.heard ≡ self.old.heard) × (self.new.ends ≡ self.old.ends) }
+        ensures same { (self.new.heard ≡ self.old.heard) × (self.new.ends ≡ self.old.ends) × (self.new.texts ≡ self.old.texts) }
+        ensures next { source ≡ Next → (self.new.next ≡ min (self.old.next + 1) (2 ^ 64 - 1)) × (self.new.queues ≡ self.old.queues) }
+        ensures taken { (k : ℕ) → source ≡ Queue k → (self.new.next ≡ self.old.next) × ((ws : List Waiting) → SpellsAt self.old.texts self.old.queues k ws → SpellsAt self.old.texts self.new.queues k (later ws)) }
     {
         match source {
             Source::Queue(queue) => self.queues.pop(self.texts.as_slice(), queue),
@@ -233,12 +245,16 @@ impl<N: BookName, C: Call> Run<'_, N, C> {
     }
 
     // Whether a part of the last message, or a message, was not tried yet.
-    pub(crate) fn has_more(&self) -> bool {
+    pub(crate) fn has_more(&self) -> bool
+        ensures { IsTrue result ↔ HasMore C.start.messages self.now }
+    {
         self.next_part().is_some() || self.ends.len() < self.messages.len()
     }
 
     // Whether nothing is left to do.
-    fn is_done(&self, down: bool) -> bool {
+    fn is_done(&self, down: bool) -> bool
+        ensures { IsTrue result ↔ ((length self.now.opened ≡ 0) × (IsTrue down ⊎ HasNothingToSend C.start.messages self.now)) }
+    {
         let to_send = !self.queues.is_empty() || self.has_more();
         has_ended(down, self.opened.len(), to_send)
     }

@@ -174,7 +174,7 @@ fn messages_of(alloc: Global, count: u64) -> Result<Vec<Message>, AllocError> {
 
 // How the worker works. A destination that begins with 46 costs 5 credits. None where memory is refused.
 fn rules_of(alloc: Global, case: Case<'_>) -> Option<Rules> {
-    if case.turns > 1 << 40 {
+    if case.turns > 1 << 40 || case.depth < 1 || case.depth > 64 {
         return None;
     }
     let rates = [Rate {

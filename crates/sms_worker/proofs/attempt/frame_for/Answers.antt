@@ -21,5 +21,5 @@ returns-in-Ok c part carried =
     let octets = c.new.ensures ∙ a.behind ∙ ap (λ l. l ++ a.octets) empty in
     let sent : UserData = record c.args.carried.now { short_message = c.as_slice.result.now } in
     let same : sent ≡ user_data part = ap (λ (text : List ℕ). record c.args.carried.now { short_message = text }) c.as_slice.ensures ∙ carried in
-    let is = filled_is c.args.rules.now (owned c.in-Some.from) (owned c.in-Some-destination.to) part c.args.number _ sent (search rules) same in
-    (_, record { source = owned c.in-Some.from; dest = owned c.in-Some-destination.to; from = search rules; to = search rules; is = is }, subst (Spells _) (sym octets) a.spelled)
+    let is = filled_is c.args.rules.now (owned c.good_source-from.result) (owned c.good_destination-to.result) part c.args.number _ sent (search rules) same in
+    (_, record { source = owned c.good_source-from.result; dest = owned c.good_destination-to.result; from = search rules; to = search rules; is = is }, subst (Spells _) (sym octets) a.spelled)

@@ -1,5 +1,6 @@
 use Rattle.std.proofs.Common.{◌≡◌, ◌<◌, List, length, Some, sym, ap, ◌∙◌, refl, subst, rules, arith}
 use Rattle.std.specs.Prelude.{map, option_map, slice_get}
+use Rattle.std.proofs.lemmas.List.{length-map}
 use Rattle.std.proofs.lemmas.Option.{slice_get-get_or, slice_get-map}
 use Rattle.sms_worker.specs.declared.ends.Attempt.{Attempt}
 use Rattle.sms_worker.specs.declared.ends.SegmentEnd.{SegmentEnd}
@@ -11,8 +12,20 @@ use Rattle.sms_worker.specs.Rising.{HasTurn, InOrder}
 use Rattle.sms_worker.specs.RunState.{RunState}
 use Rattle.sms_worker.specs.Closing.{Closes}
 use Rattle.sms_worker.proofs.Closing.{closes_put}
+use Rattle.sms_worker.proofs.Placed.{has_addresses, turn_kept, turn_message}
 use Rattle.sms_worker.proofs.Rising.{order_tried}
 use Rattle.sms_worker.proofs.run.Run.attempt.Goals as goal
+
+pub index-message-requires : goal.index-message-requires
+index-message-requires g c =
+    let low = turn_message _ _ _ _ _ _ _ _ c.args.place c.self.invariant.keeps _ (subst (λ (x : RunState). HasTurn x.ends x.next c.args.place) (sym c.self.view_is) c.requires.turn) in
+    omega arith
+
+pub index-requires : goal.index-requires
+index-requires g c =
+    let kept = turn_kept _ _ _ _ _ _ _ _ c.args.place c.self.invariant.keeps _ (subst (λ (x : RunState). HasTurn x.ends x.next c.args.place) (sym c.self.view_is) c.requires.turn) in
+    let low = subst (λ n. c.args.place.message < n) (length-map c.self.inside.texts.items carried) kept in
+    omega arith
 
 pub give-requires : goal.give-requires
 give-requires g c = record { there = back_there c.self.inside.ends.items c.take.new.ends.items c.args.place.message c.args.place.part c.in-Some-take.segment c.in-Some-take.ensures.out }
@@ -37,7 +50,8 @@ give-requires-2 g c = record { there = back_there c.self.inside.ends.items c.tak
 pub invariant_of-self-2 : goal.invariant_of-self-2
 invariant_of-self-2 g c =
     let i = c.self.invariant in
-    let low : c.args.place.message < length c.self.inside.messages.items = search rules in
+    let turn = subst (λ (x : RunState). HasTurn x.ends x.next c.args.place) (sym c.self.view_is) c.requires.turn in
+    let low : c.args.place.message < length c.self.inside.messages.items = turn_message _ _ _ _ _ _ _ _ c.args.place i.keeps _ turn in
     let there : slice_get c.self.inside.messages.items c.args.place.message ≡ Some c.index-message.result.now = slice_get-get_or c.self.inside.messages.items c.args.place.message c.index-message.result.now low ∙ ap Some (sym c.index-message.ensures) in
     let s = c.in-Some-take.segment in
     let at = c.in-Some-take.ensures.out.0 in
@@ -45,7 +59,7 @@ invariant_of-self-2 g c =
     let waits = c.is_waiting.ensures.waiting g.C.Call.start.rules.policy.attempts told.state (search rules) in
     let k = c.args.place.message in
     let p = c.args.place.part in
-    let texts_low : k < length c.self.inside.texts.items = search rules in
+    let texts_low : k < length c.self.inside.texts.items = subst (λ n. k < n) (length-map c.self.inside.texts.items carried) (turn_kept _ _ _ _ _ _ _ _ c.args.place i.keeps _ turn) in
     let kept : slice_get (map carried c.self.inside.texts.items) k ≡ Some (carried c.index.result.now) = slice_get-map carried c.self.inside.texts.items k ∙ ap (option_map carried) (slice_get-get_or c.self.inside.texts.items k c.index.result.now texts_low ∙ ap Some (sym c.index.ensures)) in
     let got = c.in-Some.ensures.there in
     let part = part_there g.C.Call.start.rules g.C.Call.start.messages (map carried c.self.inside.texts.items) k p c.index-message.result.now (carried c.index.result.now) c.in-Some.carried.now i.keeps.texts_kept (ap (λ l. slice_get l k) (sym i.keeps.messages) ∙ there) kept got in
@@ -60,7 +74,6 @@ invariant_of-self-2 g c =
     let tried = subst (λ (l : List Attempt). Tries c.args.context.now.rules.now c.index-message.result.now part.part c.self.inside.seat.view s.attempts c.start-tried.result c.start-tried.new.seat.view l) (sym now)
     (subst (λ (l : List Attempt). Tries c.args.context.now.rules.now c.index-message.result.now part.part c.self.inside.seat.view l c.start-tried.result c.start-tried.new.seat.view c.start-tried.new.attempts.items) was tries) in
     let slots = c.start-tried.ensures.open g.C.Call.start.seat.view.slots i.keeps.slots in
-    let turn = subst (λ (x : RunState). HasTurn x.ends x.next c.args.place) (sym c.self.view_is) c.requires.turn in
     record {
       keeps = keeps_tried _ c.args.context.now.rules.now _ _ _ _ _ c.start-tried.new.opened.items _ c.start-tried.new.seat _ _ k p c.index-message.result.now part.part s s' c.start-tried.result i.keeps c.requires.rules there part.there at waits tried refl refl c.start-tried.ensures.window slots is long;
       closing = subst (Closes c.self.inside.closed) (sym is) (closes_put c.self.inside.closed c.self.inside.ends.items k p s' i.closing);
@@ -77,3 +90,11 @@ returns g c = record { heard = ap (λ (x : RunState). x.heard) c.self.view_is }
 
 pub start-tried-requires-clause-own : goal.start-tried-requires-clause-own
 start-tried-requires-clause-own g c = c.self.invariant.keeps.window ∙ sym c.requires.window
+
+pub start-tried-requires-clause-addresses : goal.start-tried-requires-clause-addresses
+start-tried-requires-clause-addresses g c =
+    let i = c.self.invariant in
+    let turn = subst (λ (x : RunState). HasTurn x.ends x.next c.args.place) (sym c.self.view_is) c.requires.turn in
+    let low : c.args.place.message < length c.self.inside.messages.items = turn_message _ _ _ _ _ _ _ _ c.args.place i.keeps _ turn in
+    let there : slice_get c.self.inside.messages.items c.args.place.message ≡ Some c.index-message.result.now = slice_get-get_or c.self.inside.messages.items c.args.place.message c.index-message.result.now low ∙ ap Some (sym c.index-message.ensures) in
+    has_addresses _ _ _ _ c.args.place.message c.args.place.part c.index-message.result.now c.in-Some-take.segment i.keeps.shape (ap (λ l. slice_get l c.args.place.message) (sym i.keeps.messages) ∙ there) c.in-Some-take.ensures.out.0

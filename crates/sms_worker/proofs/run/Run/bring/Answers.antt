@@ -1,8 +1,13 @@
-use Rattle.std.proofs.Common.{◌≡◌, ◌<◌, length, Some, sym, ap, ◌∙◌, rules}
+use Rattle.std.proofs.Common.{◌≡◌, ◌<◌, List, length, Some, refl, sym, ap, ◌∙◌, subst, rules}
 use Rattle.std.specs.Prelude.{slice_get}
 use Rattle.std.proofs.lemmas.Option.{slice_get-get_or}
 use Rattle.sms_window.proofs.OpenSlots.{one_less_at}
+use Rattle.sms_worker.specs.declared.ends.MessageEnd.{MessageEnd}
 use Rattle.sms_worker.specs.declared.open.Open.{Open}
+use Rattle.sms_worker.specs.Rising.{WasSent}
+use Rattle.sms_worker.specs.RunState.{RunState}
+use Rattle.sms_worker.specs.Told.{HeardSince}
+use Rattle.sms_worker.proofs.Finding.{newly_waits}
 use Rattle.sms_worker.proofs.run.Run.bring.Goals as goal
 
 pub take-requires : goal.take-requires
@@ -11,3 +16,24 @@ take-requires g c =
     let low : c.in-Some.i < length opened = search rules in
     let at : slice_get opened (c.in-Some.i) ≡ Some c.index-open.result.now = slice_get-get_or opened (c.in-Some.i) c.index-open.result.now low ∙ ap Some (sym c.index-open.ensures) in
     record { slot = (one_less_at (λ (x : Open). x.slot) _ _ opened (c.in-Some.i) c.index-open.result.now c.self.invariant.keeps.slots at).within }
+
+pub close-requires : goal.close-requires
+close-requires g c =
+    let low : c.in-Some.i < length c.self.inside.opened.items = search rules in
+    record { window = c.requires.window; waits = subst (λ (x : RunState). c.in-Some.i < length x.opened) c.self.view_is low }
+
+pub settle_answer-requires : goal.settle_answer-requires
+settle_answer-requires g c =
+    let opened = c.self.inside.opened.items in
+    let low : c.in-Some.i < length opened = search rules in
+    let at : slice_get opened (c.in-Some.i) ≡ Some c.index-open.result.now = slice_get-get_or opened (c.in-Some.i) c.index-open.result.now low ∙ ap Some (sym c.index-open.ensures) in
+    let sent = c.self.invariant.order.opens c.in-Some.i c.index-open.result.now at in
+    record {
+      rules = c.requires.rules;
+      heard = subst (λ l. HeardSince _ l c.args.reply) (sym c.close.ensures.heard) c.requires.heard;
+      was_sent = subst (λ (l : List MessageEnd). WasSent l c.index-open.result.now.place) (ap (λ (x : RunState). x.ends) c.self.view_is ∙ sym c.close.ensures.ends) sent;
+    }
+
+pub returns-in-Some-settle_answer-clause-waits : goal.returns-in-Some-settle_answer-clause-waits
+returns-in-Some-settle_answer-clause-waits g c =
+    newly_waits _ c.close.new.self.ends c.settle_answer.new.self.ends c.follow.new.self c.index-open.result.now.place _ _ c.in-Some-settle_answer.ensures.settled c.close.ensures.ends c.follow.ensures.same.1 c.follow.ensures.waits

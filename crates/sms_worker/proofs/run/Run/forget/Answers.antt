@@ -1,6 +1,7 @@
 use Rattle.std.proofs.Common.{◌≤◌, sym, subst}
 use Rattle.std.specs.Vec.{vec_len}
 use Rattle.sms_worker.specs.TextsState.{carried, settled_one}
+use Rattle.sms_worker.proofs.Finding.{settled_in}
 use Rattle.sms_worker.proofs.Kept.{length-mapped, texts_settled}
 use Rattle.sms_worker.proofs.Keeping.{keeps_texts}
 use Rattle.sms_worker.proofs.Rising.{order_settled}
@@ -19,4 +20,4 @@ invariant_of-self g c =
     }
 
 pub returns : goal.returns
-returns g c = c.self.view_is
+returns g c = settled_in _ _ c.args.place.message _ c.settle_text.ensures.settled c.self.view_is

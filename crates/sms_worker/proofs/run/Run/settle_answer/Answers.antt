@@ -5,20 +5,26 @@ use Rattle.sms_worker.specs.declared.rules.Rules.{Rules}
 use Rattle.sms_worker.specs.declared.ends.SegmentEnd.{SegmentEnd}
 use Rattle.sms_worker.specs.Steps.{settled_to, outcome_after, Answers}
 use Rattle.sms_worker.specs.Told.{IsSettled, IsWaiting, HeardSince}
-use Rattle.sms_worker.specs.Rising.{InOrder}
+use Rattle.sms_worker.specs.Rising.{InOrder, WasSent}
 use Rattle.sms_worker.specs.RunState.{RunState}
 use Rattle.sms_worker.specs.Ends.{put}
 use Rattle.sms_worker.proofs.EndLemmas.{back_there, given_same, given_other}
 use Rattle.sms_worker.proofs.Keeping.{keeps_same, keeps_answered, told_there, fits_there}
 use Rattle.sms_worker.specs.Closing.{Closes}
 use Rattle.sms_worker.proofs.Closing.{closes_put}
+use Rattle.sms_worker.proofs.Placed.{sent_message}
 use Rattle.sms_worker.proofs.Rising.{order_heard, sent_now}
 use Rattle.sms_worker.proofs.run.Run.settle_answer.Goals as goal
+
+pub index-message-requires : goal.index-message-requires
+index-message-requires g c =
+    let low = sent_message _ _ _ _ _ _ _ _ c.args.place c.self.invariant.keeps (subst (λ (x : RunState). WasSent x.ends c.args.place) (sym c.self.view_is) c.requires.was_sent) in
+    omega arith
 
 pub answer-segment-requires : goal.answer-segment-requires
 answer-segment-requires g c =
     let i = c.self.invariant in
-    let low : c.args.place.message < length c.self.inside.messages.items = search rules in
+    let low : c.args.place.message < length c.self.inside.messages.items = sent_message _ _ _ _ _ _ _ _ c.args.place i.keeps (subst (λ (x : RunState). WasSent x.ends c.args.place) (sym c.self.view_is) c.requires.was_sent) in
     let there : slice_get c.self.inside.messages.items c.args.place.message ≡ Some c.index-message.result.now = slice_get-get_or c.self.inside.messages.items c.args.place.message c.index-message.result.now low ∙ ap Some (sym c.index-message.ensures) in
     let told = told_there _ _ _ _ _ _ _ _ _ _ c.index-message.result.now c.in-Some.segment i.keeps there c.in-Some.ensures.out.0 in
     record { state = subst (λ (x : Rules). IsSettled x.policy.attempts c.in-Some.segment ⊎ IsWaiting x.policy.attempts c.in-Some.segment) (sym c.requires.rules) told.state }
@@ -26,8 +32,8 @@ answer-segment-requires g c =
 pub give-requires : goal.give-requires
 give-requires g c = record { there = back_there c.self.inside.ends.items c.take.new.ends.items c.args.place.message c.args.place.part c.in-Some.segment c.in-Some.ensures.out }
 
-pub invariant_of-self-in-None : goal.invariant_of-self-in-None
-invariant_of-self-in-None g c =
+pub invariant_of-self : goal.invariant_of-self
+invariant_of-self g c =
     let i = c.self.invariant in
     let same = given_same c.self.inside.ends.items c.take.new.ends.items c.give.new.ends.items c.args.place.message c.args.place.part c.in-Some.segment c.in-Some.ensures.out (c.give.ensures.now ∙ ap (put c.take.new.ends.items c.args.place.message c.args.place.part) (let e : c.answer-segment.result.0 ≡ c.in-Some.segment = search rules in e)) in
     let room = c.give.ensures.room in
@@ -43,7 +49,7 @@ invariant_of-self-in-None g c =
 pub settle-requires : goal.settle-requires
 settle-requires g c a acc =
     let i = c.self.invariant in
-    let low : c.args.place.message < length c.self.inside.messages.items = search rules in
+    let low : c.args.place.message < length c.self.inside.messages.items = sent_message _ _ _ _ _ _ _ _ c.args.place i.keeps (subst (λ (x : RunState). WasSent x.ends c.args.place) (sym c.self.view_is) c.requires.was_sent) in
     let there : slice_get c.self.inside.messages.items c.args.place.message ≡ Some c.index-message.result.now = slice_get-get_or c.self.inside.messages.items c.args.place.message c.index-message.result.now low ∙ ap Some (sym c.index-message.ensures) in
     let s = c.in-Some.segment in
     let at = c.in-Some.ensures.out.0 in
@@ -63,7 +69,7 @@ give-requires-2 g c = record { there = back_there c.self.inside.ends.items c.tak
 pub invariant_of-self-2 : goal.invariant_of-self-2
 invariant_of-self-2 g c =
     let i = c.self.invariant in
-    let low : c.args.place.message < length c.self.inside.messages.items = search rules in
+    let low : c.args.place.message < length c.self.inside.messages.items = sent_message _ _ _ _ _ _ _ _ c.args.place i.keeps (subst (λ (x : RunState). WasSent x.ends c.args.place) (sym c.self.view_is) c.requires.was_sent) in
     let there : slice_get c.self.inside.messages.items c.args.place.message ≡ Some c.index-message.result.now = slice_get-get_or c.self.inside.messages.items c.args.place.message c.index-message.result.now low ∙ ap Some (sym c.index-message.ensures) in
     let s = c.in-Some.segment in
     let at = c.in-Some.ensures.out.0 in
@@ -89,7 +95,9 @@ invariant_of-self-2 g c =
     }
 
 pub returns-in-None : goal.returns-in-None
-returns-in-None g c = record { heard = ap (λ (x : RunState). x.heard) c.self.view_is; sent = tt }
+returns-in-None g c =
+    let same = given_same c.self.inside.ends.items c.take.new.ends.items c.give.new.ends.items c.args.place.message c.args.place.part c.in-Some.segment c.in-Some.ensures.out (c.give.ensures.now ∙ ap (put c.take.new.ends.items c.args.place.message c.args.place.part) (let e : c.answer-segment.result.0 ≡ c.in-Some.segment = search rules in e)) in
+    record { heard = ap (λ (x : RunState). x.heard) c.self.view_is; sent = tt; settled = tt; none = λ e. same ∙ ap (λ (x : RunState). x.ends) c.self.view_is }
 
 pub returns : goal.returns
 returns g c =
@@ -104,4 +112,11 @@ returns g c =
     record {
       heard = ap (λ (x : RunState). x.heard) c.self.view_is;
       sent = sent_now c.self.inside.ends.items _ c.args.place s s' h.front (record h.last { reply = Some c.args.reply }) at is (ap (λ (x : SegmentEnd). x.attempts) h.after);
+      settled = record {
+        segment = s';
+        now = is ∙ ap (λ (x : RunState). put x.ends c.args.place.message c.args.place.part s') c.self.view_is;
+        count = search rules;
+        outcome = c.outcome_of-outcome.ensures;
+      };
+      none = λ e. absurd (cc);
     }

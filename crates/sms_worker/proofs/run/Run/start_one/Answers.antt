@@ -18,10 +18,10 @@ pub attempt-requires-clause-rules : goal.attempt-requires-clause-rules
 attempt-requires-clause-rules g c = c.requires.rules
 
 pub returns-in-Sent : goal.returns-in-Sent
-returns-in-Sent g c = record { heard = c.advance.ensures.0 ∙ c.attempt.ensures.heard ∙ c.sees_closed-closed.ensures.same.0 }
+returns-in-Sent g c = record { heard = c.advance.ensures.same.0 ∙ c.attempt.ensures.heard ∙ c.sees_closed-closed.ensures.same.0 }
 
 pub returns-in-Later : goal.returns-in-Later
 returns-in-Later g c = record { heard = c.attempt.ensures.heard ∙ c.sees_closed-closed.ensures.same.0 }
 
 pub returns-in-Never : goal.returns-in-Never
-returns-in-Never g c = record { heard = c.give_up.ensures.heard ∙ c.advance-in-Never.ensures.0 ∙ c.attempt.ensures.heard ∙ c.sees_closed-closed.ensures.same.0 }
+returns-in-Never g c = record { heard = c.give_up.ensures.heard ∙ c.advance-in-Never.ensures.same.0 ∙ c.attempt.ensures.heard ∙ c.sees_closed-closed.ensures.same.0 }
