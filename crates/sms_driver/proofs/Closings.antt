@@ -14,7 +14,7 @@ use Rattle.sms_driver.specs.declared.bind_end.BindClosing.{BindClosing}
 use Rattle.sms_driver.specs.declared.bind_end.DownBy.{DownBy}
 use Rattle.sms_driver.specs.Answered.{ends_at}
 use Rattle.sms_driver.specs.Closings.{first_of, no_closing, with_cause, with_all, closing_of, AreExplained, AreTold, HasCause, IsExplained, SaysWhy}
-use Rattle.sms_driver.specs.Deals.{of_bind}
+use Rattle.sms_driver.specs.Seated.{of_bind}
 use Rattle.sms_driver.specs.Worked.{IsWorkOf}
 use Rattle.sms_driver.proofs.Numbering.{get_mapped, zip_of_bind}
 

@@ -15,7 +15,8 @@ use Rattle.sms_worker.specs.declared.message.Message.{Message}
 use Rattle.sms_worker.specs.declared.rules.Rules.{Rules}
 use Rattle.sms_worker.specs.declared.ends.MessageEnd.{MessageEnd}
 use Rattle.sms_worker.specs.Ends.{credit, credits}
-use Rattle.sms_driver.specs.Deals.{totals, dealt}
+use Rattle.sms_deal.specs.Deals.{dealt}
+use Rattle.sms_driver.specs.Settled.{totals}
 use Rattle.sms_driver.specs.Worked.{Worked}
 use Rattle.sms_worker.specs.EndOf.{IsEndOf}
 use Rattle.sms_driver.specs.Statements.{AreRows}

@@ -6,7 +6,7 @@ use Rattle.sms_window.specs.declared.outcome.Closed.{Closed}
 use Rattle.sms_window.specs.declared.view.View.{View}
 use Rattle.sms_window.specs.Rule.{numbers_of}
 use Rattle.sms_window.specs.Seats.{met_with, joined}
-use Rattle.sms_driver.specs.Deals.{of_bind}
+use Rattle.sms_driver.specs.Seated.{of_bind}
 use Rattle.sms_driver.specs.Joined.{AreClosed, HasJoined, IsClosed}
 use Rattle.sms_driver.specs.Numbered.{DrewBelow, DrewOnce, AllDrewOnce}
 use Rattle.sms_driver.proofs.Numbering.{times_both}

@@ -14,6 +14,5 @@ pub mod Refusals
 pub mod Returning
 pub mod Sitting
 pub mod Sums
-pub mod Takes
 pub mod Telling
 pub mod Windows

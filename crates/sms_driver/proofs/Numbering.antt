@@ -19,7 +19,7 @@ use Rattle.sms_worker.specs.declared.work.WorkerEnd.{WorkerEnd}
 use Rattle.sms_worker.specs.ReadyState.{ReadyState}
 use Rattle.sms_driver.specs.declared.bind_end.BindEnd.{BindEnd}
 use Rattle.sms_driver.specs.Answered.{ends_at}
-use Rattle.sms_driver.specs.Deals.{of_bind}
+use Rattle.sms_driver.specs.Seated.{of_bind}
 use Rattle.sms_driver.specs.Numbered.{NumbersDiffer, AreBelow, AreNumbered, DrewBelow, HasNumbers, DrewOnce, AllDrewOnce}
 use Rattle.sms_driver.specs.Worked.{IsWorkOf}
 use Rattle.sms_driver.proofs.Answering.{ends_within}

@@ -5,8 +5,8 @@ use Rattle.rtrb.specs.declared.AnyItems.{AnyItems}
 use Rattle.rtrb.specs.declared.consumer.Consumer.{Consumer}
 use Rattle.sms_pdu.specs.declared.reply.Reply.{Reply}
 use Rattle.sms_window.specs.SeatState.{SeatState}
-use Rattle.sms_driver.specs.declared.seating.SharedBind.{SharedBind}
-use Rattle.sms_driver.specs.declared.seating.BindParts.{BindParts}
+use Rattle.sms_unbind.specs.declared.binds.SharedBind.{SharedBind}
+use Rattle.sms_unbind.specs.declared.binds.BindParts.{BindParts}
 use Rattle.sms_driver.specs.Seated.{Sitting, Keeping, sit_from, all_sit, all_keep, CountFrom}
 
 module _ {W : Type 0} (shared : SharedBind W) where

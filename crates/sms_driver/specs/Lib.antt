@@ -1,7 +1,6 @@
 pub mod Answered
 pub mod BindEnds
 pub mod Closings
-pub mod Deals
 pub mod Ended
 pub mod Joined
 pub mod Latches

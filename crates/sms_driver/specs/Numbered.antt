@@ -9,7 +9,7 @@ use Rattle.sms_worker.specs.declared.ends.Attempt.{Attempt}
 use Rattle.sms_worker.specs.declared.ends.MessageEnd.{MessageEnd}
 use Rattle.sms_driver.specs.declared.bind_end.BindEnd.{BindEnd}
 use Rattle.sms_driver.specs.Answered.{ends_at}
-use Rattle.sms_driver.specs.Deals.{of_bind}
+use Rattle.sms_driver.specs.Seated.{of_bind}
 
 -- an attempt: of which worker, of which of its messages, of which part, and which of its attempts
 pub record AttemptIn (ess : List (List MessageEnd)) : Type 0 where

@@ -20,8 +20,8 @@ use Rattle.sms_bind.specs.Turns.{Stops}
 use Rattle.sms_bind.specs.Ends.{HandsOn}
 use Rattle.sms_bind.specs.Held.{Held}
 use Rattle.sms_window.specs.SeatState.{SeatState}
-use Rattle.sms_driver.specs.declared.following.Following.{Following}
-use Rattle.sms_driver.specs.declared.seating.BindParts.{BindParts}
+use Rattle.sms_unbind.specs.declared.following.Following.{Following}
+use Rattle.sms_unbind.specs.declared.binds.BindParts.{BindParts}
 use Rattle.sms_driver.specs.declared.threads.ReaderTask.{ReaderTask}
 use Rattle.sms_driver.specs.declared.threads.ReaderPromise.{ReaderPromise}
 

@@ -1,5 +1,5 @@
 -- Who sits at a bind: its seats are of its window, one for each worker.
-use Rattle.std.specs.Prelude.{◌≡◌, ◌+◌, ℕ, List, [], ◌∷◌, ◌++◌, length, replicate}
+use Rattle.std.specs.Prelude.{◌≡◌, ◌+◌, ℕ, zero, suc, List, [], ◌∷◌, ◌++◌, length, replicate, take, drop}
 use Rattle.std.specs.declared.alloc.Global.{Global}
 use Rattle.atomic_table.specs.Seated.{TableId}
 use Rattle.rtrb.specs.declared.AnyItems.{AnyItems}
@@ -9,9 +9,9 @@ use Rattle.sms_bind.specs.declared.line.Line.{Line}
 use Rattle.sms_window.specs.SeatState.{SeatState}
 use Rattle.std.specs.List.{AllByRecursion, AllZip}
 use Rattle.sms_driver.specs.Rings.{IsNewPair}
-use Rattle.sms_driver.specs.declared.seating.SharedBind.{SharedBind}
-use Rattle.sms_driver.specs.declared.seating.BindParts.{BindParts}
-use Rattle.sms_driver.specs.declared.following.Following.{Following}
+use Rattle.sms_unbind.specs.declared.binds.SharedBind.{SharedBind}
+use Rattle.sms_unbind.specs.declared.binds.BindParts.{BindParts}
+use Rattle.sms_unbind.specs.declared.following.Following.{Following}
 use Rattle.sms_driver.specs.declared.task.WorkerPlace.{WorkerPlace}
 use Rattle.sms_driver.specs.declared.task.WorkerTask.{WorkerTask}
 use Rattle.sms_driver.specs.declared.threads.ReaderTask.{ReaderTask}
@@ -29,6 +29,11 @@ pub record IsSeated {W Rd : Type 0} (workers : ℕ) (shared : SharedBind W) (par
 abbrev pub windows : {K : Type 0} → ℕ → List K → List K
 windows workers [] = []
 windows workers (w ∷ ws) = replicate workers w ++ windows workers ws
+
+-- those of the bind with this place, where each bind has so many
+abbrev pub of_bind : {X : Type 0} → ℕ → ℕ → List X → List X
+of_bind workers zero xs = take workers xs
+of_bind workers (suc bind) xs = of_bind workers bind (drop workers xs)
 
 -- where a worker sits: its seat, its place among the workers of its bind, its end of a ring, and the bind's line and window
 pub record Sitting (W : Type 0) : Type 0 where

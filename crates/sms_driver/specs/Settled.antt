@@ -1,5 +1,5 @@
 -- What all workers together give back.
-use Rattle.std.specs.Prelude.{◌≡◌, ℕ, List, length}
+use Rattle.std.specs.Prelude.{◌≡◌, ◌+◌, ℕ, List, [], ◌∷◌, length}
 use Rattle.std.specs.List.{AllZip}
 use Rattle.sms_core.specs.Rows.{reserved_of, charged_of, returned_of}
 use Rattle.sms_book.specs.Shares.{Share, AreAll}
@@ -7,9 +7,16 @@ use Rattle.sms_book.specs.Sums.{over_shares}
 use Rattle.sms_worker.specs.declared.message.Message.{Message}
 use Rattle.sms_worker.specs.declared.rules.Rules.{Rules}
 use Rattle.sms_worker.specs.declared.ends.MessageEnd.{MessageEnd}
-use Rattle.sms_worker.specs.Ends.{credits}
-use Rattle.sms_driver.specs.Deals.{dealt}
+use Rattle.sms_worker.specs.declared.ends.SegmentEnd.{SegmentEnd}
+use Rattle.sms_worker.specs.Ends.{credits, total}
+use Rattle.sms_deal.specs.Deals.{dealt}
 use Rattle.sms_worker.specs.EndOf.{IsEndOf}
+
+-- the sums over messages and their ends, list by list
+abbrev pub totals : (Message → SegmentEnd → ℕ) → List (List Message) → List (List MessageEnd) → ℕ
+totals f [] ess = 0
+totals f (ms ∷ mss) [] = 0
+totals f (ms ∷ mss) (es ∷ ess) = total f ms es + totals f mss ess
 
 -- the shares hold the sums over the ends
 pub record Summed (ms : List Message) (es : List MessageEnd) (shares : List Share) : Type 0 where

@@ -3,13 +3,13 @@ use Rattle.std.specs.Prelude.{◌≡◌, ◌≤◌, ℕ, List, [], length, map, 
 use Rattle.std.specs.List.{AllByRecursion, AllZip}
 use Rattle.sms_worker.specs.declared.rules.Rules.{Rules}
 use Rattle.sms_driver.specs.declared.latch.Latch.{Latch}
-use Rattle.sms_driver.specs.declared.seating.DriverSeat.{DriverSeat}
-use Rattle.sms_driver.specs.declared.seating.SharedBind.{SharedBind}
+use Rattle.sms_unbind.specs.declared.binds.DriverSeat.{DriverSeat}
+use Rattle.sms_unbind.specs.declared.binds.SharedBind.{SharedBind}
 use Rattle.sms_driver.specs.declared.task.WorkerTask.{WorkerTask}
 use Rattle.sms_driver.specs.declared.threads.ReaderTask.{ReaderTask}
 use Rattle.sms_driver.specs.declared.thread_scope.Crew.{Crew}
 use Rattle.sms_driver.specs.declared.thread_scope.Returned.{Returned}
-use Rattle.sms_driver.specs.BindEnds.{IsTried}
+use Rattle.sms_unbind.specs.Unbinds.{IsTried}
 use Rattle.sms_driver.specs.Reads.{listener_of, listener_promised, reading_of, HasRead, IsUnread}
 use Rattle.sms_driver.specs.Worked.{IsHandedBack, IsResultOf}
 

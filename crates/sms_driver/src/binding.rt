@@ -14,16 +14,13 @@ ghost use Rattle.sms_driver.specs.SendFaults.{fault_in, DrewNone, HasFailed, IsF
 ghost use Rattle.sms_driver.specs.declared.fault.BindFailure.TheVariants.{NoConnection};
 ghost use Rattle.sms_driver.specs.declared.fault.SendFault.TheVariants.{BindFailed};
 
-use crate::bind_end::Unbinding;
 use crate::fault::{BindFailure, SendFault};
-use crate::following::Following;
-use crate::hanging_up::unbind_all;
 use crate::rings::Rings;
-use crate::seating::{BindParts, DriverSeat, SharedBind};
 use crate::seats::split_seats;
 use sms_bind::{BindFault, Bound, Line, Settings, Wire, bind};
 use sms_pdu::Tap;
 use sms_slot::SlotRow;
+use sms_unbind::{BindParts, Binds, DriverSeat, Following, SharedBind, Unbinding, unless_failed};
 use sms_window::{Window, WindowSeat};
 use sms_worker::{Number, draw};
 use std::alloc::Global;
@@ -65,15 +62,6 @@ struct Made<Rd, W> {
     driver_seat: DriverSeat,
     dialled: Snapshot<Wire<W>>,
     asked: Snapshot<Wire<W>>,
-}
-
-/// All binds, each at its place in each list: what its threads share, what they are given, and the
-/// driver's own seat.
-#[derive(Drop)]
-pub(crate) struct Binds<Rd, W> {
-    pub shared_binds: Vec<SharedBind<W>>,
-    pub bind_parts: Vec<BindParts<Rd>>,
-    pub driver_seats: Vec<DriverSeat>,
 }
 
 /// A bind's fault, as the sending tells it.
@@ -321,33 +309,6 @@ fn bind_each<D: Dial>(
         },
         Ok(()),
     )
-}
-
-/// Gives the binds if all were made. If one failed, those that were made are unbound, and its fault is told.
-fn unless_failed<Rd: Drop, W: Write + Drop, R: Wait>(
-    rt: &R,
-    alloc: Global,
-    binds: Binds<Rd, W>,
-    made: Result<(), SendFault>,
-) -> Result<Binds<Rd, W>, SendFault>
-    requires driver_seats { map (λ s. s.seat.window) binds.driver_seats.items ≡ map (λ b. b.window) binds.shared_binds.items }
-    ensures given { IfOk result (λ b. b ≡ binds) }
-    ensures all { OnOk result (IsOk made) }
-    ensures told { IfErr result (λ fault. made ≡ Err fault) }
-{
-    let mut binds = binds;
-    match made {
-        Ok(()) => Ok(binds),
-        Err(fault) => {
-            unbind_all(
-                rt,
-                alloc,
-                binds.shared_binds.as_slice(),
-                &mut binds.driver_seats,
-            );
-            Err(fault)
-        }
-    }
 }
 
 /// Makes a bind for each set of rings. If one fails, those made are unbound.

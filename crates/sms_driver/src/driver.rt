@@ -7,7 +7,7 @@ ghost use Rattle.sms_worker.specs.EndOf.{IsEndOf};
 ghost use Rattle.sms_driver.specs.Answered.{AreHeard};
 ghost use Rattle.sms_driver.specs.BindEnds.{AreBinds};
 ghost use Rattle.sms_driver.specs.Closings.{AreExplained};
-ghost use Rattle.sms_driver.specs.Deals.{dealt};
+ghost use Rattle.sms_deal.specs.Deals.{dealt};
 ghost use Rattle.sms_driver.specs.Ended.{HaveEnded};
 ghost use Rattle.sms_driver.specs.Numbered.{AreBelow, AreNumbered};
 ghost use Rattle.sms_driver.specs.SendFaults.{IsFaultOfOne};

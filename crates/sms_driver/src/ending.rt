@@ -7,22 +7,23 @@ ghost use Rattle.sms_book.specs.Portions.{row_at};
 ghost use Rattle.sms_book.specs.Shares.{AreAll};
 ghost use Rattle.sms_book.specs.Sums.{IsSumOf};
 ghost use Rattle.sms_worker.specs.declared.ends.MessageEnd.{MessageEnd};
-ghost use Rattle.sms_driver.specs.BindEnds.{outcome_of, AreBinds, IsTried};
+ghost use Rattle.sms_driver.specs.BindEnds.{outcome_of, AreBinds};
+ghost use Rattle.sms_unbind.specs.Unbinds.{IsTried};
 ghost use Rattle.sms_driver.specs.Closings.{AreTold};
-ghost use Rattle.sms_driver.specs.Deals.{dealt};
+ghost use Rattle.sms_deal.specs.Deals.{dealt};
 ghost use Rattle.sms_driver.specs.Numbered.{AllDrewOnce, DrewBelow};
 ghost use Rattle.sms_driver.specs.Rings.{flat};
 ghost use Rattle.sms_worker.specs.Rests.{HasReceived};
 ghost use Rattle.sms_driver.specs.Seated.{windows};
 
 use crate::bind_end::BindEnd;
-use crate::dealing::merged;
 use crate::fault::Lost;
 use crate::joining::{Taken, take_rings};
 use crate::leaving::{Left, close_all};
 use crate::threads::WorkerResult;
 use rtrb::Consumer;
 use sms_book::{Book, BookName, GatherFault, Shares, Statement, Till, gather};
+use sms_deal::{keep_share, merged};
 use sms_pdu::Reply;
 use sms_window::WindowSeat;
 use sms_worker::laws::received_are_prefixes;
@@ -54,14 +55,6 @@ struct Parts<N: BookName> {
     seats: Vec<WindowSeat>,
     consumers: Vec<Consumer<Reply>>,
     causes: Vec<Option<ClosedBy>>,
-}
-
-/// Keeps a worker's share behind those of the workers before it.
-fn keep_share<N: BookName>(shares: &mut Vec<Shares<N>>, share: Shares<N>) -> Result<(), AllocError>
-    ensures { OnOk result (shares.new.items ≡ shares.old.items ++ share ∷ []) }
-{
-    shares.push(share)?;
-    Ok(())
 }
 
 fn take_apart<N: BookName>(alloc: Global, done: Vec<WorkerEnd<N>>) -> Result<Parts<N>, AllocError>

@@ -3,7 +3,8 @@
 ghost use Rattle.std.specs.Prelude.{◌≡◌, ◌<◌, ◌∷◌, ◌++◌, IfOk, List, length, map, replicate, take, drop};
 ghost use Rattle.std.specs.List.{AllByRecursion};
 ghost use Rattle.atomic_table.specs.Seated.{TableId};
-ghost use Rattle.sms_driver.specs.BindEnds.{outcome_of, AreBinds, IsTried};
+ghost use Rattle.sms_driver.specs.BindEnds.{outcome_of, AreBinds};
+ghost use Rattle.sms_unbind.specs.Unbinds.{IsTried};
 ghost use Rattle.sms_driver.specs.Closings.{AreTold};
 ghost use Rattle.sms_driver.specs.Joined.{AreClosed, HasJoined, IsClosed};
 ghost use Rattle.sms_driver.specs.Numbered.{AllDrewOnce, DrewOnce};
@@ -11,8 +12,8 @@ ghost use Rattle.sms_driver.specs.Seated.{windows};
 
 use crate::bind_end::{BindEnd, outcome_in};
 use crate::causes::next_closing;
-use crate::seating::{DriverSeat, SharedBind};
 use sms_bind::ReaderEnd;
+use sms_unbind::{DriverSeat, SharedBind};
 use sms_window::{Closed, Window, WindowSeat};
 use sms_worker::ClosedBy;
 use std::alloc::{AllocError, Global};

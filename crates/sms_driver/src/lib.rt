@@ -9,12 +9,9 @@
 mod bind_end;
 mod binding;
 mod causes;
-mod dealing;
 mod driver;
 mod ending;
 mod fault;
-mod following;
-mod hanging_up;
 mod joining;
 mod latch;
 mod leaving;
@@ -28,8 +25,9 @@ mod thread_scope;
 mod threads;
 mod working;
 
-pub use bind_end::{BindClosing, BindEnd, DownBy, ReaderOutcome, Unasked, Unbinding};
+pub use bind_end::{BindClosing, BindEnd, DownBy, ReaderOutcome};
 pub use binding::{BindSettings, Dial};
 pub use driver::drive_all;
 pub use ending::Sending;
 pub use fault::{BindFailure, SendFault};
+pub use sms_unbind::{Unasked, Unbinding};

@@ -6,42 +6,14 @@ ghost use Rattle.sms_driver.specs.Reads.{reading_in, reading_of};
 ghost use Rattle.sms_driver.specs.Rings.{flat};
 ghost use Rattle.sms_driver.specs.Seated.{all_keep, all_sit, keeping_of, sit_from, sitting_at, IsSeated, windows};
 
-use crate::bind_end::Unbinding;
-use crate::following::Following;
 use crate::task::WorkerPlace;
 use crate::threads::ReaderTask;
-use rtrb::{Consumer, Producer};
-use sms_bind::{Bound, Line};
-use sms_pdu::{Reply, Tap};
-use sms_window::{Window, WindowSeat};
+use rtrb::Consumer;
+use sms_pdu::Reply;
+use sms_unbind::{BindParts, SharedBind};
+use sms_window::WindowSeat;
 use std::alloc::{AllocError, Global};
 use std::collections::VecDeque;
-
-/// What the threads of a bind share.
-#[derive(Drop)]
-pub struct SharedBind<W> {
-    pub line: Line<W>,
-    pub window: Window,
-}
-
-/// What the threads of a bind are given: the keeper's seat to the reader, and a seat and a ring to each worker.
-#[derive(Drop)]
-pub struct BindParts<Rd> {
-    pub keeper: WindowSeat,
-    pub seats: Vec<WindowSeat>,
-    pub consumers: Vec<Consumer<Reply>>,
-    pub producers: Vec<Producer<Reply>>,
-    pub reader: Tap<Rd>,
-    pub bound: Bound,
-    pub follow: Following,
-}
-
-/// The driver's own seat at a bind, and what came of its unbind.
-#[derive(Drop)]
-pub struct DriverSeat {
-    pub seat: WindowSeat,
-    pub unbinding: Unbinding,
-}
 
 /// All workers and readers.
 #[derive(Drop)]

@@ -2,21 +2,20 @@
 
 ghost use Rattle.std.specs.Prelude.{◌≡◌, map, IfErr, IfOk, MatchResult, OnOk};
 ghost use Rattle.std.specs.List.{AllByRecursion};
-ghost use Rattle.sms_driver.specs.BindEnds.{IsTried};
+ghost use Rattle.sms_unbind.specs.Unbinds.{IsTried};
 ghost use Rattle.sms_driver.specs.SendFaults.{IsOfStart};
 ghost use Rattle.sms_driver.specs.Threads.{AreSeated, HasRoom, HaveLeft, HaveReturned, IsCrew, IsNoCrew, IsPrepared, IsWhole};
 ghost use Rattle.sms_driver.specs.declared.latch.Word.TheVariants.{Go, Leave};
 
 use crate::fault::SendFault;
-use crate::hanging_up::{hang_up_all, unbind_all};
 use crate::latch::{Latch, Unsaid, Word};
 use crate::listening::{ReaderHandle, start_readers};
-use crate::seating::{DriverSeat, SharedBind};
 use crate::task::WorkerTask;
 use crate::threads::{ReaderTask, RunContext, WorkerResult, join_told};
 use crate::working::{WorkerHandle, start_workers};
 use sms_bind::ReaderEnd;
 use sms_book::BookName;
+use sms_unbind::{DriverSeat, SharedBind, hang_up_all, unbind_all};
 use sms_worker::{Clock, Gate, Pause};
 use std::alloc::{AllocError, Global};
 use std::io::{Read, Write};

@@ -4,12 +4,12 @@ ghost use Rattle.std.specs.Prelude.{◌≡◌, ◌≤◌, [], length, vec_capaci
 ghost use Rattle.std.specs.List.{AllByRecursion, AllZip};
 ghost use Rattle.sms_driver.specs.Latches.{AreOfOneLatch, IsBackBy, word_of};
 
-use crate::following::Following;
 use crate::latch::{Latch, Said, Told};
 use rtrb::Producer;
 use sms_bind::{Bound, Line, ReaderEnd};
 use sms_book::{Book, BookName};
 use sms_pdu::{Reply, Tap};
+use sms_unbind::Following;
 use sms_window::{Window, WindowSeat};
 use sms_worker::{Message, ReadyWorker, Rules, Worker, WorkerEnd};
 use std::alloc::{AllocError, Global};

@@ -9,7 +9,7 @@ use Rattle.sms_worker.specs.declared.rules.Rules.{Rules}
 use Rattle.sms_worker.specs.declared.ends.MessageEnd.{MessageEnd}
 use Rattle.sms_worker.specs.declared.ends.SegmentEnd.{SegmentEnd}
 use Rattle.sms_driver.specs.Answered.{AreHeard, ends_at}
-use Rattle.sms_driver.specs.Deals.{dealt}
+use Rattle.sms_deal.specs.Deals.{dealt}
 use Rattle.sms_send.proofs.Accepting.{accepted, answered, apart}
 use Rattle.sms_send.proofs.Covering.{of_a_bind, one_part}
 use Rattle.sms_send.specs.Laws.{AcceptsLast, AreApart, WereRead}

@@ -11,7 +11,7 @@ use Rattle.sms_worker.specs.declared.ends.MessageEnd.{MessageEnd}
 use Rattle.sms_worker.specs.declared.ends.Outcome.TheVariants.{Charged}
 use Rattle.sms_worker.specs.declared.ends.SegmentEnd.{SegmentEnd}
 use Rattle.sms_driver.specs.Answered.{ends_at}
-use Rattle.sms_driver.specs.Deals.{dealt}
+use Rattle.sms_deal.specs.Deals.{dealt}
 use Rattle.sms_files.specs.Inputs.{Told}
 use Rattle.sms_files.specs.declared.input.Input.{Input}
 use Rattle.sms_send.specs.declared.sender.Ended.{Ended}

@@ -9,7 +9,7 @@ use Rattle.sms_worker.specs.Limits.{most_turns}
 use Rattle.sms_worker.specs.declared.rules.Rules.{Rules}
 use Rattle.sms_driver.specs.Answered.{AreHeard}
 use Rattle.sms_driver.specs.BindEnds.{AreBinds}
-use Rattle.sms_driver.specs.Deals.{dealt}
+use Rattle.sms_deal.specs.Deals.{dealt}
 use Rattle.sms_driver.specs.Ended.{HaveEnded}
 use Rattle.sms_driver.specs.Closings.{AreExplained}
 use Rattle.sms_driver.specs.Numbered.{AreBelow, AreNumbered}

@@ -2,7 +2,7 @@ use Rattle.std.proofs.Common.{◌∙◌, ℕ, List, Option, length, map, ap, sym
 use Rattle.sms_book.specs.Portions.{row_at}
 use Rattle.sms_book.specs.Shares.{Share, AreAll}
 use Rattle.sms_book.specs.Sums.{IsSumOf}
-use Rattle.sms_driver.specs.Deals.{dealt}
+use Rattle.sms_deal.specs.Deals.{dealt}
 use Rattle.sms_window.specs.SeatState.{SeatState}
 use Rattle.sms_window.specs.declared.view.View.{View}
 use Rattle.sms_driver.specs.declared.bind_end.BindEnd.{BindEnd}

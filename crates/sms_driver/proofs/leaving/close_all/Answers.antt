@@ -1,14 +1,16 @@
 use Rattle.std.proofs.Common.{◌≡◌, rules, arith, ◌∙◌, [], ◌∷◌, ap, sym, refl, length, map}
 use Rattle.std.proofs.lemmas.List.{length-map}
 use Rattle.std.specs.Vec.Iter.{into_iter_items}
-use Rattle.sms_driver.specs.BindEnds.{outcome_of, IsBindEnd, IsTried}
+use Rattle.sms_driver.specs.BindEnds.{outcome_of, IsBindEnd}
+use Rattle.sms_unbind.specs.Unbinds.{IsTried}
 use Rattle.sms_driver.proofs.Drawn.{all_closed, closed_more, first_once, none_closed}
 use Rattle.sms_driver.specs.Closings.{AreTold}
 use Rattle.sms_driver.proofs.Closings.{all_told, none_told, told_more}
 use Rattle.sms_driver.specs.Joined.{AreClosed}
 use Rattle.sms_driver.proofs.Moves.{all_moved, moved, none_moved}
 use Rattle.sms_driver.proofs.Windows.{map_more}
-use Rattle.sms_driver.proofs.Returning.{firsts, same_length, first_windows, first_holds, more_hold}
+use Rattle.sms_driver.proofs.Returning.{firsts, first_windows, first_holds, more_hold}
+use Rattle.sms_unbind.proofs.Places.{same_length}
 use Rattle.sms_driver.proofs.leaving.close_all.Goals as goal
 
 pub take_first-reader-requires : goal.take_first-reader-requires

@@ -1,7 +1,8 @@
 use Rattle.std.proofs.Common.{◌≡◌, ◌+◌, ◌++◌, List, length, map}
 use Rattle.std.specs.List.{AllByRecursion}
 use Rattle.std.specs.Vec.Iter.{into_iter_items}
-use Rattle.sms_driver.specs.BindEnds.{outcome_of, IsBindEnd, IsTried}
+use Rattle.sms_driver.specs.BindEnds.{outcome_of, IsBindEnd}
+use Rattle.sms_unbind.specs.Unbinds.{IsTried}
 use Rattle.sms_window.specs.declared.outcome.Closed.{Closed}
 use Rattle.sms_driver.specs.Closings.{AreTold}
 use Rattle.sms_driver.specs.declared.bind_end.BindClosing.{BindClosing}

@@ -6,7 +6,7 @@ use Rattle.sms_book.specs.Sums.{IsSumOf}
 use Rattle.sms_worker.specs.declared.rules.Rules.{Rules}
 use Rattle.sms_worker.specs.declared.ends.MessageEnd.{MessageEnd}
 use Rattle.sms_worker.specs.declared.work.WorkerEnd.{WorkerEnd}
-use Rattle.sms_driver.specs.Deals.{dealt}
+use Rattle.sms_deal.specs.Deals.{dealt}
 use Rattle.sms_driver.specs.Seated.{IsSeated}
 use Rattle.sms_driver.specs.Statements.{AreRows}
 use Rattle.sms_worker.specs.EndOf.{IsEndOf}

@@ -7,7 +7,7 @@ use Rattle.sms_worker.specs.EndOf.{IsEndOf}
 use Rattle.sms_worker.specs.declared.message.Message.{Message}
 use Rattle.sms_driver.specs.Answered.{AreHeard}
 use Rattle.sms_driver.specs.BindEnds.{AreBinds}
-use Rattle.sms_driver.specs.Deals.{dealt}
+use Rattle.sms_deal.specs.Deals.{dealt}
 use Rattle.sms_driver.specs.Closings.{AreExplained}
 use Rattle.sms_driver.specs.Numbered.{AreBelow, AreNumbered}
 use Rattle.sms_driver.specs.SendFaults.{IsFaultOfOne}

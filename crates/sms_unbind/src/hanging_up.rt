@@ -1,0 +1,206 @@
+//! How binds are ended (SMPP 3.4 4.2).
+
+ghost use Rattle.std.specs.Prelude.{◌≡◌, ◌+◌, ◌<◌, Err, IfErr, IfOk, IfSome, IsOk, OnOk, map, length, take};
+ghost use Rattle.std.specs.List.{AllByRecursion};
+ghost use Rattle.sms_unbind.specs.Unbinds.{HasAsked, IsTried, SpellsUnbind};
+
+use crate::binds::{Binds, DriverSeat, SharedBind};
+use crate::unbinding::{Unasked, Unbinding};
+use sms_bind::WireFault;
+use sms_pdu::{BodyRef, Frame, PduRef, encode_into};
+use sms_window::WindowSeat;
+use sms_worker::{Clock, Number, Pause, Rules, draw};
+use std::alloc::Global;
+use std::io::Write;
+use std::sync::Wait;
+use std::sync::atomic::Ordering;
+
+/// The frame of the unbind with this number; none where memory runs out.
+fn unbind_frame(alloc: Global, number: u32) -> Option<Frame>
+    ensures { IfSome result (λ frame. SpellsUnbind number frame) }
+{
+    let pdu = PduRef {
+        status: 0,
+        number,
+        body: BodyRef::Unbind,
+    };
+    let mut octets = Vec::new(alloc);
+    match encode_into(&mut octets, &pdu) {
+        Ok(_) => Some(Frame::new(octets)),
+        Err(_) => None,
+    }
+}
+
+/// Writes an unbind. None is written where the bind is down, all its numbers are drawn, or memory
+/// runs out.
+fn ask<W: Write, R: Wait>(
+    rt: &R,
+    alloc: Global,
+    shared: &SharedBind<W>,
+    seat: &mut WindowSeat,
+) -> Unbinding
+    requires own { seat.old.window ≡ shared.now.window }
+    ensures window { seat.new.window ≡ seat.old.window }
+    ensures tried { IsTried result }
+    ensures asked { HasAsked seat.old.view result seat.new.view }
+{
+    if shared.line.down.look().is_some() {
+        return Unbinding::Unasked(Unasked::Down);
+    }
+    let Number::Drawn(number) = draw(&shared.window, seat) else {
+        return Unbinding::Unasked(Unasked::NoNumber);
+    };
+    let Some(frame) = unbind_frame(alloc, number) else {
+        return Unbinding::Unasked(Unasked::OutOfMemory);
+    };
+    let sent = shared.line.wire.lock(rt).send(frame);
+    match sent {
+        Ok(receipt) => Unbinding::Sent(receipt),
+        Err(WireFault::Write(receipt)) => Unbinding::Failed(receipt),
+        Err(WireFault::Broken) => Unbinding::Unasked(Unasked::Broken),
+    }
+}
+
+/// Writes an unbind, and keeps what came of it.
+fn unbind<W: Write, R: Wait>(
+    rt: &R,
+    alloc: Global,
+    shared: &SharedBind<W>,
+    driver_seat: &mut DriverSeat,
+)
+    requires own { driver_seat.old.seat.window ≡ shared.now.window }
+    ensures window { driver_seat.new.seat.window ≡ driver_seat.old.seat.window }
+    ensures tried { IsTried driver_seat.new.unbinding }
+{
+    driver_seat.unbinding = ask(rt, alloc, shared, &mut driver_seat.seat);
+}
+
+/// Writes an unbind to the bind at a place, and keeps what came of it: then one was tried at each bind up to it, if at
+/// each before it.
+fn unbind_at<W: Write, R: Wait>(
+    rt: &R,
+    alloc: Global,
+    shared_binds: &[SharedBind<W>],
+    driver_seats: &mut Vec<DriverSeat>,
+    bind: usize,
+)
+    requires there { bind < length shared_binds.now }
+    requires driver_seats { map (λ s. s.seat.window) driver_seats.old.items ≡ map (λ b. b.window) shared_binds.now }
+    ensures driver_seats { map (λ s. s.seat.window) driver_seats.new.items ≡ map (λ s. s.seat.window) driver_seats.old.items }
+    ensures tried { AllByRecursion (λ s. IsTried s.unbinding) (take bind driver_seats.old.items) → AllByRecursion (λ s. IsTried s.unbinding) (take (bind + 1) driver_seats.new.items) }
+{
+    let driver_seat = &mut driver_seats[bind];
+    unbind(rt, alloc, &shared_binds[bind], driver_seat);
+}
+
+/// Writes an unbind to each bind.
+pub fn unbind_all<W: Write, R: Wait>(
+    rt: &R,
+    alloc: Global,
+    shared_binds: &[SharedBind<W>],
+    driver_seats: &mut Vec<DriverSeat>,
+)
+    requires driver_seats { map (λ s. s.seat.window) driver_seats.old.items ≡ map (λ b. b.window) shared_binds.now }
+    ensures driver_seats { map (λ s. s.seat.window) driver_seats.new.items ≡ map (λ s. s.seat.window) driver_seats.old.items }
+    ensures tried { AllByRecursion (λ s. IsTried s.unbinding) driver_seats.new.items }
+{
+    for bind in 0..shared_binds.len() {
+        unbind_at(rt, alloc, shared_binds, driver_seats, bind);
+    }
+}
+
+/// Gives the binds if all were made. If one failed, those that were made are unbound, and its fault is told.
+pub fn unless_failed<Rd: Drop, W: Write + Drop, F: Drop, R: Wait>(
+    rt: &R,
+    alloc: Global,
+    binds: Binds<Rd, W>,
+    made: Result<(), F>,
+) -> Result<Binds<Rd, W>, F>
+    requires driver_seats { map (λ s. s.seat.window) binds.driver_seats.items ≡ map (λ b. b.window) binds.shared_binds.items }
+    ensures given { IfOk result (λ b. b ≡ binds) }
+    ensures all { OnOk result (IsOk made) }
+    ensures told { IfErr result (λ fault. made ≡ Err fault) }
+{
+    let mut binds = binds;
+    match made {
+        Ok(()) => Ok(binds),
+        Err(fault) => {
+            unbind_all(
+                rt,
+                alloc,
+                binds.shared_binds.as_slice(),
+                &mut binds.driver_seats,
+            );
+            Err(fault)
+        }
+    }
+}
+
+/// Whether an answer to the unbind may come yet: it was handed to the wire, and the line isn't down.
+fn is_awaited<W>(shared: &SharedBind<W>, driver_seat: Option<&DriverSeat>) -> bool {
+    match driver_seat {
+        Some(driver_seat) => match driver_seat.unbinding {
+            Unbinding::Sent(_) => shared.line.down.look().is_none(),
+            Unbinding::NotYet | Unbinding::Failed(_) | Unbinding::Unasked(_) => false,
+        },
+        None => false,
+    }
+}
+
+fn is_one_awaited<W>(shared_binds: &[SharedBind<W>], driver_seats: &[DriverSeat]) -> bool {
+    for place in 0..shared_binds.len() {
+        if is_awaited(&shared_binds[place], driver_seats.get(place)) {
+            return true;
+        }
+    }
+    false
+}
+
+/// Waits until no bind's answer is awaited, for all of them together at most as long as for one.
+fn wait_until_down<W, K: Clock, P: Pause>(
+    shared_binds: &[SharedBind<W>],
+    driver_seats: &[DriverSeat],
+    rules: &Rules,
+    clock: &K,
+    pause: &P,
+)
+    // It begins once an unbind was tried at each bind.
+    requires tried { AllByRecursion (λ s. IsTried s.unbinding) driver_seats.now }
+{
+    let begun = clock.now_ms();
+    for _turn in 0..rules.turns {
+        if !is_one_awaited(shared_binds, driver_seats) {
+            return;
+        }
+        if clock.now_ms().saturating_sub(begun) >= u64::from(rules.answer_ms) {
+            return;
+        }
+        pause.pause(1);
+    }
+}
+
+/// Lets each bind's reader end with its next read.
+fn stop_all<W>(shared_binds: &[SharedBind<W>]) {
+    for shared in shared_binds {
+        shared.line.stop.store(true, Ordering::SeqCst);
+    }
+}
+
+/// Unbinds all binds, then waits once for the ends of their readers, and stops those that go on.
+pub fn hang_up_all<W: Write, K: Clock, P: Pause, R: Wait>(
+    rt: &R,
+    alloc: Global,
+    shared_binds: &[SharedBind<W>],
+    driver_seats: &mut Vec<DriverSeat>,
+    rules: &Rules,
+    clock: &K,
+    pause: &P,
+)
+    requires driver_seats { map (λ s. s.seat.window) driver_seats.old.items ≡ map (λ b. b.window) shared_binds.now }
+    ensures driver_seats { map (λ s. s.seat.window) driver_seats.new.items ≡ map (λ s. s.seat.window) driver_seats.old.items }
+    ensures tried { AllByRecursion (λ s. IsTried s.unbinding) driver_seats.new.items }
+{
+    unbind_all(rt, alloc, shared_binds, driver_seats);
+    wait_until_down(shared_binds, driver_seats.as_slice(), rules, clock, pause);
+    stop_all(shared_binds);
+}
