@@ -6,6 +6,7 @@ pub mod Pushes
 pub mod Names
 pub mod Refusals
 pub mod Halving
+pub mod Narrowing
 pub mod Longest
 pub mod TariffLaws
 pub mod Dealing

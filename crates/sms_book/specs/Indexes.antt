@@ -1,5 +1,5 @@
 -- The places of a tariff's rates in the order of their prefixes, in which a prefix is found by halving.
-use Rattle.std.specs.Prelude.{◌≡◌, ℕ, ◌<◌, ◌≤◌, List, length, slice_index}
+use Rattle.std.specs.Prelude.{◌≡◌, ℕ, ◌<◌, ◌≤◌, List, length, slice_index, take}
 use Rattle.std.specs.Cmp.Lexicographic.{slice_cmp}
 use Rattle.std.specs.Ordering.{nat_cmp}
 use Rattle.std.specs.declared.cmp.Ordering.TheVariants.{Less}
@@ -37,6 +37,13 @@ pub record IsRoom (prices : List Price) (order : List ℕ) (prefix : List ℕ) (
   pub within : at ≤ length order
   pub below : (i : ℕ) → i < at → Before (prefix_in prices order i) prefix
   pub above : (i : ℕ) → at ≤ i → i < length order → Before prefix (prefix_in prices order i)
+
+-- so many octets at the front of two lists are the same, and no more
+pub record IsShared (prefix digits : List ℕ) (n : ℕ) : Type 0 where
+  pub within : n ≤ length prefix
+  pub inside : n ≤ length digits
+  pub same : take n prefix ≡ take n digits
+  pub most : (k : ℕ) → k ≤ length prefix → k ≤ length digits → take k prefix ≡ take k digits → k ≤ n
 
 -- what every tariff keeps
 pub record TariffStands (prices : List Price) (order : List ℕ) : Type 0 where

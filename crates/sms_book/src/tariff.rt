@@ -5,7 +5,7 @@ ghost use Rattle.sms_core.specs.Limits.{largest_cost};
 ghost use Rattle.sms_book.specs.Limits.{most_rates};
 ghost use Rattle.sms_book.specs.Openings.{HaveOneName};
 ghost use Rattle.sms_book.specs.Tariffs.{prices_of, price_at, prefixes, digits_of, cost_of, IsPrefix, IsCredits, IsTariff, IsReached, IsLongest, Begins};
-ghost use Rattle.sms_book.specs.Indexes.{IsIndex, IsFound, IsRoom, TariffStands};
+ghost use Rattle.sms_book.specs.Indexes.{IsIndex, IsFound, IsRoom, IsShared, TariffStands};
 ghost use Rattle.sms_book.specs.declared.error.TariffError.TheVariants.{TooMany, BadPrefix, BadCredits, Duplicate};
 
 use crate::error::TariffError;
@@ -88,13 +88,37 @@ fn longest_rate(rates: &[Rate], order: &[usize], digits: &[u8]) -> Option<usize>
     if rates.is_empty() {
         return None;
     }
-    let most = digits.len().min(MOST_DIGITS);
-    for shorter in 0..most + 1 {
-        if let Ok(place) = seek(rates, order, &digits[..most - shorter]) {
-            return Some(place);
+    let mut most = digits.len().min(MOST_DIGITS);
+    loop {
+        let at = match seek(rates, order, &digits[..most]) {
+            Ok(place) => return Some(place),
+            Err(at) => at,
+        };
+        if at == 0 {
+            return None;
+        }
+        // Of the prefixes before these digits the last begins with each that they begin with.
+        let last = order[at - 1];
+        let prefix = rates[last].prefix.as_bytes();
+        let same = shared(prefix, &digits[..most]);
+        if same == prefix.len() {
+            return Some(last);
+        }
+        most = same;
+    }
+}
+
+/// How many octets at the front of a prefix and of digits are the same.
+fn shared(prefix: &[u8], digits: &[u8]) -> usize
+    ensures { IsShared prefix.now digits.now result }
+{
+    let most = prefix.len().min(digits.len());
+    for place in 0..most {
+        if prefix[place] != digits[place] {
+            return place;
         }
     }
-    None
+    most
 }
 
 /// The place of the rate with this prefix, by halving; where there is none, where it would stand

@@ -70,6 +70,33 @@ fn no_rate_costs_one(rt: HostRuntime) {
     want_costs(&rt, rt.alloc(), &[], &[("+447700900123", 1)]);
 }
 
+// Prefixes that begin with others, and some between them.
+const NESTED: &[(&str, u32)] = &[
+    ("447911", 7),
+    ("45", 8),
+    ("4", 2),
+    ("4481", 9),
+    ("4479", 5),
+    ("44", 3),
+];
+
+const NESTED_COSTS: &[(&str, u32)] = &[
+    ("+447911", 7),
+    ("+4479110", 7),
+    // The last prefix before it begins as it does, but is no prefix of it.
+    ("+447912", 5),
+    ("+4480", 3),
+    ("+46", 2),
+    ("+5", 1),
+    // No prefix is before it.
+    ("+3", 1),
+];
+
+#[test]
+fn a_prefix_begins_with_another(rt: HostRuntime) {
+    want_costs(&rt, rt.alloc(), NESTED, NESTED_COSTS);
+}
+
 // A rate of 20 digits, and of one.
 const LONG: &[(&str, u32)] = &[("01234567890123456789", 1_000), ("0", 2)];
 
