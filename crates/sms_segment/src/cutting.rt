@@ -61,6 +61,22 @@ pub fn cut(alloc: Global, text: &Coded, reference: Reference) -> Result<Vec<Part
     }
 }
 
+/// How many parts [`cut`] makes of a text, without making them; none where a header can't count them.
+pub fn parts_in(text: &Coded, reference: Reference) -> Option<u8>
+    ensures count { IfSome result (λ count. count ≡ length (parts_of text.now reference)) }
+    ensures some { IfSome result (λ count. 0 < count) }
+    ensures none { IsNone result ↔ IsTooLong text.now reference }
+{
+    if single_limit(text.coding) >= text.units.len() {
+        return Some(1);
+    }
+    let limit = part_limit(reference, text.coding);
+    match part_count(text.coding, text.units.as_slice(), limit) {
+        Some(count) => Some(count),
+        None => None,
+    }
+}
+
 fn whole_text(alloc: Global, text: &Coded) -> Result<Vec<Part>, AllocError>
     ensures { IfOk result (λ parts. parts.items ≡ whole text.now ∷ []) }
 {

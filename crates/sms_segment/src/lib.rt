@@ -16,7 +16,7 @@ mod part;
 mod place;
 
 pub use at_once::{ShortMessage, short_message_of};
-pub use cutting::{CutError, cut};
+pub use cutting::{CutError, cut, parts_in};
 pub use joining::{JoinError, join};
 pub use part::Part;
 pub use place::{Place, Reference};
