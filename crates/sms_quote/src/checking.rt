@@ -8,7 +8,7 @@ use crate::address::has_addresses;
 use crate::quote::{Quote, Verdict};
 use sms_alphabet::choose;
 use sms_book::Tariff;
-use sms_segment::{CutError, Reference, cut};
+use sms_segment::{Reference, parts_in};
 use sms_worker::Message;
 use std::alloc::{AllocError, Global};
 
@@ -37,11 +37,7 @@ fn parts_for(alloc: Global, long: bool, message: &Message) -> Result<Option<u8>,
     ensures { IfOk result (IsPartCount long message.now) }
 {
     let text = choose(alloc, message.text.as_str())?;
-    match cut(alloc, &text, reference_for(long, message)) {
-        Ok(parts) => Ok(Some(parts.len() as u8)),
-        Err(CutError::TooLong) => Ok(None),
-        Err(CutError::OutOfMemory) => Err(AllocError),
-    }
+    Ok(parts_in(&text, reference_for(long, message)))
 }
 
 /// A message that isn't cut.
