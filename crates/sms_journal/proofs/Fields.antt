@@ -287,25 +287,25 @@ regroup7 a b c d e f g = simp append_assoc
 regroup9 : (a b c d e f g h i : List ℕ) → (((((((a ++ b) ++ c) ++ d) ++ e) ++ f) ++ g) ++ h) ++ i ≡ a ++ (b ++ (c ++ (d ++ (e ++ (f ++ (g ++ (h ++ i)))))))
 regroup9 a b c d e f g h i = simp append_assoc
 
-begun_line : (time m : ℕ) → note_text time (Begun m) ≡ codes "begun" ++ 44 ∷ (decimal time ++ 44 ∷ (decimal m ++ 10 ∷ []))
+pub begun_line : (time m : ℕ) → note_text time (Begun m) ≡ codes "begun" ++ 44 ∷ (decimal time ++ 44 ∷ (decimal m ++ 10 ∷ []))
 begun_line time m = simp append_assoc
 
-sent_line : (time : ℕ) (call : Call) (m p : ℕ) → note_text time (Sent call m p) ≡ codes "sent" ++ 44 ∷ (decimal time ++ 44 ∷ (decimal call.worker ++ 44 ∷ (decimal call.number ++ 44 ∷ (decimal m ++ 44 ∷ (decimal p ++ 10 ∷ [])))))
+pub sent_line : (time : ℕ) (call : Call) (m p : ℕ) → note_text time (Sent call m p) ≡ codes "sent" ++ 44 ∷ (decimal time ++ 44 ∷ (decimal call.worker ++ 44 ∷ (decimal call.number ++ 44 ∷ (decimal m ++ 44 ∷ (decimal p ++ 10 ∷ [])))))
 sent_line time call m p = regroup7 (codes "sent") (number_field time) (number_field call.worker) (number_field call.number) (number_field m) (number_field p) (codes "\n")
 
-unsent_line : (time : ℕ) (call : Call) → note_text time (Unsent call) ≡ codes "unsent" ++ 44 ∷ (decimal time ++ 44 ∷ (decimal call.worker ++ 44 ∷ (decimal call.number ++ 10 ∷ [])))
+pub unsent_line : (time : ℕ) (call : Call) → note_text time (Unsent call) ≡ codes "unsent" ++ 44 ∷ (decimal time ++ 44 ∷ (decimal call.worker ++ 44 ∷ (decimal call.number ++ 10 ∷ [])))
 unsent_line time call = regroup5 (codes "unsent") (number_field time) (number_field call.worker) (number_field call.number) (codes "\n")
 
-heard_line : (time by : ℕ) (reply : Reply)
+pub heard_line : (time by : ℕ) (reply : Reply)
     → note_text time (Heard by reply)
     ≡ codes "heard" ++ 44 ∷ (decimal time ++ 44 ∷ (decimal by ++ 44 ∷ (decimal reply.number ++ 44 ∷ (decimal reply.status ++ 44 ∷ (decimal (flag reply.nack) ++ 44 ∷ (id_text reply.id ++ 10 ∷ []))))))
 heard_line time by reply =
     regroup9 (codes "heard") (number_field time) (number_field by) (number_field reply.number) (number_field reply.status) (number_field (flag reply.nack)) (codes ",") (id_text reply.id) (codes "\n")
 
-refused_line : (time m : ℕ) (refusal : MessageRefusal) → note_text time (Refused m refusal) ≡ codes "refused" ++ 44 ∷ (decimal time ++ 44 ∷ (decimal m ++ 44 ∷ (refusal_word refusal ++ 10 ∷ [])))
+pub refused_line : (time m : ℕ) (refusal : MessageRefusal) → note_text time (Refused m refusal) ≡ codes "refused" ++ 44 ∷ (decimal time ++ 44 ∷ (decimal m ++ 44 ∷ (refusal_word refusal ++ 10 ∷ [])))
 refused_line time m refusal = simp append_assoc
 
-end_line : (time status : ℕ) → note_text time (End status) ≡ codes "end" ++ 44 ∷ (decimal time ++ 44 ∷ (decimal status ++ 10 ∷ []))
+pub end_line : (time status : ℕ) → note_text time (End status) ≡ codes "end" ++ 44 ∷ (decimal time ++ 44 ∷ (decimal status ++ 10 ∷ []))
 end_line time status = simp append_assoc
 
 -- a line that is written of a note is read as the note

@@ -2,6 +2,8 @@
 use Rattle.std.proofs.Common.{◌≡◌, ℕ, zero, suc, ◌+◌, ◌<◌, List, [], ◌∷◌, ◌++◌, length, take, Some, None, refl, sym, ap, ◌∙◌, subst, Bool, true, false, arith}
 use Rattle.std.specs.Prelude.{Option, slice_get, flat_map, if◌then◌else◌, ◌==◌, ◌&&◌}
 use Rattle.std.proofs.lemmas.Bool.{eqb-true}
+use Rattle.std.proofs.lemmas.List.{take-append-le}
+use Rattle.std.proofs.lemmas.Option.{slice_get_within}
 use Rattle.sms_core.specs.Replies.{AreRetried}
 use Rattle.sms_pdu.specs.declared.reply.Reply.{Reply}
 use Rattle.sms_worker.specs.declared.message.Message.{Message}
@@ -16,8 +18,8 @@ use Rattle.sms_journal.specs.declared.told.ResultTold.{ResultTold}
 use Rattle.sms_journal.specs.declared.told.ResultTold.TheVariants as result
 use Rattle.sms_journal.specs.Recovered.{ArePartsTold, IsRefusalTold, IsResultTold, answers_told, fate_in, fate_of, start_in, start_of, tried, tried_in, tries_of}
 use Rattle.sms_journal.specs.Sums.{parts_in}
-use Rattle.sms_journal.specs.Lawful.{IsJournal, IsOver}
-use Rattle.sms_journal.specs.Laws.{ChargesStayCharges, HasChargedPart}
+use Rattle.sms_journal.specs.Lawful.{IsJournal, IsOver, MayFollow}
+use Rattle.sms_journal.specs.Laws.{ChargesStayCharges, FrontsAreLawful, HasChargedPart}
 use Rattle.sms_journal.proofs.Charges.{charges_stay}
 use Rattle.sms_journal.proofs.Firsts.{first_of_front}
 use Rattle.sms_journal.proofs.Pieces.{first_append, from}
@@ -40,6 +42,17 @@ module _ {X : Type 0} where
   got_front (y ∷ ys) j zero x low e = absurd (omega (arith, low))
   got_front (y ∷ ys) zero (suc k) x low e = e
   got_front (y ∷ ys) (suc j) (suc k) x low e = got_front ys j k x (omega (arith, low)) e
+
+  got_whole : (xs ys : List X) (k : ℕ) (x : X) → slice_get xs k ≡ Some x → slice_get (xs ++ ys) k ≡ Some x
+  got_whole [] ys k x e = absurd (cc)
+  got_whole (y ∷ xs) ys zero x e = e
+  got_whole (y ∷ xs) ys (suc k) x e = got_whole xs ys k x e
+
+-- ---- the front of a lawful journal
+
+pub front_lawful : FrontsAreLawful
+front_lawful rules accounts ms notes later all k n at =
+    subst (λ (l : List Note). MayFollow rules accounts ms l n) (take-append-le k notes later (omega (arith, slice_get_within notes k n at))) (all k n (got_whole notes later k n at))
 
 -- ---- each request for a part but its last is over
 

@@ -1,5 +1,6 @@
 -- What holds of every list of notes, and of every lawful journal.
 use Rattle.std.specs.Prelude.{◌≡◌, ℕ, ◌++◌, false, List, Some, slice_get}
+use Rattle.std.specs.List.{AllByRecursion}
 use Rattle.sms_core.specs.Statuses.{no_error}
 use Rattle.sms_core.specs.Replies.{AreRetried}
 use Rattle.sms_pdu.specs.declared.reply.Reply.{Reply}
@@ -13,7 +14,7 @@ use Rattle.sms_journal.specs.declared.told.PartTold.{PartTold}
 use Rattle.sms_journal.specs.declared.told.MessageTold.{MessageTold}
 use Rattle.sms_journal.specs.Lawful.{IsJournal}
 use Rattle.sms_journal.specs.Recovered.{answers_told, IsPartTold, IsTold}
-use Rattle.sms_journal.specs.Lines.{IsNote, IsU64}
+use Rattle.sms_journal.specs.Lines.{AreNotes, IsNote, IsU64}
 use Rattle.sms_journal.specs.Sums.{parts_in}
 use Rattle.sms_journal.specs.Text.{note_text}
 
@@ -60,3 +61,11 @@ abbrev pub LinesAreOfOneNote : Type 0
 LinesAreOfOneNote =
     (time other_time : ℕ) (note other : Note) → IsU64 time → IsU64 other_time → IsNote note → IsNote other → note_text time note ≡ note_text other_time other
     → (time ≡ other_time) × (note ≡ other)
+
+-- a text is the lines of one list of notes
+abbrev pub TextsTellOnce : Type 0
+TextsTellOnce = (text : List ℕ) (notes others : List Note) → AllByRecursion IsNote notes → AllByRecursion IsNote others → AreNotes text notes → AreNotes text others → notes ≡ others
+
+-- each front of a lawful journal is a lawful journal
+abbrev pub FrontsAreLawful : Type 0
+FrontsAreLawful = (rules : Rules) (accounts : ℕ) (ms : List Message) (notes later : List Note) → IsJournal rules accounts ms (notes ++ later) → IsJournal rules accounts ms notes
