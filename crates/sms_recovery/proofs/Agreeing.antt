@@ -18,7 +18,7 @@ use Rattle.sms_journal.specs.Recovered.{IsTold}
 use Rattle.sms_journal.specs.Sums.{part_of_end, result_of_end, told_of_end}
 use Rattle.sms_journal.proofs.Once.{told_once}
 use Rattle.sms_report.specs.Report as report
-use Rattle.sms_recovery.specs.Laws.{ReportsAgree, RunsAreRecovered, StatusesAgree}
+use Rattle.sms_recovery.specs.Laws.{NoAccountIsOverdrawn, ReportsAgree, RunsAreRecovered, StatusesAgree}
 use Rattle.sms_recovery.specs.Recovering.{AreRowsTold}
 use Rattle.sms_recovery.specs.Reports.{has_unanswered, is_open_result, last_text, part_text, part_texts, result_text, some_unanswered, told_report_of, told_texts}
 
@@ -99,3 +99,11 @@ runs_are_recovered rules os ms notes told rows es statement is tells rows_are =
     let its : AreRowsTold os ms (map told_of_end es) rows = rw (← same) is.rows_are in
     let rows_is = rows_same os ms (map told_of_end es) rows statement its rows_are in
     ap (λ (t : List MessageTold). told_report_of os t rows) same ∙ ap (told_report_of os (map told_of_end es)) rows_is ∙ reports_agree os es statement
+
+-- ---- rows
+
+pub none_overdrawn : NoAccountIsOverdrawn
+none_overdrawn rules os ms notes told rows is i row o at at' =
+    let all : row.topped ≡ row.free + row.reserved + row.charged = is.rows_are.balanced i row at in
+    let had : row.topped ≡ o.credits = ap (λ (r : Row). r.topped) (is.rows_are.each i row at o at') in
+    omega (arith, all, had)

@@ -1,5 +1,5 @@
 -- What is told of a run's ends is printed as the run prints them.
-use Rattle.std.specs.Prelude.{◌≡◌, List, map}
+use Rattle.std.specs.Prelude.{◌≡◌, ◌+◌, ◌≤◌, ℕ, List, Some, map, slice_get}
 use Rattle.std.specs.List.{AllZip}
 use Rattle.sms_core.specs.declared.row.Row.{Row}
 use Rattle.sms_book.specs.declared.opening.Opening.{Opening}
@@ -28,3 +28,9 @@ RunsAreRecovered =
     (rules : Rules) (os : List Opening) (ms : List Message) (notes : List Note) (told : List MessageTold) (rows : List Row) (ends : List MessageEnd) (statement : List Row)
     → IsRecovered rules os ms notes told rows → AllZip (IsTold rules notes) ms (map told_of_end ends) → AreRowsTold os ms (map told_of_end ends) statement
     → told_report_of os told rows ≡ report_of os ends statement
+
+-- in each row of what is recovered no more is reserved and charged than the account opened with
+abbrev pub NoAccountIsOverdrawn : Type 0
+NoAccountIsOverdrawn =
+    (rules : Rules) (os : List Opening) (ms : List Message) (notes : List Note) (told : List MessageTold) (rows : List Row) → IsRecovered rules os ms notes told rows
+    → (i : ℕ) (row : Row) (o : Opening) → slice_get rows i ≡ Some row → slice_get os i ≡ Some o → row.reserved + row.charged ≤ o.credits

@@ -1,6 +1,6 @@
 //! Laws of what is recovered. Each holds by the contract of its function, which does nothing.
 
-ghost use Rattle.sms_recovery.specs.Laws.{ReportsAgree, RunsAreRecovered, StatusesAgree};
+ghost use Rattle.sms_recovery.specs.Laws.{NoAccountIsOverdrawn, ReportsAgree, RunsAreRecovered, StatusesAgree};
 
 /// What is told of the ends of a sending is printed as the sending prints them, octet for octet.
 pub fn reports_agree()
@@ -16,4 +16,9 @@ pub fn statuses_agree()
 /// is recovered from the notes is the run's, octet for octet.
 pub fn runs_are_recovered()
     ensures { RunsAreRecovered }
+{}
+
+/// In each row of what is recovered no more is reserved and charged than its account opened with.
+pub fn no_account_is_overdrawn()
+    ensures { NoAccountIsOverdrawn }
 {}
