@@ -1,14 +1,24 @@
 -- A journal as it goes to its file, and the requests that are noted in it.
-use Rattle.std.specs.Prelude.{◌≡◌, ◌≤◌, ◌+◌, ℕ, List}
+use Rattle.std.specs.Prelude.{◌≤◌, ◌+◌, ◌++◌, ℕ, List, Option}
+use Rattle.std.specs.Io.KnownBytes.{Appends}
 use Rattle.std.specs.String.{string_bytes}
-use Rattle.sms_journal.specs.declared.note.Call.{Call}
 use Rattle.sms_journal.specs.declared.note.Note.{Note}
-use Rattle.sms_journal.specs.declared.note.Note.TheVariants.{Sent}
+use Rattle.sms_journal.specs.declared.note.Note.TheVariants.{End, Sent}
+use Rattle.sms_journal.specs.Lines.{IsU64}
+use Rattle.sms_journal.specs.Text.{note_text}
 use Rattle.sms_devices.specs.declared.journal.Pages.{Pages}
 
 -- what was noted and isn't written yet
 abbrev pub waiting_lines : {F : Type 0} → Pages F → List ℕ
 waiting_lines pages = string_bytes pages.waiting
+
+-- a file was given lines, of which the last is the note that a run has ended with this status
+pub record HasEnded {F : Type 0} (contents : F → Option (List ℕ)) (status : ℕ) (file : F) : Type 0 where
+  pub before : F
+  pub lines : List ℕ
+  pub time : ℕ
+  pub small : IsU64 time
+  pub given : Appends (contents before) (contents file) (lines ++ note_text time (End status))
 
 -- the request of a worker for a part of a message, which goes by its place among the parts
 abbrev pub request_note : ℕ → ℕ → ℕ → ℕ → Note

@@ -1,11 +1,13 @@
 //! The journal of a run on its way to its file. Notes wait in memory, so that a note costs no call of
 //! the system, until they are let out together.
 
-ghost use Rattle.std.specs.Prelude.{◌≡◌, ◌++◌, [], false, not, string_bytes, true};
+ghost use Rattle.std.specs.Prelude.{◌≡◌, ◌++◌, [], IfSome, IsNone, false, not, string_bytes, true};
 ghost use Rattle.std.specs.Io.KnownBytes.{Appends};
 ghost use Rattle.sms_report.specs.Output.{WritesFront};
+ghost use Rattle.sms_journal.specs.Lines.{IsU64};
 ghost use Rattle.sms_journal.specs.Text.{header_text, note_text};
-ghost use Rattle.sms_devices.specs.Journals.{waiting_lines};
+ghost use Rattle.sms_journal.specs.declared.note.Note.TheVariants.{End};
+ghost use Rattle.sms_devices.specs.Journals.{HasEnded, waiting_lines};
 
 use sms_journal::{Digests, Note, write_header, write_note};
 use sms_report::write_out;
@@ -18,10 +20,19 @@ use std::time::{Clock, SystemTime, UNIX_EPOCH};
 
 /// Makes the files that journals are written to.
 pub trait JournalFiles {
+    ghost use Rattle.std.specs.Prelude.{ℕ, List, IfOk, IsErr, ⊤};
+
     type JournalFile: Write + OpenFile + Send + Drop;
 
+    // What is known of a file that was made by a name, and of a name by which none could be made.
+    ghost makes: { Self → List ℕ → Self.JournalFile → Type 0 } = { λ _ _ _. ⊤ };
+
+    ghost refuses: { Self → List ℕ → Type 0 } = { λ _ _. ⊤ };
+
     /// A new file of this name. It is an error where one is there.
-    fn create_journal(&self, name: &str) -> io::Result<Self::JournalFile>;
+    fn create_journal(&self, name: &str) -> io::Result<Self::JournalFile>
+        ensures made { IfOk result (makes self.now name.now) }
+        ensures refused { IsErr result → refuses self.now name.now };
 }
 
 impl JournalFiles for HostRuntime {
@@ -95,6 +106,24 @@ impl<F: Write + OpenFile> Pages<F> {
     }
 }
 
+impl<F: Write + OpenFile + Drop> Pages<F> {
+    /// Notes at this time that the run has ended, with this exit status, and writes all that waits.
+    /// Gives the file, or None where the journal has failed, now or before.
+    fn close(self, time: u64, status: u8) -> Option<F>
+        ensures written { IfSome result (λ file. Appends (F.contents self.file) (F.contents file) (waiting_lines self ++ note_text time (End status))) }
+        ensures failed { self.has_failed ≡ true → IsNone result }
+    {
+        let mut pages = self;
+        pages.note(time, &Note::End(status));
+        if pages.let_out() {
+            let Pages { file, .. } = pages;
+            Some(file)
+        } else {
+            None
+        }
+    }
+}
+
 /// What is noted of a run. It is shared by all that note, and by all that write to a connection.
 #[derive(Drop)]
 pub struct Journal<F> {
@@ -141,8 +170,21 @@ impl<F: Write + OpenFile> Journal<F> {
     }
 }
 
+impl<F: Write + OpenFile + Drop> Journal<F> {
+    /// Notes that the run has ended, with this exit status, behind all else that is ever noted, and
+    /// writes all that was noted. Gives the file, or None where the journal has failed, now or before.
+    pub fn close<R: Clock>(self, rt: &R, status: u8) -> Option<F>
+        ensures { IfSome result (HasEnded F.contents status) }
+    {
+        let time = unix_ms(rt);
+        self.pages.into_inner().close(time, status)
+    }
+}
+
 /// The system's time in milliseconds since 1970 UTC; 0 where it can't be read.
-fn unix_ms<R: Clock>(rt: &R) -> u64 {
+fn unix_ms<R: Clock>(rt: &R) -> u64
+    ensures { IsU64 result }
+{
     let Ok(now) = SystemTime::now(rt) else {
         return 0;
     };

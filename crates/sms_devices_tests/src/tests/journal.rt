@@ -3,7 +3,7 @@
 use super::paper::{Line, OpenGate, PaperFile, STILL_MS, Sheet, Still};
 use super::same::same;
 use sms_devices::{Guarded, Journal, JournalFiles, Noting};
-use sms_journal::{Digests, Note};
+use sms_journal::Digests;
 use sms_pdu::{MessageId, Reply};
 use sms_worker::{Gate, MessageRefusal};
 use std::alloc::{AllocError, Global};
@@ -31,7 +31,10 @@ const HEADER: &str =
 
 /// What is noted of `told`.
 const LINES: &str =
-    "begun,1700000000123,4\nsent,1700000000123,7,1,4,1\nsent,1700000000123,31,2,4,255\nunsent,1700000000123,31,2\nheard,1700000000123,7,1,88,1,\nrefused,1700000000123,5,no-credit\nend,1700000000123,4\n";
+    "begun,1700000000123,4\nsent,1700000000123,7,1,4,1\nsent,1700000000123,31,2,4,255\nunsent,1700000000123,31,2\nheard,1700000000123,7,1,88,1,\nrefused,1700000000123,5,no-credit\n";
+
+/// What a run notes last that ends with the status 4.
+const END: &str = "end,1700000000123,4\n";
 
 // A reply without a message_id.
 fn reply(number: u32) -> Reply {
@@ -75,7 +78,7 @@ fn writes_what_was_noted(rt: HostRuntime) {
         rt: &rt,
         can_be_read: true,
     };
-    for (is_synced, syncs) in [(false, 0u32), (true, 2)] {
+    for (is_synced, syncs) in [(false, 0u32), (true, 3)] {
         let sheet = Sheet::blank(alloc);
         let file = PaperFile {
             rt: &rt,
@@ -93,12 +96,13 @@ fn writes_what_was_noted(rt: HostRuntime) {
             journal: Some(&journal),
         };
         tell(&rt, &noting);
-        assert!(rt; journal.note(&still, &Note::End(4)));
         want(&rt, alloc, &sheet, "");
         assert!(rt; journal.let_out(&rt));
         want(&rt, alloc, &sheet, LINES);
         assert!(rt; journal.let_out(&rt));
         assert!(rt; !journal.has_failed(&rt));
+        assert!(rt; journal.close(&still, 4).is_some());
+        want(&rt, alloc, &sheet, END);
         same(&rt, sheet.syncs(), syncs);
     }
 }
@@ -146,8 +150,14 @@ fn fails_where_it_is_not_durable(rt: HostRuntime) {
     assert!(rt; !journal.let_out(&rt));
     want(&rt, alloc, &sheet, HEADER);
     assert!(rt; journal.has_failed(&rt));
-    assert!(rt; !journal.note(&rt, &Note::End(0)));
+    let noting = Noting {
+        rt: &rt,
+        gate: &OpenGate,
+        journal: Some(&journal),
+    };
+    assert!(rt; !noting.sending(0, 1, 3, 0));
     assert!(rt; !journal.let_out(&rt));
+    assert!(rt; journal.close(&rt, 0).is_none());
     want(&rt, alloc, &sheet, "");
     same(&rt, sheet.syncs(), 1);
 }
