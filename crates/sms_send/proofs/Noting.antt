@@ -43,9 +43,9 @@ ended_quiet (Err f) x A (inl same) quiet = λ other _. (rw same at quiet) other
 ended_quiet (Err f) x A (inr told) quiet = λ other not. absurd (not told.0)
 
 -- a fault of a journal that is begun, before anything is written
-pub begun_fault : {A B C D : Type 0} → C → A ⊎ B → A ⊎ ((B × C) ⊎ D)
-begun_fault same (inl a) = inl a
-begun_fault same (inr b) = inr (inl (b, same))
+pub begun_fault : {A B C D P Q : Type 0} → C → (A × P) ⊎ (B × Q) → A ⊎ ((B × C) ⊎ D)
+begun_fault same (inl a) = inl a.0
+begun_fault same (inr b) = inr (inl (b.0, same))
 
 -- a fault of the config is told alike with a journal and without
 pub tells_config : {F : Type 0} (remaining : F → Told) (centre : Centre) (order : Order) (journal : Option JournalFile) (old new : Option (List ℕ)) (fault : Fault)

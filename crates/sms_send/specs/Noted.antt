@@ -1,6 +1,8 @@
 -- What a sending with a journal or without promises, from the input on, and what it makes of its files.
 use Rattle.std.specs.Prelude.{◌≡◌, ◌⊎◌, ℕ, Bool, List, Option, Some, None}
 use Rattle.std.specs.Io.KnownBytes.{Appends}
+use Rattle.std.specs.String.{string_bytes}
+use Rattle.sms_devices.specs.Journals.{HasEnded}
 use Rattle.sms_files.specs.ConfigFaults.{IsConfig, TellsConfig}
 use Rattle.sms_files.specs.Inputs.{Told, TellsInput}
 use Rattle.sms_files.specs.declared.config.Config.{Config}
@@ -66,6 +68,18 @@ pub record SendsNoted {F : Type 0} (strict : Bool) (remaining : F → Told) (nam
   pub input : Input
   pub read : IsInputOf octets named input
   pub sends : SendsInput untold strict input old new status
+
+-- a file was made by the journal's name
+abbrev pub IsMade : {F : Type 0} → (List ℕ → F → Type 0) → JournalFile → Type 0
+IsMade {F} makes journal = (file : F) × makes (string_bytes journal.name) file
+
+-- what a fault says where a journal is begun: none could be made, or what was made didn't take the first line
+abbrev pub TellsBegin : {F : Type 0} → (List ℕ → F → Type 0) → (List ℕ → Type 0) → JournalFile → Fault → Type 0
+TellsBegin makes refuses journal fault = ((fault ≡ File journal.name) × refuses (string_bytes journal.name)) ⊎ ((fault ≡ Journal) × IsMade makes journal)
+
+-- a file ends with the note that a run has ended with this status
+abbrev pub IsNoted : {F : Type 0} → (F → Option (List ℕ)) → ℕ → Type 0
+IsNoted {F} contents status = (file : F) × HasEnded contents status file
 
 -- what a fault says of them once they were read: it is of what they say; the journal's file can't be made, or it failed before
 -- anything was sent or behind the report; a centre of the program's own can't listen; or it is of the sending

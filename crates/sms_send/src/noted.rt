@@ -1,11 +1,11 @@
 //! A sending that is noted in a journal.
 
-ghost use Rattle.std.specs.Prelude.{◌≡◌, ◌≢◌, ◌⊎◌, ℕ, Err, Ok, IfErr, IfOk};
+ghost use Rattle.std.specs.Prelude.{◌≡◌, ◌≢◌, ◌⊎◌, ℕ, Err, Ok, IfErr, IfOk, IsOk};
 ghost use Rattle.sms_journal.specs.Digests.{digests_of as of_files};
 ghost use Rattle.sms_send.specs.Jobs.{IsStatusBy};
-ghost use Rattle.sms_send.specs.Noted.{IsInputOf, SendsNoted, TellsInputOf, TellsNoted};
+ghost use Rattle.sms_send.specs.Noted.{IsInputOf, IsMade, IsNoted, SendsNoted, TellsBegin, TellsInputOf, TellsNoted};
 ghost use Rattle.sms_send.specs.Runs.{tariff_in};
-ghost use Rattle.sms_send.specs.declared.fault.Fault.TheVariants.{File, Journal as JournalFault, Output};
+ghost use Rattle.sms_send.specs.declared.fault.Fault.TheVariants.{Journal as JournalFault, Output};
 
 use crate::fault::Fault;
 use crate::order::{JournalFile, Pace};
@@ -14,7 +14,7 @@ use crate::run_files::{NamedFiles, read_named};
 use crate::sending::{Reach, Wanted, send_over};
 use sms_devices::{Host, Journal, JournalFiles, Telling};
 use sms_files::{FileNames, Input};
-use sms_journal::{Digests, Note, digests_of};
+use sms_journal::{Digests, digests_of};
 use std::alloc::Global;
 use std::fs::OpenFile;
 use std::io::Write;
@@ -48,13 +48,15 @@ fn digests_in(config: &[u8], named: &NamedFiles) -> Digests
     )
 }
 
-/// A journal in a new file, which has its first line.
+/// A journal in a new file, which has its first line. The file is the fault where none can be made, and
+/// the journal where what was made doesn't take the line.
 fn begin_journal<R: AllocGlobal + JournalFiles + Wait>(
     rt: &R,
     wanted: JournalFile,
     digests: &Digests,
 ) -> Result<Journal<R::JournalFile>, Fault>
-    ensures { IfErr result (λ fault. (fault ≡ File wanted.name) ⊎ (fault ≡ JournalFault)) }
+    ensures made { IsOk result → IsMade (R.makes rt.now) wanted }
+    ensures refused { IfErr result (TellsBegin (R.makes rt.now) (R.refuses rt.now) wanted) }
 {
     let JournalFile { name, sync } = wanted;
     let Ok(file) = rt.create_journal(name.as_str()) else {
@@ -70,23 +72,20 @@ fn begin_journal<R: AllocGlobal + JournalFiles + Wait>(
 }
 
 /// Notes that a sending has ended with its report. A journal that has failed is a fault behind that.
-fn end_journal<R: Wait + Clock, F: Write + OpenFile>(
+fn end_journal<R: Clock, F: Write + OpenFile + Drop>(
     rt: &R,
-    journal: &Journal<F>,
+    journal: Journal<F>,
     sent: Result<u8, Fault>,
 ) -> Result<u8, Fault>
     ensures ended { IfOk result (λ status. sent ≡ Ok status) }
+    ensures noted { IfOk result (IsNoted F.contents) }
     ensures refused { IfErr result (λ fault. (sent ≡ Err fault) ⊎ ((fault ≡ JournalFault) × (status : ℕ) × (sent ≡ Ok status))) }
 {
     match sent {
-        Ok(status) => {
-            let _noted = journal.note(rt, &Note::End(status));
-            if journal.let_out(rt) {
-                Ok(status)
-            } else {
-                Err(Fault::Journal)
-            }
-        }
+        Ok(status) => match journal.close(rt, status) {
+            Some(_file) => Ok(status),
+            None => Err(Fault::Journal),
+        },
         Err(fault) => Err(fault),
     }
 }
@@ -105,6 +104,7 @@ pub fn send_noted<R: Host + Net<Stream = TcpStream, Listener = TcpListener>, W: 
 ) -> Result<u8, Fault>
     ensures sent { IfOk result (SendsNoted strict R.File.remaining files config.now (W.contents output.old) (W.contents output.new)) }
     ensures status { IfOk result (IsStatusBy strict) }
+    ensures noted { IfOk result (IsNoted R.JournalFile.contents) }
     ensures refused { IfErr result (TellsNoted strict R.File.remaining reach.now.centre wanted files config.now (W.contents output.old) (W.contents output.new)) }
     ensures unwritten { IfErr result (λ fault. fault ≢ Output → fault ≢ JournalFault → output.new ≡ output.old) }
 {
@@ -124,5 +124,5 @@ pub fn send_noted<R: Host + Net<Stream = TcpStream, Listener = TcpListener>, W: 
         strict,
         output,
     );
-    end_journal(rt, &journal, sent)
+    end_journal(rt, journal, sent)
 }

@@ -4,6 +4,7 @@ mod answers;
 mod broken;
 mod frames;
 mod jobs;
+mod journal;
 mod plan;
 mod quote;
 mod refusals;
