@@ -39,4 +39,4 @@ returns-in_err-input-clause-refused g c =
 pub returns-in_err-journal-clause-refused : goal.returns-in_err-journal-clause-refused
 returns-in_err-journal-clause-refused g c =
     told_so c.from_residual-in_err-journal.result _ _ c.from_residual-in_err-journal.ensures.1
-    (inr (c.in_ok-named.named, c.in_ok-named.ensures.read, inr (begun_fault refl c.in_err-journal.ensures)))
+    (inr (c.in_ok-named.named, c.in_ok-named.ensures.read, inr (begun_fault refl c.in_err-journal.ensures.refused)))
