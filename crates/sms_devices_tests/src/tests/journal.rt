@@ -60,6 +60,38 @@ fn tell<G: Gate>(rt: &impl Abort, gate: &G) {
     gate.see_last(7, &[]);
 }
 
+// Tells a journal of two messages.
+fn tell_journal<'j, R: Wait + Clock, F: Write + OpenFile>(
+    rt: &impl Abort,
+    still: &'j R,
+    journal: &'j Journal<F>,
+) {
+    let noting = Noting {
+        rt: still,
+        gate: &OpenGate,
+        journal: Some(journal),
+    };
+    tell(rt, &noting);
+}
+
+// Whether a request passes behind a journal.
+fn lets_a_request_out<'j, R: Wait + Clock, F: Write + OpenFile>(
+    rt: &'j R,
+    journal: &'j Journal<F>,
+) -> bool {
+    let noting = Noting {
+        rt,
+        gate: &OpenGate,
+        journal: Some(journal),
+    };
+    noting.sending(0, 1, 3, 0)
+}
+
+// Whether a journal's file has the note of an end with this status.
+fn closes<R: Clock, F: Write + OpenFile + Drop>(rt: &R, journal: Journal<F>, status: u8) -> bool {
+    journal.close(rt, status).is_some()
+}
+
 // The sheet has this text, and nothing was written since the last look at it.
 fn want<R: Wait + Abort>(rt: &R, alloc: Global, sheet: &Sheet, wanted: &str) {
     let octets = sheet.take(rt, alloc);
@@ -90,18 +122,13 @@ fn writes_what_was_noted(rt: HostRuntime) {
         journal.begin(&rt, &DIGESTS);
         assert!(rt; journal.let_out(&rt));
         want(&rt, alloc, &sheet, HEADER);
-        let noting = Noting {
-            rt: &still,
-            gate: &OpenGate,
-            journal: Some(&journal),
-        };
-        tell(&rt, &noting);
+        tell_journal(&rt, &still, &journal);
         want(&rt, alloc, &sheet, "");
         assert!(rt; journal.let_out(&rt));
         want(&rt, alloc, &sheet, LINES);
         assert!(rt; journal.let_out(&rt));
         assert!(rt; !journal.has_failed(&rt));
-        assert!(rt; journal.close(&still, 4).is_some());
+        assert!(rt; closes(&still, journal, 4));
         want(&rt, alloc, &sheet, END);
         same(&rt, sheet.syncs(), syncs);
     }
@@ -150,14 +177,9 @@ fn fails_where_it_is_not_durable(rt: HostRuntime) {
     assert!(rt; !journal.let_out(&rt));
     want(&rt, alloc, &sheet, HEADER);
     assert!(rt; journal.has_failed(&rt));
-    let noting = Noting {
-        rt: &rt,
-        gate: &OpenGate,
-        journal: Some(&journal),
-    };
-    assert!(rt; !noting.sending(0, 1, 3, 0));
+    assert!(rt; !lets_a_request_out(&rt, &journal));
     assert!(rt; !journal.let_out(&rt));
-    assert!(rt; journal.close(&rt, 0).is_none());
+    assert!(rt; !closes(&rt, journal, 0));
     want(&rt, alloc, &sheet, "");
     same(&rt, sheet.syncs(), 1);
 }
