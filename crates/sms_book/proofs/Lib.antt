@@ -1,6 +1,7 @@
 pub mod Moves
 pub mod Totals
 pub mod Turns
+pub mod Alone
 pub mod Openings
 pub mod Pushes
 pub mod Names

@@ -21,7 +21,7 @@ use Rattle.sms_book.specs.Standing.{BookStands, TillStands, ShareStands}
 use Rattle.sms_book.specs.Sums.{IsSmall, AreSound, AddUp, IsTotal, MovesBy, MoveBy}
 use Rattle.sms_book.proofs.Totals.{no_move, moved_at, sound_set, entry_at_most}
 
-row_total : (rows : List Row) (i : ℕ) → i < length rows → portion_at (map of_row rows) i ≡ of_row (row_at rows i)
+pub row_total : (rows : List Row) (i : ℕ) → i < length rows → portion_at (map of_row rows) i ≡ of_row (row_at rows i)
 row_total rows i low = get_or-map of_row rows i no_row nothing low
 
 -- a holder has no more than the row
@@ -41,7 +41,7 @@ within_row rows account es k ps within entry sums =
       returned = let e = entry_at_most (λ x. x.returned) account es k ps entry in let w = was.returned in omega arith;
     }
 
-worker_at : (a : List Amounts) (i : ℕ) → i < length a → portion_at (map of_worker a) i ≡ of_worker (amounts_at a i)
+pub worker_at : (a : List Amounts) (i : ℕ) → i < length a → portion_at (map of_worker a) i ≡ of_worker (amounts_at a i)
 worker_at a i low = get_or-map of_worker a i no_amounts nothing low
 
 till_at : (t : List ℕ) (i : ℕ) → i < length t → portion_at (map of_till t) i ≡ of_till (topped_at t i)

@@ -6,6 +6,7 @@ pub mod Shares
 pub mod Sums
 pub mod Money
 pub mod Openings
+pub mod Alone
 pub mod Tariffs
 pub mod TariffLaws
 pub mod Indexes

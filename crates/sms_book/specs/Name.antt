@@ -1,4 +1,4 @@
--- Which book it is: its table, and how many accounts and workers it has.
+-- Which book it is: its table, how many accounts and workers it has, and the credits that each account begins with.
 use Rattle.std.specs.Prelude.{ℕ, List, []}
 use Rattle.atomic_table.specs.Seated.{TableId}
 
@@ -6,10 +6,11 @@ pub record BookId : Type 0 where
   pub table : TableId
   pub accounts : ℕ
   pub workers : ℕ
+  pub opening : List ℕ
 
 -- the name of no book
 abbrev pub no_book : BookId
-no_book = record { table = record { words = 0; slots = 0; views_name = 0; atom = 0; block = 0; offset = 0; slot_names = [] }; accounts = 0; workers = 0 }
+no_book = record { table = record { words = 0; slots = 0; views_name = 0; atom = 0; block = 0; offset = 0; slot_names = [] }; accounts = 0; workers = 0; opening = [] }
 
 -- a book that isn't open yet, as contracts see it: its name, and each account's credits
 pub record Unopened : Type 0 where

@@ -10,6 +10,7 @@ use Rattle.sms_book.specs.Limits.{most_workers}
 use Rattle.sms_book.specs.Name.{BookId}
 use Rattle.sms_book.specs.Portions.{of_row, of_till, of_worker}
 use Rattle.sms_book.specs.Sums.{AreSound}
+use Rattle.sms_book.specs.Alone.{TillFirst, AreOpened}
 use Rattle.sms_book.specs.Openings.{AllSmall}
 use Rattle.sms_book.specs.Rule.{new_book, AllAway}
 
@@ -22,11 +23,15 @@ pub record BookStands (name : BookId) (table seat : TableId) (views : List View)
   pub workers_are : workers ≡ name.workers
   -- each row balances, within its bounds
   pub sound : AreSound rows
+  -- no row has fewer top-ups than it opened with
+  pub opened : AreOpened name.opening rows
   -- the seat's totals are the rows', and each number is away
   pub entries : List Entry
   pub view : views ≡ Book entries (map of_row rows) ∷ []
   pub away : AllAway entries
   pub long : length entries ≡ name.workers + 1
+  -- the first entry is the till's
+  pub till : TillFirst entries
 
 -- the till: its seat holds the number 0, with its top-ups
 pub record TillStands (name : BookId) (seat : TableId) (views : List View) (topped : List ℕ) : Type 0 where
@@ -34,11 +39,12 @@ pub record TillStands (name : BookId) (seat : TableId) (views : List View) (topp
   pub accounts : length topped ≡ name.accounts
   pub view : views ≡ Holder 0 (map of_till topped) ∷ []
 
--- a worker's share: its seat holds a number, with its amounts
+-- a worker's share: its seat holds a number other than the till's, with its amounts
 pub record ShareStands (name : BookId) (seat : TableId) (views : List View) (amounts : List Amounts) : Type 0 where
   pub seat_is : seat ≡ name.table
   pub accounts : length amounts ≡ name.accounts
   pub number : ℕ
+  pub worker : 0 < number
   pub view : views ≡ Holder number (map of_worker amounts) ∷ []
 
 -- a book that isn't open yet: its seat has all numbers

@@ -40,7 +40,7 @@ impl Model for Blank {
 
     ghost Value = { Unopened };
 
-    ghost view = { λ b. record { book = record { table = b.table.shared.table_id; accounts = length b.credits.items; workers = b.workers }; credits = b.credits.items } };
+    ghost view = { λ b. record { book = record { table = b.table.shared.table_id; accounts = length b.credits.items; workers = b.workers; opening = b.credits.items }; credits = b.credits.items } };
 
     ghost invariant = { λ b. BlankStands b.table.shared.table_id b.seat.table_id b.seat.views b.workers b.credits.items };
 }
@@ -53,7 +53,7 @@ pub(crate) fn make_blank(
 ) -> Result<Blank, AllocError>
     requires small { AllSmall credits.items }
     requires few { workers ≤ most_workers }
-    ensures { IfOk result (λ b. (b.credits ≡ credits.items) × (b.book.accounts ≡ length credits.items) × (b.book.workers ≡ workers)) }
+    ensures { IfOk result (λ b. (b.credits ≡ credits.items) × (b.book.accounts ≡ length credits.items) × (b.book.workers ≡ workers) × (b.book.opening ≡ credits.items)) }
 {
     let opened = Opened { credits, workers };
     let (table, seat) = Table::of_words(alloc, &[0], &opened)?;

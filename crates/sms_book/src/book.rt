@@ -6,6 +6,7 @@ ghost use Rattle.sms_core.specs.RowMoves.{row_topped_up, row_reserved, row_charg
 ghost use Rattle.sms_core.specs.Rows.{IsBalanced};
 ghost use Rattle.sms_book.specs.Limits.{most_returned};
 ghost use Rattle.sms_book.specs.Sums.{IsSmall};
+ghost use Rattle.sms_book.specs.Alone.{IsOfOne, opening_at};
 ghost use Rattle.sms_book.specs.Portions.{amounts_at, topped_at, row_at};
 ghost use Rattle.sms_book.specs.Shares.{changed};
 ghost use Rattle.sms_book.specs.Money.{reserved_more, charged_more, returned_more, CanMove, moved_row, moved_amounts};
@@ -125,7 +126,8 @@ impl<N: BookName> Book<N> {
 
     /// Reserves so many free credits of an account for the share. `NoAccount` where there is no such
     /// account, then `NoCredit` where fewer are free, then `AmountTooLarge` where what was ever
-    /// returned and what is reserved would pass 2^60.
+    /// returned and what is reserved would pass 2^60. Where the book has one share, a refusal tells that
+    /// all that isn't free is in that share.
     pub fn reserve(
         &mut self,
         share: &mut Shares<N>,
@@ -139,6 +141,7 @@ impl<N: BookName> Book<N> {
         ensures book { OnOk result (self.new ≡ slice_set self.old account (row_reserved n (row_at self.old account))) }
         ensures share { OnOk result (share.new ≡ changed share.old account (reserved_more n)) }
         ensures refused { OnErr result ((self.new ≡ self.old) × (share.new ≡ share.old)) }
+        ensures alone { OnErr result (N.book.workers ≡ 1 → account < length self.old → IsOfOne (opening_at N.book account) (amounts_at share.old.amounts account) (row_at self.old account)) }
         ensures there { length share.old.amounts ≡ length self.old }
     {
         let accounts = self.accounts();
@@ -148,12 +151,14 @@ impl<N: BookName> Book<N> {
         }
         let row = self.row(account);
         if row.free < n {
+            self.seen(share, account);
             return Err(BookError::NoCredit {
                 free: row.free,
                 needed: n,
             });
         }
         if n > MOST_RETURNED || row.returned + row.reserved > MOST_RETURNED - n {
+            self.seen(share, account);
             return Err(BookError::AmountTooLarge);
         }
         self.turn(share, account, Move::Reserve, n);
@@ -213,11 +218,12 @@ impl<N: BookName> Book<N> {
     }
 
     /// The account's row, where there is such an account. What the share has of it is part of the
-    /// row.
+    /// row, and all of it where the book has one share.
     pub fn look(&mut self, share: &mut Shares<N>, account: usize) -> Option<Row>
         ensures there { IsSome result ↔ (account < length self.old) }
         ensures row { IfSome result (λ r. (r ≡ row_at self.old account) × IsBalanced r) }
         ensures least { IfSome result (λ r. let a = amounts_at share.old.amounts account in (a.reserved ≤ r.reserved) × (a.charged ≤ r.charged) × (a.returned ≤ r.returned)) }
+        ensures alone { N.book.workers ≡ 1 → IfSome result (λ r. IsOfOne (opening_at N.book account) (amounts_at share.old.amounts account) r) }
         ensures same { (self.new ≡ self.old) × (share.new ≡ share.old) }
     {
         if account >= self.rows.len() {
@@ -228,11 +234,12 @@ impl<N: BookName> Book<N> {
 
     /// The account's row.
     // Nothing changes, and yet the share's number comes into the book and goes out again: only a
-    // look at the table tells that what the share has is part of the row.
+    // look at the table tells that what the share has is part of the row, or of one share all of it.
     fn seen(&mut self, share: &mut Shares<N>, account: usize) -> Row
         requires { account < length self.old }
         ensures row { (result ≡ row_at self.old account) × IsBalanced result }
         ensures least { let a = amounts_at share.old.amounts account in (a.reserved ≤ result.reserved) × (a.charged ≤ result.charged) × (a.returned ≤ result.returned) }
+        ensures alone { N.book.workers ≡ 1 → IsOfOne (opening_at N.book account) (amounts_at share.old.amounts account) result }
         ensures same { (self.new ≡ self.old) × (share.new ≡ share.old) }
     {
         let Book {

@@ -73,6 +73,7 @@ pub fn open_book(alloc: Global, openings: &[Opening], workers: usize) -> Result<
     ensures others { (result ≢ Err NoAccount) × ((free needed : ℕ) → result ≢ Err (NoCredit free needed)) }
     ensures good { IfOk result (λ b. GoodCount openings.now workers × NoDouble (names_of openings.now) × AllSmall (credits_of openings.now)) }
     ensures blank { IfOk result (λ b. (b.credits ≡ credits_of openings.now) × (b.book.accounts ≡ length openings.now) × (b.book.workers ≡ workers)) }
+    ensures name { IfOk result (λ b. b.book.opening ≡ credits_of openings.now) }
 {
     let accounts = openings.len();
     let most = MOST_ACCOUNTS as usize;

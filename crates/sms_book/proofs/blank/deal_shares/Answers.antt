@@ -47,6 +47,7 @@ invariant_of-push_reserved g c =
       seat_is = c.deal.ensures.table.1 ∙ i.table;
       accounts = ap length mid.same ∙ length-replicate g.N.BookName.book.accounts no_amounts;
       number = n + 1;
+      worker = omega arith;
       view = given ∙ ap (λ (x : List Portion). Holder (n + 1) x ∷ []) (sym (ap (map of_worker) mid.same ∙ workers-nothing g.N.BookName.book.accounts));
     }
 

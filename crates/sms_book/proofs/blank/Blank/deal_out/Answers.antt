@@ -1,4 +1,4 @@
-use Rattle.std.proofs.Common.{◌≡◌, ◌<◌, List, [], ◌∷◌, refl, sym, ap, ◌∙◌, subst, map, length, replicate, arith}
+use Rattle.std.proofs.Common.{◌≡◌, ℕ, ◌<◌, List, [], ◌∷◌, refl, sym, ap, ◌∙◌, subst, map, length, replicate, arith}
 use Rattle.std.proofs.lemmas.List.{length-replicate, length-map}
 use Rattle.sms_book.specs.declared.rule.Portion.{Portion}
 use Rattle.sms_book.specs.declared.rule.View.TheVariants.{Book}
@@ -7,6 +7,9 @@ use Rattle.sms_book.specs.Portions.{nothing, of_till, of_row}
 use Rattle.sms_book.specs.Openings.{opening_row}
 use Rattle.sms_book.specs.Rule.{opening_entries, at_home, away}
 use Rattle.sms_book.specs.Sums.{AreSound}
+use Rattle.sms_core.specs.declared.row.Row.{Row}
+use Rattle.sms_book.specs.Alone.{AreOpened}
+use Rattle.sms_book.proofs.Alone.{opened-opening, till_has}
 use Rattle.sms_book.proofs.Dealing.{AllAway-replicate, sound-opening, totals-opening}
 use Rattle.sms_book.proofs.blank.Blank.deal_out.Goals as goal
 
@@ -48,10 +51,12 @@ invariant_of-book g c =
       accounts = ap length rows ∙ length-map s.credits.items opening_row ∙ ap (λ (b : BookId). b.accounts) name;
       workers_are = ap (λ (b : BookId). b.workers) name;
       sound = subst AreSound (sym rows) (sound-opening s.credits.items i.small);
+      opened = subst (λ (x : List ℕ × List Row). AreOpened x.0 x.1) (λ j. (ap (λ (b : BookId). b.opening) name j, sym rows j)) (opened-opening s.credits.items);
       entries = es;
       view = c.deal_shares-shares.ensures.book (away ts) ts before ∙ ap (λ (x : List Portion). Book es x ∷ []) (totals-opening s.credits.items ∙ ap (map of_row) (sym rows));
       away = (refl, AllAway-replicate w (replicate g.N.BookName.book.accounts nothing));
       long = let l = length-replicate w out in omega arith;
+      till = till_has s.credits.items;
     }
 
 pub invariant_of-till : goal.invariant_of-till

@@ -7,6 +7,7 @@ use Rattle.sms_core.specs.RowMoves.{row_topped_up}
 use Rattle.sms_book.specs.declared.rule.View.TheVariants.{Book}
 use Rattle.sms_book.specs.Portions.{row_at, topped_at, of_till, of_row}
 use Rattle.sms_book.specs.Rule.{away}
+use Rattle.sms_book.proofs.Alone.{opened_topped, till_first}
 use Rattle.sms_book.proofs.Turns.{topped}
 use Rattle.sms_book.proofs.Totals.{AllAway-set}
 use Rattle.sms_book.proofs.book.Book.put_in.Goals as goal
@@ -48,10 +49,12 @@ invariant_of-self g c =
       accounts = length-set c.self.inside.rows.items c.args.account _ ∙ i.accounts;
       workers_are = i.workers_are;
       sound = t.sound;
+      opened = opened_topped i c.args.account c.args.n c.index-row.result.now (rw c.self.view_is c.requires.there) c.index-row.ensures;
       entries = es;
       view = book ∙ ap (λ (rows : List Row). Book es (map of_row rows) ∷ []) c.as_slice.ensures.value;
       away = AllAway-set i.entries 0 new i.away;
       long = length-set i.entries 0 (away new) ∙ i.long;
+      till = till_first i.entries c.as_slice-2.result.now;
     }
 
 pub invariant_of-till : goal.invariant_of-till

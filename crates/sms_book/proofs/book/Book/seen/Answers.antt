@@ -6,6 +6,8 @@ use Rattle.sms_book.specs.Portions.{amounts_at, of_worker, of_row}
 use Rattle.sms_book.specs.Shares.{Share, number_of}
 use Rattle.sms_book.specs.Rule.{away}
 use Rattle.sms_book.proofs.Moves.{set_back}
+use Rattle.sms_book.specs.Alone.{IsOfOne, opening_at}
+use Rattle.sms_book.proofs.Alone.{seen_one}
 use Rattle.sms_book.proofs.Turns.{seen_row, still}
 use Rattle.sms_book.proofs.book.Book.seen.Goals as goal
 
@@ -35,10 +37,12 @@ invariant_of-self g c =
       accounts = i.accounts;
       workers_are = i.workers_are;
       sound = i.sound;
+      opened = i.opened;
       entries = i.entries;
       view = book ∙ (λ j. Book (same j) (rows j) ∷ []);
       away = i.away;
       long = i.long;
+      till = i.till;
     }
 
 pub invariant_of-share : goal.invariant_of-share
@@ -51,6 +55,7 @@ invariant_of-share g c =
       seat_is = c.part.ensures.table.1 ∙ c.meet.ensures.table ∙ i.seat_is;
       accounts = s.accounts;
       number = s.number;
+      worker = s.worker;
       view = rw (← c.as_slice-2.ensures.value) given;
     }
 
@@ -71,3 +76,12 @@ returns-clause-same g c =
     let given = c.part.ensures.holder i.entries _ s.number _ lent in
     let number : number_of c.part.result.views ≡ number_of c.share.inside.seat.views = ap number_of given ∙ sym (ap number_of s.view) in
     (c.self.view_is, ap (λ (n : ℕ). record { number = n; amounts = c.share.inside.amounts.items }) number ∙ c.share.view_is)
+
+pub returns-clause-alone : goal.returns-clause-alone
+returns-clause-alone g c alone =
+    let i = c.self.invariant in
+    let s = c.share.invariant in
+    let entry = c.meet.ensures.entry i.entries _ s.number _ i.view s.view in
+    let sums = c.meet.ensures.sums i.entries _ i.view in
+    subst (λ (t : Share). IsOfOne (opening_at g.N.BookName.book c.args.account) (amounts_at t.amounts c.args.account) c.index.result.now) c.share.view_is
+    (seen_one i s c.args.account c.index.result.now entry sums (rw c.self.view_is c.requires) c.index.ensures alone)

@@ -9,6 +9,7 @@ use Rattle.sms_book.specs.Money.{moved_amounts}
 use Rattle.sms_book.specs.Portions.{amounts_at, no_amounts, of_worker, of_row}
 use Rattle.sms_book.specs.Shares.{Share, number_of, changed}
 use Rattle.sms_book.specs.Rule.{away}
+use Rattle.sms_book.proofs.Alone.{opened_turned, till_kept}
 use Rattle.sms_book.proofs.Turns.{settled, in_book}
 use Rattle.sms_book.proofs.Totals.{AllAway-set}
 use Rattle.sms_book.proofs.book.Book.turn.Goals as goal
@@ -77,6 +78,7 @@ invariant_of-self g c =
     let entry = c.meet.ensures.entry i.entries _ s.number _ i.view s.view in
     let sums = c.meet.ensures.sums i.entries _ i.view in
     let holds = held c.args.what c.args.account c.args.n _ _ c.share.view_is c.requires.share in
+    let within = in_book i s c.args.account c.args.what c.args.n (rw c.self.view_is c.requires.row) holds in
     let t = settled i s c.args.account c.args.what c.args.n c.index-row.result.now c.index-had.result.now entry sums c.index-row.ensures c.index-had.ensures (rw c.self.view_is c.requires.row) holds in
     let book = c.part.ensures.book i.entries _ s.number _ lent in
     let new = map of_worker c.as_slice-2.result.now in
@@ -88,10 +90,12 @@ invariant_of-self g c =
       accounts = length-set c.self.inside.rows.items c.args.account c.row_after.result ∙ i.accounts;
       workers_are = i.workers_are;
       sound = rw c.row_after.ensures t.sound;
+      opened = rw c.row_after.ensures (opened_turned i c.args.account c.args.what c.args.n c.index-row.result.now within c.index-row.ensures);
       entries = es;
       view = book ∙ ap (λ (rows : List Row). Book es (map of_row rows) ∷ []) c.as_slice.ensures.value;
       away = AllAway-set i.entries s.number new i.away;
       long = length-set i.entries s.number (away new) ∙ i.long;
+      till = till_kept i.entries s.number (away new) s.worker i.till;
     }
 
 pub invariant_of-share : goal.invariant_of-share
@@ -104,6 +108,7 @@ invariant_of-share g c =
       seat_is = c.part.ensures.table.1 ∙ c.meet.ensures.table ∙ i.seat_is;
       accounts = length-set c.share.inside.amounts.items c.args.account c.amounts_after.result ∙ s.accounts;
       number = s.number;
+      worker = s.worker;
       view = rw (← c.as_slice-2.ensures.value) given;
     }
 
