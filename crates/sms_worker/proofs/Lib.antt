@@ -19,4 +19,5 @@ pub mod Standing
 pub mod Submits
 pub mod Sweeping
 pub mod Tries
+pub mod Turning
 pub mod Waiting

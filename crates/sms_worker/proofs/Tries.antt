@@ -173,6 +173,14 @@ pub decided_state : (most base : ℕ) (front : List Attempt) (a : Attempt) (r : 
 decided_state most base front a r d s few retried is e decides =
     subst (Follows most s) (sym decides) (follows most (delay base (length front + 1)) front a r s (is_charge r.status r.nack) (is_retry r.status r.nack && nat_lt (length front + 1) most) few retried is e refl refl)
 
+-- what was decided, by all attempts
+pub decided_by_all : (most base : ℕ) (front : List Attempt) (a : Attempt) (r : Reply) (d : Decision) (all : List Attempt) → all ≡ front ++ a ∷ [] → d ≡ decided r (length front + 1) most base → d ≡ decided r (length all) most base
+decided_by_all most base front a r d all is decides =
+    let more = length-snoc front a in
+    let same = ap length is in
+    let long : length front + 1 ≡ length all = omega arith in
+    decides ∙ ap (λ n. decided r n most base) long
+
 retry_is_no_charge : (status : ℕ) (nack : Bool) → is_retry status nack ≡ true → is_charge status nack ≡ false
 retry_is_no_charge status true h = refl
 retry_is_no_charge status false h = dite (ℕ_discrete status 0)

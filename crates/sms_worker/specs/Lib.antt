@@ -19,4 +19,5 @@ pub mod Submits
 pub mod Sweeps
 pub mod TextsState
 pub mod Told
+pub mod Turns
 pub mod UserData

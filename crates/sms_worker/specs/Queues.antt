@@ -1,5 +1,5 @@
 -- The segments that wait to be sent again, as the links spell them.
-use Rattle.std.specs.Prelude.{◌≡◌, ◌≢◌, ℕ, ◌<◌, ◌≤◌, ◌⊎◌, List, [], ◌∷◌, Option, None, Some, option_and_then, slice_get, nat_le, nat_lt, if◌then◌else◌}
+use Rattle.std.specs.Prelude.{◌≡◌, ◌≢◌, ℕ, ◌+◌, ◌-◌, ◌^◌, ◌<◌, ◌≤◌, ◌⊎◌, List, [], ◌∷◌, ◌++◌, min, Option, None, Some, option_and_then, slice_get, nat_le, nat_lt, if◌then◌else◌}
 use Rattle.sms_worker.specs.declared.open.SegmentPlace.{SegmentPlace}
 use Rattle.sms_worker.specs.declared.queue.Head.{Head}
 use Rattle.sms_worker.specs.declared.queue.Queue.{Queue}
@@ -95,6 +95,19 @@ pub record SpellsAt (texts : List TextsState) (qs : List Queue) (k : ℕ) (ws : 
   pub queue : Queue
   pub is : slice_get qs k ≡ Some queue
   pub spells : Spells texts queue ws
+
+-- the first segment of the queue was taken out, and the other queues are as they were
+pub record IsTaken (texts : List TextsState) (k : ℕ) (old new : List Queue) : Type 0 where
+  pub waits : (ws : List Waiting) → SpellsAt texts old k ws → SpellsAt texts new k (later ws)
+  pub others : (j : ℕ) → j ≢ k → slice_get new j ≡ slice_get old j
+
+-- the segment waits in the queue, behind those that waited there
+abbrev pub WaitsLast : List TextsState → List Queue → ℕ → Waiting → List TextsState → List Queue → Type 0
+WaitsLast texts qs k w texts' qs' = (ws : List Waiting) → SpellsAt texts qs k ws → IsKept texts w.place → IsOutside w.place ws → SpellsAt texts' qs' k (ws ++ w ∷ [])
+
+-- when a segment is due that is to wait so many milliseconds from now on
+abbrev pub due_after : ℕ → ℕ → ℕ
+due_after now ms = min (now + ms) (2 ^ 64 - 1)
 
 abbrev pub first_in : List Queue → ℕ → Option SegmentPlace
 first_in qs k = option_and_then (λ q. q.first) (slice_get qs k)

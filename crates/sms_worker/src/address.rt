@@ -93,6 +93,10 @@ pub(crate) fn good_source(text: &str) -> AddressRef<'_>
     ensures { IsSource text.now (owned result) }
 {
     let text = text.as_bytes();
+    // No name is longer, so its octets aren't looked at once more.
+    if text.len() > 11 {
+        return number(text);
+    }
     if is_number(text) {
         return number(text);
     }

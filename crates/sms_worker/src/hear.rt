@@ -14,6 +14,7 @@ use crate::run::Run;
 use rtrb::Consumer;
 use sms_book::BookName;
 use sms_pdu::Reply;
+use sms_session::Decision;
 use sms_slot::{Expired, Taken};
 use std::snapshot::Snapshot;
 use std::sync::Wait;
@@ -25,6 +26,15 @@ fn find(opened: &[Open], number: u32) -> Option<usize>
     ensures exact { result ≡ position (λ o. o.number == number) opened.now }
 {
     opened.iter().position(|open| open.number == number)
+}
+
+/// The time, where the decision is to wait from then on.
+fn time_for<K: Clock>(clock: &K, decision: Decision) -> u64 {
+    match decision {
+        Decision::RetryAfter(_) => clock.now_ms(),
+        Decision::Charge => 0,
+        Decision::Refuse => 0,
+    }
 }
 
 impl<N: BookName, C: Call> Run<'_, N, C> {
@@ -61,7 +71,8 @@ impl<N: BookName, C: Call> Run<'_, N, C> {
         self.close(context, i);
         match self.settle_answer(context, open.place, reply) {
             Some((attempts, decision)) => {
-                self.follow(context.alloc, context.clock, open.place, attempts, decision)
+                let now_ms = time_for(context.clock, decision);
+                self.follow(context.alloc, now_ms, open.place, attempts, decision)
             }
             None => {}
         }

@@ -6,14 +6,16 @@ ghost use Rattle.sms_worker.specs.declared.ends.MessageEnd.{MessageEnd};
 ghost use Rattle.sms_worker.specs.declared.ends.MessageRefusal.TheVariants.{BindClosed};
 ghost use Rattle.sms_worker.specs.declared.ends.MessageResult.TheVariants.{Refused};
 ghost use Rattle.sms_worker.specs.declared.ends.SegmentEnd.{SegmentEnd};
+ghost use Rattle.sms_session.specs.Decisions.{decided};
 ghost use Rattle.sms_session.specs.declared.policy.Decision.TheVariants.{Charge, Refuse, RetryAfter};
 ghost use Rattle.sms_worker.specs.Ends.{segment_at};
-ghost use Rattle.sms_worker.specs.Queues.{last_in};
+ghost use Rattle.sms_worker.specs.Queues.{WaitsLast, due_after, last_in};
 ghost use Rattle.sms_worker.specs.Rising.{HasTurn, WasSent};
 ghost use Rattle.sms_worker.specs.Steps.{SettlesTo, settled_to, outcome_after};
 ghost use Rattle.sms_worker.specs.Sweeps.{SweptAt, InPlace};
 ghost use Rattle.sms_worker.specs.TextsState.{changed, settled_one};
 ghost use Rattle.sms_worker.specs.Told.{HeardSince, IsSettled};
+ghost use Rattle.sms_worker.specs.Turns.{IsTry};
 
 use crate::attempt::{Tried, start};
 use crate::begin::begun;
@@ -88,6 +90,7 @@ impl<N: BookName, C: Call> Run<'_, N, C> {
         ensures swept { SweptAt C.start.rules.policy.attempts place.message place.part self.old.ends self.new.ends }
         ensures in_place { InPlace self.old.ends self.new.ends }
         ensures long { length self.new.ends ≡ length self.old.ends }
+        ensures left { (self.new.queues ≡ self.old.queues) × (self.new.next ≡ self.old.next) }
     {
         if self.end_waiting(context, place) {
             self.forget(context.alloc, place);
@@ -101,11 +104,12 @@ impl<N: BookName, C: Call> Run<'_, N, C> {
         settle_text(alloc, &mut self.texts, place);
     }
 
-    /// What follows an answer: the segment waits for its next attempt, or it is settled.
-    pub(crate) fn follow<K: Clock>(
+    /// What follows an answer that was heard at this time: the segment waits for its next attempt, or it is
+    /// settled.
+    pub(crate) fn follow(
         &mut self,
         alloc: Global,
-        clock: &K,
+        now_ms: u64,
         place: SegmentPlace,
         attempts: usize,
         decision: Decision,
@@ -113,12 +117,13 @@ impl<N: BookName, C: Call> Run<'_, N, C> {
         requires sent { WasSent self.old.ends place }
         ensures same { (self.new.heard ≡ self.old.heard) × (self.new.ends ≡ self.old.ends) }
         ensures waits { (ms : ℕ) → decision ≡ RetryAfter ms → 1 ≤ attempts → attempts ≤ 10 → last_in self.new.queues (attempts - 1) ≡ Some place }
+        ensures due { (ms : ℕ) → decision ≡ RetryAfter ms → 1 ≤ attempts → attempts ≤ 10 → WaitsLast self.old.texts self.old.queues (attempts - 1) (record { place = place; due_ms = due_after now_ms ms }) self.new.texts self.new.queues }
         ensures apart { (k : ℕ) → k + 1 ≢ attempts → slice_get self.new.queues k ≡ slice_get self.old.queues k }
         ensures settled { (decision ≡ Charge) ⊎ (decision ≡ Refuse) → self.new ≡ record self.old { texts = changed settled_one self.old.texts place.message } }
     {
         match decision {
             Decision::RetryAfter(ms) => {
-                let due_ms = clock.now_ms().saturating_add(u64::from(ms));
+                let due_ms = now_ms.saturating_add(u64::from(ms));
                 self.queues.push(&mut self.texts, attempts, place, due_ms);
             }
             Decision::Charge => self.forget(alloc, place),
@@ -136,6 +141,7 @@ impl<N: BookName, C: Call> Run<'_, N, C> {
         ensures swept { SweptAt C.start.rules.policy.attempts place.message place.part self.old.ends self.new.ends }
         ensures in_place { InPlace self.old.ends self.new.ends }
         ensures long { length self.new.ends ≡ length self.old.ends }
+        ensures left { (self.new.queues ≡ self.old.queues) × (self.new.next ≡ self.old.next) }
     {
         if place.message >= self.messages.len() {
             return false;
@@ -176,6 +182,7 @@ impl<N: BookName, C: Call> Run<'_, N, C> {
         ensures heard { self.new.heard ≡ self.old.heard }
         ensures sent { OnSome result (WasSent self.new.ends place) }
         ensures settled { IfSome result (λ r. SettlesTo self.old.ends place r.0 r.1 self.new.ends) }
+        ensures decided { IfSome result (λ r. r.1 ≡ decided reply r.0 C.start.rules.policy.attempts C.start.rules.policy.base_ms) }
         ensures none { result ≡ None → self.new.ends ≡ self.old.ends }
     {
         let message = &self.messages[place.message];
@@ -221,6 +228,7 @@ impl<N: BookName, C: Call> Run<'_, N, C> {
         requires rules { context.now.rules.now ≡ C.start.rules }
         requires turn { HasTurn self.old.ends self.old.next place }
         ensures heard { self.new.heard ≡ self.old.heard }
+        ensures tried { IsTry result place self.old self.new }
     {
         let message = &self.messages[place.message];
         let Some(carried) = self.texts[place.message].part(place.part) else {
@@ -281,6 +289,8 @@ impl<N: BookName, C: Call> Run<'_, N, C> {
         ensures all { result ≡ false → length self.new.ends ≡ length C.start.messages }
         ensures closed { (end : MessageEnd) → self.new.ends ≡ self.old.ends ++ end ∷ [] → end.result ≡ Refused BindClosed → IsTrue self.old.closed }
         ensures more { result ≡ true → (length self.new.ends ≡ length self.old.ends + 1) × (length self.new.ends ≤ length C.start.messages) }
+        ensures next { result ≡ true → (self.new.queues ≡ self.old.queues) × (self.new.next ≡ 0) }
+        ensures none { result ≡ false → self.new ≡ self.old }
     {
         let place = self.ends.len();
         if place >= self.messages.len() {

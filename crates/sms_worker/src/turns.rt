@@ -1,15 +1,16 @@
 //! The turns of a call, and its end.
 
-ghost use Rattle.std.specs.Prelude.{◌≡◌, ℕ, ◌+◌, ◌-◌, ◌^◌, ◌<◌, ◌≤◌, ◌⊎◌, ◌↔◌, List, None, Some, IfSome, IsTrue, false, length, min, slice_get};
+ghost use Rattle.std.specs.Prelude.{◌≡◌, ℕ, ◌+◌, ◌-◌, ◌^◌, ◌<◌, ◌≤◌, ◌⊎◌, ◌↔◌, None, Some, IfSome, IsTrue, false, length, min, slice_get};
 ghost use Rattle.rtrb.specs.Ring.{received, SameConsumer};
 ghost use Rattle.sms_worker.specs.declared.ends.SegmentEnd.{SegmentEnd};
 ghost use Rattle.sms_worker.specs.Ends.{segment_at, segments_in};
 ghost use Rattle.sms_worker.specs.declared.open.SegmentPlace.{SegmentPlace};
-ghost use Rattle.sms_worker.specs.Queues.{IsFirstDue, NoneIsDue, SpellsAt, Waiting, later};
+ghost use Rattle.sms_worker.specs.Queues.{IsFirstDue, IsTaken, NoneIsDue};
 ghost use Rattle.sms_worker.specs.Rising.{HasNext, HasTurn, IsNext, IsThere, WasSent};
 ghost use Rattle.sms_worker.specs.RunState.{HasMore, HasNothingToSend};
 ghost use Rattle.sms_worker.specs.Sweeps.{SettledTo};
 ghost use Rattle.sms_worker.specs.declared.turns.Source.TheVariants.{Queue, Next};
+ghost use Rattle.sms_worker.specs.Turns.{IsStep, Starts};
 
 use crate::attempt::Tried;
 use crate::call::Call;
@@ -108,7 +109,7 @@ impl<N: BookName, C: Call> Run<'_, N, C> {
     fn next_place(&self, now_ms: u64) -> Option<(SegmentPlace, Source)>
         ensures turn { IfSome result (λ r. HasTurn self.now.ends self.now.next r.0) }
         ensures retry { (place : SegmentPlace) (k : ℕ) → result ≡ Some (place, Queue k) → IsFirstDue self.now.texts self.now.queues now_ms place k }
-        ensures fresh { (place : SegmentPlace) → result ≡ Some (place, Next) → NoneIsDue self.now.texts self.now.queues now_ms × IsThere self.now.ends place }
+        ensures fresh { (place : SegmentPlace) → result ≡ Some (place, Next) → NoneIsDue self.now.texts self.now.queues now_ms × (IsNext self.now.ends self.now.next place × IsThere self.now.ends place) }
         ensures none { result ≡ None → NoneIsDue self.now.texts self.now.queues now_ms × (¬ HasNext self.now.ends self.now.next) }
     {
         first_of(self.due_retry(now_ms), self.next_part())
@@ -129,7 +130,7 @@ impl<N: BookName, C: Call> Run<'_, N, C> {
     fn advance(&mut self, source: Source)
         ensures same { (self.new.heard ≡ self.old.heard) × (self.new.ends ≡ self.old.ends) × (self.new.texts ≡ self.old.texts) }
         ensures next { source ≡ Next → (self.new.next ≡ min (self.old.next + 1) (2 ^ 64 - 1)) × (self.new.queues ≡ self.old.queues) }
-        ensures taken { (k : ℕ) → source ≡ Queue k → (self.new.next ≡ self.old.next) × ((ws : List Waiting) → SpellsAt self.old.texts self.old.queues k ws → SpellsAt self.old.texts self.new.queues k (later ws)) }
+        ensures taken { (k : ℕ) → source ≡ Queue k → (self.new.next ≡ self.old.next) × IsTaken self.old.texts k self.old.queues self.new.queues }
     {
         match source {
             Source::Queue(queue) => self.queues.pop(self.texts.as_slice(), queue),
@@ -142,6 +143,7 @@ impl<N: BookName, C: Call> Run<'_, N, C> {
         ensures is { result ≡ self.new.closed }
         ensures stays { IsTrue self.old.closed → IsTrue self.new.closed }
         ensures same { (self.new.heard ≡ self.old.heard) × (self.new.ends ≡ self.old.ends) }
+        ensures only { self.new ≡ record self.old { closed = self.new.closed } }
     {
         self.closed.look()
     }
@@ -165,6 +167,7 @@ impl<N: BookName, C: Call> Run<'_, N, C> {
         requires window { context.now.window.now ≡ C.start.seat.window }
         requires rules { context.now.rules.now ≡ C.start.rules }
         ensures heard { self.new.heard ≡ self.old.heard }
+        ensures step { IsStep C.start.rules.policy.attempts now_ms result self.old self.new }
     {
         let closed = self.sees_closed();
         let Some((place, source)) = self.next_place(now_ms) else {
@@ -198,6 +201,7 @@ impl<N: BookName, C: Call> Run<'_, N, C> {
         requires window { context.now.window.now ≡ C.start.seat.window }
         requires rules { context.now.rules.now ≡ C.start.rules }
         ensures heard { self.new.heard ≡ self.old.heard }
+        ensures starts { Starts C.start.rules.policy.attempts result self.old self.new }
     {
         let now_ms = context.clock.now_ms();
         let depth = context.rules.depth as usize;
@@ -323,6 +327,7 @@ impl<N: BookName, C: Call> Run<'_, N, C> {
         requires window { context.now.window.now ≡ C.start.seat.window }
         requires rules { context.now.rules.now ≡ C.start.rules }
         ensures heard { self.new.heard ≡ self.old.heard }
+        ensures starts { down ≡ false → Starts C.start.rules.policy.attempts result self.old self.new }
     {
         if down {
             self.sweep(context);

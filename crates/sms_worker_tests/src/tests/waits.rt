@@ -66,6 +66,7 @@ const UNTIL_RETRIED: [u64; 12] = [60_000, 100, 90, 80, 70, 60, 50, 40, 30, 20, 1
 fn waits_until_a_segment_is_sent_again(rt: HostRuntime) -> Result<(), Fail> {
     let case = Case {
         answers: &[THROTTLED, OK],
+        turns: 40,
         ..PLAIN
     };
     let done = want_waits_of(&rt, rt.alloc(), case, 1, &UNTIL_RETRIED)?;

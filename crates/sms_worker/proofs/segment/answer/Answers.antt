@@ -1,5 +1,5 @@
-use Rattle.std.proofs.Common.{◌≡◌, ◌∷◌, ◌++◌, [], length, None, rules, arith, refl}
-use Rattle.sms_worker.proofs.Tries.{silent_last, decided_state}
+use Rattle.std.proofs.Common.{◌≡◌, ◌∷◌, ◌++◌, [], length, None, Some, rules, arith, refl}
+use Rattle.sms_worker.proofs.Tries.{decided_by_all, silent_last, decided_state}
 use Rattle.sms_worker.proofs.segment.answer.Goals as goal
 
 pub overflow_cast-count : goal.overflow_cast-count
@@ -28,3 +28,7 @@ returns-clause-answered c =
       };
       state = decided_state c.args.policy.now.attempts c.args.policy.now.base_ms c.pop.new.self.items (record { number = c.in-Some.last.number; sent = c.in-Some.last.sent; reply = _ }) c.args.reply c.decide-decision.result (record { cost = c.args.segment.cost; attempts = c.new-attempts-2.result; outcome = c.args.segment.outcome }) l.few l.retried refl (search rules) (search rules);
     }
+
+pub returns-clause-decided : goal.returns-clause-decided
+returns-clause-decided c =
+    decided_by_all c.args.policy.now.attempts c.args.policy.now.base_ms c.pop.new.self.items (record { number = c.in-Some.last.number; sent = c.in-Some.last.sent; reply = Some c.args.reply }) c.args.reply c.decide-decision.result c.new-attempts-2.result (search rules) (search rules)

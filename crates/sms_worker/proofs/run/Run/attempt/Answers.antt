@@ -14,6 +14,7 @@ use Rattle.sms_worker.specs.Closing.{Closes}
 use Rattle.sms_worker.proofs.Closing.{closes_put}
 use Rattle.sms_worker.proofs.Placed.{has_addresses, turn_kept, turn_message}
 use Rattle.sms_worker.proofs.Rising.{order_tried}
+use Rattle.sms_worker.proofs.Turning.{as_it_was, tried_so}
 use Rattle.sms_worker.proofs.run.Run.attempt.Goals as goal
 
 pub index-message-requires : goal.index-message-requires
@@ -83,10 +84,35 @@ invariant_of-self-2 g c =
     }
 
 pub returns-then-not-is_waiting : goal.returns-then-not-is_waiting
-returns-then-not-is_waiting g c = record { heard = ap (λ (x : RunState). x.heard) c.self.view_is }
+returns-then-not-is_waiting g c =
+    let same = given_same c.self.inside.ends.items c.take.new.ends.items c.give.new.ends.items c.args.place.message c.args.place.part c.in-Some-take.segment c.in-Some-take.ensures.out c.give.ensures.now in
+    record { heard = ap (λ (x : RunState). x.heard) c.self.view_is; tried = as_it_was _ _ c.self.view_is c.give.new.ends.items same }
 
 pub returns : goal.returns
-returns g c = record { heard = ap (λ (x : RunState). x.heard) c.self.view_is }
+returns g c =
+    let i = c.self.invariant in
+    let turn = subst (λ (x : RunState). HasTurn x.ends x.next c.args.place) (sym c.self.view_is) c.requires.turn in
+    let low : c.args.place.message < length c.self.inside.messages.items = turn_message _ _ _ _ _ _ _ _ c.args.place i.keeps _ turn in
+    let there : slice_get c.self.inside.messages.items c.args.place.message ≡ Some c.index-message.result.now = slice_get-get_or c.self.inside.messages.items c.args.place.message c.index-message.result.now low ∙ ap Some (sym c.index-message.ensures) in
+    let s = c.in-Some-take.segment in
+    let at = c.in-Some-take.ensures.out.0 in
+    let k = c.args.place.message in
+    let p = c.args.place.part in
+    let texts_low : k < length c.self.inside.texts.items = subst (λ n. k < n) (length-map c.self.inside.texts.items carried) (turn_kept _ _ _ _ _ _ _ _ c.args.place i.keeps _ turn) in
+    let kept : slice_get (map carried c.self.inside.texts.items) k ≡ Some (carried c.index.result.now) = slice_get-map carried c.self.inside.texts.items k ∙ ap (option_map carried) (slice_get-get_or c.self.inside.texts.items k c.index.result.now texts_low ∙ ap Some (sym c.index.ensures)) in
+    let got = c.in-Some.ensures.there in
+    let part = part_there g.C.Call.start.rules g.C.Call.start.messages (map carried c.self.inside.texts.items) k p c.index-message.result.now (carried c.index.result.now) c.in-Some.carried.now i.keeps.texts_kept (ap (λ l. slice_get l k) (sym i.keeps.messages) ∙ there) kept got in
+    let s' : SegmentEnd = record { cost = s.cost; attempts = c.new.result; outcome = s.outcome } in
+    let is = given_other c.self.inside.ends.items c.take.new.ends.items c.give-2.new.ends.items k p s s' c.in-Some-take.ensures.out c.give-2.ensures.now in
+    let was = c.into_vec-attempts.ensures in
+    let now = c.new.ensures in
+    let tries = c.start-tried.ensures.tried part.part part.carried in
+    let tried = subst (λ (l : List Attempt). Tries c.args.context.now.rules.now c.index-message.result.now part.part c.self.inside.seat.view s.attempts c.start-tried.result c.start-tried.new.seat.view l) (sym now)
+    (subst (λ (l : List Attempt). Tries c.args.context.now.rules.now c.index-message.result.now part.part c.self.inside.seat.view l c.start-tried.result c.start-tried.new.seat.view c.start-tried.new.attempts.items) was tries) in
+    record {
+      heard = ap (λ (x : RunState). x.heard) c.self.view_is;
+      tried = tried_so c.args.context.now.rules.now c.index-message.result.now part.part c.self.inside.seat.view c.start-tried.new.seat.view _ _ c.self.view_is c.give-2.new.ends.items c.start-tried.new.opened.items c.args.place s s' at is refl refl c.start-tried.result tried c.start-tried.ensures.opened;
+    }
 
 pub start-tried-requires-clause-own : goal.start-tried-requires-clause-own
 start-tried-requires-clause-own g c = c.self.invariant.keeps.window ∙ sym c.requires.window

@@ -1,8 +1,11 @@
-use Rattle.std.proofs.Common.{◌≤◌, sym, subst}
+use Rattle.std.proofs.Common.{◌≡◌, ◌≤◌, ◌-◌, ◌∙◌, ap, rules, sym, subst}
 use Rattle.std.specs.Vec.{vec_len}
+use Rattle.sms_session.specs.declared.policy.Decision.TheVariants.{RetryAfter}
+use Rattle.sms_worker.specs.Queues.{due_after}
 use Rattle.sms_worker.specs.Rising.{WasSent}
 use Rattle.sms_worker.specs.RunState.{RunState}
 use Rattle.sms_worker.proofs.Rising.{order_pushed}
+use Rattle.sms_worker.proofs.Turning.{waits_at}
 use Rattle.sms_worker.proofs.run.Run.follow.Goals as goal
 
 pub invariant_of-self : goal.invariant_of-self
@@ -17,3 +20,10 @@ invariant_of-self g c =
       ends_fit = i.ends_fit;
       texts_fit = subst (λ n. vec_len c.self.inside.messages ≤ n) (sym room.1) i.texts_fit;
     }
+
+pub returns-in-RetryAfter-clause-due : goal.returns-in-RetryAfter-clause-due
+returns-in-RetryAfter-clause-due g c ms is some few =
+    let both : RetryAfter c.in-RetryAfter.ms ≡ RetryAfter ms = sym c.in-RetryAfter.is ∙ is in
+    let same : c.in-RetryAfter.ms ≡ ms = cc in
+    let times : c.saturating_add-due_ms.result ≡ due_after c.args.now_ms c.in-RetryAfter.ms = search rules in
+    waits_at _ _ c.self.view_is (c.args.attempts - 1) c.args.place c.saturating_add-due_ms.result (due_after c.args.now_ms ms) _ _ (times ∙ ap (due_after c.args.now_ms) same) (c.push.ensures.waits some few)

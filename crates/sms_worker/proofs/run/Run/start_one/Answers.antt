@@ -1,15 +1,25 @@
-use Rattle.std.proofs.Common.{ap, ◌∙◌}
-use Rattle.sms_worker.specs.RunState.{RunState}
+use Rattle.std.proofs.Common.{List, Some, refl, sym, ap, subst, rules, ◌∙◌}
+use Rattle.sms_worker.specs.declared.ends.MessageEnd.{MessageEnd}
+use Rattle.sms_worker.specs.declared.turns.Source.{Source}
+use Rattle.sms_worker.specs.Sweeps.{SweptAt}
+use Rattle.sms_worker.specs.Turns.{IsTried}
+use Rattle.sms_worker.proofs.Turning.{begun_step, given_so, no_step, not_sent, sent_so, stepped, still_there}
 use Rattle.sms_worker.proofs.run.Run.start_one.Goals as goal
 
 pub begin-requires : goal.begin-requires
 begin-requires g c = record { rules = c.requires.rules }
 
 pub returns-then-begin : goal.returns-then-begin
-returns-then-begin g c = record { heard = c.begin.ensures.heard ∙ c.sees_closed-closed.ensures.same.0 }
+returns-then-begin g c = record {
+  heard = c.begin.ensures.heard ∙ c.sees_closed-closed.ensures.same.0;
+  step = begun_step _ c.args.now_ms c.args.self.now c.sees_closed-closed.new.self c.begin.new.self c.sees_closed-closed.ensures.only (c.next_place.ensures.none (search rules)) (c.begin.ensures.next (search rules)) (c.begin.ensures.more (search rules)).0;
+}
 
 pub returns-in_default : goal.returns-in_default
-returns-in_default g c = record { heard = c.begin.ensures.heard ∙ c.sees_closed-closed.ensures.same.0 }
+returns-in_default g c = record {
+  heard = c.begin.ensures.heard ∙ c.sees_closed-closed.ensures.same.0;
+  step = no_step c.args.self.now c.sees_closed-closed.new.self c.begin.new.self c.sees_closed-closed.ensures.only (c.begin.ensures.none (search rules));
+}
 
 pub attempt-requires-clause-window : goal.attempt-requires-clause-window
 attempt-requires-clause-window g c = c.requires.window
@@ -18,10 +28,34 @@ pub attempt-requires-clause-rules : goal.attempt-requires-clause-rules
 attempt-requires-clause-rules g c = c.requires.rules
 
 pub returns-in-Sent : goal.returns-in-Sent
-returns-in-Sent g c = record { heard = c.advance.ensures.same.0 ∙ c.attempt.ensures.heard ∙ c.sees_closed-closed.ensures.same.0 }
+returns-in-Sent g c =
+    let at = c.in-Some.place in
+    let tried = sent_so g.C.Call.start.rules.policy.attempts c.in-Sent.field-0 c.attempt.result at c.sees_closed-closed.new.self c.attempt.new.self c.attempt.ensures.tried c.in-Sent.is in
+    record {
+      heard = c.advance.ensures.same.0 ∙ c.attempt.ensures.heard ∙ c.sees_closed-closed.ensures.same.0;
+      step = stepped _ c.args.now_ms c.args.self.now c.sees_closed-closed.new.self c.attempt.new.self c.advance.new.self c.advance.new.self at c.sees_closed-closed.ensures.only
+          (still_there c.attempt.result at c.sees_closed-closed.new.self c.attempt.new.self c.attempt.ensures.tried) (refl, refl)
+          (subst (IsTried _ at c.sees_closed-closed.new.self.ends) (sym c.advance.ensures.same.1) tried)
+          c.in-Some.source (λ k e. c.next_place.ensures.retry at k (c.in-Some.is ∙ ap (λ (x : Source). Some (at, x)) e)) (λ e. c.next_place.ensures.fresh at (c.in-Some.is ∙ ap (λ (x : Source). Some (at, x)) e))
+          c.advance.ensures.taken c.advance.ensures.next;
+    }
 
 pub returns-in-Later : goal.returns-in-Later
-returns-in-Later g c = record { heard = c.attempt.ensures.heard ∙ c.sees_closed-closed.ensures.same.0 }
+returns-in-Later g c = record {
+  heard = c.attempt.ensures.heard ∙ c.sees_closed-closed.ensures.same.0;
+  step = no_step c.args.self.now c.sees_closed-closed.new.self c.attempt.new.self c.sees_closed-closed.ensures.only (not_sent c.attempt.result c.in-Some.place c.sees_closed-closed.new.self c.attempt.new.self c.attempt.ensures.tried c.in-Later.is);
+}
 
 pub returns-in-Never : goal.returns-in-Never
-returns-in-Never g c = record { heard = c.give_up.ensures.heard ∙ c.advance-in-Never.ensures.same.0 ∙ c.attempt.ensures.heard ∙ c.sees_closed-closed.ensures.same.0 }
+returns-in-Never g c =
+    let at = c.in-Some.place in
+    let most = g.C.Call.start.rules.policy.attempts in
+    let swept = subst (λ (l : List MessageEnd). SweptAt most at.message at.part l c.give_up.new.self.ends) c.advance-in-Never.ensures.same.1 c.give_up.ensures.swept in
+    let tried = given_so most c.attempt.result at c.sees_closed-closed.new.self c.attempt.new.self c.give_up.new.self.ends c.attempt.ensures.tried c.in-Never.is swept in
+    record {
+      heard = c.give_up.ensures.heard ∙ c.advance-in-Never.ensures.same.0 ∙ c.attempt.ensures.heard ∙ c.sees_closed-closed.ensures.same.0;
+      step = stepped _ c.args.now_ms c.args.self.now c.sees_closed-closed.new.self c.attempt.new.self c.advance-in-Never.new.self c.give_up.new.self at c.sees_closed-closed.ensures.only
+          (still_there c.attempt.result at c.sees_closed-closed.new.self c.attempt.new.self c.attempt.ensures.tried) c.give_up.ensures.left tried
+          c.in-Some.source (λ k e. c.next_place.ensures.retry at k (c.in-Some.is ∙ ap (λ (x : Source). Some (at, x)) e)) (λ e. c.next_place.ensures.fresh at (c.in-Some.is ∙ ap (λ (x : Source). Some (at, x)) e))
+          c.advance-in-Never.ensures.taken c.advance-in-Never.ensures.next;
+    }

@@ -1,0 +1,151 @@
+-- What one step of a turn does to what is left to be sent, from what its calls promise.
+use Rattle.std.proofs.Common.{◌≡◌, ℕ, suc, ◌+◌, ◌-◌, Bool, true, false, List, [], ◌∷◌, ◌++◌, length, Some, None, inl, inr, refl, sym, ap, ◌∙◌, subst}
+use Rattle.std.specs.Prelude.{◌^◌, IfSome, Option, min}
+use Rattle.sms_window.specs.declared.view.View.{View}
+use Rattle.sms_pdu.specs.declared.reply.Reply.{Reply}
+use Rattle.sms_segment.specs.declared.part.Part.{Part}
+use Rattle.sms_session.specs.declared.policy.Decision.{Decision}
+use Rattle.sms_session.specs.Decisions.{decided}
+use Rattle.sms_worker.specs.declared.attempt.Tried.{Tried}
+use Rattle.sms_worker.specs.declared.attempt.Tried.TheVariants.{Sent, Later, Never}
+use Rattle.sms_worker.specs.declared.ends.MessageEnd.{MessageEnd}
+use Rattle.sms_worker.specs.declared.ends.SegmentEnd.{SegmentEnd}
+use Rattle.sms_worker.specs.declared.message.Message.{Message}
+use Rattle.sms_worker.specs.declared.open.Open.{Open}
+use Rattle.sms_worker.specs.declared.open.SegmentPlace.{SegmentPlace}
+use Rattle.sms_worker.specs.declared.queue.Queue.{Queue as QueueIn}
+use Rattle.sms_worker.specs.declared.rules.Rules.{Rules}
+use Rattle.sms_worker.specs.declared.turns.Source.{Source}
+use Rattle.sms_worker.specs.declared.turns.Source.TheVariants.{Queue, Next}
+use Rattle.sms_worker.specs.declared.turns.Started.{Started}
+use Rattle.sms_worker.specs.declared.turns.Started.TheVariants.{One, Nothing}
+use Rattle.sms_worker.specs.Ends.{put, segment_at}
+use Rattle.sms_worker.specs.Queues.{IsFirstDue, IsTaken, NoneIsDue, WaitsLast}
+use Rattle.sms_worker.specs.Rising.{HasNext, IsNext, IsThere}
+use Rattle.sms_worker.specs.RunState.{RunState}
+use Rattle.sms_worker.specs.Steps.{Opens, Tries}
+use Rattle.sms_worker.specs.Sweeps.{SweptAt}
+use Rattle.sms_worker.specs.TextsState.{TextsState}
+use Rattle.sms_worker.specs.Turns.{AreSteps, IsStep, IsTried, IsTry, Starts, are_some}
+use Rattle.sms_worker.proofs.EndLemmas.{put_same}
+
+pub both : {X : Type 0} (P Q : X → Type 0) (o : Option X) → IfSome o P → IfSome o Q → IfSome o (λ x. P x × Q x)
+both P Q None p q = tt
+both P Q (Some x) p q = (p, q)
+
+-- a try, from what it did to the segment's attempts and to the open requests
+module _ (rules : Rules) (m : Message) (part : Part) (v w : View) (a b : RunState) (seen : a ≡ b) (es : List MessageEnd) (os : List Open) (place : SegmentPlace) (s s' : SegmentEnd) (at : segment_at a.ends place.message place.part ≡ Some s) (is : es ≡ put a.ends place.message place.part s') (cost : s'.cost ≡ s.cost) (outcome : s'.outcome ≡ s.outcome) where
+  as_before : s'.attempts ≡ s.attempts → es ≡ a.ends
+  as_before same =
+      let unchanged : s' ≡ s = λ i. record { cost = cost i; attempts = same i; outcome = outcome i } in
+      is ∙ ap (put a.ends place.message place.part) unchanged ∙ put_same a.ends place.message place.part s at
+
+  by_try : (t : Tried) → Tries rules m part v s.attempts t w s'.attempts → Opens t place a.opened os → IsTry t place a (record a { ends = es; opened = os })
+  by_try (Sent n) (drawn, (octets, more, spells)) (o, added, number, its) =
+      let now : s' ≡ record s { attempts = s.attempts ++ record { number = n; sent = octets; reply = None } ∷ [] } = λ i. record { cost = cost i; attempts = more i; outcome = outcome i } in
+      (record { segment = s; was = at; octets = octets; now = is ∙ ap (put a.ends place.message place.part) now }, (o, number, its, ap (λ l. record a { ends = es; opened = l }) added))
+  by_try Later h same = ap (λ l. record a { ends = l; opened = os }) (as_before h.1) ∙ ap (λ l. record a { opened = l }) same
+  by_try Never h same = ap (λ l. record a { ends = l; opened = os }) (as_before h.1) ∙ ap (λ l. record a { opened = l }) same
+
+  pub tried_so : (t : Tried) → Tries rules m part v s.attempts t w s'.attempts → Opens t place a.opened os → IsTry t place b (record a { ends = es; opened = os })
+  tried_so t tries opened = subst (λ x. IsTry t place x (record a { ends = es; opened = os })) seen (by_try t tries opened)
+
+pub as_it_was : (a b : RunState) → a ≡ b → (es : List MessageEnd) → es ≡ a.ends → record a { ends = es } ≡ b
+as_it_was a b seen es same = ap (λ l. record a { ends = l }) same ∙ seen
+
+-- the segment is as it was where it wasn't sent
+pub not_sent : (t : Tried) (place : SegmentPlace) (old new : RunState) → IsTry t place old new → t ≡ Later → new ≡ old
+not_sent t place old new h is = subst (λ x. IsTry x place old new) is h
+
+-- what was to be sent is there still
+pub still_there : (t : Tried) (place : SegmentPlace) (old new : RunState) → IsTry t place old new → (new.queues ≡ old.queues) × (new.texts ≡ old.texts) × (new.next ≡ old.next)
+still_there (Sent n) place old new (sent, (o, number, its, is)) = (ap (λ (x : RunState). x.queues) is, ap (λ (x : RunState). x.texts) is, ap (λ (x : RunState). x.next) is)
+still_there Later place old new is = (ap (λ (x : RunState). x.queues) is, ap (λ (x : RunState). x.texts) is, ap (λ (x : RunState). x.next) is)
+still_there Never place old new is = (ap (λ (x : RunState). x.queues) is, ap (λ (x : RunState). x.texts) is, ap (λ (x : RunState). x.next) is)
+
+pub sent_so : (most n : ℕ) (t : Tried) (place : SegmentPlace) (old new : RunState) → IsTry t place old new → t ≡ Sent n → IsTried most place old.ends new.ends
+sent_so most n t place old new h is = inl (n, (subst (λ x. IsTry x place old new) is h).0)
+
+pub given_so : (most : ℕ) (t : Tried) (place : SegmentPlace) (old new : RunState) (es : List MessageEnd) → IsTry t place old new → t ≡ Never → SweptAt most place.message place.part new.ends es → IsTried most place old.ends es
+given_so most t place old new es h is swept =
+    let same : new ≡ old = subst (λ x. IsTry x place old new) is h in
+    inr (subst (λ (x : RunState). SweptAt most place.message place.part x.ends es) same swept)
+
+-- a segment was found, tried, and taken from where it was found
+module _ (most now : ℕ) (a b c d e : RunState) (place : SegmentPlace) (look : b ≡ record a { closed = b.closed }) (left : (c.queues ≡ b.queues) × (c.texts ≡ b.texts) × (c.next ≡ b.next)) (ended : (e.queues ≡ d.queues) × (e.next ≡ d.next)) (tried : IsTried most place b.ends e.ends) where
+  queues_are : c.queues ≡ a.queues
+  queues_are = left.0 ∙ ap (λ (x : RunState). x.queues) look
+
+  texts_are : c.texts ≡ a.texts
+  texts_are = left.1 ∙ ap (λ (x : RunState). x.texts) look
+
+  next_is : c.next ≡ a.next
+  next_is = left.2 ∙ ap (λ (x : RunState). x.next) look
+
+  tried_then : IsTried most place a.ends e.ends
+  tried_then = subst (λ (x : RunState). IsTried most place x.ends e.ends) look tried
+
+  retry_step : (k : ℕ) → IsFirstDue b.texts b.queues now place k → (d.next ≡ c.next) × IsTaken c.texts k c.queues d.queues → IsStep most now One a e
+  retry_step k due (same, taken) = inl (record {
+    place = place;
+    queue = k;
+    due = subst (λ (x : RunState). IsFirstDue x.texts x.queues now place k) look due;
+    taken = subst (λ l. IsTaken a.texts k a.queues l) (sym ended.0) (subst (λ l. IsTaken a.texts k l d.queues) queues_are (subst (λ l. IsTaken l k c.queues d.queues) texts_are taken));
+    next = ended.1 ∙ same ∙ next_is;
+    tried = tried_then;
+  })
+
+  next_step : NoneIsDue b.texts b.queues now × (IsNext b.ends b.next place × IsThere b.ends place) → (d.next ≡ min (c.next + 1) (2 ^ 64 - 1)) × (d.queues ≡ c.queues) → IsStep most now One a e
+  next_step (quiet, (is, there)) (more, same) = inr (inl (record {
+    quiet = subst (λ (x : RunState). NoneIsDue x.texts x.queues now) look quiet;
+    place = place;
+    is = subst (λ (x : RunState). IsNext x.ends x.next place) look is;
+    there = subst (λ (x : RunState). IsThere x.ends place) look there;
+    queues = ended.0 ∙ same ∙ queues_are;
+    next = ended.1 ∙ more ∙ ap (λ n. min (n + 1) (2 ^ 64 - 1)) next_is;
+    tried = tried_then;
+  }))
+
+  pub stepped : (source : Source) → ((k : ℕ) → source ≡ Queue k → IsFirstDue b.texts b.queues now place k) → (source ≡ Next → NoneIsDue b.texts b.queues now × (IsNext b.ends b.next place × IsThere b.ends place))
+      → ((k : ℕ) → source ≡ Queue k → (d.next ≡ c.next) × IsTaken c.texts k c.queues d.queues) → (source ≡ Next → (d.next ≡ min (c.next + 1) (2 ^ 64 - 1)) × (d.queues ≡ c.queues)) → IsStep most now One a e
+  stepped (Queue k) due fresh taken more = retry_step k (due k refl) (taken k refl)
+  stepped Next due fresh taken more = next_step (fresh refl) (more refl)
+
+-- nothing was found, and a message was begun
+pub begun_step : (most now : ℕ) (a b c : RunState) → b ≡ record a { closed = b.closed } → NoneIsDue b.texts b.queues now × (HasNext b.ends b.next → ⊥) → (c.queues ≡ b.queues) × (c.next ≡ 0) → length c.ends ≡ length b.ends + 1 → IsStep most now One a c
+begun_step most now a b c look (quiet, all) (same, first) more = inr (inr (record {
+  quiet = subst (λ (x : RunState). NoneIsDue x.texts x.queues now) look quiet;
+  all = subst (λ (x : RunState). HasNext x.ends x.next → ⊥) look all;
+  queues = same ∙ ap (λ (x : RunState). x.queues) look;
+  next = first;
+  more = more ∙ ap (λ (x : RunState). length x.ends + 1) look;
+}))
+
+-- nothing was started
+pub no_step : (a b c : RunState) → b ≡ record a { closed = b.closed } → c ≡ b → c ≡ record a { closed = c.closed }
+no_step a b c look same = same ∙ look ∙ ap (λ (x : RunState). record a { closed = x.closed }) (sym same)
+
+-- what was decided, by the rules of the call
+pub so_decided : (reply : Reply) (d : Decision) (n count : ℕ) (rules start : Rules) → rules ≡ start → d ≡ decided reply n rules.policy.attempts rules.policy.base_ms → count ≡ n → d ≡ decided reply count start.policy.attempts start.policy.base_ms
+so_decided reply d n count rules start same is long =
+    subst (λ (x : Rules). d ≡ decided reply count x.policy.attempts x.policy.base_ms) same (is ∙ ap (λ k. decided reply k rules.policy.attempts rules.policy.base_ms) (sym long))
+
+-- a segment waits last, by what the state is as others see it
+pub waits_at : (inside old : RunState) → inside ≡ old → (k : ℕ) (place : SegmentPlace) (due due' : ℕ) (texts : List TextsState) (qs : List QueueIn) → due ≡ due' → WaitsLast inside.texts inside.queues k (record { place = place; due_ms = due }) texts qs
+    → WaitsLast old.texts old.queues k (record { place = place; due_ms = due' }) texts qs
+waits_at inside old seen k place due due' texts qs times waits =
+    subst (λ n. WaitsLast old.texts old.queues k (record { place = place; due_ms = n }) texts qs) times
+    (subst (λ (x : RunState). WaitsLast x.texts x.queues k (record { place = place; due_ms = due }) texts qs) seen waits)
+
+-- all that was started so far
+pub none_yet : (most now : ℕ) (a : RunState) → (n : ℕ) × (AreSteps most now n a a × (false ≡ are_some n))
+none_yet most now a = (0, (refl, refl))
+
+pub one_more : (most now : ℕ) (any : Bool) (a b c : RunState) (did : Started) → (n : ℕ) × (AreSteps most now n a b × (any ≡ are_some n)) → IsStep most now did b c → did ≡ One → (n : ℕ) × (AreSteps most now n a c × (true ≡ are_some n))
+one_more most now any a b c did (n, (steps, some)) step is = (suc n, ((b, steps, subst (λ x. IsStep most now x b c) is step), refl))
+
+pub so_far : (most now : ℕ) (any : Bool) (a b : RunState) → (n : ℕ) × (AreSteps most now n a b × (any ≡ are_some n)) → Starts most any a b
+so_far most now any a b (n, (steps, some)) = record { now = now; count = n; last = b; steps = steps; rest = refl; some = some }
+
+pub no_more : (most now : ℕ) (any : Bool) (a b c : RunState) (did : Started) → (n : ℕ) × (AreSteps most now n a b × (any ≡ are_some n)) → IsStep most now did b c → did ≡ Nothing → Starts most any a c
+no_more most now any a b c did (n, (steps, some)) step is = record { now = now; count = n; last = b; steps = steps; rest = subst (λ x. IsStep most now x b c) is step; some = some }

@@ -1,0 +1,82 @@
+-- What the steps of a turn do, and what they leave to be sent.
+use Rattle.std.specs.Prelude.{◌≡◌, ℕ, zero, suc, ◌+◌, ◌-◌, ◌^◌, ◌⊎◌, Bool, true, false, List, [], ◌∷◌, ◌++◌, length, None, Some, min}
+use Rattle.sms_worker.specs.declared.attempt.Tried.{Tried}
+use Rattle.sms_worker.specs.declared.attempt.Tried.TheVariants.{Sent, Later, Never}
+use Rattle.sms_worker.specs.declared.ends.MessageEnd.{MessageEnd}
+use Rattle.sms_worker.specs.declared.ends.SegmentEnd.{SegmentEnd}
+use Rattle.sms_worker.specs.declared.open.Open.{Open}
+use Rattle.sms_worker.specs.declared.open.SegmentPlace.{SegmentPlace}
+use Rattle.sms_worker.specs.declared.turns.Started.{Started}
+use Rattle.sms_worker.specs.declared.turns.Started.TheVariants.{One, Nothing}
+use Rattle.sms_worker.specs.Ends.{segment_at, put}
+use Rattle.sms_worker.specs.Queues.{IsFirstDue, IsTaken, NoneIsDue}
+use Rattle.sms_worker.specs.Rising.{HasNext, IsNext, IsThere}
+use Rattle.sms_worker.specs.RunState.{RunState}
+use Rattle.sms_worker.specs.Sweeps.{SweptAt}
+
+-- the segment at the place was sent with this number, and nothing else changed
+pub record SentAt (n : ℕ) (place : SegmentPlace) (old new : List MessageEnd) : Type 0 where
+  pub segment : SegmentEnd
+  pub was : segment_at old place.message place.part ≡ Some segment
+  pub octets : List ℕ
+  pub now : new ≡ put old place.message place.part (record segment { attempts = segment.attempts ++ record { number = n; sent = octets; reply = None } ∷ [] })
+
+-- a try to send the segment: it was sent, and its request is open behind the others; else all is as it was
+abbrev pub IsTry : Tried → SegmentPlace → RunState → RunState → Type 0
+IsTry (Sent n) place old new = SentAt n place old.ends new.ends × ((o : Open) × (o.number ≡ n) × (o.place ≡ place) × (new ≡ record old { ends = new.ends; opened = old.opened ++ o ∷ [] }))
+IsTry Later place old new = new ≡ old
+IsTry Never place old new = new ≡ old
+
+-- the segment was sent, or given up
+abbrev pub IsTried : ℕ → SegmentPlace → List MessageEnd → List MessageEnd → Type 0
+IsTried most place old new = ((n : ℕ) × SentAt n place old new) ⊎ SweptAt most place.message place.part old new
+
+-- the segment that is due before all others by this time was tried, and left its queue
+pub record TriesRetry (most now : ℕ) (old new : RunState) : Type 0 where
+  pub place : SegmentPlace
+  pub queue : ℕ
+  pub due : IsFirstDue old.texts old.queues now place queue
+  pub taken : IsTaken old.texts queue old.queues new.queues
+  pub next : new.next ≡ old.next
+  pub tried : IsTried most place old.ends new.ends
+
+-- none is due, and the next part of the last message was tried
+pub record TriesNext (most now : ℕ) (old new : RunState) : Type 0 where
+  pub quiet : NoneIsDue old.texts old.queues now
+  pub place : SegmentPlace
+  pub is : IsNext old.ends old.next place
+  pub there : IsThere old.ends place
+  pub queues : new.queues ≡ old.queues
+  pub next : new.next ≡ min (old.next + 1) (2 ^ 64 - 1)
+  pub tried : IsTried most place old.ends new.ends
+
+-- none is due and all parts were tried, and a message was begun
+pub record BeginsNext (now : ℕ) (old new : RunState) : Type 0 where
+  pub quiet : NoneIsDue old.texts old.queues now
+  pub all : ¬ HasNext old.ends old.next
+  pub queues : new.queues ≡ old.queues
+  pub next : new.next ≡ 0
+  pub more : length new.ends ≡ length old.ends + 1
+
+-- what a step did; one that started nothing touched nothing, but that it may have seen the line down
+abbrev pub IsStep : ℕ → ℕ → Started → RunState → RunState → Type 0
+IsStep most now One old new = TriesRetry most now old new ⊎ TriesNext most now old new ⊎ BeginsNext now old new
+IsStep most now Nothing old new = new ≡ record old { closed = new.closed }
+
+-- so many steps that started something, by one time
+abbrev pub AreSteps : ℕ → ℕ → ℕ → RunState → RunState → Type 0
+AreSteps most now zero old new = new ≡ old
+AreSteps most now (suc n) old new = (mid : RunState) × AreSteps most now n old mid × IsStep most now One mid new
+
+abbrev pub are_some : ℕ → Bool
+are_some zero = false
+are_some (suc n) = true
+
+-- all that was started, if any was
+pub record Starts (most : ℕ) (any : Bool) (old new : RunState) : Type 0 where
+  pub now : ℕ
+  pub count : ℕ
+  pub last : RunState
+  pub steps : AreSteps most now count old last
+  pub rest : IsStep most now Nothing last new
+  pub some : any ≡ are_some count
