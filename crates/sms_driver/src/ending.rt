@@ -43,7 +43,7 @@ pub fn all_done<N: BookName>(
         let Ok(end) = worker_result else {
             return Err(Lost);
         };
-        done.push(end)?;
+        done.push_reserved(end);
     }
     Ok(done)
 }
@@ -79,11 +79,11 @@ fn take_apart<N: BookName>(alloc: Global, done: Vec<WorkerEnd<N>>) -> Result<Par
             consumer,
             closed,
         } = end;
-        keep_share(&mut shares, share)?;
-        ends.push(VecDeque::from(theirs))?;
-        seats.push(seat)?;
-        consumers.push(consumer)?;
-        causes.push(closed)?;
+        keep_share(&mut shares, share);
+        ends.push_reserved(VecDeque::from(theirs));
+        seats.push_reserved(seat);
+        consumers.push_reserved(consumer);
+        causes.push_reserved(closed);
     }
     Ok(Parts {
         shares,

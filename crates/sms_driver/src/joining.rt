@@ -27,7 +27,7 @@ pub(crate) fn take_rings(alloc: Global, readers: Vec<ReaderEnd>) -> Result<Taken
     for reader in readers {
         let mut reader = reader;
         producers.append(&mut reader.producers)?;
-        bare.push(reader)?;
+        bare.push_reserved(reader);
     }
     Ok(Taken {
         producers,

@@ -124,13 +124,7 @@ pub(crate) fn close_all<W: Drop>(
         let DriverSeat { seat, unbinding } = driver_seat;
         let closing = next_closing(&mut causes, workers);
         let window = close_one(shared, keeper, seat, &mut seats, workers);
-        ends.push(BindEnd {
-            workers,
-            unbinding,
-            reader: outcome,
-            closing,
-            window,
-        })?;
+        ends.push_reserved(BindEnd::new(workers, unbinding, outcome, closing, window));
     }
     Ok(ends)
 }

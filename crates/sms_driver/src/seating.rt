@@ -99,7 +99,7 @@ where
             follow,
         } = parts;
         seat_workers(shared, seats, consumers, &mut places)?;
-        reader_tasks.push(ReaderTask {
+        reader_tasks.push_reserved(ReaderTask {
             reader,
             bound,
             follow,
@@ -107,7 +107,7 @@ where
             seat: keeper,
             line: &shared.line,
             window: &shared.window,
-        })?;
+        });
     }
     Ok(Seating {
         places,

@@ -104,7 +104,7 @@ pub fn tasks<'a, N: BookName, W>(
         };
         let index = tasks.len();
         let task = make_task(alloc, place, index, share, messages, rules)?;
-        tasks.push(task)?;
+        tasks.push_reserved(task);
     }
     Ok(tasks)
 }

@@ -3,12 +3,13 @@
 ghost use Rattle.std.specs.Prelude.{◌≡◌, map, IfErr, IfOk, MatchResult, OnOk};
 ghost use Rattle.std.specs.List.{AllByRecursion};
 ghost use Rattle.sms_unbind.specs.Unbinds.{IsTried};
+ghost use Rattle.sms_driver.specs.Latches.{IsSaidAt, word_of};
 ghost use Rattle.sms_driver.specs.SendFaults.{IsOfStart};
 ghost use Rattle.sms_driver.specs.Threads.{AreSeated, HasRoom, HaveLeft, HaveReturned, IsCrew, IsNoCrew, IsPrepared, IsWhole};
 ghost use Rattle.sms_driver.specs.declared.latch.Word.TheVariants.{Go, Leave};
 
 use crate::fault::SendFault;
-use crate::latch::{Latch, Unsaid, Word};
+use crate::latch::{Latch, Told, Unsaid, Word};
 use crate::listening::{ReaderHandle, start_readers};
 use crate::task::WorkerTask;
 use crate::threads::{ReaderTask, RunContext, WorkerResult, join_told};
@@ -157,13 +158,16 @@ fn drive<
     reader_tasks: Vec<ReaderTask<'s, Rd, W>>,
     shared_binds: &'s [SharedBind<W>],
     driver_seats: Vec<DriverSeat>,
-) -> Result<Returned<N>, Unsent<N>>
+) -> Told<'s, Result<Returned<N>, Unsent<N>>>
     requires seated { AreSeated context.now.rules.now tasks.items reader_tasks.items driver_seats.items shared_binds.now }
     requires leave { unsaid.latch.value ≡ latch.now }
-    ensures returned { IfOk result (HaveReturned context.now.rules.now Rd.remaining tasks.entry.items reader_tasks.entry.items shared_binds.now) }
+    ensures returned { IfOk result.back (HaveReturned context.now.rules.now Rd.remaining tasks.entry.items reader_tasks.entry.items shared_binds.now) }
     // Nothing was sent: each thread that was started gave back what it was given.
-    ensures left { IfErr result (λ unsent. HaveLeft tasks.entry.items reader_tasks.entry.items shared_binds.now unsent.left) }
-    ensures refused { IfErr result (λ unsent. IsOfStart unsent.fault) }
+    ensures left { IfErr result.back (λ unsent. HaveLeft tasks.entry.items reader_tasks.entry.items shared_binds.now unsent.left) }
+    ensures refused { IfErr result.back (λ unsent. IsOfStart unsent.fault) }
+    // No thread at the latch was told to go where a fault is told, and none to leave where there is none.
+    ensures at { IsSaidAt latch.now result.said }
+    ensures word { MatchResult result.back (λ _. word_of result.said ≡ Go) (λ _. word_of result.said ≡ Leave) }
 {
     let rt = context.rt;
     let mut crew = Crew::new(context.alloc);
@@ -185,11 +189,17 @@ fn drive<
         driver_seats,
     };
     match started {
-        Ok(()) => Ok(returned),
-        Err(fault) => Err(Unsent {
-            fault,
-            left: returned,
-        }),
+        Ok(()) => Told {
+            said,
+            back: Ok(returned),
+        },
+        Err(fault) => Told {
+            said,
+            back: Err(Unsent {
+                fault,
+                left: returned,
+            }),
+        },
     }
 }
 
@@ -253,7 +263,7 @@ pub fn work_all<
             ensures left { IfErr result (λ unsent. HaveLeft tasks.entry.items reader_tasks.entry.items shared_binds.entry.now unsent.left) }
             ensures refused { IfErr result (λ unsent. IsOfStart unsent.fault) }
         {
-            drive(
+            let Told { said: _, back } = drive(
                 scope,
                 context,
                 latch,
@@ -262,7 +272,8 @@ pub fn work_all<
                 reader_tasks,
                 shared_binds,
                 driver_seats,
-            )
+            );
+            back
         },
     )
 }

@@ -1,7 +1,10 @@
-use Rattle.std.proofs.Common.{Ok, sym}
+use Rattle.std.proofs.Common.{Ok, sym, rules}
 use Rattle.std.specs.Vec.Iter.{into_iter_items}
 use Rattle.sms_driver.proofs.Moves.{moved_in}
 use Rattle.sms_driver.proofs.ending.all_done.Goals as goal
 
 pub loop-worker_result-preserved : goal.loop-worker_result-preserved
-loop-worker_result-preserved g c = moved_in (λ d. Ok d) c.loop-worker_result.done.items _ (into_iter_items c.loop-worker_result.worker_result-iterator) _ _ _ _ c.in_ok-push.ensures.items c.in-Some.ensures.steps.0 (sym c.in-Ok.is) c.loop-worker_result.invariant
+loop-worker_result-preserved g c = record {
+  all = moved_in (λ d. Ok d) c.loop-worker_result.done.items _ (into_iter_items c.loop-worker_result.worker_result-iterator) _ _ _ _ c.push_reserved.ensures.items c.in-Some.ensures.steps.0 (sym c.in-Ok.is) c.loop-worker_result.invariant.all;
+  room = search rules;
+}

@@ -1,4 +1,4 @@
-use Rattle.std.proofs.Common.{refl}
+use Rattle.std.proofs.Common.{refl, rules}
 use Rattle.std.specs.Vec.Iter.{into_iter_items}
 use Rattle.sms_driver.specs.BindEnds.{outcome_of}
 use Rattle.sms_driver.proofs.Moves.{moved, lists_moved}
@@ -10,6 +10,7 @@ loop-reader-preserved c =
     let takes = c.in-Some.ensures.steps.0 in
     record {
       producers = lists_moved (λ d. d.producers.items) c.loop-reader.producers.items _ (into_iter_items c.loop-reader.reader-iterator) _ _ _ c.in_ok-append.ensures.items takes i.producers;
-      outcomes = moved outcome_of outcome_of c.loop-reader.bare.items _ (into_iter_items c.loop-reader.reader-iterator) _ _ _ _ c.in_ok-push.ensures.items takes refl i.outcomes;
-      seats = moved (λ d. d.seat.window) (λ d. d.seat.window) c.loop-reader.bare.items _ (into_iter_items c.loop-reader.reader-iterator) _ _ _ _ c.in_ok-push.ensures.items takes refl i.seats;
+      outcomes = moved outcome_of outcome_of c.loop-reader.bare.items _ (into_iter_items c.loop-reader.reader-iterator) _ _ _ _ c.push_reserved.ensures.items takes refl i.outcomes;
+      seats = moved (λ d. d.seat.window) (λ d. d.seat.window) c.loop-reader.bare.items _ (into_iter_items c.loop-reader.reader-iterator) _ _ _ _ c.push_reserved.ensures.items takes refl i.seats;
+      room = search rules;
     }

@@ -1,10 +1,11 @@
-use Rattle.std.proofs.Common.{◌≡◌, rules, arith, ◌∙◌, [], ◌∷◌, ap, sym, refl, length, map}
+use Rattle.std.proofs.Common.{◌≡◌, rules, arith, ◌∙◌, [], ◌∷◌, ◌++◌, ap, sym, refl, length, map}
 use Rattle.std.proofs.lemmas.List.{length-map}
 use Rattle.std.specs.Vec.Iter.{into_iter_items}
 use Rattle.sms_driver.specs.BindEnds.{outcome_of, IsBindEnd}
 use Rattle.sms_unbind.specs.Unbinds.{IsTried}
 use Rattle.sms_driver.proofs.Drawn.{all_closed, closed_more, first_once, none_closed}
 use Rattle.sms_driver.specs.Closings.{AreTold}
+use Rattle.sms_driver.specs.declared.bind_end.BindEnd.{BindEnd}
 use Rattle.sms_driver.proofs.Closings.{all_told, none_told, told_more}
 use Rattle.sms_driver.specs.Joined.{AreClosed}
 use Rattle.sms_driver.proofs.Moves.{all_moved, moved, none_moved}
@@ -39,11 +40,13 @@ loop-shared-init g c = record {
       rw (sym c.from-seats.ensures.0) (all bind (omega (arith, low, binds)));
   told = λ rest h. none_told c.args.left.workers _ _ _ rest c.from-causes.ensures.0 (search rules) h;
   ended = search rules;
+  room = search rules;
 }
 
 pub loop-shared-preserved : goal.loop-shared-preserved
 loop-shared-preserved g c =
     let i = c.loop-shared.invariant in
+    let adds = c.push_reserved.ensures.items ∙ ap (λ (b : BindEnd). c.loop-shared.ends.items ++ b ∷ []) c.new.ensures in
     let steps = c.in-Some.ensures.steps.0 in
     let readers = firsts (λ d. d.seat.window) (λ b. b.window) c.loop-shared.readers.items c.take_first-reader.new.queue.items _ _ c.take_first-reader.result c.in-Some.shared c.take_first-reader.ensures steps i.readers in
     let driver_seats = firsts (λ s. s.seat.window) (λ b. b.window) c.loop-shared.driver_seats.items c.take_first-driver_seat.new.queue.items _ _ c.take_first-driver_seat.result c.in-Some.shared c.take_first-driver_seat.ensures steps i.driver_seats in
@@ -54,11 +57,12 @@ loop-shared-preserved g c =
       tried = tried.1;
       seats = c.close_one-window.ensures.rest _ (first_windows (λ s. s.window) (λ b. b.window) c.args.left.workers c.loop-shared.seats.items _ _ c.in-Some.shared steps i.seats);
       each = search rules;
-      outcomes = moved (λ b. b.reader) outcome_of c.loop-shared.ends.items _ c.loop-shared.readers.items _ _ _ _ c.in_ok-push.ensures.items c.take_first-reader.ensures c.outcome_in-outcome.ensures i.outcomes;
-      told = λ rest h. told_more c.args.left.workers _ _ _ _ rest _ (AreTold c.args.left.workers c.args.causes.items) (ap (map (λ b. b.closing)) c.in_ok-push.ensures.items ∙ map_more (λ b. b.closing) c.loop-shared.ends.items _) c.next_closing-closing.ensures.left c.next_closing-closing.ensures.closing h (i.told (_ ∷ rest));
-      closed = λ rest h. closed_more c.args.left.workers _ _ _ _ _ _ _ _ _ _ rest _ (AreClosed c.args.left.workers (map (λ d. d.seat.view) c.args.left.readers.items) (map (λ s. s.seat.view) c.args.left.driver_seats.items) (map (λ s. s.view) c.args.seats.items)) (ap (map (λ b. b.window)) c.in_ok-push.ensures.items ∙ map_more (λ b. b.window) c.loop-shared.ends.items _) (ap (map (λ d. d.seat.view)) c.take_first-reader.ensures) (ap (map (λ s. s.seat.view)) c.take_first-driver_seat.ensures) c.close_one-window.ensures.left c.close_one-window.ensures.closed h (i.closed (_ ∷ rest));
+      outcomes = moved (λ b. b.reader) outcome_of c.loop-shared.ends.items _ c.loop-shared.readers.items _ _ _ _ adds c.take_first-reader.ensures c.outcome_in-outcome.ensures i.outcomes;
+      told = λ rest h. told_more c.args.left.workers _ _ _ _ rest _ (AreTold c.args.left.workers c.args.causes.items) (ap (map (λ b. b.closing)) adds ∙ map_more (λ b. b.closing) c.loop-shared.ends.items _) c.next_closing-closing.ensures.left c.next_closing-closing.ensures.closing h (i.told (_ ∷ rest));
+      closed = λ rest h. closed_more c.args.left.workers _ _ _ _ _ _ _ _ _ _ rest _ (AreClosed c.args.left.workers (map (λ d. d.seat.view) c.args.left.readers.items) (map (λ s. s.seat.view) c.args.left.driver_seats.items) (map (λ s. s.view) c.args.seats.items)) (ap (map (λ b. b.window)) adds ∙ map_more (λ b. b.window) c.loop-shared.ends.items _) (ap (map (λ d. d.seat.view)) c.take_first-reader.ensures) (ap (map (λ s. s.seat.view)) c.take_first-driver_seat.ensures) c.close_one-window.ensures.left c.close_one-window.ensures.closed h (i.closed (_ ∷ rest));
       once = λ rest. i.once (first_once c.args.left.workers _ _ c.in-Some.shared (map (λ s. s.view) c.loop-shared.seats.items) _ steps c.close_one-window.ensures.left c.close_one-window.ensures.once rest);
-      ended = more_hold (IsBindEnd c.args.left.workers) c.loop-shared.ends.items _ _ c.in_ok-push.ensures.items i.ended (record { workers_are = refl; unbound = tried.0 });
+      ended = more_hold (IsBindEnd c.args.left.workers) c.loop-shared.ends.items _ _ adds i.ended (record { workers_are = refl; unbound = tried.0 });
+      room = search rules;
     }
 
 pub returns-clause-once : goal.returns-clause-once

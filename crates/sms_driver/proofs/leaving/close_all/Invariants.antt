@@ -1,4 +1,4 @@
-use Rattle.std.proofs.Common.{◌≡◌, ◌+◌, ◌++◌, List, length, map}
+use Rattle.std.proofs.Common.{◌≡◌, ◌≤◌, ◌+◌, ◌++◌, List, length, map, vec_len, vec_capacity}
 use Rattle.std.specs.List.{AllByRecursion}
 use Rattle.std.specs.Vec.Iter.{into_iter_items}
 use Rattle.sms_driver.specs.BindEnds.{outcome_of, IsBindEnd}
@@ -24,4 +24,5 @@ invariant-loop-shared g l = record {
   once : AllDrewOnce (length (into_iter_items l.shared-iterator)) l.workers (map (λ s. s.view) l.seats.items) → AllDrewOnce (length l.fn.left.shared_binds.items) l.fn.left.workers (map (λ s. s.view) l.fn.seats.items);
   told : (rest : List BindClosing) → AreTold l.workers l.causes.items rest → AreTold l.fn.left.workers l.fn.causes.items (map (λ b. b.closing) l.ends.items ++ rest);
   ended : AllByRecursion (IsBindEnd l.workers) l.ends.items;
+  room : vec_len l.ends + length (into_iter_items l.shared-iterator) ≤ vec_capacity l.ends;
 }

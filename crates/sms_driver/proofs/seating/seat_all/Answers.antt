@@ -23,6 +23,7 @@ loop-bind-init g c = record {
   sitting = none_moved sitting_at _ _ _ (search rules) (ap (all_sit c.args.shared_binds.now) c.from-bind_parts.ensures.0);
   keeping = none_moved keeping_of _ _ _ (search rules) (ap (all_keep c.args.shared_binds.now) c.from-bind_parts.ensures.0);
   long = search rules;
+  room = search rules;
 }
 
 pub unreachable-requires : goal.unreachable-requires
@@ -45,16 +46,17 @@ loop-bind-preserved g c =
     record {
       bind_parts = f.1;
       places = search rules;
-      reader_tasks = subst (AllByRecursion (λ t. t.seat.window ≡ t.window.now)) (sym c.in_ok-push.ensures.items) (AllByRecursion-append (λ t. t.seat.window ≡ t.window.now) c.loop-bind.reader_tasks.items (_ ∷ []) i.reader_tasks (f.0.keeper, tt));
+      reader_tasks = subst (AllByRecursion (λ t. t.seat.window ≡ t.window.now)) (sym c.push_reserved.ensures.items) (AllByRecursion-append (λ t. t.seat.window ≡ t.window.now) c.loop-bind.reader_tasks.items (_ ∷ []) i.reader_tasks (f.0.keeper, tt));
       windows = workers_more (λ b. b.window) c.args.workers c.loop-bind.bind c.args.shared_binds.now c.index-shared_binds-bind.result _ _ _ _ (search rules) c.index-shared_binds-bind.is c.in_ok-seat_workers.ensures.windows (bound_seats (λ s. s.window) _ c.args.workers c.in-Some.parts.seats.items f.0.seats f.0.all) i.windows;
       keepers = keeper_more (λ b. b.window) c.args.workers c.loop-bind.bind c.args.shared_binds.now c.index-shared_binds-bind.result _ _ _ (search rules) c.index-shared_binds-bind.is
-          (ap (map (λ t. t.seat.window)) c.in_ok-push.ensures.items ∙ map_more (λ t. t.seat.window) c.loop-bind.reader_tasks.items _ ∙ ap (λ w. map (λ t. t.seat.window) c.loop-bind.reader_tasks.items ++ w ∷ []) f.0.keeper)
+          (ap (map (λ t. t.seat.window)) c.push_reserved.ensures.items ∙ map_more (λ t. t.seat.window) c.loop-bind.reader_tasks.items _ ∙ ap (λ w. map (λ t. t.seat.window) c.loop-bind.reader_tasks.items ++ w ∷ []) f.0.keeper)
           i.keepers;
       rings = lists_moved (λ p. p.consumers.items) (map (λ p. p.consumer) c.loop-bind.places.items) _ c.loop-bind.bind_parts.items _ c.in-Some.parts _ c.in_ok-seat_workers.ensures.rings c.in-Some.ensures.items i.rings;
-      readings = moved reading_of reading_in c.loop-bind.reader_tasks.items _ c.loop-bind.bind_parts.items _ _ _ _ c.in_ok-push.ensures.items c.in-Some.ensures.items refl i.readings;
+      readings = moved reading_of reading_in c.loop-bind.reader_tasks.items _ c.loop-bind.bind_parts.items _ _ _ _ c.push_reserved.ensures.items c.in-Some.ensures.items refl i.readings;
       sitting = bind_sits c.args.shared_binds.now c.loop-bind.bind c.index-shared_binds-bind.result c.loop-bind.bind_parts.items _ c.in-Some.parts (map sitting_at c.loop-bind.places.items) _ _ (search rules) c.index-shared_binds-bind.is c.in-Some.ensures.items c.in_ok-seat_workers.ensures.sitting i.sitting;
-      keeping = bind_keeps c.args.shared_binds.now c.loop-bind.bind c.index-shared_binds-bind.result c.loop-bind.bind_parts.items _ c.in-Some.parts (map keeping_of c.loop-bind.reader_tasks.items) _ _ (search rules) c.index-shared_binds-bind.is c.in-Some.ensures.items (ap (map keeping_of) c.in_ok-push.ensures.items ∙ map_more keeping_of c.loop-bind.reader_tasks.items _) i.keeping;
+      keeping = bind_keeps c.args.shared_binds.now c.loop-bind.bind c.index-shared_binds-bind.result c.loop-bind.bind_parts.items _ c.in-Some.parts (map keeping_of c.loop-bind.reader_tasks.items) _ _ (search rules) c.index-shared_binds-bind.is c.in-Some.ensures.items (ap (map keeping_of) c.push_reserved.ensures.items ∙ map_more keeping_of c.loop-bind.reader_tasks.items _) i.keeping;
       long = let n = c.in_ok-seat_workers.ensures.long in let a = f.0.all in let l = i.long in n ∙ (λ j. l j + a j) ∙ (omega arith);
+      room = search rules;
     }
 
 pub returns-clause-long : goal.returns-clause-long

@@ -1,4 +1,4 @@
-use Rattle.std.proofs.Common.{◌≡◌, ◌*◌, ◌++◌, length, map, drop}
+use Rattle.std.proofs.Common.{◌≡◌, ◌≤◌, ◌*◌, ◌++◌, length, map, drop, vec_len, vec_capacity}
 use Rattle.std.specs.List.{AllByRecursion, AllZip}
 use Rattle.sms_driver.specs.Reads.{reading_in, reading_of}
 use Rattle.sms_driver.specs.Rings.{flat}
@@ -17,4 +17,5 @@ invariant-loop-bind g l = record {
   sitting : map sitting_at l.places.items ++ all_sit (drop l.bind l.shared_binds) l.bind_parts.items ≡ all_sit l.shared_binds l.fn.bind_parts.items;
   keeping : map keeping_of l.reader_tasks.items ++ all_keep (drop l.bind l.shared_binds) l.bind_parts.items ≡ all_keep l.shared_binds l.fn.bind_parts.items;
   long : length l.places.items ≡ l.bind * l.workers;
+  room : (vec_len l.reader_tasks ≡ l.bind) × (length l.shared_binds ≤ vec_capacity l.reader_tasks);
 }

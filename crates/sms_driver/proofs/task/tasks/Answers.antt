@@ -13,7 +13,7 @@ pub loop-share-preserved : goal.loop-share-preserved
 loop-share-preserved g c =
     let i = c.loop-share.invariant in
     let made = c.in_ok-task.ensures in
-    let adds = c.in_ok-push.ensures.items in
+    let adds = c.push_reserved.ensures.items in
     let place = c.in-Some-Some.ensures.items in
     let long : c.len-index.result ≡ length c.loop-share.tasks.items = omega (arith, c.len-index.ensures) in
     let first = first_holds (λ p. p.seat.window ≡ p.window.now) _ _ _ place i.rest in
@@ -28,4 +28,5 @@ loop-share-preserved g c =
       indexes = count_more (map (λ t. t.assignment.worker.index) c.loop-share.tasks.items) _ _ (ap (map (λ t. t.assignment.worker.index)) adds ∙ map_more (λ t. t.assignment.worker.index) c.loop-share.tasks.items _) (made.index ∙ long ∙ sym (length-map c.loop-share.tasks.items (λ t. t.assignment.worker.index))) i.indexes;
       rest = first.1;
       own = more_hold (IsPrepared c.args.rules.now) c.loop-share.tasks.items _ _ adds i.own (ap (λ s. s.window) made.seat ∙ first.0 ∙ sym made.window, made.room);
+      room = search rules;
     }

@@ -1,4 +1,4 @@
-use Rattle.std.proofs.Common.{◌≡◌, ◌++◌, length, map}
+use Rattle.std.proofs.Common.{◌≡◌, ◌≤◌, ◌+◌, ◌++◌, length, map, vec_len, vec_capacity}
 use Rattle.std.specs.List.{AllByRecursion}
 use Rattle.std.specs.Vec.Iter.{into_iter_items}
 use Rattle.sms_driver.specs.Threads.{IsPrepared}
@@ -17,4 +17,5 @@ invariant-loop-share g l = record {
   indexes : CountFrom 0 (map (λ t. t.assignment.worker.index) l.tasks.items);
   rest : AllByRecursion (λ p. p.seat.window ≡ p.window.now) l.places.items;
   own : AllByRecursion (IsPrepared l.fn.rules) l.tasks.items;
+  room : vec_len l.tasks + length (into_iter_items l.share-iterator) ≤ vec_capacity l.tasks;
 }

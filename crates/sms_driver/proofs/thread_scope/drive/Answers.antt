@@ -62,8 +62,8 @@ returns-in-Ok-clause-returned g c =
       tried = c.end_binds.ensures.tried;
     }
 
-pub returns-clause-left : goal.returns-clause-left
-returns-clause-left g c =
+pub returns-in-Err-clause-left : goal.returns-in-Err-clause-left
+returns-in-Err-clause-left g c =
     let rules : Rules = c.args.context.now.rules.now in
     let latch : Latch = c.args.latch.now in
     let crew = c.start_all-started.ensures.crew in
@@ -89,3 +89,13 @@ returns-clause-left g c =
       driver = c.end_binds.ensures.driver_seats ∙ c.requires.seated.driver;
       tried = c.end_binds.ensures.tried;
     }
+
+pub returns-in-Ok-clause-word : goal.returns-in-Ok-clause-word
+returns-in-Ok-clause-word g c =
+    let go : c.word_for-word.result ≡ Go = rw c.in-Ok.is at c.word_for-word.ensures in
+    c.say-said.ensures.word ∙ go
+
+pub returns-in-Err-clause-word : goal.returns-in-Err-clause-word
+returns-in-Err-clause-word g c =
+    let leave : c.word_for-word.result ≡ Leave = rw c.in-Err.is at c.word_for-word.ensures in
+    c.say-said.ensures.word ∙ leave
