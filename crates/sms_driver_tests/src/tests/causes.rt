@@ -132,8 +132,8 @@ fn told_of(sending: &Sending) -> Result<Told, Fail> {
         }
     }
     Ok(Told {
-        cause: bind.reader.cause,
-        closing: bind.closing,
+        cause: bind.reader().cause,
+        closing: bind.closing(),
         refused,
     })
 }

@@ -241,9 +241,9 @@ const OPEN: BindClosing = BindClosing {
 
 // That a bind had so many workers, was open to them, and was unbound.
 pub(super) fn want_unbound(rt: &impl Abort, bind: &BindEnd, workers: usize) {
-    same(rt, bind.workers, workers);
-    same(rt, bind.closing, OPEN);
-    match bind.unbinding {
+    same(rt, bind.workers(), workers);
+    same(rt, bind.closing(), OPEN);
+    match bind.unbinding() {
         Unbinding::Sent(_) => {}
         Unbinding::NotYet | Unbinding::Failed(_) | Unbinding::Unasked(_) => {
             panic!(rt; "not unbound")
