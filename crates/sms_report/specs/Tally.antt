@@ -111,16 +111,16 @@ abbrev pub left_of : WayLine → Option ℕ
 left_of line = if ended_in line.tally == 0 then None else Some (capped ((line.all - ended_in line.tally) * line.ms) / ended_in line.tally / 1000)
 
 abbrev pub pace_of : ℕ → Option ℕ → List ℕ
-pace_of rate None = decimal rate ++ codes " a second"
-pace_of rate (Some seconds) = decimal rate ++ codes " a second, " ++ decimal seconds ++ codes " s left"
+pace_of rate None = decimal rate ++ codes "/s"
+pace_of rate (Some seconds) = decimal rate ++ codes "/s, " ++ decimal seconds ++ codes " s left"
 
 abbrev pub pace_text : Pace → List ℕ
 pace_text pace = pace_of pace.rate pace.left
 
 abbrev pub tally_text : Tally → List ℕ
-tally_text tally = codes "charged " ++ decimal tally.charged ++ codes ", refused " ++ decimal tally.refused ++ codes ", unanswered " ++ decimal tally.unanswered
+tally_text tally = codes "charged " ++ decimal tally.charged ++ codes " refused " ++ decimal tally.refused ++ codes " unanswered " ++ decimal tally.unanswered
 
 abbrev pub way_text : WayLine → List ℕ
 way_text line =
-    codes "messages " ++ decimal (ended_in line.tally) ++ codes " of " ++ decimal line.all ++ codes ", " ++ tally_text line.tally
+    decimal (ended_in line.tally) ++ codes "/" ++ decimal line.all ++ codes " " ++ tally_text line.tally
     ++ codes ", " ++ pace_of (rate_of line) (left_of line)

@@ -182,8 +182,8 @@ impl fmt::Display for Pace {
     fn fmt<W: fmt::Write>(&self, f: &mut fmt::Formatter<W>) -> fmt::Result {
         let rate = self.rate;
         match self.left {
-            Some(left) => write!(f, "{rate} a second, {left} s left"),
-            None => write!(f, "{rate} a second"),
+            Some(left) => write!(f, "{rate}/s, {left} s left"),
+            None => write!(f, "{rate}/s"),
         }
     }
 }
@@ -198,7 +198,7 @@ impl fmt::Display for Tally {
         let (charged, refused, unanswered) = (self.charged, self.refused, self.unanswered);
         write!(
             f,
-            "charged {charged}, refused {refused}, unanswered {unanswered}"
+            "charged {charged} refused {refused} unanswered {unanswered}"
         )
     }
 }
@@ -215,6 +215,6 @@ impl fmt::Display for WayLine {
             rate: self.rate(),
             left: self.left(),
         };
-        write!(f, "messages {ended} of {all}, {tally}, {pace}")
+        write!(f, "{ended}/{all} {tally}, {pace}")
     }
 }

@@ -135,14 +135,14 @@ fn tells_how_far_messages_are(rt: HostRuntime) -> Result<(), Fail> {
 #[test]
 fn tells_the_rate_and_the_time_left(rt: HostRuntime) -> Result<(), Fail> {
     let alloc = rt.alloc();
-    let rows: [(u64, u64, u64, u64, u64, &str); 4] = [
+    let rows: [(u64, u64, u64, u64, u64, &str); 6] = [
         (
             0,
             0,
             0,
             500,
             200,
-            "messages 0 of 500, charged 0, refused 0, unanswered 0, 0 a second",
+            "0/500 charged 0 refused 0 unanswered 0, 0/s",
         ),
         // 120 in 2.4 seconds; the other 380 take 7.6.
         (
@@ -151,7 +151,7 @@ fn tells_the_rate_and_the_time_left(rt: HostRuntime) -> Result<(), Fail> {
             2,
             500,
             2400,
-            "messages 120 of 500, charged 110, refused 8, unanswered 2, 50 a second, 7 s left",
+            "120/500 charged 110 refused 8 unanswered 2, 50/s, 7 s left",
         ),
         (
             3,
@@ -159,7 +159,7 @@ fn tells_the_rate_and_the_time_left(rt: HostRuntime) -> Result<(), Fail> {
             0,
             3,
             400,
-            "messages 3 of 3, charged 3, refused 0, unanswered 0, 7 a second, 0 s left",
+            "3/3 charged 3 refused 0 unanswered 0, 7/s, 0 s left",
         ),
         (
             3,
@@ -167,7 +167,24 @@ fn tells_the_rate_and_the_time_left(rt: HostRuntime) -> Result<(), Fail> {
             0,
             4,
             0,
-            "messages 3 of 4, charged 3, refused 0, unanswered 0, 0 a second, 0 s left",
+            "3/4 charged 3 refused 0 unanswered 0, 0/s, 0 s left",
+        ),
+        // As many as a file may have.
+        (
+            10_000,
+            10_000,
+            10_000,
+            100_000,
+            30_000_000,
+            "30000/100000 charged 10000 refused 10000 unanswered 10000, 1/s, 70000 s left",
+        ),
+        (
+            33_333,
+            33_333,
+            33_333,
+            100_000,
+            7,
+            "99999/100000 charged 33333 refused 33333 unanswered 33333, 14285571/s, 0 s left",
         ),
     ];
     for (charged, refused, unanswered, all, ms, wanted) in rows {
@@ -177,7 +194,9 @@ fn tells_the_rate_and_the_time_left(rt: HostRuntime) -> Result<(), Fail> {
             unanswered,
         };
         let line = WayLine { tally, all, ms };
-        same(&rt, line.to_string(alloc)?.as_str(), wanted);
+        let text = line.to_string(alloc)?;
+        same(&rt, text.as_str(), wanted);
+        same(&rt, text.len() < 80, true);
     }
     Ok(())
 }
