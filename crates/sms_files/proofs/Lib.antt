@@ -12,3 +12,4 @@ pub mod Runs
 pub mod Schedules
 pub mod Tariffs
 pub mod Toml
+pub mod Quotes

@@ -5,6 +5,7 @@ pub mod Rows
 pub mod Messages
 pub mod MessageRows
 pub mod Accounts
+pub mod Quoting
 pub mod Rates
 pub mod Config
 pub mod ConfigFaults

@@ -3,6 +3,7 @@
 mod broken;
 mod config;
 mod input;
+mod quoting;
 mod reading;
 mod same;
 mod told;
