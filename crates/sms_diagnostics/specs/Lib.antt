@@ -1,0 +1,7 @@
+pub mod Causes
+pub mod Keys
+pub mod Modes
+pub mod Records
+pub mod Shown
+pub mod Statuses
+pub mod Unsent

@@ -1,0 +1,221 @@
+//! Why the program ends before its work is done, and what is told of that behind its line.
+
+ghost use Rattle.std.specs.Fmt.{WritesOnOk};
+ghost use Rattle.std.specs.Prelude.{◌≡◌};
+ghost use Rattle.sms_diagnostics.specs.Causes.{bind_text, centre_line, file_text, key_line, line, reason_end, range_end, record_line, status_line, words_lines};
+
+use crate::key::range_of;
+use crate::record::{RecordOf, record_of};
+use crate::shown::{write_indented, write_shown};
+use crate::status::status_name;
+use std::fmt;
+
+/// Why a bind failed, where it wasn't refused.
+#[derive(Clone, Copy, Debug, PartialEq, Eq)]
+pub enum BindTrouble {
+    /// There was no connection.
+    NoConnection,
+    /// No sequence_number could be drawn.
+    NoNumber,
+    /// The connection was closed before an answer was whole.
+    Closed,
+    /// What came is no answer to a bind.
+    NotSmpp,
+    /// A read failed, or nothing came in time.
+    Read,
+    /// A write failed.
+    Write,
+}
+
+/// What the system says of a file.
+#[derive(Clone, Copy, Debug, PartialEq, Eq)]
+pub enum FileTrouble {
+    /// There is none of the name.
+    Missing,
+    /// It may not be read by this user.
+    Forbidden,
+    /// It is no file that can be read, but a folder.
+    Folder,
+    /// It can be opened: a journal has to be new.
+    There,
+    /// Something else.
+    Other,
+}
+
+/// Why the program ends before its work is done.
+#[derive(Clone, Copy, Debug)]
+pub enum Cause<'a> {
+    /// The words were refused, by their parser with this message; it is empty where the parser took them.
+    Words(&'a str),
+    /// A file can't be opened or read.
+    File(FileTrouble),
+    /// The record of a file, counted from 1, isn't one that may stand there.
+    Record(RecordOf, usize),
+    /// The config isn't TOML.
+    NotToml,
+    /// The config has no good value of this key, or may not have it.
+    Key(&'a str),
+    /// A bind was refused with this command_status.
+    Refused(u32),
+    /// A bind failed otherwise.
+    Failed(BindTrouble),
+    /// So did one to the message centre of this name and port.
+    FailedAt(&'a str, u32, BindTrouble),
+    /// The journal can't be written.
+    Unnoted,
+    /// By the journal an account is overdrawn.
+    Overdrawn,
+    /// What is to be printed can't be written, once messages were sent.
+    OutputOfSent,
+    /// It can't be written, and nothing was sent.
+    Output,
+    /// Memory was refused, or a thread.
+    OutOfMemory,
+    /// Nothing is wrong.
+    Nothing,
+}
+
+impl<'a> fmt::Display for Cause<'a> {
+    ghost use Rattle.std.specs.Prelude.{Some};
+    ghost use Rattle.sms_diagnostics.specs.Causes.{cause_text};
+
+    ghost output = { λ cause. Some (cause_text cause) };
+
+    fn fmt<W: fmt::Write>(&self, f: &mut fmt::Formatter<W>) -> fmt::Result {
+        match self {
+            Cause::Words(message) => write_words(f, message),
+            Cause::File(why) => write_line(f, file_text(*why)),
+            Cause::Record(file, place) => write_record(f, record_of(*file, *place)),
+            Cause::NotToml => write_line(f, "it should be TOML in UTF-8: lines KEY = VALUE"),
+            Cause::Key(key) => write_key(f, key, range_of(key)),
+            Cause::Refused(status) => write_status(f, *status, status_name(*status)),
+            Cause::Failed(why) => write_line(f, bind_text(*why)),
+            Cause::FailedAt(host, port, why) => write_centre(f, host, *port, bind_text(*why)),
+            Cause::Unnoted => {
+                write_line(
+                    f,
+                    "what was not noted was not sent; a printed report is right",
+                )
+            }
+            Cause::Overdrawn => write_line(f, "it takes more of an account than that has"),
+            Cause::OutputOfSent => {
+                write_line(
+                    f,
+                    "messages were sent: don't send them again before you know which",
+                )
+            }
+            Cause::Output => write_line(f, "nothing was sent"),
+            Cause::OutOfMemory => {
+                write_line(
+                    f,
+                    "memory or a thread was refused; messages may have been sent",
+                )
+            }
+            Cause::Nothing => Ok(()),
+        }
+    }
+}
+
+/// Writes a line of this text.
+fn write_line<W: fmt::Write>(f: &mut fmt::Formatter<W>, text: &str) -> fmt::Result
+    ensures { WritesOnOk W.write_str_gives f.old result (line text.now) f.new }
+{
+    write!(f, "  {text}\n")
+}
+
+/// Writes what the parser says of the words; where it took them, what their numbers should be.
+fn write_words<W: fmt::Write>(f: &mut fmt::Formatter<W>, message: &str) -> fmt::Result
+    ensures { WritesOnOk W.write_str_gives f.old result (words_lines message.now) f.new }
+{
+    if message.is_empty() {
+        f.write_str(
+            "  --connect-ms is 1 to 600000, --rate 1 to 100000, --stop-after 1 to 1000000;\n  --sync needs --journal; all words are UTF-8\n",
+        )
+    } else {
+        f.write_str("  ")?;
+        write_indented(f, message)?;
+        f.write_str("\n")
+    }
+}
+
+/// Writes what a record should be.
+fn write_record<W: fmt::Write>(f: &mut fmt::Formatter<W>, wanted: &str) -> fmt::Result
+    ensures { WritesOnOk W.write_str_gives f.old result (record_line wanted.now) f.new }
+{
+    write!(f, "  it should be {wanted}\n")
+}
+
+/// Writes what a key should hold, or that there is none of its name.
+fn write_key<W: fmt::Write>(f: &mut fmt::Formatter<W>, key: &str, range: &str) -> fmt::Result
+    ensures { WritesOnOk W.write_str_gives f.old result (key_line key.now range.now) f.new }
+{
+    if range.is_empty() {
+        return f.write_str("  there is no such key\n");
+    }
+    f.write_str("  ")?;
+    write_shown(f, key)?;
+    write_range(f, range)
+}
+
+/// Writes what it should hold, behind it.
+fn write_range<W: fmt::Write>(f: &mut fmt::Formatter<W>, range: &str) -> fmt::Result
+    ensures { WritesOnOk W.write_str_gives f.old result (range_end range.now) f.new }
+{
+    write!(f, " should be {range}\n")
+}
+
+/// Writes a status and its name.
+fn write_status<W: fmt::Write>(f: &mut fmt::Formatter<W>, status: u32, name: &str) -> fmt::Result
+    ensures { WritesOnOk W.write_str_gives f.old result (status_line status name.now) f.new }
+{
+    write!(f, "  {status} {name}\n")
+}
+
+/// Writes of which message centre something is told, and what.
+fn write_centre<W: fmt::Write>(
+    f: &mut fmt::Formatter<W>,
+    host: &str,
+    port: u32,
+    why: &str,
+) -> fmt::Result
+    ensures { WritesOnOk W.write_str_gives f.old result (centre_line host.now port why.now) f.new }
+{
+    f.write_str("  ")?;
+    write_shown(f, host)?;
+    write_reason(f, port, why)
+}
+
+/// Writes its port and what is told of it, behind its name.
+fn write_reason<W: fmt::Write>(f: &mut fmt::Formatter<W>, port: u32, why: &str) -> fmt::Result
+    ensures { WritesOnOk W.write_str_gives f.old result (reason_end port why.now) f.new }
+{
+    write!(f, ":{port}: {why}\n")
+}
+
+/// What is told of a file.
+fn file_text(why: FileTrouble) -> &'static str
+    ensures { result.now ≡ file_text why }
+{
+    match why {
+        FileTrouble::Missing => "there is no such file",
+        FileTrouble::Forbidden => "this user may not read it",
+        FileTrouble::Folder => "it is no file, but a folder",
+        FileTrouble::There =>
+            "it is there, and a journal is made new; else it can't be read to its end",
+        FileTrouble::Other => "it can't be opened, or not be read to its end",
+    }
+}
+
+/// What is told of a bind.
+fn bind_text(why: BindTrouble) -> &'static str
+    ensures { result.now ≡ bind_text why }
+{
+    match why {
+        BindTrouble::NoConnection => "no connection: refused, no such host, or it took too long",
+        BindTrouble::NoNumber => "no sequence_number is left",
+        BindTrouble::Closed => "the connection was closed before an answer",
+        BindTrouble::NotSmpp => "what came is no SMPP, or no answer to a bind",
+        BindTrouble::Read => "no answer came in time, or the connection failed",
+        BindTrouble::Write => "the bind could not be written",
+    }
+}

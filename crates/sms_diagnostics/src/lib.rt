@@ -1,0 +1,18 @@
+//! What an operator is told of a fault behind its one line: what was expected in place of what was
+//! found, what a status is called, and what has been sent. All of it is read off one table, `Cause`.
+
+#![tactic(auto)]
+
+mod cause;
+mod key;
+mod mode;
+mod record;
+mod shown;
+mod status;
+mod unsent;
+
+pub use cause::{BindTrouble, Cause, FileTrouble};
+pub use mode::is_open_to_others;
+pub use record::RecordOf;
+pub use shown::write_shown;
+pub use unsent::{Closing, Hindrance, UnsentLine};

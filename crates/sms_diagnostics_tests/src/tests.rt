@@ -1,0 +1,4 @@
+//! What is told of causes, worked out by hand.
+
+mod causes;
+mod same;
