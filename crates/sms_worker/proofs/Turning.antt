@@ -25,7 +25,7 @@ use Rattle.sms_worker.specs.Rising.{HasNext, IsNext, IsThere}
 use Rattle.sms_worker.specs.RunState.{RunState}
 use Rattle.sms_worker.specs.Steps.{Opens, Tries}
 use Rattle.sms_worker.specs.Sweeps.{SweptAt}
-use Rattle.sms_worker.specs.TextsState.{TextsState}
+use Rattle.sms_worker.specs.TextsState.{LeavesTexts, TextsState}
 use Rattle.sms_worker.specs.Turns.{AreSteps, IsStep, IsTried, IsTry, Starts, are_some}
 use Rattle.sms_worker.proofs.EndLemmas.{put_same}
 
@@ -72,7 +72,7 @@ given_so most t place old new es h is swept =
     inr (subst (λ (x : RunState). SweptAt most place.message place.part x.ends es) same swept)
 
 -- a segment was found, tried, and taken from where it was found
-module _ (most now : ℕ) (a b c d e : RunState) (place : SegmentPlace) (look : b ≡ record a { closed = b.closed }) (left : (c.queues ≡ b.queues) × (c.texts ≡ b.texts) × (c.next ≡ b.next)) (ended : (e.queues ≡ d.queues) × (e.next ≡ d.next)) (tried : IsTried most place b.ends e.ends) where
+module _ (most now : ℕ) (a b c d e : RunState) (place : SegmentPlace) (look : b ≡ record a { closed = b.closed }) (left : (c.queues ≡ b.queues) × (c.texts ≡ b.texts) × (c.next ≡ b.next)) (kept : d.texts ≡ c.texts) (ended : (e.queues ≡ d.queues) × (e.next ≡ d.next)) (dropped : LeavesTexts place.message d.texts e.texts) (tried : IsTried most place b.ends e.ends) where
   queues_are : c.queues ≡ a.queues
   queues_are = left.0 ∙ ap (λ (x : RunState). x.queues) look
 
@@ -81,6 +81,9 @@ module _ (most now : ℕ) (a b c d e : RunState) (place : SegmentPlace) (look : 
 
   next_is : c.next ≡ a.next
   next_is = left.2 ∙ ap (λ (x : RunState). x.next) look
+
+  texts_then : LeavesTexts place.message a.texts e.texts
+  texts_then = subst (λ l. LeavesTexts place.message l e.texts) (kept ∙ texts_are) dropped
 
   tried_then : IsTried most place a.ends e.ends
   tried_then = subst (λ (x : RunState). IsTried most place x.ends e.ends) look tried
@@ -92,6 +95,7 @@ module _ (most now : ℕ) (a b c d e : RunState) (place : SegmentPlace) (look : 
     due = subst (λ (x : RunState). IsFirstDue x.texts x.queues now place k) look due;
     taken = subst (λ l. IsTaken a.texts k a.queues l) (sym ended.0) (subst (λ l. IsTaken a.texts k l d.queues) queues_are (subst (λ l. IsTaken l k c.queues d.queues) texts_are taken));
     next = ended.1 ∙ same ∙ next_is;
+    texts = texts_then;
     tried = tried_then;
   })
 
@@ -103,6 +107,7 @@ module _ (most now : ℕ) (a b c d e : RunState) (place : SegmentPlace) (look : 
     there = subst (λ (x : RunState). IsThere x.ends place) look there;
     queues = ended.0 ∙ same ∙ queues_are;
     next = ended.1 ∙ more ∙ ap (λ n. min (n + 1) (2 ^ 64 - 1)) next_is;
+    texts = texts_then;
     tried = tried_then;
   }))
 

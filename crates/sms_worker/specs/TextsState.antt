@@ -1,5 +1,5 @@
 -- What is kept of a message that was begun, as contracts see it.
-use Rattle.std.specs.Prelude.{◌≡◌, ℕ, zero, suc, ◌-◌, List, [], ◌∷◌, length, map, Option, None, Some, option_and_then, slice_get, nat_le, if◌then◌else◌}
+use Rattle.std.specs.Prelude.{◌≡◌, ℕ, zero, suc, ◌-◌, ◌⊎◌, List, [], ◌∷◌, length, map, Option, None, Some, option_and_then, slice_get, nat_le, if◌then◌else◌}
 use Rattle.sms_segment.specs.declared.part.Part.{Part}
 use Rattle.sms_worker.specs.declared.open.SegmentPlace.{SegmentPlace}
 use Rattle.sms_worker.specs.declared.texts.Kept.{Kept}
@@ -59,6 +59,10 @@ kept_at texts place = option_and_then (λ t. slice_get t.kept place.part) (slice
 abbrev pub link_of : Option Kept → Link
 link_of None = no_link
 link_of (Some kept) = kept.link
+
+-- what is kept stays, or counts a segment more of the message as settled
+abbrev pub LeavesTexts : ℕ → List TextsState → List TextsState → Type 0
+LeavesTexts message old new = (new ≡ old) ⊎ (new ≡ changed settled_one old message)
 
 -- no part of the message is in a queue
 abbrev pub AreUnlinked : TextsState → Type 0

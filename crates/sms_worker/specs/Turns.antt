@@ -13,6 +13,7 @@ use Rattle.sms_worker.specs.Queues.{IsFirstDue, IsTaken, NoneIsDue}
 use Rattle.sms_worker.specs.Rising.{HasNext, IsNext, IsThere}
 use Rattle.sms_worker.specs.RunState.{RunState}
 use Rattle.sms_worker.specs.Sweeps.{SweptAt}
+use Rattle.sms_worker.specs.TextsState.{LeavesTexts}
 
 -- the segment at the place was sent with this number, and nothing else changed
 pub record SentAt (n : ℕ) (place : SegmentPlace) (old new : List MessageEnd) : Type 0 where
@@ -38,6 +39,7 @@ pub record TriesRetry (most now : ℕ) (old new : RunState) : Type 0 where
   pub due : IsFirstDue old.texts old.queues now place queue
   pub taken : IsTaken old.texts queue old.queues new.queues
   pub next : new.next ≡ old.next
+  pub texts : LeavesTexts place.message old.texts new.texts
   pub tried : IsTried most place old.ends new.ends
 
 -- none is due, and the next part of the last message was tried
@@ -48,6 +50,7 @@ pub record TriesNext (most now : ℕ) (old new : RunState) : Type 0 where
   pub there : IsThere old.ends place
   pub queues : new.queues ≡ old.queues
   pub next : new.next ≡ min (old.next + 1) (2 ^ 64 - 1)
+  pub texts : LeavesTexts place.message old.texts new.texts
   pub tried : IsTried most place old.ends new.ends
 
 -- none is due and all parts were tried, and a message was begun

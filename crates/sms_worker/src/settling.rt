@@ -13,7 +13,7 @@ ghost use Rattle.sms_worker.specs.Queues.{WaitsLast, due_after, last_in};
 ghost use Rattle.sms_worker.specs.Rising.{HasTurn, WasSent};
 ghost use Rattle.sms_worker.specs.Steps.{SettlesTo, settled_to, outcome_after};
 ghost use Rattle.sms_worker.specs.Sweeps.{SweptAt, InPlace};
-ghost use Rattle.sms_worker.specs.TextsState.{changed, settled_one};
+ghost use Rattle.sms_worker.specs.TextsState.{LeavesTexts, changed, settled_one};
 ghost use Rattle.sms_worker.specs.Told.{HeardSince, IsSettled};
 ghost use Rattle.sms_worker.specs.Turns.{IsTry};
 
@@ -91,6 +91,7 @@ impl<N: BookName, C: Call> Run<'_, N, C> {
         ensures in_place { InPlace self.old.ends self.new.ends }
         ensures long { length self.new.ends ≡ length self.old.ends }
         ensures left { (self.new.queues ≡ self.old.queues) × (self.new.next ≡ self.old.next) }
+        ensures texts { LeavesTexts place.message self.old.texts self.new.texts }
     {
         if self.end_waiting(context, place) {
             self.forget(context.alloc, place);
@@ -142,6 +143,7 @@ impl<N: BookName, C: Call> Run<'_, N, C> {
         ensures in_place { InPlace self.old.ends self.new.ends }
         ensures long { length self.new.ends ≡ length self.old.ends }
         ensures left { (self.new.queues ≡ self.old.queues) × (self.new.next ≡ self.old.next) }
+        ensures texts { self.new.texts ≡ self.old.texts }
     {
         if place.message >= self.messages.len() {
             return false;

@@ -1,4 +1,4 @@
-use Rattle.std.proofs.Common.{List, Some, refl, sym, ap, subst, rules, ◌∙◌}
+use Rattle.std.proofs.Common.{List, Some, inl, refl, sym, ap, subst, rules, ◌∙◌}
 use Rattle.sms_worker.specs.declared.ends.MessageEnd.{MessageEnd}
 use Rattle.sms_worker.specs.declared.turns.Source.{Source}
 use Rattle.sms_worker.specs.Sweeps.{SweptAt}
@@ -34,7 +34,7 @@ returns-in-Sent g c =
     record {
       heard = c.advance.ensures.same.0 ∙ c.attempt.ensures.heard ∙ c.sees_closed-closed.ensures.same.0;
       step = stepped _ c.args.now_ms c.args.self.now c.sees_closed-closed.new.self c.attempt.new.self c.advance.new.self c.advance.new.self at c.sees_closed-closed.ensures.only
-          (still_there c.attempt.result at c.sees_closed-closed.new.self c.attempt.new.self c.attempt.ensures.tried) (refl, refl)
+          (still_there c.attempt.result at c.sees_closed-closed.new.self c.attempt.new.self c.attempt.ensures.tried) c.advance.ensures.same.2 (refl, refl) (inl refl)
           (subst (IsTried _ at c.sees_closed-closed.new.self.ends) (sym c.advance.ensures.same.1) tried)
           c.in-Some.source (λ k e. c.next_place.ensures.retry at k (c.in-Some.is ∙ ap (λ (x : Source). Some (at, x)) e)) (λ e. c.next_place.ensures.fresh at (c.in-Some.is ∙ ap (λ (x : Source). Some (at, x)) e))
           c.advance.ensures.taken c.advance.ensures.next;
@@ -55,7 +55,7 @@ returns-in-Never g c =
     record {
       heard = c.give_up.ensures.heard ∙ c.advance-in-Never.ensures.same.0 ∙ c.attempt.ensures.heard ∙ c.sees_closed-closed.ensures.same.0;
       step = stepped _ c.args.now_ms c.args.self.now c.sees_closed-closed.new.self c.attempt.new.self c.advance-in-Never.new.self c.give_up.new.self at c.sees_closed-closed.ensures.only
-          (still_there c.attempt.result at c.sees_closed-closed.new.self c.attempt.new.self c.attempt.ensures.tried) c.give_up.ensures.left tried
+          (still_there c.attempt.result at c.sees_closed-closed.new.self c.attempt.new.self c.attempt.ensures.tried) c.advance-in-Never.ensures.same.2 c.give_up.ensures.left c.give_up.ensures.texts tried
           c.in-Some.source (λ k e. c.next_place.ensures.retry at k (c.in-Some.is ∙ ap (λ (x : Source). Some (at, x)) e)) (λ e. c.next_place.ensures.fresh at (c.in-Some.is ∙ ap (λ (x : Source). Some (at, x)) e))
           c.advance-in-Never.ensures.taken c.advance-in-Never.ensures.next;
     }
