@@ -8,7 +8,7 @@
 //! the line is down, since the worker that failed takes it down behind its ring; so nobody rests long at
 //! such a bind: one that looked before it was marked is rung behind the mark.
 
-ghost use Rattle.std.specs.Prelude.{◌≡◌};
+ghost use Rattle.std.specs.Prelude.{◌≡◌, ◌≤◌, ◌↔◌, IsTrue};
 ghost use Rattle.sms_devices.specs.Rests.{rest_ms};
 
 use crate::outbox::Outboxes;
@@ -17,13 +17,17 @@ use crate::wakes::Owners;
 use sms_worker::Pause;
 use std::array;
 use std::fs::OpenFile;
+use std::io;
 use std::io::Write;
 use std::sync::atomic::{AtomicBool, AtomicU32, Ordering};
 use std::sync::{Condvar, Mutex, Wait};
-use std::time::{Clock, Duration};
+use std::time::{Clock, Duration, Instant};
 
 /// How long a worker rests at most, in milliseconds: what a person sees of a sending goes on meanwhile.
 const MOST_REST_MS: u64 = 100;
+
+/// From how many microseconds on a rest is long: the answers come in bursts then, or seldom.
+const LONG_REST_US: u128 = 1_000;
 
 /// A bell that ends the waits of one thread.
 #[derive(Drop)]
@@ -157,6 +161,24 @@ fn rest_ms(ms: u32, most: u64, is_told: bool) -> u64
     }
 }
 
+/// Whether a rest of so many microseconds was long.
+fn is_long(us: u128) -> bool
+    ensures { IsTrue result ↔ (1000 ≤ us) }
+{
+    us >= LONG_REST_US
+}
+
+/// Whether a rest that began then was long. Where the clock can't be read it wasn't.
+fn was_long<R: Clock>(rt: &R, begun: &io::Result<Instant>) -> bool {
+    let Ok(begun) = begun else {
+        return false;
+    };
+    match begun.elapsed(rt) {
+        Ok(passed) => is_long(passed.as_micros()),
+        Err(_unread) => false,
+    }
+}
+
 /// A pause that a bell ends early. Whoever is about to wait sends what waits to be written first.
 #[derive(Drop)]
 pub struct Rest<'r, 'j, R: Wait, F: Write + OpenFile> {
@@ -177,6 +199,8 @@ impl<'r, 'j, R: Wait + Clock, F: Write + OpenFile> Pause for Rest<'r, 'j, R, F> 
         let bind = bells.bind_of(worker);
         self.outboxes.flush_bind(bind);
         let ms = rest_ms(ms, most, bells.is_told(bind));
+        let begun = Instant::now(self.rt);
         bells.wait(self.rt, worker, ms);
+        self.outboxes.begin(bind, was_long(self.rt, &begun));
     }
 }

@@ -18,6 +18,7 @@ mod owning;
 mod progress;
 mod rated;
 mod ringing;
+mod room;
 mod silence;
 mod standard;
 mod stopping;

@@ -1,7 +1,7 @@
 //! What the wires have written and the connections haven't taken yet: the requests of a turn go out
 //! together, and not by a write each. Before any of it is written the journal of the run is let out.
 
-ghost use Rattle.std.specs.Prelude.{◌≡◌, [], IsErr, None, false, is_err, option_copied, true};
+ghost use Rattle.std.specs.Prelude.{◌≡◌, ◌+◌, ◌<◌, ◌≤◌, [], IfOk, IsErr, None, false, if◌then◌else◌, is_err, length, min, option_copied, true};
 ghost use Rattle.std.specs.Io.{WritesAtMost};
 ghost use Rattle.std.specs.Io.KnownBytes.{Keeps, WriteAppends};
 ghost use Rattle.sms_devices.specs.Outboxes.{outbox_of, put_in, waiting_in};
@@ -20,6 +20,18 @@ use std::time::Duration;
 /// How many octets wait at most: some fifty requests. Fewer cost a call of the system more often, and
 /// of more the answers to the requests of a turn come in bursts, between which the connection idles.
 const MOST_WAITING: usize = 8_192;
+
+/// How many octets wait at most behind a long wait: some six requests, so that the message centre works at
+/// the first of a burst while the rest of it is made.
+const FIRST_WAITING: usize = 1_024;
+
+/// How many octets wait at most behind a long wait, where the run has a journal or not: it is let out before
+/// each write, which may wait for a disk, so that no write is made before it has to be.
+fn first_waiting(has_journal: bool) -> usize
+    ensures { result ≡ (if has_journal then 8192 else 1024) }
+{
+    if has_journal { MOST_WAITING } else { FIRST_WAITING }
+}
 
 /// A connection to which nothing is written before what was noted of it is in the journal, where the
 /// run has one.
@@ -79,10 +91,22 @@ impl<'j, W: Shut, R, F> Shut for Guarded<'j, W, R, F> {
     }
 }
 
+/// How many octets may wait the next time, where so many had to be written to make room for more: twice as
+/// many.
+fn next_waiting(waiting: usize) -> usize
+    ensures { result ≡ min (waiting + waiting) 8192 }
+{
+    waiting.saturating_add(waiting).min(MOST_WAITING)
+}
+
 /// A connection's writer, and whether it has failed. What waited then is lost.
 #[derive(Drop)]
 struct Held<W: Write + Shut + Drop> {
     writer: BufWriter<W>,
+    /// How many octets wait at most behind a long wait.
+    first_waiting: usize,
+    /// How many octets wait at most now: with so many they are written before more is put to them.
+    most_waiting: usize,
     is_broken: bool,
 }
 
@@ -98,11 +122,40 @@ impl<W: Write + Shut + Drop> Held<W> {
         if self.is_broken {
             return Err(Error::from(ErrorKind::BrokenPipe));
         }
-        let put = self.writer.write(octets);
+        let put = self.put_behind(octets);
         if put.is_err() {
             self.give_up(Shutdown::Write);
         }
         put
+    }
+
+    /// From now on fewer octets wait, until more are put than do, where nobody put any for long; otherwise as
+    /// many as there is room for.
+    fn begin(&mut self, waited_long: bool)
+        ensures waiting { self.new.most_waiting ≡ (if waited_long then self.old.first_waiting else 8192) }
+        ensures same { (self.new.writer ≡ self.old.writer) × (self.new.is_broken ≡ self.old.is_broken) × (self.new.first_waiting ≡ self.old.first_waiting) }
+    {
+        self.most_waiting = if waited_long {
+            self.first_waiting
+        } else {
+            MOST_WAITING
+        };
+    }
+
+    /// Puts octets behind what waits, which is written first where it is as much as may wait now. More may
+    /// wait then.
+    fn put_behind(&mut self, octets: &[u8]) -> io::Result<usize>
+        ensures bound { WritesAtMost result octets.now }
+        ensures bytes { WriteAppends (put_in W.contents self.old) (put_in W.contents self.new) result octets.now }
+        ensures same { (self.new.is_broken ≡ self.old.is_broken) × (self.new.first_waiting ≡ self.old.first_waiting) }
+        ensures room { length (waiting_in self.old) < self.old.most_waiting → self.new.most_waiting ≡ self.old.most_waiting }
+        ensures more { self.old.most_waiting ≤ length (waiting_in self.old) → IfOk result (λ _. self.new.most_waiting ≡ min (self.old.most_waiting + self.old.most_waiting) 8192) }
+    {
+        if self.writer.buffer().len() >= self.most_waiting {
+            self.writer.flush()?;
+            self.most_waiting = next_waiting(self.most_waiting);
+        }
+        self.writer.write(octets)
     }
 
     /// Writes what waits.
@@ -147,9 +200,12 @@ impl<'j, R: Wait, F: Write + OpenFile> Outbox<'j, R, F> {
     /// Keeps what is written to this connection from now on. None where memory runs out.
     pub fn open(&self, alloc: Global, connection: Guarded<'j, TcpStream, R, F>) -> Option<()> {
         let rt = connection.rt;
+        let first_waiting = first_waiting(connection.journal.is_some());
         let writer = BufWriter::with_capacity(alloc, MOST_WAITING, connection).ok()?;
         *self.held.lock(rt) = Some(Held {
             writer,
+            first_waiting,
+            most_waiting: first_waiting,
             is_broken: false,
         });
         Some(())
@@ -170,6 +226,16 @@ impl<'j, R: Wait, F: Write + OpenFile> Outbox<'j, R, F> {
     fn give_up(&self, rt: &R) {
         if let Some(open) = self.held.lock(rt).as_mut() {
             open.give_up(Shutdown::Both);
+        }
+    }
+
+    /// What is put from now on comes behind a wait, a long one or not; as it was where someone uses the outbox
+    /// now.
+    fn begin(&self, waited_long: bool) {
+        if let Some(mut held) = self.held.try_lock() {
+            if let Some(open) = held.as_mut() {
+                open.begin(waited_long);
+            }
         }
     }
 
@@ -273,6 +339,15 @@ impl<'j, R: Wait, F: Write + OpenFile> Outboxes<'j, R, F> {
             }
         }
         let _let_out = let_out_of(self.rt, self.journal);
+    }
+
+    /// What is put for the connection of this bind from now on comes behind a wait, a long one or not.
+    pub fn begin(&self, bind: usize, waited_long: bool) {
+        if let Ok(bind) = u32::try_from(bind) {
+            if let Some(outbox) = self.get(bind) {
+                outbox.begin(waited_long);
+            }
+        }
     }
 
     /// Writes what waits for any connection, and then what is left to be noted.

@@ -1,15 +1,18 @@
-//! A gate that keeps whose request each number is.
+//! A gate that keeps whose request each number is, and gets memory for what a worker keeps.
 
 use crate::bell::Bells;
+use crate::room::get_room;
 use sms_pdu::Reply;
 use sms_worker::{Gate, MessageEnd, MessageRefusal};
+use std::alloc::Global;
 
 /// A gate that asks another, and keeps which worker sends each number, so that the answer to it wakes
-/// that worker alone.
+/// that worker alone. Some messages get memory for those that follow.
 #[derive(Drop)]
 pub struct Owning<'r, G> {
     pub gate: &'r G,
     pub bells: &'r Bells,
+    pub alloc: Global,
 }
 
 impl<'r, G: Gate> Gate for Owning<'r, G> {
@@ -37,6 +40,7 @@ impl<'r, G: Gate> Gate for Owning<'r, G> {
     }
 
     fn begun(&self, worker: usize, message: u64) {
+        get_room(self.alloc, message);
         self.gate.begun(worker, message);
     }
 

@@ -44,7 +44,11 @@ pub fn send_paced<
 {
     let bells = outboxes.bells();
     bells.set_workers(input.config().limits.workers);
-    let owning = Owning { gate, bells };
+    let owning = Owning {
+        gate,
+        bells,
+        alloc: rt.alloc(),
+    };
     send_stopping(rt, input, &*outboxes, dial, &owning, clock, pause, pace)
 }
 

@@ -90,6 +90,7 @@ fn wakes_whom_an_answer_is_for(rt: HostRuntime) {
     let gate = Owning {
         gate: &OpenGate,
         bells,
+        alloc: rt.alloc(),
     };
     assert!(rt; gate.sending(1, 7, 0, 0) && gate.sending(3, 8, 0, 0));
     bring(&rt, &mut far, &mut reader, &ANSWER[..17]);

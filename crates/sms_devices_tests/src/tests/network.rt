@@ -139,7 +139,25 @@ fn writes_before_it_reads(rt: HostRuntime) {
     want(&rt, &mut far, b"two");
 }
 
-/// What is put waits until there are more than 8,192 octets of it, and goes out in one piece.
+// So many octets come in.
+fn want_octets(rt: &impl Abort, far: &mut TcpStream, wanted: usize) {
+    let mut octets = [0u8; 9_000];
+    match far.read(&mut octets) {
+        Ok(count) => same(rt, count, wanted),
+        Err(_) => panic!(rt; "nothing came"),
+    }
+}
+
+// 512 octets are put so often, and nothing goes out.
+fn holds(rt: &impl Abort, writer: &mut impl Write, far: &mut TcpStream, puts: u32) {
+    for _put in 0..puts {
+        put(rt, writer, &[7u8; 512]);
+    }
+    want_nothing(rt, far);
+}
+
+/// What is put waits until there are 8,192 octets of it, and goes out in one piece. Behind a long wait it
+/// goes out by 1,024 octets, then by twice as many each time.
 #[test]
 fn keeps_8192_octets(rt: HostRuntime) {
     let outboxes = Outboxes::new(&rt, no_journal());
@@ -157,15 +175,21 @@ fn keeps_8192_octets(rt: HostRuntime) {
     };
     let mut far = accepted(&rt, &listener);
     assert!(rt; far.set_nonblocking(true).is_ok());
-    for _half in 0..2 {
-        put(&rt, &mut writer, &[7u8; 4_096]);
-    }
-    want_nothing(&rt, &mut far);
-    put(&rt, &mut writer, &[8u8]);
-    let mut octets = [0u8; 9_000];
-    match far.read(&mut octets) {
-        Ok(count) => same(&rt, count, 8_192),
-        Err(_) => panic!(rt; "nothing came"),
+    let rest = Rest {
+        rt: &rt,
+        outboxes: &outboxes,
+    };
+    outboxes.begin(0, false);
+    holds(&rt, &mut writer, &mut far, 16);
+    put(&rt, &mut writer, &[8u8; 512]);
+    want_octets(&rt, &mut far, 8_192);
+    rest.wait(0, 5, 0);
+    want_octets(&rt, &mut far, 512);
+    holds(&rt, &mut writer, &mut far, 2);
+    for (wanted, puts) in [(1_024, 4), (2_048, 8), (4_096, 16), (8_192, 16)] {
+        put(&rt, &mut writer, &[8u8; 512]);
+        want_octets(&rt, &mut far, wanted);
+        holds(&rt, &mut writer, &mut far, puts - 1);
     }
 }
 
