@@ -3,7 +3,6 @@ pub mod Charging
 pub mod Covering
 pub mod Jobs
 pub mod Lines
-pub mod Names
 pub mod Noting
 pub mod Plans
 pub mod Quoting

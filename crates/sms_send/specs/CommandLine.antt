@@ -1,5 +1,5 @@
 -- The command line, in the words of the parser, and the job that it asks for.
-use Rattle.std.specs.Prelude.{◌≡◌, ◌≢◌, ◌⊎◌, nat_le, ℕ, String, Bool, true, false, List, [], ◌∷◌, Option, Some, None, codes, option_and_then, option_map, if◌then◌else◌}
+use Rattle.std.specs.Prelude.{◌≡◌, ◌≢◌, ◌⊎◌, ◌||◌, nat_le, ℕ, String, Bool, true, false, List, [], ◌∷◌, Option, Some, None, codes, option_and_then, option_map, if◌then◌else◌}
 use Rattle.std.specs.Str.{bytes_eq}
 use Rattle.std.specs.String.{string_bytes}
 use Rattle.std.specs.declared.alloc.Global.{Global}
@@ -43,17 +43,21 @@ value_rule name = record (new_rule name) { long = Some name; value_names = 1 }
 abbrev pub flag_rule : Text → Rule
 flag_rule name = record (new_rule name) { long = Some name; action = Some SetTrue }
 
+-- every subcommand may be asked to tell more of a fault
+abbrev pub verbose_rule : Rule
+verbose_rule = flag_rule (codes "verbose")
+
 -- `replay FILE`
 abbrev pub replay_line : App
-replay_line = with_rule (new_app (codes "replay")) (name_rule (codes "FILE"))
+replay_line = with_rules (new_app (codes "replay")) (name_rule (codes "FILE") ∷ verbose_rule ∷ [])
 
 -- `plan --messages FILE`, with `--long` or without
 abbrev pub plan_line : App
-plan_line = with_rules (new_app (codes "plan")) (file_rule (codes "messages") ∷ flag_rule (codes "long") ∷ [])
+plan_line = with_rules (new_app (codes "plan")) (file_rule (codes "messages") ∷ flag_rule (codes "long") ∷ verbose_rule ∷ [])
 
 -- `quote --config FILE`
 abbrev pub quote_line : App
-quote_line = with_rule (new_app (codes "quote")) (file_rule (codes "config"))
+quote_line = with_rules (new_app (codes "quote")) (file_rule (codes "config") ∷ verbose_rule ∷ [])
 
 -- what bounds a sending
 abbrev pub pace_rules : List Rule
@@ -62,15 +66,15 @@ pace_rules = value_rule (codes "connect-ms") ∷ value_rule (codes "rate") ∷ v
 -- `loop --config FILE` or `send --config FILE`, with the other words or without
 abbrev pub sender_line : Text → App
 sender_line name = with_rules
-    (with_rules (new_app name) (file_rule (codes "config") ∷ flag_rule (codes "quiet") ∷ value_rule (codes "journal") ∷ flag_rule (codes "sync") ∷ flag_rule (codes "strict") ∷ []))
+    (with_rules (new_app name) (file_rule (codes "config") ∷ flag_rule (codes "quiet") ∷ value_rule (codes "journal") ∷ flag_rule (codes "sync") ∷ flag_rule (codes "strict") ∷ verbose_rule ∷ []))
     pace_rules
 
 -- `recover --config FILE --journal FILE`, and `rest --config FILE --report FILE`, with `--accounts` or without
 abbrev pub recover_line : App
-recover_line = with_rules (new_app (codes "recover")) (file_rule (codes "config") ∷ file_rule (codes "journal") ∷ [])
+recover_line = with_rules (new_app (codes "recover")) (file_rule (codes "config") ∷ file_rule (codes "journal") ∷ verbose_rule ∷ [])
 
 abbrev pub rest_line : App
-rest_line = with_rules (new_app (codes "rest")) (file_rule (codes "config") ∷ file_rule (codes "report") ∷ flag_rule (codes "accounts") ∷ [])
+rest_line = with_rules (new_app (codes "rest")) (file_rule (codes "config") ∷ file_rule (codes "report") ∷ flag_rule (codes "accounts") ∷ verbose_rule ∷ [])
 
 -- the program before its subcommands: it has a version, and its own name is not among the words
 abbrev pub program_line : App
@@ -144,6 +148,7 @@ pub record HasPace (rows : List Row) (pace : Pace) : Type 0 where
 pub record AsksToSend (rows : List Row) (order : Order) : Type 0 where
   pub config : first_of (codes "config") rows ≡ Some (string_bytes order.config)
   pub quiet : is_set (first_of (codes "quiet") rows) ≡ order.quiet
+  pub verbose : is_set (first_of (codes "verbose") rows) ≡ order.verbose
   pub journal : AsksToNote rows order.journal
   pub pace : HasPace rows order.pace
   pub strict : is_set (first_of (codes "strict") rows) ≡ order.strict
@@ -220,3 +225,8 @@ TellsRefusal kinds _ = ⊥
 abbrev pub TellsWords : List Text → Fault → Type 0
 TellsWords words fault =
     TellsRefusal (refusals_of words) fault ⊎ ((refusals_of words ≡ []) × TellsMet (subcommand_in words) fault)
+
+-- one of the words asks for more to be told of a fault, also where they are refused
+abbrev pub asks_for_more : List Text → Bool
+asks_for_more [] = false
+asks_for_more (word ∷ words) = bytes_eq word (codes "--verbose") || asks_for_more words

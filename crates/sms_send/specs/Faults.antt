@@ -1,9 +1,6 @@
 -- The line that tells a fault, the exit status that it ends the program with, and what the faults of the crates below are told as.
-use Rattle.std.specs.Prelude.{◌≡◌, ℕ, ◌/◌, ◌%◌, ◌==◌, false, List, ◌++◌, if◌then◌else◌, codes, decimal, string_bytes}
-use Rattle.std.specs.Char.{encode_utf8, is_control}
-use Rattle.std.specs.Fmt.{radix_digits}
-use Rattle.std.specs.List.{flat_map}
-use Rattle.std.specs.Str.{chars}
+use Rattle.std.specs.Prelude.{◌≡◌, ℕ, List, ◌++◌, codes, decimal, string_bytes}
+use Rattle.sms_diagnostics.specs.Shown.{shown}
 use Rattle.sms_send.specs.declared.fault.Fault.{Fault}
 use Rattle.sms_send.specs.declared.fault.Fault.TheVariants.{Words, Help, Version, File, Unreadable, BadRecord, NotToml, BadKey, BindRefused, BindFailed, BadNote, BadReport, Journal, Output, OutOfMemory}
 use Rattle.sms_driver.specs.declared.fault.SendFault.{SendFault}
@@ -16,20 +13,6 @@ use Rattle.sms_recovery.specs.declared.fault.RecoveryFault.TheVariants as recove
 use Rattle.sms_report.specs.declared.fault.OutputFault.{OutputFault}
 use Rattle.sms_report.specs.declared.fault.OutputFault.TheVariants as output
 
--- a control character of a name, written out: line feed, carriage return and tab by their letters, each other by its code
-abbrev pub written_out : ℕ → List ℕ
-written_out c =
-    if c == 10 then codes "\\n" else (if c == 13 then codes "\\r" else (if c == 9 then codes "\\t"
-    else codes "\\x" ++ radix_digits 16 false (c / 16) ++ radix_digits 16 false (c % 16)))
-
--- a character of a name, as a fault shows it
-abbrev pub shown_char : ℕ → List ℕ
-shown_char c = if is_control c then written_out c else encode_utf8 c
-
--- a name that comes from outside, which may hold anything: shown so, a fault stays one line
-abbrev pub shown : List ℕ → List ℕ
-shown name = flat_map shown_char (chars name)
-
 -- help and the version are the parser's own texts
 abbrev pub fault_text : Fault → List ℕ
 fault_text Words = codes "fault: words"
@@ -41,7 +24,7 @@ fault_text (BadRecord source place) = codes "fault: " ++ source_name source ++ c
 fault_text NotToml = codes "fault: config"
 fault_text (BadKey key) = codes "fault: config " ++ shown (string_bytes key)
 fault_text (BindRefused bind status) = codes "fault: bind " ++ decimal bind ++ codes " refused " ++ decimal status
-fault_text (BindFailed bind) = codes "fault: bind " ++ decimal bind ++ codes " failed"
+fault_text (BindFailed bind why) = codes "fault: bind " ++ decimal bind ++ codes " failed"
 fault_text (BadNote place) = codes "fault: journal record " ++ decimal place
 fault_text (BadReport place) = codes "fault: report record " ++ decimal place
 fault_text Journal = codes "fault: journal"
@@ -53,7 +36,7 @@ status_of Words = 2
 status_of (Help text) = 0
 status_of (Version text) = 0
 status_of (BindRefused bind status) = 3
-status_of (BindFailed bind) = 3
+status_of (BindFailed bind why) = 3
 status_of _ = 1
 
 -- what is wrong with what was read, as the program tells it
@@ -67,7 +50,7 @@ told_input input.OutOfMemory = OutOfMemory
 -- why nothing is told of a sending; a thread that is refused is told as want of memory
 abbrev pub told_sending : SendFault → Fault
 told_sending (send.BindRefused bind status) = BindRefused bind status
-told_sending (send.BindFailed bind why) = BindFailed bind
+told_sending (send.BindFailed bind why) = BindFailed bind why
 told_sending send.ThreadRefused = OutOfMemory
 told_sending send.OutOfMemory = OutOfMemory
 told_sending send.EndsLost = OutOfMemory

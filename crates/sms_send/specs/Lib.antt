@@ -1,12 +1,16 @@
+pub mod Explained
+pub mod Exposed
 pub mod Faults
 pub mod Opened
 pub mod CommandLine
 pub mod Plans
 pub mod Quoted
 pub mod Recovered
+pub mod Remarks
 pub mod Replays
 pub mod Runs
 pub mod Statuses
+pub mod Unsent
 pub mod Sent
 pub mod Laws
 pub mod Noted

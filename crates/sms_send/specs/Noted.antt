@@ -14,6 +14,7 @@ use Rattle.sms_send.specs.Opened.{OfInput}
 use Rattle.sms_send.specs.Runs.{AreNamed, TellsNamedFiles, tariff_in}
 use Rattle.sms_send.specs.Sent.{IsSent, SendsFiles, SendsNamed, TellsNamed, TellsSending, TellsSent, report_in, untold}
 use Rattle.sms_send.specs.Statuses.{status_by}
+use Rattle.sms_driver.specs.declared.fault.BindFailure.TheVariants.{NoConnection}
 use Rattle.sms_send.specs.declared.fault.Fault.{Fault}
 use Rattle.sms_send.specs.declared.fault.Fault.TheVariants.{BindFailed, File, Journal, OutOfMemory}
 use Rattle.sms_send.specs.declared.order.JournalFile.{JournalFile}
@@ -46,7 +47,7 @@ TellsWanted told remaining (Read input) octets old new fault = TellsSending told
 
 -- a centre of the program's own can't listen
 abbrev pub IsDeaf : Centre → Fault → Type 0
-IsDeaf centre fault = (centre ≡ Own) × (fault ≡ BindFailed 0)
+IsDeaf centre fault = (centre ≡ Own) × (fault ≡ BindFailed 0 NoConnection)
 
 abbrev pub TellsOver : {F : Type 0} → Centre → (F → Told) → Wanted → List ℕ → Option (List ℕ) → Option (List ℕ) → Fault → Type 0
 TellsOver centre remaining wanted octets old new fault = IsDeaf centre fault ⊎ TellsWanted untold remaining wanted octets old new fault

@@ -30,6 +30,7 @@ use Rattle.sms_files.specs.declared.config.Flags.{Flags}
 use Rattle.sms_files.specs.declared.config.Retry.{Retry}
 use Rattle.sms_driver.specs.declared.binding.BindSettings.{BindSettings}
 use Rattle.sms_driver.specs.declared.fault.SendFault.{SendFault}
+use Rattle.sms_driver.specs.declared.fault.BindFailure.TheVariants.{NoConnection}
 use Rattle.sms_send.specs.declared.fault.Fault.{Fault}
 use Rattle.sms_send.specs.declared.fault.Fault.TheVariants.{BindFailed, File, OutOfMemory, Output}
 use Rattle.sms_files.specs.declared.input.Input.{Input}
@@ -131,7 +132,7 @@ SendsFiles strict remaining octets old new status = (config : Config) × IsConfi
 abbrev pub TellsFiles : {F : Type 0} → (F → Told) → Centre → List ℕ → Option (List ℕ) → Option (List ℕ) → Fault → Type 0
 TellsFiles remaining centre octets old new fault =
     TellsRead (TellsConfig octets) fault
-    ⊎ ((config : Config) × IsConfig octets config × (((centre ≡ Own) × (fault ≡ BindFailed 0)) ⊎ TellsNamed untold remaining config.files octets old new fault))
+    ⊎ ((config : Config) × IsConfig octets config × (((centre ≡ Own) × (fault ≡ BindFailed 0 NoConnection)) ⊎ TellsNamed untold remaining config.files octets old new fault))
 
 -- what a fault of a sending by the config of this name says: its file can't be read, memory ran out, or what it says of
 -- the octets of some file

@@ -2,7 +2,7 @@
 
 ghost use Rattle.std.specs.Prelude.{◌≡◌, false, IfOk, IsOkAnd};
 ghost use Rattle.clap.specs.Words.{AddsSubcommand, App, Rule, app_of, new_app, rule_of, with_rule};
-ghost use Rattle.sms_send.specs.CommandLine.{IsLine, command_line as words_allowed, file_rule, flag_rule, name_rule, pace_rules, plan_line, program_line, quote_line, recover_line, replay_line, rest_line, sender_line, value_rule, with_rules};
+ghost use Rattle.sms_send.specs.CommandLine.{IsLine, command_line as words_allowed, file_rule, flag_rule, name_rule, pace_rules, plan_line, program_line, quote_line, recover_line, replay_line, rest_line, sender_line, value_rule, verbose_rule, with_rules};
 
 use clap::{Arg, ArgAction, Command};
 use std::alloc::{AllocError, Global};
@@ -69,6 +69,14 @@ fn program_command<'a>(alloc: Global) -> Result<Command<'a>, AllocError>
         .bin_name(NAME)
 }
 
+/// The flag that every subcommand has.
+fn verbose_flag<'a>(alloc: Global) -> Arg<'a>
+    ensures rule { rule_of result ≡ verbose_rule }
+    ensures local { result.global ≡ false }
+{
+    flag(alloc, "verbose", "Tells more of a fault on standard error")
+}
+
 /// What the parser is told of `replay`.
 fn replay_command<'a>(alloc: Global) -> Result<Command<'a>, AllocError>
     ensures { IfOk result (IsLine replay_line) }
@@ -78,10 +86,11 @@ fn replay_command<'a>(alloc: Global) -> Result<Command<'a>, AllocError>
         "replay",
         "Replays a schedule of events and prints what became of each",
     );
-    with_argument(
+    let named = with_argument(
         Ok(begun),
         name_argument(alloc, "FILE", "The schedule; - is standard input"),
-    )
+    );
+    with_argument(named, verbose_flag(alloc))
 }
 
 /// What the parser is told of `plan`.
@@ -100,7 +109,8 @@ fn plan_command<'a>(alloc: Global) -> Result<Command<'a>, AllocError>
         "Prints how the text of each message is coded and cut into parts",
     );
     let filed = with_argument(Ok(begun), messages);
-    with_argument(filed, long)
+    let longer = with_argument(filed, long);
+    with_argument(longer, verbose_flag(alloc))
 }
 
 /// What the parser is told of `quote`.
@@ -113,7 +123,8 @@ fn quote_command<'a>(alloc: Global) -> Result<Command<'a>, AllocError>
         "quote",
         "Prints what the messages that the config names would cost, and which would be refused; sends nothing",
     );
-    with_argument(Ok(begun), config)
+    let configured = with_argument(Ok(begun), config);
+    with_argument(configured, verbose_flag(alloc))
 }
 
 /// What the parser is told of `recover`.
@@ -128,7 +139,8 @@ fn recover_command<'a>(alloc: Global) -> Result<Command<'a>, AllocError>
         "Prints the report of a run that was cut off, by its journal",
     );
     let configured = with_argument(Ok(begun), config);
-    with_argument(configured, journal)
+    let noted = with_argument(configured, journal);
+    with_argument(noted, verbose_flag(alloc))
 }
 
 /// What the parser is told of `rest`.
@@ -149,7 +161,8 @@ fn rest_command<'a>(alloc: Global) -> Result<Command<'a>, AllocError>
     );
     let configured = with_argument(Ok(begun), config);
     let reported = with_argument(configured, report);
-    with_argument(reported, accounts)
+    let counted = with_argument(reported, accounts);
+    with_argument(counted, verbose_flag(alloc))
 }
 
 /// What the parser is told of `loop` or of `send`.
@@ -183,7 +196,8 @@ fn sender_command<'a>(
     let noted = with_argument(quieted, journal);
     let synced = with_argument(noted, sync);
     let stricter = with_argument(synced, strict);
-    with_pace(alloc, stricter)
+    let told = with_argument(stricter, verbose_flag(alloc));
+    with_pace(alloc, told)
 }
 
 /// The command with the options of its pace too.

@@ -2,9 +2,10 @@
 
 ghost use Rattle.std.specs.Fmt.{WritesOnOk};
 ghost use Rattle.std.specs.Prelude.{◌≡◌, ◌++◌, codes, decimal};
-ghost use Rattle.sms_send.specs.Faults.{shown, shown_char};
+ghost use Rattle.sms_diagnostics.specs.Shown.{shown};
 
-use sms_driver::SendFault;
+use sms_diagnostics::write_shown;
+use sms_driver::{BindFailure, SendFault};
 use sms_files::{InputFault, Source};
 use sms_recovery::RecoveryFault;
 use sms_report::OutputFault;
@@ -35,7 +36,7 @@ pub enum Fault {
     /// The bind of this number, counted from 0, was refused with this command_status.
     BindRefused(u32, u32),
     /// The bind of this number failed otherwise, or there was no connection.
-    BindFailed(u32),
+    BindFailed(u32, BindFailure),
     /// The record of a journal, counted from 1, isn't one that may stand there.
     BadNote(usize),
     /// The record of a report, counted from 1, isn't one that may stand there.
@@ -64,7 +65,7 @@ impl fmt::Display for Fault {
             Fault::NotToml => f.write_str("fault: config"),
             Fault::BadKey(key) => write_named(f, "fault: config ", key.as_str()),
             Fault::BindRefused(bind, status) => write_refused(f, *bind, *status),
-            Fault::BindFailed(bind) => write_failed(f, *bind),
+            Fault::BindFailed(bind, _) => write_failed(f, *bind),
             Fault::BadNote(place) => write_record(f, "journal", *place),
             Fault::BadReport(place) => write_record(f, "report", *place),
             Fault::Journal => f.write_str("fault: journal"),
@@ -74,41 +75,12 @@ impl fmt::Display for Fault {
     }
 }
 
-/// A name that comes from outside. What would begin another line, or move a terminal's cursor, is
-/// written out.
-fn write_name<W: fmt::Write>(f: &mut fmt::Formatter<W>, name: &str) -> fmt::Result
-    ensures { WritesOnOk W.write_str_gives f.old result (shown name.now) f.new }
-{
-    for c in name.chars() {
-        write_shown(f, c)?;
-    }
-    Ok(())
-}
-
-/// A character of a name.
-fn write_shown<W: fmt::Write>(f: &mut fmt::Formatter<W>, c: char) -> fmt::Result
-    ensures { WritesOnOk W.write_str_gives f.old result (shown_char c) f.new }
-{
-    if !c.is_control() {
-        return f.write_char(c);
-    }
-    match c {
-        '\n' => f.write_str("\\n"),
-        '\r' => f.write_str("\\r"),
-        '\t' => f.write_str("\\t"),
-        _ => {
-            let (high, low) = (c as u32 / 16, c as u32 % 16);
-            write!(f, "\\x{high:x}{low:x}")
-        }
-    }
-}
-
 /// What is told, and of what.
 fn write_named<W: fmt::Write>(f: &mut fmt::Formatter<W>, what: &str, name: &str) -> fmt::Result
     ensures { WritesOnOk W.write_str_gives f.old result (what.now ++ shown name.now) f.new }
 {
     f.write_str(what)?;
-    write_name(f, name)
+    write_shown(f, name)
 }
 
 /// The line of what can't be read, by the name of its source.
@@ -149,7 +121,7 @@ impl Fault {
         match self {
             Fault::Words => 2,
             Fault::Help(_) | Fault::Version(_) => 0,
-            Fault::BindRefused(_, _) | Fault::BindFailed(_) => 3,
+            Fault::BindRefused(_, _) | Fault::BindFailed(_, _) => 3,
             _ => 1,
         }
     }
@@ -199,7 +171,7 @@ impl From<SendFault> for Fault {
     fn from(fault: SendFault) -> Fault {
         match fault {
             SendFault::BindRefused(bind, status) => Fault::BindRefused(bind, status),
-            SendFault::BindFailed(bind, _) => Fault::BindFailed(bind),
+            SendFault::BindFailed(bind, why) => Fault::BindFailed(bind, why),
             SendFault::ThreadRefused | SendFault::OutOfMemory => Fault::OutOfMemory,
             SendFault::EndsLost => Fault::OutOfMemory,
         }

@@ -11,7 +11,7 @@ use crate::order::{JournalFile, Order, Pace, RecoverOrder, RestOrder};
 use crate::words::{is_given, number_given, text_given, text_if_given};
 use clap::error::ErrorKind;
 use clap::{ArgMatches, Error};
-use std::alloc::Global;
+use std::alloc::{AllocError, Global};
 
 /// The most milliseconds until a bind has to be made.
 const MOST_CONNECT_MS: u64 = 600_000;
@@ -186,6 +186,7 @@ fn order_of(alloc: Global, found: &ArgMatches<'_>) -> Result<Order, Fault>
         Ok(config) => Ok(Order {
             config,
             quiet: is_given(found, "quiet"),
+            verbose: is_given(found, "verbose"),
             journal,
             pace,
             strict: is_given(found, "strict"),
@@ -231,6 +232,39 @@ fn file_of(name: String) -> Option<String>
         None
     } else {
         Some(name)
+    }
+}
+
+/// What the parser says of words that it refuses; empty where it takes them, or memory is refused.
+pub fn message_of(alloc: Global, words: &[String]) -> String
+    ensures { refusals_of (map string_bytes words.now) ≡ [] → string_bytes result ≡ [] }
+{
+    match refusal_of(alloc, words) {
+        Ok(message) => message,
+        Err(_) => String::new(alloc),
+    }
+}
+
+/// The same, or that memory was refused before the parser saw the words.
+fn refusal_of(alloc: Global, words: &[String]) -> Result<String, AllocError>
+    ensures { IfOk result (λ message. refusals_of (map string_bytes words.now) ≡ [] → string_bytes message ≡ []) }
+{
+    match command_line(alloc)?.try_get_matches_from(words) {
+        Ok(_taken) => Ok(String::new(alloc)),
+        Err(error) => Ok(text_of(alloc, &error)),
+    }
+}
+
+/// The text of the parser's error; empty where memory was refused.
+fn text_of(alloc: Global, error: &Error) -> String
+    ensures { HasKind [] error.now → string_bytes result ≡ [] }
+{
+    match error.kind() {
+        ErrorKind::OutOfMemory => String::new(alloc),
+        _ => match error.to_string(alloc) {
+            Ok(text) => text,
+            Err(_) => String::new(alloc),
+        },
     }
 }
 

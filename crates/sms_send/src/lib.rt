@@ -4,8 +4,11 @@
 #![tactic(auto)]
 
 mod command_line;
+mod explained;
+mod exposed;
 mod fault;
 mod job;
+mod known;
 pub mod laws;
 mod noted;
 mod opened;
@@ -16,6 +19,7 @@ mod program;
 mod quote_job;
 mod reading;
 mod recover_job;
+mod remarks;
 mod replay;
 mod run_files;
 mod send_job;
@@ -23,8 +27,10 @@ mod sender;
 mod sending;
 mod standard_error;
 mod status;
+mod unsent;
 mod words;
 
+pub use explained::{Address, Doing, Known, Told, told_of};
 pub use fault::Fault;
 pub use job::{Job, job_of};
 pub use order::{JournalFile, Order, Pace, RecoverOrder, RestOrder};

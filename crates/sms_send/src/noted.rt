@@ -10,9 +10,10 @@ ghost use Rattle.sms_send.specs.declared.fault.Fault.TheVariants.{Journal as Jou
 use crate::fault::Fault;
 use crate::order::{JournalFile, Pace};
 use crate::reading::read_input;
+use crate::remarks::Remarks;
 use crate::run_files::{NamedFiles, read_named};
 use crate::sending::{Reach, Wanted, send_over};
-use sms_devices::{Host, Journal, JournalFiles, Telling};
+use sms_devices::{Host, Journal, JournalFiles};
 use sms_files::{FileNames, Input};
 use sms_journal::{Digests, digests_of};
 use std::alloc::Global;
@@ -97,7 +98,7 @@ pub fn send_noted<R: Host + Net<Stream = TcpStream, Listener = TcpListener>, W: 
     config: &[u8],
     files: FileNames,
     wanted: JournalFile,
-    telling: Telling,
+    remarks: Remarks,
     pace: Pace,
     strict: bool,
     output: &mut W,
@@ -119,7 +120,7 @@ pub fn send_noted<R: Host + Net<Stream = TcpStream, Listener = TcpListener>, W: 
         config,
         Wanted::Read(input),
         Some(&journal),
-        telling,
+        remarks,
         pace,
         strict,
         output,

@@ -7,6 +7,8 @@ pub struct Order {
     pub config: String,
     /// Whether nothing but a fault is told on standard error.
     pub quiet: bool,
+    /// Whether more is told there of what needs an operator.
+    pub verbose: bool,
     /// Where it is noted what is sent and what is heard; nowhere without the word.
     pub journal: Option<JournalFile>,
     /// How long is waited for the binds, and how fast and how far is sent.

@@ -6,18 +6,22 @@ ghost use Rattle.sms_send.specs.Faults.{status_of};
 ghost use Rattle.sms_send.specs.Jobs.{Does, IsStatusOf, TellsJob, TellsRun, Works};
 ghost use Rattle.sms_send.specs.declared.fault.Fault.TheVariants.{Journal, Output, OutOfMemory, Words};
 
+use crate::explained::{is_at_length, told_of};
 use crate::fault::Fault;
 use crate::job::{Job, job_of};
+use crate::known::known_at;
 use crate::opened::open;
 use crate::plan::run_plan;
 use crate::quote_job::quote_job;
 use crate::recover_job::{recover_job, rest_job};
 use crate::replay::run_replay;
 use crate::send_job::{Centre, send_job};
-use sms_devices::Host;
+use crate::standard_error::tell_lines;
+use crate::words::is_verbose;
+use sms_devices::{Host, Screen};
 use std::io::{ErrorKind, Write};
 use std::net::{Net, TcpListener, TcpStream};
-use std::rt::Env;
+use std::rt::{Env, Files};
 use std::{env, io};
 
 /// Does the job that the program's words ask for, and gives the exit status.
@@ -82,20 +86,37 @@ pub fn do_job<R: Host + Net<Stream = TcpStream, Listener = TcpListener>, W: Writ
     }
 }
 
-/// Tells a fault in one line on standard error, and help or the version on standard output. That
-/// they can't be printed is a fault of the output, which is told in its turn.
-pub fn tell<R: Eprint + Print>(rt: &R, fault: &Fault) -> io::Result<()> {
+/// Tells a fault on standard error, and help or the version on standard output. That they can't be
+/// printed is a fault of the output, which is told in its turn.
+pub fn tell<R: AllocGlobal + Env + Files + Screen + Eprint + Print>(
+    rt: &R,
+    fault: &Fault,
+) -> io::Result<()> {
     match fault {
         Fault::Help(text) | Fault::Version(text) => {
             let printed = print!(rt; "{text}");
             if printed.is_err() {
-                let unprinted = Fault::Output;
-                eprintln!(rt; "{unprinted}")?;
+                tell_fault(rt, &Fault::Output)?;
             }
             printed
         }
-        _ => eprintln!(rt; "{fault}"),
+        _ => tell_fault(rt, fault),
     }
+}
+
+/// Tells a fault in one line on standard error; on a terminal, and where the words ask for more, lines
+/// follow it.
+fn tell_fault<R: AllocGlobal + Env + Files + Screen + Eprint>(
+    rt: &R,
+    fault: &Fault,
+) -> io::Result<()> {
+    let words = match words_of(rt) {
+        Ok(words) => words,
+        Err(_untold) => Vec::new(rt.alloc()),
+    };
+    let at_length = is_at_length(rt.is_terminal(), is_verbose(words.as_slice()));
+    let known = known_at(rt, words.as_slice(), fault, at_length);
+    tell_lines(rt, &told_of(fault, &known))
 }
 
 /// The exit status after a fault was told: its own, and that of the output where telling failed.

@@ -7,14 +7,15 @@ ghost use Rattle.sms_send.specs.Noted.{SendsBy, TellsOrder};
 ghost use Rattle.sms_send.specs.Sent.{RunsSender, TellsSender};
 ghost use Rattle.sms_send.specs.declared.fault.Fault.TheVariants.{Journal, Output};
 
+use crate::exposed::config_of;
 use crate::fault::Fault;
 use crate::noted::send_noted;
-use crate::opened::octets_of;
 use crate::order::Order;
 use crate::reading::{read_input, setup_of};
+use crate::remarks::Remarks;
 use crate::sender::{send_all, write_report};
 use crate::sending::{Reach, Wanted, send_over};
-use sms_devices::{Host, Telling};
+use sms_devices::Host;
 use sms_driver::Dial;
 use sms_files::{FileNames, Setup};
 use sms_worker::{Clock, Gate, Pause};
@@ -87,11 +88,13 @@ pub fn send_job<R: Host + Net<Stream = TcpStream, Listener = TcpListener>, W: Wr
     let Order {
         config,
         quiet,
+        verbose,
         journal,
         pace,
         strict,
     } = order;
-    let config = octets_of(rt, config)?;
+    let remarks = Remarks::new(quiet, verbose, rt.is_terminal());
+    let config = config_of(rt, config, remarks.at_length)?;
     let Setup {
         accounts,
         messages,
@@ -106,7 +109,6 @@ pub fn send_job<R: Host + Net<Stream = TcpStream, Listener = TcpListener>, W: Wr
         messages,
         tariff,
     };
-    let telling = Telling::new(quiet, rt.is_terminal());
     let reach = Reach {
         centre,
         host,
@@ -121,7 +123,7 @@ pub fn send_job<R: Host + Net<Stream = TcpStream, Listener = TcpListener>, W: Wr
             config.as_slice(),
             Wanted::Files(files),
             None,
-            telling,
+            remarks,
             pace,
             strict,
             output,
@@ -132,7 +134,7 @@ pub fn send_job<R: Host + Net<Stream = TcpStream, Listener = TcpListener>, W: Wr
             config.as_slice(),
             files,
             journal,
-            telling,
+            remarks,
             pace,
             strict,
             output,

@@ -11,13 +11,15 @@ use crate::opened::{open, open_named};
 use crate::order::Pace;
 use crate::pacing::send_paced;
 use crate::reading::read_input;
+use crate::remarks::Remarks;
 use crate::send_job::Centre;
 use crate::sender::write_report;
+use crate::unsent::tell_unsent;
 use sms_devices::{
     Host, Journal, JournalFiles, LoopDial, Noting, Outboxes, Progress, Rest, Screen, TcpDial,
-    Telling, Ticks, listen,
+    Ticks, listen,
 };
-use sms_driver::Dial;
+use sms_driver::{BindFailure, Dial};
 use sms_files::{FileNames, Input};
 use sms_worker::Pause;
 use std::io::{Eprint, Write};
@@ -54,7 +56,7 @@ pub fn send_over<'j, R: Host + Net<Stream = TcpStream, Listener = TcpListener>, 
     config: &[u8],
     wanted: Wanted,
     journal: Option<&'j Journal<R::JournalFile>>,
-    telling: Telling,
+    remarks: Remarks,
     pace: Pace,
     strict: bool,
     output: &mut W,
@@ -80,12 +82,12 @@ pub fn send_over<'j, R: Host + Net<Stream = TcpStream, Listener = TcpListener>, 
                 port: reach.port,
             };
             send_wanted(
-                rt, config, wanted, &outboxes, &dial, &pause, telling, pace, strict, output,
+                rt, config, wanted, &outboxes, &dial, &pause, remarks, pace, strict, output,
             )
         }
         Centre::Own => {
             let Some(listener) = listen(rt) else {
-                return Err(Fault::BindFailed(0));
+                return Err(Fault::BindFailed(0, BindFailure::NoConnection));
             };
             let dial = LoopDial {
                 rt,
@@ -97,7 +99,7 @@ pub fn send_over<'j, R: Host + Net<Stream = TcpStream, Listener = TcpListener>, 
                 answers: reach.answers.as_slice(),
             };
             send_wanted(
-                rt, config, wanted, &outboxes, &dial, &pause, telling, pace, strict, output,
+                rt, config, wanted, &outboxes, &dial, &pause, remarks, pace, strict, output,
             )
         }
     }
@@ -117,7 +119,7 @@ fn send_wanted<
     outboxes: &Outboxes<'j, R, R::JournalFile>,
     dial: &D,
     pause: &P,
-    telling: Telling,
+    remarks: Remarks,
     pace: Pace,
     strict: bool,
     output: &mut W,
@@ -129,10 +131,10 @@ fn send_wanted<
 {
     match wanted {
         Wanted::Files(names) => send_files(
-            rt, config, names, outboxes, dial, pause, telling, pace, strict, output,
+            rt, config, names, outboxes, dial, pause, remarks, pace, strict, output,
         ),
         Wanted::Read(input) => send_input(
-            rt, input, outboxes, dial, pause, telling, pace, strict, output,
+            rt, input, outboxes, dial, pause, remarks, pace, strict, output,
         ),
     }
 }
@@ -151,7 +153,7 @@ fn send_files<
     outboxes: &Outboxes<'j, R, R::JournalFile>,
     dial: &D,
     pause: &P,
-    telling: Telling,
+    remarks: Remarks,
     pace: Pace,
     strict: bool,
     output: &mut W,
@@ -166,7 +168,7 @@ fn send_files<
     let tariff = open_named(rt, names.tariff)?;
     let input = read_input(rt.alloc(), config, accounts, messages, tariff)?;
     send_input(
-        rt, input, outboxes, dial, pause, telling, pace, strict, output,
+        rt, input, outboxes, dial, pause, remarks, pace, strict, output,
     )
 }
 
@@ -185,7 +187,7 @@ fn send_input<
     outboxes: &Outboxes<'j, R, R::JournalFile>,
     dial: &D,
     pause: &P,
-    telling: Telling,
+    remarks: Remarks,
     pace: Pace,
     strict: bool,
     output: &mut W,
@@ -197,7 +199,7 @@ fn send_input<
 {
     outboxes.set_patience(input.config().retry.answer_ms);
     let clock = Ticks::new(rt);
-    let progress = Progress::new(rt, &clock, telling, input.messages().len());
+    let progress = Progress::new(rt, &clock, remarks.telling, input.messages().len());
     let noting = Noting {
         rt,
         gate: &progress,
@@ -209,6 +211,7 @@ fn send_input<
     let ended = sent?;
     let written = write_report(rt.alloc(), &ended, output);
     progress.sum_up(ended.ends(), ended.statement());
+    tell_unsent(rt, &ended, remarks.at_length, pace);
     written?;
     let status = ended.exit_status(strict);
     // The process ends next, which frees it at once.

@@ -1,5 +1,6 @@
-//! Standard error, as a writer of text.
+//! Standard error, as a writer of text, and what is told there of a run.
 
+use std::fmt::Display;
 use std::io::{self, Eprint, Write};
 use std::str;
 
@@ -23,4 +24,9 @@ impl<R: Eprint> Write for StandardError<'_, R> {
     fn flush(&mut self) -> io::Result<()> {
         Ok(())
     }
+}
+
+/// Tells these lines, each with its end, at once. All that is told of a run beside how it goes is told so.
+pub fn tell_lines<R: Eprint, T: Display>(rt: &R, lines: &T) -> io::Result<()> {
+    eprint!(rt; "{lines}")
 }

@@ -1,9 +1,9 @@
 //! What the arguments of a subcommand were given.
 
-ghost use Rattle.std.specs.Prelude.{◌≡◌, ◌≤◌, None, Some, IfErr, IfOk, string_bytes};
+ghost use Rattle.std.specs.Prelude.{◌≡◌, ◌≤◌, None, Some, IfErr, IfOk, map, string_bytes};
 ghost use Rattle.sms_send.specs.declared.fault.Fault.TheVariants.{OutOfMemory};
 ghost use Rattle.clap.specs.Words.{first_of, found_of, rows_of};
-ghost use Rattle.sms_send.specs.CommandLine.{TellsFor, bytes_of, is_set, number_of};
+ghost use Rattle.sms_send.specs.CommandLine.{TellsFor, asks_for_more, bytes_of, is_set, number_of};
 
 use crate::fault::Fault;
 use clap::ArgMatches;
@@ -69,4 +69,16 @@ pub fn is_given(matches: &ArgMatches<'_>, flag: &str) -> bool
         Some(value) => value == "true",
         None => false,
     }
+}
+
+/// Whether one of the words asks for more to be told of a fault.
+pub fn is_verbose(words: &[String]) -> bool
+    ensures { result ≡ asks_for_more (map string_bytes words.now) }
+{
+    for word in words {
+        if word.as_str() == "--verbose" {
+            return true;
+        }
+    }
+    false
 }

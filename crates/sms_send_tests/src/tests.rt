@@ -2,6 +2,7 @@
 
 mod answers;
 mod broken;
+mod explained;
 mod frames;
 mod jobs;
 mod journal;

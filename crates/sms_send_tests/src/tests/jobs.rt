@@ -150,6 +150,7 @@ fn quiet_order(config: String) -> Order {
     Order {
         config,
         quiet: true,
+        verbose: false,
         journal: None,
         pace: UNBOUND,
         strict: false,

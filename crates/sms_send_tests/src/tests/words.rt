@@ -7,7 +7,7 @@ use std::process::Abort;
 use std::test::Fail;
 
 /// Words, and the file of the job, or the text of the fault.
-const READ: [(&str, &str); 69] = [
+const READ: [(&str, &str); 77] = [
     ("", "standard input"),
     ("replay -", "standard input"),
     ("replay events.csv", "events.csv"),
@@ -83,6 +83,14 @@ const READ: [(&str, &str); 69] = [
     ("send --strict", "fault: words"),
     ("send --config c --strict --strict", "fault: words"),
     ("recover --config c --journal j --strict", "fault: words"),
+    ("replay --verbose x", "x"),
+    ("plan --messages x --verbose", "plan of x"),
+    ("quote --verbose --config c", "quote of c"),
+    ("loop --config c --verbose", "loop of c"),
+    ("recover --config c --verbose --journal j", "recovery of j"),
+    ("rest --config c --report r --verbose", "rest of r"),
+    ("send --config c --verbose --verbose", "fault: words"),
+    ("--verbose", "fault: words"),
 ];
 
 // The words of a line.

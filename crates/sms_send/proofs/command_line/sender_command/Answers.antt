@@ -7,4 +7,5 @@ returns c =
     let noted = c.with_argument-noted.ensures _ _ c.value_option-journal.ensures.rule quieted in
     let synced = c.with_argument-synced.ensures _ _ c.flag-sync.ensures.rule noted in
     let stricter = c.with_argument-stricter.ensures _ _ c.flag-strict.ensures.rule synced in
-    c.with_pace.ensures _ stricter
+    let told = c.with_argument-told.ensures _ _ c.verbose_flag.ensures.rule stricter in
+    c.with_pace.ensures _ told

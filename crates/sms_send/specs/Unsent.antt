@@ -1,0 +1,73 @@
+-- How many messages were not sent, and why their bind was closed.
+use Rattle.std.specs.Prelude.{ℕ, ◌+◌, ◌/◌, ◌%◌, ◌==◌, ◌&&◌, nat_lt, if◌then◌else◌, Bool, true, false, List, [], ◌∷◌, Option, Some, None}
+use Rattle.sms_bind.specs.declared.ending.ReaderCause.{ReaderCause}
+use Rattle.sms_bind.specs.declared.ending.ReaderCause.TheVariants as cause
+use Rattle.sms_diagnostics.specs.declared.unsent.Closing.{Closing}
+use Rattle.sms_diagnostics.specs.declared.unsent.Closing.TheVariants as closing
+use Rattle.sms_driver.specs.declared.bind_end.BindEnd.{BindEnd}
+use Rattle.sms_driver.specs.declared.bind_end.DownBy.{DownBy}
+use Rattle.sms_driver.specs.declared.bind_end.DownBy.TheVariants.{Reader, Write}
+use Rattle.sms_worker.specs.declared.ends.MessageEnd.{MessageEnd}
+use Rattle.sms_worker.specs.declared.ends.MessageRefusal.{MessageRefusal}
+use Rattle.sms_worker.specs.declared.ends.MessageRefusal.TheVariants.{BindClosed, OutOfMemory}
+use Rattle.sms_worker.specs.declared.ends.MessageResult.{MessageResult}
+use Rattle.sms_worker.specs.declared.ends.MessageResult.TheVariants.{Refused, Sent}
+
+-- a connection ended so; where binds are given up for want of answers it may be for that
+abbrev pub unless_given_up : Bool → Closing → Closing
+unless_given_up gives_up else_by = if gives_up then closing.ClosedOrGivenUp else else_by
+
+-- why a bind was closed whose reader had ended so
+abbrev pub closing_by : Bool → ReaderCause → Closing
+closing_by gives_up cause.Ended = unless_given_up gives_up closing.Closed
+closing_by gives_up cause.Unbound = closing.Unbound
+closing_by gives_up cause.Lost = closing.BadLength
+closing_by gives_up cause.ReadFault = closing.Unread
+closing_by gives_up cause.WriteFault = closing.Unwritten
+closing_by gives_up cause.Stopped = closing.Stopped
+closing_by gives_up cause.Turns = closing.Turns
+closing_by gives_up cause.OutOfMemory = closing.OutOfMemory
+
+-- by what brought its line down; without that a worker had used up its turns
+abbrev pub closing_for : Bool → Option DownBy → ReaderCause → Closing
+closing_for gives_up (Some Reader) why = closing_by gives_up why
+closing_for gives_up (Some Write) why = unless_given_up gives_up closing.Unwritten
+closing_for gives_up None why = closing.Turns
+
+abbrev pub closing_in : Bool → BindEnd → Closing
+closing_in gives_up end = closing_for gives_up end.closing.down end.reader.cause
+
+-- a message was refused for this
+abbrev pub is_closing : MessageRefusal → Bool
+is_closing BindClosed = true
+is_closing _ = false
+
+abbrev pub is_memory : MessageRefusal → Bool
+is_memory OutOfMemory = true
+is_memory _ = false
+
+abbrev pub is_bind_closed : MessageResult → Bool
+is_bind_closed (Sent segments) = false
+is_bind_closed (Refused refusal) = is_closing refusal
+
+abbrev pub kept_by_memory : MessageResult → Bool
+kept_by_memory (Sent segments) = false
+kept_by_memory (Refused refusal) = is_memory refusal
+
+-- messages are dealt out to all workers in turn, bind by bind: so many go to each bind in one piece
+abbrev pub is_of_bind : ℕ → ℕ → ℕ → ℕ → Bool
+is_of_bind workers binds bind place = nat_lt 0 workers && (nat_lt 0 binds && (place / workers % binds == bind))
+
+-- the message at a place is one of a bind's, and was refused since that was closed
+abbrev pub is_kept_by : ℕ → ℕ → ℕ → ℕ → MessageEnd → Bool
+is_kept_by workers binds bind place e = is_of_bind workers binds bind place && is_bind_closed e.result
+
+-- how many of a bind's messages were refused since it was closed, of those from a place on
+abbrev pub unsent_from : ℕ → ℕ → ℕ → ℕ → List MessageEnd → ℕ
+unsent_from workers binds bind place [] = 0
+unsent_from workers binds bind place (e ∷ es) = (if is_kept_by workers binds bind place e then 1 else 0) + unsent_from workers binds bind (place + 1) es
+
+-- how many messages were refused for want of memory
+abbrev pub without_memory : List MessageEnd → ℕ
+without_memory [] = 0
+without_memory (e ∷ es) = (if kept_by_memory e.result then 1 else 0) + without_memory es

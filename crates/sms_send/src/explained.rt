@@ -1,0 +1,164 @@
+//! What is told of a fault: its line and, at length, the lines behind it.
+
+ghost use Rattle.std.specs.Prelude.{◌≡◌, ◌||◌};
+ghost use Rattle.sms_diagnostics.specs.Causes.{cause_text};
+ghost use Rattle.sms_send.specs.Explained.{file_in, lines_of, lines_of_bind, lines_of_journal, lines_of_output, told_text, told_with, trouble_in};
+
+use crate::fault::Fault;
+use sms_diagnostics::{BindTrouble, Cause, FileTrouble, RecordOf};
+use sms_driver::BindFailure;
+use sms_files::Source;
+use std::fmt;
+
+/// What a job does, for what is told of its fault.
+#[derive(Clone, Copy, Debug, PartialEq, Eq)]
+pub enum Doing {
+    /// It sends messages.
+    Sending,
+    /// It looks into the journal of a run.
+    Recovering,
+    /// It does neither.
+    Else,
+}
+
+/// To whom a bind goes.
+#[derive(Debug, Drop)]
+pub struct Address {
+    /// The message centre's name or address.
+    pub host: String,
+    /// Its TCP port.
+    pub port: u32,
+}
+
+/// What is known of a run beside its fault.
+#[derive(Debug, Drop)]
+pub struct Known {
+    /// What the parser says of the words, where it refuses them; else empty.
+    pub message: String,
+    /// What the system says of the file that the fault names.
+    pub file: FileTrouble,
+    /// What the job does that the words ask for.
+    pub doing: Doing,
+    /// The message centre of a bind that failed, where the config says which it is.
+    pub centre: Option<Address>,
+}
+
+/// The file of records that a source is.
+fn file_of(source: Source) -> RecordOf
+    ensures { result ≡ file_in source }
+{
+    match source {
+        Source::Schedule => RecordOf::Schedule,
+        Source::Messages => RecordOf::Messages,
+        Source::Accounts => RecordOf::Accounts,
+        Source::Tariff => RecordOf::Tariff,
+    }
+}
+
+/// Why a bind failed.
+fn trouble_of(why: BindFailure) -> BindTrouble
+    ensures { result ≡ trouble_in why }
+{
+    match why {
+        BindFailure::NoConnection => BindTrouble::NoConnection,
+        BindFailure::NoNumber => BindTrouble::NoNumber,
+        BindFailure::Closed => BindTrouble::Closed,
+        BindFailure::NotSmpp => BindTrouble::NotSmpp,
+        BindFailure::Read => BindTrouble::Read,
+        BindFailure::Write => BindTrouble::Write,
+    }
+}
+
+/// Why there is a fault of a bind.
+fn bind_cause<'a>(centre: &'a Option<Address>, why: BindFailure) -> Cause<'a>
+    ensures { cause_text result ≡ lines_of_bind centre.now why }
+{
+    match centre {
+        None => Cause::Failed(trouble_of(why)),
+        Some(centre) => Cause::FailedAt(centre.host.as_str(), centre.port, trouble_of(why)),
+    }
+}
+
+/// Why there is a fault of the journal.
+fn journal_cause<'a>(doing: Doing) -> Cause<'a>
+    ensures { cause_text result ≡ lines_of_journal doing }
+{
+    match doing {
+        Doing::Recovering => Cause::Overdrawn,
+        Doing::Sending | Doing::Else => Cause::Unnoted,
+    }
+}
+
+/// Why there is a fault of the output.
+fn output_cause<'a>(doing: Doing) -> Cause<'a>
+    ensures { cause_text result ≡ lines_of_output doing }
+{
+    match doing {
+        Doing::Sending => Cause::OutputOfSent,
+        Doing::Recovering | Doing::Else => Cause::Output,
+    }
+}
+
+/// The cause of a fault.
+fn cause_of<'a>(fault: &'a Fault, known: &'a Known) -> Cause<'a>
+    ensures { cause_text result ≡ lines_of known.now fault.now }
+{
+    match fault {
+        Fault::Words => Cause::Words(known.message.as_str()),
+        Fault::Help(_) | Fault::Version(_) => Cause::Nothing,
+        Fault::File(_) => Cause::File(known.file),
+        Fault::Unreadable(_) => Cause::File(FileTrouble::Other),
+        Fault::BadRecord(source, place) => Cause::Record(file_of(*source), *place),
+        Fault::NotToml => Cause::NotToml,
+        Fault::BadKey(key) => Cause::Key(key.as_str()),
+        Fault::BindRefused(_, status) => Cause::Refused(*status),
+        Fault::BindFailed(_, why) => bind_cause(&known.centre, *why),
+        Fault::BadNote(place) => Cause::Record(RecordOf::Journal, *place),
+        Fault::BadReport(place) => Cause::Record(RecordOf::Report, *place),
+        Fault::Journal => journal_cause(known.doing),
+        Fault::Output => output_cause(known.doing),
+        Fault::OutOfMemory => Cause::OutOfMemory,
+    }
+}
+
+/// A fault as it is told: in its line, and behind that in those of its cause.
+#[derive(Clone, Copy, Debug)]
+pub struct Told<'a> {
+    pub fault: &'a Fault,
+    pub cause: Cause<'a>,
+}
+
+impl<'a> fmt::Display for Told<'a> {
+    ghost use Rattle.std.specs.Prelude.{Some};
+    ghost use Rattle.sms_send.specs.Explained.{told_text};
+
+    ghost output = { λ told. Some (told_text told) };
+
+    fn fmt<W: fmt::Write>(&self, f: &mut fmt::Formatter<W>) -> fmt::Result {
+        let (fault, cause) = (self.fault, &self.cause);
+        write!(f, "{fault}\n{cause}")
+    }
+}
+
+/// A fault as it is told: at length where more is known of the run, and else in its line alone.
+pub fn told_of<'a>(fault: &'a Fault, known: &'a Option<Known>) -> Told<'a>
+    ensures { told_text result ≡ told_with known.now fault.now }
+{
+    match known {
+        None => Told {
+            fault,
+            cause: Cause::Nothing,
+        },
+        Some(known) => Told {
+            fault,
+            cause: cause_of(fault, known),
+        },
+    }
+}
+
+/// Whether lines follow a fault: on a terminal, and where that is asked for.
+pub fn is_at_length(terminal: bool, verbose: bool) -> bool
+    ensures { result ≡ (terminal || verbose) }
+{
+    terminal || verbose
+}

@@ -1,0 +1,95 @@
+//! A config with a password that others can read.
+
+ghost use Rattle.std.specs.Prelude.{◌≡◌, ◌⊎◌, IfErr, IfOk, codes, option_and_then, option_map};
+ghost use Rattle.toml.specs.Data.{as_str, get_member};
+ghost use Rattle.toml.specs.View.{table_view};
+ghost use Rattle.sms_files.specs.ConfigFaults.{toml_of};
+ghost use Rattle.sms_send.specs.Exposed.{is_some_text as is_text, says_password};
+ghost use Rattle.sms_send.specs.Opened.{OfInput};
+ghost use Rattle.sms_send.specs.declared.fault.Fault.TheVariants.{File, OutOfMemory};
+
+use crate::fault::Fault;
+use crate::opened::octets_of;
+use crate::standard_error::tell_lines;
+use sms_diagnostics::is_open_to_others;
+use std::alloc::{AllocError, Global};
+use std::io::Eprint;
+use std::os::unix::fs::PermissionsExt;
+use std::rt::Files;
+use std::{fs, str};
+use toml::Table;
+
+/// What is told of such a config.
+const EXPOSED: &str = "warning: others can read the config, which has a password\n";
+
+/// The text at the key `password` of a config.
+fn password_in(table: &Table) -> Option<&str>
+    ensures { option_map (λ text. text.now) result ≡ option_and_then as_str (get_member (codes "password") (table_view table.now)) }
+{
+    match table.get("password") {
+        None => None,
+        Some(value) => value.as_str(),
+    }
+}
+
+/// Whether a text is there and isn't empty.
+fn is_some_text(text: Option<&str>) -> bool
+    ensures { result ≡ is_text (option_map (λ text. text.now) text.entry) }
+{
+    match text {
+        None => false,
+        Some(text) => !text.is_empty(),
+    }
+}
+
+/// Whether these octets of a config have a password that isn't empty.
+fn has_password(alloc: Global, config: &[u8]) -> Result<bool, AllocError>
+    ensures { IfOk result (λ has. has ≡ says_password (toml_of config.now)) }
+{
+    let text = match str::from_utf8(config) {
+        Ok(text) => text,
+        Err(_) => return Ok(false),
+    };
+    match toml::table_from_str(alloc, text) {
+        Ok(table) => Ok(is_some_text(password_in(&table))),
+        Err(error) if error.is_memory() => Err(AllocError),
+        Err(_) => Ok(false),
+    }
+}
+
+/// Whether others can read the file of this name, as far as the system says so.
+fn is_readable_by_others<R: Files>(rt: &R, name: &str) -> bool {
+    match fs::metadata(rt, name) {
+        Ok(metadata) => is_open_to_others(metadata.permissions().mode()),
+        Err(_unknown) => false,
+    }
+}
+
+/// Tells on standard error that others can read a config, where they can and it has a password.
+fn warn_if_exposed<R: AllocGlobal + Eprint>(rt: &R, is_open: bool, config: &[u8]) {
+    if !is_open {
+        return;
+    }
+    if let Ok(true) = has_password(rt.alloc(), config) {
+        let _told = tell_lines(rt, &EXPOSED);
+    }
+}
+
+/// The octets of the config of this name. At length it is told where others can read a password there.
+pub fn config_of<R: AllocGlobal + Files + Eprint>(
+    rt: &R,
+    name: String,
+    at_length: bool,
+) -> Result<Vec<u8>, Fault>
+    ensures octets { IfOk result (λ octets. OfInput R.File.remaining (λ bytes. octets.items ≡ bytes)) }
+    ensures refused { IfErr result (λ fault. (fault ≡ OutOfMemory) ⊎ (fault ≡ File name)) }
+{
+    let is_open = at_length && is_readable_by_others(rt, name.as_str());
+    match octets_of(rt, name) {
+        Ok(octets) => {
+            warn_if_exposed(rt, is_open, octets.as_slice());
+            Ok(octets)
+        }
+        Err(fault) => Err(fault),
+    }
+}

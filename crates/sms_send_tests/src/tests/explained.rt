@@ -1,0 +1,91 @@
+//! What is told of a fault at length, and in a pipe.
+
+use super::same::same;
+use sms_diagnostics::FileTrouble;
+use sms_driver::BindFailure;
+use sms_files::Source;
+use sms_send::{Address, Doing, Fault, Known, told_of};
+use std::alloc::{AllocError, Global};
+use std::process::Abort;
+use std::test::Fail;
+
+// What is known of a run that sends.
+fn known(alloc: Global) -> Result<Known, AllocError> {
+    Ok(Known {
+        message: String::from_str(alloc, "error: 1\n  try 2")?,
+        file: FileTrouble::Missing,
+        doing: Doing::Sending,
+        centre: Some(Address {
+            host: String::from_str(alloc, "smsc")?,
+            port: 2775,
+        }),
+    })
+}
+
+// That the fault is told as this text by what is known of the run.
+fn want_text(
+    rt: &(impl AllocGlobal + Abort),
+    fault: &Fault,
+    known: &Option<Known>,
+    line: &str,
+    lines: &str,
+) -> Result<(), Fail> {
+    let text = told_of(fault, known).to_string(rt.alloc())?;
+    match text.as_str().strip_prefix(line) {
+        Some(rest) => same(rt, rest, lines),
+        None => panic!(rt; "another line"),
+    }
+    Ok(())
+}
+
+// That the fault is told as its line alone, and at length with the lines behind it.
+fn want_told(
+    rt: &(impl AllocGlobal + Abort),
+    fault: &Fault,
+    line: &str,
+    lines: &str,
+) -> Result<(), Fail> {
+    want_text(rt, fault, &None, line, "")?;
+    let known = known(rt.alloc())?;
+    want_text(rt, fault, &Some(known), line, lines)
+}
+
+#[test]
+fn tells_faults_at_length(rt: HostRuntime) -> Result<(), Fail> {
+    want_told(
+        &rt,
+        &Fault::Words,
+        "fault: words\n",
+        "  error: 1\n    try 2\n",
+    )?;
+    want_told(
+        &rt,
+        &Fault::BindRefused(0, 14),
+        "fault: bind 0 refused 14\n",
+        "  14 ESME_RINVPASWD\n",
+    )?;
+    want_told(
+        &rt,
+        &Fault::BindFailed(1, BindFailure::NotSmpp),
+        "fault: bind 1 failed\n",
+        "  smsc:2775: what came is no SMPP, or no answer to a bind\n",
+    )?;
+    want_told(
+        &rt,
+        &Fault::BadRecord(Source::Accounts, 1),
+        "fault: accounts record 1\n",
+        "  it should be account,credits\n",
+    )?;
+    want_told(
+        &rt,
+        &Fault::Output,
+        "fault: output\n",
+        "  messages were sent: don't send them again before you know which\n",
+    )?;
+    want_told(
+        &rt,
+        &Fault::BadKey(String::from_str(rt.alloc(), "binds")?),
+        "fault: config binds\n",
+        "  binds should be 1 to 4\n",
+    )
+}
