@@ -1,7 +1,7 @@
 //! What the program asks of the process that it runs in.
 
 use crate::journal::JournalFiles;
-use crate::progress::Screen;
+use crate::screen::Screen;
 use std::io::Eprint;
 use std::rt::{Env, Files};
 use std::sync::Wait;

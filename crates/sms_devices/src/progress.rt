@@ -3,12 +3,14 @@
 
 ghost use Rattle.std.specs.Prelude.{◌≡◌, ◌≤◌, ◌-◌, false, true};
 ghost use Rattle.sms_devices.specs.Telling.{telling_of};
+ghost use Rattle.sms_report.specs.Summary.{summary_of as summary_in};
 
+use crate::screen::{Notice, TakesNotices};
 use sms_book::Statement;
 use sms_report::{EndLine, Tally, WayLine, summary_of, tally_of};
 use sms_worker::{Clock, Gate, MessageEnd};
 use std::array;
-use std::io::{Eprint, IsTerminal};
+use std::io::Eprint;
 use std::sync::atomic::{AtomicU64, Ordering};
 
 /// How long the line on a terminal stays as it is, in milliseconds.
@@ -39,17 +41,6 @@ impl Telling {
         } else {
             Telling::End
         }
-    }
-}
-
-/// Whether a person sees standard error.
-pub trait Screen {
-    fn is_terminal(&self) -> bool;
-}
-
-impl Screen for HostRuntime {
-    fn is_terminal(&self) -> bool {
-        self.stderr().is_terminal()
     }
 }
 
@@ -148,8 +139,9 @@ impl ProgressBoard {
 
 /// The gate of the program, which lets every request pass, and tells how far the workers are.
 #[derive(Drop)]
-pub struct Progress<'r, S, K> {
+pub struct Progress<'r, S, N, K> {
     screen: &'r S,
+    notices: N,
     clock: &'r K,
     telling: Telling,
     /// How many messages there are.
@@ -158,15 +150,22 @@ pub struct Progress<'r, S, K> {
     board: ProgressBoard,
 }
 
-impl<'r, S: Eprint, K: Clock> Progress<'r, S, K> {
-    /// So many messages are sent from now on.
-    pub fn new(screen: &'r S, clock: &'r K, telling: Telling, messages: usize) -> Progress<'r, S, K>
+impl<'r, S: Eprint, N: TakesNotices, K: Clock> Progress<'r, S, N, K> {
+    /// So many messages are sent from now on. Notices are for a terminal alone.
+    pub fn new(
+        screen: &'r S,
+        notices: N,
+        clock: &'r K,
+        telling: Telling,
+        messages: usize,
+    ) -> Progress<'r, S, N, K>
         ensures telling { result.telling ≡ telling }
         ensures all { result.all ≡ messages }
     {
         let begun_ms = clock.now_ms();
         Progress {
             screen,
+            notices,
             clock,
             telling,
             all: messages as u64,
@@ -182,20 +181,47 @@ impl<'r, S: Eprint, K: Clock> Progress<'r, S, K> {
         now_ms.saturating_sub(self.begun_ms)
     }
 
-    /// Writes the line over the one before. It doesn't matter to the sending whether that goes well.
-    fn show(&self, now_ms: u64) {
-        let line = WayLine {
-            tally: self.board.total(),
+    /// The line on the way, where so many messages have ended by now.
+    fn way_line(&self, tally: Tally, now_ms: u64) -> WayLine
+        ensures tally { result.tally ≡ tally }
+        ensures all { result.all ≡ self.now.all }
+        ensures ms { result.ms ≡ now_ms - self.now.begun_ms }
+    {
+        WayLine {
+            tally,
             all: self.all,
             ms: self.passed_ms(now_ms),
-        };
-        let _told = eprint!(self.screen; "\r{line}\x1b[K");
+        }
+    }
+
+    /// The line at the end, where it is now.
+    fn end_line(&self, ends: &[MessageEnd], statement: &Statement, now_ms: u64) -> EndLine
+        ensures summary { result.summary ≡ summary_in ends.now statement.now }
+        ensures ms { result.ms ≡ now_ms - self.now.begun_ms }
+    {
+        EndLine {
+            summary: summary_of(ends, statement),
+            ms: self.passed_ms(now_ms),
+        }
+    }
+
+    /// Has the line written over the one before. No thread of the sending waits for the terminal.
+    fn show(&self, now_ms: u64) {
+        let line = self.way_line(self.board.total(), now_ms);
+        self.notices.tell(Notice::Way(line));
+    }
+
+    /// Has a notice written, and waits for that a second at most.
+    fn tell_last(&self, notice: Notice) {
+        if self.notices.tell(notice) {
+            self.notices.settle();
+        }
     }
 
     /// Clears the line. All threads have ended, and nothing was printed yet.
     pub fn clear(&self) {
-        if self.telling == Telling::Way {
-            let _told = eprint!(self.screen; "\r\x1b[K");
+        if self.telling == Telling::Way && self.notices.settle() {
+            self.tell_last(Notice::Clear);
         }
     }
 
@@ -204,15 +230,16 @@ impl<'r, S: Eprint, K: Clock> Progress<'r, S, K> {
         if self.telling == Telling::Nothing {
             return;
         }
-        let line = EndLine {
-            summary: summary_of(ends, statement),
-            ms: self.passed_ms(self.clock.now_ms()),
-        };
-        let _told = eprintln!(self.screen; "{line}");
+        let line = self.end_line(ends, statement, self.clock.now_ms());
+        if self.telling == Telling::Way {
+            self.tell_last(Notice::End(line));
+        } else {
+            let _told = eprintln!(self.screen; "{line}");
+        }
     }
 }
 
-impl<'r, S: Eprint, K: Clock> Gate for Progress<'r, S, K> {
+impl<'r, S: Eprint, N: TakesNotices, K: Clock> Gate for Progress<'r, S, N, K> {
     fn pass(&self, _worker: usize, _number: u32) -> bool
         ensures { result ≡ true }
     {

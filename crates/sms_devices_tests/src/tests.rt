@@ -7,5 +7,6 @@ mod paper;
 mod progress;
 mod rated;
 mod same;
+mod screen;
 mod standard;
 mod stopping;

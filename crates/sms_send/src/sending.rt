@@ -17,7 +17,7 @@ use crate::sender::write_report;
 use crate::unsent::tell_unsent;
 use sms_devices::{
     Host, Journal, JournalFiles, LoopDial, Noting, Outboxes, Progress, Rest, Screen, TcpDial,
-    Ticks, listen,
+    Terminal, Ticks, listen,
 };
 use sms_driver::{BindFailure, Dial};
 use sms_files::{FileNames, Input};
@@ -108,7 +108,7 @@ pub fn send_over<'j, R: Host + Net<Stream = TcpStream, Listener = TcpListener>, 
 /// Sends what is wanted over the connections that the dial makes.
 fn send_wanted<
     'j,
-    R: AllocGlobal + Files + JournalFiles + Threads + Wait + time::Clock + Eprint + Sync,
+    R: AllocGlobal + Files + JournalFiles + Threads + Wait + time::Clock + Eprint + Screen + Sync,
     D: Dial,
     P: Pause + Sync,
     W: Write,
@@ -142,7 +142,7 @@ fn send_wanted<
 /// Opens the files that the config names, and sends what they say.
 fn send_files<
     'j,
-    R: AllocGlobal + Files + JournalFiles + Threads + Wait + time::Clock + Eprint + Sync,
+    R: AllocGlobal + Files + JournalFiles + Threads + Wait + time::Clock + Eprint + Screen + Sync,
     D: Dial,
     P: Pause + Sync,
     W: Write,
@@ -177,7 +177,7 @@ fn send_files<
 /// where the report couldn't be written.
 fn send_input<
     'j,
-    R: AllocGlobal + JournalFiles + Threads + Wait + time::Clock + Eprint + Sync,
+    R: AllocGlobal + JournalFiles + Threads + Wait + time::Clock + Eprint + Screen + Sync,
     D: Dial,
     P: Pause + Sync,
     W: Write,
@@ -199,7 +199,8 @@ fn send_input<
 {
     outboxes.set_patience(input.config().retry.answer_ms);
     let clock = Ticks::new(rt);
-    let progress = Progress::new(rt, &clock, remarks.telling, input.messages().len());
+    let messages = input.messages().len();
+    let progress = Progress::new(rt, Terminal::new(rt), &clock, remarks.telling, messages);
     let noting = Noting {
         rt,
         gate: &progress,

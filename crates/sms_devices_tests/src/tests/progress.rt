@@ -2,7 +2,7 @@
 
 use super::paper::ManualClock;
 use super::same::same;
-use sms_devices::{Progress, Telling};
+use sms_devices::{Notice, Progress, TakesNotices, Telling};
 use sms_worker::{
     Attempts, Gate, MessageEnd, MessageRefusal, MessageResult, Outcome, SegmentEnd, Segments,
 };
@@ -59,6 +59,16 @@ impl<'r, R: Wait> Eprint for Paper<'r, R> {
     }
 }
 
+impl<'r, R: Wait> TakesNotices for &Paper<'r, R> {
+    fn tell(&self, notice: Notice) -> bool {
+        (**self).eprint(notice).is_ok()
+    }
+
+    fn settle(&self) -> bool {
+        true
+    }
+}
+
 impl<'r, R: Wait> Paper<'r, R> {
     fn blank(rt: &'r R, alloc: Global) -> Paper<'r, R> {
         Paper {
@@ -80,7 +90,7 @@ fn renews_the_line_in_turns(rt: HostRuntime) -> Result<(), Fail> {
     let alloc = rt.alloc();
     let paper = Paper::blank(&rt, alloc);
     let clock = ManualClock::new(1000);
-    let progress = Progress::new(&paper, &clock, Telling::Way, 10);
+    let progress = Progress::new(&paper, &paper, &clock, Telling::Way, 10);
     let ends = ends_in_turn(alloc)?;
     // When a worker is at which place, and what is written then.
     let steps: [(u64, usize, usize, usize, &str); 7] = [
@@ -124,7 +134,7 @@ fn is_quiet_in_a_pipe(rt: HostRuntime) -> Result<(), Fail> {
     let clock = ManualClock::new(0);
     let ends = ends_in_turn(alloc)?;
     for telling in [Telling::Nothing, Telling::End] {
-        let progress = Progress::new(&paper, &clock, telling, 10);
+        let progress = Progress::new(&paper, &paper, &clock, telling, 10);
         clock.set(5000);
         assert!(rt; progress.pass(0, 1));
         progress.see(0, ends.as_slice(), 0);
