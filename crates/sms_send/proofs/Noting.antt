@@ -7,16 +7,14 @@ use Rattle.sms_files.specs.Setups.{names_in, setup_in}
 use Rattle.sms_files.specs.declared.config.Config.{Config}
 use Rattle.sms_files.specs.declared.setup.Setup.{Setup}
 use Rattle.sms_send.specs.Faults.{TellsRead}
-use Rattle.sms_send.specs.Noted.{SendsBy, SendsNoted, TellsBy, TellsJournaled, TellsNoted, TellsOver}
+use Rattle.sms_send.specs.Noted.{SendsBy, SendsNoted, SendsPlain, SendsThem, TellsBy, TellsNoted, TellsOrder, TellsPlain, TellsThem}
 use Rattle.sms_send.specs.Opened.{OfInput}
-use Rattle.sms_send.specs.Sent.{SendsNamed, TellsFiles, untold}
 use Rattle.sms_send.specs.declared.fault.Fault.{Fault}
 use Rattle.sms_send.specs.declared.fault.Fault.TheVariants.{File, Journal, OutOfMemory, Output}
 use Rattle.sms_send.specs.declared.order.JournalFile.{JournalFile}
 use Rattle.sms_send.specs.declared.order.Order.{Order}
 use Rattle.sms_send.specs.declared.send_job.Centre.{Centre}
-use Rattle.sms_send.specs.declared.sending.Wanted.TheVariants.{Files}
-use Rattle.sms_send.proofs.Sendings.{beside, of_config, of_two}
+use Rattle.sms_send.proofs.Sendings.{beside, of_config}
 
 -- the same, or a fault of the journal behind a status
 abbrev pub Ends : Result ℕ Fault → Fault → Type 0
@@ -47,18 +45,11 @@ pub begun_fault : {A B C D P Q : Type 0} → C → (A × P) ⊎ (B × Q) → A �
 begun_fault same (inl a) = inl a.0
 begun_fault same (inr b) = inr (inl (b.0, same))
 
--- a fault of the config is told alike with a journal and without
-pub tells_config : {F : Type 0} (remaining : F → Told) (centre : Centre) (order : Order) (journal : Option JournalFile) (old new : Option (List ℕ)) (fault : Fault)
-    → (fault ≡ OutOfMemory) ⊎ (fault ≡ File order.config) → TellsJournaled remaining centre order journal old new fault
-tells_config remaining centre order None old new fault told = of_two told
-tells_config remaining centre order (Some file) old new fault told = of_two told
-
-pub tells_setup : {F : Type 0} (remaining : F → Told) (centre : Centre) (order : Order) (journal : Option JournalFile) (old new : Option (List ℕ)) (fault : Fault) (items octets : List ℕ)
-    → OfInput remaining (λ bytes. items ≡ bytes) → octets ≡ items → TellsRead (TellsConfig octets) fault → TellsJournaled remaining centre order journal old new fault
-tells_setup remaining centre order None old new fault items octets input same told =
-    inr (inr (beside remaining items octets (λ bytes. TellsFiles remaining centre bytes old new fault) input same (inl told)))
-tells_setup remaining centre order (Some file) old new fault items octets input same told =
-    inr (inr (beside remaining items octets (λ bytes. TellsBy order.strict remaining centre file bytes old new fault) input same (inl told)))
+-- a fault of the config's octets
+pub tells_setup : {F : Type 0} (remaining : F → Told) (centre : Centre) (order : Order) (old new : Option (List ℕ)) (fault : Fault) (items octets : List ℕ)
+    → OfInput remaining (λ bytes. items ≡ bytes) → octets ≡ items → TellsRead (TellsConfig octets) fault → TellsOrder remaining centre order old new fault
+tells_setup remaining centre order old new fault items octets input same told =
+    inr (inr (beside remaining items octets (λ bytes. TellsBy order.strict remaining centre order.journal bytes old new fault) input same (inl told)))
 
 -- what was read of a config: its octets are an input's, and the setup is of the config that they are
 pub record IsSetUp {F : Type 0} (remaining : F → Told) (items read handed : List ℕ) (setup : Setup) : Type 0 where
@@ -67,32 +58,44 @@ pub record IsSetUp {F : Type 0} (remaining : F → Told) (items read handed : Li
   pub two : handed ≡ items
   pub says : (config : Config) × IsConfig read config × (setup ≡ setup_in config)
 
--- a sending without a journal
+-- what was sent of the files that a setup names, and what a fault says of them
+pub sends_them : {F : Type 0} (strict : Bool) (remaining : F → Told) (items read handed : List ℕ) (setup : Setup) (journal : Option JournalFile) (old new : Option (List ℕ)) (status : ℕ)
+    → IsSetUp remaining items read handed setup → SendsThem strict remaining journal (names_in setup) handed old new status
+    → OfInput remaining (λ octets. SendsBy strict remaining journal octets old new status)
+sends_them strict remaining items read handed setup journal old new status set sent =
+    of_config remaining items read handed setup (λ names octets. SendsThem strict remaining journal names octets old new status) (λ octets. SendsBy strict remaining journal octets old new status)
+    set.input set.one set.two set.says (λ octets so. so) sent
+
+pub tells_them : {F : Type 0} (remaining : F → Told) (items read handed : List ℕ) (setup : Setup) (centre : Centre) (order : Order) (old new : Option (List ℕ)) (fault : Fault)
+    → IsSetUp remaining items read handed setup → TellsThem order.strict remaining centre order.journal (names_in setup) handed old new fault → TellsOrder remaining centre order old new fault
+tells_them remaining items read handed setup centre order old new fault set tells =
+    inr (inr (of_config remaining items read handed setup (λ names octets. TellsThem order.strict remaining centre order.journal names octets old new fault) (λ octets. TellsBy order.strict remaining centre order.journal octets old new fault)
+    set.input set.one set.two set.says (λ octets so. inr so) tells))
+
+-- without a journal
 pub plain_sends : {F : Type 0} (strict : Bool) (remaining : F → Told) (items read handed : List ℕ) (setup : Setup) (journal : Option JournalFile) (old new : Option (List ℕ)) (status : ℕ)
-    → journal ≡ None → IsSetUp remaining items read handed setup → SendsNamed untold strict remaining (names_in setup) handed old new status
+    → journal ≡ None → IsSetUp remaining items read handed setup → SendsPlain strict remaining (names_in setup) handed old new status
     → OfInput remaining (λ octets. SendsBy strict remaining journal octets old new status)
 plain_sends strict remaining items read handed setup journal old new status is set sent =
-    of_config remaining items read handed setup (λ names octets. SendsNamed untold strict remaining names octets old new status) (λ octets. SendsBy strict remaining journal octets old new status)
-    set.input set.one set.two set.says (λ octets so. subst (λ (j : Option JournalFile). SendsBy strict remaining j octets old new status) (sym is) so) sent
+    sends_them strict remaining items read handed setup journal old new status set
+    (subst (λ (j : Option JournalFile). SendsThem strict remaining j (names_in setup) handed old new status) (sym is) sent)
 
-pub plain_tells : {F : Type 0} (remaining : F → Told) (items read handed : List ℕ) (setup : Setup) (centre : Centre) (order : Order) (journal : Option JournalFile) (old new : Option (List ℕ)) (fault : Fault)
-    → journal ≡ None → IsSetUp remaining items read handed setup → TellsOver centre remaining (Files (names_in setup)) handed old new fault → TellsJournaled remaining centre order journal old new fault
-plain_tells remaining items read handed setup centre order journal old new fault is set tells =
-    subst (λ (j : Option JournalFile). TellsJournaled remaining centre order j old new fault) (sym is)
-    (inr (inr (of_config remaining items read handed setup (λ names octets. TellsOver centre remaining (Files names) octets old new fault) (λ octets. TellsFiles remaining centre octets old new fault)
-    set.input set.one set.two set.says (λ octets so. inr so) tells)))
+pub plain_tells : {F : Type 0} (remaining : F → Told) (items read handed : List ℕ) (setup : Setup) (centre : Centre) (order : Order) (old new : Option (List ℕ)) (fault : Fault)
+    → order.journal ≡ None → IsSetUp remaining items read handed setup → TellsPlain order.strict remaining centre (names_in setup) handed old new fault → TellsOrder remaining centre order old new fault
+plain_tells remaining items read handed setup centre order old new fault is set tells =
+    tells_them remaining items read handed setup centre order old new fault set
+    (subst (λ (j : Option JournalFile). TellsThem order.strict remaining centre j (names_in setup) handed old new fault) (sym is) tells)
 
--- and one with a journal
+-- and with one
 pub noted_sends : {F : Type 0} (strict : Bool) (remaining : F → Told) (items read handed : List ℕ) (setup : Setup) (journal : Option JournalFile) (file : JournalFile) (old new : Option (List ℕ)) (status : ℕ)
     → journal ≡ Some file → IsSetUp remaining items read handed setup → SendsNoted strict remaining (names_in setup) handed old new status
     → OfInput remaining (λ octets. SendsBy strict remaining journal octets old new status)
 noted_sends strict remaining items read handed setup journal file old new status is set sent =
-    of_config remaining items read handed setup (λ names octets. SendsNoted strict remaining names octets old new status) (λ octets. SendsBy strict remaining journal octets old new status)
-    set.input set.one set.two set.says (λ octets so. subst (λ (j : Option JournalFile). SendsBy strict remaining j octets old new status) (sym is) so) sent
+    sends_them strict remaining items read handed setup journal old new status set
+    (subst (λ (j : Option JournalFile). SendsThem strict remaining j (names_in setup) handed old new status) (sym is) sent)
 
-pub noted_tells : {F : Type 0} (remaining : F → Told) (items read handed : List ℕ) (setup : Setup) (centre : Centre) (order : Order) (journal : Option JournalFile) (file : JournalFile) (old new : Option (List ℕ)) (fault : Fault)
-    → journal ≡ Some file → IsSetUp remaining items read handed setup → TellsNoted order.strict remaining centre file (names_in setup) handed old new fault → TellsJournaled remaining centre order journal old new fault
-noted_tells remaining items read handed setup centre order journal file old new fault is set tells =
-    subst (λ (j : Option JournalFile). TellsJournaled remaining centre order j old new fault) (sym is)
-    (inr (inr (of_config remaining items read handed setup (λ names octets. TellsNoted order.strict remaining centre file names octets old new fault) (λ octets. TellsBy order.strict remaining centre file octets old new fault)
-    set.input set.one set.two set.says (λ octets so. inr so) tells)))
+pub noted_tells : {F : Type 0} (remaining : F → Told) (items read handed : List ℕ) (setup : Setup) (centre : Centre) (order : Order) (file : JournalFile) (old new : Option (List ℕ)) (fault : Fault)
+    → order.journal ≡ Some file → IsSetUp remaining items read handed setup → TellsNoted order.strict remaining centre file (names_in setup) handed old new fault → TellsOrder remaining centre order old new fault
+noted_tells remaining items read handed setup centre order file old new fault is set tells =
+    tells_them remaining items read handed setup centre order old new fault set
+    (subst (λ (j : Option JournalFile). TellsThem order.strict remaining centre j (names_in setup) handed old new fault) (sym is) tells)

@@ -1,18 +1,22 @@
 -- What a sending with a journal or without promises, from the input on, and what it makes of its files.
-use Rattle.std.specs.Prelude.{◌≡◌, ◌⊎◌, ℕ, Bool, List, Option, Some, None}
+use Rattle.std.specs.Prelude.{◌≡◌, ◌⊎◌, ◌+◌, ℕ, Bool, true, false, List, Option, Some, None, length}
 use Rattle.std.specs.Io.KnownBytes.{Appends}
 use Rattle.std.specs.String.{string_bytes}
 use Rattle.sms_devices.specs.Journals.{HasEnded}
 use Rattle.sms_files.specs.ConfigFaults.{IsConfig, TellsConfig}
 use Rattle.sms_files.specs.Inputs.{Told, TellsInput}
+use Rattle.sms_files.specs.Quoting.{EndsQuoted}
 use Rattle.sms_files.specs.declared.config.Config.{Config}
 use Rattle.sms_files.specs.declared.config.FileNames.{FileNames}
+use Rattle.sms_files.specs.declared.fault.InputFault.{InputFault}
+use Rattle.sms_files.specs.declared.fault.InputFault.TheVariants.{BadRecord}
+use Rattle.sms_files.specs.declared.fault.Source.TheVariants.{Messages}
 use Rattle.sms_files.specs.declared.input.Input.{Input}
 use Rattle.sms_recovery.specs.Files.{Reads, told_of}
 use Rattle.sms_send.specs.Faults.{TellsRead}
 use Rattle.sms_send.specs.Opened.{OfInput}
 use Rattle.sms_send.specs.Runs.{AreNamed, TellsNamedFiles, tariff_in}
-use Rattle.sms_send.specs.Sent.{IsSent, SendsFiles, SendsNamed, TellsNamed, TellsSending, TellsSent, report_in, untold}
+use Rattle.sms_send.specs.Sent.{IsSent, SendsNamed, TellsNamed, TellsSending, report_in, untold}
 use Rattle.sms_send.specs.Statuses.{status_by}
 use Rattle.sms_driver.specs.declared.fault.BindFailure.TheVariants.{NoConnection}
 use Rattle.sms_send.specs.declared.fault.Fault.{Fault}
@@ -52,23 +56,55 @@ IsDeaf centre fault = (centre ≡ Own) × (fault ≡ BindFailed 0 NoConnection)
 abbrev pub TellsOver : {F : Type 0} → Centre → (F → Told) → Wanted → List ℕ → Option (List ℕ) → Option (List ℕ) → Fault → Type 0
 TellsOver centre remaining wanted octets old new fault = IsDeaf centre fault ⊎ TellsWanted untold remaining wanted octets old new fault
 
--- ---- with a journal
+-- ---- with files that were read to their ends
 
 -- the input is what these octets say, which were read beside a config
 abbrev pub IsInputOf : List ℕ → NamedFiles → Input → Type 0
 IsInputOf octets named input = Reads octets named.accounts.items named.messages.items (tariff_in named) input
 
--- what a fault says of them
-abbrev pub TellsInputOf : List ℕ → NamedFiles → Fault → Type 0
-TellsInputOf octets named fault = TellsRead (TellsInput octets (Some named.accounts.items) (Some named.messages.items) (told_of (tariff_in named))) fault
+-- the messages file ends within a quote, which is told of the last record of what was read of it
+abbrev pub IsOpenQuoteOf : NamedFiles → Input → InputFault → Type 0
+IsOpenQuoteOf named input fault = EndsQuoted named.messages.items × (fault ≡ BadRecord Messages (length input.messages.items + 1))
 
--- the files of these names were read to their ends, and what they say beside a config of these octets was sent
+abbrev pub IsOpenQuote : List ℕ → NamedFiles → Fault → Type 0
+IsOpenQuote octets named fault = (input : Input) × IsInputOf octets named input × TellsRead (IsOpenQuoteOf named input) fault
+
+-- what a fault says of them, read strictly or not
+abbrev pub TellsInputOf : Bool → List ℕ → NamedFiles → Fault → Type 0
+TellsInputOf strict octets named fault =
+    TellsRead (TellsInput octets (Some named.accounts.items) (Some named.messages.items) (told_of (tariff_in named))) fault
+    ⊎ ((strict ≡ true) × IsOpenQuote octets named fault)
+
+-- the files of these names were read to their ends, and what they say beside a config of these octets was sent; strictly only
+-- where the messages file doesn't end within a quote
 pub record SendsNoted {F : Type 0} (strict : Bool) (remaining : F → Told) (names : FileNames) (octets : List ℕ) (old new : Option (List ℕ)) (status : ℕ) : Type 0 where
   pub named : NamedFiles
   pub are : AreNamed remaining names named
   pub input : Input
   pub read : IsInputOf octets named input
+  pub closed : strict ≡ true → ¬ EndsQuoted named.messages.items
   pub sends : SendsInput untold strict input old new status
+
+-- what a fault says of them: one can't be opened or read, or it is of what they say, or of the sending
+abbrev pub TellsChecked : {F : Type 0} → (F → Told) → Centre → FileNames → List ℕ → Option (List ℕ) → Option (List ℕ) → Fault → Type 0
+TellsChecked {F} remaining centre names octets old new fault =
+    TellsNamedFiles F names fault
+    ⊎ ((named : NamedFiles) × AreNamed remaining names named × (TellsInputOf true octets named fault
+    ⊎ ((input : Input) × IsInputOf octets named input × (IsDeaf centre fault ⊎ TellsSending untold input old new fault))))
+
+-- ---- without a journal
+
+-- the files of these names were sent; where that is strict they were read to their ends before
+abbrev pub SendsPlain : {F : Type 0} → Bool → (F → Told) → FileNames → List ℕ → Option (List ℕ) → Option (List ℕ) → ℕ → Type 0
+SendsPlain true remaining names octets old new status = SendsNoted true remaining names octets old new status
+SendsPlain false remaining names octets old new status = SendsNamed untold false remaining names octets old new status
+
+-- what a fault says of that
+abbrev pub TellsPlain : {F : Type 0} → Bool → (F → Told) → Centre → FileNames → List ℕ → Option (List ℕ) → Option (List ℕ) → Fault → Type 0
+TellsPlain true remaining centre names octets old new fault = TellsChecked remaining centre names octets old new fault
+TellsPlain false remaining centre names octets old new fault = TellsOver centre remaining (Files names) octets old new fault
+
+-- ---- with a journal
 
 -- a file was made by the journal's name
 abbrev pub IsMade : {F : Type 0} → (List ℕ → F → Type 0) → JournalFile → Type 0
@@ -86,7 +122,7 @@ IsNoted {F} contents status = (file : F) × HasEnded contents status file
 -- anything was sent or behind the report; a centre of the program's own can't listen; or it is of the sending
 abbrev pub TellsReadFiles : Bool → Centre → JournalFile → NamedFiles → List ℕ → Option (List ℕ) → Option (List ℕ) → Fault → Type 0
 TellsReadFiles strict centre journal named octets old new fault =
-    TellsInputOf octets named fault
+    TellsInputOf strict octets named fault
     ⊎ (fault ≡ File journal.name)
     ⊎ ((fault ≡ Journal) × (new ≡ old))
     ⊎ ((input : Input) × IsInputOf octets named input
@@ -98,20 +134,26 @@ TellsNoted {F} strict remaining centre journal names octets old new fault =
 
 -- ---- the job
 
+-- the files of these names were sent, with a journal or without
+abbrev pub SendsThem : {F : Type 0} → Bool → (F → Told) → Option JournalFile → FileNames → List ℕ → Option (List ℕ) → Option (List ℕ) → ℕ → Type 0
+SendsThem strict remaining None names octets old new status = SendsPlain strict remaining names octets old new status
+SendsThem strict remaining (Some journal) names octets old new status = SendsNoted strict remaining names octets old new status
+
+abbrev pub TellsThem : {F : Type 0} → Bool → (F → Told) → Centre → Option JournalFile → FileNames → List ℕ → Option (List ℕ) → Option (List ℕ) → Fault → Type 0
+TellsThem strict remaining centre None names octets old new fault = TellsPlain strict remaining centre names octets old new fault
+TellsThem strict remaining centre (Some journal) names octets old new fault = TellsNoted strict remaining centre journal names octets old new fault
+
 -- the octets are a config's, and the files that it names were sent
 abbrev pub SendsBy : {F : Type 0} → Bool → (F → Told) → Option JournalFile → List ℕ → Option (List ℕ) → Option (List ℕ) → ℕ → Type 0
-SendsBy strict remaining None octets old new status = SendsFiles strict remaining octets old new status
-SendsBy strict remaining (Some journal) octets old new status = (config : Config) × IsConfig octets config × SendsNoted strict remaining config.files octets old new status
+SendsBy strict remaining journal octets old new status = (config : Config) × IsConfig octets config × SendsThem strict remaining journal config.files octets old new status
 
-abbrev pub TellsBy : {F : Type 0} → Bool → (F → Told) → Centre → JournalFile → List ℕ → Option (List ℕ) → Option (List ℕ) → Fault → Type 0
+-- what a fault says of a config's octets: they are none, or what it says of the files that the config names
+abbrev pub TellsBy : {F : Type 0} → Bool → (F → Told) → Centre → Option JournalFile → List ℕ → Option (List ℕ) → Option (List ℕ) → Fault → Type 0
 TellsBy strict remaining centre journal octets old new fault =
-    TellsRead (TellsConfig octets) fault ⊎ ((config : Config) × IsConfig octets config × TellsNoted strict remaining centre journal config.files octets old new fault)
+    TellsRead (TellsConfig octets) fault ⊎ ((config : Config) × IsConfig octets config × TellsThem strict remaining centre journal config.files octets old new fault)
 
--- what a fault of a sending that is ordered so says
-abbrev pub TellsJournaled : {F : Type 0} → (F → Told) → Centre → Order → Option JournalFile → Option (List ℕ) → Option (List ℕ) → Fault → Type 0
-TellsJournaled remaining centre order None old new fault = TellsSent remaining centre order.config old new fault
-TellsJournaled remaining centre order (Some journal) old new fault =
-    (fault ≡ OutOfMemory) ⊎ (fault ≡ File order.config) ⊎ OfInput remaining (λ octets. TellsBy order.strict remaining centre journal octets old new fault)
-
+-- what a fault of a sending that is ordered so says: the config's file can't be read, memory ran out, or what it says of the
+-- octets of some file
 abbrev pub TellsOrder : {F : Type 0} → (F → Told) → Centre → Order → Option (List ℕ) → Option (List ℕ) → Fault → Type 0
-TellsOrder remaining centre order old new fault = TellsJournaled remaining centre order order.journal old new fault
+TellsOrder remaining centre order old new fault =
+    (fault ≡ OutOfMemory) ⊎ (fault ≡ File order.config) ⊎ OfInput remaining (λ octets. TellsBy order.strict remaining centre order.journal octets old new fault)

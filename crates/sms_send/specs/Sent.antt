@@ -1,8 +1,7 @@
 -- What a sending promises of what was read.
-use Rattle.std.specs.Prelude.{◌≡◌, ◌≢◌, ◌⊎◌, ◌*◌, ℕ, Bool, List, [], Option, None, String, length, option_map, string_bytes}
+use Rattle.std.specs.Prelude.{◌≡◌, ◌≢◌, ◌⊎◌, ◌*◌, ℕ, Bool, List, [], Option, None, length, option_map, string_bytes}
 use Rattle.std.specs.Io.KnownBytes.{Appends}
 use Rattle.std.specs.List.{AllZip}
-use Rattle.std.specs.declared.alloc.Global.{Global}
 use Rattle.sms_book.specs.Openings.{credits_of}
 use Rattle.sms_worker.specs.EndOf.{IsEndOf}
 use Rattle.sms_worker.specs.Limits.{most_turns}
@@ -13,17 +12,15 @@ use Rattle.sms_deal.specs.Deals.{dealt}
 use Rattle.sms_driver.specs.Ended.{HaveEnded}
 use Rattle.sms_driver.specs.Closings.{AreExplained}
 use Rattle.sms_driver.specs.Numbered.{AreBelow, AreNumbered}
-use Rattle.sms_files.specs.ConfigFaults.{IsConfig, TellsConfig}
 use Rattle.sms_files.specs.Inputs.{IsInput, Told, TellsInput}
 use Rattle.sms_send.specs.Faults.{TellsRead, told_sending}
-use Rattle.sms_send.specs.Opened.{IsNamed, OfInput}
+use Rattle.sms_send.specs.Opened.{IsNamed}
 use Rattle.sms_send.specs.Statuses.{status_by}
 use Rattle.sms_report.specs.Output.{WritesFront}
 use Rattle.sms_report.specs.Report.{report_of}
 use Rattle.sms_driver.specs.SendFaults.{IsFaultOfOne}
 use Rattle.sms_driver.specs.Statements.{AreRows}
 use Rattle.sms_book.specs.Tariffs.{Price}
-use Rattle.sms_files.specs.declared.config.Config.{Config}
 use Rattle.sms_files.specs.declared.config.Connection.{Connection}
 use Rattle.sms_files.specs.declared.config.FileNames.{FileNames}
 use Rattle.sms_files.specs.declared.config.Flags.{Flags}
@@ -32,12 +29,10 @@ use Rattle.sms_driver.specs.declared.binding.BindSettings.{BindSettings}
 use Rattle.sms_driver.specs.declared.fault.SendFault.{SendFault}
 use Rattle.sms_driver.specs.declared.fault.BindFailure.TheVariants.{NoConnection}
 use Rattle.sms_send.specs.declared.fault.Fault.{Fault}
-use Rattle.sms_send.specs.declared.fault.Fault.TheVariants.{BindFailed, File, OutOfMemory, Output}
+use Rattle.sms_send.specs.declared.fault.Fault.TheVariants.{File, Output}
 use Rattle.sms_files.specs.declared.input.Input.{Input}
 use Rattle.sms_files.specs.declared.limits.Limits.{Limits}
 use Rattle.sms_send.specs.declared.sender.Ended.{Ended}
-use Rattle.sms_send.specs.declared.send_job.Centre.{Centre}
-use Rattle.sms_send.specs.declared.send_job.Centre.TheVariants.{Own}
 
 -- the rules say what the config and the tariff say, and of turns the most that may be taken
 pub record IsRulesOf (retry : Retry) (limits : Limits) (flags : Flags) (tariff : List Price) (rules : Rules) : Type 0 where
@@ -122,20 +117,3 @@ TellsNamed {F} told remaining names config old new fault =
     ⊎ ((fault ≡ File names.tariff) × (string_bytes names.tariff ≢ []))
     ⊎ ((accounts : F) × (messages : F) × (tariff : Option F) × IsNamed (string_bytes names.tariff) tariff
     × TellsSender told config (remaining accounts) (remaining messages) (option_map remaining tariff) old new fault)
-
--- the octets are a config's, and the files that it names were read and sent
-abbrev pub SendsFiles : {F : Type 0} → Bool → (F → Told) → List ℕ → Option (List ℕ) → Option (List ℕ) → ℕ → Type 0
-SendsFiles strict remaining octets old new status = (config : Config) × IsConfig octets config × SendsNamed untold strict remaining config.files octets old new status
-
--- what a fault says of a config's octets: they are none, a centre of the program's own can't listen, or what it says of
--- the files that the config names
-abbrev pub TellsFiles : {F : Type 0} → (F → Told) → Centre → List ℕ → Option (List ℕ) → Option (List ℕ) → Fault → Type 0
-TellsFiles remaining centre octets old new fault =
-    TellsRead (TellsConfig octets) fault
-    ⊎ ((config : Config) × IsConfig octets config × (((centre ≡ Own) × (fault ≡ BindFailed 0 NoConnection)) ⊎ TellsNamed untold remaining config.files octets old new fault))
-
--- what a fault of a sending by the config of this name says: its file can't be read, memory ran out, or what it says of
--- the octets of some file
-abbrev pub TellsSent : {F : Type 0} → (F → Told) → Centre → String Global → Option (List ℕ) → Option (List ℕ) → Fault → Type 0
-TellsSent remaining centre name old new fault =
-    (fault ≡ OutOfMemory) ⊎ (fault ≡ File name) ⊎ OfInput remaining (λ octets. TellsFiles remaining centre octets old new fault)

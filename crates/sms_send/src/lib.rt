@@ -3,6 +3,7 @@
 
 #![tactic(auto)]
 
+mod checked;
 mod command_line;
 mod explained;
 mod exposed;

@@ -3,39 +3,24 @@
 ghost use Rattle.std.specs.Prelude.{◌≡◌, ◌≢◌, ◌⊎◌, ℕ, Err, Ok, IfErr, IfOk, IsOk};
 ghost use Rattle.sms_journal.specs.Digests.{digests_of as of_files};
 ghost use Rattle.sms_send.specs.Jobs.{IsStatusBy};
-ghost use Rattle.sms_send.specs.Noted.{IsInputOf, IsMade, IsNoted, SendsNoted, TellsBegin, TellsInputOf, TellsNoted};
+ghost use Rattle.sms_send.specs.Noted.{IsMade, IsNoted, SendsNoted, TellsBegin, TellsNoted};
 ghost use Rattle.sms_send.specs.Runs.{tariff_in};
 ghost use Rattle.sms_send.specs.declared.fault.Fault.TheVariants.{Journal as JournalFault, Output};
 
+use crate::checked::input_in;
 use crate::fault::Fault;
 use crate::order::{JournalFile, Pace};
-use crate::reading::read_input;
 use crate::remarks::Remarks;
 use crate::run_files::{NamedFiles, read_named};
 use crate::sending::{Reach, Wanted, send_over};
 use sms_devices::{Host, Journal, JournalFiles};
-use sms_files::{FileNames, Input};
+use sms_files::FileNames;
 use sms_journal::{Digests, digests_of};
-use std::alloc::Global;
 use std::fs::OpenFile;
 use std::io::Write;
 use std::net::{Net, TcpListener, TcpStream};
 use std::sync::Wait;
 use std::time::Clock;
-
-/// What the files say beside a config.
-fn input_in(alloc: Global, config: &[u8], named: &NamedFiles) -> Result<Input, Fault>
-    ensures read { IfOk result (IsInputOf config.now named.now) }
-    ensures refused { IfErr result (TellsInputOf config.now named.now) }
-{
-    read_input(
-        alloc,
-        config,
-        named.accounts.as_slice(),
-        named.messages.as_slice(),
-        named.tariff(),
-    )
-}
 
 /// The digests of a run's files.
 fn digests_in(config: &[u8], named: &NamedFiles) -> Digests
@@ -110,7 +95,7 @@ pub fn send_noted<R: Host + Net<Stream = TcpStream, Listener = TcpListener>, W: 
     ensures unwritten { IfErr result (λ fault. fault ≢ Output → fault ≢ JournalFault → output.new ≡ output.old) }
 {
     let named = read_named(rt, files)?;
-    let input = input_in(rt.alloc(), config, &named)?;
+    let input = input_in(rt.alloc(), config, &named, strict)?;
     let digests = digests_in(config, &named);
     drop(named);
     let journal = begin_journal(rt, wanted, &digests)?;

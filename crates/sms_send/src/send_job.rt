@@ -7,6 +7,7 @@ ghost use Rattle.sms_send.specs.Noted.{SendsBy, TellsOrder};
 ghost use Rattle.sms_send.specs.Sent.{RunsSender, TellsSender};
 ghost use Rattle.sms_send.specs.declared.fault.Fault.TheVariants.{Journal, Output};
 
+use crate::checked::send_plain;
 use crate::exposed::config_of;
 use crate::fault::Fault;
 use crate::noted::send_noted;
@@ -14,7 +15,7 @@ use crate::order::Order;
 use crate::reading::{read_input, setup_of};
 use crate::remarks::Remarks;
 use crate::sender::{send_all, write_report};
-use crate::sending::{Reach, Wanted, send_over};
+use crate::sending::Reach;
 use sms_devices::Host;
 use sms_driver::Dial;
 use sms_files::{FileNames, Setup};
@@ -117,12 +118,11 @@ pub fn send_job<R: Host + Net<Stream = TcpStream, Listener = TcpListener>, W: Wr
         answers,
     };
     match journal {
-        None => send_over(
+        None => send_plain(
             rt,
             &reach,
             config.as_slice(),
-            Wanted::Files(files),
-            None,
+            files,
             remarks,
             pace,
             strict,

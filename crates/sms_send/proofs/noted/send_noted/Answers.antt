@@ -15,6 +15,7 @@ returns-clause-sent g c =
       are = c.in_ok-named.ensures.read;
       input = c.in_ok-input.input;
       read = c.in_ok-input.ensures.read;
+      closed = c.in_ok-input.ensures.closed;
       sends = sends;
     })
     (ended_ok c.end_journal.result c.send_over-sent.result _ c.end_journal.ensures.ended c.send_over-sent.ensures.sent)

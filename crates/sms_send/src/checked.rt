@@ -1,0 +1,131 @@
+//! Files that are read to their ends, and a sending of them without a journal.
+
+ghost use Rattle.std.specs.Prelude.{◌≡◌, ◌≢◌, IfErr, IfOk, OnOk, true};
+ghost use Rattle.sms_files.specs.Quoting.{EndsQuoted};
+ghost use Rattle.sms_send.specs.Faults.{TellsRead};
+ghost use Rattle.sms_send.specs.Jobs.{IsStatusBy};
+ghost use Rattle.sms_send.specs.Noted.{IsInputOf, IsOpenQuoteOf, SendsNoted, SendsPlain, TellsChecked, TellsInputOf, TellsPlain};
+ghost use Rattle.sms_send.specs.declared.fault.Fault.TheVariants.{Output};
+
+use crate::fault::Fault;
+use crate::order::Pace;
+use crate::reading::read_input;
+use crate::remarks::Remarks;
+use crate::run_files::{NamedFiles, read_named};
+use crate::sending::{Reach, Wanted, send_over};
+use sms_devices::Host;
+use sms_files::{FileNames, Input, check_quotes};
+use std::alloc::Global;
+use std::io::Write;
+use std::net::{Net, TcpListener, TcpStream};
+
+/// Refuses a messages file that ends within a quote, of which this input was read.
+fn check_open(named: &NamedFiles, input: &Input) -> Result<(), Fault>
+    ensures closed { OnOk result (¬ EndsQuoted named.now.messages.items) }
+    ensures refused { IfErr result (TellsRead (IsOpenQuoteOf named.now input.now)) }
+{
+    match check_quotes(named.messages.as_slice(), input) {
+        Ok(()) => Ok(()),
+        Err(fault) => Err(Fault::from(fault)),
+    }
+}
+
+/// What the files say beside a config. Strictly, a messages file that ends within a quote is refused.
+pub fn input_in(
+    alloc: Global,
+    config: &[u8],
+    named: &NamedFiles,
+    strict: bool,
+) -> Result<Input, Fault>
+    ensures read { IfOk result (IsInputOf config.now named.now) }
+    ensures closed { IfOk result (λ input. strict ≡ true → ¬ EndsQuoted named.now.messages.items) }
+    ensures refused { IfErr result (TellsInputOf strict config.now named.now) }
+{
+    match read_input(
+        alloc,
+        config,
+        named.accounts.as_slice(),
+        named.messages.as_slice(),
+        named.tariff(),
+    ) {
+        Ok(input) => {
+            if !strict {
+                return Ok(input);
+            }
+            match check_open(named, &input) {
+                Ok(()) => Ok(input),
+                Err(fault) => {
+                    drop(input);
+                    Err(fault)
+                }
+            }
+        }
+        Err(fault) => Err(fault),
+    }
+}
+
+/// Reads the files that the config names to their ends, and sends what they say, unless the messages
+/// file ends within a quote.
+fn send_checked<R: Host + Net<Stream = TcpStream, Listener = TcpListener>, W: Write>(
+    rt: &R,
+    reach: &Reach,
+    config: &[u8],
+    files: FileNames,
+    remarks: Remarks,
+    pace: Pace,
+    output: &mut W,
+) -> Result<u8, Fault>
+    ensures sent { IfOk result (SendsNoted true R.File.remaining files config.now (W.contents output.old) (W.contents output.new)) }
+    ensures status { IfOk result (IsStatusBy true) }
+    ensures refused { IfErr result (TellsChecked R.File.remaining reach.now.centre files config.now (W.contents output.old) (W.contents output.new)) }
+    ensures unwritten { IfErr result (λ fault. fault ≢ Output → output.new ≡ output.old) }
+{
+    let named = read_named(rt, files)?;
+    let input = input_in(rt.alloc(), config, &named, true)?;
+    drop(named);
+    send_over(
+        rt,
+        reach,
+        config,
+        Wanted::Read(input),
+        None,
+        remarks,
+        pace,
+        true,
+        output,
+    )
+}
+
+/// Sends what the files say that the config names, without a journal. Strictly, they are read to their
+/// ends first, and a messages file that ends within a quote is refused.
+pub fn send_plain<R: Host + Net<Stream = TcpStream, Listener = TcpListener>, W: Write>(
+    rt: &R,
+    reach: &Reach,
+    config: &[u8],
+    files: FileNames,
+    remarks: Remarks,
+    pace: Pace,
+    strict: bool,
+    output: &mut W,
+) -> Result<u8, Fault>
+    ensures sent { IfOk result (SendsPlain strict R.File.remaining files config.now (W.contents output.old) (W.contents output.new)) }
+    ensures status { IfOk result (IsStatusBy strict) }
+    ensures refused { IfErr result (TellsPlain strict R.File.remaining reach.now.centre files config.now (W.contents output.old) (W.contents output.new)) }
+    ensures unwritten { IfErr result (λ fault. fault ≢ Output → output.new ≡ output.old) }
+{
+    if strict {
+        send_checked(rt, reach, config, files, remarks, pace, output)
+    } else {
+        send_over(
+            rt,
+            reach,
+            config,
+            Wanted::Files(files),
+            None,
+            remarks,
+            pace,
+            false,
+            output,
+        )
+    }
+}
