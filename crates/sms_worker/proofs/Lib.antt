@@ -2,6 +2,7 @@ pub mod Apartness
 pub mod Beginnings
 pub mod Changes
 pub mod Closing
+pub mod Credit
 pub mod Charges
 pub mod Earliest
 pub mod EndLemmas

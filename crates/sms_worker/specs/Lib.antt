@@ -2,6 +2,7 @@ pub mod Addresses
 pub mod Apart
 pub mod Begins
 pub mod Closing
+pub mod Credit
 pub mod EndOf
 pub mod Ends
 pub mod Events

@@ -1,12 +1,14 @@
 //! Beginning a message: its parts, its credits, and its end so far.
 
-ghost use Rattle.std.specs.Prelude.{◌≡◌, ℕ, ◌+◌, ◌*◌, ◌<◌, ◌≤◌, ◌↔◌, All, IsTrue, false, Err, IfOk, IfErr, IfSome, OnOk, length, slice_set, vec_len};
+ghost use Rattle.std.specs.Prelude.{◌≡◌, ◌≢◌, ℕ, ◌+◌, ◌*◌, ◌<◌, ◌≤◌, ◌↔◌, All, IsTrue, false, Err, IfOk, IfErr, IfSome, OnOk, length, slice_set, vec_len};
 ghost use Rattle.sms_book.specs.Limits.{most_returned};
 ghost use Rattle.sms_book.specs.Money.{reserved_more};
 ghost use Rattle.sms_book.specs.Shares.{changed};
 ghost use Rattle.sms_core.specs.RowMoves.{row_reserved};
-ghost use Rattle.sms_book.specs.Portions.{row_at};
+ghost use Rattle.sms_book.specs.Portions.{amounts_at, row_at};
+ghost use Rattle.sms_book.specs.Alone.{opening_at};
 ghost use Rattle.sms_worker.specs.Begins.{ready, Begins};
+ghost use Rattle.sms_worker.specs.Credit.{Lacks, LacksFor};
 ghost use Rattle.sms_book.specs.Tariffs.{cost_of};
 ghost use Rattle.sms_segment.specs.declared.place.Reference.{Reference as TheReference};
 ghost use Rattle.sms_segment.specs.Message.{IsTooLong, parts_of};
@@ -16,7 +18,7 @@ ghost use Rattle.sms_worker.specs.Told.{IsKnown, IsNotCut, IsRefusalOf, IsResult
 ghost use Rattle.sms_worker.specs.TextsState.{AreUnlinked, carried, texts_of};
 ghost use Rattle.sms_worker.specs.UserData.{message_data};
 ghost use Rattle.std.specs.Prelude.{string_bytes};
-ghost use Rattle.sms_worker.specs.declared.ends.MessageRefusal.TheVariants.{BindClosed};
+ghost use Rattle.sms_worker.specs.declared.ends.MessageRefusal.TheVariants.{BindClosed, NoCredit};
 ghost use Rattle.sms_worker.specs.declared.ends.MessageResult.TheVariants.{Refused};
 
 use crate::address::{destination, source};
@@ -164,6 +166,7 @@ fn prepare(
     ensures refused { IfErr result (λ e. IsRefusalOf rules.now accounts message.now e) }
     ensures unlinked { IfOk result (λ r. AreUnlinked r.0) }
     ensures closed { IfErr result (λ e. e ≡ BindClosed → IsTrue down) }
+    ensures credit { IfErr result (λ e. e ≢ NoCredit) }
     ensures down { IsTrue down → result ≡ Err BindClosed }
 {
     if down {
@@ -219,10 +222,9 @@ fn reserve_all<N: BookName>(
     ensures book { IsTrue result → book.new ≡ slice_set book.old account (row_reserved (parts * cost) (row_at book.old account)) }
     ensures share { IsTrue result → shares.new ≡ changed shares.old account (reserved_more (parts * cost)) }
     ensures refused { result ≡ false → (book.new ≡ book.old) × (shares.new ≡ shares.old) }
+    ensures lacks { result ≡ false → N.book.workers ≡ 1 → account < length shares.old.amounts → Lacks (opening_at N.book account) (amounts_at shares.old.amounts account) (parts * cost) }
 {
-    let Some(credits) = (parts as u64).checked_mul(u64::from(cost)) else {
-        return false;
-    };
+    let credits = (parts as u64).saturating_mul(u64::from(cost));
     book.reserve(shares, account, credits).is_ok()
 }
 
@@ -239,6 +241,7 @@ pub(crate) fn begun<N: BookName, R: Wait>(
     ensures begins { Begins rules.now message.now shares.old shares.new (carried result.0) result.1 }
     ensures unlinked { AreUnlinked result.0 }
     ensures closed { result.1.result ≡ Refused BindClosed → IsTrue down }
+    ensures credit { result.1.result ≡ Refused NoCredit → LacksFor N.book rules.now shares.old message.now }
     ensures down { IsTrue down → result.1.result ≡ Refused BindClosed }
 {
     let accounts = shares.accounts();

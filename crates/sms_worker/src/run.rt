@@ -45,6 +45,7 @@ impl<'l, N: BookName, C: Call> Model for Run<'l, N, C> {
     ghost use Rattle.sms_worker.specs.TextsState.{carried};
     ghost use Rattle.sms_worker.specs.Closing.{Closes};
     ghost use Rattle.sms_worker.specs.Rising.{InOrder};
+    ghost use Rattle.sms_worker.specs.Credit.{LackCredit};
 
     ghost Value = { RunState };
 
@@ -53,6 +54,7 @@ impl<'l, N: BookName, C: Call> Model for Run<'l, N, C> {
     ghost invariant = { λ r. record {
       keeps : Keeps C.start r.messages.items r.ends.items (map carried r.texts.items) r.opened.items r.seat r.shares (received r.heard.value);
       closing : Closes r.closed r.ends.items;
+      credit : LackCredit N.book C.start.rules C.start.messages r.ends.items r.shares;
       order : InOrder r.ends.items r.next r.opened.items r.queues.all r.texts.items;
       ends_fit : vec_len r.messages ≤ vec_capacity r.ends;
       texts_fit : vec_len r.messages ≤ vec_capacity r.texts;

@@ -7,6 +7,7 @@ ghost use Rattle.sms_window.specs.Drawing.{HasDrawn};
 ghost use Rattle.sms_worker.specs.Keeps.{slots_of};
 ghost use Rattle.std.specs.List.{AllZip};
 ghost use Rattle.sms_worker.specs.Closing.{IsSeen, NoneIsClosed, StaysClosed};
+ghost use Rattle.sms_worker.specs.Credit.{LackCredit};
 ghost use Rattle.sms_worker.specs.EndOf.{IsEndOf};
 ghost use Rattle.sms_worker.specs.Apart.{NumbersApart, PlacesApart};
 ghost use Rattle.sms_worker.specs.Rising.{FirstsRise};
@@ -94,6 +95,7 @@ fn into_end<'l, N: BookName, W, G, K, R: Wait, C: Call>(
     ensures told { AllTold C.start.rules (length C.start.received) run.entry.heard C.start.messages run.entry.ends }
     ensures numbers { Drew C.start.seat.view result.seat.view C.start.messages run.entry.ends }
     ensures credits { Grew C.start.share.amounts result.shares.amounts C.start.messages run.entry.ends }
+    ensures lacking { LackCredit N.book C.start.rules C.start.messages run.entry.ends result.shares }
     ensures slots { (result.seat.view.slots ≡ C.start.seat.view.slots) × (result.seat.window ≡ C.start.seat.window) }
     ensures number { result.shares.number ≡ C.start.share.number }
     ensures heard { (rest : List Reply) × (run.entry.heard ≡ C.start.received ++ rest) }
@@ -150,6 +152,7 @@ fn work<'l, N: BookName, W: Write, G: Gate, K: Clock, P: Pause, R: Wait, C: Call
     ensures apart { NumbersApart result.ends.items }
     ensures places { PlacesApart (received result.consumer) result.ends.items }
     ensures credits { Grew C.start.share.amounts result.shares.amounts C.start.messages result.ends.items }
+    ensures lacking { LackCredit N.book C.start.rules C.start.messages result.ends.items result.shares }
     ensures slots { (result.seat.view.slots ≡ C.start.seat.view.slots) × (result.seat.window ≡ C.start.seat.window) }
     ensures number { result.shares.number ≡ C.start.share.number }
     ensures ring { SameConsumer worker.consumer result.consumer }
@@ -222,6 +225,8 @@ impl<N: BookName> ReadyWorker<N> {
         ensures apart { NumbersApart result.0.ends.items }
         ensures places { PlacesApart (received result.0.consumer) result.0.ends.items }
         ensures credits { Grew self.worker.shares.amounts result.0.shares.amounts self.messages result.0.ends.items }
+        // Where the book has no other share, a message is refused for want of credit only where its account has too little.
+        ensures lacking { LackCredit N.book rules.now self.messages result.0.ends.items result.0.shares }
         ensures slots { (result.0.seat.view.slots ≡ self.worker.seat.view.slots) × (result.0.seat.window ≡ self.worker.seat.window) }
         ensures number { result.0.shares.number ≡ self.worker.shares.number }
         ensures ring { SameConsumer self.worker.consumer result.0.consumer }
@@ -282,6 +287,8 @@ pub fn run_worker<'l, N: BookName, W: Write, G: Gate, K: Clock, P: Pause, R: Wai
     ensures apart { IfOk result (λ d. NumbersApart d.0.ends.items) }
     ensures places { IfOk result (λ d. PlacesApart (received d.0.consumer) d.0.ends.items) }
     ensures credits { IfOk result (λ d. Grew worker.shares.amounts d.0.shares.amounts messages.items d.0.ends.items) }
+    // Where the book has no other share, a message is refused for want of credit only where its account has too little.
+    ensures lacking { IfOk result (λ d. LackCredit N.book rules.now messages.items d.0.ends.items d.0.shares) }
     ensures slots { IfOk result (λ d. (d.0.seat.view.slots ≡ worker.seat.view.slots) × (d.0.seat.window ≡ worker.seat.window)) }
     ensures number { IfOk result (λ d. d.0.shares.number ≡ worker.shares.number) }
     ensures ring { IfOk result (λ d. SameConsumer worker.consumer d.0.consumer) }

@@ -11,6 +11,7 @@ use Rattle.sms_worker.specs.Ends.{total_in, credit}
 use Rattle.sms_worker.specs.Submits.{message_parts}
 use Rattle.sms_worker.specs.Told.{IsKnown}
 use Rattle.sms_worker.proofs.Beginnings.{length-ready, reserved_ready, other_ready}
+use Rattle.sms_worker.proofs.Credit.{lacks_for}
 use Rattle.sms_worker.proofs.begin.begun.Goals as goal
 
 pub returns-clause-begins : goal.returns-clause-begins
@@ -42,3 +43,16 @@ returns-clause-begins g c =
       charged = λ i. ap (λ (s : Share). (amounts_at s.amounts i).charged) share ∙ (other_ready old a (n * cost) i low).0;
       returned = λ i. ap (λ (s : Share). (amounts_at s.amounts i).returned) share ∙ (other_ready old a (n * cost) i low).1;
     }
+
+pub returns-then-not-reserve_all-clause-credit : goal.returns-then-not-reserve_all-clause-credit
+returns-then-not-reserve_all-clause-credit g c is =
+    let m = c.args.message.now in
+    let old = c.args.shares.now in
+    let a = c.in-Some.account in
+    let n : ℕ = length (message_parts c.args.rules.now m) in
+    let cost : ℕ = cost_of c.args.rules.now.tariff (string_bytes m.dest) in
+    let known = subst (λ k. IsKnown k m.account) c.accounts-accounts.ensures.share c.in-Ok.ensures.known.0 in
+    let low = subst (IsKnown (length old.amounts)) c.in-Some.is known in
+    let parts : c.len.result ≡ n = (search rules) ∙ ap length c.in-Ok.ensures.ends ∙ length-ready cost n in
+    let price : c.cost-price.result ≡ cost = search rules in
+    lacks_for g.N.BookName.book c.args.rules.now old m a c.len.result c.cost-price.result c.in-Some.is (λ i. parts i * price i) (λ alone. c.reserve_all.ensures.lacks (search rules) alone low)

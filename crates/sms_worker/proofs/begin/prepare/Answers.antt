@@ -1,5 +1,7 @@
 use Rattle.std.proofs.Common.{◌∙◌, sym, ap, subst, rules}
+use Rattle.sms_worker.specs.declared.ends.MessageRefusal.{MessageRefusal}
 use Rattle.sms_worker.specs.Submits.{message_parts}
+use Rattle.sms_worker.specs.Told.{IsNotCut}
 use Rattle.sms_worker.specs.TextsState.{AreUnlinked, carried}
 use Rattle.sms_worker.proofs.Beginnings.{not_cut}
 use Rattle.sms_worker.proofs.Kept.{carried_of, unlinked_of}
@@ -19,3 +21,6 @@ returns-in-Ok-waiting_ends-clause-texts c = ap carried c.in-Ok.ensures.texts ∙
 
 pub returns-in-Ok-waiting_ends-clause-unlinked : goal.returns-in-Ok-waiting_ends-clause-unlinked
 returns-in-Ok-waiting_ends-clause-unlinked c = subst AreUnlinked (sym c.in-Ok.ensures.texts) (unlinked_of (message_parts c.args.rules.now c.args.message.now))
+
+pub returns-in-Err-clause-credit : goal.returns-in-Err-clause-credit
+returns-in-Err-clause-credit c is = subst (λ (e : MessageRefusal). IsNotCut c.args.rules.now c.args.message.now e) is c.in-Err.ensures.refused

@@ -1,6 +1,7 @@
 use Rattle.std.proofs.Common.{[], length, ap, subst, ◌∙◌}
 use Rattle.sms_worker.specs.Closing.{NoneIsClosed, StaysClosed}
 use Rattle.sms_worker.specs.Rising.{FirstsRise}
+use Rattle.sms_worker.specs.Credit.{LackCredit}
 use Rattle.sms_worker.specs.RunState.{RunState}
 use Rattle.sms_worker.specs.Told.{AllTold, Drew}
 use Rattle.sms_worker.proofs.Changes.{drew_unused}
@@ -29,3 +30,6 @@ returns-clause-why g c none = subst (λ (x : RunState). NoneIsClosed x.ends) c.r
 
 pub returns-clause-closed : goal.returns-clause-closed
 returns-clause-closed g c = subst (λ (x : RunState). StaysClosed x.ends) c.run.view_is c.run.invariant.closing.stays
+
+pub returns-clause-lacking : goal.returns-clause-lacking
+returns-clause-lacking g c = subst (λ (x : RunState). LackCredit g.N.BookName.book g.C.Call.start.rules g.C.Call.start.messages x.ends c.run.inside.shares) c.run.view_is c.run.invariant.credit

@@ -11,6 +11,8 @@ use Rattle.sms_worker.specs.Apart.{PlacesApart}
 use Rattle.sms_worker.proofs.EndsOf.{ends_of}
 use Rattle.sms_worker.proofs.Apartness.{numbers_apart, places_apart}
 use Rattle.sms_worker.proofs.Closing.{closes_none}
+use Rattle.sms_worker.specs.Credit.{LackCredit}
+use Rattle.sms_worker.proofs.Credit.{credit_none}
 use Rattle.sms_worker.proofs.Rising.{order_opening}
 use Rattle.sms_worker.proofs.work.work.Goals as goal
 
@@ -20,6 +22,7 @@ invariant_of-run g c =
     record {
       keeps = rw c.of-heard.ensures (keeps_opening _ _ _ _ _ _ _ _ r.messages r.seat r.share r.received r.no_ends (ap (map carried) r.no_texts) r.none_opened);
       closing = rw (r.no_ends, c.not_yet.ensures) (closes_none false);
+      credit = credit_none r.no_ends;
       order = order_opening _ 0 _ _ _ r.no_ends r.no_texts r.none_opened c.none.ensures;
       ends_fit = r.ends_fit;
       texts_fit = r.texts_fit;
@@ -115,3 +118,8 @@ returns-clause-seen g c = c.into_end-end.ensures.seen
 
 pub returns-clause-closed : goal.returns-clause-closed
 returns-clause-closed g c = subst StaysClosed (sym c.into_end-end.ensures.ends) c.into_end-end.ensures.closed
+
+pub returns-clause-lacking : goal.returns-clause-lacking
+returns-clause-lacking g c =
+    let start = g.C.Call.start in
+    subst (λ l. LackCredit g.N.BookName.book start.rules start.messages l c.into_end-end.result.shares) (sym c.into_end-end.ensures.ends) c.into_end-end.ensures.lacking

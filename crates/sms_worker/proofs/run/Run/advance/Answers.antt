@@ -8,6 +8,7 @@ invariant_of-self g c =
     record {
       keeps = i.keeps;
       closing = i.closing;
+      credit = i.credit;
       order = order_popped c.self.inside.ends.items c.self.inside.next c.self.inside.opened.items c.self.inside.queues.all c.pop.new.self.all c.self.inside.texts.items c.as_slice.result.now c.as_slice.ensures.value c.pop.ensures.heads i.order;
       ends_fit = i.ends_fit;
       texts_fit = i.texts_fit;
@@ -20,6 +21,7 @@ invariant_of-self-in-Next g c =
     record {
       keeps = i.keeps;
       closing = i.closing;
+      credit = i.credit;
       order = order_on c.self.inside.ends.items c.self.inside.next c.saturating_add-self-inside.result c.self.inside.opened.items c.self.inside.queues.all c.self.inside.texts.items later i.order;
       ends_fit = i.ends_fit;
       texts_fit = i.texts_fit;

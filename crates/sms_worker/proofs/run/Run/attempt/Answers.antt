@@ -12,6 +12,7 @@ use Rattle.sms_worker.specs.Rising.{HasTurn, InOrder}
 use Rattle.sms_worker.specs.RunState.{RunState}
 use Rattle.sms_worker.specs.Closing.{Closes}
 use Rattle.sms_worker.proofs.Closing.{closes_put}
+use Rattle.sms_worker.proofs.Credit.{credit_same, credit_put}
 use Rattle.sms_worker.proofs.Placed.{has_addresses, turn_kept, turn_message}
 use Rattle.sms_worker.proofs.Rising.{order_tried}
 use Rattle.sms_worker.proofs.Turning.{as_it_was, tried_so}
@@ -40,6 +41,7 @@ invariant_of-self-then-not-is_waiting g c =
     record {
       keeps = keeps_same _ _ _ _ _ _ _ _ _ i.keeps same;
       closing = subst (Closes c.self.inside.closed) (sym same) i.closing;
+      credit = credit_same i.credit same;
       order = subst (λ l. InOrder l c.self.inside.next c.self.inside.opened.items c.self.inside.queues.all c.self.inside.texts.items) (sym same) i.order;
       ends_fit = (let r = i.ends_fit in omega arith);
       texts_fit = i.texts_fit;
@@ -78,6 +80,7 @@ invariant_of-self-2 g c =
     record {
       keeps = keeps_tried _ c.args.context.now.rules.now _ _ _ _ _ c.start-tried.new.opened.items _ c.start-tried.new.seat _ _ k p c.index-message.result.now part.part s s' c.start-tried.result i.keeps c.requires.rules there part.there at waits tried refl refl c.start-tried.ensures.window slots is long;
       closing = subst (Closes c.self.inside.closed) (sym is) (closes_put c.self.inside.closed c.self.inside.ends.items k p s' i.closing);
+      credit = credit_put k p s' i.credit is;
       order = order_tried c.args.context.now.rules.now c.index-message.result.now part.part g.C.Call.start.seat.view c.self.inside.seat.view c.start-tried.new.seat.view g.C.Call.start.messages c.self.inside.ends.items _ c.args.place s s' c.start-tried.result c.self.inside.next c.self.inside.opened.items c.start-tried.new.opened.items c.self.inside.queues.all c.self.inside.texts.items i.keeps.shape.within i.keeps.numbers at tried turn c.start-tried.ensures.opened is i.order;
       ends_fit = (let r = i.ends_fit in omega arith);
       texts_fit = i.texts_fit;

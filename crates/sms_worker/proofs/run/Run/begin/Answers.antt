@@ -7,6 +7,8 @@ use Rattle.sms_worker.specs.TextsState.{carried}
 use Rattle.sms_worker.proofs.Beginnings.{keeps_begun}
 use Rattle.sms_worker.proofs.Kept.{map_more}
 use Rattle.sms_worker.proofs.Closing.{closes_more}
+use Rattle.sms_worker.specs.Credit.{LacksFor}
+use Rattle.sms_worker.proofs.Credit.{credit_begun}
 use Rattle.sms_worker.proofs.Rising.{order_begun}
 use Rattle.sms_worker.proofs.run.Run.begin.Goals as goal
 
@@ -19,10 +21,12 @@ invariant_of-self g c =
     let low' : n < length c.self.inside.messages.items = search rules in
     let there = ap (slice_get c.self.inside.messages.items) (sym at) ∙ slice_get-get_or c.self.inside.messages.items n c.index-message.result.now low' ∙ ap Some (sym c.index-message.ensures) in
     let b = subst (λ (x : Rules). Begins x c.index-message.result.now c.self.inside.shares c.begun-texts.new.shares (carried c.begun-texts.result.0) c.begun-texts.result.1) c.requires.rules c.begun-texts.ensures.begins in
+    let there' = ap (λ l. slice_get l (length c.self.inside.ends.items)) (sym i.keeps.messages) ∙ there in
     let done = keeps_begun _ _ _ _ _ _ _ _ _ c.index-message.result.now (carried c.begun-texts.result.0) c.begun-texts.result.1 i.keeps there low b in
     record {
       keeps = rw (c.push_reserved.ensures.items, c.push_reserved-2.ensures.items, map_more carried c.self.inside.texts.items c.begun-texts.result.0) done;
       closing = rw c.push_reserved-2.ensures.items (closes_more c.self.inside.closed c.self.inside.ends.items c.begun-texts.result.1 i.closing (λ is. sym c.is_closed-down.ensures ∙ c.begun-texts.ensures.closed is) (λ on. c.begun-texts.ensures.down (c.is_closed-down.ensures ∙ on)));
+      credit = rw c.push_reserved-2.ensures.items (credit_begun c.self.inside.ends.items c.self.inside.shares c.begun-texts.new.shares c.index-message.result.now (carried c.begun-texts.result.0) c.begun-texts.result.1 i.credit there' b (λ is. subst (λ (x : Rules). LacksFor g.N.BookName.book x c.self.inside.shares c.index-message.result.now) c.requires.rules (c.begun-texts.ensures.credit is)));
       order = rw (c.push_reserved-2.ensures.items, c.push_reserved.ensures.items) (order_begun c.self.inside.ends.items c.begun-texts.result.1 c.self.inside.texts.items c.begun-texts.result.0 _ b.count b.segments c.self.inside.next c.self.inside.opened.items c.self.inside.queues.all c.begun-texts.ensures.unlinked i.order);
       ends_fit = (let r = i.ends_fit in let e = c.push_reserved-2.ensures.capacity in omega arith);
       texts_fit = (let r = i.texts_fit in let e = c.push_reserved.ensures.capacity in omega arith);

@@ -25,6 +25,7 @@ invariant_of-self g c =
     record {
       keeps = rw c.remove-open.ensures.items done;
       closing = i.closing;
+      credit = i.credit;
       order = rw c.remove-open.ensures.items (order_closed c.self.inside.ends.items c.self.inside.next c.self.inside.opened.items c.self.inside.queues.all c.self.inside.texts.items c.args.i i.order);
       ends_fit = i.ends_fit;
       texts_fit = i.texts_fit;

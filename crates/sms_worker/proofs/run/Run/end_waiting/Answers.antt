@@ -11,6 +11,7 @@ use Rattle.sms_worker.proofs.EndLemmas.{back_there, given_same, given_other, no_
 use Rattle.sms_worker.proofs.Keeping.{keeps_same, keeps_given, told_there, fits_there}
 use Rattle.sms_worker.specs.Closing.{Closes}
 use Rattle.sms_worker.proofs.Closing.{closes_put}
+use Rattle.sms_worker.proofs.Credit.{credit_same, credit_settled}
 use Rattle.sms_worker.proofs.Rising.{order_kept}
 use Rattle.sms_worker.proofs.run.Run.end_waiting.Goals as goal
 
@@ -26,6 +27,7 @@ invariant_of-self-then-not-is_waiting g c =
     record {
       keeps = keeps_same _ _ _ _ _ _ _ _ _ i.keeps same;
       closing = subst (Closes c.self.inside.closed) (sym same) i.closing;
+      credit = credit_same i.credit same;
       order = subst (λ l. InOrder l c.self.inside.next c.self.inside.opened.items c.self.inside.queues.all c.self.inside.texts.items) (sym same) i.order;
       ends_fit = (let r = i.ends_fit in omega arith);
       texts_fit = i.texts_fit;
@@ -66,6 +68,7 @@ invariant_of-self-2 g c =
     record {
       keeps = keeps_given _ _ _ _ _ _ _ _ _ _ _ _ _ s c.given_up-segment.result i.keeps there at waits c.given_up-segment.ensures moved is long;
       closing = subst (Closes c.self.inside.closed) (sym is) (closes_put c.self.inside.closed c.self.inside.ends.items c.args.place.message c.args.place.part c.given_up-segment.result i.closing);
+      credit = credit_settled c.args.place.message c.args.place.part c.given_up-segment.result c.given_up-segment.result.outcome c.index-message.result.now.account s.cost i.credit is moved;
       order = order_kept c.self.inside.ends.items _ c.args.place.message c.args.place.part s c.given_up-segment.result c.self.inside.next c.self.inside.opened.items c.self.inside.queues.all c.self.inside.texts.items at c.given_up-segment.ensures.attempts is i.order;
       ends_fit = (let r = i.ends_fit in omega arith);
       texts_fit = i.texts_fit;

@@ -16,6 +16,7 @@ invariant_of-self g c =
     record {
       keeps = rw c.push.ensures.same i.keeps;
       closing = i.closing;
+      credit = i.credit;
       order = order_pushed c.self.inside.ends.items c.self.inside.next _ _ _ _ _ c.args.place sent c.push.ensures.heads c.push.ensures.links i.order;
       ends_fit = i.ends_fit;
       texts_fit = subst (λ n. vec_len c.self.inside.messages ≤ n) (sym room.1) i.texts_fit;

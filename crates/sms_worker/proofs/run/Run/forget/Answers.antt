@@ -14,6 +14,7 @@ invariant_of-self g c =
     record {
       keeps = rw c.settle_text.ensures.settled (keeps_texts _ _ _ _ _ _ _ _ _ i.keeps (texts_settled g.C.Call.start.rules g.C.Call.start.messages c.self.inside.texts.items c.args.place.message i.keeps.texts_kept) (length-mapped settled_one carried c.self.inside.texts.items c.args.place.message));
       closing = i.closing;
+      credit = i.credit;
       order = rw c.settle_text.ensures.settled (order_settled c.self.inside.ends.items c.self.inside.next c.self.inside.opened.items c.self.inside.queues.all c.self.inside.texts.items c.args.place.message i.order);
       ends_fit = i.ends_fit;
       texts_fit = subst (λ n. vec_len c.self.inside.messages ≤ n) (sym room.1) i.texts_fit;

@@ -11,6 +11,7 @@ invariant_of-self g c =
     record {
       keeps = rw c.of.ensures (keeps_heard _ _ _ _ _ _ _ _ _ r i.keeps e);
       closing = i.closing;
+      credit = i.credit;
       order = i.order;
       ends_fit = i.ends_fit;
       texts_fit = i.texts_fit;

@@ -12,6 +12,7 @@ use Rattle.sms_worker.proofs.EndLemmas.{back_there, given_same, given_other}
 use Rattle.sms_worker.proofs.Keeping.{keeps_same, keeps_answered, told_there, fits_there}
 use Rattle.sms_worker.specs.Closing.{Closes}
 use Rattle.sms_worker.proofs.Closing.{closes_put}
+use Rattle.sms_worker.proofs.Credit.{credit_same, credit_settled}
 use Rattle.sms_worker.proofs.Placed.{sent_message}
 use Rattle.sms_worker.proofs.Rising.{order_heard, sent_now}
 use Rattle.sms_worker.proofs.Turning.{so_decided}
@@ -42,6 +43,7 @@ invariant_of-self g c =
     record {
       keeps = keeps_same _ _ _ _ _ _ _ _ _ i.keeps same;
       closing = subst (Closes c.self.inside.closed) (sym same) i.closing;
+      credit = credit_same i.credit same;
       order = subst (λ l. InOrder l c.self.inside.next c.self.inside.opened.items c.self.inside.queues.all c.self.inside.texts.items) (sym same) i.order;
       ends_fit = (let r = i.ends_fit in omega arith);
       texts_fit = i.texts_fit;
@@ -90,6 +92,7 @@ invariant_of-self-2 g c =
     record {
       keeps = keeps_answered _ _ _ _ _ _ _ _ _ _ _ _ c.index-message.result.now s r s' c.args.reply d i.keeps there at heard answered made moved is long;
       closing = subst (Closes c.self.inside.closed) (sym is) (closes_put c.self.inside.closed c.self.inside.ends.items c.args.place.message c.args.place.part s' i.closing);
+      credit = credit_settled c.args.place.message c.args.place.part s' (outcome_after d) c.index-message.result.now.account s.cost i.credit is moved;
       order = order_heard g.C.Call.start.rules.policy.attempts c.self.inside.ends.items _ c.args.place.message c.args.place.part s r s' c.args.reply d c.self.inside.next c.self.inside.opened.items c.self.inside.queues.all c.self.inside.texts.items at answered refl is i.order;
       ends_fit = (let q = i.ends_fit in omega arith);
       texts_fit = i.texts_fit;

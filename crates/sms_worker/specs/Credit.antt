@@ -1,0 +1,37 @@
+-- Messages that a worker refuses for want of credit, where its book has one share.
+use Rattle.std.specs.Prelude.{◌≡◌, ◌⊎◌, ℕ, ◌+◌, ◌*◌, ◌<◌, ◌≤◌, List, length, Some, slice_get, string_bytes}
+use Rattle.sms_core.specs.Limits.{most_topped}
+use Rattle.sms_book.specs.declared.amounts.Amounts.{Amounts}
+use Rattle.sms_book.specs.Alone.{opening_at}
+use Rattle.sms_book.specs.Limits.{most_returned}
+use Rattle.sms_book.specs.Name.{BookId}
+use Rattle.sms_book.specs.Portions.{amounts_at}
+use Rattle.sms_book.specs.Shares.{Share}
+use Rattle.sms_book.specs.Tariffs.{cost_of}
+use Rattle.sms_worker.specs.declared.message.Message.{Message}
+use Rattle.sms_worker.specs.declared.rules.Rules.{Rules}
+use Rattle.sms_worker.specs.declared.ends.MessageEnd.{MessageEnd}
+use Rattle.sms_worker.specs.declared.ends.MessageRefusal.TheVariants.{NoCredit}
+use Rattle.sms_worker.specs.declared.ends.MessageResult.TheVariants.{Refused}
+use Rattle.sms_worker.specs.Submits.{message_parts}
+
+-- what all parts of a message cost
+abbrev pub price_of : Rules → Message → ℕ
+price_of rules m = length (message_parts rules m) * cost_of rules.tariff (string_bytes m.dest)
+
+-- n credits more than a share has of an account are too many: the account began with fewer than it has reserved and charged with them, or what it gave back and has reserved passes its bound with them
+abbrev pub Lacks : ℕ → Amounts → ℕ → Type 0
+Lacks opening a n = (opening < a.reserved + a.charged + n) ⊎ ((opening ≤ most_topped) × (most_returned < a.returned + a.reserved + n))
+
+-- so it is with what the message costs
+abbrev pub LacksFor : BookId → Rules → Share → Message → Type 0
+LacksFor book rules share m = book.workers ≡ 1 → (a : ℕ) → m.account ≡ Some a → Lacks (opening_at book a) (amounts_at share.amounts a) (price_of rules m)
+
+-- all that a share ever reserved of an account
+abbrev pub ever : Amounts → ℕ
+ever a = a.reserved + a.charged + a.returned
+
+-- Where the book has one share, the account of a message that is refused for want of credit began with fewer credits than the message costs and the share ever reserved of it
+pub record LackCredit (book : BookId) (rules : Rules) (ms : List Message) (es : List MessageEnd) (share : Share) : Type 0 where
+  pub each : book.workers ≡ 1 → (k a : ℕ) (m : Message) (e : MessageEnd) → slice_get ms k ≡ Some m → slice_get es k ≡ Some e → e.result ≡ Refused NoCredit → m.account ≡ Some a
+      → opening_at book a < ever (amounts_at share.amounts a) + price_of rules m
