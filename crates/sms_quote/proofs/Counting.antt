@@ -52,10 +52,10 @@ module _ {X : Type 0} where
 pub share_none : (f : Quote → ℕ) (i : ℕ) (account : Option ℕ) (q : Quote) (v : Verdict) → q.verdict ≡ v → passes v ≡ false → share f i account q ≡ 0
 share_none f i account q v is not = ap (λ (b : Bool). if b && is_account i account then f q else 0) (ap passes is ∙ not)
 
-share_other : (f : Quote → ℕ) (i a : ℕ) (q : Quote) → q.verdict ≡ Passes → (a == i) ≡ false → share f i (Some a) q ≡ 0
+pub share_other : (f : Quote → ℕ) (i a : ℕ) (q : Quote) → q.verdict ≡ Passes → (a == i) ≡ false → share f i (Some a) q ≡ 0
 share_other f i a q is apart = ap (λ (v : Verdict). if passes v && (a == i) then f q else 0) is ∙ ap (λ (b : Bool). if b then f q else 0) apart
 
-share_its : (f : Quote → ℕ) (a : ℕ) (q : Quote) → q.verdict ≡ Passes → share f a (Some a) q ≡ f q
+pub share_its : (f : Quote → ℕ) (a : ℕ) (q : Quote) → q.verdict ≡ Passes → share f a (Some a) q ≡ f q
 share_its f a q is = ap (λ (v : Verdict). if passes v && (a == a) then f q else 0) is ∙ ap (λ (b : Bool). if b then f q else 0) (eq-eqb a a refl)
 
 same_grown : (i : ℕ) (account : Option ℕ) (q : Quote) (o : Option Total) → ((f : Quote → ℕ) → share f i account q ≡ 0) → IsGrown i account q o o

@@ -1,4 +1,5 @@
 pub mod Counting
+pub mod Credit
 pub mod Refusals
 pub mod Quoted
 pub mod Signs

@@ -1,3 +1,4 @@
+pub mod Credit
 pub mod Laws
 pub mod QuoteText
 pub mod Quotes

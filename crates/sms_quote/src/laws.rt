@@ -1,5 +1,6 @@
 //! What a quote says of a sending. Each law holds by the contract of its function, which does nothing.
 
+ghost use Rattle.sms_quote.specs.Credit.{CreditIsQuoted};
 ghost use Rattle.sms_quote.specs.Laws.{RefusalsAreQuoted, RefusalsAreTheWorkers, SentAsQuoted};
 
 /// Where a quote says no-account, bad-address or too-long, so does each end of the message by the same
@@ -18,4 +19,10 @@ pub fn refusals_are_quoted()
 /// much.
 pub fn sent_as_quoted()
     ensures { SentAsQuoted }
+{}
+
+/// Where no message is quoted as one without credit, no run of one worker over a new book refuses one for
+/// that: what `run_worker` promises of its ends and its share is enough to rule it out.
+pub fn credit_is_quoted()
+    ensures { CreditIsQuoted }
 {}
