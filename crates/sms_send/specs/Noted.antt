@@ -69,11 +69,13 @@ IsOpenQuoteOf named input fault = EndsQuoted named.messages.items × (fault ≡ 
 abbrev pub IsOpenQuote : List ℕ → NamedFiles → Fault → Type 0
 IsOpenQuote octets named fault = (input : Input) × IsInputOf octets named input × TellsRead (IsOpenQuoteOf named input) fault
 
+-- what a fault of their records says
+abbrev pub TellsFilesOf : List ℕ → NamedFiles → Fault → Type 0
+TellsFilesOf octets named fault = TellsRead (TellsInput octets (Some named.accounts.items) (Some named.messages.items) (told_of (tariff_in named))) fault
+
 -- what a fault says of them, read strictly or not
 abbrev pub TellsInputOf : Bool → List ℕ → NamedFiles → Fault → Type 0
-TellsInputOf strict octets named fault =
-    TellsRead (TellsInput octets (Some named.accounts.items) (Some named.messages.items) (told_of (tariff_in named))) fault
-    ⊎ ((strict ≡ true) × IsOpenQuote octets named fault)
+TellsInputOf strict octets named fault = TellsFilesOf octets named fault ⊎ ((strict ≡ true) × IsOpenQuote octets named fault)
 
 -- the files of these names were read to their ends, and what they say beside a config of these octets was sent; strictly only
 -- where the messages file doesn't end within a quote

@@ -4,7 +4,7 @@ ghost use Rattle.std.specs.Prelude.{◌≡◌, ◌≢◌, IfErr, IfOk, OnOk, tru
 ghost use Rattle.sms_files.specs.Quoting.{EndsQuoted};
 ghost use Rattle.sms_send.specs.Faults.{TellsRead};
 ghost use Rattle.sms_send.specs.Jobs.{IsStatusBy};
-ghost use Rattle.sms_send.specs.Noted.{IsInputOf, IsOpenQuoteOf, SendsNoted, SendsPlain, TellsChecked, TellsInputOf, TellsPlain};
+ghost use Rattle.sms_send.specs.Noted.{IsInputOf, IsOpenQuoteOf, SendsNoted, SendsPlain, TellsChecked, TellsFilesOf, TellsInputOf, TellsPlain};
 ghost use Rattle.sms_send.specs.declared.fault.Fault.TheVariants.{Output};
 
 use crate::fault::Fault;
@@ -30,6 +30,20 @@ fn check_open(named: &NamedFiles, input: &Input) -> Result<(), Fault>
     }
 }
 
+/// What the files say beside a config.
+fn read_in(alloc: Global, config: &[u8], named: &NamedFiles) -> Result<Input, Fault>
+    ensures read { IfOk result (IsInputOf config.now named.now) }
+    ensures refused { IfErr result (TellsFilesOf config.now named.now) }
+{
+    read_input(
+        alloc,
+        config,
+        named.accounts.as_slice(),
+        named.messages.as_slice(),
+        named.tariff(),
+    )
+}
+
 /// What the files say beside a config. Strictly, a messages file that ends within a quote is refused.
 pub fn input_in(
     alloc: Global,
@@ -41,13 +55,7 @@ pub fn input_in(
     ensures closed { IfOk result (λ input. strict ≡ true → ¬ EndsQuoted named.now.messages.items) }
     ensures refused { IfErr result (TellsInputOf strict config.now named.now) }
 {
-    match read_input(
-        alloc,
-        config,
-        named.accounts.as_slice(),
-        named.messages.as_slice(),
-        named.tariff(),
-    ) {
+    match read_in(alloc, config, named) {
         Ok(input) => {
             if !strict {
                 return Ok(input);

@@ -10,12 +10,15 @@ ghost use Rattle.sms_send.specs.declared.fault.Fault.TheVariants.{File, OutOfMem
 
 use crate::fault::Fault;
 use crate::opened::octets_of;
-use crate::standard_error::tell_lines;
+use crate::standard_error::tell_beside;
+use sms_devices::Screen;
 use sms_diagnostics::is_open_to_others;
 use std::alloc::{AllocError, Global};
 use std::io::Eprint;
 use std::os::unix::fs::PermissionsExt;
 use std::rt::Files;
+use std::thread::Threads;
+use std::time::Clock;
 use std::{fs, str};
 use toml::Table;
 
@@ -66,17 +69,21 @@ fn is_readable_by_others<R: Files>(rt: &R, name: &str) -> bool {
 }
 
 /// Tells on standard error that others can read a config, where they can and it has a password.
-fn warn_if_exposed<R: AllocGlobal + Eprint>(rt: &R, is_open: bool, config: &[u8]) {
+fn warn_if_exposed<R: AllocGlobal + Threads + Clock + Eprint + Screen>(
+    rt: &R,
+    is_open: bool,
+    config: &[u8],
+) {
     if !is_open {
         return;
     }
     if let Ok(true) = has_password(rt.alloc(), config) {
-        let _told = tell_lines(rt, &EXPOSED);
+        tell_beside(rt, &EXPOSED);
     }
 }
 
 /// The octets of the config of this name. At length it is told where others can read a password there.
-pub fn config_of<R: AllocGlobal + Files + Eprint>(
+pub fn config_of<R: AllocGlobal + Files + Threads + Clock + Eprint + Screen>(
     rt: &R,
     name: String,
     at_length: bool,

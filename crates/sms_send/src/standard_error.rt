@@ -1,8 +1,11 @@
 //! Standard error, as a writer of text, and what is told there of a run.
 
+use sms_devices::{Notices, Screen};
 use std::fmt::Display;
 use std::io::{self, Eprint, Write};
 use std::str;
+use std::thread::Threads;
+use std::time::Clock;
 
 /// Standard error. Each write goes out at once and whole, or fails.
 #[derive(Drop)]
@@ -26,7 +29,25 @@ impl<R: Eprint> Write for StandardError<'_, R> {
     }
 }
 
-/// Tells these lines, each with its end, at once. All that is told of a run beside how it goes is told so.
+/// Tells these lines, each with its end, at once. All that is told of a run beside how it goes is told so,
+/// or as `tell_beside` does.
 pub fn tell_lines<R: Eprint, T: Display>(rt: &R, lines: &T) -> io::Result<()> {
     eprint!(rt; "{lines}")
+}
+
+/// Tells these lines of a sending, and waits for a terminal a second at most: it may be stopped.
+pub fn tell_beside<R: AllocGlobal + Threads + Clock + Eprint + Screen, T: Display>(
+    rt: &R,
+    lines: &T,
+) {
+    if !rt.is_terminal() {
+        let _told = tell_lines(rt, lines);
+        return;
+    }
+    if let Ok(text) = format!(in rt.alloc(); "{lines}") {
+        let notices = Notices::new(rt.alloc(), rt.pen());
+        if notices.tell(rt, text) {
+            notices.settle(rt);
+        }
+    }
 }

@@ -5,12 +5,15 @@ ghost use Rattle.sms_send.specs.Unsent.{closing_by, closing_in, is_bind_closed a
 
 use crate::order::Pace;
 use crate::sender::Ended;
-use crate::standard_error::tell_lines;
+use crate::standard_error::tell_beside;
 use sms_bind::ReaderCause;
+use sms_devices::Screen;
 use sms_diagnostics::{Closing, Hindrance, UnsentLine};
 use sms_driver::{BindEnd, DownBy};
 use sms_worker::{MessageEnd, MessageRefusal, MessageResult};
 use std::io::Eprint;
+use std::thread::Threads;
+use std::time::Clock;
 
 /// Why a connection ended, where binds are given up for want of answers, or else for one reason.
 fn ended_by(gives_up: bool, else_by: Closing) -> Closing
@@ -43,8 +46,8 @@ fn closing_of_reader(cause: ReaderCause, gives_up: bool) -> Closing
 fn closing_of(end: &BindEnd, gives_up: bool) -> Closing
     ensures { result ≡ closing_in gives_up end.now }
 {
-    match end.closing.down {
-        Some(DownBy::Reader) => closing_of_reader(end.reader.cause, gives_up),
+    match end.closing().down {
+        Some(DownBy::Reader) => closing_of_reader(end.reader().cause, gives_up),
         Some(DownBy::Write) => ended_by(gives_up, Closing::Unwritten),
         None => Closing::Turns,
     }
@@ -118,15 +121,20 @@ fn unsent_for_memory(ends: &[MessageEnd]) -> usize
 }
 
 /// Tells the line, where there are some.
-fn tell_line<R: Eprint>(rt: &R, line: UnsentLine) {
+fn tell_line<R: AllocGlobal + Threads + Clock + Eprint + Screen>(rt: &R, line: UnsentLine) {
     if line.count > 0 {
-        let _told = tell_lines(rt, &line);
+        tell_beside(rt, &line);
     }
 }
 
 /// At length, tells of each bind how many of its messages were not sent since it was closed, and why it
 /// was; and how many were not sent for want of memory.
-pub fn tell_unsent<R: Eprint>(rt: &R, ended: &Ended, at_length: bool, pace: Pace) {
+pub fn tell_unsent<R: AllocGlobal + Threads + Clock + Eprint + Screen>(
+    rt: &R,
+    ended: &Ended,
+    at_length: bool,
+    pace: Pace,
+) {
     if !at_length {
         return;
     }
@@ -135,7 +143,7 @@ pub fn tell_unsent<R: Eprint>(rt: &R, ended: &Ended, at_length: bool, pace: Pace
     for bind in 0..binds.len() {
         let end = &binds[bind];
         let line = UnsentLine {
-            count: unsent_of(ends, end.workers, binds.len(), bind),
+            count: unsent_of(ends, end.workers(), binds.len(), bind),
             why: Hindrance::Bind(bind, closing_of(end, gives_up)),
         };
         tell_line(rt, line);
