@@ -15,13 +15,12 @@ use crate::outbox::Outboxes;
 use crate::rated::{MOST_BINDS, MOST_WORKERS, bind_of};
 use crate::wakes::Owners;
 use sms_worker::Pause;
-use std::array;
 use std::fs::OpenFile;
-use std::io;
 use std::io::Write;
 use std::sync::atomic::{AtomicBool, AtomicU32, Ordering};
 use std::sync::{Condvar, Mutex, Wait};
 use std::time::{Clock, Duration, Instant};
+use std::{array, io};
 
 /// How long a worker rests at most, in milliseconds: what a person sees of a sending goes on meanwhile.
 const MOST_REST_MS: u64 = 100;

@@ -30,7 +30,11 @@ const FIRST_WAITING: usize = 1_024;
 fn first_waiting(has_journal: bool) -> usize
     ensures { result ≡ (if has_journal then 8192 else 1024) }
 {
-    if has_journal { MOST_WAITING } else { FIRST_WAITING }
+    if has_journal {
+        MOST_WAITING
+    } else {
+        FIRST_WAITING
+    }
 }
 
 /// A connection to which nothing is written before what was noted of it is in the journal, where the
