@@ -34,6 +34,7 @@ fn noted_job(alloc: Global) -> Result<Job, AllocError> {
     Ok(Job::Loop(Order {
         config: String::from_str(alloc, FILES[0].0)?,
         quiet: true,
+        verbose: false,
         journal: Some(journal),
         pace: Pace {
             connect_ms: None,
