@@ -7,8 +7,8 @@ use Rattle.sms_session.specs.declared.policy.Decision.{Decision}
 use Rattle.sms_session.specs.declared.policy.Decision.TheVariants.{Charge, Refuse, RetryAfter}
 use Rattle.sms_worker.specs.declared.ends.Outcome.TheVariants.{Charged, Refused, Unanswered}
 use Rattle.sms_worker.specs.declared.open.SegmentPlace.{SegmentPlace}
-use Rattle.sms_worker.specs.declared.turns.Source.{Source}
-use Rattle.sms_worker.specs.declared.turns.Source.TheVariants.{Queue, Next}
+use Rattle.sms_worker.specs.declared.starting.Source.{Source}
+use Rattle.sms_worker.specs.declared.starting.Source.TheVariants.{Queue, Next}
 use Rattle.sms_worker.specs.Ends.{segment_at, segments_in}
 use Rattle.sms_worker.specs.Queues.{last_in}
 use Rattle.sms_worker.specs.Rising.{HasNext}

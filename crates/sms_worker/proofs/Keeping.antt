@@ -192,7 +192,7 @@ keeps_tried start rules ms es es' texts os os' seat seat' share heard k p m part
           answered = subst (AllByRecursion (IsAnswered (length start.received) heard)) (sym after) (all_snoc (IsAnswered (length start.received) heard) s.attempts a old.answered (λ r eq. absurd (cc)));
           state = inl (sent_state start.rules.policy.attempts s s' a waits after refl outcome);
         }
-    told Later h = unsent h.1
+    told (Later held) h = unsent h.1
     told Never h = unsent h.1
 
     like : s'.attempts ≡ s.attempts → Drew start.seat.view seat.view start.messages (put es k p s')
@@ -200,7 +200,7 @@ keeps_tried start rules ms es es' texts os os' seat seat' share heard k p m part
 
     numbers : (t : Tried) → Tries rules m part seat.view s.attempts t seat'.view s'.attempts → Drew start.seat.view seat'.view start.messages (put es k p s')
     numbers (Sent n) (drawn, (octets, after, spells)) = drew_sent start.seat.view seat.view seat'.view start.messages es k p m s s' (record { number = n; sent = octets; reply = None }) keeps.numbers drawn there' at after
-    numbers Later h = drew_unused start.seat.view seat.view seat'.view [] start.messages (put es k p s') (like h.1) h.0
+    numbers (Later held) h = drew_unused start.seat.view seat.view seat'.view [] start.messages (put es k p s') (like h.1) h.0
     numbers Never h = elim h.0 [
       | inl no_draw ↦ drew_unused start.seat.view seat.view seat'.view [] start.messages (put es k p s') (like h.1) no_draw.0
       | inr one_draw ↦ drew_unused start.seat.view seat.view seat'.view (one_draw.0 ∷ []) start.messages (put es k p s') (like h.1) one_draw.1

@@ -8,6 +8,7 @@ pub mod Earliest
 pub mod EndLemmas
 pub mod EndsOf
 pub mod Events
+pub mod Expiring
 pub mod Finding
 pub mod Keeping
 pub mod Kept

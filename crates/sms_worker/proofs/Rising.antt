@@ -20,8 +20,8 @@ use Rattle.sms_worker.specs.declared.open.Open.{Open}
 use Rattle.sms_worker.specs.declared.open.SegmentPlace.{SegmentPlace}
 use Rattle.sms_worker.specs.declared.queue.Queue.{Queue}
 use Rattle.sms_worker.specs.declared.rules.Rules.{Rules}
-use Rattle.sms_worker.specs.declared.turns.Source.{Source}
-use Rattle.sms_worker.specs.declared.turns.Source.TheVariants as sources
+use Rattle.sms_worker.specs.declared.starting.Source.{Source}
+use Rattle.sms_worker.specs.declared.starting.Source.TheVariants as sources
 use Rattle.sms_worker.specs.declared.texts.Kept.{Kept}
 use Rattle.sms_worker.specs.declared.texts.Link.{Link}
 use Rattle.sms_worker.specs.Apart.{IsAttempt}
@@ -202,7 +202,7 @@ order_tried rules m part before now after ms es es' place s s' tried next os os'
     done (Sent n) (drawn, (octets, more, spells)) (o', added, numbered, its) =
         let now_sent = sent n octets drawn more s.attempts refl in
         order_open (put es k p s') next os os' qs texts (one_more n octets more o' added its now_sent.opens) now_sent
-    done Later h same = subst (λ l. InOrder (put es k p s') next l qs texts) (sym same) (order_put es k p s s' at next os qs texts (same_attempts s s' h.1) o)
+    done (Later held) h same = subst (λ l. InOrder (put es k p s') next l qs texts) (sym same) (order_put es k p s s' at next os qs texts (same_attempts s s' h.1) o)
     done Never h same = subst (λ l. InOrder (put es k p s') next l qs texts) (sym same) (order_put es k p s s' at next os qs texts (same_attempts s s' h.1) o)
 
 -- one segment end changed as its attempts stayed, and the list is this one

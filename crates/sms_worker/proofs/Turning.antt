@@ -1,6 +1,6 @@
 -- What one step of a turn does to what is left to be sent, from what its calls promise.
-use Rattle.std.proofs.Common.{◌≡◌, ℕ, suc, ◌+◌, ◌-◌, Bool, true, false, List, [], ◌∷◌, ◌++◌, length, Some, None, inl, inr, refl, sym, ap, ◌∙◌, subst}
-use Rattle.std.specs.Prelude.{◌^◌, IfSome, Option, min}
+use Rattle.std.proofs.Common.{◌≡◌, ℕ, suc, ◌+◌, ◌-◌, ◌≤◌, Bool, true, List, [], ◌∷◌, ◌++◌, length, Some, None, inl, inr, refl, sym, ap, ◌∙◌, subst, arith}
+use Rattle.std.specs.Prelude.{◌^◌, IfSome, IsTrue, Option, min}
 use Rattle.sms_window.specs.declared.view.View.{View}
 use Rattle.sms_pdu.specs.declared.reply.Reply.{Reply}
 use Rattle.sms_segment.specs.declared.part.Part.{Part}
@@ -10,23 +10,27 @@ use Rattle.sms_worker.specs.declared.attempt.Tried.{Tried}
 use Rattle.sms_worker.specs.declared.attempt.Tried.TheVariants.{Sent, Later, Never}
 use Rattle.sms_worker.specs.declared.ends.MessageEnd.{MessageEnd}
 use Rattle.sms_worker.specs.declared.ends.SegmentEnd.{SegmentEnd}
+use Rattle.sms_worker.specs.declared.held.Held.{Held}
 use Rattle.sms_worker.specs.declared.message.Message.{Message}
 use Rattle.sms_worker.specs.declared.open.Open.{Open}
 use Rattle.sms_worker.specs.declared.open.SegmentPlace.{SegmentPlace}
 use Rattle.sms_worker.specs.declared.queue.Queue.{Queue as QueueIn}
 use Rattle.sms_worker.specs.declared.rules.Rules.{Rules}
-use Rattle.sms_worker.specs.declared.turns.Source.{Source}
-use Rattle.sms_worker.specs.declared.turns.Source.TheVariants.{Queue, Next}
-use Rattle.sms_worker.specs.declared.turns.Started.{Started}
-use Rattle.sms_worker.specs.declared.turns.Started.TheVariants.{One, Nothing}
+use Rattle.sms_worker.specs.declared.starting.Idle.{Idle}
+use Rattle.sms_worker.specs.declared.starting.Idle.TheVariants.{Closed, AllBegun, Waits}
+use Rattle.sms_worker.specs.declared.starting.Source.{Source}
+use Rattle.sms_worker.specs.declared.starting.Source.TheVariants.{Queue, Next}
+use Rattle.sms_worker.specs.declared.starting.Started.{Started}
+use Rattle.sms_worker.specs.declared.starting.Started.TheVariants.{One, Nothing}
 use Rattle.sms_worker.specs.Ends.{put, segment_at}
 use Rattle.sms_worker.specs.Queues.{IsFirstDue, IsTaken, NoneIsDue, WaitsLast}
 use Rattle.sms_worker.specs.Rising.{HasNext, IsNext, IsThere}
 use Rattle.sms_worker.specs.RunState.{RunState}
+use Rattle.sms_worker.specs.Start.{Start}
 use Rattle.sms_worker.specs.Steps.{Opens, Tries}
 use Rattle.sms_worker.specs.Sweeps.{SweptAt}
 use Rattle.sms_worker.specs.TextsState.{LeavesTexts, TextsState}
-use Rattle.sms_worker.specs.Turns.{AreSteps, IsStep, IsTried, IsTry, Starts, are_some}
+use Rattle.sms_worker.specs.Turns.{AreSteps, IsStep, IsTried, IsTry, IsTurn, Starts, are_some, most_starts}
 use Rattle.sms_worker.proofs.EndLemmas.{put_same}
 
 pub both : {X : Type 0} (P Q : X → Type 0) (o : Option X) → IfSome o P → IfSome o Q → IfSome o (λ x. P x × Q x)
@@ -44,7 +48,7 @@ module _ (rules : Rules) (m : Message) (part : Part) (v w : View) (a b : RunStat
   by_try (Sent n) (drawn, (octets, more, spells)) (o, added, number, its) =
       let now : s' ≡ record s { attempts = s.attempts ++ record { number = n; sent = octets; reply = None } ∷ [] } = λ i. record { cost = cost i; attempts = more i; outcome = outcome i } in
       (record { segment = s; was = at; octets = octets; now = is ∙ ap (put a.ends place.message place.part) now }, (o, number, its, ap (λ l. record a { ends = es; opened = l }) added))
-  by_try Later h same = ap (λ l. record a { ends = l; opened = os }) (as_before h.1) ∙ ap (λ l. record a { opened = l }) same
+  by_try (Later held) h same = ap (λ l. record a { ends = l; opened = os }) (as_before h.1) ∙ ap (λ l. record a { opened = l }) same
   by_try Never h same = ap (λ l. record a { ends = l; opened = os }) (as_before h.1) ∙ ap (λ l. record a { opened = l }) same
 
   pub tried_so : (t : Tried) → Tries rules m part v s.attempts t w s'.attempts → Opens t place a.opened os → IsTry t place b (record a { ends = es; opened = os })
@@ -54,13 +58,13 @@ pub as_it_was : (a b : RunState) → a ≡ b → (es : List MessageEnd) → es �
 as_it_was a b seen es same = ap (λ l. record a { ends = l }) same ∙ seen
 
 -- the segment is as it was where it wasn't sent
-pub not_sent : (t : Tried) (place : SegmentPlace) (old new : RunState) → IsTry t place old new → t ≡ Later → new ≡ old
-not_sent t place old new h is = subst (λ x. IsTry x place old new) is h
+pub not_sent : (t : Tried) (held : Held) (place : SegmentPlace) (old new : RunState) → IsTry t place old new → t ≡ Later held → new ≡ old
+not_sent t held place old new h is = subst (λ x. IsTry x place old new) is h
 
 -- what was to be sent is there still
 pub still_there : (t : Tried) (place : SegmentPlace) (old new : RunState) → IsTry t place old new → (new.queues ≡ old.queues) × (new.texts ≡ old.texts) × (new.next ≡ old.next)
 still_there (Sent n) place old new (sent, (o, number, its, is)) = (ap (λ (x : RunState). x.queues) is, ap (λ (x : RunState). x.texts) is, ap (λ (x : RunState). x.next) is)
-still_there Later place old new is = (ap (λ (x : RunState). x.queues) is, ap (λ (x : RunState). x.texts) is, ap (λ (x : RunState). x.next) is)
+still_there (Later held) place old new is = (ap (λ (x : RunState). x.queues) is, ap (λ (x : RunState). x.texts) is, ap (λ (x : RunState). x.next) is)
 still_there Never place old new is = (ap (λ (x : RunState). x.queues) is, ap (λ (x : RunState). x.texts) is, ap (λ (x : RunState). x.next) is)
 
 pub sent_so : (most n : ℕ) (t : Tried) (place : SegmentPlace) (old new : RunState) → IsTry t place old new → t ≡ Sent n → IsTried most place old.ends new.ends
@@ -72,7 +76,7 @@ given_so most t place old new es h is swept =
     inr (subst (λ (x : RunState). SweptAt most place.message place.part x.ends es) same swept)
 
 -- a segment was found, tried, and taken from where it was found
-module _ (most now : ℕ) (a b c d e : RunState) (place : SegmentPlace) (look : b ≡ record a { closed = b.closed }) (left : (c.queues ≡ b.queues) × (c.texts ≡ b.texts) × (c.next ≡ b.next)) (kept : d.texts ≡ c.texts) (ended : (e.queues ≡ d.queues) × (e.next ≡ d.next)) (dropped : LeavesTexts place.message d.texts e.texts) (tried : IsTried most place b.ends e.ends) where
+module _ (start : Start) (now : ℕ) (a b c d e : RunState) (place : SegmentPlace) (look : b ≡ record a { closed = b.closed }) (left : (c.queues ≡ b.queues) × (c.texts ≡ b.texts) × (c.next ≡ b.next)) (kept : d.texts ≡ c.texts) (ended : (e.queues ≡ d.queues) × (e.next ≡ d.next)) (dropped : LeavesTexts place.message d.texts e.texts) (tried : IsTried start.rules.policy.attempts place b.ends e.ends) where
   queues_are : c.queues ≡ a.queues
   queues_are = left.0 ∙ ap (λ (x : RunState). x.queues) look
 
@@ -85,10 +89,10 @@ module _ (most now : ℕ) (a b c d e : RunState) (place : SegmentPlace) (look : 
   texts_then : LeavesTexts place.message a.texts e.texts
   texts_then = subst (λ l. LeavesTexts place.message l e.texts) (kept ∙ texts_are) dropped
 
-  tried_then : IsTried most place a.ends e.ends
-  tried_then = subst (λ (x : RunState). IsTried most place x.ends e.ends) look tried
+  tried_then : IsTried start.rules.policy.attempts place a.ends e.ends
+  tried_then = subst (λ (x : RunState). IsTried start.rules.policy.attempts place x.ends e.ends) look tried
 
-  retry_step : (k : ℕ) → IsFirstDue b.texts b.queues now place k → (d.next ≡ c.next) × IsTaken c.texts k c.queues d.queues → IsStep most now One a e
+  retry_step : (k : ℕ) → IsFirstDue b.texts b.queues now place k → (d.next ≡ c.next) × IsTaken c.texts k c.queues d.queues → IsStep start now One a e
   retry_step k due (same, taken) = inl (record {
     place = place;
     queue = k;
@@ -99,7 +103,7 @@ module _ (most now : ℕ) (a b c d e : RunState) (place : SegmentPlace) (look : 
     tried = tried_then;
   })
 
-  next_step : NoneIsDue b.texts b.queues now × (IsNext b.ends b.next place × IsThere b.ends place) → (d.next ≡ min (c.next + 1) (2 ^ 64 - 1)) × (d.queues ≡ c.queues) → IsStep most now One a e
+  next_step : NoneIsDue b.texts b.queues now × (IsNext b.ends b.next place × IsThere b.ends place) → (d.next ≡ min (c.next + 1) (2 ^ 64 - 1)) × (d.queues ≡ c.queues) → IsStep start now One a e
   next_step (quiet, (is, there)) (more, same) = inr (inl (record {
     quiet = subst (λ (x : RunState). NoneIsDue x.texts x.queues now) look quiet;
     place = place;
@@ -112,13 +116,13 @@ module _ (most now : ℕ) (a b c d e : RunState) (place : SegmentPlace) (look : 
   }))
 
   pub stepped : (source : Source) → ((k : ℕ) → source ≡ Queue k → IsFirstDue b.texts b.queues now place k) → (source ≡ Next → NoneIsDue b.texts b.queues now × (IsNext b.ends b.next place × IsThere b.ends place))
-      → ((k : ℕ) → source ≡ Queue k → (d.next ≡ c.next) × IsTaken c.texts k c.queues d.queues) → (source ≡ Next → (d.next ≡ min (c.next + 1) (2 ^ 64 - 1)) × (d.queues ≡ c.queues)) → IsStep most now One a e
+      → ((k : ℕ) → source ≡ Queue k → (d.next ≡ c.next) × IsTaken c.texts k c.queues d.queues) → (source ≡ Next → (d.next ≡ min (c.next + 1) (2 ^ 64 - 1)) × (d.queues ≡ c.queues)) → IsStep start now One a e
   stepped (Queue k) due fresh taken more = retry_step k (due k refl) (taken k refl)
   stepped Next due fresh taken more = next_step (fresh refl) (more refl)
 
 -- nothing was found, and a message was begun
-pub begun_step : (most now : ℕ) (a b c : RunState) → b ≡ record a { closed = b.closed } → NoneIsDue b.texts b.queues now × (HasNext b.ends b.next → ⊥) → (c.queues ≡ b.queues) × (c.next ≡ 0) → length c.ends ≡ length b.ends + 1 → IsStep most now One a c
-begun_step most now a b c look (quiet, all) (same, first) more = inr (inr (record {
+pub begun_step : (start : Start) (now : ℕ) (a b c : RunState) → b ≡ record a { closed = b.closed } → NoneIsDue b.texts b.queues now × (HasNext b.ends b.next → ⊥) → (c.queues ≡ b.queues) × (c.next ≡ 0) → length c.ends ≡ length b.ends + 1 → IsStep start now One a c
+begun_step start now a b c look (quiet, all) (same, first) more = inr (inr (record {
   quiet = subst (λ (x : RunState). NoneIsDue x.texts x.queues now) look quiet;
   all = subst (λ (x : RunState). HasNext x.ends x.next → ⊥) look all;
   queues = same ∙ ap (λ (x : RunState). x.queues) look;
@@ -126,9 +130,26 @@ begun_step most now a b c look (quiet, all) (same, first) more = inr (inr (recor
   more = more ∙ ap (λ (x : RunState). length x.ends + 1) look;
 }))
 
+-- a segment's turn, as the line was looked at in between
+pub turn_there : (now : ℕ) (a b : RunState) (place : SegmentPlace) → b ≡ record a { closed = b.closed } → (source : Source) → ((k : ℕ) → source ≡ Queue k → IsFirstDue b.texts b.queues now place k) → (source ≡ Next → NoneIsDue b.texts b.queues now × (IsNext b.ends b.next place × IsThere b.ends place)) → IsTurn now a place
+turn_there now a b place look (Queue k) due fresh = inl (k, subst (λ (x : RunState). IsFirstDue x.texts x.queues now place k) look (due k refl))
+turn_there now a b place look Next due fresh =
+    let f = fresh refl in
+    inr (subst (λ (x : RunState). NoneIsDue x.texts x.queues now) look f.0, subst (λ (x : RunState). IsNext x.ends x.next place) look f.1.0, subst (λ (x : RunState). IsThere x.ends place) look f.1.1)
+
 -- nothing was started
-pub no_step : (a b c : RunState) → b ≡ record a { closed = b.closed } → c ≡ b → c ≡ record a { closed = c.closed }
-no_step a b c look same = same ∙ look ∙ ap (λ (x : RunState). record a { closed = x.closed }) (sym same)
+same_but : (a b c : RunState) → b ≡ record a { closed = b.closed } → c ≡ b → c ≡ record a { closed = c.closed }
+same_but a b c look same = same ∙ look ∙ ap (λ (x : RunState). record a { closed = x.closed }) (sym same)
+
+pub none_begun : (start : Start) (now : ℕ) (a b c : RunState) → b ≡ record a { closed = b.closed } → NoneIsDue b.texts b.queues now × (HasNext b.ends b.next → ⊥) → c ≡ b → length c.ends ≡ length start.messages → IsStep start now (Nothing AllBegun) a c
+none_begun start now a b c look (quiet, all) same long =
+    (same_but a b c look same, (subst (λ (x : RunState). NoneIsDue x.texts x.queues now) look quiet, subst (λ (x : RunState). HasNext x.ends x.next → ⊥) look all, subst (λ (x : RunState). length x.ends ≡ length start.messages) (same ∙ look) long))
+
+pub seen_closed : (start : Start) (now : ℕ) (a b : RunState) (place : SegmentPlace) → b ≡ record a { closed = b.closed } → IsTrue b.closed → IsTurn now a place → IsStep start now (Nothing Closed) a b
+seen_closed start now a b place look closed turn = (look, (closed, (place, turn)))
+
+pub waits_step : (start : Start) (now : ℕ) (a b c : RunState) (place : SegmentPlace) (held : Held) → b ≡ record a { closed = b.closed } → c ≡ b → IsTurn now a place → IsStep start now (Nothing (Waits held)) a c
+waits_step start now a b c place held look same turn = (same_but a b c look same, (place, turn))
 
 -- what was decided, by the rules of the call
 pub so_decided : (reply : Reply) (d : Decision) (n count : ℕ) (rules start : Rules) → rules ≡ start → d ≡ decided reply n rules.policy.attempts rules.policy.base_ms → count ≡ n → d ≡ decided reply count start.policy.attempts start.policy.base_ms
@@ -143,14 +164,21 @@ waits_at inside old seen k place due due' texts qs times waits =
     (subst (λ (x : RunState). WaitsLast x.texts x.queues k (record { place = place; due_ms = due }) texts qs) seen waits)
 
 -- all that was started so far
-pub none_yet : (most now : ℕ) (a : RunState) → (n : ℕ) × (AreSteps most now n a a × (false ≡ are_some n))
-none_yet most now a = (0, (refl, refl))
+pub one_more : (start : Start) (now n : ℕ) (a b c : RunState) (did : Started) → AreSteps start now n a b → IsStep start now did b c → did ≡ One → AreSteps start now (n + 1) a c
+one_more start now n a b c did steps step is =
+    let next : suc n ≡ n + 1 = omega arith in
+    subst (λ k. AreSteps start now k a c) next (b, steps, subst (λ x. IsStep start now x b c) is step)
 
-pub one_more : (most now : ℕ) (any : Bool) (a b c : RunState) (did : Started) → (n : ℕ) × (AreSteps most now n a b × (any ≡ are_some n)) → IsStep most now did b c → did ≡ One → (n : ℕ) × (AreSteps most now n a c × (true ≡ are_some n))
-one_more most now any a b c did (n, (steps, some)) step is = (suc n, ((b, steps, subst (λ x. IsStep most now x b c) is step), refl))
+pub some_then : (n : ℕ) → true ≡ are_some (n + 1)
+some_then n =
+    let next : suc n ≡ n + 1 = omega arith in
+    subst (λ k. true ≡ are_some k) next refl
 
-pub so_far : (most now : ℕ) (any : Bool) (a b : RunState) → (n : ℕ) × (AreSteps most now n a b × (any ≡ are_some n)) → Starts most any a b
-so_far most now any a b (n, (steps, some)) = record { now = now; count = n; last = b; steps = steps; rest = refl; some = some }
+pub no_more : (start : Start) (now n : ℕ) (any : Bool) (a b c : RunState) (did : Started) (why : Idle) → AreSteps start now n a b → any ≡ are_some n → IsStep start now did b c → did ≡ Nothing why → Starts start any a c
+no_more start now n any a b c did why steps some step is = record { now = now; count = n; last = b; steps = steps; rest = inl (why, subst (λ x. IsStep start now x b c) is step); some = some }
 
-pub no_more : (most now : ℕ) (any : Bool) (a b c : RunState) (did : Started) → (n : ℕ) × (AreSteps most now n a b × (any ≡ are_some n)) → IsStep most now did b c → did ≡ Nothing → Starts most any a c
-no_more most now any a b c did (n, (steps, some)) step is = record { now = now; count = n; last = b; steps = steps; rest = subst (λ x. IsStep most now x b c) is step; some = some }
+pub all_open : (start : Start) (now n : ℕ) (any : Bool) (a b : RunState) → AreSteps start now n a b → any ≡ are_some n → start.rules.depth ≤ length b.opened → Starts start any a b
+all_open start now n any a b steps some full = record { now = now; count = n; last = b; steps = steps; rest = inr (refl, inl full); some = some }
+
+pub turn_full : (start : Start) (now n : ℕ) (any : Bool) (a b : RunState) → AreSteps start now n a b → any ≡ are_some n → n ≡ most_starts → Starts start any a b
+turn_full start now n any a b steps some most = record { now = now; count = n; last = b; steps = steps; rest = inr (refl, inr most); some = some }

@@ -6,6 +6,7 @@ pub mod Credit
 pub mod EndOf
 pub mod Ends
 pub mod Events
+pub mod Expiry
 pub mod Keeps
 pub mod Laws
 pub mod Limits

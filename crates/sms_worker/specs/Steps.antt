@@ -21,6 +21,8 @@ use Rattle.sms_worker.specs.declared.attempt.Tried.{Tried}
 use Rattle.sms_worker.specs.declared.attempt.Tried.TheVariants.{Sent, Later, Never}
 use Rattle.sms_worker.specs.declared.attempt.Number.{Number}
 use Rattle.sms_worker.specs.declared.attempt.Number.TheVariants.{Drawn, UsedUp, Contended}
+use Rattle.sms_worker.specs.declared.held.Drawing.{Drawing}
+use Rattle.sms_worker.specs.declared.held.Drawing.TheVariants as drawing
 use Rattle.sms_worker.specs.declared.open.Open.{Open}
 use Rattle.sms_worker.specs.declared.open.SegmentPlace.{SegmentPlace}
 use Rattle.sms_worker.specs.Submits.{SpellsSubmit}
@@ -65,18 +67,23 @@ Draws v (Drawn n) w = HasDrawn v (n ∷ []) w
 Draws v UsedUp w = HasDrawn v [] w
 Draws v Contended w = HasDrawn v [] w
 
+abbrev pub number_of : Drawing → Number
+number_of (drawing.Drawn n) = Drawn n
+number_of drawing.UsedUp = UsedUp
+number_of (drawing.Contended _) = Contended
+
 -- what a try to send does to the seat and to the list of attempts; a segment is given up once a number was drawn, or where all
 -- are used up
 abbrev pub Tries : Rules → Message → Part → View → List Attempt → Tried → View → List Attempt → Type 0
 Tries rules m part v old (Sent n) w new =
     HasDrawn v (n ∷ []) w × ((octets : List ℕ) × (new ≡ old ++ record { number = n; sent = octets; reply = None } ∷ []) × SpellsSubmit rules m part n octets)
-Tries rules m part v old Later w new = HasDrawn v [] w × (new ≡ old)
+Tries rules m part v old (Later held) w new = HasDrawn v [] w × (new ≡ old)
 Tries rules m part v old Never w new = ((HasDrawn v [] w × (w.seen ≡ used_up)) ⊎ ((n : ℕ) × HasDrawn v (n ∷ []) w)) × (new ≡ old)
 
 -- the request that was sent is open, behind the others
 abbrev pub Opens : Tried → SegmentPlace → List Open → List Open → Type 0
 Opens (Sent n) place old new = (o : Open) × (new ≡ old ++ o ∷ []) × (o.number ≡ n) × (o.place ≡ place)
-Opens Later place old new = new ≡ old
+Opens (Later held) place old new = new ≡ old
 Opens Never place old new = new ≡ old
 
 -- where the credits go that were reserved for a segment; without an answer they stay reserved

@@ -1,17 +1,20 @@
 -- What the steps of a turn do, and what they leave to be sent.
-use Rattle.std.specs.Prelude.{◌≡◌, ℕ, zero, suc, ◌+◌, ◌-◌, ◌^◌, ◌⊎◌, Bool, true, false, List, [], ◌∷◌, ◌++◌, length, None, Some, min}
+use Rattle.std.specs.Prelude.{◌≡◌, ℕ, zero, suc, ◌+◌, ◌-◌, ◌^◌, ◌≤◌, ◌⊎◌, Bool, IsTrue, true, false, List, [], ◌∷◌, ◌++◌, length, None, Some, min}
 use Rattle.sms_worker.specs.declared.attempt.Tried.{Tried}
 use Rattle.sms_worker.specs.declared.attempt.Tried.TheVariants.{Sent, Later, Never}
 use Rattle.sms_worker.specs.declared.ends.MessageEnd.{MessageEnd}
 use Rattle.sms_worker.specs.declared.ends.SegmentEnd.{SegmentEnd}
 use Rattle.sms_worker.specs.declared.open.Open.{Open}
 use Rattle.sms_worker.specs.declared.open.SegmentPlace.{SegmentPlace}
-use Rattle.sms_worker.specs.declared.turns.Started.{Started}
-use Rattle.sms_worker.specs.declared.turns.Started.TheVariants.{One, Nothing}
+use Rattle.sms_worker.specs.declared.starting.Idle.{Idle}
+use Rattle.sms_worker.specs.declared.starting.Idle.TheVariants.{Closed, AllBegun, Waits}
+use Rattle.sms_worker.specs.declared.starting.Started.{Started}
+use Rattle.sms_worker.specs.declared.starting.Started.TheVariants.{One, Nothing}
 use Rattle.sms_worker.specs.Ends.{segment_at, put}
 use Rattle.sms_worker.specs.Queues.{IsFirstDue, IsTaken, NoneIsDue}
 use Rattle.sms_worker.specs.Rising.{HasNext, IsNext, IsThere}
 use Rattle.sms_worker.specs.RunState.{RunState}
+use Rattle.sms_worker.specs.Start.{Start}
 use Rattle.sms_worker.specs.Sweeps.{SweptAt}
 use Rattle.sms_worker.specs.TextsState.{LeavesTexts}
 
@@ -25,7 +28,7 @@ pub record SentAt (n : ℕ) (place : SegmentPlace) (old new : List MessageEnd) :
 -- a try to send the segment: it was sent, and its request is open behind the others; else all is as it was
 abbrev pub IsTry : Tried → SegmentPlace → RunState → RunState → Type 0
 IsTry (Sent n) place old new = SentAt n place old.ends new.ends × ((o : Open) × (o.number ≡ n) × (o.place ≡ place) × (new ≡ record old { ends = new.ends; opened = old.opened ++ o ∷ [] }))
-IsTry Later place old new = new ≡ old
+IsTry (Later held) place old new = new ≡ old
 IsTry Never place old new = new ≡ old
 
 -- the segment was sent, or given up
@@ -61,25 +64,43 @@ pub record BeginsNext (now : ℕ) (old new : RunState) : Type 0 where
   pub next : new.next ≡ 0
   pub more : length new.ends ≡ length old.ends + 1
 
+-- the segment whose turn it is by this time: the first that is due, else the next of the last message
+abbrev pub IsTurn : ℕ → RunState → SegmentPlace → Type 0
+IsTurn now run place = ((queue : ℕ) × IsFirstDue run.texts run.queues now place queue) ⊎ (NoneIsDue run.texts run.queues now × IsNext run.ends run.next place × IsThere run.ends place)
+
+-- why nothing was started: the line was seen down, and a segment is to be sent; or none is, and all messages are begun; or the one whose turn it is was tried, and waits
+abbrev pub IsIdle : Start → ℕ → Idle → RunState → RunState → Type 0
+IsIdle start now Closed old new = IsTrue new.closed × ((place : SegmentPlace) × IsTurn now old place)
+IsIdle start now AllBegun old new = NoneIsDue old.texts old.queues now × (¬ HasNext old.ends old.next) × (length old.ends ≡ length start.messages)
+IsIdle start now (Waits held) old new = (place : SegmentPlace) × IsTurn now old place
+
 -- what a step did; one that started nothing touched nothing, but that it may have seen the line down
-abbrev pub IsStep : ℕ → ℕ → Started → RunState → RunState → Type 0
-IsStep most now One old new = TriesRetry most now old new ⊎ TriesNext most now old new ⊎ BeginsNext now old new
-IsStep most now Nothing old new = new ≡ record old { closed = new.closed }
+abbrev pub IsStep : Start → ℕ → Started → RunState → RunState → Type 0
+IsStep start now One old new = TriesRetry start.rules.policy.attempts now old new ⊎ TriesNext start.rules.policy.attempts now old new ⊎ BeginsNext now old new
+IsStep start now (Nothing why) old new = (new ≡ record old { closed = new.closed }) × IsIdle start now why old new
 
 -- so many steps that started something, by one time
-abbrev pub AreSteps : ℕ → ℕ → ℕ → RunState → RunState → Type 0
-AreSteps most now zero old new = new ≡ old
-AreSteps most now (suc n) old new = (mid : RunState) × AreSteps most now n old mid × IsStep most now One mid new
+abbrev pub AreSteps : Start → ℕ → ℕ → RunState → RunState → Type 0
+AreSteps start now zero old new = new ≡ old
+AreSteps start now (suc n) old new = (mid : RunState) × AreSteps start now n old mid × IsStep start now One mid new
 
 abbrev pub are_some : ℕ → Bool
 are_some zero = false
 are_some (suc n) = true
 
+-- a turn makes no more starts
+abbrev pub most_starts : ℕ
+most_starts = 65536
+
+-- why no more was started behind so many steps: a step started nothing; or as many requests are open as may be, or a turn makes no more starts
+abbrev pub Stops : Start → ℕ → ℕ → RunState → RunState → Type 0
+Stops start now count last new = ((why : Idle) × IsStep start now (Nothing why) last new) ⊎ ((new ≡ last) × ((start.rules.depth ≤ length last.opened) ⊎ (count ≡ most_starts)))
+
 -- all that was started, if any was
-pub record Starts (most : ℕ) (any : Bool) (old new : RunState) : Type 0 where
+pub record Starts (start : Start) (any : Bool) (old new : RunState) : Type 0 where
   pub now : ℕ
   pub count : ℕ
   pub last : RunState
-  pub steps : AreSteps most now count old last
-  pub rest : IsStep most now Nothing last new
+  pub steps : AreSteps start now count old last
+  pub rest : Stops start now count last new
   pub some : any ≡ are_some count

@@ -19,15 +19,17 @@ use crate::address::{good_destination, good_source};
 use crate::context::WorkerContext;
 use crate::devices::{Clock, Gate};
 use crate::ends::Attempt;
+use crate::held::{Drawing, Held, claim, draw_one, not_ready};
 use crate::message::Message;
 use crate::open::{Open, SegmentPlace};
+use crate::reading::Reading;
 use crate::rules::Rules;
 use crate::user_data::UserData;
 use sms_bind::{Receipt, Wire, WireFault};
 use sms_book::BookName;
 use sms_pdu::{BodyRef, Frame, PduRef, SmRef, encode_into};
 use sms_slot::SlotRow;
-use sms_window::{Claim, Draw, Window, WindowSeat};
+use sms_window::{Draw, Window, WindowSeat};
 use std::alloc::Global;
 use std::io::Write;
 use std::sync::Wait;
@@ -37,8 +39,8 @@ use std::sync::Wait;
 pub enum Tried {
     /// It was sent with this number.
     Sent(u32),
-    /// It may be tried in the next turn.
-    Later,
+    /// It may be tried in the next turn. This keeps it from being sent now.
+    Later(Held),
     /// It has to be given up.
     Never,
 }
@@ -53,6 +55,9 @@ pub enum Number {
     Contended,
 }
 
+/// How often a number is tried to be drawn.
+pub(crate) const DRAWS: u32 = 1000;
+
 /// Draws a sequence_number of the seat's window, in at most 1,000 tries.
 pub fn draw(window: &Window, seat: &mut WindowSeat) -> Number
     requires own { seat.old.window ≡ window.now }
@@ -61,7 +66,7 @@ pub fn draw(window: &Window, seat: &mut WindowSeat) -> Number
     ensures drawn { Draws seat.old.view result seat.new.view }
     ensures used_up { result ≡ UsedUp → seat.new.view.seen ≡ used_up }
 {
-    for _ in 0u32..1000 {
+    for _ in 0..DRAWS {
         match window.try_draw(seat) {
             Draw::Number(number) => return Number::Drawn(number),
             Draw::UsedUp => return Number::UsedUp,
@@ -202,10 +207,10 @@ fn try_send<N: BookName, W: Write, G: Gate, K: Clock, R: Wait>(
     ensures slots { seat.new.view.slots ≡ seat.old.view.slots }
     ensures tried { (part : Part) → carried.now ≡ user_data part → Tries context.now.rules.now message.now part seat.old.view attempts.old.items result seat.new.view attempts.new.items }
 {
-    let number = match draw(context.window, seat) {
-        Number::Drawn(number) => number,
-        Number::UsedUp => return Tried::Never,
-        Number::Contended => return Tried::Later,
+    let number = match draw_one(context.window, seat) {
+        Drawing::Drawn(number) => number,
+        Drawing::UsedUp => return Tried::Never,
+        Drawing::Contended(no) => return Tried::Later(Held::Numbers(no)),
     };
     let Some(frame) = frame_for(context.alloc, context.rules, message, carried, number) else {
         return Tried::Never;
@@ -250,29 +255,29 @@ pub(crate) fn start<N: BookName, W: Write, G: Gate, K: Clock, R: Wait>(
     ensures window { seat.new.window ≡ seat.old.window }
     ensures open { (base : ℕ) → IsOpen base (slots_of opened.old.items) seat.old.view.slots → IsOpen base (slots_of opened.new.items) seat.new.view.slots }
     ensures opened { Opens result place opened.old.items opened.new.items }
+    ensures fit { vec_capacity opened.new ≡ vec_capacity opened.old }
     ensures tried { (part : Part) → carried.now ≡ user_data part → Tries context.now.rules.now message.now part seat.old.view attempts.old.items result seat.new.view attempts.new.items }
 {
-    if !context.gate.ready(context.worker) {
-        return Tried::Later;
+    if let Some(no) = not_ready(context.gate, context.worker) {
+        return Tried::Later(Held::Gate(no));
     }
-    let slot = match context.window.try_claim(seat) {
-        Claim::Got(slot) => slot,
-        Claim::Full => return Tried::Later,
-        Claim::Contended(_) => return Tried::Later,
+    let slot = match claim(context.window, seat) {
+        Ok(slot) => slot,
+        Err(no) => return Tried::Later(Held::Window(no)),
     };
     let tried = try_send(context, seat, slot, place, message, carried, attempts);
     match tried {
         Tried::Sent(number) => {
-            let since_ms = context.clock.now_ms();
+            let since = Reading::of(context.clock);
             opened.push_reserved(Open {
                 number,
                 slot,
                 place,
-                since_ms,
+                since,
             });
             tried
         }
-        Tried::Later => {
+        Tried::Later(_) => {
             context.window.release(seat, slot);
             tried
         }

@@ -1,6 +1,6 @@
-//! Taking the answers that the ring shows, and giving up those that wait too long.
+//! Taking the answers that the ring shows.
 
-ghost use Rattle.std.specs.Prelude.{◌≡◌, ◌==◌, ℕ, ◌<◌, ◌∷◌, ◌++◌, [], List, length, position, IfSome};
+ghost use Rattle.std.specs.Prelude.{◌≡◌, ◌==◌, ◌<◌, ◌∷◌, ◌++◌, [], length, position, IfSome};
 ghost use Rattle.rtrb.specs.Ring.{received, SameConsumer};
 ghost use Rattle.sms_pdu.specs.declared.reply.Reply.{Reply};
 ghost use Rattle.sms_worker.specs.RunState.{NewlyWait};
@@ -15,7 +15,7 @@ use rtrb::Consumer;
 use sms_book::BookName;
 use sms_pdu::Reply;
 use sms_session::Decision;
-use sms_slot::{Expired, Taken};
+use sms_slot::Taken;
 use std::snapshot::Snapshot;
 use std::sync::Wait;
 
@@ -115,30 +115,5 @@ impl<N: BookName, C: Call> Run<'_, N, C> {
     {
         self.note(consumer);
         self.bring(context, reply);
-    }
-
-    /// Expires an open request, where it isn't answered. One that is answered is left: its answer
-    /// stands in the ring.
-    pub(crate) fn expire_at<W, G, K: Clock, R: Wait>(
-        &mut self,
-        context: &WorkerContext<N, W, G, K, R>,
-        i: usize,
-    ) -> bool
-        requires window { context.now.window.now ≡ C.start.seat.window }
-        requires waits { i < length self.old.opened }
-        ensures heard { self.new.heard ≡ self.old.heard }
-    {
-        let open = self.opened[i];
-        if context
-            .line
-            .slots
-            .expire(context.rt, open.slot, open.number)
-            == Expired::Answered
-        {
-            return false;
-        }
-        self.close(context, i);
-        self.forget(context.alloc, open.place);
-        true
     }
 }

@@ -4,6 +4,7 @@
 #![tactic(auto)]
 
 mod address;
+mod answered;
 mod attempt;
 mod begin;
 mod call;
@@ -11,17 +12,21 @@ mod closure;
 mod context;
 mod devices;
 mod ends;
+mod expiry;
 mod hear;
+mod held;
 pub mod laws;
 mod message;
 mod open;
 mod places;
 mod queue;
+mod reading;
 mod ready;
 mod rules;
 mod run;
 mod segment;
 mod settling;
+mod starting;
 mod texts;
 mod turns;
 mod user_data;

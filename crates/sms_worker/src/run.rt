@@ -58,5 +58,6 @@ impl<'l, N: BookName, C: Call> Model for Run<'l, N, C> {
       order : InOrder r.ends.items r.next r.opened.items r.queues.all r.texts.items;
       ends_fit : vec_len r.messages ≤ vec_capacity r.ends;
       texts_fit : vec_len r.messages ≤ vec_capacity r.texts;
+      opened_fit : C.start.rules.depth ≤ vec_capacity r.opened;
     } };
 }

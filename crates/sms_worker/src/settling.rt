@@ -9,6 +9,7 @@ ghost use Rattle.sms_worker.specs.declared.ends.SegmentEnd.{SegmentEnd};
 ghost use Rattle.sms_session.specs.Decisions.{decided};
 ghost use Rattle.sms_session.specs.declared.policy.Decision.TheVariants.{Charge, Refuse, RetryAfter};
 ghost use Rattle.sms_worker.specs.Ends.{segment_at};
+ghost use Rattle.sms_worker.specs.Expiry.{without_open};
 ghost use Rattle.sms_worker.specs.Queues.{WaitsLast, due_after, last_in};
 ghost use Rattle.sms_worker.specs.Rising.{HasTurn, WasSent};
 ghost use Rattle.sms_worker.specs.Steps.{SettlesTo, settled_to, outcome_after};
@@ -229,6 +230,7 @@ impl<N: BookName, C: Call> Run<'_, N, C> {
         requires window { context.now.window.now ≡ C.start.seat.window }
         requires rules { context.now.rules.now ≡ C.start.rules }
         requires turn { HasTurn self.old.ends self.old.next place }
+        requires few { length self.old.opened < C.start.rules.depth }
         ensures heard { self.new.heard ≡ self.old.heard }
         ensures tried { IsTry result place self.old self.new }
     {
@@ -236,9 +238,6 @@ impl<N: BookName, C: Call> Run<'_, N, C> {
         let Some(carried) = self.texts[place.message].part(place.part) else {
             return Tried::Never;
         };
-        if self.opened.len() >= self.opened.capacity() {
-            return Tried::Later;
-        }
         let Some(segment) = take(context.alloc, &mut self.ends, place) else {
             return Tried::Never;
         };
@@ -276,6 +275,7 @@ impl<N: BookName, C: Call> Run<'_, N, C> {
         requires waits { i < length self.old.opened }
         ensures heard { self.new.heard ≡ self.old.heard }
         ensures ends { self.new.ends ≡ self.old.ends }
+        ensures only { self.new ≡ without_open i self.old }
     {
         let open = self.opened.remove(i);
         context.window.release(&mut self.seat, open.slot);

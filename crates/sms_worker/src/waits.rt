@@ -29,7 +29,7 @@ impl<N: BookName, C: Call> Run<'_, N, C> {
     // How long it is until the first open request has waited for too long.
     fn answer_in(&self, answer_ms: u32, now_ms: u64) -> u64 {
         match self.opened.as_slice().first() {
-            Some(open) => time_left(open.since_ms, now_ms, u64::from(answer_ms)),
+            Some(open) => time_left(open.since.ms(), now_ms, u64::from(answer_ms)),
             None => u64::MAX,
         }
     }

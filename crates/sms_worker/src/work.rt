@@ -142,6 +142,7 @@ fn work<'l, N: BookName, W: Write, G: Gate, K: Clock, P: Pause, R: Wait, C: Call
     requires none_opened { lists.opened.items ≡ [] }
     requires ends_fit { vec_len messages ≤ vec_capacity lists.ends }
     requires texts_fit { vec_len messages ≤ vec_capacity lists.texts }
+    requires opened_fit { C.start.rules.depth ≤ vec_capacity lists.opened }
     ensures each { AllZip (IsEndOf C.start.rules (length C.start.share.amounts)) C.start.messages result.ends.items }
     ensures closed { StaysClosed result.ends.items }
     ensures why { result.closed ≡ None → NoneIsClosed result.ends.items }

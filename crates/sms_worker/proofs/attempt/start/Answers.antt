@@ -8,6 +8,6 @@ use Rattle.sms_worker.proofs.attempt.start.Goals as goal
 
 pub returns-in-Sent-clause-open : goal.returns-in-Sent-clause-open
 returns-in-Sent-clause-open g c base o =
-    let got = c.in-Got.ensures.claimed in
-    let more = one_more base c.args.seat.now.view.slots c.try_send-tried.new.seat.view.slots c.in-Got.slot (slots_of c.args.opened.now.items) o got.now.0 got.claim.1.free (c.try_send-tried.ensures.slots ∙ ap (λ (v : View). v.slots) got.after) in
+    let got = c.in-Ok.ensures.got in
+    let more = one_more base c.args.seat.now.view.slots c.try_send-tried.new.seat.view.slots c.in-Ok.slot (slots_of c.args.opened.now.items) o got.now.0 got.claim.1.free (c.try_send-tried.ensures.slots ∙ ap (λ (v : View). v.slots) got.after) in
     subst (λ (l : List ℕ). IsOpen base l c.try_send-tried.new.seat.view.slots) (sym (ap slots_of c.push_reserved.ensures.items ∙ slots-append c.args.opened.now.items _)) more

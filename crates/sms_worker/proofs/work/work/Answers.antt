@@ -26,6 +26,7 @@ invariant_of-run g c =
       order = order_opening _ 0 _ _ _ r.no_ends r.no_texts r.none_opened c.none.ensures;
       ends_fit = r.ends_fit;
       texts_fit = r.texts_fit;
+      opened_fit = r.opened_fit;
     }
 
 pub returns-clause-told : goal.returns-clause-told

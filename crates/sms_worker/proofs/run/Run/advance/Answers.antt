@@ -12,6 +12,7 @@ invariant_of-self g c =
       order = order_popped c.self.inside.ends.items c.self.inside.next c.self.inside.opened.items c.self.inside.queues.all c.pop.new.self.all c.self.inside.texts.items c.as_slice.result.now c.as_slice.ensures.value c.pop.ensures.heads i.order;
       ends_fit = i.ends_fit;
       texts_fit = i.texts_fit;
+      opened_fit = i.opened_fit;
     }
 
 pub invariant_of-self-in-Next : goal.invariant_of-self-in-Next
@@ -25,4 +26,5 @@ invariant_of-self-in-Next g c =
       order = order_on c.self.inside.ends.items c.self.inside.next c.saturating_add-self-inside.result c.self.inside.opened.items c.self.inside.queues.all c.self.inside.texts.items later i.order;
       ends_fit = i.ends_fit;
       texts_fit = i.texts_fit;
+      opened_fit = i.opened_fit;
     }

@@ -45,6 +45,7 @@ invariant_of-self-then-not-is_waiting g c =
       order = subst (λ l. InOrder l c.self.inside.next c.self.inside.opened.items c.self.inside.queues.all c.self.inside.texts.items) (sym same) i.order;
       ends_fit = (let r = i.ends_fit in omega arith);
       texts_fit = i.texts_fit;
+      opened_fit = i.opened_fit;
     }
 
 pub give-requires-2 : goal.give-requires-2
@@ -84,6 +85,7 @@ invariant_of-self-2 g c =
       order = order_tried c.args.context.now.rules.now c.index-message.result.now part.part g.C.Call.start.seat.view c.self.inside.seat.view c.start-tried.new.seat.view g.C.Call.start.messages c.self.inside.ends.items _ c.args.place s s' c.start-tried.result c.self.inside.next c.self.inside.opened.items c.start-tried.new.opened.items c.self.inside.queues.all c.self.inside.texts.items i.keeps.shape.within i.keeps.numbers at tried turn c.start-tried.ensures.opened is i.order;
       ends_fit = (let r = i.ends_fit in omega arith);
       texts_fit = i.texts_fit;
+      opened_fit = (let r = i.opened_fit in let e = c.start-tried.ensures.fit in omega arith);
     }
 
 pub returns-then-not-is_waiting : goal.returns-then-not-is_waiting

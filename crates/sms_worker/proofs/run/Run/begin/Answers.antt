@@ -30,4 +30,5 @@ invariant_of-self g c =
       order = rw (c.push_reserved-2.ensures.items, c.push_reserved.ensures.items) (order_begun c.self.inside.ends.items c.begun-texts.result.1 c.self.inside.texts.items c.begun-texts.result.0 _ b.count b.segments c.self.inside.next c.self.inside.opened.items c.self.inside.queues.all c.begun-texts.ensures.unlinked i.order);
       ends_fit = (let r = i.ends_fit in let e = c.push_reserved-2.ensures.capacity in omega arith);
       texts_fit = (let r = i.texts_fit in let e = c.push_reserved.ensures.capacity in omega arith);
+      opened_fit = i.opened_fit;
     }

@@ -1,4 +1,4 @@
-use Rattle.std.proofs.Common.{◌≡◌, ◌<◌, length, Some, sym, ap, ◌∙◌, subst}
+use Rattle.std.proofs.Common.{◌≡◌, ◌<◌, length, Some, sym, ap, ◌∙◌, subst, arith}
 use Rattle.std.specs.Prelude.{slice_get}
 use Rattle.std.proofs.lemmas.Option.{slice_get-get_or}
 use Rattle.sms_worker.proofs.Keeping.{keeps_closed}
@@ -29,4 +29,5 @@ invariant_of-self g c =
       order = rw c.remove-open.ensures.items (order_closed c.self.inside.ends.items c.self.inside.next c.self.inside.opened.items c.self.inside.queues.all c.self.inside.texts.items c.args.i i.order);
       ends_fit = i.ends_fit;
       texts_fit = i.texts_fit;
+      opened_fit = (let r = i.opened_fit in let e = c.remove-open.ensures.capacity in omega arith);
     }

@@ -31,6 +31,7 @@ invariant_of-self-then-not-is_waiting g c =
       order = subst (λ l. InOrder l c.self.inside.next c.self.inside.opened.items c.self.inside.queues.all c.self.inside.texts.items) (sym same) i.order;
       ends_fit = (let r = i.ends_fit in omega arith);
       texts_fit = i.texts_fit;
+      opened_fit = i.opened_fit;
     }
 
 pub settle-requires : goal.settle-requires
@@ -72,6 +73,7 @@ invariant_of-self-2 g c =
       order = order_kept c.self.inside.ends.items _ c.args.place.message c.args.place.part s c.given_up-segment.result c.self.inside.next c.self.inside.opened.items c.self.inside.queues.all c.self.inside.texts.items at c.given_up-segment.ensures.attempts is i.order;
       ends_fit = (let r = i.ends_fit in omega arith);
       texts_fit = i.texts_fit;
+      opened_fit = i.opened_fit;
     }
 
 pub returns-then-place-len-clause-swept : goal.returns-then-place-len-clause-swept

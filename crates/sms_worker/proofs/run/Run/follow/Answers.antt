@@ -20,6 +20,7 @@ invariant_of-self g c =
       order = order_pushed c.self.inside.ends.items c.self.inside.next _ _ _ _ _ c.args.place sent c.push.ensures.heads c.push.ensures.links i.order;
       ends_fit = i.ends_fit;
       texts_fit = subst (λ n. vec_len c.self.inside.messages ≤ n) (sym room.1) i.texts_fit;
+      opened_fit = i.opened_fit;
     }
 
 pub returns-in-RetryAfter-clause-due : goal.returns-in-RetryAfter-clause-due

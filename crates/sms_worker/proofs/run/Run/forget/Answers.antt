@@ -18,6 +18,7 @@ invariant_of-self g c =
       order = rw c.settle_text.ensures.settled (order_settled c.self.inside.ends.items c.self.inside.next c.self.inside.opened.items c.self.inside.queues.all c.self.inside.texts.items c.args.place.message i.order);
       ends_fit = i.ends_fit;
       texts_fit = subst (λ n. vec_len c.self.inside.messages ≤ n) (sym room.1) i.texts_fit;
+      opened_fit = i.opened_fit;
     }
 
 pub returns : goal.returns

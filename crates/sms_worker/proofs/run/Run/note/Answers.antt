@@ -15,6 +15,7 @@ invariant_of-self g c =
       order = i.order;
       ends_fit = i.ends_fit;
       texts_fit = i.texts_fit;
+      opened_fit = i.opened_fit;
     }
 
 pub returns-clause-since : goal.returns-clause-since

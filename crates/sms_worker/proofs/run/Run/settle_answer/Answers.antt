@@ -47,6 +47,7 @@ invariant_of-self g c =
       order = subst (λ l. InOrder l c.self.inside.next c.self.inside.opened.items c.self.inside.queues.all c.self.inside.texts.items) (sym same) i.order;
       ends_fit = (let r = i.ends_fit in omega arith);
       texts_fit = i.texts_fit;
+      opened_fit = i.opened_fit;
     }
 
 pub settle-requires : goal.settle-requires
@@ -96,6 +97,7 @@ invariant_of-self-2 g c =
       order = order_heard g.C.Call.start.rules.policy.attempts c.self.inside.ends.items _ c.args.place.message c.args.place.part s r s' c.args.reply d c.self.inside.next c.self.inside.opened.items c.self.inside.queues.all c.self.inside.texts.items at answered refl is i.order;
       ends_fit = (let q = i.ends_fit in omega arith);
       texts_fit = i.texts_fit;
+      opened_fit = i.opened_fit;
     }
 
 pub returns-in-None : goal.returns-in-None

@@ -1,9 +1,11 @@
 use Rattle.std.proofs.Common.{List, Some, inl, refl, sym, ap, subst, rules, ◌∙◌}
 use Rattle.sms_worker.specs.declared.ends.MessageEnd.{MessageEnd}
-use Rattle.sms_worker.specs.declared.turns.Source.{Source}
+use Rattle.sms_worker.specs.declared.starting.Source.{Source}
 use Rattle.sms_worker.specs.Sweeps.{SweptAt}
-use Rattle.sms_worker.specs.Turns.{IsTried}
-use Rattle.sms_worker.proofs.Turning.{begun_step, given_so, no_step, not_sent, sent_so, stepped, still_there}
+use Rattle.sms_worker.specs.declared.starting.Idle.TheVariants.{AllBegun, Closed, Waits}
+use Rattle.sms_worker.specs.declared.starting.Started.TheVariants.{One, Nothing}
+use Rattle.sms_worker.specs.Turns.{IsStep, IsTried}
+use Rattle.sms_worker.proofs.Turning.{begun_step, given_so, none_begun, not_sent, seen_closed, sent_so, stepped, still_there, turn_there, waits_step}
 use Rattle.sms_worker.proofs.run.Run.start_one.Goals as goal
 
 pub begin-requires : goal.begin-requires
@@ -12,14 +14,23 @@ begin-requires g c = record { rules = c.requires.rules }
 pub returns-then-begin : goal.returns-then-begin
 returns-then-begin g c = record {
   heard = c.begin.ensures.heard ∙ c.sees_closed-closed.ensures.same.0;
-  step = begun_step _ c.args.now_ms c.args.self.now c.sees_closed-closed.new.self c.begin.new.self c.sees_closed-closed.ensures.only (c.next_place.ensures.none (search rules)) (c.begin.ensures.next (search rules)) (c.begin.ensures.more (search rules)).0;
+  step = subst (λ t. IsStep g.C.Call.start t One c.args.self.now c.begin.new.self) c.ms-now_ms.ensures (begun_step g.C.Call.start c.ms-now_ms.result c.args.self.now c.sees_closed-closed.new.self c.begin.new.self c.sees_closed-closed.ensures.only (c.next_place.ensures.none (search rules)) (c.begin.ensures.next (search rules)) (c.begin.ensures.more (search rules)).0);
 }
 
 pub returns-in_default : goal.returns-in_default
 returns-in_default g c = record {
   heard = c.begin.ensures.heard ∙ c.sees_closed-closed.ensures.same.0;
-  step = no_step c.args.self.now c.sees_closed-closed.new.self c.begin.new.self c.sees_closed-closed.ensures.only (c.begin.ensures.none (search rules));
+  step = subst (λ t. IsStep g.C.Call.start t (Nothing AllBegun) c.args.self.now c.begin.new.self) c.ms-now_ms.ensures (none_begun g.C.Call.start c.ms-now_ms.result c.args.self.now c.sees_closed-closed.new.self c.begin.new.self c.sees_closed-closed.ensures.only (c.next_place.ensures.none (search rules)) (c.begin.ensures.none (search rules)) (c.begin.ensures.all (search rules)));
 }
+
+pub returns-then-closed : goal.returns-then-closed
+returns-then-closed g c =
+    let at = c.in-Some.place in
+    let turn = turn_there c.ms-now_ms.result c.args.self.now c.sees_closed-closed.new.self at c.sees_closed-closed.ensures.only c.in-Some.source (λ k e. c.next_place.ensures.retry at k (c.in-Some.is ∙ ap (λ (x : Source). Some (at, x)) e)) (λ e. c.next_place.ensures.fresh at (c.in-Some.is ∙ ap (λ (x : Source). Some (at, x)) e)) in
+    record {
+      heard = c.sees_closed-closed.ensures.same.0;
+      step = subst (λ t. IsStep g.C.Call.start t (Nothing Closed) c.args.self.now c.sees_closed-closed.new.self) c.ms-now_ms.ensures (seen_closed g.C.Call.start c.ms-now_ms.result c.args.self.now c.sees_closed-closed.new.self at c.sees_closed-closed.ensures.only (search rules) turn);
+    }
 
 pub attempt-requires-clause-window : goal.attempt-requires-clause-window
 attempt-requires-clause-window g c = c.requires.window
@@ -33,18 +44,22 @@ returns-in-Sent g c =
     let tried = sent_so g.C.Call.start.rules.policy.attempts c.in-Sent.field-0 c.attempt.result at c.sees_closed-closed.new.self c.attempt.new.self c.attempt.ensures.tried c.in-Sent.is in
     record {
       heard = c.advance.ensures.same.0 ∙ c.attempt.ensures.heard ∙ c.sees_closed-closed.ensures.same.0;
-      step = stepped _ c.args.now_ms c.args.self.now c.sees_closed-closed.new.self c.attempt.new.self c.advance.new.self c.advance.new.self at c.sees_closed-closed.ensures.only
+      step = subst (λ t. IsStep g.C.Call.start t One c.args.self.now c.advance.new.self) c.ms-now_ms.ensures (stepped g.C.Call.start c.ms-now_ms.result c.args.self.now c.sees_closed-closed.new.self c.attempt.new.self c.advance.new.self c.advance.new.self at c.sees_closed-closed.ensures.only
           (still_there c.attempt.result at c.sees_closed-closed.new.self c.attempt.new.self c.attempt.ensures.tried) c.advance.ensures.same.2 (refl, refl) (inl refl)
           (subst (IsTried _ at c.sees_closed-closed.new.self.ends) (sym c.advance.ensures.same.1) tried)
           c.in-Some.source (λ k e. c.next_place.ensures.retry at k (c.in-Some.is ∙ ap (λ (x : Source). Some (at, x)) e)) (λ e. c.next_place.ensures.fresh at (c.in-Some.is ∙ ap (λ (x : Source). Some (at, x)) e))
-          c.advance.ensures.taken c.advance.ensures.next;
+          c.advance.ensures.taken c.advance.ensures.next);
     }
 
 pub returns-in-Later : goal.returns-in-Later
-returns-in-Later g c = record {
-  heard = c.attempt.ensures.heard ∙ c.sees_closed-closed.ensures.same.0;
-  step = no_step c.args.self.now c.sees_closed-closed.new.self c.attempt.new.self c.sees_closed-closed.ensures.only (not_sent c.attempt.result c.in-Some.place c.sees_closed-closed.new.self c.attempt.new.self c.attempt.ensures.tried c.in-Later.is);
-}
+returns-in-Later g c =
+    let at = c.in-Some.place in
+    let turn = turn_there c.ms-now_ms.result c.args.self.now c.sees_closed-closed.new.self at c.sees_closed-closed.ensures.only c.in-Some.source (λ k e. c.next_place.ensures.retry at k (c.in-Some.is ∙ ap (λ (x : Source). Some (at, x)) e)) (λ e. c.next_place.ensures.fresh at (c.in-Some.is ∙ ap (λ (x : Source). Some (at, x)) e)) in
+    record {
+      heard = c.attempt.ensures.heard ∙ c.sees_closed-closed.ensures.same.0;
+      step = subst (λ t. IsStep g.C.Call.start t (Nothing (Waits c.in-Later.held)) c.args.self.now c.attempt.new.self) c.ms-now_ms.ensures (waits_step g.C.Call.start c.ms-now_ms.result c.args.self.now c.sees_closed-closed.new.self c.attempt.new.self at c.in-Later.held c.sees_closed-closed.ensures.only
+          (not_sent c.attempt.result c.in-Later.held at c.sees_closed-closed.new.self c.attempt.new.self c.attempt.ensures.tried c.in-Later.is) turn);
+    }
 
 pub returns-in-Never : goal.returns-in-Never
 returns-in-Never g c =
@@ -54,8 +69,8 @@ returns-in-Never g c =
     let tried = given_so most c.attempt.result at c.sees_closed-closed.new.self c.attempt.new.self c.give_up.new.self.ends c.attempt.ensures.tried c.in-Never.is swept in
     record {
       heard = c.give_up.ensures.heard ∙ c.advance-in-Never.ensures.same.0 ∙ c.attempt.ensures.heard ∙ c.sees_closed-closed.ensures.same.0;
-      step = stepped _ c.args.now_ms c.args.self.now c.sees_closed-closed.new.self c.attempt.new.self c.advance-in-Never.new.self c.give_up.new.self at c.sees_closed-closed.ensures.only
+      step = subst (λ t. IsStep g.C.Call.start t One c.args.self.now c.give_up.new.self) c.ms-now_ms.ensures (stepped g.C.Call.start c.ms-now_ms.result c.args.self.now c.sees_closed-closed.new.self c.attempt.new.self c.advance-in-Never.new.self c.give_up.new.self at c.sees_closed-closed.ensures.only
           (still_there c.attempt.result at c.sees_closed-closed.new.self c.attempt.new.self c.attempt.ensures.tried) c.advance-in-Never.ensures.same.2 c.give_up.ensures.left c.give_up.ensures.texts tried
           c.in-Some.source (λ k e. c.next_place.ensures.retry at k (c.in-Some.is ∙ ap (λ (x : Source). Some (at, x)) e)) (λ e. c.next_place.ensures.fresh at (c.in-Some.is ∙ ap (λ (x : Source). Some (at, x)) e))
-          c.advance-in-Never.ensures.taken c.advance-in-Never.ensures.next;
+          c.advance-in-Never.ensures.taken c.advance-in-Never.ensures.next);
     }

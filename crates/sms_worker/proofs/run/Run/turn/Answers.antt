@@ -11,7 +11,7 @@ pub hear-heard-requires-clause-heard : goal.hear-heard-requires-clause-heard
 hear-heard-requires-clause-heard g c = c.requires.heard
 
 pub expire-expired-requires : goal.expire-expired-requires
-expire-expired-requires g c = record { window = c.requires.window }
+expire-expired-requires g c = record { window = c.requires.window; rules = c.requires.rules }
 
 pub start_or_sweep-started-requires-clause-window : goal.start_or_sweep-started-requires-clause-window
 start_or_sweep-started-requires-clause-window g c = c.requires.window
