@@ -36,3 +36,10 @@ answers_bad (x ∷ xs) place bad = rw (not_all (x ∷ xs) place bad.there bad.ba
 pub map_none : (l : List (String Global)) → map string_bytes l ≡ [] → l ≡ []
 map_none [] e = refl
 map_none (x ∷ xs) e = cc
+
+-- none of a script's texts is bad
+pub none_bad : (l : List (List ℕ)) (ts : List Treatment) → SayAll l ts → (place : ℕ) → IsFirstBad l place → ⊥
+none_bad l ts h place bad =
+    let good : are_answers l ≡ true = all_said l ts h in
+    let wrong : are_answers l ≡ false = not_all l place bad.there bad.bad in
+    cc

@@ -13,3 +13,4 @@ pub mod Schedules
 pub mod Tariffs
 pub mod Toml
 pub mod Quotes
+pub mod Seeking

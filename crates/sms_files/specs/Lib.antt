@@ -12,3 +12,5 @@ pub mod ConfigFaults
 pub mod Setups
 pub mod Inputs
 pub mod Schedule
+pub mod Flaws
+pub mod Held

@@ -276,7 +276,7 @@ fn config_in(alloc: Global, table: &Table) -> Result<Config, InputFault>
 }
 
 /// The table that the octets spell.
-fn table_of(alloc: Global, octets: &[u8]) -> Result<Table, InputFault>
+pub fn table_of(alloc: Global, octets: &[u8]) -> Result<Table, InputFault>
     ensures table { IfOk result (λ table. toml_of octets.now ≡ Some (table_view table)) }
     ensures refused { IfErr result (λ fault. (fault ≡ OutOfMemory) ⊎ ((fault ≡ NotToml) × (toml_of octets.now ≡ None))) }
 {

@@ -16,7 +16,7 @@ use std::alloc::{AllocError, Global};
 use std::io::Read;
 
 /// How many rates a file has at the most.
-const MOST_RATES: usize = 1_000;
+pub const MOST_RATES: usize = 1_000;
 
 /// How many fields each record of the file has.
 const FIELDS: usize = 2;

@@ -15,10 +15,10 @@ use std::alloc::{AllocError, Global};
 use std::io::Read;
 
 /// How many events a schedule has at the most.
-const MOST_EVENTS: usize = 1_000_000;
+pub const MOST_EVENTS: usize = 1_000_000;
 
 /// The greatest number in a field that says yes or no.
-const MOST_FLAG: u32 = 1;
+pub const MOST_FLAG: u32 = 1;
 
 /// The one number after a record's word.
 fn one_number(record: &ByteRecord) -> Option<u32>
