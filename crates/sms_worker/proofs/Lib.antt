@@ -10,6 +10,7 @@ pub mod EndsOf
 pub mod Events
 pub mod Expiring
 pub mod Finding
+pub mod Hearing
 pub mod Keeping
 pub mod Kept
 pub mod Naming

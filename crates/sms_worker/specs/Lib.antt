@@ -7,6 +7,7 @@ pub mod EndOf
 pub mod Ends
 pub mod Events
 pub mod Expiry
+pub mod Hearing
 pub mod Keeps
 pub mod Laws
 pub mod Limits

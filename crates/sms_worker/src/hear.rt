@@ -3,6 +3,7 @@
 ghost use Rattle.std.specs.Prelude.{◌≡◌, ◌==◌, ◌<◌, ◌∷◌, ◌++◌, [], length, position, IfSome};
 ghost use Rattle.rtrb.specs.Ring.{received, SameConsumer};
 ghost use Rattle.sms_pdu.specs.declared.reply.Reply.{Reply};
+ghost use Rattle.sms_worker.specs.Hearing.{AllBrought, IsBrought};
 ghost use Rattle.sms_worker.specs.RunState.{NewlyWait};
 ghost use Rattle.sms_worker.specs.Told.{HeardSince};
 
@@ -10,11 +11,11 @@ use crate::call::Call;
 use crate::context::WorkerContext;
 use crate::devices::{Clock, Gate};
 use crate::open::Open;
+use crate::reading::Reading;
 use crate::run::Run;
 use rtrb::Consumer;
 use sms_book::BookName;
 use sms_pdu::Reply;
-use sms_session::Decision;
 use sms_slot::Taken;
 use std::snapshot::Snapshot;
 use std::sync::Wait;
@@ -28,19 +29,22 @@ fn find(opened: &[Open], number: u32) -> Option<usize>
     opened.iter().position(|open| open.number == number)
 }
 
-/// The time, where the decision is to wait from then on.
-fn time_for<K: Clock>(clock: &K, decision: Decision) -> u64 {
-    match decision {
-        Decision::RetryAfter(_) => clock.now_ms(),
-        Decision::Charge => 0,
-        Decision::Refuse => 0,
-    }
+/// What came of a reply.
+#[derive(Clone, Copy, Debug, PartialEq, Eq)]
+pub enum Brought {
+    /// No open request took it.
+    Dropped,
+    /// Its segment is settled.
+    Settled,
+    /// Its segment is to be sent again, so long after this time as was decided.
+    Retried(Reading),
 }
 
 impl<N: BookName, C: Call> Run<'_, N, C> {
     /// Notes what the consumer has received after one more pop.
     fn note(&mut self, consumer: &Consumer<Reply>)
         requires more { (reply : Reply) × (received consumer.now ≡ self.old.heard ++ reply ∷ []) }
+        ensures only { self.new ≡ record self.old { heard = received consumer.now } }
         ensures heard { self.new.heard ≡ received consumer.now }
         ensures since { (reply : Reply) → received consumer.now ≡ self.old.heard ++ reply ∷ [] → HeardSince (length C.start.received) self.new.heard reply }
     {
@@ -53,28 +57,32 @@ impl<N: BookName, C: Call> Run<'_, N, C> {
         &mut self,
         context: &WorkerContext<N, W, G, K, R>,
         reply: Reply,
-    )
+    ) -> Brought
         requires window { context.now.window.now ≡ C.start.seat.window }
         requires rules { context.now.rules.now ≡ C.start.rules }
         requires heard { HeardSince (length C.start.received) self.old.heard reply }
         ensures heard { self.new.heard ≡ self.old.heard }
         ensures waits { NewlyWait self.old.ends self.new }
+        ensures brought { IsBrought C.start.rules reply result self.old self.new }
     {
         let Some(i) = find(self.opened.as_slice(), reply.number) else {
-            return;
+            return Brought::Dropped;
         };
         let open = self.opened[i];
         if context.line.slots.take(context.rt, open.slot, open.number) != Taken::Got {
-            return;
+            return Brought::Dropped;
         }
         context.gate.heard(context.worker, &reply);
         self.close(context, i);
         match self.settle_answer(context, open.place, reply) {
             Some((attempts, decision)) => {
-                let now_ms = time_for(context.clock, decision);
-                self.follow(context.alloc, now_ms, open.place, attempts, decision)
+                let clock = context.clock;
+                match self.follow(context.alloc, clock, open.place, attempts, decision) {
+                    Some(now) => Brought::Retried(now),
+                    None => Brought::Settled,
+                }
             }
-            None => {}
+            None => Brought::Dropped,
         }
     }
 
@@ -89,9 +97,10 @@ impl<N: BookName, C: Call> Run<'_, N, C> {
         requires heard { self.old.heard ≡ received consumer.old }
         ensures ring { SameConsumer consumer.old consumer.new }
         ensures heard { self.new.heard ≡ received consumer.new }
+        ensures brought { AllBrought C.start.rules result self.old self.new }
     {
         let mut any = false;
-        for _ in 0u32..64 {
+        for _pop in 0u32..64 {
             let Ok(reply) = consumer.pop() else {
                 return any;
             };
@@ -107,13 +116,14 @@ impl<N: BookName, C: Call> Run<'_, N, C> {
         context: &WorkerContext<N, W, G, K, R>,
         consumer: &Consumer<Reply>,
         reply: Reply,
-    )
+    ) -> Brought
         requires window { context.now.window.now ≡ C.start.seat.window }
         requires rules { context.now.rules.now ≡ C.start.rules }
         requires heard { received consumer.now ≡ self.old.heard ++ reply ∷ [] }
         ensures heard { self.new.heard ≡ received consumer.now }
+        ensures brought { IsBrought C.start.rules reply result self.old self.new }
     {
         self.note(consumer);
-        self.bring(context, reply);
+        self.bring(context, reply)
     }
 }

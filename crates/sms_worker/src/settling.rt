@@ -26,6 +26,7 @@ use crate::devices::{Clock, Gate};
 use crate::ends::{Attempts, MessageEnd, MessageResult, Outcome, SegmentEnd};
 use crate::open::SegmentPlace;
 use crate::places::{give, take};
+use crate::reading::Reading;
 use crate::run::Run;
 use crate::segment::{answer, given_up, is_waiting};
 use crate::texts::settle_text;
@@ -106,30 +107,41 @@ impl<N: BookName, C: Call> Run<'_, N, C> {
         settle_text(alloc, &mut self.texts, place);
     }
 
-    /// What follows an answer that was heard at this time: the segment waits for its next attempt, or it is
-    /// settled.
-    pub(crate) fn follow(
+    /// What follows an answer that was heard now: the segment waits for its next attempt from the time that is
+    /// given back, or it is settled.
+    pub(crate) fn follow<K: Clock>(
         &mut self,
         alloc: Global,
-        now_ms: u64,
+        clock: &K,
         place: SegmentPlace,
         attempts: usize,
         decision: Decision,
-    )
+    ) -> Option<Reading>
         requires sent { WasSent self.old.ends place }
         ensures same { (self.new.heard ≡ self.old.heard) × (self.new.ends ≡ self.old.ends) }
         ensures waits { (ms : ℕ) → decision ≡ RetryAfter ms → 1 ≤ attempts → attempts ≤ 10 → last_in self.new.queues (attempts - 1) ≡ Some place }
-        ensures due { (ms : ℕ) → decision ≡ RetryAfter ms → 1 ≤ attempts → attempts ≤ 10 → WaitsLast self.old.texts self.old.queues (attempts - 1) (record { place = place; due_ms = due_after now_ms ms }) self.new.texts self.new.queues }
+        ensures opened { self.new.opened ≡ self.old.opened }
+        ensures due { IfSome result (λ at. (ms : ℕ) × (decision ≡ RetryAfter ms) × (1 ≤ attempts → attempts ≤ 10 → WaitsLast self.old.texts self.old.queues (attempts - 1) (record { place = place; due_ms = due_after at.at_ms ms }) self.new.texts self.new.queues)) }
         ensures apart { (k : ℕ) → k + 1 ≢ attempts → slice_get self.new.queues k ≡ slice_get self.old.queues k }
         ensures settled { (decision ≡ Charge) ⊎ (decision ≡ Refuse) → self.new ≡ record self.old { texts = changed settled_one self.old.texts place.message } }
+        ensures over { result ≡ None → (decision ≡ Charge) ⊎ (decision ≡ Refuse) }
     {
         match decision {
             Decision::RetryAfter(ms) => {
+                let now = Reading::of(clock);
+                let now_ms = now.ms();
                 let due_ms = now_ms.saturating_add(u64::from(ms));
                 self.queues.push(&mut self.texts, attempts, place, due_ms);
+                Some(now)
             }
-            Decision::Charge => self.forget(alloc, place),
-            Decision::Refuse => self.forget(alloc, place),
+            Decision::Charge => {
+                self.forget(alloc, place);
+                None
+            }
+            Decision::Refuse => {
+                self.forget(alloc, place);
+                None
+            }
         }
     }
 
@@ -187,6 +199,7 @@ impl<N: BookName, C: Call> Run<'_, N, C> {
         ensures settled { IfSome result (λ r. SettlesTo self.old.ends place r.0 r.1 self.new.ends) }
         ensures decided { IfSome result (λ r. r.1 ≡ decided reply r.0 C.start.rules.policy.attempts C.start.rules.policy.base_ms) }
         ensures none { result ≡ None → self.new.ends ≡ self.old.ends }
+        ensures only { self.new ≡ record self.old { ends = self.new.ends } }
     {
         let message = &self.messages[place.message];
         let account = message.account;

@@ -1,5 +1,5 @@
 use Rattle.std.proofs.Common.{◌≡◌, ◌<◌, List, length, Some, refl, sym, ap, ◌∙◌, subst, rules}
-use Rattle.std.specs.Prelude.{slice_get}
+use Rattle.std.specs.Prelude.{◌==◌, position, slice_get}
 use Rattle.std.proofs.lemmas.Option.{slice_get-get_or}
 use Rattle.sms_window.proofs.OpenSlots.{one_less_at}
 use Rattle.sms_worker.specs.declared.ends.MessageEnd.{MessageEnd}
@@ -8,6 +8,7 @@ use Rattle.sms_worker.specs.Rising.{WasSent}
 use Rattle.sms_worker.specs.RunState.{RunState}
 use Rattle.sms_worker.specs.Told.{HeardSince}
 use Rattle.sms_worker.proofs.Finding.{newly_waits}
+use Rattle.sms_worker.proofs.Hearing.{retried, settled}
 use Rattle.sms_worker.proofs.run.Run.bring.Goals as goal
 
 pub take-requires : goal.take-requires
@@ -34,6 +35,31 @@ settle_answer-requires g c =
       was_sent = subst (λ (l : List MessageEnd). WasSent l c.index-open.result.now.place) (ap (λ (x : RunState). x.ends) c.self.view_is ∙ sym c.close.ensures.ends) sent;
     }
 
-pub returns-in-Some-settle_answer-clause-waits : goal.returns-in-Some-settle_answer-clause-waits
-returns-in-Some-settle_answer-clause-waits g c =
+pub returns-in-Some-follow-clause-waits : goal.returns-in-Some-follow-clause-waits
+returns-in-Some-follow-clause-waits g c =
     newly_waits _ c.close.new.self.ends c.settle_answer.new.self.ends c.follow.new.self c.index-open.result.now.place _ _ c.in-Some-settle_answer.ensures.settled c.close.ensures.ends c.follow.ensures.same.1 c.follow.ensures.waits
+
+pub returns-in-Some-follow-clause-brought : goal.returns-in-Some-follow-clause-brought
+returns-in-Some-follow-clause-brought g c =
+    let opened = c.self.inside.opened.items in
+    let low : c.in-Some.i < length opened = search rules in
+    let at : slice_get opened (c.in-Some.i) ≡ Some c.index-open.result.now = slice_get-get_or opened (c.in-Some.i) c.index-open.result.now low ∙ ap Some (sym c.index-open.ensures) in
+    let there = subst (λ (x : RunState). slice_get x.opened c.in-Some.i ≡ Some c.index-open.result.now) c.self.view_is at in
+    let found : position (λ o. o.number == c.args.reply.number) opened ≡ Some c.in-Some.i = search rules in
+    retried g.C.Call.start.rules c.args.reply c.args.self.now c.close.new.self c.settle_answer.new.self c.in-Some.i c.close.ensures.only c.settle_answer.ensures.only c.follow.new.self c.index-open.result.now _ _
+    (subst (λ (x : RunState). position (λ o. o.number == c.args.reply.number) x.opened ≡ Some c.in-Some.i) c.self.view_is found) there c.in-Some-settle_answer.ensures.settled c.in-Some-settle_answer.ensures.decided c.follow.ensures.same.1 c.follow.ensures.opened c.in-Some-follow.now c.in-Some-follow.ensures.due
+
+pub returns-in-None-follow-clause-waits : goal.returns-in-None-follow-clause-waits
+returns-in-None-follow-clause-waits g c =
+    newly_waits _ c.close.new.self.ends c.settle_answer.new.self.ends c.follow.new.self c.index-open.result.now.place _ _ c.in-Some-settle_answer.ensures.settled c.close.ensures.ends c.follow.ensures.same.1 c.follow.ensures.waits
+
+pub returns-in-None-follow-clause-brought : goal.returns-in-None-follow-clause-brought
+returns-in-None-follow-clause-brought g c =
+    let opened = c.self.inside.opened.items in
+    let low : c.in-Some.i < length opened = search rules in
+    let at : slice_get opened (c.in-Some.i) ≡ Some c.index-open.result.now = slice_get-get_or opened (c.in-Some.i) c.index-open.result.now low ∙ ap Some (sym c.index-open.ensures) in
+    let there = subst (λ (x : RunState). slice_get x.opened c.in-Some.i ≡ Some c.index-open.result.now) c.self.view_is at in
+    let found : position (λ o. o.number == c.args.reply.number) opened ≡ Some c.in-Some.i = search rules in
+    let over = c.follow.ensures.over (search rules) in
+    settled g.C.Call.start.rules c.args.reply c.args.self.now c.close.new.self c.settle_answer.new.self c.in-Some.i c.close.ensures.only c.settle_answer.ensures.only c.follow.new.self c.index-open.result.now _ _
+    (subst (λ (x : RunState). position (λ o. o.number == c.args.reply.number) x.opened ≡ Some c.in-Some.i) c.self.view_is found) there c.in-Some-settle_answer.ensures.settled c.in-Some-settle_answer.ensures.decided c.follow.ensures.same.1 c.follow.ensures.opened over (c.follow.ensures.settled over)

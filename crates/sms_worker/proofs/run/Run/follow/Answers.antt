@@ -1,6 +1,5 @@
 use Rattle.std.proofs.Common.{◌≡◌, ◌≤◌, ◌-◌, ◌∙◌, ap, rules, sym, subst}
 use Rattle.std.specs.Vec.{vec_len}
-use Rattle.sms_session.specs.declared.policy.Decision.TheVariants.{RetryAfter}
 use Rattle.sms_worker.specs.Queues.{due_after}
 use Rattle.sms_worker.specs.Rising.{WasSent}
 use Rattle.sms_worker.specs.RunState.{RunState}
@@ -24,8 +23,6 @@ invariant_of-self g c =
     }
 
 pub returns-in-RetryAfter-clause-due : goal.returns-in-RetryAfter-clause-due
-returns-in-RetryAfter-clause-due g c ms is some few =
-    let both : RetryAfter c.in-RetryAfter.ms ≡ RetryAfter ms = sym c.in-RetryAfter.is ∙ is in
-    let same : c.in-RetryAfter.ms ≡ ms = cc in
-    let times : c.saturating_add-due_ms.result ≡ due_after c.args.now_ms c.in-RetryAfter.ms = search rules in
-    waits_at _ _ c.self.view_is (c.args.attempts - 1) c.args.place c.saturating_add-due_ms.result (due_after c.args.now_ms ms) _ _ (times ∙ ap (due_after c.args.now_ms) same) (c.push.ensures.waits some few)
+returns-in-RetryAfter-clause-due g c =
+    let times : c.saturating_add-due_ms.result ≡ due_after c.ms-now_ms.result c.in-RetryAfter.ms = search rules in
+    (c.in-RetryAfter.ms, c.in-RetryAfter.is, λ some few. waits_at _ _ c.self.view_is (c.args.attempts - 1) c.args.place c.saturating_add-due_ms.result (due_after c.of-now.result.at_ms c.in-RetryAfter.ms) _ _ (times ∙ ap (λ n. due_after n c.in-RetryAfter.ms) c.ms-now_ms.ensures) (c.push.ensures.waits some few))

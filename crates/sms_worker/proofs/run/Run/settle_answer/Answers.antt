@@ -103,7 +103,7 @@ invariant_of-self-2 g c =
 pub returns-in-None : goal.returns-in-None
 returns-in-None g c =
     let same = given_same c.self.inside.ends.items c.take.new.ends.items c.give.new.ends.items c.args.place.message c.args.place.part c.in-Some.segment c.in-Some.ensures.out (c.give.ensures.now ∙ ap (put c.take.new.ends.items c.args.place.message c.args.place.part) (let e : c.answer-segment.result.0 ≡ c.in-Some.segment = search rules in e)) in
-    record { heard = ap (λ (x : RunState). x.heard) c.self.view_is; sent = tt; settled = tt; decided = tt; none = λ e. same ∙ ap (λ (x : RunState). x.ends) c.self.view_is }
+    record { heard = ap (λ (x : RunState). x.heard) c.self.view_is; sent = tt; settled = tt; decided = tt; none = λ e. same ∙ ap (λ (x : RunState). x.ends) c.self.view_is; only = ap (λ (x : RunState). record x { ends = c.give.new.ends.items }) c.self.view_is }
 
 pub returns : goal.returns
 returns g c =
@@ -126,4 +126,5 @@ returns g c =
       };
       decided = so_decided c.args.reply d (length r.attempts) _ c.args.context.now.rules.now g.C.Call.start.rules c.requires.rules (search rules) (search rules);
       none = λ e. absurd (cc);
+      only = ap (λ (x : RunState). record x { ends = c.give-2.new.ends.items }) c.self.view_is;
     }
