@@ -1,4 +1,4 @@
-use Rattle.std.proofs.Common.{◌≡◌, ◌++◌, ◌∷◌, [], rules}
+use Rattle.std.proofs.Common.{rules}
 use Rattle.sms_worker.proofs.Hearing.{one_brought}
 use Rattle.sms_worker.proofs.Turning.{some_then}
 use Rattle.sms_worker.proofs.run.Run.hear.Goals as goal
