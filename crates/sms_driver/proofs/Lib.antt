@@ -1,4 +1,5 @@
 pub mod Answering
+pub mod Books
 pub mod Closings
 pub mod Conclusions
 pub mod Dealings

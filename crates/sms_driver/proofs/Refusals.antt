@@ -1,7 +1,9 @@
 -- What is given unless something failed before.
-use Rattle.std.specs.Prelude.{◌≡◌, Result, Ok, Err, IfOk, IfErr, IsOk, OnOk}
+use Rattle.std.specs.Prelude.{◌≡◌, ℕ, Result, Ok, Err, IfOk, IfErr, IsOk, OnOk}
 use Rattle.std.proofs.Common.{sym, subst, true≢false}
 use Rattle.std.proofs.lemmas.Result.{IfErr-at_err}
+use Rattle.sms_driver.specs.declared.fault.SendFault.{SendFault}
+use Rattle.sms_driver.specs.SendFaults.{StopsAt}
 
 -- what holds of the value that was there holds of the one that is given
 pub if_given : {A E : Type 0} (r : Result A E) (a : A) (P : A → Type 0) → IfOk r (λ b. b ≡ a) → P a → IfOk r P
@@ -20,3 +22,7 @@ module _ {A U E : Type 0} where
   pub if_told : (made : Result U E) (r : Result A E) (P Q : E → Type 0) → IfErr r (λ e. made ≡ Err e) → IfErr made P → ((e : E) → P e → Q e) → IfErr r Q
   if_told made (Ok b) P Q is h f = tt
   if_told made (Err e) P Q is h f = f e (IfErr-at_err P is h)
+
+-- a start stopped behind as many as gave something back
+pub stops_so : (f : SendFault) (workers readers w r back_w back_r : ℕ) → back_w ≡ w → back_r ≡ r → StopsAt f workers readers w r → StopsAt f workers readers back_w back_r
+stops_so f workers readers w r back_w back_r same_w same_r h = subst (λ (n : ℕ). StopsAt f workers readers n back_r) (sym same_w) (subst (λ (n : ℕ). StopsAt f workers readers w n) (sym same_r) h)

@@ -1,7 +1,8 @@
 -- How each bind's reader ended.
-use Rattle.std.specs.Prelude.{◌≡◌, ◌++◌, ℕ, List, Option, Some, slice_get}
+use Rattle.std.specs.Prelude.{◌≡◌, ◌*◌, ◌++◌, ℕ, List, Option, Some, slice_get}
 use Rattle.std.specs.Io.KnownBytes.{IsAtEnd}
 use Rattle.std.specs.List.{concat}
+use Rattle.sms_pdu.specs.Turn.{most_piece, GaveAtMost}
 use Rattle.sms_pdu.specs.declared.reply.Reply.{Reply}
 use Rattle.sms_bind.specs.declared.bound.Bound.{Bound}
 use Rattle.sms_bind.specs.declared.ending.ReaderCause.TheVariants.{Ended, Stopped}
@@ -31,7 +32,8 @@ pub record HasEnded (all : BindSettings) (turns : ℕ) (told : Option (List ℕ)
   pub is : outcome ≡ outcome_of end
   -- it followed as it was to
   pub follows : held.most ≡ most_held (follow_of all)
-  -- the input is told as ended where all of it was read, and the reader as stopped where a turn was left
+  -- it was read in so many turns at most; the input is told as ended where all of it was read, and the reader as stopped where a turn was left
+  pub most : GaveAtMost (most_piece * turns) between left
   pub ended : outcome.cause ≡ Ended → IsAtEnd left
   pub stopped : outcome.cause ≡ Stopped → Stops turns between left
 

@@ -2,6 +2,11 @@
 use Rattle.std.specs.Prelude.{◌≡◌, ◌⊎◌, ℕ, ◌<◌, List, [], ◌∷◌, Option}
 use Rattle.std.specs.Io.KnownBytes.{Consumes}
 use Rattle.sms_pdu.specs.declared.command.Mode.{Mode}
+use Rattle.sms_book.specs.Openings.{credits_of, names_of, AllSmall, GoodCount, IsFirstDouble, NoDouble}
+use Rattle.sms_book.specs.declared.error.BookError.{BookError}
+use Rattle.sms_book.specs.declared.error.BookError.TheVariants as book
+use Rattle.sms_book.specs.declared.error.BookError.TheVariants.{BadCount, Duplicate, AmountTooLarge}
+use Rattle.sms_book.specs.declared.opening.Opening.{Opening}
 use Rattle.sms_bind.specs.Answers.{Refuses}
 use Rattle.sms_bind.specs.declared.binding.BindFault.{BindFault}
 use Rattle.sms_bind.specs.declared.binding.BindFault.TheVariants as bind
@@ -10,7 +15,7 @@ use Rattle.sms_window.specs.Drawing.{HasDrawn}
 use Rattle.sms_driver.specs.declared.fault.BindFailure.{BindFailure}
 use Rattle.sms_driver.specs.declared.fault.BindFailure.TheVariants as failure
 use Rattle.sms_driver.specs.declared.fault.SendFault.{SendFault}
-use Rattle.sms_driver.specs.declared.fault.SendFault.TheVariants.{BindFailed, BindRefused, ThreadRefused, OutOfMemory, EndsLost}
+use Rattle.sms_driver.specs.declared.fault.SendFault.TheVariants.{BindFailed, BindRefused, BookRefused, ThreadRefused, OutOfMemory, EndsLost}
 
 -- what is told of a bind that ended so
 abbrev pub fault_in : ℕ → BindFault → SendFault
@@ -44,10 +49,33 @@ IsFaultOf place fault = (fault ≡ OutOfMemory) ⊎ (((why : BindFailure) × (fa
 abbrev pub IsOfStart : SendFault → Type 0
 IsOfStart fault = (fault ≡ OutOfMemory) ⊎ (fault ≡ ThreadRefused)
 
+-- where the start of so many workers and readers stopped: memory was refused before the first of them, or a thread behind so
+-- many, of which the readers go first
+abbrev pub StopsAt : SendFault → ℕ → ℕ → ℕ → ℕ → Type 0
+StopsAt OutOfMemory all_workers all_readers workers readers = (workers ≡ 0) × (readers ≡ 0)
+StopsAt ThreadRefused all_workers all_readers workers readers = ((workers ≡ 0) × (readers < all_readers)) ⊎ ((readers ≡ all_readers) × (workers < all_workers))
+StopsAt _ all_workers all_readers workers readers = ⊥
+
 -- it is of no bind: of the start, or of memory that was refused once messages may have gone out
 abbrev pub IsOfNoBind : SendFault → Type 0
 IsOfNoBind fault = (fault ≡ OutOfMemory) ⊎ ((fault ≡ ThreadRefused) ⊎ (fault ≡ EndsLost))
 
 -- it is of one of so many binds, or of none
+abbrev pub IsFaultOfRun : ℕ → SendFault → Type 0
+IsFaultOfRun binds fault = IsOfNoBind fault ⊎ ((place : ℕ) × (place < binds) × IsFaultOf place fault)
+
+-- or of the book
 abbrev pub IsFaultOfOne : ℕ → SendFault → Type 0
-IsFaultOfOne binds fault = IsOfNoBind fault ⊎ ((place : ℕ) × (place < binds) × IsFaultOf place fault)
+IsFaultOfOne binds fault = IsOfNoBind fault ⊎ (((place : ℕ) × (place < binds) × IsFaultOf place fault) ⊎ ((why : BookError) × (fault ≡ BookRefused why)))
+
+-- no book is opened with these accounts for so many workers, for this cause
+abbrev pub RefusesBook : List Opening → ℕ → BookError → Type 0
+RefusesBook openings workers BadCount = ¬ (GoodCount openings workers)
+RefusesBook openings workers (Duplicate first second) = GoodCount openings workers × IsFirstDouble (names_of openings) first second
+RefusesBook openings workers AmountTooLarge = GoodCount openings workers × NoDouble (names_of openings) × ¬ (AllSmall (credits_of openings))
+RefusesBook openings workers _ = ⊥
+
+-- what is told where a book refuses so
+abbrev pub fault_of_book : BookError → SendFault
+fault_of_book book.OutOfMemory = OutOfMemory
+fault_of_book why = BookRefused why

@@ -10,7 +10,7 @@ ghost use Rattle.sms_window.specs.declared.view.View.{View};
 ghost use Rattle.sms_driver.specs.Reads.{AreOpened, IsOpened};
 ghost use Rattle.sms_driver.specs.Rings.{IsNewPair};
 ghost use Rattle.sms_driver.specs.Seated.{IsSeated};
-ghost use Rattle.sms_driver.specs.SendFaults.{fault_in, DrewNone, HasFailed, IsFaultOf, IsFaultOfOne};
+ghost use Rattle.sms_driver.specs.SendFaults.{fault_in, DrewNone, HasFailed, IsFaultOf, IsFaultOfRun};
 ghost use Rattle.sms_driver.specs.declared.fault.BindFailure.TheVariants.{NoConnection};
 ghost use Rattle.sms_driver.specs.declared.fault.SendFault.TheVariants.{BindFailed};
 
@@ -329,7 +329,7 @@ pub(crate) fn make_binds<D: Dial, R: Wait>(
     ensures set { IfOk result (λ b. AllByRecursion (IsSetUp bind_settings.now) b.bind_parts.items) }
     ensures seated { IfOk result (λ b. AllZip (IsSeated workers) b.shared_binds.items b.bind_parts.items) }
     ensures long { IfOk result (λ b. length b.shared_binds.items ≡ length rings.items) }
-    ensures refused { IfErr result (IsFaultOfOne (length rings.items)) }
+    ensures refused { IfErr result (IsFaultOfRun (length rings.items)) }
 {
     let none = Binds {
         shared_binds: Vec::with_capacity(alloc, rings.len())?,

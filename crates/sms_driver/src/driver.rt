@@ -1,8 +1,9 @@
 //! The whole of a sending, from accounts and messages to ends and a statement.
 
-ghost use Rattle.std.specs.Prelude.{◌≡◌, ℕ, ◌*◌, ◌<◌, ◌≤◌, length, IfErr, IfOk};
+ghost use Rattle.std.specs.Prelude.{◌≡◌, ℕ, ◌*◌, ◌<◌, ◌≤◌, ◌↔◌, length, IsErrOf, IfErr, IfOk};
 ghost use Rattle.std.specs.List.{AllZip};
 ghost use Rattle.sms_book.specs.Openings.{credits_of};
+ghost use Rattle.sms_book.specs.declared.error.BookError.{BookError};
 ghost use Rattle.sms_worker.specs.EndOf.{IsEndOf};
 ghost use Rattle.sms_driver.specs.Answered.{AreHeard};
 ghost use Rattle.sms_driver.specs.BindEnds.{AreBinds};
@@ -10,19 +11,30 @@ ghost use Rattle.sms_driver.specs.Closings.{AreExplained};
 ghost use Rattle.sms_deal.specs.Deals.{dealt};
 ghost use Rattle.sms_driver.specs.Ended.{HaveEnded};
 ghost use Rattle.sms_driver.specs.Numbered.{AreBelow, AreNumbered};
-ghost use Rattle.sms_driver.specs.SendFaults.{IsFaultOfOne};
+ghost use Rattle.sms_driver.specs.SendFaults.{fault_of_book, IsFaultOfOne, RefusesBook};
 ghost use Rattle.sms_driver.specs.Statements.{AreRows};
+ghost use Rattle.sms_driver.specs.declared.fault.SendFault.TheVariants.{BookRefused};
 
 use crate::binding::{BindSettings, Dial};
 use crate::ending::Sending;
 use crate::fault::SendFault;
 use crate::run::run;
-use sms_book::{Opening, open_book};
+use sms_book::{BookError, Opening, open_book};
 use sms_worker::{Clock, Gate, Message, Pause, Rules};
 use std::alloc::Global;
 use std::marker::Brand;
 use std::sync::Wait;
 use std::thread::Threads;
+
+/// A book's refusal, as the sending tells it.
+fn book_fault(why: BookError) -> SendFault
+    ensures { result ≡ fault_of_book why }
+{
+    match why {
+        BookError::OutOfMemory => SendFault::OutOfMemory,
+        why => SendFault::BookRefused(why),
+    }
+}
 
 /// Makes all binds, sends all messages, and ends the binds. Nothing is sent where a bind fails.
 pub fn drive_all<
@@ -60,11 +72,14 @@ pub fn drive_all<
     ensures rows { IfOk result (λ r. AreRows (credits_of openings.now) messages.items r.ends.items r.statement) }
     // Each bind was made and ended, and had its workers.
     ensures binds { IfOk result (λ r. AreBinds binds workers r.binds.items) }
-    // A fault is of one of the binds, of memory, or of a thread.
+    // A fault is of one of the binds, of the book, of memory, or of a thread.
     ensures refused { IfErr result (IsFaultOfOne binds) }
+    // The book is told to be refused where no book is opened with these accounts, for that cause, and only there.
+    ensures book { (why : BookError) → IsErrOf result (BookRefused why) ↔ RefusesBook openings.now (binds * workers) why }
 {
-    let Ok(blank) = open_book(alloc, openings, binds * workers) else {
-        return Err(SendFault::OutOfMemory);
+    let blank = match open_book(alloc, openings, binds * workers) {
+        Ok(blank) => blank,
+        Err(why) => return Err(book_fault(why)),
     };
     run::<Brand, D, G, K, P, R>(
         rt,

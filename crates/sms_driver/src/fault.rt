@@ -1,5 +1,6 @@
 //! Why a sending ends without a statement.
 
+use sms_book::BookError;
 use std::alloc::{AllocError, AllocFailed};
 
 /// Why a bind failed, where it wasn't refused.
@@ -37,6 +38,9 @@ pub enum SendFault {
     /// A thread was refused; nothing was sent.
     #[error("a thread could not be started")]
     ThreadRefused,
+    /// No book can be opened with these accounts for so many workers; nothing was sent.
+    #[error("no book was opened: {0}")]
+    BookRefused(BookError),
     /// Memory was refused before the first message; nothing was sent.
     #[error("out of memory")]
     OutOfMemory,

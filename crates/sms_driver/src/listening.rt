@@ -1,6 +1,6 @@
 //! Readers in threads of their own.
 
-ghost use Rattle.std.specs.Prelude.{◌≡◌, ◌≤◌, [], length, map, take, IfErr, IfOk, OnOk, vec_capacity};
+ghost use Rattle.std.specs.Prelude.{◌≡◌, ◌<◌, ◌≤◌, [], length, map, take, IfErr, IfOk, OnOk, vec_capacity};
 ghost use Rattle.std.specs.List.{AllByRecursion};
 ghost use Rattle.sms_driver.specs.Latches.{IsTold};
 ghost use Rattle.sms_driver.specs.Reads.{listener_of, listener_promised, reading_of, HasRead, IsUnread};
@@ -143,6 +143,7 @@ pub(crate) fn start_readers<
     ensures first { map (λ h. listener_promised h.promise) handles.new.items ≡ take (length handles.new.items) (map listener_of reader_tasks.entry.items) }
     ensures given { AllByRecursion (λ h. (h.promise.latch.now ≡ latch.now) × (h.promise.turns ≡ rules.now.turns)) handles.new.items }
     ensures refused { IfErr result (λ fault. fault ≡ ThreadRefused) }
+    ensures short { IfErr result (λ _. length handles.new.items < length reader_tasks.entry.items) }
 {
     for reader_task in reader_tasks {
         let handle = start_reader(scope, rt, alloc, latch, reader_task, rules)?;

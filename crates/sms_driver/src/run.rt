@@ -17,7 +17,7 @@ ghost use Rattle.sms_driver.specs.Reads.{reading_in, reading_of, HasRead};
 ghost use Rattle.sms_driver.specs.Rings.{flat};
 ghost use Rattle.sms_driver.specs.Statements.{AreRows};
 ghost use Rattle.sms_driver.specs.Seated.{all_keep, all_sit, keeping_of, sitting_of, CountFrom, IsSeated, windows};
-ghost use Rattle.sms_driver.specs.SendFaults.{IsFaultOfOne, IsOfNoBind};
+ghost use Rattle.sms_driver.specs.SendFaults.{IsFaultOfRun, IsOfNoBind};
 ghost use Rattle.sms_driver.specs.Settled.{AreSettled};
 ghost use Rattle.sms_driver.specs.Threads.{IsPrepared};
 
@@ -234,7 +234,7 @@ pub fn run<
     ensures explained { IfOk result (λ r. AreExplained workers r.binds.items (dealt (binds * workers) 0 r.ends.items)) }
     ensures rows { IfOk result (λ r. AreRows blank.credits messages.items r.ends.items r.statement) }
     ensures binds { IfOk result (λ r. AreBinds binds workers r.binds.items) }
-    ensures refused { IfErr result (IsFaultOfOne binds) }
+    ensures refused { IfErr result (IsFaultOfRun binds) }
 {
     let count = messages.len();
     let Ok((book, till, shares)) = blank.open::<N>(alloc) else {

@@ -1,10 +1,10 @@
 //! The threads of a sending.
 
-ghost use Rattle.std.specs.Prelude.{◌≡◌, map, IfErr, IfOk, MatchResult, OnOk};
+ghost use Rattle.std.specs.Prelude.{◌≡◌, length, map, IfErr, IfOk, MatchResult, OnOk};
 ghost use Rattle.std.specs.List.{AllByRecursion};
 ghost use Rattle.sms_unbind.specs.Unbinds.{IsTried};
 ghost use Rattle.sms_driver.specs.Latches.{IsSaidAt, word_of};
-ghost use Rattle.sms_driver.specs.SendFaults.{IsOfStart};
+ghost use Rattle.sms_driver.specs.SendFaults.{IsOfStart, StopsAt};
 ghost use Rattle.sms_driver.specs.Threads.{AreSeated, HasRoom, HaveLeft, HaveReturned, IsCrew, IsNoCrew, IsPrepared, IsWhole};
 ghost use Rattle.sms_driver.specs.declared.latch.Word.TheVariants.{Go, Leave};
 
@@ -112,6 +112,8 @@ fn start_all<
     ensures crew { IsCrew context.now.rules.now latch.now tasks.entry.items reader_tasks.entry.items crew.new }
     ensures all { OnOk result (IsWhole tasks.entry.items reader_tasks.entry.items crew.new) }
     ensures refused { IfErr result IsOfStart }
+    // Memory was refused before the first thread, or a thread behind those that are in the crew.
+    ensures stopped { IfErr result (λ fault. StopsAt fault (length tasks.entry.items) (length reader_tasks.entry.items) (length crew.new.workers.items) (length crew.new.readers.items)) }
 {
     crew.make_room(tasks.len(), reader_tasks.len())?;
     start_readers(
@@ -165,6 +167,8 @@ fn drive<
     // Nothing was sent: each thread that was started gave back what it was given.
     ensures left { IfErr result.back (λ unsent. HaveLeft tasks.entry.items reader_tasks.entry.items shared_binds.now unsent.left) }
     ensures refused { IfErr result.back (λ unsent. IsOfStart unsent.fault) }
+    // Memory was refused before the first thread, or a thread behind those that gave back what they were given.
+    ensures stopped { IfErr result.back (λ unsent. StopsAt unsent.fault (length tasks.entry.items) (length reader_tasks.entry.items) (length unsent.left.worker_results.items) (length unsent.left.readers.items)) }
     // No thread at the latch was told to go where a fault is told, and none to leave where there is none.
     ensures at { IsSaidAt latch.now result.said }
     ensures word { MatchResult result.back (λ _. word_of result.said ≡ Go) (λ _. word_of result.said ≡ Leave) }
@@ -250,6 +254,7 @@ pub fn work_all<
     ensures returned { IfOk result (HaveReturned context.now.rules.now Rd.remaining tasks.entry.items reader_tasks.entry.items shared_binds.now) }
     ensures left { IfErr result (λ unsent. HaveLeft tasks.entry.items reader_tasks.entry.items shared_binds.now unsent.left) }
     ensures refused { IfErr result (λ unsent. IsOfStart unsent.fault) }
+    ensures stopped { IfErr result (λ unsent. StopsAt unsent.fault (length tasks.entry.items) (length reader_tasks.entry.items) (length unsent.left.worker_results.items) (length unsent.left.readers.items)) }
 {
     let (latch, unsaid) = Latch::new();
     let latch = &latch;
@@ -262,6 +267,7 @@ pub fn work_all<
             ensures returned { IfOk result (HaveReturned context.entry.now.rules.now Rd.remaining tasks.entry.items reader_tasks.entry.items shared_binds.entry.now) }
             ensures left { IfErr result (λ unsent. HaveLeft tasks.entry.items reader_tasks.entry.items shared_binds.entry.now unsent.left) }
             ensures refused { IfErr result (λ unsent. IsOfStart unsent.fault) }
+            ensures stopped { IfErr result (λ unsent. StopsAt unsent.fault (length tasks.entry.items) (length reader_tasks.entry.items) (length unsent.left.worker_results.items) (length unsent.left.readers.items)) }
         {
             let Told { said: _, back } = drive(
                 scope,

@@ -1,6 +1,6 @@
 //! Workers in threads of their own.
 
-ghost use Rattle.std.specs.Prelude.{◌≡◌, ◌≤◌, [], length, map, take, IfErr, IfOk, OnOk, vec_capacity};
+ghost use Rattle.std.specs.Prelude.{◌≡◌, ◌<◌, ◌≤◌, [], length, map, take, IfErr, IfOk, OnOk, vec_capacity};
 ghost use Rattle.std.specs.List.{AllByRecursion};
 ghost use Rattle.sms_driver.specs.Latches.{IsTold};
 ghost use Rattle.sms_driver.specs.Threads.{IsPrepared};
@@ -121,6 +121,7 @@ pub(crate) fn start_workers<
     ensures first { map (λ h. h.promise.assignment.value) handles.new.items ≡ take (length handles.new.items) (map (λ t. t.assignment) tasks.entry.items) }
     ensures given { AllByRecursion (λ h. (h.promise.rules.value ≡ context.now.rules.now) × (h.promise.latch.now ≡ latch.now)) handles.new.items }
     ensures refused { IfErr result (λ fault. fault ≡ ThreadRefused) }
+    ensures short { IfErr result (λ _. length handles.new.items < length tasks.entry.items) }
 {
     for task in tasks {
         let handle = start_worker(scope, context, latch, task)?;

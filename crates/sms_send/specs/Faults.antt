@@ -47,10 +47,11 @@ told_input input.NotToml = NotToml
 told_input (input.BadKey key) = BadKey key
 told_input input.OutOfMemory = OutOfMemory
 
--- why nothing is told of a sending; a thread that is refused is told as want of memory
+-- why nothing is told of a sending; a thread that is refused is told as want of memory, and so are accounts that no book opens with
 abbrev pub told_sending : SendFault → Fault
 told_sending (send.BindRefused bind status) = BindRefused bind status
 told_sending (send.BindFailed bind why) = BindFailed bind why
+told_sending (send.BookRefused why) = OutOfMemory
 told_sending send.ThreadRefused = OutOfMemory
 told_sending send.OutOfMemory = OutOfMemory
 told_sending send.EndsLost = OutOfMemory

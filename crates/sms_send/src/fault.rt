@@ -172,6 +172,7 @@ impl From<SendFault> for Fault {
         match fault {
             SendFault::BindRefused(bind, status) => Fault::BindRefused(bind, status),
             SendFault::BindFailed(bind, why) => Fault::BindFailed(bind, why),
+            SendFault::BookRefused(_) => Fault::OutOfMemory,
             SendFault::ThreadRefused | SendFault::OutOfMemory => Fault::OutOfMemory,
             SendFault::EndsLost => Fault::OutOfMemory,
         }

@@ -1,11 +1,12 @@
 //! What faults say.
 
 use super::same::same;
+use sms_book::BookError;
 use sms_driver::{BindFailure, SendFault};
 use std::test::Fail;
 
 // A fault, and its words.
-const WORDS: [(SendFault, &str); 3] = [
+const WORDS: [(SendFault, &str); 4] = [
     (
         SendFault::BindFailed(1, BindFailure::NoConnection),
         "bind 1 failed: there was no connection",
@@ -15,6 +16,13 @@ const WORDS: [(SendFault, &str); 3] = [
         "bind 0 failed: the connection ended before an answer",
     ),
     (SendFault::ThreadRefused, "a thread could not be started"),
+    (
+        SendFault::BookRefused(BookError::Duplicate {
+            first: 0,
+            second: 2,
+        }),
+        "no book was opened: accounts 0 and 2 have the same name",
+    ),
 ];
 
 #[test]

@@ -1,4 +1,4 @@
-use Rattle.std.proofs.Common.{◌≡◌, ℕ, map, take, refl, sym, ap, ◌∙◌, subst}
+use Rattle.std.proofs.Common.{◌≡◌, ℕ, length, map, take, refl, sym, ap, ◌∙◌, subst}
 use Rattle.std.specs.List.{AllZip}
 use Rattle.sms_worker.specs.declared.rules.Rules.{Rules}
 use Rattle.sms_driver.specs.declared.latch.Latch.{Latch}
@@ -10,6 +10,7 @@ use Rattle.sms_driver.proofs.Joins.{back_zip, one_latch, zip_given}
 use Rattle.sms_driver.proofs.Conclusions.{map_map, zip_to}
 use Rattle.sms_driver.proofs.Grouping.{zip_length}
 use Rattle.sms_driver.proofs.Returning.{kept_windows}
+use Rattle.sms_driver.proofs.Refusals.{stops_so}
 use Rattle.sms_driver.proofs.thread_scope.drive.Goals as goal
 
 pub join_told-worker_results-requires : goal.join_told-worker_results-requires
@@ -99,3 +100,15 @@ pub returns-in-Err-clause-word : goal.returns-in-Err-clause-word
 returns-in-Err-clause-word g c =
     let leave : c.word_for-word.result ≡ Leave = rw c.in-Err.is at c.word_for-word.ensures in
     c.say-said.ensures.word ∙ leave
+
+pub returns-in-Err-clause-stopped : goal.returns-in-Err-clause-stopped
+returns-in-Err-clause-stopped g c =
+    let tasks = length c.args.tasks.items in
+    let reader_tasks = length c.args.reader_tasks.items in
+    let workers = c.start_all-started.new.crew.workers.items in
+    let readers = c.start_all-started.new.crew.readers.items in
+    let results = c.join_told-worker_results.result.items in
+    let ends = c.join_told.result.items in
+    stops_so c.in-Err.fault tasks reader_tasks (length workers) (length readers) (length results) (length ends)
+    (zip_length _ workers results c.join_told-worker_results.ensures.each) (zip_length _ readers ends c.join_told.ensures.each)
+    (rw c.in-Err.is at c.start_all-started.ensures.stopped)
