@@ -4,16 +4,14 @@ use Rattle.sms_diagnostics.specs.Keys.{range_of}
 use Rattle.sms_diagnostics.specs.Records.{record_of}
 use Rattle.sms_diagnostics.specs.Shown.{indented, shown}
 use Rattle.sms_diagnostics.specs.Statuses.{status_name}
+use Rattle.sms_diagnostics.specs.Troubles.{holding_text, line, trouble_text}
 use Rattle.sms_diagnostics.specs.declared.cause.BindTrouble.{BindTrouble}
 use Rattle.sms_diagnostics.specs.declared.cause.BindTrouble.TheVariants.{NoConnection, NoNumber, Closed, NotSmpp, Read, Write}
 use Rattle.sms_diagnostics.specs.declared.cause.Cause.{Cause}
 use Rattle.sms_diagnostics.specs.declared.cause.Cause.TheVariants as cause
 use Rattle.sms_diagnostics.specs.declared.cause.FileTrouble.{FileTrouble}
 use Rattle.sms_diagnostics.specs.declared.cause.FileTrouble.TheVariants.{Missing, Forbidden, Folder, There, Other}
-
--- a line of this text
-abbrev pub line : List ℕ → List ℕ
-line text = codes "  " ++ text ++ codes "\n"
+use Rattle.sms_diagnostics.specs.declared.trouble.RecordTrouble.{RecordTrouble}
 
 -- what the parser says of the words; where it took them, what their numbers should be
 abbrev pub words_lines : List ℕ → List ℕ
@@ -22,16 +20,16 @@ words_lines message =
     then codes "  --connect-ms is 1 to 600000, --rate 1 to 100000, --stop-after 1 to 1000000;\n  --sync needs --journal; all words are UTF-8\n"
     else codes "  " ++ indented message ++ codes "\n"
 
--- what a record should be
-abbrev pub record_line : List ℕ → List ℕ
-record_line wanted = codes "  it should be " ++ wanted ++ codes "\n"
+-- what a record should be, and what is wrong with it
+abbrev pub record_lines : List ℕ → RecordTrouble → List ℕ
+record_lines wanted trouble = codes "  it should be " ++ wanted ++ codes "\n" ++ trouble_text trouble
 
--- what a key should hold; that nothing is known of it
-abbrev pub range_end : List ℕ → List ℕ
-range_end range = codes " should be " ++ range ++ codes "\n"
+-- what a key should hold, and lines of what it holds; what stands at a key that there isn't is not told, since it may be a secret
+abbrev pub range_end : List ℕ → List ℕ → List ℕ
+range_end range held = codes " should be " ++ range ++ codes "\n" ++ held
 
-abbrev pub key_line : List ℕ → List ℕ → List ℕ
-key_line key range = if length range == 0 then codes "  there is no such key\n" else codes "  " ++ shown key ++ range_end range
+abbrev pub key_lines : List ℕ → List ℕ → List ℕ → List ℕ
+key_lines key range held = if length range == 0 then codes "  there is no such key\n" else codes "  " ++ shown key ++ range_end range held
 
 -- a status and its name
 abbrev pub status_line : ℕ → List ℕ → List ℕ
@@ -65,9 +63,9 @@ bind_text Write = codes "the bind could not be written"
 abbrev pub cause_text : Cause → List ℕ
 cause_text (cause.Words message) = words_lines message.now
 cause_text (cause.File why) = line (file_text why)
-cause_text (cause.Record file place) = record_line (record_of file place)
+cause_text (cause.Record file place trouble) = record_lines (record_of file place) trouble
 cause_text cause.NotToml = line (codes "it should be TOML in UTF-8: lines KEY = VALUE")
-cause_text (cause.Key key) = key_line key.now (range_of key.now)
+cause_text (cause.Key key holding) = key_lines key.now (range_of key.now) (holding_text holding)
 cause_text (cause.Refused status) = status_line status (status_name status)
 cause_text (cause.Failed why) = line (bind_text why)
 cause_text (cause.FailedAt host port why) = centre_line host.now port (bind_text why)

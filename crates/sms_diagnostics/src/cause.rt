@@ -2,12 +2,14 @@
 
 ghost use Rattle.std.specs.Fmt.{WritesOnOk};
 ghost use Rattle.std.specs.Prelude.{◌≡◌};
-ghost use Rattle.sms_diagnostics.specs.Causes.{bind_text, centre_line, file_text, key_line, line, reason_end, range_end, record_line, status_line, words_lines};
+ghost use Rattle.sms_diagnostics.specs.Troubles.{holding_text};
+ghost use Rattle.sms_diagnostics.specs.Causes.{bind_text, centre_line, file_text, key_lines, reason_end, range_end, record_lines, status_line, words_lines};
 
 use crate::key::range_of;
 use crate::record::{RecordOf, record_of};
 use crate::shown::{write_indented, write_shown};
 use crate::status::status_name;
+use crate::trouble::{Holding, RecordTrouble, write_line};
 use std::fmt;
 
 /// Why a bind failed, where it wasn't refused.
@@ -49,12 +51,12 @@ pub enum Cause<'a> {
     Words(&'a str),
     /// A file can't be opened or read.
     File(FileTrouble),
-    /// The record of a file, counted from 1, isn't one that may stand there.
-    Record(RecordOf, usize),
+    /// The record of a file, counted from 1, isn't one that may stand there, for this trouble with it.
+    Record(RecordOf, usize, RecordTrouble),
     /// The config isn't TOML.
     NotToml,
-    /// The config has no good value of this key, or may not have it.
-    Key(&'a str),
+    /// The config has no good value of this key, but holds this; or it may not have it.
+    Key(&'a str, Holding<'a>),
     /// A bind was refused with this command_status.
     Refused(u32),
     /// A bind failed otherwise.
@@ -85,9 +87,11 @@ impl<'a> fmt::Display for Cause<'a> {
         match self {
             Cause::Words(message) => write_words(f, message),
             Cause::File(why) => write_line(f, file_text(*why)),
-            Cause::Record(file, place) => write_record(f, record_of(*file, *place)),
+            Cause::Record(file, place, trouble) => {
+                write_record(f, record_of(*file, *place), *trouble)
+            }
             Cause::NotToml => write_line(f, "it should be TOML in UTF-8: lines KEY = VALUE"),
-            Cause::Key(key) => write_key(f, key, range_of(key)),
+            Cause::Key(key, holding) => write_key(f, key, range_of(key), holding),
             Cause::Refused(status) => write_status(f, *status, status_name(*status)),
             Cause::Failed(why) => write_line(f, bind_text(*why)),
             Cause::FailedAt(host, port, why) => write_centre(f, host, *port, bind_text(*why)),
@@ -116,13 +120,6 @@ impl<'a> fmt::Display for Cause<'a> {
     }
 }
 
-/// Writes a line of this text.
-fn write_line<W: fmt::Write>(f: &mut fmt::Formatter<W>, text: &str) -> fmt::Result
-    ensures { WritesOnOk W.write_str_gives f.old result (line text.now) f.new }
-{
-    write!(f, "  {text}\n")
-}
-
 /// Writes what the parser says of the words; where it took them, what their numbers should be.
 fn write_words<W: fmt::Write>(f: &mut fmt::Formatter<W>, message: &str) -> fmt::Result
     ensures { WritesOnOk W.write_str_gives f.old result (words_lines message.now) f.new }
@@ -138,30 +135,43 @@ fn write_words<W: fmt::Write>(f: &mut fmt::Formatter<W>, message: &str) -> fmt::
     }
 }
 
-/// Writes what a record should be.
-fn write_record<W: fmt::Write>(f: &mut fmt::Formatter<W>, wanted: &str) -> fmt::Result
-    ensures { WritesOnOk W.write_str_gives f.old result (record_line wanted.now) f.new }
+/// Writes what a record should be, and what is wrong with it.
+fn write_record<W: fmt::Write>(
+    f: &mut fmt::Formatter<W>,
+    wanted: &str,
+    trouble: RecordTrouble,
+) -> fmt::Result
+    ensures { WritesOnOk W.write_str_gives f.old result (record_lines wanted.now trouble) f.new }
 {
-    write!(f, "  it should be {wanted}\n")
+    write!(f, "  it should be {wanted}\n{trouble}")
 }
 
-/// Writes what a key should hold, or that there is none of its name.
-fn write_key<W: fmt::Write>(f: &mut fmt::Formatter<W>, key: &str, range: &str) -> fmt::Result
-    ensures { WritesOnOk W.write_str_gives f.old result (key_line key.now range.now) f.new }
+/// Writes what a key should hold and what it holds, or that there is none of its name.
+fn write_key<W: fmt::Write>(
+    f: &mut fmt::Formatter<W>,
+    key: &str,
+    range: &str,
+    holding: &Holding<'_>,
+) -> fmt::Result
+    ensures { WritesOnOk W.write_str_gives f.old result (key_lines key.now range.now (holding_text holding.now)) f.new }
 {
     if range.is_empty() {
         return f.write_str("  there is no such key\n");
     }
     f.write_str("  ")?;
     write_shown(f, key)?;
-    write_range(f, range)
+    write_range(f, range, holding)
 }
 
-/// Writes what it should hold, behind it.
-fn write_range<W: fmt::Write>(f: &mut fmt::Formatter<W>, range: &str) -> fmt::Result
-    ensures { WritesOnOk W.write_str_gives f.old result (range_end range.now) f.new }
+/// Writes what it should hold, behind it, and what it holds.
+fn write_range<W: fmt::Write>(
+    f: &mut fmt::Formatter<W>,
+    range: &str,
+    holding: &Holding<'_>,
+) -> fmt::Result
+    ensures { WritesOnOk W.write_str_gives f.old result (range_end range.now (holding_text holding.now)) f.new }
 {
-    write!(f, " should be {range}\n")
+    write!(f, " should be {range}\n{holding}")
 }
 
 /// Writes a status and its name.

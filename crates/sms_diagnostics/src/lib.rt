@@ -7,12 +7,15 @@ mod cause;
 mod key;
 mod mode;
 mod record;
+mod short;
 mod shown;
 mod status;
+mod trouble;
 mod unsent;
 
 pub use cause::{BindTrouble, Cause, FileTrouble};
 pub use mode::is_open_to_others;
 pub use record::RecordOf;
 pub use shown::write_shown;
+pub use trouble::{Holding, RecordTrouble};
 pub use unsent::{Closing, Hindrance, UnsentLine};

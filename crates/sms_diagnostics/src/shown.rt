@@ -18,7 +18,7 @@ pub fn write_shown<W: fmt::Write>(f: &mut fmt::Formatter<W>, text: &str) -> fmt:
 }
 
 /// A character of it.
-fn write_char<W: fmt::Write>(f: &mut fmt::Formatter<W>, c: char) -> fmt::Result
+pub(crate) fn write_char<W: fmt::Write>(f: &mut fmt::Formatter<W>, c: char) -> fmt::Result
     ensures { WritesOnOk W.write_str_gives f.old result (shown_char c) f.new }
 {
     if !c.is_control() {

@@ -99,8 +99,7 @@ fn flaw_there(
 }
 
 /// What is wrong with the record at this place, from 1, of a file of these octets: which of its fields
-/// isn't what it should be, or which record before it has its name. Of the record that a fault of the
-/// file names it is something.
+/// isn't what it should be, or which record before it has its name.
 pub fn flaw_of(
     alloc: Global,
     source: Source,

@@ -1,18 +1,29 @@
 -- Which lines follow a fault's own.
-use Rattle.std.specs.Prelude.{ℕ, List, [], ◌++◌, Option, None, Some, codes, string_bytes}
-use Rattle.sms_diagnostics.specs.Causes.{bind_text, cause_text, centre_line, file_text, key_line, line, record_line, status_line, words_lines}
+use Rattle.std.specs.Prelude.{◌≡◌, ◌⊎◌, ◌↔◌, ℕ, Bool, true, false, IsTrue, List, [], ◌++◌, Option, None, Some, codes, string_bytes}
+use Rattle.sms_diagnostics.specs.Causes.{bind_text, cause_text, centre_line, file_text, key_lines, record_lines, status_line, words_lines}
 use Rattle.sms_diagnostics.specs.Keys.{range_of}
 use Rattle.sms_diagnostics.specs.Records.{record_of}
 use Rattle.sms_diagnostics.specs.Statuses.{status_name}
+use Rattle.sms_diagnostics.specs.Troubles.{bad_text_line, flag_text, hidden_text, line, number_line, text_line}
 use Rattle.sms_diagnostics.specs.declared.cause.BindTrouble.{BindTrouble}
 use Rattle.sms_diagnostics.specs.declared.cause.BindTrouble.TheVariants as trouble
 use Rattle.sms_diagnostics.specs.declared.cause.FileTrouble.TheVariants.{Other}
 use Rattle.sms_diagnostics.specs.declared.record.RecordOf.{RecordOf}
 use Rattle.sms_diagnostics.specs.declared.record.RecordOf.TheVariants as record-of
+use Rattle.sms_diagnostics.specs.declared.trouble.RecordTrouble.{RecordTrouble}
+use Rattle.sms_diagnostics.specs.declared.trouble.RecordTrouble.TheVariants as record-trouble
 use Rattle.sms_driver.specs.declared.fault.BindFailure.{BindFailure}
 use Rattle.sms_driver.specs.declared.fault.BindFailure.TheVariants as bind
+use Rattle.sms_files.specs.Fields.{records_of}
+use Rattle.sms_files.specs.Flaws.{flaw_at}
+use Rattle.sms_files.specs.Held.{IsHeld}
+use Rattle.sms_files.specs.Quoting.{EndsQuoted}
 use Rattle.sms_files.specs.declared.fault.Source.{Source}
 use Rattle.sms_files.specs.declared.fault.Source.TheVariants as source
+use Rattle.sms_files.specs.declared.flaw.Flaw.{Flaw}
+use Rattle.sms_files.specs.declared.flaw.Flaw.TheVariants as flaw
+use Rattle.sms_files.specs.declared.held.Held.{Held}
+use Rattle.sms_files.specs.declared.held.Held.TheVariants as held
 use Rattle.sms_send.specs.Faults.{fault_text}
 use Rattle.sms_send.specs.declared.explained.Address.{Address}
 use Rattle.sms_send.specs.declared.explained.Doing.{Doing}
@@ -54,6 +65,47 @@ lines_of_output Sending = line (codes "messages were sent: don't send them again
 lines_of_output Recovering = line (codes "nothing was sent")
 lines_of_output Else = line (codes "nothing was sent")
 
+-- the trouble with a record that has this flaw, in a file that may end within a quote; of a record without a flaw it is that, or isn't known
+abbrev pub trouble_by : Flaw → Bool → RecordTrouble
+trouble_by flaw.Nothing true = record-trouble.OpenQuote
+trouble_by flaw.Nothing false = record-trouble.Unknown
+trouble_by flaw.Missing quoted = record-trouble.Missing
+trouble_by flaw.Header quoted = record-trouble.Header
+trouble_by flaw.OneTooMany quoted = record-trouble.OneTooMany
+trouble_by (flaw.Fields count) quoted = record-trouble.Fields count
+trouble_by (flaw.NotText number) quoted = record-trouble.NotText number
+trouble_by (flaw.NotNumber number) quoted = record-trouble.NotNumber number
+trouble_by (flaw.NotDigits number) quoted = record-trouble.NotDigits number
+trouble_by flaw.Word quoted = record-trouble.Word
+trouble_by (flaw.Taken number) quoted = record-trouble.Taken number
+
+-- this is the trouble with the record at a place of a file of these octets; or, where memory was refused, it isn't known
+abbrev pub IsTroubleBy : List ℕ → Flaw → RecordTrouble → Type 0
+IsTroubleBy octets fault trouble = (quoted : Bool) × (IsTrue quoted ↔ EndsQuoted octets) × (trouble ≡ trouble_by fault quoted)
+
+abbrev pub IsTroubleOf : Source → List ℕ → ℕ → RecordTrouble → Type 0
+IsTroubleOf source octets place trouble = (trouble ≡ record-trouble.Unknown) ⊎ IsTroubleBy octets (flaw_at source (records_of octets) place) trouble
+
+-- this is what a config of these octets holds at a key; or, where memory was refused, nothing is known
+abbrev pub IsHeldOf : List ℕ → List ℕ → Held → Type 0
+IsHeldOf octets key there = (there ≡ held.Nothing) ⊎ IsHeld octets key there
+
+-- what a config holds at a key, and the lines of a key with no good value
+abbrev pub lines_of_held : Held → List ℕ
+lines_of_held held.Nothing = []
+lines_of_held (held.Number number) = number_line number
+lines_of_held (held.Flag on) = line (flag_text on)
+lines_of_held (held.Text text) = text_line (string_bytes text)
+lines_of_held (held.Hidden is_text) = line (hidden_text is_text)
+lines_of_held held.Texts = line (codes "it is a list")
+lines_of_held (held.BadText number text) = bad_text_line number (string_bytes text)
+lines_of_held held.Values = line (codes "it is a list")
+lines_of_held held.Table = line (codes "it is a table")
+lines_of_held held.Else = line (codes "it is a number with a fraction, or a time")
+
+abbrev pub lines_of_key : List ℕ → Held → List ℕ
+lines_of_key key there = key_lines key (range_of key) (lines_of_held there)
+
 -- the lines that follow a fault
 abbrev pub lines_of : Known → Fault → List ℕ
 lines_of known Words = words_lines (string_bytes known.message)
@@ -61,13 +113,13 @@ lines_of known (Help text) = []
 lines_of known (Version text) = []
 lines_of known (File name) = line (file_text known.file)
 lines_of known (Unreadable source) = line (file_text Other)
-lines_of known (BadRecord source place) = record_line (record_of (file_in source) place)
+lines_of known (BadRecord source place) = record_lines (record_of (file_in source) place) known.trouble
 lines_of known NotToml = line (codes "it should be TOML in UTF-8: lines KEY = VALUE")
-lines_of known (BadKey key) = key_line (string_bytes key) (range_of (string_bytes key))
+lines_of known (BadKey key) = lines_of_key (string_bytes key) known.held
 lines_of known (BindRefused bind status) = status_line status (status_name status)
 lines_of known (BindFailed bind why) = lines_of_bind known.centre why
-lines_of known (BadNote place) = record_line (record_of record-of.Journal place)
-lines_of known (BadReport place) = record_line (record_of record-of.Report place)
+lines_of known (BadNote place) = record_lines (record_of record-of.Journal place) record-trouble.Unknown
+lines_of known (BadReport place) = record_lines (record_of record-of.Report place) record-trouble.Unknown
 lines_of known Journal = lines_of_journal known.doing
 lines_of known Output = lines_of_output known.doing
 lines_of known OutOfMemory = line (codes "memory or a thread was refused; messages may have been sent")

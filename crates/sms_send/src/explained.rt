@@ -1,13 +1,15 @@
 //! What is told of a fault: its line and, at length, the lines behind it.
 
-ghost use Rattle.std.specs.Prelude.{◌≡◌, ◌||◌};
-ghost use Rattle.sms_diagnostics.specs.Causes.{cause_text};
-ghost use Rattle.sms_send.specs.Explained.{file_in, lines_of, lines_of_bind, lines_of_journal, lines_of_output, told_text, told_with, trouble_in};
+ghost use Rattle.std.specs.Prelude.{◌≡◌, ◌||◌, string_bytes};
+ghost use Rattle.sms_diagnostics.specs.Causes.{cause_text, record_lines};
+ghost use Rattle.sms_diagnostics.specs.Records.{record_of};
+ghost use Rattle.sms_diagnostics.specs.Troubles.{holding_text};
+ghost use Rattle.sms_send.specs.Explained.{file_in, lines_of, lines_of_bind, lines_of_held, lines_of_journal, lines_of_key, lines_of_output, told_text, told_with, trouble_in};
 
 use crate::fault::Fault;
-use sms_diagnostics::{BindTrouble, Cause, FileTrouble, RecordOf};
+use sms_diagnostics::{BindTrouble, Cause, FileTrouble, Holding, RecordOf, RecordTrouble};
 use sms_driver::BindFailure;
-use sms_files::Source;
+use sms_files::{Held, Source};
 use std::fmt;
 
 /// What a job does, for what is told of its fault.
@@ -41,6 +43,10 @@ pub struct Known {
     pub doing: Doing,
     /// The message centre of a bind that failed, where the config says which it is.
     pub centre: Option<Address>,
+    /// The trouble with the record that the fault names.
+    pub trouble: RecordTrouble,
+    /// What the config holds at the key that the fault names.
+    pub held: Held,
 }
 
 /// The file of records that a source is.
@@ -99,6 +105,37 @@ fn output_cause<'a>(doing: Doing) -> Cause<'a>
     }
 }
 
+/// What stands at a key, as it is told.
+fn holding_of<'a>(held: &'a Held) -> Holding<'a>
+    ensures { holding_text result ≡ lines_of_held held.now }
+{
+    match held {
+        Held::Nothing => Holding::Unknown,
+        Held::Number(number) => Holding::Number(*number),
+        Held::Flag(flag) => Holding::Flag(*flag),
+        Held::Text(text) => Holding::Text(text.as_str()),
+        Held::Hidden(is_text) => Holding::Hidden(*is_text),
+        Held::BadText(number, text) => Holding::BadText(*number, text.as_str()),
+        Held::Texts | Held::Values => Holding::List,
+        Held::Table => Holding::Table,
+        Held::Else => Holding::Else,
+    }
+}
+
+/// Why there is a fault of a key.
+fn key_cause<'a>(key: &'a String, held: &'a Held) -> Cause<'a>
+    ensures { cause_text result ≡ lines_of_key (string_bytes key.now) held.now }
+{
+    Cause::Key(key.as_str(), holding_of(held))
+}
+
+/// Why there is a fault of a record.
+fn record_cause<'a>(file: RecordOf, place: usize, trouble: RecordTrouble) -> Cause<'a>
+    ensures { cause_text result ≡ record_lines (record_of file place) trouble }
+{
+    Cause::Record(file, place, trouble)
+}
+
 /// The cause of a fault.
 fn cause_of<'a>(fault: &'a Fault, known: &'a Known) -> Cause<'a>
     ensures { cause_text result ≡ lines_of known.now fault.now }
@@ -108,13 +145,13 @@ fn cause_of<'a>(fault: &'a Fault, known: &'a Known) -> Cause<'a>
         Fault::Help(_) | Fault::Version(_) => Cause::Nothing,
         Fault::File(_) => Cause::File(known.file),
         Fault::Unreadable(_) => Cause::File(FileTrouble::Other),
-        Fault::BadRecord(source, place) => Cause::Record(file_of(*source), *place),
+        Fault::BadRecord(source, place) => record_cause(file_of(*source), *place, known.trouble),
         Fault::NotToml => Cause::NotToml,
-        Fault::BadKey(key) => Cause::Key(key.as_str()),
+        Fault::BadKey(key) => key_cause(key, &known.held),
         Fault::BindRefused(_, status) => Cause::Refused(*status),
         Fault::BindFailed(_, why) => bind_cause(&known.centre, *why),
-        Fault::BadNote(place) => Cause::Record(RecordOf::Journal, *place),
-        Fault::BadReport(place) => Cause::Record(RecordOf::Report, *place),
+        Fault::BadNote(place) => record_cause(RecordOf::Journal, *place, RecordTrouble::Unknown),
+        Fault::BadReport(place) => record_cause(RecordOf::Report, *place, RecordTrouble::Unknown),
         Fault::Journal => journal_cause(known.doing),
         Fault::Output => output_cause(known.doing),
         Fault::OutOfMemory => Cause::OutOfMemory,

@@ -2,14 +2,13 @@
 
 ghost use Rattle.std.specs.Prelude.{◌≡◌, is_some};
 
+use crate::again::{address_in, held_again, trouble_again};
 use crate::explained::{Address, Doing, Known};
 use crate::fault::Fault;
 use crate::job::{Job, job_of, message_of};
-use crate::reading::setup_of;
 use sms_diagnostics::FileTrouble;
-use sms_files::Setup;
 use std::fs;
-use std::io::{ErrorKind, Read};
+use std::io::ErrorKind;
 use std::rt::Files;
 
 /// What a job does that was asked for, if it was.
@@ -43,29 +42,6 @@ fn trouble_of<R: Files>(rt: &R, name: &str) -> FileTrouble {
     }
 }
 
-/// The octets of the file of this name. What isn't a plain file can't be read once more.
-fn octets_again<R: AllocGlobal + Files>(rt: &R, name: &str) -> Option<Vec<u8>> {
-    match fs::metadata(rt, name) {
-        Ok(found) if found.is_file() => {}
-        _ => return None,
-    }
-    let mut file = fs::open(rt, name).ok()?;
-    let mut octets = Vec::new(rt.alloc());
-    match file.read_to_end(&mut octets) {
-        Ok(_) => Some(octets),
-        Err(_unread) => None,
-    }
-}
-
-/// The message centre that the config of this name names now.
-fn address_in<R: AllocGlobal + Files>(rt: &R, config: &str) -> Option<Address> {
-    let octets = octets_again(rt, config)?;
-    match setup_of(rt.alloc(), octets.as_slice()) {
-        Ok(Setup { host, port, .. }) => Some(Address { host, port }),
-        Err(_unknown) => None,
-    }
-}
-
 /// The message centre of a bind that failed, where it isn't the program's own.
 fn centre_of<R: AllocGlobal + Files>(
     rt: &R,
@@ -83,6 +59,8 @@ fn known_of<R: AllocGlobal + Files>(rt: &R, words: &[String], fault: &Fault) -> 
     let alloc = rt.alloc();
     let job = job_of(alloc, words);
     let (doing, centre) = (doing_of(&job), centre_of(rt, fault, &job));
+    let trouble = trouble_again(rt, fault, &job);
+    let held = held_again(rt, fault, &job);
     drop(job);
     let message = match fault {
         Fault::Words => message_of(alloc, words),
@@ -97,6 +75,8 @@ fn known_of<R: AllocGlobal + Files>(rt: &R, words: &[String], fault: &Fault) -> 
         file,
         doing,
         centre,
+        trouble,
+        held,
     }
 }
 

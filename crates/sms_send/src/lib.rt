@@ -3,6 +3,7 @@
 
 #![tactic(auto)]
 
+mod again;
 mod checked;
 mod command_line;
 mod explained;

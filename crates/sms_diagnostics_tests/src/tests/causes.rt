@@ -1,11 +1,13 @@
 //! The lines behind a fault, and who may read a file.
 
 use super::same::same;
-use sms_diagnostics::{BindTrouble, Cause, FileTrouble, RecordOf, is_open_to_others};
+use sms_diagnostics::{
+    BindTrouble, Cause, FileTrouble, Holding, RecordOf, RecordTrouble, is_open_to_others,
+};
 use std::test::Fail;
 
 /// Causes, and what is told of them.
-const TOLD: [(Cause<'static>, &str); 19] = [
+const TOLD: [(Cause<'static>, &str); 21] = [
     (
         Cause::Words("error: no such word '\x1b[2Jx'\n\nfault: words"),
         "  error: no such word '\\x1b[2Jx'\n  \n  fault: words\n",
@@ -19,27 +21,47 @@ const TOLD: [(Cause<'static>, &str); 19] = [
         "  there is no such file\n",
     ),
     (
-        Cause::Record(RecordOf::Messages, 1),
+        Cause::Record(RecordOf::Messages, 1, RecordTrouble::Unknown),
         "  it should be account,source,destination,text\n",
     ),
     (
-        Cause::Record(RecordOf::Accounts, 2),
-        "  it should be one of 1 to 64 accounts: a name that none before it has, and 0 to 1099511627776 credits\n",
+        Cause::Record(RecordOf::Accounts, 2, RecordTrouble::NotNumber(2)),
+        "  it should be one of 1 to 64 accounts: a name that none before it has, and 0 to 1099511627776 credits\n  its field 2 is no such number\n",
     ),
     (
-        Cause::Record(RecordOf::Tariff, 1002),
-        "  it should be one of 1000 rates at the most: a prefix of 0 to 20 digits that none before it has, and 1 to 1000 credits\n",
+        Cause::Record(RecordOf::Tariff, 1002, RecordTrouble::OneTooMany),
+        "  it should be one of 1000 rates at the most: a prefix of 0 to 20 digits that none before it has, and 1 to 1000 credits\n  it is one too many\n",
     ),
     (
         Cause::NotToml,
         "  it should be TOML in UTF-8: lines KEY = VALUE\n",
     ),
-    (Cause::Key("binds"), "  binds should be 1 to 4\n"),
     (
-        Cause::Key("password"),
-        "  password should be a text of at most 8 octets, none of them 0\n",
+        Cause::Key("binds", Holding::Number(-5)),
+        "  binds should be 1 to 4\n  it is -5\n",
     ),
-    (Cause::Key("b\nind"), "  there is no such key\n"),
+    (
+        Cause::Key("password", Holding::Hidden(true)),
+        "  password should be a text of at most 8 octets, none of them 0\n  it is a text, which is not shown here\n",
+    ),
+    (
+        Cause::Key("b\nind", Holding::Text("secret")),
+        "  there is no such key\n",
+    ),
+    (
+        Cause::Key(
+            "mode",
+            Holding::Text("tx\n5678901234567890123456789012345678901"),
+        ),
+        "  mode should be \"transmitter\" or \"transceiver\"\n  it is \"tx\\n5678901234567890123456789012345678901\"\n",
+    ),
+    (
+        Cause::Key(
+            "answers",
+            Holding::BadText(2, "123456789012345678901234567890123456789012"),
+        ),
+        "  answers should be a list of at least one text, each one of a test centre's script\n  its text 2 is \"1234567890123456789012345678901234567890..\"\n",
+    ),
     (Cause::Refused(14), "  14 ESME_RINVPASWD\n"),
     (Cause::Refused(88), "  88 ESME_RTHROTTLED\n"),
     (Cause::Refused(1024), "  1024 the message centre's own\n"),
@@ -64,6 +86,42 @@ const TOLD: [(Cause<'static>, &str); 19] = [
 fn tells_what_an_operator_needs(rt: HostRuntime) -> Result<(), Fail> {
     for (cause, wanted) in &TOLD {
         let told = cause.to_string(rt.alloc())?;
+        same(&rt, told.as_str(), *wanted);
+    }
+    Ok(())
+}
+
+/// Troubles with a record, and what is told of them.
+const TROUBLES: [(RecordTrouble, &str); 11] = [
+    (RecordTrouble::Unknown, ""),
+    (RecordTrouble::Missing, "  there is no such record\n"),
+    (RecordTrouble::Header, "  it is another\n"),
+    (RecordTrouble::OneTooMany, "  it is one too many\n"),
+    (RecordTrouble::Fields(3), "  its fields are 3\n"),
+    (RecordTrouble::NotText(4), "  its field 4 is no UTF-8\n"),
+    (
+        RecordTrouble::NotNumber(2),
+        "  its field 2 is no such number\n",
+    ),
+    (
+        RecordTrouble::NotDigits(1),
+        "  its field 1 is not 0 to 20 digits\n",
+    ),
+    (RecordTrouble::Word, "  its first field is no such word\n"),
+    (
+        RecordTrouble::Taken(7),
+        "  record 7 has its first field, too\n",
+    ),
+    (
+        RecordTrouble::OpenQuote,
+        "  its quote is open: it goes on to the end of the file\n",
+    ),
+];
+
+#[test]
+fn tells_what_is_wrong_with_a_record(rt: HostRuntime) -> Result<(), Fail> {
+    for (trouble, wanted) in &TROUBLES {
+        let told = trouble.to_string(rt.alloc())?;
         same(&rt, told.as_str(), *wanted);
     }
     Ok(())

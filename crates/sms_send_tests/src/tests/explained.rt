@@ -1,9 +1,9 @@
 //! What is told of a fault at length, and in a pipe.
 
 use super::same::same;
-use sms_diagnostics::FileTrouble;
+use sms_diagnostics::{FileTrouble, RecordTrouble};
 use sms_driver::BindFailure;
-use sms_files::Source;
+use sms_files::{Held, Source};
 use sms_send::{Address, Doing, Fault, Known, told_of};
 use std::alloc::{AllocError, Global};
 use std::process::Abort;
@@ -19,6 +19,8 @@ fn known(alloc: Global) -> Result<Known, AllocError> {
             host: String::from_str(alloc, "smsc")?,
             port: 2775,
         }),
+        trouble: RecordTrouble::Header,
+        held: Held::Number(5),
     })
 }
 
@@ -74,7 +76,7 @@ fn tells_faults_at_length(rt: HostRuntime) -> Result<(), Fail> {
         &rt,
         &Fault::BadRecord(Source::Accounts, 1),
         "fault: accounts record 1\n",
-        "  it should be account,credits\n",
+        "  it should be account,credits\n  it is another\n",
     )?;
     want_told(
         &rt,
@@ -86,6 +88,6 @@ fn tells_faults_at_length(rt: HostRuntime) -> Result<(), Fail> {
         &rt,
         &Fault::BadKey(String::from_str(rt.alloc(), "binds")?),
         "fault: config binds\n",
-        "  binds should be 1 to 4\n",
+        "  binds should be 1 to 4\n  it is 5\n",
     )
 }
