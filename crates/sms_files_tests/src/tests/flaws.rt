@@ -165,7 +165,7 @@ fn shown(alloc: Global, octets: &[u8], key: &str) -> (u32, i64, String) {
         Ok(Held::Text(text)) => (3, 0, text),
         Ok(Held::Hidden(is_text)) => (4, i64::from(is_text), none),
         Ok(Held::Texts) => (5, 0, none),
-        Ok(Held::BadText(number, text)) => (6, number as i64, text),
+        Ok(Held::BadText(number, text)) => (6, i64::try_from(number).unwrap_or(-1), text),
         Ok(Held::Values) => (7, 0, none),
         Ok(Held::Table) => (8, 0, none),
         Ok(Held::Else) => (9, 0, none),
