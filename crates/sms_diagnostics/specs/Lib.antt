@@ -1,4 +1,5 @@
 pub mod Causes
+pub mod FilesRead
 pub mod Keys
 pub mod Modes
 pub mod Records

@@ -4,6 +4,7 @@
 #![tactic(auto)]
 
 mod cause;
+mod files_read;
 mod key;
 mod mode;
 mod record;
@@ -14,6 +15,7 @@ mod trouble;
 mod unsent;
 
 pub use cause::{BindTrouble, Cause, FileTrouble};
+pub use files_read::FilesRead;
 pub use mode::is_open_to_others;
 pub use record::RecordOf;
 pub use shown::write_shown;

@@ -1,8 +1,8 @@
-//! The lines behind a fault, and who may read a file.
+//! The lines behind a fault, those of files that were read, and who may read a file.
 
 use super::same::same;
 use sms_diagnostics::{
-    BindTrouble, Cause, FileTrouble, Holding, RecordOf, RecordTrouble, is_open_to_others,
+    BindTrouble, Cause, FileTrouble, FilesRead, Holding, RecordOf, RecordTrouble, is_open_to_others,
 };
 use std::test::Fail;
 
@@ -124,6 +124,31 @@ fn tells_what_is_wrong_with_a_record(rt: HostRuntime) -> Result<(), Fail> {
         let told = trouble.to_string(rt.alloc())?;
         same(&rt, told.as_str(), *wanted);
     }
+    Ok(())
+}
+
+#[test]
+fn tells_which_files_were_read(rt: HostRuntime) -> Result<(), Fail> {
+    let files = FilesRead {
+        config: "/a/b.toml",
+        accounts: "c\nd",
+        messages: "\u{e9}\u{85}",
+        tariff: None,
+    };
+    same(
+        &rt,
+        files.to_string(rt.alloc())?.as_str(),
+        "read config /a/b.toml\nread accounts c\\nd\nread messages \u{e9}\\x85\n",
+    );
+    let with = FilesRead {
+        tariff: Some("/t"),
+        ..files
+    };
+    same(
+        &rt,
+        with.to_string(rt.alloc())?.as_str(),
+        "read config /a/b.toml\nread accounts c\\nd\nread messages \u{e9}\\x85\nread tariff /t\n",
+    );
     Ok(())
 }
 
