@@ -1,6 +1,6 @@
 -- What was written of a quote, from its parts to the job.
-use Rattle.std.proofs.Common.{◌≡◌, ◌∙◌, ◌⊎◌, inl, inr, refl, sym, subst, ℕ, List, [], Option, Result, Ok, Err}
-use Rattle.std.specs.Prelude.{OnOk, String, option_map, string_bytes}
+use Rattle.std.proofs.Common.{◌≡◌, ◌∙◌, ◌⊎◌, inl, inr, refl, sym, subst, append-nil, ℕ, List, [], Option, Result, Ok, Err}
+use Rattle.std.specs.Prelude.{◌≢◌, IfErr, IfOk, OnOk, String, option_map, string_bytes}
 use Rattle.std.specs.Io.KnownBytes.{Appends}
 use Rattle.std.specs.declared.alloc.Global.{Global}
 use Rattle.std.proofs.KnownBytes.{Appends-nil}
@@ -15,7 +15,7 @@ use Rattle.sms_files.specs.declared.setup.Setup.{Setup}
 use Rattle.sms_report.specs.Output.{WritesFront}
 use Rattle.sms_send.specs.Faults.{TellsRead, told_input}
 use Rattle.sms_send.specs.Opened.{IsNamed, OfInput}
-use Rattle.sms_send.specs.Quoted.{HasQuote, PrintsFront, PrintsQuote, QuotesAndWarns, QuotesFiles, QuotesNamed, TellsQuoteFiles, TellsQuoteJob, TellsQuoteNamed}
+use Rattle.sms_send.specs.Quoted.{FailsBehind, HasQuote, PrintsFront, PrintsQuote, QuotesAndWarns, QuotesFiles, QuotesNamed, TellsQuoteFiles, TellsQuoteJob, TellsQuoteNamed}
 use Rattle.sms_send.specs.declared.fault.Fault.{Fault}
 use Rattle.sms_send.specs.declared.fault.Fault.TheVariants.{File, OutOfMemory, Output}
 use Rattle.sms_send.proofs.Noting.{IsSetUp}
@@ -75,3 +75,30 @@ pub setup_tells : {F : Type 0} (remaining : F → Told) (name : String Global) (
     → OfInput remaining (λ bytes. items ≡ bytes) → octets ≡ items → TellsRead (TellsConfig octets) fault → TellsQuoteJob remaining name old new fault
 setup_tells remaining name old new fault items octets given same told =
     inr (inr (beside remaining items octets (λ bytes. TellsQuoteFiles remaining bytes old new fault) given same (inl told)))
+
+-- what is told behind a quote
+
+-- what was written whole is a front of itself
+pub front_of_all : (old new : Option (List ℕ)) (text : List ℕ) → Appends old new text → WritesFront old new text
+front_of_all old new text written = record { front = text; back = []; whole = sym (append-nil text); out = written }
+
+-- a quote that was printed, where the output fails behind it
+pub untold_names : {F : Type 0} (remaining : F → Told) (names : FileNames) (config : List ℕ) (old new : Option (List ℕ))
+    → QuotesNamed remaining names config old new → TellsQuoteNamed remaining names config old new Output
+untold_names remaining names config old new (accounts, messages, tariff, named, quotes) =
+    inr (inr (inr (accounts, messages, tariff, named, inr (quotes.input, quotes.read, inr (refl, record { text = quotes.printed.text; quote = quotes.printed.quote; front = front_of_all old new quotes.printed.text quotes.printed.written })))))
+
+-- what holds of a quote holds of what it ends with
+pub told_on : (P : Type 0) (r x : Result ℕ Fault) → IfOk r (λ s. x ≡ Ok s) → OnOk x P → OnOk r P
+told_on P (Ok s) x same holds = subst (λ (y : Result ℕ Fault). OnOk y P) same holds
+told_on P (Err f) x same holds = tt
+
+pub told_err : {P : Type 0} (r x : Result ℕ Fault) (A : Fault → Type 0) → IfErr r (FailsBehind x) → IfErr x A → OnOk x P → (P → A Output) → IfErr r A
+told_err (Ok s) x A told bad good behind = tt
+told_err (Err f) x A (inl same) bad good behind = rw same at bad
+told_err (Err f) x A (inr told) bad good behind = subst A (sym told.0) (behind (rw told.2 at good))
+
+pub told_quiet : (r x : Result ℕ Fault) (A : Type 0) → IfErr r (FailsBehind x) → IfErr x (λ f. f ≢ Output → A) → IfErr r (λ f. f ≢ Output → A)
+told_quiet (Ok s) x A told quiet = tt
+told_quiet (Err f) x A (inl same) quiet = rw same at quiet
+told_quiet (Err f) x A (inr told) quiet = λ other. absurd (other told.0)

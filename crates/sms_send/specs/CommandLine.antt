@@ -161,7 +161,7 @@ HasNames other rows config name = (first_of (codes "config") rows ≡ Some (stri
 abbrev pub AsksFor : Subcommand → List Row → Job → Type 0
 AsksFor sub.Replay rows (Replay file) = option_map file_named (first_of (codes "FILE") rows) ≡ Some (bytes_of file)
 AsksFor sub.Plan rows (Plan messages long) = (first_of (codes "messages") rows ≡ Some (string_bytes messages)) × (is_set (first_of (codes "long") rows) ≡ long)
-AsksFor sub.Quote rows (Quote config) = first_of (codes "config") rows ≡ Some (string_bytes config)
+AsksFor sub.Quote rows (Quote config verbose) = (first_of (codes "config") rows ≡ Some (string_bytes config)) × (is_set (first_of (codes "verbose") rows) ≡ verbose)
 AsksFor sub.Loop rows (Loop order) = AsksToSend rows order
 AsksFor sub.Send rows (Send order) = AsksToSend rows order
 AsksFor sub.Recover rows (Recover order) = HasNames (codes "journal") rows order.config order.journal

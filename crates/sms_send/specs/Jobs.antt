@@ -35,7 +35,7 @@ IsStatusBy strict status = IsStatus status ⊎ ((strict ≡ true) × (status ≡
 abbrev pub IsStatusOf : Job → ℕ → Type 0
 IsStatusOf (Replay file) status = status ≡ 0
 IsStatusOf (Plan name long) status = status ≡ 0
-IsStatusOf (Quote config) status = status ≡ 0
+IsStatusOf (Quote config verbose) status = status ≡ 0
 IsStatusOf (Loop order) status = IsStatusBy order.strict status
 IsStatusOf (Send order) status = IsStatusBy order.strict status
 IsStatusOf (Recover order) status = IsStatus status
@@ -46,7 +46,7 @@ abbrev pub Does : {S F : Type 0} → (S → Told) → (F → Told) → Job → O
 Does standard file (Replay None) old new status = OfInput standard (λ bytes. Replays bytes old new)
 Does standard file (Replay (Some name)) old new status = OfInput file (λ bytes. Replays bytes old new)
 Does standard file (Plan name long) old new status = OfInput file (λ bytes. Plans long bytes old new)
-Does standard file (Quote config) old new status = OfInput file (λ octets. QuotesFiles file octets old new)
+Does standard file (Quote config verbose) old new status = OfInput file (λ octets. QuotesFiles file octets old new)
 Does standard file (Loop order) old new status = OfInput file (λ octets. SendsBy order.strict file order.journal octets old new status)
 Does standard file (Send order) old new status = OfInput file (λ octets. SendsBy order.strict file order.journal octets old new status)
 Does standard file (Recover order) old new status = (run : RunFiles) × IsRun file run × RecoversRun run old new status
@@ -57,7 +57,7 @@ abbrev pub TellsJob : {S F : Type 0} → (S → Told) → (F → Told) → Job �
 TellsJob standard file (Replay None) old new fault = OfInput standard (λ bytes. TellsReplay (records_of bytes) fault)
 TellsJob standard file (Replay (Some name)) old new fault = (fault ≡ File name) ⊎ OfInput file (λ bytes. TellsReplay (records_of bytes) fault)
 TellsJob standard file (Plan name long) old new fault = (fault ≡ File name) ⊎ OfInput file (λ bytes. TellsPlan (records_of bytes) fault)
-TellsJob standard file (Quote config) old new fault = TellsQuoteJob file config old new fault
+TellsJob standard file (Quote config verbose) old new fault = TellsQuoteJob file config old new fault
 TellsJob standard file (Loop order) old new fault = TellsOrder file Own order old new fault
 TellsJob standard file (Send order) old new fault = TellsOrder file Named order old new fault
 TellsJob standard file (Recover order) old new fault = TellsRecoverJob file order old new fault

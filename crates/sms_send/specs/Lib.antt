@@ -1,6 +1,7 @@
 pub mod Explained
 pub mod Exposed
 pub mod Faults
+pub mod FullNames
 pub mod Opened
 pub mod CommandLine
 pub mod Plans

@@ -1,5 +1,5 @@
 -- What `quote` prints of the files that a config names, what it warns of, and what a fault of it says.
-use Rattle.std.specs.Prelude.{◌≡◌, ◌≢◌, ◌⊎◌, ℕ, List, [], Option, String, option_map, string_bytes}
+use Rattle.std.specs.Prelude.{◌≡◌, ◌≢◌, ◌⊎◌, ℕ, List, [], Option, Result, Err, Ok, String, option_map, string_bytes}
 use Rattle.std.specs.Io.KnownBytes.{Appends}
 use Rattle.std.specs.declared.alloc.Global.{Global}
 use Rattle.sms_files.specs.ConfigFaults.{IsConfig, TellsConfig}
@@ -40,6 +40,10 @@ pub record PrintsFront (input : Input) (old new : Option (List ℕ)) : Type 0 wh
 -- what a fault says: memory ran out, or the output failed behind a front of the quote
 abbrev pub TellsQuoting : Input → Option (List ℕ) → Option (List ℕ) → Fault → Type 0
 TellsQuoting input old new fault = (fault ≡ OutOfMemory) ⊎ ((fault ≡ Output) × PrintsFront input old new)
+
+-- a quote failed so, or was printed and what is told behind it wasn't
+abbrev pub FailsBehind : Result ℕ Fault → Fault → Type 0
+FailsBehind quoted fault = (quoted ≡ Err fault) ⊎ ((fault ≡ Output) × (status : ℕ) × (quoted ≡ Ok status))
 
 -- ---- of octets
 

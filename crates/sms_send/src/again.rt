@@ -63,7 +63,7 @@ fn named_again<R: AllocGlobal + Files>(rt: &R, config: &str, source: Source) -> 
 fn config_name(job: &Job) -> Option<&str> {
     match job {
         Job::Replay(_) | Job::Plan(_, _) => None,
-        Job::Quote(config) => Some(config.as_str()),
+        Job::Quote(config, _) => Some(config.as_str()),
         Job::Loop(order) | Job::Send(order) => Some(order.config.as_str()),
         Job::Recover(order) => Some(order.config.as_str()),
         Job::Rest(order) => Some(order.config.as_str()),

@@ -29,8 +29,8 @@ pub enum Job {
     Replay(Option<String>),
     /// To plan the messages in the file of this name; with references of 16 bits where it is true.
     Plan(String, bool),
-    /// To print what a sending by the config of this name would come to.
-    Quote(String),
+    /// To print what a sending by the config of this name would come to; where it is true, more is told.
+    Quote(String, bool),
     /// To send through a test centre in the same process.
     Loop(Order),
     /// The same to the message centre that the config names.
@@ -126,7 +126,7 @@ fn job_asked(alloc: Global, subcommand: Subcommand, found: &ArgMatches<'_>) -> R
             Err(fault) => Err(fault),
         },
         Subcommand::Quote => match text_given(alloc, found, "config") {
-            Ok(config) => Ok(Job::Quote(config)),
+            Ok(config) => Ok(Job::Quote(config, is_given(found, "verbose"))),
             Err(fault) => Err(fault),
         },
         Subcommand::Loop => match order_of(alloc, found) {

@@ -9,6 +9,7 @@ mod command_line;
 mod explained;
 mod exposed;
 mod fault;
+mod full_names;
 mod job;
 mod known;
 pub mod laws;
@@ -34,6 +35,7 @@ mod words;
 
 pub use explained::{Address, Doing, Known, Told, told_of};
 pub use fault::Fault;
+pub use full_names::{FullNames, files_told};
 pub use job::{Job, job_of};
 pub use order::{JournalFile, Order, Pace, RecoverOrder, RestOrder};
 pub use plan::run_plan;

@@ -78,7 +78,7 @@ pub fn do_job<R: Host + Net<Stream = TcpStream, Listener = TcpListener>, W: Writ
         Job::Replay(None) => run_replay(rt.alloc(), rt.reader(), output),
         Job::Replay(Some(name)) => run_replay(rt.alloc(), open(rt, name)?, output),
         Job::Plan(name, long) => run_plan(rt.alloc(), open(rt, name)?, long, output),
-        Job::Quote(config) => quote_job(rt, config, output),
+        Job::Quote(config, verbose) => quote_job(rt, config, verbose, output),
         Job::Loop(order) => send_job(rt, Centre::Own, order, output),
         Job::Send(order) => send_job(rt, Centre::Named, order, output),
         Job::Recover(order) => recover_job(rt, order, output),

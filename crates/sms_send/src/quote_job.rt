@@ -1,17 +1,20 @@
 //! The job of `quote`: the files that the config names are opened and read, and what a sending of them
 //! would come to is printed.
 
-ghost use Rattle.std.specs.Prelude.{◌≡◌, ◌≢◌, IfErr, IfOk, OnOk, option_map, string_bytes};
+ghost use Rattle.std.specs.Prelude.{◌≡◌, ◌≢◌, IfErr, IfOk, Ok, OnOk, option_map, string_bytes};
 ghost use Rattle.std.specs.Io.KnownBytes.{Appends};
 ghost use Rattle.sms_report.specs.Output.{WritesFront};
 ghost use Rattle.sms_send.specs.Opened.{OfInput};
-ghost use Rattle.sms_send.specs.Quoted.{HasQuote, PrintsQuote, QuotesAndWarns, QuotesFiles, QuotesNamed, TellsQuote, TellsQuoteJob, TellsQuoteNamed, TellsQuoting, WarnsFront, warnings_of};
+ghost use Rattle.sms_send.specs.Quoted.{FailsBehind, HasQuote, PrintsQuote, QuotesAndWarns, QuotesFiles, QuotesNamed, TellsQuote, TellsQuoteJob, TellsQuoteNamed, TellsQuoting, WarnsFront, warnings_of};
 ghost use Rattle.sms_send.specs.declared.fault.Fault.TheVariants.{Output};
 
+use crate::explained::is_at_length;
 use crate::fault::Fault;
+use crate::full_names::{lines_at, name_at};
 use crate::opened::{octets_of, open, open_named};
 use crate::reading::{read_input, setup_of};
 use crate::standard_error::StandardError;
+use sms_devices::Screen;
 use sms_files::{FileNames, Input, Setup};
 use sms_quote::{quote_text, warnings_text};
 use sms_report::write_out;
@@ -131,11 +134,52 @@ fn quote_named<R: AllocGlobal + Files + Eprint, W: Write>(
     )
 }
 
+/// Tells these lines behind a quote that was printed. That they can't be told is a fault of the output.
+fn tell_behind<E: Write>(
+    error: &mut E,
+    quoted: Result<u8, Fault>,
+    lines: &[u8],
+) -> Result<u8, Fault>
+    ensures same { IfOk result (λ status. quoted ≡ Ok status) }
+    ensures told { OnOk result (Appends (E.contents error.old) (E.contents error.new) lines.now) }
+    ensures refused { IfErr result (FailsBehind quoted) }
+    ensures front { IfOk quoted (λ status. WritesFront (E.contents error.old) (E.contents error.new) lines.now) }
+    ensures untold { IfErr quoted (λ fault. error.new ≡ error.old) }
+{
+    match quoted {
+        Ok(status) => match write_out(error, lines) {
+            Ok(()) => Ok(status),
+            Err(fault) => Err(Fault::from(fault)),
+        },
+        Err(fault) => Err(fault),
+    }
+}
+
+/// Opens the files that the config names, prints what a sending of them would come to, and tells these
+/// lines behind that.
+fn quote_told<R: AllocGlobal + Files + Eprint, W: Write>(
+    rt: &R,
+    config: &[u8],
+    names: FileNames,
+    lines: &str,
+    output: &mut W,
+) -> Result<u8, Fault>
+    ensures status { IfOk result (λ status. status ≡ 0) }
+    ensures quoted { OnOk result (QuotesNamed R.File.remaining names config.now (W.contents output.old) (W.contents output.new)) }
+    ensures refused { IfErr result (TellsQuoteNamed R.File.remaining names config.now (W.contents output.old) (W.contents output.new)) }
+    ensures unwritten { IfErr result (λ fault. fault ≢ Output → output.new ≡ output.old) }
+{
+    let quoted = quote_named(rt, config, names, output);
+    tell_behind(&mut StandardError { rt }, quoted, lines.as_bytes())
+}
+
 /// Reads the config of this name and the files that it names, and prints what a sending of them would
-/// come to.
-pub fn quote_job<R: AllocGlobal + Files + Eprint, W: Write>(
+/// come to. On a terminal, and where more is to be told, the full names of the files follow on standard
+/// error.
+pub fn quote_job<R: AllocGlobal + Files + Eprint + Screen, W: Write>(
     rt: &R,
     config: String,
+    verbose: bool,
     output: &mut W,
 ) -> Result<u8, Fault>
     ensures status { IfOk result (λ status. status ≡ 0) }
@@ -143,6 +187,8 @@ pub fn quote_job<R: AllocGlobal + Files + Eprint, W: Write>(
     ensures refused { IfErr result (TellsQuoteJob R.File.remaining config (W.contents output.old) (W.contents output.new)) }
     ensures unwritten { IfErr result (λ fault. fault ≢ Output → output.new ≡ output.old) }
 {
+    let at_length = is_at_length(rt.is_terminal(), verbose);
+    let kept = name_at(rt.alloc(), config.as_str(), at_length)?;
     let config = octets_of(rt, config)?;
     let Setup {
         accounts,
@@ -155,5 +201,6 @@ pub fn quote_job<R: AllocGlobal + Files + Eprint, W: Write>(
         messages,
         tariff,
     };
-    quote_named(rt, config.as_slice(), names, output)
+    let lines = lines_at(rt.alloc(), rt, &kept, &names)?;
+    quote_told(rt, config.as_slice(), names, lines.as_str(), output)
 }

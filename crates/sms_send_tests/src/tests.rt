@@ -4,6 +4,7 @@ mod answers;
 mod broken;
 mod explained;
 mod frames;
+mod full_names;
 mod jobs;
 mod journal;
 mod plan;

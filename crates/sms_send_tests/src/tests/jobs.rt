@@ -161,7 +161,7 @@ fn quiet_order(config: String) -> Order {
 fn job_with(word: &str, name: String) -> Job {
     match word {
         "plan" => Job::Plan(name, false),
-        "quote" => Job::Quote(name),
+        "quote" => Job::Quote(name, false),
         "loop" => Job::Loop(quiet_order(name)),
         "send" => Job::Send(quiet_order(name)),
         _ => Job::Replay(Some(name)),

@@ -7,7 +7,7 @@ use std::process::Abort;
 use std::test::Fail;
 
 /// Words, and the file of the job, or the text of the fault.
-const READ: [(&str, &str); 77] = [
+const READ: [(&str, &str); 78] = [
     ("", "standard input"),
     ("replay -", "standard input"),
     ("replay events.csv", "events.csv"),
@@ -85,7 +85,8 @@ const READ: [(&str, &str); 77] = [
     ("recover --config c --journal j --strict", "fault: words"),
     ("replay --verbose x", "x"),
     ("plan --messages x --verbose", "plan of x"),
-    ("quote --verbose --config c", "quote of c"),
+    ("quote --verbose --config c", "verbose quote of c"),
+    ("quote --config c --verbose", "verbose quote of c"),
     ("loop --config c --verbose", "loop of c"),
     ("recover --config c --verbose --journal j", "recovery of j"),
     ("rest --config c --report r --verbose", "rest of r"),
@@ -114,7 +115,8 @@ fn called(job: &Job) -> &str {
         Job::Replay(Some(_)) => "",
         Job::Plan(_, true) => "long plan of ",
         Job::Plan(_, false) => "plan of ",
-        Job::Quote(_) => "quote of ",
+        Job::Quote(_, true) => "verbose quote of ",
+        Job::Quote(_, false) => "quote of ",
         Job::Loop(order) if order.strict => "strict loop of ",
         Job::Send(order) if order.strict => "strict send of ",
         Job::Loop(order) if order.quiet => "quiet loop of ",
@@ -132,7 +134,7 @@ fn file_of(job: &Job) -> &str {
     match job {
         Job::Replay(None) => "",
         Job::Replay(Some(name)) => name.as_str(),
-        Job::Plan(name, _) | Job::Quote(name) => name.as_str(),
+        Job::Plan(name, _) | Job::Quote(name, _) => name.as_str(),
         Job::Loop(order) | Job::Send(order) => order.config.as_str(),
         Job::Recover(order) => order.journal.as_str(),
         Job::Rest(order) => order.report.as_str(),
