@@ -8,6 +8,8 @@ use Rattle.sms_slot.specs.declared.slot.Slot.{Slot}
 use Rattle.sms_slot.specs.declared.slot.Slot.TheVariants.{Empty, Waiting, Answered}
 use Rattle.sms_slot.specs.declared.slot.Answer.{Answer}
 use Rattle.sms_slot.specs.declared.slot.Answer.TheVariants.{Matched, Overrun, Unknown}
+use Rattle.sms_slot.specs.declared.row.NotAnswered.{NotAnswered}
+use Rattle.sms_slot.specs.declared.slot.NoAnswer.{NoAnswer}
 use Rattle.sms_slot.specs.declared.slot.Taken.{Taken}
 use Rattle.sms_slot.specs.declared.slot.Taken.TheVariants.{Got, NotYet, Unknown as TakenUnknown}
 use Rattle.sms_slot.specs.declared.slot.Expired.{Expired}
@@ -53,6 +55,14 @@ abbrev pub Takes : ℕ → Slot → Taken → Slot → Type 0
 Takes number old Got new = IsAnswered number old × (new ≡ Empty)
 Takes number old NotYet new = IsWaiting number old × (new ≡ old)
 Takes number old TakenUnknown new = (¬ IsWaiting number old) × (¬ IsAnswered number old) × (new ≡ old)
+
+-- a slot that was as it tells was asked for the answer to this number, and didn't have it
+abbrev pub LacksAnswer : ℕ → NoAnswer → Type 0
+LacksAnswer number none = (none.number ≡ number) × ¬ IsAnswered number none.was
+
+-- and it was this slot of a row
+abbrev pub IsNotAnswered : ℕ → ℕ → NotAnswered → Type 0
+IsNotAnswered slot number told = (told.slot ≡ slot) × LacksAnswer number told.none
 
 abbrev pub TakesMark : Slot → Taken → Slot → Type 0
 TakesMark old Got new = MarkChanges settled old new

@@ -6,5 +6,5 @@
 mod row;
 mod slot;
 
-pub use row::{Search, SlotRow};
-pub use slot::{Answer, Expired, Slot, SlotError, Taken};
+pub use row::{NotAnswered, Search, SlotRow};
+pub use slot::{Answer, Expired, NoAnswer, Slot, SlotError, Taken};

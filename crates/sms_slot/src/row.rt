@@ -1,14 +1,15 @@
 //! The slots of one bind, each behind a lock of its own.
 
-ghost use Rattle.std.specs.Prelude.{◌≡◌, ◌<◌, length, map, vec_len};
+ghost use Rattle.std.specs.Prelude.{◌≡◌, ◌<◌, IfErr, length, map, vec_len};
 ghost use Rattle.std.specs.List.{AllZip};
 ghost use Rattle.rtrb.specs.Ring.{sent, known_free, SameProducer};
 ghost use Rattle.sms_core.specs.Limits.{most_slots};
 ghost use Rattle.sms_slot.specs.Row.{IsInRow};
 ghost use Rattle.sms_slot.specs.Rings.{pushed_to, place_of, HasRing, Room, answer_of};
+ghost use Rattle.sms_slot.specs.Slot.{IsNotAnswered};
 ghost use Rattle.sms_slot.specs.declared.row.Search.TheVariants.{Unknown};
 
-use crate::slot::{Answer, Expired, Slot, SlotError, Taken};
+use crate::slot::{Answer, Expired, NoAnswer, Slot, SlotError, Taken};
 use rtrb::Producer;
 use sms_core::MOST_SLOTS;
 use sms_pdu::Reply;
@@ -40,6 +41,14 @@ pub enum Search {
     Overrun { slot: u32, worker: usize },
     /// No slot had a request that waited for this number when it was looked at.
     Unknown,
+}
+
+/// Which slot was asked for an answer that it doesn't have, and what it was then. Only asking a slot of a
+/// row gives one.
+#[derive(Clone, Copy, Debug, PartialEq, Eq)]
+pub struct NotAnswered {
+    slot: u32,
+    none: NoAnswer,
 }
 
 impl SlotRow {
@@ -76,6 +85,18 @@ impl SlotRow {
     {
         let mut kept = self.slots[slot as usize].lock(rt);
         kept.take(number)
+    }
+
+    /// `Slot::take_answer` of this slot. What it was behind its lock is told where its answer hasn't come.
+    pub fn take_answer<R: Wait>(&self, rt: &R, slot: u32, number: u32) -> Result<(), NotAnswered>
+        requires slot { slot < most_slots }
+        ensures none { IfErr result (IsNotAnswered slot number) }
+    {
+        let mut kept = self.slots[slot as usize].lock(rt);
+        match kept.take_answer(number) {
+            Ok(()) => Ok(()),
+            Err(none) => Err(NotAnswered { slot, none }),
+        }
     }
 
     /// `Slot::expire` of this slot.

@@ -1,6 +1,6 @@
 //! One slot, and how a request passes through it.
 
-ghost use Rattle.std.specs.Prelude.{◌≡◌, ◌↔◌, ℕ, true, false, length, map, IsOk, OnOk, OnErr, MatchResult, if◌then◌else◌};
+ghost use Rattle.std.specs.Prelude.{◌≡◌, ◌↔◌, ℕ, true, false, length, map, IsOk, OnOk, OnErr, IfErr, MatchResult, if◌then◌else◌};
 ghost use Rattle.std.specs.List.{AllZip};
 ghost use Rattle.rtrb.specs.Ring.{sent, known_free, SameProducer};
 ghost use Rattle.sms_slot.specs.Rings.{pushed_to, place_of, HasRing, Room};
@@ -50,6 +50,13 @@ pub enum Taken {
     Unknown,
 }
 
+/// What a slot was that was asked for an answer which it doesn't have. Only asking a slot gives one.
+#[derive(Clone, Copy, Debug, PartialEq, Eq)]
+pub struct NoAnswer {
+    number: u32,
+    was: Slot,
+}
+
 /// What comes of giving up a request.
 #[derive(Clone, Copy, Debug, PartialEq, Eq)]
 pub enum Expired {
@@ -63,7 +70,7 @@ pub enum Expired {
 
 impl Slot {
     ghost use Rattle.sms_core.specs.Marks.{opened};
-    ghost use Rattle.sms_slot.specs.Slot.{MarkChanges, MarkForbids, Answers, AnswersMark, Takes, TakesMark, Expires, ExpiresMark};
+    ghost use Rattle.sms_slot.specs.Slot.{IsAnswered, LacksAnswer, MarkChanges, MarkForbids, Answers, AnswersMark, Takes, TakesMark, Expires, ExpiresMark};
     ghost use Rattle.sms_slot.specs.declared.slot.Slot.TheVariants.{Empty, Waiting};
 
     /// Lets a request wait in an empty slot. `worker` is the place of the worker's ring in the list
@@ -119,6 +126,21 @@ impl Slot {
             }
             Slot::Waiting { number: asked, .. } if asked == number => Taken::NotYet,
             Slot::Empty | Slot::Waiting { .. } | Slot::Answered { .. } => Taken::Unknown,
+        }
+    }
+
+    /// As `take`, for who has to know that the answer hasn't come: then it tells what the slot was.
+    pub fn take_answer(&mut self, number: u32) -> Result<(), NoAnswer>
+        ensures got { OnOk result (IsAnswered number self.old × (self.new ≡ Empty)) }
+        ensures none { OnErr result ((¬ IsAnswered number self.old) × (self.new ≡ self.old)) }
+        ensures was { IfErr result (λ e. (e.number ≡ number) × (e.was ≡ self.old)) }
+        ensures lacks { IfErr result (LacksAnswer number) }
+    {
+        let was = *self;
+        match self.take(number) {
+            Taken::Got => Ok(()),
+            Taken::NotYet => Err(NoAnswer { number, was }),
+            Taken::Unknown => Err(NoAnswer { number, was }),
         }
     }
 

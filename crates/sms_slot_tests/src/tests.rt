@@ -237,6 +237,36 @@ fn one_slot_of_a_row(rt: HostRuntime) {
     want_one_in_ring(&rt, &mut consumers, 1, 5);
 }
 
+// Whether the answer to a number is there and was taken.
+fn takes_answer(rt: &(impl Abort + Wait), row: &SlotRow, slot: u32, number: u32, wanted: bool)
+    requires { slot < most_slots }
+{
+    let taken = row.take_answer(rt, slot, number).is_ok();
+    same(rt, (slot, number, taken), (slot, number, wanted));
+}
+
+// An answer is taken where it came, by its number, and once.
+fn want_answer(rt: &(impl Abort + Wait), row: &SlotRow, producers: &mut [Producer<Reply>]) {
+    takes_answer(rt, row, 3, 5, false);
+    posts(rt, row, 3, 1, 5, Ok(()));
+    takes_answer(rt, row, 3, 5, false);
+    let found = Search::Found { slot: 3, worker: 1 };
+    answers(rt, row, producers, 5, found);
+    takes_answer(rt, row, 3, 6, false);
+    takes_answer(rt, row, 2, 5, false);
+    takes_answer(rt, row, 3, 5, true);
+    takes_answer(rt, row, 3, 5, false);
+    posts(rt, row, 3, 1, 6, Ok(()));
+}
+
+#[test]
+fn an_answer_is_taken_where_it_came(rt: HostRuntime) {
+    let row = row_of(&rt, rt.alloc());
+    let (mut producers, mut consumers) = rings(&rt, rt.alloc(), 2);
+    want_answer(&rt, &row, &mut producers);
+    want_one_in_ring(&rt, &mut consumers, 1, 5);
+}
+
 // An empty slot has nothing to take or to give up, and its row knows no number.
 fn want_empty(rt: &(impl Abort + Wait), row: &SlotRow, producers: &mut [Producer<Reply>]) {
     takes(rt, row, 0, 5, Taken::Unknown);

@@ -48,10 +48,14 @@ pub record SawNumber (v : View) (found : ℕ) (w : View) : Type 0 where
   pub later : v.seen ≤ found
   pub top : found ≤ used_up
 
+-- the same where another seat drew meanwhile: the number word is later than what the seat had seen
+abbrev pub MetNumber : View → ℕ → View → Type 0
+MetNumber v found w = SawNumber v found w × (v.seen < found)
+
 abbrev pub Drawn : View → Draw → View → Type 0
 Drawn v (Number n) w = DrewNumber v n w
 Drawn v UsedUp w = SawNumber v used_up w
-Drawn v (DrawContended found) w = SawNumber v found w
+Drawn v (DrawContended found) w = MetNumber v found w
 
 abbrev pub IsLimit : ℕ → Type 0
 IsLimit limit = (1 ≤ limit) × (limit ≤ most_slots)

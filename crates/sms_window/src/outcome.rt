@@ -18,7 +18,8 @@ pub enum Draw {
     Number(u32),
     /// The numbers up to 0x7FFFFFFF were all drawn.
     UsedUp,
-    /// The number word had changed to this one meanwhile.
+    /// The number word had changed to this one meanwhile, which is greater than any that the seat had
+    /// seen.
     Contended(u64),
 }
 

@@ -170,7 +170,8 @@ impl Window {
         seat.slots &= mask;
     }
 
-    /// Tries to draw the next sequence number.
+    /// Tries to draw the next sequence number. Where another seat drew between the two steps that it takes,
+    /// the number word is greater than what the seat had seen of it.
     pub fn try_draw(&self, seat: &mut WindowSeat) -> Draw
         requires own { seat.old.window ≡ self.now }
         ensures window { seat.new.window ≡ seat.old.window }

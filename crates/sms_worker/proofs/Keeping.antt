@@ -30,9 +30,10 @@ use Rattle.sms_worker.specs.Start.{Start}
 use Rattle.sms_worker.specs.Submits.{SpellsSubmit, message_parts}
 use Rattle.sms_worker.specs.Told.{IsSubmit, IsAnswered, HeardSince, IsTold, IsSettled, IsWaiting, AreEnds, AreTexts, Drew, Grew}
 use Rattle.sms_worker.specs.Keeps.{Keeps, slots_of}
-use Rattle.sms_worker.specs.Steps.{GivesUp, Answers, with_outcome, outcome_after, settled_to, Tries}
+use Rattle.sms_worker.specs.Steps.{GivesUp, Answers, with_outcome, outcome_after, number_unsent, settled_to, Tries}
 use Rattle.sms_worker.specs.declared.attempt.Tried.{Tried}
 use Rattle.sms_worker.specs.declared.attempt.Tried.TheVariants.{Sent, Later, Never}
+use Rattle.sms_worker.specs.declared.denied.Denied.TheVariants.{Over, Numbers, Memory, Gate, Line}
 use Rattle.sms_worker.proofs.Changes.{told_put, ends_put, drew_same, drew_sent, drew_unused, grew_same, grew_settled, credit_held, length-settled, number-settled}
 use Rattle.sms_worker.proofs.Tries.{all_snoc, all_front, all_map, sent_state}
 use Rattle.sms_worker.proofs.EndLemmas.{get_more, get_last, total_none}
@@ -193,18 +194,19 @@ keeps_tried start rules ms es es' texts os os' seat seat' share heard k p m part
           state = inl (sent_state start.rules.policy.attempts s s' a waits after refl outcome);
         }
     told (Later held) h = unsent h.1
-    told Never h = unsent h.1
+    told (Never why) h = unsent h.1
 
     like : s'.attempts ≡ s.attempts → Drew start.seat.view seat.view start.messages (put es k p s')
     like e = drew_same start.seat.view seat.view start.messages es k p m s s' keeps.numbers there' at (ap (map (λ (y : Attempt). y.number)) e)
 
     numbers : (t : Tried) → Tries rules m part seat.view s.attempts t seat'.view s'.attempts → Drew start.seat.view seat'.view start.messages (put es k p s')
     numbers (Sent n) (drawn, (octets, after, spells)) = drew_sent start.seat.view seat.view seat'.view start.messages es k p m s s' (record { number = n; sent = octets; reply = None }) keeps.numbers drawn there' at after
-    numbers (Later held) h = drew_unused start.seat.view seat.view seat'.view [] start.messages (put es k p s') (like h.1) h.0
-    numbers Never h = elim h.0 [
-      | inl no_draw ↦ drew_unused start.seat.view seat.view seat'.view [] start.messages (put es k p s') (like h.1) no_draw.0
-      | inr one_draw ↦ drew_unused start.seat.view seat.view seat'.view (one_draw.0 ∷ []) start.messages (put es k p s') (like h.1) one_draw.1
-    ]
+    numbers (Later held) h = drew_unused start.seat.view seat.view seat'.view [] start.messages (put es k p s') (like h.1) h.0.0
+    numbers (Never Over) h = absurd h.0
+    numbers (Never (Numbers all)) h = drew_unused start.seat.view seat.view seat'.view [] start.messages (put es k p s') (like h.1) h.0.0
+    numbers (Never (Memory lack)) h = drew_unused start.seat.view seat.view seat'.view (lack.number ∷ []) start.messages (put es k p s') (like h.1) h.0
+    numbers (Never (Gate lack)) h = drew_unused start.seat.view seat.view seat'.view (lack.number ∷ []) start.messages (put es k p s') (like h.1) h.0
+    numbers (Never (Line lack)) h = drew_unused start.seat.view seat.view seat'.view (number_unsent lack ∷ []) start.messages (put es k p s') (like h.1) h.0
 
 -- a slot was released
 pub keeps_closed : (start : Start) (ms : List Message) (es : List MessageEnd) (texts : List (List UserData)) (os : List Open) (seat seat' : SeatState) (share : Share) (heard : List Reply) (i : ℕ) (o : Open) → Keeps start ms es texts os seat share heard

@@ -1,6 +1,6 @@
 -- Where a segment stands that was sent, or whose turn it is.
 use Rattle.std.proofs.Common.{◌≡◌, ℕ, ◌<◌, List, length, Some, None, inl, inr, ap, arith}
-use Rattle.std.specs.Prelude.{◌⊎◌, slice_get}
+use Rattle.std.specs.Prelude.{slice_get}
 use Rattle.sms_pdu.specs.declared.reply.Reply.{Reply}
 use Rattle.sms_book.specs.Shares.{Share}
 use Rattle.sms_window.specs.SeatState.{SeatState}

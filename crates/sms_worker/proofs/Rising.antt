@@ -1,5 +1,5 @@
 -- Each step of a run keeps the order in which segments are sent for the first time.
-use Rattle.std.proofs.Common.{◌≡◌, ◌≢◌, ℕ, zero, suc, ◌+◌, ◌==◌, ◌<◌, ◌≤◌, Bool, true, false, List, [], ◌∷◌, ◌++◌, length, length-append, take, drop, Some, None, inl, inr, refl, sym, ap, ◌∙◌, subst, arith, ne_eqb}
+use Rattle.std.proofs.Common.{◌≡◌, ℕ, zero, suc, ◌+◌, ◌==◌, ◌<◌, ◌≤◌, Bool, true, false, List, [], ◌∷◌, ◌++◌, length, length-append, take, drop, Some, None, inl, inr, refl, sym, ap, ◌∙◌, subst, arith, ne_eqb}
 use Rattle.std.specs.Prelude.{◌-◌, ◌⊎◌, ◌↔◌, ◌&&◌, IfSome, Option, is_none, option_and_then, slice_get, nat_le, if◌then◌else◌}
 use Rattle.std.specs.List.{list_all}
 use mathlib.Core.Logic.{dite}
@@ -26,7 +26,7 @@ use Rattle.sms_worker.specs.declared.texts.Kept.{Kept}
 use Rattle.sms_worker.specs.declared.texts.Link.{Link}
 use Rattle.sms_worker.specs.Apart.{IsAttempt}
 use Rattle.sms_worker.specs.Begins.{ready}
-use Rattle.sms_worker.specs.Ends.{segment_at, segments_in, put, total, uses}
+use Rattle.sms_worker.specs.Ends.{segment_at, segments_in, put, uses}
 use Rattle.sms_worker.specs.Queues.{first_in}
 use Rattle.sms_worker.specs.Rising.{AreSent, HasTurn, InOrder, IsNext, LeadsToSent, WasSent}
 use Rattle.sms_worker.specs.Steps.{Answers, Opens, Tries}
@@ -203,7 +203,7 @@ order_tried rules m part before now after ms es es' place s s' tried next os os'
         let now_sent = sent n octets drawn more s.attempts refl in
         order_open (put es k p s') next os os' qs texts (one_more n octets more o' added its now_sent.opens) now_sent
     done (Later held) h same = subst (λ l. InOrder (put es k p s') next l qs texts) (sym same) (order_put es k p s s' at next os qs texts (same_attempts s s' h.1) o)
-    done Never h same = subst (λ l. InOrder (put es k p s') next l qs texts) (sym same) (order_put es k p s s' at next os qs texts (same_attempts s s' h.1) o)
+    done (Never why) h same = subst (λ l. InOrder (put es k p s') next l qs texts) (sym same) (order_put es k p s s' at next os qs texts (same_attempts s s' h.1) o)
 
 -- one segment end changed as its attempts stayed, and the list is this one
 pub order_kept : (es es' : List MessageEnd) (k p : ℕ) (s s' : SegmentEnd) (next : ℕ) (os : List Open) (qs : List Queue) (texts : List TextsState) → segment_at es k p ≡ Some s → s'.attempts ≡ s.attempts → es' ≡ put es k p s' → InOrder es next os qs texts → InOrder es' next os qs texts

@@ -1,12 +1,12 @@
 -- What the steps on one segment end do.
-use Rattle.std.specs.Prelude.{◌≡◌, ℕ, ◌⊎◌, List, [], ◌∷◌, ◌++◌, length, Option, Some, None}
+use Rattle.std.specs.Prelude.{◌≡◌, ℕ, ◌+◌, ◌≤◌, ◌⊎◌, List, [], ◌∷◌, ◌++◌, ◌-◌, length, slice_get, Option, Some, None, Result, Ok, Err}
 use Rattle.sms_pdu.specs.declared.reply.Reply.{Reply}
 use Rattle.sms_segment.specs.declared.part.Part.{Part}
 use Rattle.sms_session.specs.declared.policy.Decision.{Decision}
 use Rattle.sms_session.specs.declared.policy.Decision.TheVariants.{Charge, RetryAfter, Refuse}
 use Rattle.sms_window.specs.declared.view.View.{View}
 use Rattle.sms_window.specs.Drawing.{HasDrawn}
-use Rattle.sms_window.specs.Seats.{used_up}
+use Rattle.sms_window.specs.Seats.{met_with, used_up}
 use Rattle.sms_book.specs.Shares.{Share, changed}
 use Rattle.sms_book.specs.Money.{moved_amounts}
 use Rattle.sms_book.specs.declared.money.Move.{Move}
@@ -21,10 +21,18 @@ use Rattle.sms_worker.specs.declared.attempt.Tried.{Tried}
 use Rattle.sms_worker.specs.declared.attempt.Tried.TheVariants.{Sent, Later, Never}
 use Rattle.sms_worker.specs.declared.attempt.Number.{Number}
 use Rattle.sms_worker.specs.declared.attempt.Number.TheVariants.{Drawn, UsedUp, Contended}
+use Rattle.sms_worker.specs.declared.denied.Denied.{Denied}
+use Rattle.sms_worker.specs.declared.denied.Denied.TheVariants as denied
+use Rattle.sms_worker.specs.declared.denied.Denied.TheVariants.{Over, Memory, Line}
+use Rattle.sms_worker.specs.declared.denied.NotHanded.{NotHanded}
+use Rattle.sms_worker.specs.declared.denied.NotHanded.TheVariants.{Broken, Busy}
 use Rattle.sms_worker.specs.declared.held.Drawing.{Drawing}
 use Rattle.sms_worker.specs.declared.held.Drawing.TheVariants as drawing
+use Rattle.sms_worker.specs.declared.held.Held.{Held}
+use Rattle.sms_worker.specs.declared.held.Held.TheVariants.{Gate, Window, Numbers}
 use Rattle.sms_worker.specs.declared.open.Open.{Open}
 use Rattle.sms_worker.specs.declared.open.SegmentPlace.{SegmentPlace}
+use Rattle.sms_worker.specs.Limits.{most_draws}
 use Rattle.sms_worker.specs.Submits.{SpellsSubmit}
 use Rattle.sms_worker.specs.declared.ends.MessageEnd.{MessageEnd}
 use Rattle.sms_worker.specs.Ends.{segment_at, put}
@@ -39,6 +47,14 @@ pub record Hears (old : SegmentEnd) (reply : Reply) (new : SegmentEnd) : Type 0 
   pub silent : last.reply ≡ None
   pub open_yet : old.outcome ≡ Unanswered
   pub after : new ≡ record old { attempts = front ++ record last { reply = Some reply } ∷ [] }
+
+-- the last attempt waits for the answer with this reply's number
+abbrev pub Expects : SegmentEnd → Reply → Type 0
+Expects s reply = (a : Attempt) × (slice_get s.attempts (length s.attempts - 1) ≡ Some a) × (a.number ≡ reply.number) × (a.reply ≡ None)
+
+-- that of the segment at the place does
+abbrev pub ExpectsAt : List MessageEnd → SegmentPlace → Reply → Type 0
+ExpectsAt es place reply = (s : SegmentEnd) × (segment_at es place.message place.part ≡ Some s) × Expects s reply
 
 -- what the segment's outcome then has to be
 abbrev pub outcome_after : Decision → Outcome
@@ -69,22 +85,47 @@ Draws v Contended w = HasDrawn v [] w
 
 abbrev pub number_of : Drawing → Number
 number_of (drawing.Drawn n) = Drawn n
-number_of drawing.UsedUp = UsedUp
+number_of (drawing.UsedUp _) = UsedUp
 number_of (drawing.Contended _) = Contended
 
--- what a try to send does to the seat and to the list of attempts; a segment is given up once a number was drawn, or where all
--- are used up
+-- what kept a segment from being sent now: the gate, for which nothing was done; or the word in which a slot was looked for;
+-- or that in each try to draw a number another seat had drawn one
+abbrev pub HoldsBack : Held → View → View → Type 0
+HoldsBack (Gate told) v w = w ≡ v
+HoldsBack (Window told) v w = w ≡ met_with v told.found
+HoldsBack (Numbers told) v w = v.seen + most_draws ≤ w.seen
+
+-- the number of a frame that wasn't handed to the wire
+abbrev pub number_unsent : NotHanded → ℕ
+number_unsent (Broken told) = told.number
+number_unsent (Busy told) = told.number
+
+-- a frame wasn't handed to the wire since the wire was broken
+abbrev pub MetBroken : {X : Type 0} → Result X NotHanded → Type 0
+MetBroken (Ok x) = ⊥
+MetBroken (Err (Broken told)) = Unit {0}
+MetBroken (Err (Busy told)) = ⊥
+
+-- why a segment is given up that waits to be sent: all numbers are used up; or this one was drawn for it, and not sent
+abbrev pub IsDenied : Denied → View → View → Type 0
+IsDenied Over v w = ⊥
+IsDenied (denied.Numbers all) v w = HasDrawn v [] w × (w.seen ≡ used_up)
+IsDenied (Memory told) v w = HasDrawn v (told.number ∷ []) w
+IsDenied (denied.Gate told) v w = HasDrawn v (told.number ∷ []) w
+IsDenied (Line told) v w = HasDrawn v (number_unsent told ∷ []) w
+
+-- what a try to send does to the seat and to the list of attempts
 abbrev pub Tries : Rules → Message → Part → View → List Attempt → Tried → View → List Attempt → Type 0
 Tries rules m part v old (Sent n) w new =
     HasDrawn v (n ∷ []) w × ((octets : List ℕ) × (new ≡ old ++ record { number = n; sent = octets; reply = None } ∷ []) × SpellsSubmit rules m part n octets)
-Tries rules m part v old (Later held) w new = HasDrawn v [] w × (new ≡ old)
-Tries rules m part v old Never w new = ((HasDrawn v [] w × (w.seen ≡ used_up)) ⊎ ((n : ℕ) × HasDrawn v (n ∷ []) w)) × (new ≡ old)
+Tries rules m part v old (Later held) w new = (HasDrawn v [] w × HoldsBack held v w) × (new ≡ old)
+Tries rules m part v old (Never why) w new = IsDenied why v w × (new ≡ old)
 
 -- the request that was sent is open, behind the others
 abbrev pub Opens : Tried → SegmentPlace → List Open → List Open → Type 0
 Opens (Sent n) place old new = (o : Open) × (new ≡ old ++ o ∷ []) × (o.number ≡ n) × (o.place ≡ place)
 Opens (Later held) place old new = new ≡ old
-Opens Never place old new = new ≡ old
+Opens (Never why) place old new = new ≡ old
 
 -- where the credits go that were reserved for a segment; without an answer they stay reserved
 abbrev pub move_of : Outcome → Option Move

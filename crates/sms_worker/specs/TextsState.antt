@@ -56,6 +56,10 @@ relinked texts place link = changed (with_link place.part link) texts place.mess
 abbrev pub kept_at : List TextsState → SegmentPlace → Option Kept
 kept_at texts place = option_and_then (λ t. slice_get t.kept place.part) (slice_get texts place.message)
 
+-- what its short message carries, if that is kept
+abbrev pub carried_at : List TextsState → SegmentPlace → Option UserData
+carried_at texts place = option_and_then (λ t. slice_get (carried t) place.part) (slice_get texts place.message)
+
 abbrev pub link_of : Option Kept → Link
 link_of None = no_link
 link_of (Some kept) = kept.link

@@ -2,6 +2,8 @@
 use Rattle.std.specs.Prelude.{◌≡◌, ℕ, zero, suc, ◌+◌, ◌-◌, ◌^◌, ◌≤◌, ◌⊎◌, Bool, IsTrue, true, false, List, [], ◌∷◌, ◌++◌, length, None, Some, min}
 use Rattle.sms_worker.specs.declared.attempt.Tried.{Tried}
 use Rattle.sms_worker.specs.declared.attempt.Tried.TheVariants.{Sent, Later, Never}
+use Rattle.sms_worker.specs.declared.denied.Denied.{Denied}
+use Rattle.sms_worker.specs.declared.denied.Denied.TheVariants.{Over, Numbers, Memory, Gate, Line}
 use Rattle.sms_worker.specs.declared.ends.MessageEnd.{MessageEnd}
 use Rattle.sms_worker.specs.declared.ends.SegmentEnd.{SegmentEnd}
 use Rattle.sms_worker.specs.declared.open.Open.{Open}
@@ -16,7 +18,8 @@ use Rattle.sms_worker.specs.Rising.{HasNext, IsNext, IsThere}
 use Rattle.sms_worker.specs.RunState.{RunState}
 use Rattle.sms_worker.specs.Start.{Start}
 use Rattle.sms_worker.specs.Sweeps.{SweptAt}
-use Rattle.sms_worker.specs.TextsState.{LeavesTexts}
+use Rattle.sms_worker.specs.TextsState.{LeavesTexts, carried_at}
+use Rattle.sms_worker.specs.Told.{IsSettled}
 
 -- the segment at the place was sent with this number, and nothing else changed
 pub record SentAt (n : ℕ) (place : SegmentPlace) (old new : List MessageEnd) : Type 0 where
@@ -25,11 +28,23 @@ pub record SentAt (n : ℕ) (place : SegmentPlace) (old new : List MessageEnd) :
   pub octets : List ℕ
   pub now : new ≡ put old place.message place.part (record segment { attempts = segment.attempts ++ record { number = n; sent = octets; reply = None } ∷ [] })
 
+-- nothing of the segment is to be sent: what it carries isn't kept, or there is no such segment, or it is settled
+abbrev pub IsOver : ℕ → SegmentPlace → RunState → Type 0
+IsOver most place run = (carried_at run.texts place ≡ None) ⊎ (segment_at run.ends place.message place.part ≡ None) ⊎ ((s : SegmentEnd) × (segment_at run.ends place.message place.part ≡ Some s) × IsSettled most s)
+
+-- a segment that is given up without a try is one of which nothing is to be sent
+abbrev pub IsGivenUp : ℕ → Denied → SegmentPlace → RunState → Type 0
+IsGivenUp most Over place run = IsOver most place run
+IsGivenUp most (Numbers all) place run = Unit {0}
+IsGivenUp most (Memory told) place run = Unit {0}
+IsGivenUp most (Gate told) place run = Unit {0}
+IsGivenUp most (Line told) place run = Unit {0}
+
 -- a try to send the segment: it was sent, and its request is open behind the others; else all is as it was
-abbrev pub IsTry : Tried → SegmentPlace → RunState → RunState → Type 0
-IsTry (Sent n) place old new = SentAt n place old.ends new.ends × ((o : Open) × (o.number ≡ n) × (o.place ≡ place) × (new ≡ record old { ends = new.ends; opened = old.opened ++ o ∷ [] }))
-IsTry (Later held) place old new = new ≡ old
-IsTry Never place old new = new ≡ old
+abbrev pub IsTry : ℕ → Tried → SegmentPlace → RunState → RunState → Type 0
+IsTry most (Sent n) place old new = SentAt n place old.ends new.ends × ((o : Open) × (o.number ≡ n) × (o.place ≡ place) × (new ≡ record old { ends = new.ends; opened = old.opened ++ o ∷ [] }))
+IsTry most (Later held) place old new = new ≡ old
+IsTry most (Never why) place old new = (new ≡ old) × IsGivenUp most why place old
 
 -- the segment was sent, or given up
 abbrev pub IsTried : ℕ → SegmentPlace → List MessageEnd → List MessageEnd → Type 0

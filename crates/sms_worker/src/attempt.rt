@@ -1,6 +1,6 @@
 //! One attempt: a slot, a number, a frame, the gate, and the wire.
 
-ghost use Rattle.std.specs.Prelude.{◌≡◌, ℕ, ◌+◌, ◌<◌, ◌≤◌, ◌⊎◌, List, max, true, false, Some, None, vec_len, vec_capacity, IfSome, IfOk, IsTrue};
+ghost use Rattle.std.specs.Prelude.{◌≡◌, ℕ, ◌+◌, ◌<◌, ◌≤◌, ◌↔◌, List, true, false, Ok, vec_len, vec_capacity, IfErr, IfOk, OnErr};
 ghost use Rattle.std.specs.Io.KnownBytes.{Appends};
 ghost use Rattle.sms_pdu.specs.Faults.{Counts};
 ghost use Rattle.sms_bind.specs.Wires.{writer, write_faults, is_broken};
@@ -11,12 +11,18 @@ ghost use Rattle.sms_window.specs.OpenSlots.{IsOpen};
 ghost use Rattle.sms_window.specs.Seats.{used_up};
 ghost use Rattle.sms_worker.specs.Keeps.{slots_of};
 ghost use Rattle.sms_worker.specs.Submits.{HasAddresses, SpellsSubmit};
-ghost use Rattle.sms_worker.specs.Steps.{Tries, Draws, Opens};
-ghost use Rattle.sms_worker.specs.declared.attempt.Number.TheVariants.{UsedUp};
+ghost use Rattle.sms_worker.specs.Limits.{most_draws};
+ghost use Rattle.sms_worker.specs.Steps.{Tries, Draws, MetBroken, Opens, number_unsent};
+ghost use Rattle.sms_worker.specs.declared.attempt.Number.TheVariants.{Contended, UsedUp};
+ghost use Rattle.sms_worker.specs.declared.attempt.Tried.TheVariants.{Later};
+ghost use Rattle.sms_worker.specs.declared.held.Held.{Held};
+ghost use Rattle.sms_worker.specs.declared.held.Held.TheVariants.{Numbers};
+ghost use Rattle.sms_worker.specs.declared.held.NoNumber.{NoNumber};
 ghost use Rattle.sms_worker.specs.UserData.{user_data};
 
 use crate::address::{good_destination, good_source};
 use crate::context::WorkerContext;
+use crate::denied::{Denied, NoMemory, NotHanded, frame_of, make_room, pass, post, sound};
 use crate::devices::{Clock, Gate};
 use crate::ends::Attempt;
 use crate::held::{Drawing, Held, claim, draw_one, not_ready};
@@ -27,7 +33,7 @@ use crate::rules::Rules;
 use crate::user_data::UserData;
 use sms_bind::{Receipt, Wire, WireFault};
 use sms_book::BookName;
-use sms_pdu::{BodyRef, Frame, PduRef, SmRef, encode_into};
+use sms_pdu::{BodyRef, Frame, PduRef, SmRef};
 use sms_slot::SlotRow;
 use sms_window::{Draw, Window, WindowSeat};
 use std::alloc::Global;
@@ -41,8 +47,8 @@ pub enum Tried {
     Sent(u32),
     /// It may be tried in the next turn. This keeps it from being sent now.
     Later(Held),
-    /// It has to be given up.
-    Never,
+    /// It has to be given up, for this reason.
+    Never(Denied),
 }
 
 /// What came of draws.
@@ -65,6 +71,7 @@ pub fn draw(window: &Window, seat: &mut WindowSeat) -> Number
     ensures slots { seat.new.view.slots ≡ seat.old.view.slots }
     ensures drawn { Draws seat.old.view result seat.new.view }
     ensures used_up { result ≡ UsedUp → seat.new.view.seen ≡ used_up }
+    ensures contended { result ≡ Contended → seat.old.view.seen + most_draws ≤ seat.new.view.seen }
 {
     for _ in 0..DRAWS {
         match window.try_draw(seat) {
@@ -77,16 +84,17 @@ pub fn draw(window: &Window, seat: &mut WindowSeat) -> Number
 }
 
 /// The frame of the submit_sm with this number, of the part with this user data, for a message whose
-/// addresses are good; none where memory runs out.
+/// addresses are good.
 fn frame_for(
     alloc: Global,
     rules: &Rules,
     message: &Message,
     carried: &UserData,
     number: u32,
-) -> Option<Frame>
+) -> Result<Frame, NoMemory>
     requires { HasAddresses message.now }
-    ensures { (part : Part) → carried.now ≡ user_data part → IfSome result (λ frame. SpellsSubmit rules.now message.now part number frame) }
+    ensures spelled { (part : Part) → carried.now ≡ user_data part → IfOk result (λ frame. SpellsSubmit rules.now message.now part number frame) }
+    ensures number { IfErr result (λ no. no.number ≡ number) }
 {
     let from = good_source(message.source.as_str());
     let to = good_destination(message.dest.as_str());
@@ -115,15 +123,11 @@ fn frame_for(
         number,
         body: BodyRef::Submit(sm),
     };
-    let mut octets = Vec::new(alloc);
-    match encode_into(&mut octets, &pdu) {
-        Ok(_) => Some(Frame::new(octets)),
-        Err(_) => None,
-    }
+    frame_of(alloc, &pdu)
 }
 
-/// Posts the number in the slot and hands the frame to the wire. None where the wire is broken or the slot
-/// isn't empty: then nothing is written.
+/// Posts the number in the slot and hands the frame to the wire. Where the wire is broken or the slot isn't
+/// empty nothing is written.
 fn hand_on<W: Write, R: Wait>(
     rt: &R,
     wire: &mut Wire<W>,
@@ -132,37 +136,41 @@ fn hand_on<W: Write, R: Wait>(
     place: usize,
     number: u32,
     frame: Frame,
-) -> Option<Receipt>
+) -> Result<Receipt, NotHanded>
     requires slot { slot < most_slots }
-    ensures receipt { IfSome result (λ r. r ≡ frame) }
-    ensures broken { is_broken wire.old ≡ true → result ≡ None }
-    ensures unsent { result ≡ None → wire.new ≡ wire.old }
-    ensures sent { (r : List ℕ) → result ≡ Some r → is_broken wire.new ≡ false → Appends (W.contents (writer wire.old)) (W.contents (writer wire.new)) frame }
-    ensures failed { (r : List ℕ) → result ≡ Some r → is_broken wire.new ≡ true → SomeAppended (W.contents (writer wire.old)) (W.contents (writer wire.new)) frame × Counts (write_faults wire.old) (write_faults wire.new) }
+    ensures receipt { IfOk result (λ r. r ≡ frame) }
+    ensures broken { MetBroken result ↔ (is_broken wire.old ≡ true) }
+    ensures number { IfErr result (λ no. number_unsent no ≡ number) }
+    ensures unsent { OnErr result (wire.new ≡ wire.old) }
+    ensures sent { (r : List ℕ) → result ≡ Ok r → is_broken wire.new ≡ false → Appends (W.contents (writer wire.old)) (W.contents (writer wire.new)) frame }
+    ensures failed { (r : List ℕ) → result ≡ Ok r → is_broken wire.new ≡ true → SomeAppended (W.contents (writer wire.old)) (W.contents (writer wire.new)) frame × Counts (write_faults wire.old) (write_faults wire.new) }
 {
-    if wire.broken() {
-        return None;
+    match sound(wire, number) {
+        Ok(()) => {}
+        Err(no) => return Err(NotHanded::Broken(no)),
     }
-    if slots.post(rt, slot, place, number).is_err() {
-        return None;
+    match post(rt, slots, slot, place, number) {
+        Ok(()) => {}
+        Err(no) => return Err(NotHanded::Busy(no)),
     }
     match wire.send(frame) {
-        Ok(receipt) => Some(receipt),
-        Err(WireFault::Write(receipt)) => Some(receipt),
+        Ok(receipt) => Ok(receipt),
+        Err(WireFault::Write(receipt)) => Ok(receipt),
         Err(WireFault::Broken) => unreachable!(),
     }
 }
 
 /// Posts the number in the slot and sends the frame, in one holding of the wire's lock. A write that
-/// fails marks the line down. None where nothing was sent.
+/// fails marks the line down.
 fn post_and_send<N: BookName, W: Write, G: Gate, K: Clock, R: Wait>(
     context: &WorkerContext<N, W, G, K, R>,
     slot: u32,
     number: u32,
     frame: Frame,
-) -> Option<Receipt>
+) -> Result<Receipt, NotHanded>
     requires slot { slot < most_slots }
-    ensures { IfSome result (λ r. r ≡ frame) }
+    ensures receipt { IfOk result (λ r. r ≡ frame) }
+    ensures number { IfErr result (λ no. number_unsent no ≡ number) }
 {
     let mut wire = context.line.wire.lock(context.rt);
     let handed = hand_on(
@@ -174,20 +182,10 @@ fn post_and_send<N: BookName, W: Write, G: Gate, K: Clock, R: Wait>(
         number,
         frame,
     );
-    if handed.is_some() && wire.broken() {
+    if handed.is_ok() && wire.broken() {
         drop(context.line.down.write_failed(context.rt, &*wire));
     }
     handed
-}
-
-/// Makes room for one attempt more in a list, and for no other: most segments are sent once.
-fn make_room(attempts: &mut Vec<Attempt>) -> bool
-    ensures same { attempts.new.items ≡ attempts.old.items }
-    ensures room { IsTrue result → vec_len attempts.new < vec_capacity attempts.new }
-    ensures no_more { vec_capacity attempts.new ≤ max (vec_capacity attempts.old) (vec_len attempts.old + 1) }
-    ensures there { vec_len attempts.old < vec_capacity attempts.old → IsTrue result }
-{
-    attempts.reserve_exact(1).is_ok()
 }
 
 /// Sends the part with this user data through a slot that is claimed, and lists the attempt.
@@ -205,31 +203,36 @@ fn try_send<N: BookName, W: Write, G: Gate, K: Clock, R: Wait>(
     requires addresses { HasAddresses message.now }
     ensures window { seat.new.window ≡ seat.old.window }
     ensures slots { seat.new.view.slots ≡ seat.old.view.slots }
+    ensures later { (held : Held) → result ≡ Later held → (told : NoNumber) × (held ≡ Numbers told) }
     ensures tried { (part : Part) → carried.now ≡ user_data part → Tries context.now.rules.now message.now part seat.old.view attempts.old.items result seat.new.view attempts.new.items }
 {
     let number = match draw_one(context.window, seat) {
         Drawing::Drawn(number) => number,
-        Drawing::UsedUp => return Tried::Never,
+        Drawing::UsedUp(all) => return Tried::Never(Denied::Numbers(all)),
         Drawing::Contended(no) => return Tried::Later(Held::Numbers(no)),
     };
-    let Some(frame) = frame_for(context.alloc, context.rules, message, carried, number) else {
-        return Tried::Never;
+    let frame = match frame_for(context.alloc, context.rules, message, carried, number) {
+        Ok(frame) => frame,
+        Err(no) => return Tried::Never(Denied::Memory(no)),
     };
-    if !make_room(attempts) {
-        return Tried::Never;
+    if let Err(no) = make_room(attempts, number) {
+        return Tried::Never(Denied::Memory(no));
     }
-    if !context.gate.pass(context.worker, number) {
-        return Tried::Never;
+    if let Err(no) = pass(
+        context.gate,
+        context.worker,
+        number,
+        message.index,
+        place.part,
+    ) {
+        return Tried::Never(Denied::Gate(no));
     }
-    if !context
-        .gate
-        .sending(context.worker, number, message.index, place.part)
-    {
-        return Tried::Never;
-    }
-    let Some(sent) = post_and_send(context, slot, number, frame) else {
-        context.gate.unsent(context.worker, number);
-        return Tried::Never;
+    let sent = match post_and_send(context, slot, number, frame) {
+        Ok(sent) => sent,
+        Err(no) => {
+            context.gate.unsent(context.worker, number);
+            return Tried::Never(Denied::Line(no));
+        }
     };
     attempts.push_reserved(Attempt {
         number,
@@ -281,7 +284,7 @@ pub(crate) fn start<N: BookName, W: Write, G: Gate, K: Clock, R: Wait>(
             context.window.release(seat, slot);
             tried
         }
-        Tried::Never => {
+        Tried::Never(_) => {
             context.window.release(seat, slot);
             tried
         }

@@ -16,7 +16,7 @@ use crate::run::Run;
 use rtrb::Consumer;
 use sms_book::BookName;
 use sms_pdu::Reply;
-use sms_slot::Taken;
+use sms_slot::NotAnswered;
 use std::snapshot::Snapshot;
 use std::sync::Wait;
 
@@ -29,11 +29,22 @@ fn find(opened: &[Open], number: u32) -> Option<usize>
     opened.iter().position(|open| open.number == number)
 }
 
+/// Why no open request took a reply.
+#[derive(Clone, Copy, Debug, PartialEq, Eq)]
+pub enum Dropped {
+    /// None has its number.
+    NoneOpen,
+    /// The slot of the first that has its number was asked, and had no answer to it.
+    NotAnswered(NotAnswered),
+    /// The last attempt of that one's segment doesn't wait for it.
+    NotAwaited,
+}
+
 /// What came of a reply.
 #[derive(Clone, Copy, Debug, PartialEq, Eq)]
 pub enum Brought {
-    /// No open request took it.
-    Dropped,
+    /// No open request took it, for this reason.
+    Dropped(Dropped),
     /// Its segment is settled.
     Settled,
     /// Its segment is to be sent again, so long after this time as was decided.
@@ -66,11 +77,15 @@ impl<N: BookName, C: Call> Run<'_, N, C> {
         ensures brought { IsBrought C.start.rules reply result self.old self.new }
     {
         let Some(i) = find(self.opened.as_slice(), reply.number) else {
-            return Brought::Dropped;
+            return Brought::Dropped(Dropped::NoneOpen);
         };
         let open = self.opened[i];
-        if context.line.slots.take(context.rt, open.slot, open.number) != Taken::Got {
-            return Brought::Dropped;
+        if let Err(no) = context
+            .line
+            .slots
+            .take_answer(context.rt, open.slot, open.number)
+        {
+            return Brought::Dropped(Dropped::NotAnswered(no));
         }
         context.gate.heard(context.worker, &reply);
         self.close(context, i);
@@ -82,7 +97,7 @@ impl<N: BookName, C: Call> Run<'_, N, C> {
                     None => Brought::Settled,
                 }
             }
-            None => Brought::Dropped,
+            None => Brought::Dropped(Dropped::NotAwaited),
         }
     }
 

@@ -1,14 +1,19 @@
 //! Why a segment whose turn it is isn't sent now. Each reason is had from what was asked alone, so that
 //! none is made up.
 
-ghost use Rattle.std.specs.Prelude.{◌≡◌, IfErr, IfOk, IfSome};
+ghost use Rattle.std.specs.Prelude.{◌≡◌, ◌+◌, ◌≤◌, IfErr, IfOk, IfSome};
 ghost use Rattle.sms_window.specs.Outcome.{GotSlot};
 ghost use Rattle.sms_window.specs.Seats.{met_with, used_up};
 ghost use Rattle.sms_worker.specs.Steps.{Draws, number_of};
-ghost use Rattle.sms_worker.specs.declared.held.Drawing.TheVariants.{UsedUp};
+ghost use Rattle.sms_core.specs.Limits.{top_number};
+ghost use Rattle.sms_worker.specs.Limits.{most_draws};
+ghost use Rattle.sms_worker.specs.declared.held.AllDrawn.{AllDrawn};
+ghost use Rattle.sms_worker.specs.declared.held.NoNumber.{NoNumber};
+ghost use Rattle.sms_worker.specs.declared.held.Drawing.TheVariants.{Contended, UsedUp};
 
 use crate::attempt::{DRAWS, Number, draw};
 use crate::devices::Gate;
+use sms_core::TOP_NUMBER;
 use sms_window::{Claim, Window, WindowSeat};
 
 /// That the gate said not now to this worker. Only asking it gives one.
@@ -30,6 +35,12 @@ pub struct NoNumber {
     tries: u32,
 }
 
+/// That all numbers to this one, the last, are drawn. Only a draw gives one.
+#[derive(Clone, Copy, Debug, PartialEq, Eq)]
+pub struct AllDrawn {
+    last: u32,
+}
+
 /// Why a segment isn't sent now.
 #[derive(Clone, Copy, Debug, PartialEq, Eq)]
 pub enum Held {
@@ -46,7 +57,7 @@ pub enum Held {
 pub enum Drawing {
     Drawn(u32),
     /// The window has given all its numbers.
-    UsedUp,
+    UsedUp(AllDrawn),
     /// Each try met another seat's step.
     Contended(NoNumber),
 }
@@ -81,11 +92,12 @@ pub fn draw_one(window: &Window, seat: &mut WindowSeat) -> Drawing
     ensures window { seat.new.window ≡ seat.old.window }
     ensures slots { seat.new.view.slots ≡ seat.old.view.slots }
     ensures drawn { Draws seat.old.view (number_of result) seat.new.view }
-    ensures used_up { result ≡ UsedUp → seat.new.view.seen ≡ used_up }
+    ensures used_up { (all : AllDrawn) → result ≡ UsedUp all → (all.last ≡ top_number) × (seat.new.view.seen ≡ used_up) }
+    ensures contended { (no : NoNumber) → result ≡ Contended no → (no.tries ≡ most_draws) × (seat.old.view.seen + most_draws ≤ seat.new.view.seen) }
 {
     match draw(window, seat) {
         Number::Drawn(number) => Drawing::Drawn(number),
-        Number::UsedUp => Drawing::UsedUp,
+        Number::UsedUp => Drawing::UsedUp(AllDrawn { last: TOP_NUMBER }),
         Number::Contended => Drawing::Contended(NoNumber { tries: DRAWS }),
     }
 }

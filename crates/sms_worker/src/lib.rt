@@ -10,6 +10,7 @@ mod begin;
 mod call;
 mod closure;
 mod context;
+mod denied;
 mod devices;
 mod ends;
 mod expiry;

@@ -12,7 +12,7 @@ ghost use Rattle.sms_worker.specs.Ends.{segment_at};
 ghost use Rattle.sms_worker.specs.Expiry.{without_open};
 ghost use Rattle.sms_worker.specs.Queues.{WaitsLast, due_after, last_in};
 ghost use Rattle.sms_worker.specs.Rising.{HasTurn, WasSent};
-ghost use Rattle.sms_worker.specs.Steps.{SettlesTo, settled_to, outcome_after};
+ghost use Rattle.sms_worker.specs.Steps.{ExpectsAt, SettlesTo, settled_to, outcome_after};
 ghost use Rattle.sms_worker.specs.Sweeps.{SweptAt, InPlace};
 ghost use Rattle.sms_worker.specs.TextsState.{LeavesTexts, changed, settled_one};
 ghost use Rattle.sms_worker.specs.Told.{HeardSince, IsSettled};
@@ -22,6 +22,7 @@ use crate::attempt::{Tried, start};
 use crate::begin::begun;
 use crate::call::Call;
 use crate::context::WorkerContext;
+use crate::denied::Denied;
 use crate::devices::{Clock, Gate};
 use crate::ends::{Attempts, MessageEnd, MessageResult, Outcome, SegmentEnd};
 use crate::open::SegmentPlace;
@@ -199,6 +200,7 @@ impl<N: BookName, C: Call> Run<'_, N, C> {
         ensures settled { IfSome result (λ r. SettlesTo self.old.ends place r.0 r.1 self.new.ends) }
         ensures decided { IfSome result (λ r. r.1 ≡ decided reply r.0 C.start.rules.policy.attempts C.start.rules.policy.base_ms) }
         ensures none { result ≡ None → self.new.ends ≡ self.old.ends }
+        ensures unasked { result ≡ None → ¬ ExpectsAt self.old.ends place reply }
         ensures only { self.new ≡ record self.old { ends = self.new.ends } }
     {
         let message = &self.messages[place.message];
@@ -245,18 +247,18 @@ impl<N: BookName, C: Call> Run<'_, N, C> {
         requires turn { HasTurn self.old.ends self.old.next place }
         requires few { length self.old.opened < C.start.rules.depth }
         ensures heard { self.new.heard ≡ self.old.heard }
-        ensures tried { IsTry result place self.old self.new }
+        ensures tried { IsTry C.start.rules.policy.attempts result place self.old self.new }
     {
         let message = &self.messages[place.message];
         let Some(carried) = self.texts[place.message].part(place.part) else {
-            return Tried::Never;
+            return Tried::Never(Denied::Over);
         };
         let Some(segment) = take(context.alloc, &mut self.ends, place) else {
-            return Tried::Never;
+            return Tried::Never(Denied::Over);
         };
         if !is_waiting(&segment) {
             give(&mut self.ends, place, segment);
-            return Tried::Never;
+            return Tried::Never(Denied::Over);
         }
         let SegmentEnd {
             cost,

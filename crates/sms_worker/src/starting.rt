@@ -149,7 +149,7 @@ impl<N: BookName, C: Call> Run<'_, N, C> {
                 Started::One
             }
             Tried::Later(held) => Started::Nothing(Idle::Waits(held)),
-            Tried::Never => {
+            Tried::Never(_) => {
                 self.advance(source);
                 self.give_up(context, place);
                 Started::One

@@ -1,4 +1,4 @@
-use Rattle.std.proofs.Common.{◌≤◌, arith, rules}
+use Rattle.std.proofs.Common.{◌≤◌, rules}
 use Rattle.sms_worker.proofs.Rising.{order_on, order_popped}
 use Rattle.sms_worker.proofs.run.Run.advance.Goals as goal
 

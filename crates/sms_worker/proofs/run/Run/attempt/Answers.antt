@@ -1,4 +1,4 @@
-use Rattle.std.proofs.Common.{◌≡◌, ◌<◌, List, length, Some, sym, ap, ◌∙◌, refl, subst, rules, arith}
+use Rattle.std.proofs.Common.{◌≡◌, ◌<◌, List, length, Some, inr, sym, ap, ◌∙◌, refl, subst, rules, arith}
 use Rattle.std.specs.Prelude.{map, option_map, slice_get}
 use Rattle.std.proofs.lemmas.List.{length-map}
 use Rattle.std.proofs.lemmas.Option.{slice_get-get_or, slice_get-map}
@@ -6,6 +6,7 @@ use Rattle.sms_worker.specs.declared.ends.Attempt.{Attempt}
 use Rattle.sms_worker.specs.declared.ends.SegmentEnd.{SegmentEnd}
 use Rattle.sms_worker.specs.Steps.{Tries}
 use Rattle.sms_worker.specs.TextsState.{carried}
+use Rattle.sms_worker.specs.Turns.{IsOver}
 use Rattle.sms_worker.proofs.EndLemmas.{back_there, given_same, given_other}
 use Rattle.sms_worker.proofs.Keeping.{keeps_same, keeps_tried, part_there, told_there}
 use Rattle.sms_worker.specs.Rising.{HasTurn, InOrder}
@@ -91,7 +92,17 @@ invariant_of-self-2 g c =
 pub returns-then-not-is_waiting : goal.returns-then-not-is_waiting
 returns-then-not-is_waiting g c =
     let same = given_same c.self.inside.ends.items c.take.new.ends.items c.give.new.ends.items c.args.place.message c.args.place.part c.in-Some-take.segment c.in-Some-take.ensures.out c.give.ensures.now in
-    record { heard = ap (λ (x : RunState). x.heard) c.self.view_is; tried = as_it_was _ _ c.self.view_is c.give.new.ends.items same }
+    let i = c.self.invariant in
+    let turn = subst (λ (x : RunState). HasTurn x.ends x.next c.args.place) (sym c.self.view_is) c.requires.turn in
+    let low : c.args.place.message < length c.self.inside.messages.items = turn_message _ _ _ _ _ _ _ _ c.args.place i.keeps _ turn in
+    let there : slice_get c.self.inside.messages.items c.args.place.message ≡ Some c.index-message.result.now = slice_get-get_or c.self.inside.messages.items c.args.place.message c.index-message.result.now low ∙ ap Some (sym c.index-message.ensures) in
+    let at = c.in-Some-take.ensures.out.0 in
+    let told = told_there _ _ _ _ _ _ _ _ _ _ c.index-message.result.now c.in-Some-take.segment i.keeps there at in
+    let settled = c.is_waiting.ensures.settled g.C.Call.start.rules.policy.attempts told.state (search rules) in
+    record {
+      heard = ap (λ (x : RunState). x.heard) c.self.view_is;
+      tried = (as_it_was _ _ c.self.view_is c.give.new.ends.items same, subst (IsOver g.C.Call.start.rules.policy.attempts c.args.place) c.self.view_is (inr (inr (c.in-Some-take.segment, at, settled))));
+    }
 
 pub returns : goal.returns
 returns g c =
@@ -116,7 +127,7 @@ returns g c =
     (subst (λ (l : List Attempt). Tries c.args.context.now.rules.now c.index-message.result.now part.part c.self.inside.seat.view l c.start-tried.result c.start-tried.new.seat.view c.start-tried.new.attempts.items) was tries) in
     record {
       heard = ap (λ (x : RunState). x.heard) c.self.view_is;
-      tried = tried_so c.args.context.now.rules.now c.index-message.result.now part.part c.self.inside.seat.view c.start-tried.new.seat.view _ _ c.self.view_is c.give-2.new.ends.items c.start-tried.new.opened.items c.args.place s s' at is refl refl c.start-tried.result tried c.start-tried.ensures.opened;
+      tried = tried_so c.args.context.now.rules.now c.index-message.result.now part.part c.self.inside.seat.view c.start-tried.new.seat.view _ _ c.self.view_is c.give-2.new.ends.items c.start-tried.new.opened.items c.args.place s s' at is refl refl g.C.Call.start.rules.policy.attempts c.start-tried.result tried c.start-tried.ensures.opened;
     }
 
 pub start-tried-requires-clause-own : goal.start-tried-requires-clause-own

@@ -1,4 +1,4 @@
-use Rattle.std.proofs.Common.{◌≡◌, ◌<◌, List, length, Some, sym, ap, ◌∙◌, subst, rules}
+use Rattle.std.proofs.Common.{◌≡◌, ◌<◌, List, length, Some, sym, ap, ◌∙◌, refl, subst, rules}
 use Rattle.std.specs.Prelude.{◌==◌, position, slice_get}
 use Rattle.std.proofs.lemmas.Option.{slice_get-get_or}
 use Rattle.sms_window.proofs.OpenSlots.{one_less_at}
@@ -8,11 +8,11 @@ use Rattle.sms_worker.specs.Rising.{WasSent}
 use Rattle.sms_worker.specs.RunState.{RunState}
 use Rattle.sms_worker.specs.Told.{HeardSince}
 use Rattle.sms_worker.proofs.Finding.{newly_waits}
-use Rattle.sms_worker.proofs.Hearing.{retried, settled}
+use Rattle.sms_worker.proofs.Hearing.{dropped_at, retried, settled, unanswered_at}
 use Rattle.sms_worker.proofs.run.Run.bring.Goals as goal
 
-pub take-requires : goal.take-requires
-take-requires g c =
+pub take_answer-requires : goal.take_answer-requires
+take_answer-requires g c =
     let opened = c.self.inside.opened.items in
     let low : c.in-Some.i < length opened = search rules in
     let at : slice_get opened (c.in-Some.i) ≡ Some c.index-open.result.now = slice_get-get_or opened (c.in-Some.i) c.index-open.result.now low ∙ ap Some (sym c.index-open.ensures) in
@@ -63,3 +63,22 @@ returns-in-None-follow-clause-brought g c =
     let over = c.follow.ensures.over (search rules) in
     settled g.C.Call.start.rules c.args.reply c.args.self.now c.close.new.self c.settle_answer.new.self c.in-Some.i c.close.ensures.only c.settle_answer.ensures.only c.follow.new.self c.index-open.result.now _ _
     (subst (λ (x : RunState). position (λ o. o.number == c.args.reply.number) x.opened ≡ Some c.in-Some.i) c.self.view_is found) there c.in-Some-settle_answer.ensures.settled c.in-Some-settle_answer.ensures.decided c.follow.ensures.same.1 c.follow.ensures.opened over (c.follow.ensures.settled over)
+
+pub returns-in-Err-clause-brought : goal.returns-in-Err-clause-brought
+returns-in-Err-clause-brought g c =
+    let opened = c.self.inside.opened.items in
+    let low : c.in-Some.i < length opened = search rules in
+    let at : slice_get opened (c.in-Some.i) ≡ Some c.index-open.result.now = slice_get-get_or opened (c.in-Some.i) c.index-open.result.now low ∙ ap Some (sym c.index-open.ensures) in
+    let there = subst (λ (x : RunState). slice_get x.opened c.in-Some.i ≡ Some c.index-open.result.now) c.self.view_is at in
+    let found : position (λ o. o.number == c.args.reply.number) opened ≡ Some c.in-Some.i = search rules in
+    unanswered_at c.args.reply c.in-Err.no c.args.self.now c.in-Some.i c.index-open.result.now (subst (λ (x : RunState). position (λ o. o.number == c.args.reply.number) x.opened ≡ Some c.in-Some.i) c.self.view_is found) there c.in-Err.ensures.none
+
+pub returns-in-None-clause-brought : goal.returns-in-None-clause-brought
+returns-in-None-clause-brought g c =
+    let opened = c.self.inside.opened.items in
+    let low : c.in-Some.i < length opened = search rules in
+    let at : slice_get opened (c.in-Some.i) ≡ Some c.index-open.result.now = slice_get-get_or opened (c.in-Some.i) c.index-open.result.now low ∙ ap Some (sym c.index-open.ensures) in
+    let there = subst (λ (x : RunState). slice_get x.opened c.in-Some.i ≡ Some c.index-open.result.now) c.self.view_is at in
+    let found : position (λ o. o.number == c.args.reply.number) opened ≡ Some c.in-Some.i = search rules in
+    dropped_at c.args.reply c.args.self.now c.close.new.self c.settle_answer.new.self c.in-Some.i c.index-open.result.now (subst (λ (x : RunState). position (λ o. o.number == c.args.reply.number) x.opened ≡ Some c.in-Some.i) c.self.view_is found) there c.close.ensures.only c.settle_answer.ensures.only
+    (c.in-None.ensures.none refl) (c.in-None.ensures.unasked refl)

@@ -1,4 +1,4 @@
-use Rattle.std.proofs.Common.{◌<◌, ◌≤◌, length, ap, rules, arith}
+use Rattle.std.proofs.Common.{◌<◌, length, ap, rules, arith}
 use Rattle.std.specs.Prelude.{◌-◌}
 use Rattle.sms_worker.specs.RunState.{RunState}
 use Rattle.sms_worker.proofs.Finding.{counted_there}

@@ -7,11 +7,12 @@ use Rattle.sms_worker.specs.Steps.{settled_to, outcome_after, Answers}
 use Rattle.sms_worker.specs.Told.{IsSettled, IsWaiting, HeardSince}
 use Rattle.sms_worker.specs.Rising.{InOrder, WasSent}
 use Rattle.sms_worker.specs.RunState.{RunState}
-use Rattle.sms_worker.specs.Ends.{put}
+use Rattle.sms_worker.specs.Ends.{put, segment_at}
 use Rattle.sms_worker.proofs.EndLemmas.{back_there, given_same, given_other}
 use Rattle.sms_worker.proofs.Keeping.{keeps_same, keeps_answered, told_there, fits_there}
 use Rattle.sms_worker.specs.Closing.{Closes}
 use Rattle.sms_worker.proofs.Closing.{closes_put}
+use Rattle.sms_worker.proofs.Hearing.{not_expected_at}
 use Rattle.sms_worker.proofs.Credit.{credit_same, credit_settled}
 use Rattle.sms_worker.proofs.Placed.{sent_message}
 use Rattle.sms_worker.proofs.Rising.{order_heard, sent_now}
@@ -103,7 +104,8 @@ invariant_of-self-2 g c =
 pub returns-in-None : goal.returns-in-None
 returns-in-None g c =
     let same = given_same c.self.inside.ends.items c.take.new.ends.items c.give.new.ends.items c.args.place.message c.args.place.part c.in-Some.segment c.in-Some.ensures.out (c.give.ensures.now ∙ ap (put c.take.new.ends.items c.args.place.message c.args.place.part) (let e : c.answer-segment.result.0 ≡ c.in-Some.segment = search rules in e)) in
-    record { heard = ap (λ (x : RunState). x.heard) c.self.view_is; sent = tt; settled = tt; decided = tt; none = λ e. same ∙ ap (λ (x : RunState). x.ends) c.self.view_is; only = ap (λ (x : RunState). record x { ends = c.give.new.ends.items }) c.self.view_is }
+    let at = subst (λ (x : RunState). segment_at x.ends c.args.place.message c.args.place.part ≡ Some c.in-Some.segment) c.self.view_is c.in-Some.ensures.out.0 in
+    record { heard = ap (λ (x : RunState). x.heard) c.self.view_is; sent = tt; settled = tt; decided = tt; none = λ e. same ∙ ap (λ (x : RunState). x.ends) c.self.view_is; unasked = λ e. not_expected_at _ c.args.place c.in-Some.segment c.args.reply at (c.answer-segment.ensures.unasked (search rules)); only = ap (λ (x : RunState). record x { ends = c.give.new.ends.items }) c.self.view_is }
 
 pub returns : goal.returns
 returns g c =
@@ -126,5 +128,6 @@ returns g c =
       };
       decided = so_decided c.args.reply d (length r.attempts) _ c.args.context.now.rules.now g.C.Call.start.rules c.requires.rules (search rules) (search rules);
       none = λ e. absurd (cc);
+      unasked = λ e. absurd (cc);
       only = ap (λ (x : RunState). record x { ends = c.give-2.new.ends.items }) c.self.view_is;
     }

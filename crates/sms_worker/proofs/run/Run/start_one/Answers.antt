@@ -45,7 +45,7 @@ returns-in-Sent g c =
     record {
       heard = c.advance.ensures.same.0 ∙ c.attempt.ensures.heard ∙ c.sees_closed-closed.ensures.same.0;
       step = subst (λ t. IsStep g.C.Call.start t One c.args.self.now c.advance.new.self) c.ms-now_ms.ensures (stepped g.C.Call.start c.ms-now_ms.result c.args.self.now c.sees_closed-closed.new.self c.attempt.new.self c.advance.new.self c.advance.new.self at c.sees_closed-closed.ensures.only
-          (still_there c.attempt.result at c.sees_closed-closed.new.self c.attempt.new.self c.attempt.ensures.tried) c.advance.ensures.same.2 (refl, refl) (inl refl)
+          (still_there g.C.Call.start.rules.policy.attempts c.attempt.result at c.sees_closed-closed.new.self c.attempt.new.self c.attempt.ensures.tried) c.advance.ensures.same.2 (refl, refl) (inl refl)
           (subst (IsTried _ at c.sees_closed-closed.new.self.ends) (sym c.advance.ensures.same.1) tried)
           c.in-Some.source (λ k e. c.next_place.ensures.retry at k (c.in-Some.is ∙ ap (λ (x : Source). Some (at, x)) e)) (λ e. c.next_place.ensures.fresh at (c.in-Some.is ∙ ap (λ (x : Source). Some (at, x)) e))
           c.advance.ensures.taken c.advance.ensures.next);
@@ -58,7 +58,7 @@ returns-in-Later g c =
     record {
       heard = c.attempt.ensures.heard ∙ c.sees_closed-closed.ensures.same.0;
       step = subst (λ t. IsStep g.C.Call.start t (Nothing (Waits c.in-Later.held)) c.args.self.now c.attempt.new.self) c.ms-now_ms.ensures (waits_step g.C.Call.start c.ms-now_ms.result c.args.self.now c.sees_closed-closed.new.self c.attempt.new.self at c.in-Later.held c.sees_closed-closed.ensures.only
-          (not_sent c.attempt.result c.in-Later.held at c.sees_closed-closed.new.self c.attempt.new.self c.attempt.ensures.tried c.in-Later.is) turn);
+          (not_sent g.C.Call.start.rules.policy.attempts c.attempt.result c.in-Later.held at c.sees_closed-closed.new.self c.attempt.new.self c.attempt.ensures.tried c.in-Later.is) turn);
     }
 
 pub returns-in-Never : goal.returns-in-Never
@@ -66,11 +66,11 @@ returns-in-Never g c =
     let at = c.in-Some.place in
     let most = g.C.Call.start.rules.policy.attempts in
     let swept = subst (λ (l : List MessageEnd). SweptAt most at.message at.part l c.give_up.new.self.ends) c.advance-in-Never.ensures.same.1 c.give_up.ensures.swept in
-    let tried = given_so most c.attempt.result at c.sees_closed-closed.new.self c.attempt.new.self c.give_up.new.self.ends c.attempt.ensures.tried c.in-Never.is swept in
+    let tried = given_so most c.attempt.result c.in-Never.field-0 at c.sees_closed-closed.new.self c.attempt.new.self c.give_up.new.self.ends c.attempt.ensures.tried c.in-Never.is swept in
     record {
       heard = c.give_up.ensures.heard ∙ c.advance-in-Never.ensures.same.0 ∙ c.attempt.ensures.heard ∙ c.sees_closed-closed.ensures.same.0;
       step = subst (λ t. IsStep g.C.Call.start t One c.args.self.now c.give_up.new.self) c.ms-now_ms.ensures (stepped g.C.Call.start c.ms-now_ms.result c.args.self.now c.sees_closed-closed.new.self c.attempt.new.self c.advance-in-Never.new.self c.give_up.new.self at c.sees_closed-closed.ensures.only
-          (still_there c.attempt.result at c.sees_closed-closed.new.self c.attempt.new.self c.attempt.ensures.tried) c.advance-in-Never.ensures.same.2 c.give_up.ensures.left c.give_up.ensures.texts tried
+          (still_there g.C.Call.start.rules.policy.attempts c.attempt.result at c.sees_closed-closed.new.self c.attempt.new.self c.attempt.ensures.tried) c.advance-in-Never.ensures.same.2 c.give_up.ensures.left c.give_up.ensures.texts tried
           c.in-Some.source (λ k e. c.next_place.ensures.retry at k (c.in-Some.is ∙ ap (λ (x : Source). Some (at, x)) e)) (λ e. c.next_place.ensures.fresh at (c.in-Some.is ∙ ap (λ (x : Source). Some (at, x)) e))
           c.advance-in-Never.ensures.taken c.advance-in-Never.ensures.next);
     }
