@@ -21,6 +21,7 @@ pub mod Rising
 pub mod Standing
 pub mod Submits
 pub mod Sweeping
+pub mod TakingTurns
 pub mod Tries
 pub mod Turning
 pub mod Waiting

@@ -22,5 +22,6 @@ pub mod Submits
 pub mod Sweeps
 pub mod TextsState
 pub mod Told
+pub mod Turn
 pub mod Turns
 pub mod UserData

@@ -1,11 +1,12 @@
 //! The turns of a call, and its end.
 
-ghost use Rattle.std.specs.Prelude.{◌≡◌, ℕ, ◌+◌, ◌<◌, ◌⊎◌, ◌↔◌, None, IfSome, IsTrue, false, length, slice_get};
+ghost use Rattle.std.specs.Prelude.{◌≡◌, ℕ, ◌+◌, ◌<◌, ◌⊎◌, ◌↔◌, None, IfSome, IsTrue, true, false, length, slice_get};
 ghost use Rattle.rtrb.specs.Ring.{received, SameConsumer};
 ghost use Rattle.sms_worker.specs.declared.ends.SegmentEnd.{SegmentEnd};
 ghost use Rattle.sms_worker.specs.Ends.{segment_at, segments_in};
 ghost use Rattle.sms_worker.specs.RunState.{HasMore, HasNothingToSend};
 ghost use Rattle.sms_worker.specs.Sweeps.{SettledTo};
+ghost use Rattle.sms_worker.specs.Turn.{TakesTurn, TakesTurns};
 ghost use Rattle.sms_worker.specs.Turns.{Starts};
 
 use crate::call::Call;
@@ -60,6 +61,7 @@ impl<N: BookName, C: Call> Run<'_, N, C> {
         requires all { taken ≡ C.start.rules.turns }
         ensures closed { IsTrue self.new.closed }
         ensures same { (self.new.heard ≡ self.old.heard) × (self.new.ends ≡ self.old.ends) }
+        ensures only { self.new ≡ record self.old { closed = true } }
     {
         self.closed.turns_are_over(taken);
     }
@@ -91,6 +93,7 @@ impl<N: BookName, C: Call> Run<'_, N, C> {
         requires heard { self.old.heard ≡ received consumer.old }
         ensures ring { SameConsumer consumer.old consumer.new }
         ensures heard { self.new.heard ≡ received consumer.new }
+        ensures turn { TakesTurn C.start result self.old self.new }
     {
         let heard = self.hear(context, consumer);
         let down = self.sees_closed();
@@ -123,6 +126,7 @@ impl<N: BookName, C: Call> Run<'_, N, C> {
         requires heard { self.old.heard ≡ received consumer.old }
         ensures ring { SameConsumer consumer.old consumer.new }
         ensures heard { self.new.heard ≡ received consumer.new }
+        ensures turns { TakesTurns C.start self.old self.new }
     {
         let mut taken = 0;
         for _turn in 0..context.rules.turns {
@@ -144,6 +148,7 @@ impl<N: BookName, C: Call> Run<'_, N, C> {
         requires rules { context.now.rules.now ≡ C.start.rules }
         ensures heard { self.new.heard ≡ self.old.heard }
         ensures starts { down ≡ false → Starts C.start result self.old self.new }
+        ensures swept { IsTrue down → SettledTo C.start.rules.policy.attempts (length self.new.ends) 0 self.new.ends }
     {
         if down {
             self.sweep(context);

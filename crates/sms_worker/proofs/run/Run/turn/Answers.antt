@@ -1,4 +1,5 @@
-use Rattle.std.proofs.Common.{◌∙◌}
+use Rattle.std.proofs.Common.{◌∙◌, true, false, rules}
+use Rattle.sms_worker.proofs.TakingTurns.{one_turn}
 use Rattle.sms_worker.proofs.run.Run.turn.Goals as goal
 
 pub hear-heard-requires-clause-window : goal.hear-heard-requires-clause-window
@@ -36,3 +37,18 @@ returns-clause-ring g c = c.hear-heard.ensures.ring
 
 pub returns-clause-heard : goal.returns-clause-heard
 returns-clause-heard g c = c.start_or_sweep-started.ensures.heard ∙ c.expire-expired.ensures.heard ∙ c.sees_closed-down.ensures.same.0 ∙ c.hear-heard.ensures.heard
+
+pub returns-then-heard-clause-turn : goal.returns-then-heard-clause-turn
+returns-then-heard-clause-turn g c =
+    one_turn g.C.Call.start true _ _ _ _ _ c.args.self.now c.hear-heard.new.self c.sees_closed-down.new.self c.expire-expired.new.self c.start_or_sweep-started.new.self
+    c.hear-heard.ensures.brought c.sees_closed-down.ensures.only c.sees_closed-down.ensures.is c.sees_closed-down.ensures.stays c.expire-expired.ensures.expires c.start_or_sweep-started.ensures.starts c.start_or_sweep-started.ensures.swept (λ e. absurd (cc)) (λ e. absurd (cc))
+
+pub returns-then-is_done-clause-turn : goal.returns-then-is_done-clause-turn
+returns-then-is_done-clause-turn g c =
+    one_turn g.C.Call.start false _ _ _ _ _ c.args.self.now c.hear-heard.new.self c.sees_closed-down.new.self c.expire-expired.new.self c.start_or_sweep-started.new.self
+    c.hear-heard.ensures.brought c.sees_closed-down.ensures.only c.sees_closed-down.ensures.is c.sees_closed-down.ensures.stays c.expire-expired.ensures.expires c.start_or_sweep-started.ensures.starts c.start_or_sweep-started.ensures.swept (λ e. (search rules, search rules, search rules)) (λ e. c.is_done.ensures.0 (search rules))
+
+pub returns-clause-turn : goal.returns-clause-turn
+returns-clause-turn g c =
+    one_turn g.C.Call.start true _ _ _ _ _ c.args.self.now c.hear-heard.new.self c.sees_closed-down.new.self c.expire-expired.new.self c.start_or_sweep-started.new.self
+    c.hear-heard.ensures.brought c.sees_closed-down.ensures.only c.sees_closed-down.ensures.is c.sees_closed-down.ensures.stays c.expire-expired.ensures.expires c.start_or_sweep-started.ensures.starts c.start_or_sweep-started.ensures.swept (λ e. absurd (cc)) (λ e. absurd (cc))
