@@ -1,6 +1,6 @@
 -- What is told where no book is opened.
 use Rattle.std.specs.Prelude.{◌≡◌, ◌≢◌, ◌↔◌, ℕ, List, Result, Ok, Err, IfErr, IsErrOf}
-use Rattle.std.proofs.Common.{refl, sym, ap, ◌∙◌, subst, inl, inr}
+use Rattle.std.proofs.Common.{sym, ap, ◌∙◌, subst, inl, inr}
 use Rattle.sms_book.specs.Openings.{credits_of, names_of, AllSmall, GoodCount, IsFirstDouble, NoDouble}
 use Rattle.sms_book.specs.declared.error.BookError.{BookError}
 use Rattle.sms_book.specs.declared.error.BookError.TheVariants as book
@@ -9,6 +9,18 @@ use Rattle.sms_book.specs.declared.opening.Opening.{Opening}
 use Rattle.sms_driver.specs.declared.fault.SendFault.{SendFault}
 use Rattle.sms_driver.specs.declared.fault.SendFault.TheVariants.{BookRefused}
 use Rattle.sms_driver.specs.SendFaults.{fault_of_book, IsFaultOfOne, IsFaultOfRun, RefusesBook}
+use Rattle.sms_driver.specs.declared.start.Begun.{Begun}
+use Rattle.sms_driver.specs.declared.start.Begun.TheVariants.{NotYet}
+use Rattle.sms_driver.specs.Starts.{TellsStart}
+
+-- a book is refused before a word
+pub tells_book : (b : Begun) (w : BookError) (f : SendFault) → b ≡ NotYet → f ≡ fault_of_book w → TellsStart b f
+tells_book b BadCount f yet e = subst (TellsStart b) (sym e) yet
+tells_book b (Duplicate first second) f yet e = subst (TellsStart b) (sym e) yet
+tells_book b AmountTooLarge f yet e = subst (TellsStart b) (sym e) yet
+tells_book b (NoCredit free needed) f yet e = subst (TellsStart b) (sym e) yet
+tells_book b NoAccount f yet e = subst (TellsStart b) (sym e) yet
+tells_book b book.OutOfMemory f yet e = subst (TellsStart b) (sym e) (inl yet)
 
 -- what is told is of the book, or of memory
 pub book_is_one : (binds : ℕ) (w : BookError) (f : SendFault) → f ≡ fault_of_book w → IsFaultOfOne binds f

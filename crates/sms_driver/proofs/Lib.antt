@@ -14,6 +14,7 @@ pub mod Openings
 pub mod Refusals
 pub mod Returning
 pub mod Sitting
+pub mod Starts
 pub mod Sums
 pub mod Telling
 pub mod Windows

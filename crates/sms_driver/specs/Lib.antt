@@ -10,6 +10,7 @@ pub mod Rings
 pub mod Seated
 pub mod SendFaults
 pub mod Settled
+pub mod Starts
 pub mod Statements
 pub mod Threads
 pub mod Worked

@@ -58,8 +58,8 @@ module _ {N Rd : Type 0} where
   pub record IsCrew {W : Type 0} (rules : Rules) (latch : Latch) (tasks : List (WorkerTask N W)) (reader_tasks : List (ReaderTask Rd W)) (crew : Crew N Rd) : Type 0 where
     pub workers : map (λ h. h.promise.assignment.value) crew.workers.items ≡ take (length crew.workers.items) (map (λ t. t.assignment) tasks)
     pub readers : map (λ h. listener_promised h.promise) crew.readers.items ≡ take (length crew.readers.items) (map listener_of reader_tasks)
-    pub given : AllByRecursion (λ h. (h.promise.rules.value ≡ rules) × (h.promise.latch.now ≡ latch)) crew.workers.items
-    pub latches : AllByRecursion (λ h. (h.promise.latch.now ≡ latch) × (h.promise.turns ≡ rules.turns)) crew.readers.items
+    pub given : AllByRecursion (λ h. (h.promise.rules.value ≡ rules) × (h.promise.latch.value ≡ latch)) crew.workers.items
+    pub latches : AllByRecursion (λ h. (h.promise.latch.value ≡ latch) × (h.promise.turns ≡ rules.turns)) crew.readers.items
     pub no_result : crew.worker_results.items ≡ []
     pub no_end : crew.reader_ends.items ≡ []
     pub results_fit : length crew.workers.items ≤ vec_capacity crew.worker_results

@@ -11,8 +11,10 @@ ghost use Rattle.sms_driver.specs.Reads.{AreOpened, IsOpened};
 ghost use Rattle.sms_driver.specs.Rings.{IsNewPair};
 ghost use Rattle.sms_driver.specs.Seated.{IsSeated};
 ghost use Rattle.sms_driver.specs.SendFaults.{fault_in, DrewNone, HasFailed, IsFaultOf, IsFaultOfRun};
+ghost use Rattle.sms_driver.specs.Starts.{TellsStart};
 ghost use Rattle.sms_driver.specs.declared.fault.BindFailure.TheVariants.{NoConnection};
 ghost use Rattle.sms_driver.specs.declared.fault.SendFault.TheVariants.{BindFailed};
+ghost use Rattle.sms_driver.specs.declared.start.Begun.TheVariants.{NotYet};
 
 use crate::fault::{BindFailure, SendFault};
 use crate::rings::Rings;
@@ -330,6 +332,8 @@ pub(crate) fn make_binds<D: Dial, R: Wait>(
     ensures seated { IfOk result (λ b. AllZip (IsSeated workers) b.shared_binds.items b.bind_parts.items) }
     ensures long { IfOk result (λ b. length b.shared_binds.items ≡ length rings.items) }
     ensures refused { IfErr result (IsFaultOfRun (length rings.items)) }
+    // No word was said yet.
+    ensures early { IfErr result (TellsStart NotYet) }
 {
     let none = Binds {
         shared_binds: Vec::with_capacity(alloc, rings.len())?,

@@ -1,6 +1,6 @@
 //! The whole of a sending, from accounts and messages to ends and a statement.
 
-ghost use Rattle.std.specs.Prelude.{◌≡◌, ℕ, ◌*◌, ◌<◌, ◌≤◌, ◌↔◌, length, IsErrOf, IfErr, IfOk};
+ghost use Rattle.std.specs.Prelude.{◌≡◌, ℕ, ◌*◌, ◌<◌, ◌≤◌, ◌↔◌, length, IsErrOf, IfErr, IfOk, OnOk};
 ghost use Rattle.std.specs.List.{AllZip};
 ghost use Rattle.sms_book.specs.Openings.{credits_of};
 ghost use Rattle.sms_book.specs.declared.error.BookError.{BookError};
@@ -12,13 +12,17 @@ ghost use Rattle.sms_deal.specs.Deals.{dealt};
 ghost use Rattle.sms_driver.specs.Ended.{HaveEnded};
 ghost use Rattle.sms_driver.specs.Numbered.{AreBelow, AreNumbered};
 ghost use Rattle.sms_driver.specs.SendFaults.{fault_of_book, IsFaultOfOne, RefusesBook};
+ghost use Rattle.sms_driver.specs.Starts.{TellsStart};
 ghost use Rattle.sms_driver.specs.Statements.{AreRows};
 ghost use Rattle.sms_driver.specs.declared.fault.SendFault.TheVariants.{BookRefused};
+ghost use Rattle.sms_driver.specs.declared.latch.Word.TheVariants.{Go};
+ghost use Rattle.sms_driver.specs.declared.start.Begun.TheVariants.{NotYet, Heard};
 
 use crate::binding::{BindSettings, Dial};
 use crate::ending::Sending;
 use crate::fault::SendFault;
 use crate::run::run;
+use crate::start::Start;
 use sms_book::{BookError, Opening, open_book};
 use sms_worker::{Clock, Gate, Message, Pause, Rules};
 use std::alloc::Global;
@@ -38,6 +42,7 @@ fn book_fault(why: BookError) -> SendFault
 
 /// Makes all binds, sends all messages, and ends the binds. Nothing is sent where a bind fails.
 pub fn drive_all<
+    'l,
     D: Dial,
     G: Gate + Sync,
     K: Clock + Sync,
@@ -46,6 +51,7 @@ pub fn drive_all<
 >(
     rt: &R,
     alloc: Global,
+    start: &mut Start<'l>,
     binds: usize,
     workers: usize,
     bind_settings: &BindSettings,
@@ -58,6 +64,13 @@ pub fn drive_all<
     pause: &P,
 ) -> Result<Sending, SendFault>
     requires few { (binds ≤ 4) × (workers ≤ 8) }
+    requires yet { start.old.begun ≡ NotYet }
+    ensures latch { start.new.latch ≡ start.old.latch }
+    // All threads were told to go.
+    ensures went { OnOk result (start.new.begun ≡ Heard Go) }
+    // No thread was told to go, but where ends are lost: a bind fails before a word is said, and where a thread is refused all
+    // were told to leave.
+    ensures sent { IfErr result (TellsStart start.new.begun) }
     ensures ends { IfOk result (λ r. AllZip (IsEndOf rules.now (length openings.now)) messages.items r.ends.items) }
     // Bind by bind, each answered attempt of its workers rests on an answer of its own that was read of it.
     ensures heard { IfOk result (λ r. AreHeard (D.told dial.now) binds workers (dealt (binds * workers) 0 r.ends.items)) }
@@ -84,6 +97,7 @@ pub fn drive_all<
     run::<Brand, D, G, K, P, R>(
         rt,
         alloc,
+        start,
         blank,
         rules,
         bind_settings,

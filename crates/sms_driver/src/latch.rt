@@ -21,10 +21,11 @@ pub struct Latch {
     word: OnceLock<Word>,
 }
 
-/// The leave to say the word of a latch. There is one for each, so nobody says a second word there.
+/// The leave to say the word of a latch. It is made with its latch and nowhere else, so nobody says a second
+/// word there.
 #[derive(Drop)]
 pub struct Unsaid {
-    pub latch: Snapshot<Latch>,
+    latch: Snapshot<Latch>,
 }
 
 /// That a word was said at a latch. All that have one of the same latch have the same word.
@@ -55,7 +56,7 @@ impl Latch {
     }
 
     /// Says the word, and wakes all that wait for it.
-    pub fn say<R: Wait>(&self, rt: &R, word: Word, unsaid: Unsaid) -> Said<'_>
+    pub(crate) fn say<R: Wait>(&self, rt: &R, word: Word, unsaid: Unsaid) -> Said<'_>
         requires leave { unsaid.latch.value ≡ self.now }
         ensures at { IsSaidAt self.now result }
         ensures word { word_of result ≡ word }
@@ -70,7 +71,7 @@ impl Latch {
     }
 
     /// Sleeps until the word was said.
-    pub fn hear<R: Wait>(&self, rt: &R) -> Said<'_>
+    pub(crate) fn hear<R: Wait>(&self, rt: &R) -> Said<'_>
         ensures at { IsSaidAt self.now result }
     {
         for _turn in rt.forever() {
@@ -83,7 +84,7 @@ impl Latch {
     }
 
     /// The word that was said.
-    pub fn word<'a>(&'a self, said: &Said<'a>) -> Word
+    pub(crate) fn word<'a>(&'a self, said: &Said<'a>) -> Word
         requires at { IsSaidAt self.now said.now }
         ensures word { result ≡ word_of said.now }
     {
@@ -93,7 +94,7 @@ impl Latch {
 
 impl<'a> Said<'a> {
     /// Two that heard at one latch heard one word.
-    pub fn agrees(&self, other: &Said<'a>)
+    pub(crate) fn agrees(&self, other: &Said<'a>)
         requires latch { IsAtOne self.now other.now }
         ensures word { word_of self.now ≡ word_of other.now }
     {

@@ -21,7 +21,7 @@ use std::sync::Wait;
 use std::thread::{PromisedHandle, Scope, Threads};
 
 /// A reader's thread, and what it gives back.
-pub type ReaderHandle<'s, Rd> = PromisedHandle<Told<'s, ReaderEnd>, ReaderPromise<'s, Rd>>;
+pub type ReaderHandle<'s, Rd> = PromisedHandle<Told<'s, ReaderEnd>, ReaderPromise<Rd>>;
 
 /// The end of a reader that was stopped before its first read.
 fn unread(producers: Vec<Producer<Reply>>, seat: WindowSeat) -> ReaderEnd
@@ -90,21 +90,28 @@ where
 }
 
 /// Starts a reader in a thread of the scope.
-fn start_reader<'s, E, Rd: Read + Send + Drop + 's, W: Write + Send + 's, R: Threads + Wait + Sync>(
+fn start_reader<
+    's,
+    'l: 's,
+    E,
+    Rd: Read + Send + Drop + 's,
+    W: Write + Send + 's,
+    R: Threads + Wait + Sync,
+>(
     scope: &Scope<'s, E>,
     rt: &'s R,
     alloc: Global,
-    latch: &'s Latch,
+    latch: &'l Latch,
     reader_task: ReaderTask<'s, Rd, W>,
     rules: &'s Rules,
-) -> Result<ReaderHandle<'s, Rd>, SendFault>
+) -> Result<ReaderHandle<'l, Rd>, SendFault>
     requires own { reader_task.seat.window ≡ reader_task.window.now }
     ensures listener { IfOk result (λ h. listener_promised h.promise ≡ listener_of reader_task.entry) }
-    ensures given { IfOk result (λ h. (h.promise.latch.now ≡ latch.now) × (h.promise.turns ≡ rules.now.turns)) }
+    ensures given { IfOk result (λ h. (h.promise.latch.value ≡ latch.now) × (h.promise.turns ≡ rules.now.turns)) }
     ensures refused { IfErr result (λ fault. fault ≡ ThreadRefused) }
 {
     let promise = ReaderPromise {
-        latch,
+        latch: Snapshot::of(latch),
         seat: Snapshot::of(&reader_task.seat),
         reader: Snapshot::of(&reader_task.reader),
         bound: Snapshot::of(&reader_task.bound),
@@ -123,6 +130,7 @@ fn start_reader<'s, E, Rd: Read + Send + Drop + 's, W: Write + Send + 's, R: Thr
 /// Starts a reader for each bind. Where one is refused, those that were started are in the list.
 pub(crate) fn start_readers<
     's,
+    'l: 's,
     E,
     Rd: Read + Send + Drop + 's,
     W: Write + Send + 's,
@@ -131,17 +139,17 @@ pub(crate) fn start_readers<
     scope: &Scope<'s, E>,
     rt: &'s R,
     alloc: Global,
-    latch: &'s Latch,
+    latch: &'l Latch,
     reader_tasks: Vec<ReaderTask<'s, Rd, W>>,
     rules: &'s Rules,
-    handles: &mut Vec<ReaderHandle<'s, Rd>>,
+    handles: &mut Vec<ReaderHandle<'l, Rd>>,
 ) -> Result<(), SendFault>
     requires own { AllByRecursion (λ t. t.seat.window ≡ t.window.now) reader_tasks.items }
     requires room { (handles.old.items ≡ []) × (length reader_tasks.items ≤ vec_capacity handles.old) }
     ensures all { OnOk result (map (λ h. listener_promised h.promise) handles.new.items ≡ map listener_of reader_tasks.entry.items) }
     ensures few { length handles.new.items ≤ length reader_tasks.entry.items }
     ensures first { map (λ h. listener_promised h.promise) handles.new.items ≡ take (length handles.new.items) (map listener_of reader_tasks.entry.items) }
-    ensures given { AllByRecursion (λ h. (h.promise.latch.now ≡ latch.now) × (h.promise.turns ≡ rules.now.turns)) handles.new.items }
+    ensures given { AllByRecursion (λ h. (h.promise.latch.value ≡ latch.now) × (h.promise.turns ≡ rules.now.turns)) handles.new.items }
     ensures refused { IfErr result (λ fault. fault ≡ ThreadRefused) }
     ensures short { IfErr result (λ _. length handles.new.items < length reader_tasks.entry.items) }
 {

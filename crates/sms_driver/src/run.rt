@@ -1,6 +1,6 @@
 //! A sending, once its book is named.
 
-ghost use Rattle.std.specs.Prelude.{◌≡◌, ℕ, ◌+◌, ◌*◌, ◌<◌, ◌≤◌, List, length, map, IfErr, IfOk};
+ghost use Rattle.std.specs.Prelude.{◌≡◌, ℕ, ◌+◌, ◌*◌, ◌<◌, ◌≤◌, List, length, map, IfErr, IfOk, OnOk};
 ghost use Rattle.std.specs.List.{AllByRecursion, AllZip};
 ghost use Rattle.sms_book.specs.Shares.{opening_shares};
 ghost use Rattle.sms_worker.specs.EndOf.{IsEndOf};
@@ -19,7 +19,10 @@ ghost use Rattle.sms_driver.specs.Statements.{AreRows};
 ghost use Rattle.sms_driver.specs.Seated.{all_keep, all_sit, keeping_of, sitting_of, CountFrom, IsSeated, windows};
 ghost use Rattle.sms_driver.specs.SendFaults.{IsFaultOfRun, IsOfNoBind};
 ghost use Rattle.sms_driver.specs.Settled.{AreSettled};
+ghost use Rattle.sms_driver.specs.Starts.{TellsStart};
 ghost use Rattle.sms_driver.specs.Threads.{IsPrepared};
+ghost use Rattle.sms_driver.specs.declared.latch.Word.TheVariants.{Go};
+ghost use Rattle.sms_driver.specs.declared.start.Begun.TheVariants.{NotYet, Heard};
 
 use crate::binding::{BindSettings, Dial, make_binds};
 use crate::ending::{Sending, all_done, conclude};
@@ -27,6 +30,7 @@ use crate::fault::SendFault;
 use crate::leaving::Left;
 use crate::rings::all_rings;
 use crate::seating::{Seating, seat_all};
+use crate::start::Start;
 use crate::task::{WorkerTask, tasks};
 use crate::thread_scope::{Returned, work_all};
 use crate::threads::{ReaderTask, RunContext};
@@ -110,6 +114,7 @@ struct Over<N: BookName> {
 /// Sends all messages over the binds, dealt out to all workers. The binds are ended, whatever comes.
 fn send_over<
     'x,
+    'l: 'x,
     N: BookName + Send + Sync,
     Rd: Read + Send + Drop,
     W: Write + Send + Drop,
@@ -120,6 +125,7 @@ fn send_over<
 >(
     rt: &'x R,
     alloc: Global,
+    start: &mut Start<'l>,
     book: &'x Mutex<Book<N>>,
     shares: Vec<Shares<N>>,
     rules: &'x Rules,
@@ -138,6 +144,10 @@ fn send_over<
     requires some { 0 < N.book.workers }
     requires count { N.book.workers ≡ length shared_binds.now * workers }
     requires batches { length batches.items ≡ N.book.workers }
+    requires yet { start.old.begun ≡ NotYet }
+    ensures latch { start.new.latch ≡ start.old.latch }
+    ensures went { OnOk result (start.new.begun ≡ Heard Go) }
+    ensures sent { IfErr result (TellsStart start.new.begun) }
     ensures all { IfOk result (λ r. length r.done.items ≡ N.book.workers) }
     ensures settled { (ms : List Message) → map (λ l. l.items) batches.items ≡ dealt N.book.workers 0 ms
         → IfOk result (λ r. AreSettled rules.now N.book.accounts N.book.workers ms (map (λ d. d.shares) r.done.items) (map (λ d. d.ends.items) r.done.items)) }
@@ -180,7 +190,14 @@ fn send_over<
         clock,
         pause,
     };
-    let returned = work_all(&context, tasks, reader_tasks, shared_binds, driver_seats)?;
+    let returned = work_all(
+        &context,
+        start,
+        tasks,
+        reader_tasks,
+        shared_binds,
+        driver_seats,
+    )?;
     let Returned {
         worker_results,
         readers,
@@ -197,6 +214,7 @@ fn send_over<
 /// Sends all messages, and tells their ends, in order, and the statement. All that can be made
 /// before the first bind is made before it.
 pub fn run<
+    'l,
     N: BookName + Send + Sync,
     D: Dial,
     G: Gate + Sync,
@@ -206,6 +224,7 @@ pub fn run<
 >(
     rt: &R,
     alloc: Global,
+    start: &mut Start<'l>,
     blank: Blank,
     rules: &Rules,
     bind_settings: &BindSettings,
@@ -221,6 +240,10 @@ pub fn run<
     requires count { (0 < blank.book.workers) × (blank.book.workers ≡ binds * workers) }
     requires few { (binds ≤ 4) × (workers < 62) }
     requires accounts { length blank.credits ≡ blank.book.accounts }
+    requires yet { start.old.begun ≡ NotYet }
+    ensures latch { start.new.latch ≡ start.old.latch }
+    ensures went { OnOk result (start.new.begun ≡ Heard Go) }
+    ensures sent { IfErr result (TellsStart start.new.begun) }
     ensures ends { IfOk result (λ r. AllZip (IsEndOf rules.now blank.book.accounts) messages.items r.ends.items) }
     // Bind by bind, each answered attempt of its workers rests on an answer of its own that was read of it.
     ensures heard { IfOk result (λ r. AreHeard (D.told dial.now) binds workers (dealt (binds * workers) 0 r.ends.items)) }
@@ -251,6 +274,7 @@ pub fn run<
     let over = send_over(
         rt,
         alloc,
+        start,
         &book,
         shares,
         rules,

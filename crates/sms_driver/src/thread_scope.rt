@@ -7,10 +7,12 @@ ghost use Rattle.sms_driver.specs.Latches.{IsSaidAt, word_of};
 ghost use Rattle.sms_driver.specs.SendFaults.{IsOfStart, StopsAt};
 ghost use Rattle.sms_driver.specs.Threads.{AreSeated, HasRoom, HaveLeft, HaveReturned, IsCrew, IsNoCrew, IsPrepared, IsWhole};
 ghost use Rattle.sms_driver.specs.declared.latch.Word.TheVariants.{Go, Leave};
+ghost use Rattle.sms_driver.specs.declared.start.Begun.TheVariants.{NotYet, Heard};
 
 use crate::fault::SendFault;
 use crate::latch::{Latch, Told, Unsaid, Word};
 use crate::listening::{ReaderHandle, start_readers};
+use crate::start::Start;
 use crate::task::WorkerTask;
 use crate::threads::{ReaderTask, RunContext, WorkerResult, join_told};
 use crate::working::{WorkerHandle, start_workers};
@@ -90,6 +92,7 @@ impl<'s, N: BookName, Rd: Read> Crew<'s, N, Rd> {
 /// crew.
 fn start_all<
     's,
+    'l: 's,
     E,
     N: BookName + Send + Sync + 's,
     Rd: Read + Send + Drop + 's,
@@ -101,10 +104,10 @@ fn start_all<
 >(
     scope: &Scope<'s, E>,
     context: &'s RunContext<'s, N, G, K, P, R>,
-    latch: &'s Latch,
+    latch: &'l Latch,
     tasks: Vec<WorkerTask<'s, N, W>>,
     reader_tasks: Vec<ReaderTask<'s, Rd, W>>,
-    crew: &mut Crew<'s, N, Rd>,
+    crew: &mut Crew<'l, N, Rd>,
 ) -> Result<(), SendFault>
     requires workers { AllByRecursion (IsPrepared context.now.rules.now) tasks.items }
     requires readers { AllByRecursion (λ t. t.seat.window ≡ t.window.now) reader_tasks.items }
@@ -143,6 +146,7 @@ fn word_for(started: &Result<(), SendFault>) -> Word
 /// told to leave, so that nothing is sent.
 fn drive<
     's,
+    'l: 's,
     E,
     N: BookName + Send + Sync + 's,
     Rd: Read + Send + Drop + 's,
@@ -154,20 +158,19 @@ fn drive<
 >(
     scope: &Scope<'s, E>,
     context: &'s RunContext<'s, N, G, K, P, R>,
-    latch: &'s Latch,
+    latch: &'l Latch,
     unsaid: Unsaid,
     tasks: Vec<WorkerTask<'s, N, W>>,
     reader_tasks: Vec<ReaderTask<'s, Rd, W>>,
     shared_binds: &'s [SharedBind<W>],
     driver_seats: Vec<DriverSeat>,
-) -> Told<'s, Result<Returned<N>, Unsent<N>>>
+) -> Told<'l, Result<Returned<N>, Unsent<N>>>
     requires seated { AreSeated context.now.rules.now tasks.items reader_tasks.items driver_seats.items shared_binds.now }
     requires leave { unsaid.latch.value ≡ latch.now }
     ensures returned { IfOk result.back (HaveReturned context.now.rules.now Rd.remaining tasks.entry.items reader_tasks.entry.items shared_binds.now) }
     // Nothing was sent: each thread that was started gave back what it was given.
     ensures left { IfErr result.back (λ unsent. HaveLeft tasks.entry.items reader_tasks.entry.items shared_binds.now unsent.left) }
     ensures refused { IfErr result.back (λ unsent. IsOfStart unsent.fault) }
-    // Memory was refused before the first thread, or a thread behind those that gave back what they were given.
     ensures stopped { IfErr result.back (λ unsent. StopsAt unsent.fault (length tasks.entry.items) (length reader_tasks.entry.items) (length unsent.left.worker_results.items) (length unsent.left.readers.items)) }
     // No thread at the latch was told to go where a fault is told, and none to leave where there is none.
     ensures at { IsSaidAt latch.now result.said }
@@ -233,9 +236,11 @@ fn end_binds<N: BookName, W: Write, G: Gate, K: Clock, P: Pause, R: Wait>(
 }
 
 /// Runs all readers and workers in threads of their own, and gives what they give back, in order.
-/// Where one of the threads can't be started nothing is sent.
+/// Where one of the threads can't be started nothing is sent. The start is told the word that was said
+/// to all of them.
 pub fn work_all<
     'a,
+    'l: 'a,
     N: BookName + Send + Sync,
     Rd: Read + Send + Drop,
     W: Write + Send,
@@ -245,31 +250,38 @@ pub fn work_all<
     R: Threads + Wait + Sync,
 >(
     context: &'a RunContext<'a, N, G, K, P, R>,
+    start: &mut Start<'l>,
     tasks: Vec<WorkerTask<'a, N, W>>,
     reader_tasks: Vec<ReaderTask<'a, Rd, W>>,
     shared_binds: &'a [SharedBind<W>],
     driver_seats: Vec<DriverSeat>,
 ) -> Result<Returned<N>, Unsent<N>>
     requires seated { AreSeated context.now.rules.now tasks.items reader_tasks.items driver_seats.items shared_binds.now }
+    requires yet { start.old.begun ≡ NotYet }
+    ensures latch { start.new.latch ≡ start.old.latch }
     ensures returned { IfOk result (HaveReturned context.now.rules.now Rd.remaining tasks.entry.items reader_tasks.entry.items shared_binds.now) }
     ensures left { IfErr result (λ unsent. HaveLeft tasks.entry.items reader_tasks.entry.items shared_binds.now unsent.left) }
     ensures refused { IfErr result (λ unsent. IsOfStart unsent.fault) }
     ensures stopped { IfErr result (λ unsent. StopsAt unsent.fault (length tasks.entry.items) (length reader_tasks.entry.items) (length unsent.left.worker_results.items) (length unsent.left.readers.items)) }
+    // All were told to go, or to leave where a fault is told.
+    ensures word { MatchResult result (λ _. start.new.begun ≡ Heard Go) (λ _. start.new.begun ≡ Heard Leave) }
 {
-    let (latch, unsaid) = Latch::new();
-    let latch = &latch;
-    thread::scope(
+    let latch = start.latch();
+    let unsaid = start.take();
+    let told = thread::scope(
         thread::scope_env(),
         context.rt,
-        move |scope| -> Result<Returned<N>, Unsent<N>>
+        move |scope| -> Told<Result<Returned<N>, Unsent<N>>>
             requires seated { AreSeated context.now.rules.now tasks.items reader_tasks.items driver_seats.items shared_binds.now }
             requires leave { unsaid.latch.value ≡ latch.now }
-            ensures returned { IfOk result (HaveReturned context.entry.now.rules.now Rd.remaining tasks.entry.items reader_tasks.entry.items shared_binds.entry.now) }
-            ensures left { IfErr result (λ unsent. HaveLeft tasks.entry.items reader_tasks.entry.items shared_binds.entry.now unsent.left) }
-            ensures refused { IfErr result (λ unsent. IsOfStart unsent.fault) }
-            ensures stopped { IfErr result (λ unsent. StopsAt unsent.fault (length tasks.entry.items) (length reader_tasks.entry.items) (length unsent.left.worker_results.items) (length unsent.left.readers.items)) }
+            ensures returned { IfOk result.back (HaveReturned context.entry.now.rules.now Rd.remaining tasks.entry.items reader_tasks.entry.items shared_binds.entry.now) }
+            ensures left { IfErr result.back (λ unsent. HaveLeft tasks.entry.items reader_tasks.entry.items shared_binds.entry.now unsent.left) }
+            ensures refused { IfErr result.back (λ unsent. IsOfStart unsent.fault) }
+            ensures stopped { IfErr result.back (λ unsent. StopsAt unsent.fault (length tasks.entry.items) (length reader_tasks.entry.items) (length unsent.left.worker_results.items) (length unsent.left.readers.items)) }
+            ensures at { IsSaidAt latch.entry.now result.said }
+            ensures word { MatchResult result.back (λ _. word_of result.said ≡ Go) (λ _. word_of result.said ≡ Leave) }
         {
-            let Told { said: _, back } = drive(
+            drive(
                 scope,
                 context,
                 latch,
@@ -278,8 +290,10 @@ pub fn work_all<
                 reader_tasks,
                 shared_binds,
                 driver_seats,
-            );
-            back
+            )
         },
-    )
+    );
+    let Told { said, back } = told;
+    start.tell(said);
+    back
 }

@@ -24,17 +24,17 @@ pub type WorkerResult<N> = Result<WorkerEnd<N>, (AllocError, Worker<N>, Vec<Mess
 /// That a worker waited at this latch, and that what it gives back is of this assignment, by these
 /// rules; where it was told to leave, the assignment itself.
 #[derive(Drop)]
-pub struct WorkerPromise<'s, N: BookName> {
-    pub latch: &'s Latch,
+pub struct WorkerPromise<N: BookName> {
+    pub latch: Snapshot<Latch>,
     pub assignment: Snapshot<ReadyWorker<N>>,
     pub rules: Snapshot<Rules>,
 }
 
-impl<'s, N: BookName> Promise<Told<'s, WorkerResult<N>>> for WorkerPromise<'s, N> {
+impl<'s, N: BookName> Promise<Told<'s, WorkerResult<N>>> for WorkerPromise<N> {
     ghost use Rattle.sms_driver.specs.Latches.{IsTold};
     ghost use Rattle.sms_driver.specs.Worked.{IsHandedBack, IsResultOf};
 
-    ghost kept_by = { λ p told. IsTold p.latch.now (IsResultOf p.rules.value p.assignment.value) (IsHandedBack p.assignment.value) told };
+    ghost kept_by = { λ p told. IsTold p.latch.value (IsResultOf p.rules.value p.assignment.value) (IsHandedBack p.assignment.value) told };
 }
 
 /// What all workers of a run share.
@@ -65,8 +65,8 @@ pub struct ReaderTask<'a, Rd, W> {
 /// handed on what it read in so many turns to the rings that it was given; where it was told to leave, that it stopped
 /// with the seat and the rings as they were.
 #[derive(Drop)]
-pub struct ReaderPromise<'s, Rd> {
-    pub latch: &'s Latch,
+pub struct ReaderPromise<Rd> {
+    pub latch: Snapshot<Latch>,
     pub seat: Snapshot<WindowSeat>,
     pub reader: Snapshot<Tap<Rd>>,
     pub bound: Snapshot<Bound>,
@@ -75,12 +75,12 @@ pub struct ReaderPromise<'s, Rd> {
     pub turns: u64,
 }
 
-impl<'s, Rd: Read> Promise<Told<'s, ReaderEnd>> for ReaderPromise<'s, Rd> {
+impl<'s, Rd: Read> Promise<Told<'s, ReaderEnd>> for ReaderPromise<Rd> {
     ghost use Rattle.std.specs.Prelude.{◌≡◌};
     ghost use Rattle.sms_driver.specs.Latches.{IsTold};
     ghost use Rattle.sms_driver.specs.Reads.{reading_promised, HasRead, IsUnread};
 
-    ghost kept_by = { λ p told. IsTold p.latch.now
+    ghost kept_by = { λ p told. IsTold p.latch.value
         (λ r. (r.seat.window ≡ p.seat.value.window) × HasRead p.turns Rd.remaining (reading_promised p) r)
         (IsUnread p.seat.value p.producers.value.items) told };
 }

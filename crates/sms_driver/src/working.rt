@@ -20,7 +20,7 @@ use std::sync::Wait;
 use std::thread::{PromisedHandle, Scope, Threads};
 
 /// A worker's thread, and what it gives back.
-pub type WorkerHandle<'s, N> = PromisedHandle<Told<'s, WorkerResult<N>>, WorkerPromise<'s, N>>;
+pub type WorkerHandle<'s, N> = PromisedHandle<Told<'s, WorkerResult<N>>, WorkerPromise<N>>;
 
 /// Waits for the word, and then does the work or gives all of it back.
 fn work<'s, N: BookName, W: Write, G: Gate, K: Clock, P: Pause, R: Wait>(
@@ -68,6 +68,7 @@ fn work<'s, N: BookName, W: Write, G: Gate, K: Clock, P: Pause, R: Wait>(
 /// Starts a worker in a thread of the scope.
 fn start_worker<
     's,
+    'l: 's,
     E,
     N: BookName + Send + Sync + 's,
     W: Write + Send + 's,
@@ -78,16 +79,16 @@ fn start_worker<
 >(
     scope: &Scope<'s, E>,
     context: &'s RunContext<'s, N, G, K, P, R>,
-    latch: &'s Latch,
+    latch: &'l Latch,
     task: WorkerTask<'s, N, W>,
-) -> Result<WorkerHandle<'s, N>, SendFault>
+) -> Result<WorkerHandle<'l, N>, SendFault>
     requires own { IsPrepared context.now.rules.now task }
     ensures assignment { IfOk result (λ h. h.promise.assignment.value ≡ task.entry.assignment) }
-    ensures given { IfOk result (λ h. (h.promise.rules.value ≡ context.now.rules.now) × (h.promise.latch.now ≡ latch.now)) }
+    ensures given { IfOk result (λ h. (h.promise.rules.value ≡ context.now.rules.now) × (h.promise.latch.value ≡ latch.now)) }
     ensures refused { IfErr result (λ fault. fault ≡ ThreadRefused) }
 {
     let promise = WorkerPromise {
-        latch,
+        latch: Snapshot::of(latch),
         assignment: Snapshot::of(&task.assignment),
         rules: Snapshot::of(context.rules),
     };
@@ -100,6 +101,7 @@ fn start_worker<
 /// Starts a worker for each task. Where one is refused, those that were started are in the list.
 pub(crate) fn start_workers<
     's,
+    'l: 's,
     E,
     N: BookName + Send + Sync + 's,
     W: Write + Send + 's,
@@ -110,16 +112,16 @@ pub(crate) fn start_workers<
 >(
     scope: &Scope<'s, E>,
     context: &'s RunContext<'s, N, G, K, P, R>,
-    latch: &'s Latch,
+    latch: &'l Latch,
     tasks: Vec<WorkerTask<'s, N, W>>,
-    handles: &mut Vec<WorkerHandle<'s, N>>,
+    handles: &mut Vec<WorkerHandle<'l, N>>,
 ) -> Result<(), SendFault>
     requires own { AllByRecursion (IsPrepared context.now.rules.now) tasks.items }
     requires room { (handles.old.items ≡ []) × (length tasks.items ≤ vec_capacity handles.old) }
     ensures all { OnOk result (map (λ h. h.promise.assignment.value) handles.new.items ≡ map (λ t. t.assignment) tasks.entry.items) }
     ensures few { length handles.new.items ≤ length tasks.entry.items }
     ensures first { map (λ h. h.promise.assignment.value) handles.new.items ≡ take (length handles.new.items) (map (λ t. t.assignment) tasks.entry.items) }
-    ensures given { AllByRecursion (λ h. (h.promise.rules.value ≡ context.now.rules.now) × (h.promise.latch.now ≡ latch.now)) handles.new.items }
+    ensures given { AllByRecursion (λ h. (h.promise.rules.value ≡ context.now.rules.now) × (h.promise.latch.value ≡ latch.now)) handles.new.items }
     ensures refused { IfErr result (λ fault. fault ≡ ThreadRefused) }
     ensures short { IfErr result (λ _. length handles.new.items < length tasks.entry.items) }
 {

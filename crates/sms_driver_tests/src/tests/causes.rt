@@ -4,7 +4,7 @@ use super::driving::{Beside, bind_settings, messages, rules};
 use super::same::same;
 use sms_bind::ReaderCause;
 use sms_book::Opening;
-use sms_driver::{BindClosing, Dial, DownBy, Sending, drive_all};
+use sms_driver::{BindClosing, Dial, DownBy, Latch, Sending, Start, drive_all};
 use sms_worker::{MessageRefusal, MessageResult, Rules};
 use std::alloc::{AllocError, Global};
 use std::test::Fail;
@@ -153,9 +153,11 @@ fn bind_told<R: Threads + sync::Wait + time::Clock + Sync>(
     let bind_settings = bind_settings(alloc)?;
     let rules = rules_with(alloc, ending.turns, ending.answer_ms)?;
     let beside = Beside { rt };
+    let (latch, unsaid) = Latch::new();
     let driven = drive_all(
         rt,
         alloc,
+        &mut Start::new(&latch, unsaid),
         1,
         1,
         &bind_settings,

@@ -5,7 +5,8 @@ use sms_bind::Settings;
 use sms_book::{Opening, Statement, Tariff};
 use sms_centre::{Pipe, PipeEnd, Script, ServeCause, ServeEnd, serve};
 use sms_driver::{
-    BindClosing, BindEnd, BindFailure, BindSettings, Dial, SendFault, Sending, Unbinding, drive_all,
+    Begun, BindClosing, BindEnd, BindFailure, BindSettings, Dial, Latch, SendFault, Sending, Start,
+    Unbinding, Word, drive_all,
 };
 use sms_pdu::{Mode, Octets, Tap};
 use sms_session::Policy;
@@ -85,6 +86,7 @@ pub(super) struct Done {
     pub first: ServeEnd,
     pub second: ServeEnd,
     pub ended: Result<Sending, SendFault>,
+    pub begun: Begun,
 }
 
 fn octets(alloc: Global, text: &[u8]) -> Result<Octets, AllocError> {
@@ -190,7 +192,7 @@ pub(super) fn sent<R: Threads + Wait + time::Clock + Sync>(
     };
     let beside = Beside { rt };
     let [one, other] = case.scripts;
-    let ((first, second), ended) = thread::join(
+    let ((first, second), (ended, begun)) = thread::join(
         rt,
         || {
             thread::join(
@@ -200,9 +202,12 @@ pub(super) fn sent<R: Threads + Wait + time::Clock + Sync>(
             )
         },
         || {
+            let (latch, unsaid) = Latch::new();
+            let mut start = Start::new(&latch, unsaid);
             let ended = drive_all(
                 rt,
                 alloc,
+                &mut start,
                 2,
                 2,
                 &bind_settings,
@@ -216,13 +221,14 @@ pub(super) fn sent<R: Threads + Wait + time::Clock + Sync>(
             );
             there[0].close(rt);
             there[1].close(rt);
-            ended
+            (ended, start.begun())
         },
     );
     Ok(Done {
         first,
         second,
         ended,
+        begun,
     })
 }
 
@@ -297,7 +303,9 @@ fn two_binds_of_two_workers(rt: HostRuntime) -> Result<(), Fail> {
         first,
         second,
         ended,
+        begun,
     } = sent(&rt, rt.alloc(), case)?;
+    same(&rt, begun, Begun::Heard(Word::Go));
     match ended {
         Ok(sending) => want_all_charged(&rt, &sending),
         Err(fault) => return Err(Fail::new(fault)),
@@ -381,6 +389,7 @@ fn a_bind_is_refused(rt: HostRuntime) -> Result<(), Fail> {
         };
         let done = sent(&rt, rt.alloc(), case)?;
         want_fault(&rt, &done.ended, refusal.fault);
+        same(&rt, done.begun, Begun::NotYet);
         want_none_sent(&rt, &done, refusal.causes);
     }
     Ok(())

@@ -5,7 +5,7 @@
 use super::driving::{Case, Done, GOOD, sent, want_all_charged, want_none_sent};
 use super::same::same;
 use sms_centre::ServeCause;
-use sms_driver::SendFault;
+use sms_driver::{Begun, SendFault, Word};
 use std::process::Abort;
 use std::test::Fail;
 
@@ -24,6 +24,7 @@ fn want_all_or_none(rt: &impl Abort, done: &Done) {
         Ok(sending) => want_all_charged(rt, sending),
         Err(fault) => {
             same(rt, *fault, SendFault::ThreadRefused);
+            same(rt, done.begun, Begun::Heard(Word::Leave));
             want_none_sent(rt, done, (ServeCause::Unbound, ServeCause::Unbound));
         }
     }
@@ -39,7 +40,7 @@ fn threads_all_start_or_nothing_is_sent(rt: HostRuntime) -> Result<(), Fail> {
 // Only what says that ends were lost may come after a message.
 fn want_none_before(rt: &impl Abort, done: &Done) {
     match &done.ended {
-        Ok(_) | Err(SendFault::EndsLost) => {}
+        Ok(_) | Err(SendFault::EndsLost) => same(rt, done.begun, Begun::Heard(Word::Go)),
         Err(_) => same(rt, (done.first.submits, done.second.submits), (0, 0)),
     }
 }

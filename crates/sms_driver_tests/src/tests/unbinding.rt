@@ -3,7 +3,7 @@
 use super::driving::{bind_settings, openings, rules, want_unbound};
 use super::same::same;
 use sms_centre::{Pipe, PipeEnd};
-use sms_driver::{Dial, SendFault, Sending, drive_all};
+use sms_driver::{Dial, Latch, SendFault, Sending, Start, drive_all};
 use sms_worker::{Clock, Gate, Pause};
 use std::alloc::Global;
 use std::io::Write;
@@ -97,9 +97,11 @@ fn four_binds<R: Threads + Wait + time::Clock + Sync>(
     };
     let (bind_settings, rules) = (bind_settings(alloc)?, rules(alloc)?);
     let openings = openings(alloc, 1)?;
+    let (latch, unsaid) = Latch::new();
     Ok(drive_all(
         rt,
         alloc,
+        &mut Start::new(&latch, unsaid),
         4,
         1,
         &bind_settings,

@@ -1,5 +1,6 @@
 use Rattle.std.proofs.Common.{length, inr}
 use Rattle.sms_driver.proofs.Refusals.{if_given, if_all, if_told}
+use Rattle.sms_driver.proofs.Starts.{tells_bind}
 use Rattle.sms_driver.proofs.binding.make_binds.Goals as goal
 
 pub returns-clause-driver_seats : goal.returns-clause-driver_seats
@@ -20,3 +21,7 @@ returns-clause-long g c = if_all _ _ _ _ c.unless_failed.ensures.given c.unless_
 pub returns-clause-refused : goal.returns-clause-refused
 returns-clause-refused g c =
     if_told _ _ _ _ c.unless_failed.ensures.told c.bind_each-binds.ensures.refused (λ fault h. inr (length c.bind_each-binds.result.0.shared_binds.items, h.0, h.1))
+
+pub returns-clause-early : goal.returns-clause-early
+returns-clause-early g c =
+    if_told _ _ _ _ c.unless_failed.ensures.told c.bind_each-binds.ensures.refused (λ fault h. tells_bind _ fault h.1)

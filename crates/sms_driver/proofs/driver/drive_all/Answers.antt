@@ -1,5 +1,5 @@
 use Rattle.std.proofs.Common.{◌*◌, refl, Err}
-use Rattle.sms_driver.proofs.Books.{book_is_one, book_told, run_told, told_one}
+use Rattle.sms_driver.proofs.Books.{book_is_one, book_told, run_told, tells_book, told_one}
 use Rattle.sms_driver.proofs.driver.drive_all.Goals as goal
 
 pub returns-in-Err-clause-refused : goal.returns-in-Err-clause-refused
@@ -16,3 +16,6 @@ returns-clause-refused g c = told_one c.args.binds c.run.result c.run.ensures.re
 
 pub returns-clause-book : goal.returns-clause-book
 returns-clause-book g c why = run_told c.args.openings.now (c.args.binds * c.args.workers) c.args.binds c.run.result c.run.ensures.refused c.in-Ok.ensures.good why
+
+pub returns-in-Err-clause-sent : goal.returns-in-Err-clause-sent
+returns-in-Err-clause-sent g c = tells_book _ c.in-Err.why c.book_fault.result c.requires.yet c.book_fault.ensures

@@ -11,7 +11,7 @@ loop-reader_task-preserved g c =
     let takes = c.in-Some.ensures.steps.0 in
     record {
       listeners = moved (λ h. listener_promised h.promise) listener_of c.loop-reader_task.handles.items _ (into_iter_items c.loop-reader_task.reader_task-iterator) _ _ _ _ c.push_reserved.ensures.items takes c.in_ok-handle.ensures.listener i.listeners;
-      given = more_hold (λ h. (h.promise.latch.now ≡ c.args.latch.now) × (h.promise.turns ≡ c.args.rules.now.turns)) c.loop-reader_task.handles.items _ _ c.push_reserved.ensures.items i.given c.in_ok-handle.ensures.given;
+      given = more_hold (λ h. (h.promise.latch.value ≡ c.args.latch.now) × (h.promise.turns ≡ c.args.rules.now.turns)) c.loop-reader_task.handles.items _ _ c.push_reserved.ensures.items i.given c.in_ok-handle.ensures.given;
       room = search rules;
       few = search rules;
       own = (first_holds (λ t. t.seat.window ≡ t.window.now) _ _ _ takes i.own).1;

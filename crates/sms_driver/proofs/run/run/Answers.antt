@@ -20,6 +20,7 @@ use Rattle.sms_driver.proofs.Endings.{have_ended}
 use Rattle.sms_driver.specs.Closings.{AreExplained, SaysWhy}
 use Rattle.sms_driver.proofs.Closings.{are_explained}
 use Rattle.sms_driver.proofs.Numbering.{are_below, are_numbered}
+use Rattle.sms_driver.proofs.Starts.{tells_before}
 use Rattle.sms_driver.proofs.Telling.{told_so}
 use Rattle.sms_driver.proofs.run.run.Goals as goal
 
@@ -154,3 +155,18 @@ returns-clause-explained g c =
     (are_explained w (map (λ (d : WorkerEnd g.row.N.Denot). d.closed) ds) (map (λ (d : WorkerEnd g.row.N.Denot). d.ends.items) ds) binds
     (zip_of_all (λ (d : WorkerEnd g.row.N.Denot). d.closed) (λ (d : WorkerEnd g.row.N.Denot). d.ends.items) SaysWhy ds c.in_ok-over.ensures.say)
     c.in_ok-ended.ensures.told)
+
+pub returns-in_err-batches-clause-sent : goal.returns-in_err-batches-clause-sent
+returns-in_err-batches-clause-sent g c = told_so c.from_residual.result _ _ c.from_residual.ensures.1 (inl c.requires.yet)
+
+pub returns-in_err-rings-clause-sent : goal.returns-in_err-rings-clause-sent
+returns-in_err-rings-clause-sent g c = told_so c.from_residual-in_err-rings.result _ _ c.from_residual-in_err-rings.ensures.1 (inl c.requires.yet)
+
+pub returns-in_err-ended-clause-sent : goal.returns-in_err-ended-clause-sent
+returns-in_err-ended-clause-sent g c = told_so c.from_residual-in_err-ended.result _ _ c.from_residual-in_err-ended.ensures.1 c.in_ok-over.ensures.went
+
+pub returns-in_err-made-clause-sent : goal.returns-in_err-made-clause-sent
+returns-in_err-made-clause-sent g c = told_so c.from_residual-in_err-made.result _ _ c.from_residual-in_err-made.ensures.1 (tells_before _ _ c.requires.yet c.in_err-made.ensures.early)
+
+pub returns-in_err-over-clause-sent : goal.returns-in_err-over-clause-sent
+returns-in_err-over-clause-sent g c = told_so c.from_residual-in_err-over.result _ _ c.from_residual-in_err-over.ensures.1 c.in_err-over.ensures.sent

@@ -1,4 +1,4 @@
-use Rattle.std.proofs.Common.{◌≡◌, length, map, sym, ap, ◌∙◌, subst}
+use Rattle.std.proofs.Common.{◌≡◌, length, map, sym, ap, ◌∙◌, subst, inl}
 use Rattle.std.specs.List.{AllZip}
 use Rattle.atomic_table.specs.Seated.{TableId}
 use Rattle.sms_driver.proofs.Sums.{length-opening}
@@ -18,6 +18,8 @@ use Rattle.std.proofs.lemmas.List.{length-map}
 use Rattle.sms_driver.proofs.Joins.{all_ok}
 use Rattle.sms_driver.proofs.Returning.{kept_windows}
 use Rattle.sms_driver.proofs.Conclusions.{all_settled, all_back, map_map, zip_to, zip_map}
+use Rattle.sms_driver.proofs.Starts.{tells_left}
+use Rattle.sms_driver.proofs.Telling.{told_so}
 use Rattle.sms_driver.proofs.run.send_over.Goals as goal
 
 pub make_ready-requires-clause-shares : goal.make_ready-requires-clause-shares
@@ -138,3 +140,16 @@ returns-clause-say g c =
     let assignments = map (λ (t : WorkerTask g.row.N.Denot g.row.W.Denot). t.assignment) c.in-Ok.ready.tasks.items in
     let ds = c.in_ok-done.done.items in
     all_say rules assignments ds (all_ok (IsWorkOf rules) (λ j e. ⊥) assignments ds (subst (AllZip (IsResultOf rules) assignments) (sym c.in_ok-done.ensures) c.in_ok-returned.ensures.returned.results))
+
+pub returns-clause-went : goal.returns-clause-went
+returns-clause-went g c = c.in_ok-returned.ensures.word
+
+pub returns-in-Err-clause-sent : goal.returns-in-Err-clause-sent
+returns-in-Err-clause-sent g c = inl c.requires.yet
+
+pub returns-in_err-returned-clause-sent : goal.returns-in_err-returned-clause-sent
+returns-in_err-returned-clause-sent g c =
+    told_so c.from_residual.result _ _ c.from_residual.ensures.1 (tells_left _ _ c.in_err-returned.ensures.word c.in_err-returned.ensures.refused)
+
+pub returns-in_err-done-clause-sent : goal.returns-in_err-done-clause-sent
+returns-in_err-done-clause-sent g c = told_so c.from_residual-in_err-done.result _ _ c.from_residual-in_err-done.ensures.1 c.in_ok-returned.ensures.word

@@ -18,14 +18,14 @@ join_told-worker_results-requires g c lives =
     let crew = c.start_all-started.ensures.crew in
     let rules : Rules = c.args.context.now.rules.now in
     let latch : Latch = c.args.latch.now in
-    ((refl, tt), ((crew.no_result, crew.results_fit), one_latch _ (λ p. (p.rules.value ≡ rules) × (p.latch.now ≡ latch)) latch c.say-said.result (λ p told f k. subst (λ (l : Latch). IsSaidAt l told.said) f.1 k.at) c.say-said.ensures.at c.start_all-started.new.crew.workers.items crew.given))
+    ((refl, tt), ((crew.no_result, crew.results_fit), one_latch _ (λ p. (p.rules.value ≡ rules) × (p.latch.value ≡ latch)) latch c.say-said.result (λ p told f k. subst (λ (l : Latch). IsSaidAt l told.said) f.1 k.at) c.say-said.ensures.at c.start_all-started.new.crew.workers.items crew.given))
 
 pub join_told-requires : goal.join_told-requires
 join_told-requires g c lives =
     let crew = c.start_all-started.ensures.crew in
     let rules : Rules = c.args.context.now.rules.now in
     let latch : Latch = c.args.latch.now in
-    ((refl, tt), ((crew.no_end, crew.ends_fit), one_latch _ (λ p. (p.latch.now ≡ latch) × (p.turns ≡ rules.turns)) latch c.say-said.result (λ p told f k. subst (λ (l : Latch). IsSaidAt l told.said) f.0 k.at) c.say-said.ensures.at c.start_all-started.new.crew.readers.items crew.latches))
+    ((refl, tt), ((crew.no_end, crew.ends_fit), one_latch _ (λ p. (p.latch.value ≡ latch) × (p.turns ≡ rules.turns)) latch c.say-said.result (λ p told f k. subst (λ (l : Latch). IsSaidAt l told.said) f.0 k.at) c.say-said.ensures.at c.start_all-started.new.crew.readers.items crew.latches))
 
 pub returns-in-Ok-clause-returned : goal.returns-in-Ok-clause-returned
 returns-in-Ok-clause-returned g c =
@@ -42,14 +42,14 @@ returns-in-Ok-clause-returned g c =
     let ends = c.join_told.result.items in
     let heard =
     subst (λ l. AllZip (λ l d. (d.seat.window ≡ l.0.window) × HasRead rules.turns remaining l.1 d) l ends) all.all_readers
-    (back_zip _ (word_of c.say-said.result) (λ p. listener_promised p) (λ p. (p.latch.now ≡ latch) × (p.turns ≡ rules.turns)) (λ l d. (d.seat.window ≡ l.0.window) × HasRead rules.turns remaining l.1 d)
+    (back_zip _ (word_of c.say-said.result) (λ p. listener_promised p) (λ p. (p.latch.value ≡ latch) × (p.turns ≡ rules.turns)) (λ l d. (d.seat.window ≡ l.0.window) × HasRead rules.turns remaining l.1 d)
     (λ p r f b. subst (λ (n : ℕ). (r.seat.window ≡ p.seat.value.window) × HasRead n remaining (reading_promised p) r) f.1 (subst (λ d. (d.seat.window ≡ p.seat.value.window) × HasRead p.turns remaining (reading_promised p) d) b.is (b.keeps.went (b.word_is ∙ word))))
     readers ends crew.latches c.join_told.ensures.each)
     in
     record {
       results =
           subst (λ l. AllZip (IsResultOf rules) l results) all.all_workers
-          (back_zip _ (word_of c.say-said.result) (λ p. p.assignment.value) (λ p. (p.rules.value ≡ rules) × (p.latch.now ≡ latch)) (IsResultOf rules)
+          (back_zip _ (word_of c.say-said.result) (λ p. p.assignment.value) (λ p. (p.rules.value ≡ rules) × (p.latch.value ≡ latch)) (IsResultOf rules)
           (λ p r f b. subst (λ (x : Rules). IsResultOf x p.assignment.value r) f.0 (subst (λ x. IsResultOf p.rules.value p.assignment.value x) b.is (b.keeps.went (b.word_is ∙ word))))
           workers results crew.given c.join_told-worker_results.ensures.each);
       readers =
@@ -78,13 +78,13 @@ returns-in-Err-clause-left g c =
       workers =
           subst (λ l. AllZip IsHandedBack l results)
           (crew.workers ∙ ap (λ n. take n (map (λ t. t.assignment) c.args.tasks.items)) (sym (zip_length _ workers results c.join_told-worker_results.ensures.each)))
-          (back_zip _ (word_of c.say-said.result) (λ p. p.assignment.value) (λ p. (p.rules.value ≡ rules) × (p.latch.now ≡ latch)) IsHandedBack
+          (back_zip _ (word_of c.say-said.result) (λ p. p.assignment.value) (λ p. (p.rules.value ≡ rules) × (p.latch.value ≡ latch)) IsHandedBack
           (λ p r f b. subst (λ x. IsHandedBack p.assignment.value x) b.is (b.keeps.left (b.word_is ∙ word)))
           workers results crew.given c.join_told-worker_results.ensures.each);
       readers =
           subst (λ l. AllZip (λ given end. IsUnread given.0 given.1.rings end) l ends)
           (crew.readers ∙ ap (λ n. take n (map listener_of c.args.reader_tasks.items)) (sym (zip_length _ readers ends c.join_told.ensures.each)))
-          (back_zip _ (word_of c.say-said.result) (λ p. listener_promised p) (λ p. (p.latch.now ≡ latch) × (p.turns ≡ rules.turns)) (λ given end. IsUnread given.0 given.1.rings end)
+          (back_zip _ (word_of c.say-said.result) (λ p. listener_promised p) (λ p. (p.latch.value ≡ latch) × (p.turns ≡ rules.turns)) (λ given end. IsUnread given.0 given.1.rings end)
           (λ p r f b. subst (λ x. IsUnread p.seat.value p.producers.value.items x) b.is (b.keeps.left (b.word_is ∙ word)))
           readers ends crew.latches c.join_told.ensures.each);
       driver = c.end_binds.ensures.driver_seats ∙ c.requires.seated.driver;

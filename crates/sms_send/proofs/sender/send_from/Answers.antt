@@ -14,7 +14,7 @@ use Rattle.sms_driver.specs.SendFaults.{IsFaultOfOne}
 use Rattle.sms_send.specs.Sent.{AreSettingsOf, IsRulesOf}
 use Rattle.sms_driver.specs.Statements.{AreRows}
 use Rattle.sms_files.specs.declared.config.Config.{Config}
-use Rattle.sms_send.proofs.sender.send_all.Goals as goal
+use Rattle.sms_send.proofs.sender.send_from.Goals as goal
 
 pub returns-clause-sent : goal.returns-clause-sent
 returns-clause-sent g c =
@@ -46,4 +46,4 @@ returns-clause-sent g c =
 pub returns-in-Err-clause-refused : goal.returns-in-Err-clause-refused
 returns-in-Err-clause-refused g c =
     let e = c.into_parts-config.ensures in
-    (c.in-Err.fault, subst (λ (k : Config). IsFaultOfOne k.limits.binds c.in-Err.fault) e.config c.in-Err.ensures.refused, c.from-told.ensures)
+    (c.in-Err.fault, subst (λ (k : Config). IsFaultOfOne k.limits.binds c.in-Err.fault) e.config c.in-Err.ensures.refused, c.in-Err.ensures.sent, c.from-told.ensures)
