@@ -1,9 +1,9 @@
 //! Whether a bind's line is down, and why.
 
 ghost use Rattle.std.specs.Prelude.{◌≡◌, true, IfSome};
-ghost use Rattle.sms_bind.specs.Downs.{cause_of, AreOfOneMark, IsDownAt, IsMarked};
+ghost use Rattle.sms_bind.specs.Downs.{cause_of, AreOfOneMark, IsDownAt, IsMarked, IsMarkedAtEnd};
 ghost use Rattle.sms_bind.specs.Wires.{is_broken};
-ghost use Rattle.sms_bind.specs.declared.down.DownCause.TheVariants.{Reader, Write};
+ghost use Rattle.sms_bind.specs.declared.down.DownCause.TheVariants.{Write};
 
 use crate::ending::ReaderCause;
 use crate::wire::Wire;
@@ -24,6 +24,20 @@ pub struct Down<'a> {
     token: OnceToken<'a, DownCause>,
 }
 
+/// That a line was down already when its reader ended, for this cause.
+#[derive(Drop)]
+pub struct DownBefore<'a> {
+    down: Down<'a>,
+    cause: ReaderCause,
+}
+
+/// The leave of a line's reader to mark it down. It is made with its line and nowhere else, and is used up by the
+/// mark: so a reader marks its line once, and for one cause.
+#[derive(Drop)]
+pub struct ReaderLeave {
+    _made: (),
+}
+
 /// Whether a line is down. It goes down once, and stays so: the first cause stands. Outside of this crate it is
 /// marked by a wire that is broken, and by no one else.
 #[derive(Drop)]
@@ -32,11 +46,12 @@ pub struct DownMark {
 }
 
 impl DownMark {
-    /// Of a line that isn't down.
-    pub(crate) fn new() -> DownMark {
-        DownMark {
+    /// Of a line that isn't down, and its reader's leave to mark it.
+    pub(crate) fn new() -> (DownMark, ReaderLeave) {
+        let mark = DownMark {
             cause: OnceLock::new(),
-        }
+        };
+        (mark, ReaderLeave { _made: () })
     }
 
     /// That the line is down, if it is now. It waits for nothing.
@@ -67,15 +82,20 @@ impl DownMark {
         }
     }
 
-    /// The bind's reader has ended. Err where the line was down before.
+    /// The bind's reader has ended, for this cause. Err where the line was down before.
     pub(crate) fn reader_ended<R: Wait>(
         &self,
         rt: &R,
+        leave: ReaderLeave,
         cause: ReaderCause,
-    ) -> Result<Down<'_>, Down<'_>>
-        ensures { IsMarked self.now (Reader cause) result }
+    ) -> Result<Down<'_>, DownBefore<'_>>
+        ensures { IsMarkedAtEnd self.now cause result }
     {
-        self.mark(rt, DownCause::Reader(cause))
+        drop(leave);
+        match self.mark(rt, DownCause::Reader(cause)) {
+            Ok(down) => Ok(down),
+            Err(down) => Err(DownBefore { down, cause }),
+        }
     }
 
     /// A frame wasn't written whole on this wire. Err where the line was down before.
@@ -94,5 +114,14 @@ impl<'a> Down<'a> {
         ensures cause { cause_of self.now ≡ cause_of other.now }
     {
         self.token.agrees(&other.token);
+    }
+}
+
+impl<'a> DownBefore<'a> {
+    /// That the line is down.
+    pub fn down(&self) -> &Down<'a>
+        ensures { result.now ≡ self.now.down }
+    {
+        &self.down
     }
 }

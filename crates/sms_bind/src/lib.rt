@@ -22,7 +22,7 @@ mod wire;
 
 pub use binding::{BindFault, bind};
 pub use bound::Bound;
-pub use down::{Down, DownCause, DownMark};
+pub use down::{Down, DownBefore, DownCause, DownMark, ReaderLeave};
 pub use ending::{ReaderCause, ReaderEnd};
 pub use line::Line;
 pub use reader::read_loop;

@@ -2,7 +2,7 @@
 
 ghost use Rattle.std.specs.Prelude.{◌≡◌};
 
-use crate::down::DownMark;
+use crate::down::{DownMark, ReaderLeave};
 use crate::wire::Wire;
 use sms_slot::SlotRow;
 use std::sync::Mutex;
@@ -23,15 +23,17 @@ pub struct Line<W> {
 }
 
 impl<W> Line<W> {
-    /// A line that is neither down nor stopped.
-    pub fn new(slots: SlotRow, wire: Wire<W>) -> Line<W>
-        ensures slots { result.slots ≡ slots }
+    /// A line that is neither down nor stopped, and its reader's leave to mark it down.
+    pub fn new(slots: SlotRow, wire: Wire<W>) -> (Line<W>, ReaderLeave)
+        ensures slots { result.0.slots ≡ slots }
     {
-        Line {
+        let (down, leave) = DownMark::new();
+        let line = Line {
             slots,
             wire: Mutex::new(wire),
-            down: DownMark::new(),
+            down,
             stop: AtomicBool::new(false),
-        }
+        };
+        (line, leave)
     }
 }

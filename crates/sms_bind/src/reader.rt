@@ -9,16 +9,15 @@ ghost use Rattle.sms_pdu.specs.Devices.{device, faults_of, failures_of};
 ghost use Rattle.sms_pdu.specs.Faults.{Counts as CountsOne, IsCounted};
 ghost use Rattle.sms_pdu.specs.Turn.{Turned};
 ghost use Rattle.sms_bind.specs.Follows.{HoldsBack, most_held, held_none};
-ghost use Rattle.sms_bind.specs.Downs.{IsMarked};
+ghost use Rattle.sms_bind.specs.Downs.{IsMarkedAtEnd};
 ghost use Rattle.sms_bind.specs.Ends.{HandsOn, LeavesRoom};
 ghost use Rattle.sms_bind.specs.Turns.{Stops};
-ghost use Rattle.sms_bind.specs.declared.down.DownCause.TheVariants.{Reader};
 ghost use Rattle.sms_bind.specs.declared.ending.ReaderCause.TheVariants.{Ended, ReadFault, Stopped, Turns};
 
 use crate::bound::Bound;
 use crate::context::ReaderContext;
 use crate::counts::Counts;
-use crate::down::Down;
+use crate::down::{Down, DownBefore, ReaderLeave};
 use crate::ending::{ReaderCause, ReaderEnd};
 use crate::follower::Follower;
 use crate::line::Line;
@@ -43,9 +42,10 @@ pub fn read_loop<'l, R: Read, W: Write, S: Wait>(
     line: &'l Line<W>,
     window: &Window,
     seat: WindowSeat,
+    leave: ReaderLeave,
     follow: Option<u32>,
     turns: u64,
-) -> (ReaderEnd, Result<Down<'l>, Down<'l>>)
+) -> (ReaderEnd, Result<Down<'l>, DownBefore<'l>>)
     requires turns { turns ≤ 2 ^ 40 }
     requires own { seat.window ≡ window.now }
     requires limit { IfSome follow (λ limit. (1 ≤ limit) × (limit ≤ most_slots)) }
@@ -60,13 +60,13 @@ pub fn read_loop<'l, R: Read, W: Write, S: Wait>(
     ensures fault { result.0.cause ≡ ReadFault → IsCounted (faults_of reader.old) (faults_of reader.new) }
     ensures failed { result.0.cause ≡ ReadFault → CountsOne (failures_of reader.old) (failures_of reader.new) }
     ensures quiet { result.0.cause ≢ ReadFault → failures_of reader.new ≡ failures_of reader.old }
-    // The line is down: for this cause, if it wasn't before.
-    ensures down { IsMarked line.now.down (Reader result.0.cause) result.1 }
+    // The line is down: it was marked once the reader had ended, for this cause, if it wasn't down before.
+    ensures down { IsMarkedAtEnd line.now.down result.0.cause result.1 }
 {
     let end = read_all(
         rt, alloc, reader, bound, producers, line, window, seat, follow, turns,
     );
-    let down = line.down.reader_ended(rt, end.cause);
+    let down = line.down.reader_ended(rt, leave, end.cause);
     (end, down)
 }
 

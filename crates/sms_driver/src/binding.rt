@@ -224,11 +224,9 @@ fn make_bind<D: Dial>(
         dialled,
     } = dial_and_bind(alloc, dial, &window, &mut seat, settings, bind_place)?;
     let asked = Snapshot::of(&wire);
+    let (line, leave) = Line::new(slots, wire);
     Ok(Made {
-        shared: SharedBind {
-            line: Line::new(slots, wire),
-            window,
-        },
+        shared: SharedBind { line, window },
         parts: BindParts {
             keeper,
             seats,
@@ -237,6 +235,7 @@ fn make_bind<D: Dial>(
             reader,
             bound,
             follow: following(bind_settings),
+            leave,
         },
         driver_seat: DriverSeat {
             seat,

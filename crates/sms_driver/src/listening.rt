@@ -63,6 +63,7 @@ where
         follow,
         producers,
         seat,
+        leave,
         line,
         window,
     } = reader_task;
@@ -77,6 +78,7 @@ where
                 line,
                 window,
                 seat,
+                leave,
                 follow.limit,
                 rules.turns,
             );

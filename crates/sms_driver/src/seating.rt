@@ -97,6 +97,7 @@ where
             reader,
             bound,
             follow,
+            leave,
         } = parts;
         seat_workers(shared, seats, consumers, &mut places)?;
         reader_tasks.push_reserved(ReaderTask {
@@ -105,6 +106,7 @@ where
             follow,
             producers,
             seat: keeper,
+            leave,
             line: &shared.line,
             window: &shared.window,
         });

@@ -6,7 +6,7 @@ ghost use Rattle.sms_driver.specs.Latches.{AreOfOneLatch, IsBackBy, word_of};
 
 use crate::latch::{Latch, Said, Told};
 use rtrb::Producer;
-use sms_bind::{Bound, Line, ReaderEnd};
+use sms_bind::{Bound, Line, ReaderEnd, ReaderLeave};
 use sms_book::{Book, BookName};
 use sms_pdu::{Reply, Tap};
 use sms_unbind::Following;
@@ -57,6 +57,7 @@ pub struct ReaderTask<'a, Rd, W> {
     pub follow: Following,
     pub producers: Vec<Producer<Reply>>,
     pub seat: WindowSeat,
+    pub leave: ReaderLeave,
     pub line: &'a Line<W>,
     pub window: &'a Window,
 }

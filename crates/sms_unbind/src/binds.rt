@@ -3,7 +3,7 @@
 use crate::following::Following;
 use crate::unbinding::Unbinding;
 use rtrb::{Consumer, Producer};
-use sms_bind::{Bound, Line};
+use sms_bind::{Bound, Line, ReaderLeave};
 use sms_pdu::{Reply, Tap};
 use sms_window::{Window, WindowSeat};
 
@@ -14,7 +14,8 @@ pub struct SharedBind<W> {
     pub window: Window,
 }
 
-/// What the threads of a bind are given: the keeper's seat to the reader, and a seat and a ring to each worker.
+/// What the threads of a bind are given: the keeper's seat and the leave to mark the line down to the reader, and a
+/// seat and a ring to each worker.
 #[derive(Drop)]
 pub struct BindParts<Rd> {
     pub keeper: WindowSeat,
@@ -24,6 +25,7 @@ pub struct BindParts<Rd> {
     pub reader: Tap<Rd>,
     pub bound: Bound,
     pub follow: Following,
+    pub leave: ReaderLeave,
 }
 
 /// The driver's own seat at a bind, and what came of its unbind.

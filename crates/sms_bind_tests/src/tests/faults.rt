@@ -99,11 +99,11 @@ fn want_end<S: Abort + Wait>(
     room: usize,
     (cause, answered, delivered, written): (ReaderCause, u64, u64, usize),
 ) -> Result<(), Fail> {
-    let line = line_of(rt, alloc, room, 2);
+    let (line, leave) = line_of(rt, alloc, room, 2);
     let (producers, mut consumer) = ring_of(alloc, 64)?;
     let source = source_of(0, &STREAM[..octets.min(80)], true);
     let bound = bound_as(rt, alloc, Mode::Transceiver);
-    let end = read_from(rt, alloc, source, bound, producers, &line);
+    let end = read_from(rt, alloc, source, bound, producers, &line, leave);
     same(rt, end.cause, cause);
     same(rt, counts(&end), [answered, 0, 0, delivered, 0, 0, 0]);
     for _ in 0..answered {
@@ -156,10 +156,10 @@ fn a_nack_that_is_cut_at_each_octet(rt: HostRuntime) -> Result<(), Fail> {
             0..16 => (ReaderCause::WriteFault, 0),
             _ => (ReaderCause::Lost, 1),
         };
-        let line = line_of(&rt, alloc, room, 0);
+        let (line, leave) = line_of(&rt, alloc, room, 0);
         let source = source_of(0, STRANGE, true);
         let bound = bound_as(&rt, alloc, Mode::Transceiver);
-        let end = read_from(&rt, alloc, source, bound, Vec::new(alloc), &line);
+        let end = read_from(&rt, alloc, source, bound, Vec::new(alloc), &line, leave);
         same(&rt, end.cause, cause);
         same(&rt, counts(&end), [0, 0, 0, 0, 0, nacked, 0]);
         want_written(&rt, line, &NACKS[..room.min(32)]);

@@ -39,7 +39,7 @@ fn throttling_is_followed(rt: HostRuntime) -> Result<(), Fail> {
     for (limit, throttled, good, held) in cases {
         let alloc = rt.alloc();
         let octets = answers(alloc, throttled, good)?;
-        let line = line_of(&rt, alloc, 0, 34);
+        let (line, leave) = line_of(&rt, alloc, 0, 34);
         let (producers, _consumer) = ring_of(alloc, 64)?;
         let Ok((window, seat)) = Window::make(alloc, limit) else {
             panic!(rt; "no window")
@@ -55,6 +55,7 @@ fn throttling_is_followed(rt: HostRuntime) -> Result<(), Fail> {
             &line,
             &window,
             seat,
+            leave,
             Some(limit),
             10,
         );
@@ -86,7 +87,7 @@ fn release(rt: &impl Abort, window: &Window, seat: &mut WindowSeat, slot: u32)
 fn throttling_beside_a_worker(rt: HostRuntime) -> Result<(), Fail> {
     let alloc = rt.alloc();
     let octets = answers(alloc, 3, 0)?;
-    let line = line_of(&rt, alloc, 0, 3);
+    let (line, leave) = line_of(&rt, alloc, 0, 3);
     let (producers, _consumer) = ring_of(alloc, 64)?;
     let Ok((window, mut seat)) = Window::make(alloc, 4) else {
         panic!(rt; "no window")
@@ -107,6 +108,7 @@ fn throttling_beside_a_worker(rt: HostRuntime) -> Result<(), Fail> {
         &line,
         &window,
         seat,
+        leave,
         Some(4),
         10,
     );

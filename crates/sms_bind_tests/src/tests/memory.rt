@@ -85,7 +85,7 @@ fn memory_of_a_reader(rt: HostRuntime) {
         return;
     };
     assert!(rt; slots.post(&rt, 0, 0, 1).is_ok() && slots.post(&rt, 1, 0, 2).is_ok());
-    let line = Line::new(slots, wire);
+    let (line, leave) = Line::new(slots, wire);
     let Ok((producer, mut consumer)) = RingBuffer::new(alloc, 64) else {
         return;
     };
@@ -107,6 +107,7 @@ fn memory_of_a_reader(rt: HostRuntime) {
         &line,
         &window,
         seat,
+        leave,
         Some(4),
         10,
     );

@@ -6,7 +6,7 @@ ghost use Rattle.sms_core.specs.Limits.{most_slots};
 
 use super::{ACCEPTED, ENQUIRE_LINK, Sink, Source, bound_by, frame, same, source_of, wire_to};
 use rtrb::{Consumer, Producer, RingBuffer};
-use sms_bind::{Bound, Down, DownCause, Line, ReaderCause, ReaderEnd, read_loop};
+use sms_bind::{Bound, Down, DownCause, Line, ReaderCause, ReaderEnd, ReaderLeave, read_loop};
 use sms_pdu::{
     BIND_TRANSCEIVER_RESP, BIND_TRANSMITTER_RESP, Framer, Frames, Header, Mode, Reply, Tap,
 };
@@ -50,7 +50,7 @@ pub(crate) fn line_of<S: Abort + Wait>(
     alloc: Global,
     room: usize,
     waiting: u32,
-) -> Line<Sink>
+) -> (Line<Sink>, ReaderLeave)
     requires { waiting ≤ most_slots }
 {
     let Ok(slots) = SlotRow::new(alloc) else {
@@ -59,10 +59,10 @@ pub(crate) fn line_of<S: Abort + Wait>(
     for slot in 0..waiting {
         same(rt, slots.post(rt, slot, 0, slot + 1), Ok(()));
     }
-    let line = Line::new(slots, wire_to(room, Vec::new(alloc)));
+    let (line, leave) = Line::new(slots, wire_to(room, Vec::new(alloc)));
     assert!(rt; line.down.look().is_none());
     assert!(rt; !line.stop.load(Ordering::SeqCst));
-    line
+    (line, leave)
 }
 
 // A ring of this room, for the one worker.
@@ -87,6 +87,7 @@ pub(crate) fn read_from<S: Abort + Wait>(
     bound: Bound,
     producers: Vec<Producer<Reply>>,
     line: &Line<Sink>,
+    leave: ReaderLeave,
 ) -> ReaderEnd {
     let mut reader = source;
     let Ok((window, seat)) = Window::make(alloc, 4) else {
@@ -101,11 +102,13 @@ pub(crate) fn read_from<S: Abort + Wait>(
         line,
         &window,
         seat,
+        leave,
         None,
         10,
     );
-    if let Ok(down) = down {
-        want_down(rt, line, &down, DownCause::Reader(end.cause));
+    match &down {
+        Ok(down) => want_down(rt, line, down, DownCause::Reader(end.cause)),
+        Err(before) => want_down(rt, line, before.down(), DownCause::Write),
     }
     end
 }
@@ -188,7 +191,7 @@ fn streams_that_are_read(rt: HostRuntime) -> Result<(), Fail> {
     ];
     for (octets, cause, wanted, written) in cases {
         let alloc = rt.alloc();
-        let line = line_of(&rt, alloc, 1000, 1);
+        let (line, leave) = line_of(&rt, alloc, 1000, 1);
         let (producers, mut consumer) = ring_of(alloc, 64)?;
         let bound = bound_as(&rt, alloc, Mode::Transceiver);
         let end = read_from(
@@ -198,6 +201,7 @@ fn streams_that_are_read(rt: HostRuntime) -> Result<(), Fail> {
             bound,
             producers,
             &line,
+            leave,
         );
         same(&rt, end.cause, cause);
         same(&rt, counts(&end), wanted);
@@ -240,9 +244,9 @@ fn what_came_with_the_answer(rt: HostRuntime) -> Result<(), Fail> {
     for (behind, cause, delivered, written) in cases {
         let alloc = rt.alloc();
         let bound = bound_with(&rt, alloc, behind);
-        let line = line_of(&rt, alloc, 1000, 0);
+        let (line, leave) = line_of(&rt, alloc, 1000, 0);
         let later = source_of(3, b"\x00\x00\x00\x00\x00\x00\x09", false);
-        let end = read_from(&rt, alloc, later, bound, Vec::new(alloc), &line);
+        let end = read_from(&rt, alloc, later, bound, Vec::new(alloc), &line, leave);
         same(&rt, end.cause, cause);
         same(&rt, counts(&end), [0, 0, 0, delivered, 0, 0, 0]);
         want_written(&rt, line, written);
@@ -256,7 +260,7 @@ fn answers_that_overrun(rt: HostRuntime) -> Result<(), Fail> {
     let octets =
         b"\x00\x00\x00\x10\x80\x00\x00\x04\x00\x00\x00\x00\x00\x00\x00\x01\x00\x00\x00\x10\x80\x00\x00\x04\x00\x00\x00\x00\x00\x00\x00\x02";
     let alloc = rt.alloc();
-    let line = line_of(&rt, alloc, 0, 2);
+    let (line, leave) = line_of(&rt, alloc, 0, 2);
     let bound = bound_as(&rt, alloc, Mode::Transceiver);
     let end = read_from(
         &rt,
@@ -265,8 +269,10 @@ fn answers_that_overrun(rt: HostRuntime) -> Result<(), Fail> {
         bound,
         Vec::new(alloc),
         &line,
+        leave,
     );
     same(&rt, counts(&end), [0, 0, 2, 0, 0, 0, 0]);
+    let (line, leave) = line_of(&rt, alloc, 0, 2);
     let bound = bound_as(&rt, alloc, Mode::Transceiver);
     let (producers, _consumer) = ring_of(alloc, 1)?;
     let end = read_from(
@@ -276,6 +282,7 @@ fn answers_that_overrun(rt: HostRuntime) -> Result<(), Fail> {
         bound,
         producers,
         &line,
+        leave,
     );
     same(&rt, counts(&end), [1, 0, 1, 0, 0, 0, 0]);
     Ok(())
@@ -307,7 +314,7 @@ fn want_numbers(rt: &impl Abort, consumer: &mut Consumer<Reply>, wanted: &[u32])
 #[test]
 fn answers_of_several_workers(rt: HostRuntime) -> Result<(), Fail> {
     let alloc = rt.alloc();
-    let line = line_of(&rt, alloc, 0, 0);
+    let (line, leave) = line_of(&rt, alloc, 0, 0);
     for (slot, worker) in [(0, 1), (1, 0), (2, 2), (3, 1), (4, 0)] {
         same(&rt, line.slots.post(&rt, slot, worker, slot + 1), Ok(()));
     }
@@ -319,7 +326,7 @@ fn answers_of_several_workers(rt: HostRuntime) -> Result<(), Fail> {
     let octets = answers_to(alloc, &[5, 1, 3, 9, 4, 2, 1])?;
     let source = source_of(0, octets.as_slice(), false);
     let bound = bound_as(&rt, alloc, Mode::Transceiver);
-    let end = read_from(&rt, alloc, source, bound, producers, &line);
+    let end = read_from(&rt, alloc, source, bound, producers, &line, leave);
     same(&rt, counts(&end), [3, 2, 2, 0, 0, 0, 0]);
     want_numbers(&rt, &mut first, &[5, 2]);
     want_numbers(&rt, &mut second, &[1]);
@@ -337,11 +344,11 @@ fn readers_that_end_early(rt: HostRuntime) -> Result<(), Fail> {
     ];
     for (room, idle, stop, cause) in cases {
         let alloc = rt.alloc();
-        let line = line_of(&rt, alloc, room, 0);
+        let (line, leave) = line_of(&rt, alloc, room, 0);
         line.stop.store(stop, Ordering::SeqCst);
         let bound = bound_as(&rt, alloc, Mode::Transmitter);
         let source = source_of(idle, ENQUIRE_LINK, true);
-        let end = read_from(&rt, alloc, source, bound, Vec::new(alloc), &line);
+        let end = read_from(&rt, alloc, source, bound, Vec::new(alloc), &line, leave);
         same(&rt, end.cause, cause);
         let written: &[u8] = match cause {
             ReaderCause::WriteFault => &ENQUIRE_LINK_RESP[..10],
@@ -357,7 +364,7 @@ fn readers_that_end_early(rt: HostRuntime) -> Result<(), Fail> {
 #[test]
 fn the_first_cause_stands(rt: HostRuntime) -> Result<(), Fail> {
     let alloc = rt.alloc();
-    let line = line_of(&rt, alloc, 0, 0);
+    let (line, leave) = line_of(&rt, alloc, 0, 0);
     let mut broken = wire_to(0, Vec::new(alloc));
     drop(broken.send(frame(alloc, ENQUIRE_LINK)?));
     if !broken.broken() {
@@ -369,7 +376,7 @@ fn the_first_cause_stands(rt: HostRuntime) -> Result<(), Fail> {
     want_down(&rt, &line, &down, DownCause::Write);
     let bound = bound_as(&rt, alloc, Mode::Transmitter);
     let source = source_of(0, b"", false);
-    let end = read_from(&rt, alloc, source, bound, Vec::new(alloc), &line);
+    let end = read_from(&rt, alloc, source, bound, Vec::new(alloc), &line, leave);
     same(&rt, end.cause, ReaderCause::Ended);
     want_down(&rt, &line, &down, DownCause::Write);
     Ok(())

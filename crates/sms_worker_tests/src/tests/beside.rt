@@ -54,7 +54,8 @@ impl Write for Fuse<'_> {
 pub fn line_with_fuse(alloc: Global, room: u64, log: &Log) -> Option<Line<Fuse<'_>>> {
     let slots = SlotRow::new(alloc).ok()?;
     let fuse = Fuse { left: room, log };
-    Some(Line::new(slots, Wire::new(Tap::new(fuse))))
+    let (line, _leave) = Line::new(slots, Wire::new(Tap::new(fuse)));
+    Some(line)
 }
 
 // Takes nothing.

@@ -5,7 +5,7 @@ ghost use Rattle.std.specs.Prelude.{◌≡◌};
 
 use super::SILENT;
 use rtrb::{Consumer, Producer, RingBuffer};
-use sms_bind::{Bound, Line, ReaderEnd, Wire, read_loop};
+use sms_bind::{Bound, Line, ReaderEnd, ReaderLeave, Wire, read_loop};
 use sms_pdu::{
     BIND_TRANSCEIVER_RESP, Framer, Frames, GENERIC_NACK, Header, Mode, Reply, SUBMIT_SM_RESP, Tap,
     header_of,
@@ -42,14 +42,12 @@ impl Write for Way {
     }
 }
 
-/// A line whose writer is the way to the centre, and the other end of that way.
-pub fn line_to_centre(alloc: Global) -> Option<(Line<Way>, Consumer<u8>)> {
+/// A line whose writer is the way to the centre, its reader's leave, and the other end of that way.
+pub fn line_to_centre(alloc: Global) -> Option<(Line<Way>, ReaderLeave, Consumer<u8>)> {
     let (octets, requests) = RingBuffer::new(alloc, 8192).ok()?;
     let slots = SlotRow::new(alloc).ok()?;
-    Some((
-        Line::new(slots, Wire::new(Tap::new(Way { octets }))),
-        requests,
-    ))
+    let (line, leave) = Line::new(slots, Wire::new(Tap::new(Way { octets })));
+    Some((line, leave, requests))
 }
 
 /// The centre, as a reader. A read gives one octet of the answer to the request that came last; where
@@ -199,6 +197,7 @@ pub fn reads<S: Wait>(
     line: &Line<Way>,
     window: &Window,
     seat: WindowSeat,
+    leave: ReaderLeave,
 ) -> Option<ReaderEnd>
     requires own { seat.window ≡ window.now }
 {
@@ -213,6 +212,7 @@ pub fn reads<S: Wait>(
         line,
         window,
         seat,
+        leave,
         None,
         1 << 40,
     );

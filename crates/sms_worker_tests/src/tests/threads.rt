@@ -10,7 +10,7 @@ use super::{
     Case, OK, PLAIN, THROTTLED, book_of, had, messages_of, rings_of, rules_of, same, seats_of,
 };
 use rtrb::Producer;
-use sms_bind::{Line, ReaderCause, ReaderEnd};
+use sms_bind::{Line, ReaderCause, ReaderEnd, ReaderLeave};
 use sms_book::{Blank, Book, BookName, Shares, Till, gather};
 use sms_core::Row;
 use sms_pdu::Reply;
@@ -140,6 +140,7 @@ fn all_work<N: BookName + Send + Sync, S: Threads + Wait + Sync>(
     centre: Centre,
     producers: Vec<Producer<Reply>>,
     keeper: WindowSeat,
+    leave: ReaderLeave,
 ) -> (Both<N>, Option<ReaderEnd>)
     requires first { one.seat.window ≡ window.now }
     requires second { other.seat.window ≡ window.now }
@@ -156,7 +157,7 @@ fn all_work<N: BookName + Send + Sync, S: Threads + Wait + Sync>(
         },
         || -> Option<ReaderEnd>
             requires { keeper.window ≡ window.now }
-        { reads(rt, alloc, centre, producers, line, window, keeper) },
+        { reads(rt, alloc, centre, producers, line, window, keeper, leave) },
     )
 }
 
@@ -210,7 +211,7 @@ fn work_together<N: BookName + Send + Sync, R: Abort + Threads + Wait + Sync>(
     let others = had(rt, messages_of(alloc, threaded.messages.1).ok());
     let statuses = had(rt, Vec::from_slice(alloc, threaded.case.answers).ok());
     let (window, seat, other_seat, keeper) = had(rt, seats_of(rt, alloc, threaded.case.first));
-    let (line, requests) = had(rt, line_to_centre(alloc));
+    let (line, leave, requests) = had(rt, line_to_centre(alloc));
     let (producers, consumer, other_consumer) = had(rt, rings_of(alloc));
     let (book, till, mut all) = had(rt, blank.open::<N>(alloc).ok());
     let shares = had(rt, all.pop());
@@ -247,6 +248,7 @@ fn work_together<N: BookName + Send + Sync, R: Abort + Threads + Wait + Sync>(
         centre,
         producers,
         keeper,
+        leave,
     );
     came_of(rt, alloc, book, till, ends, end)
 }
