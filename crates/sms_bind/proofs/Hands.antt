@@ -65,13 +65,13 @@ tells ds c end is e1 e2 e3 e4 e5 e6 e7 =
     }
 
 -- the end that is put together of what the reader_state holds
-abbrev pub end_of : ReaderState → ReaderCause → ReaderEnd
-end_of d cause = record { answered = d.counts.answered; unknown = d.counts.unknown; overrun = d.counts.overrun; delivered = d.counts.delivered; noted = d.counts.noted; nacked = d.counts.nacked; unreplied = d.counts.unreplied; cause = cause; producers = d.producers; seat = d.follower.now }
+abbrev pub end_of : ReaderState → ℕ → ReaderCause → ReaderEnd
+end_of d errors cause = record { answered = d.counts.answered; unknown = d.counts.unknown; overrun = d.counts.overrun; delivered = d.counts.delivered; noted = d.counts.noted; nacked = d.counts.nacked; unreplied = d.counts.unreplied; errors = errors; cause = cause; producers = d.producers; seat = d.follower.now }
 
-pub hands_on : (s : State) (a b : ReaderState) (begun kept : List ℕ) (r t : Option (List ℕ)) (end : ReaderCause) → IsBound s → a.counts ≡ no_counts
+pub hands_on : (s : State) (a b : ReaderState) (begun kept : List ℕ) (r t : Option (List ℕ)) (errors : ℕ) (end : ReaderCause) → IsBound s → a.counts ≡ no_counts
     → Reads (Worked s (Some end) a b) begun r t (stretch_of (Some end)) kept
-    → HandsOn s begun r t (map sent a.producers.items) (map sent b.producers.items) a.follower (end_of b end)
-hands_on s a b begun kept r t end up none p =
+    → HandsOn s begun r t (map sent a.producers.items) (map sent b.producers.items) a.follower (end_of b errors end)
+hands_on s a b begun kept r t errors end up none p =
     let w = p.went in
     let d = each_divided p.left in
     let left = λ (late : stretch_of (Some end) ≢ early). rest_divided p.left d.frames d.rest (rest_left (stretch_of (Some end)) p.left kept late p.leaves) d.divided in
@@ -93,22 +93,22 @@ hands_on s a b begun kept r t end up none p =
       are = same;
       prefix = (answers d.frames, ap (λ l. l ++ answers d.frames) same ∙ sym (answers_join w.frames d.frames));
       hands = w.done.sends;
-      counts = tells ds b.counts (end_of b end) (w.done.counts ∙ ap (λ (k : Counts). tallies k ds) none) refl refl refl refl refl refl refl;
+      counts = tells ds b.counts (end_of b errors end) (w.done.counts ∙ ap (λ (k : Counts). tallies k ds) none) refl refl refl refl refl refl refl;
       last = b.follower;
       follows = w.done.follows;
       seat = refl;
     }
 
 -- and the room of the rings
-pub leaves_room : (s : State) (a b : ReaderState) (begun kept : List ℕ) (r t : Option (List ℕ)) (end : ReaderCause) → a.counts ≡ no_counts
+pub leaves_room : (s : State) (a b : ReaderState) (begun kept : List ℕ) (r t : Option (List ℕ)) (errors : ℕ) (end : ReaderCause) → a.counts ≡ no_counts
     → Reads (Worked s (Some end) a b) begun r t (stretch_of (Some end)) kept
-    → LeavesRoom (map sent a.producers.items) (map sent b.producers.items) (map known_free a.producers.items) (map known_free b.producers.items) (end_of b end)
-leaves_room s a b begun kept r t end none p =
+    → LeavesRoom (map sent a.producers.items) (map sent b.producers.items) (map known_free a.producers.items) (map known_free b.producers.items) (end_of b errors end)
+leaves_room s a b begun kept r t errors end none p =
     let w = p.went.done in
     record {
       deeds = w.deeds;
       hands = w.sends;
-      counts = tells w.deeds b.counts (end_of b end) (w.counts ∙ ap (λ (k : Counts). tallies k w.deeds) none) refl refl refl refl refl refl refl;
+      counts = tells w.deeds b.counts (end_of b errors end) (w.counts ∙ ap (λ (k : Counts). tallies k w.deeds) none) refl refl refl refl refl refl refl;
       room = w.room;
     }
 

@@ -42,6 +42,8 @@ pub struct ReaderEnd {
     pub nacked: u64,
     /// Requests whose response couldn't be encoded for want of memory.
     pub unreplied: u64,
+    /// Errors that its input answered while it read.
+    pub errors: u64,
     /// Why it ended.
     pub cause: ReaderCause,
     /// The rings, in their order, with what was handed on.

@@ -1,6 +1,6 @@
 //! The reader of a bind.
 
-ghost use Rattle.std.specs.Prelude.{◌≡◌, ◌≢◌, ◌≤◌, ◌^◌, ◌++◌, map, IfSome};
+ghost use Rattle.std.specs.Prelude.{◌≡◌, ◌≢◌, ◌+◌, ◌-◌, ◌<◌, ◌≤◌, ◌^◌, ◌++◌, map, IfSome};
 ghost use Rattle.std.specs.List.{concat, AllZip};
 ghost use Rattle.std.specs.Io.KnownBytes.{IsAtEnd};
 ghost use Rattle.rtrb.specs.Ring.{sent, known_free, SameProducer};
@@ -11,7 +11,7 @@ ghost use Rattle.sms_pdu.specs.Turn.{Turned};
 ghost use Rattle.sms_bind.specs.Follows.{HoldsBack, most_held, held_none};
 ghost use Rattle.sms_bind.specs.Downs.{IsMarkedAtEnd};
 ghost use Rattle.sms_bind.specs.Ends.{HandsOn, LeavesRoom};
-ghost use Rattle.sms_bind.specs.Turns.{Stops};
+ghost use Rattle.sms_bind.specs.Turns.{Stops, TookTurns};
 ghost use Rattle.sms_bind.specs.declared.ending.ReaderCause.TheVariants.{Ended, ReadFault, Stopped, Turns};
 
 use crate::bound::Bound;
@@ -55,6 +55,9 @@ pub fn read_loop<'l, R: Read, W: Write, S: Wait>(
     ensures seat { HoldsBack (most_held follow) seat.view result.0.seat.view }
     ensures window { result.0.seat.window ≡ seat.window }
     ensures turned { Turned turns (result.0.cause ≡ Turns) (R.remaining (device reader.old)) (R.remaining (device reader.new)) (faults_of reader.old) (faults_of reader.new) }
+    // Where its turns were used up it took so many, of which so many met an error.
+    ensures took { faults_of reader.old + turns < 2 ^ 64 → result.0.cause ≡ Turns → TookTurns turns result.0.errors (R.remaining (device reader.old)) (R.remaining (device reader.new)) }
+    ensures errors { result.0.errors ≡ faults_of reader.new - faults_of reader.old }
     ensures stopped { result.0.cause ≡ Stopped → Stops turns (R.remaining (device reader.old)) (R.remaining (device reader.new)) }
     ensures end { result.0.cause ≡ Ended → IsAtEnd (R.remaining (device reader.new)) }
     ensures fault { result.0.cause ≡ ReadFault → IsCounted (faults_of reader.old) (faults_of reader.new) }
@@ -92,6 +95,9 @@ fn read_all<R: Read, W: Write, S: Wait>(
     ensures seat { HoldsBack (most_held follow) seat.view result.seat.view }
     ensures window { result.seat.window ≡ seat.window }
     ensures turned { Turned turns (result.cause ≡ Turns) (R.remaining (device reader.old)) (R.remaining (device reader.new)) (faults_of reader.old) (faults_of reader.new) }
+    // Where its turns were used up it took so many, of which so many met an error.
+    ensures took { faults_of reader.old + turns < 2 ^ 64 → result.cause ≡ Turns → TookTurns turns result.errors (R.remaining (device reader.old)) (R.remaining (device reader.new)) }
+    ensures errors { result.errors ≡ faults_of reader.new - faults_of reader.old }
     ensures stopped { result.cause ≡ Stopped → Stops turns (R.remaining (device reader.old)) (R.remaining (device reader.new)) }
     ensures end { result.cause ≡ Ended → IsAtEnd (R.remaining (device reader.new)) }
     ensures fault { result.cause ≡ ReadFault → IsCounted (faults_of reader.old) (faults_of reader.new) }
@@ -101,7 +107,7 @@ fn read_all<R: Read, W: Write, S: Wait>(
     let follower = match Follower::new(alloc, seat, most_of(follow)) {
         Ok(follower) => follower,
         Err((_e, seat)) => {
-            return ended(producers, seat, Counts::new(), ReaderCause::OutOfMemory);
+            return ended(producers, seat, Counts::new(), 0, ReaderCause::OutOfMemory);
         }
     };
     let Bound {
@@ -122,6 +128,7 @@ fn read_all<R: Read, W: Write, S: Wait>(
         window,
     };
     let rest = framer.into_rest();
+    let before = reader.faults();
     let cause = reader_state.read(&context, reader, frames.as_slice(), rest, turns);
     let ReaderState {
         session: _,
@@ -129,7 +136,8 @@ fn read_all<R: Read, W: Write, S: Wait>(
         counts,
         follower,
     } = reader_state;
-    ended(producers, follower.into_seat(), counts, cause)
+    let errors = reader.faults().saturating_sub(before);
+    ended(producers, follower.into_seat(), counts, errors, cause)
 }
 
 /// The most slots that are held back: one stays for the workers.
@@ -148,9 +156,10 @@ fn ended(
     producers: Vec<Producer<Reply>>,
     seat: WindowSeat,
     counts: Counts,
+    errors: u64,
     cause: ReaderCause,
 ) -> ReaderEnd
-    ensures { result ≡ record { answered = counts.answered; unknown = counts.unknown; overrun = counts.overrun; delivered = counts.delivered; noted = counts.noted; nacked = counts.nacked; unreplied = counts.unreplied; cause = cause; producers = producers; seat = seat } }
+    ensures { result ≡ record { answered = counts.answered; unknown = counts.unknown; overrun = counts.overrun; delivered = counts.delivered; noted = counts.noted; nacked = counts.nacked; unreplied = counts.unreplied; errors = errors; cause = cause; producers = producers; seat = seat } }
 {
     ReaderEnd {
         answered: counts.answered,
@@ -160,6 +169,7 @@ fn ended(
         noted: counts.noted,
         nacked: counts.nacked,
         unreplied: counts.unreplied,
+        errors,
         cause,
         producers,
         seat,

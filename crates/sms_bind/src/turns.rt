@@ -1,6 +1,6 @@
 //! Reading in turns.
 
-ghost use Rattle.std.specs.Prelude.{◌≡◌, ◌≢◌, ◌+◌, ◌<◌, ◌≤◌, ◌^◌, ◌++◌, [], length, None, Some};
+ghost use Rattle.std.specs.Prelude.{◌≡◌, ◌≢◌, ◌+◌, ◌-◌, ◌<◌, ◌≤◌, ◌^◌, ◌++◌, [], length, None, Some};
 ghost use Rattle.std.specs.List.{concat};
 ghost use Rattle.std.specs.Io.KnownBytes.{IsAtEnd};
 ghost use Rattle.sms_pdu.specs.Frame.{IsRest, IsBad};
@@ -12,7 +12,7 @@ ghost use Rattle.sms_session.specs.Session.{IsBound};
 ghost use Rattle.sms_bind.specs.Deeds.{stretch_of, IsWithin};
 ghost use Rattle.sms_bind.specs.Follows.{Follows};
 ghost use Rattle.sms_bind.specs.ReaderStates.{Worked};
-ghost use Rattle.sms_bind.specs.Turns.{Stops};
+ghost use Rattle.sms_bind.specs.Turns.{Stops, TookTurns};
 ghost use Rattle.sms_bind.specs.declared.ending.ReaderCause.TheVariants.{Ended, ReadFault, Stopped, Turns, OutOfMemory};
 
 use crate::context::ReaderContext;
@@ -44,6 +44,7 @@ impl ReaderState {
         ensures follows { Follows self.old.follower self.new.follower }
         ensures reads { Reads (Worked self.old.session (Some result) self.old self.new) (concat frames.now ++ rest.items) (R.remaining (device reader.old)) (R.remaining (device reader.new)) (stretch_of (Some result)) [] }
         ensures turned { Turned turns (result ≡ Turns) (R.remaining (device reader.old)) (R.remaining (device reader.new)) (faults_of reader.old) (faults_of reader.new) }
+        ensures took { faults_of reader.old + turns < 2 ^ 64 → result ≡ Turns → TookTurns turns (faults_of reader.new - faults_of reader.old) (R.remaining (device reader.old)) (R.remaining (device reader.new)) }
         ensures stopped { result ≡ Stopped → Stops turns (R.remaining (device reader.old)) (R.remaining (device reader.new)) }
         ensures end { result ≡ Ended → IsAtEnd (R.remaining (device reader.new)) }
         ensures fault { result ≡ ReadFault → IsCounted (faults_of reader.old) (faults_of reader.new) }
@@ -79,6 +80,7 @@ impl ReaderState {
         ensures follows { Follows self.old.follower self.new.follower }
         ensures reads { Reads (Worked self.old.session (Some result) self.old self.new) held.items (R.remaining (device reader.old)) (R.remaining (device reader.new)) (stretch_of (Some result)) [] }
         ensures turned { Turned turns (result ≡ Turns) (R.remaining (device reader.old)) (R.remaining (device reader.new)) (faults_of reader.old) (faults_of reader.new) }
+        ensures took { faults_of reader.old + turns < 2 ^ 64 → result ≡ Turns → TookTurns turns (faults_of reader.new - faults_of reader.old) (R.remaining (device reader.old)) (R.remaining (device reader.new)) }
         ensures stopped { result ≡ Stopped → Stops turns (R.remaining (device reader.old)) (R.remaining (device reader.new)) }
         ensures end { result ≡ Ended → IsAtEnd (R.remaining (device reader.new)) }
         ensures fault { result ≡ ReadFault → IsCounted (faults_of reader.old) (faults_of reader.new) }
@@ -123,6 +125,7 @@ impl ReaderState {
         ensures room { result ≡ None → self.new.counts.frames + length held.new.items ≤ self.old.counts.frames + length held.old.items + 65536 }
         ensures going { result ≡ None → self.new.session ≡ self.old.session }
         ensures turned { Turned 1 (result ≡ None) (R.remaining (device reader.old)) (R.remaining (device reader.new)) (faults_of reader.old) (faults_of reader.new) }
+        ensures took { faults_of reader.old + 1 < 2 ^ 64 → result ≡ None → TookTurns 1 (faults_of reader.new - faults_of reader.old) (R.remaining (device reader.old)) (R.remaining (device reader.new)) }
         ensures cause { (result ≢ Some Stopped) × (result ≢ Some Turns) }
         ensures spent { IsSpent (R.remaining (device reader.old)) → ¬ IsCounted (faults_of reader.old) (faults_of reader.new) → result ≡ Some Ended }
         ensures end { result ≡ Some Ended → IsAtEnd (R.remaining (device reader.new)) }

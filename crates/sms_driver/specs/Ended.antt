@@ -5,12 +5,12 @@ use Rattle.std.specs.List.{concat}
 use Rattle.sms_pdu.specs.Turn.{most_piece, GaveAtMost}
 use Rattle.sms_pdu.specs.declared.reply.Reply.{Reply}
 use Rattle.sms_bind.specs.declared.bound.Bound.{Bound}
-use Rattle.sms_bind.specs.declared.ending.ReaderCause.TheVariants.{Ended, Stopped}
+use Rattle.sms_bind.specs.declared.ending.ReaderCause.TheVariants.{Ended, Stopped, Turns}
 use Rattle.sms_bind.specs.declared.ending.ReaderEnd.{ReaderEnd}
 use Rattle.sms_bind.specs.Ends.{HandsOn}
 use Rattle.sms_bind.specs.Follows.{most_held}
 use Rattle.sms_bind.specs.Held.{Held}
-use Rattle.sms_bind.specs.Turns.{Stops}
+use Rattle.sms_bind.specs.Turns.{Stops, TookTurns}
 use Rattle.sms_driver.specs.declared.bind_end.BindEnd.{BindEnd}
 use Rattle.sms_driver.specs.declared.bind_end.ReaderOutcome.{ReaderOutcome}
 use Rattle.sms_driver.specs.declared.binding.BindSettings.{BindSettings}
@@ -32,8 +32,10 @@ pub record HasEnded (all : BindSettings) (turns : ℕ) (told : Option (List ℕ)
   pub is : outcome ≡ outcome_of end
   -- it followed as it was to
   pub follows : held.most ≡ most_held (follow_of all)
-  -- it was read in so many turns at most; the input is told as ended where all of it was read, and the reader as stopped where a turn was left
+  -- it was read in so many turns at most, and where they are told as used up in just as many, each of which met one of the errors or gave some octets; the
+  -- input is told as ended where all of it was read, and the reader as stopped where a turn was left
   pub most : GaveAtMost (most_piece * turns) between left
+  pub took : outcome.cause ≡ Turns → TookTurns turns outcome.errors between left
   pub ended : outcome.cause ≡ Ended → IsAtEnd left
   pub stopped : outcome.cause ≡ Stopped → Stops turns between left
 

@@ -1,5 +1,5 @@
 -- What the binds' readers are given, and what they do with it.
-use Rattle.std.specs.Prelude.{◌≡◌, ◌++◌, ◌+◌, ℕ, List, [], ◌∷◌, map, Option}
+use Rattle.std.specs.Prelude.{◌≡◌, ◌++◌, ◌+◌, ◌*◌, ℕ, List, [], ◌∷◌, map, Option}
 use Rattle.std.specs.Io.KnownBytes.{Consumes, IsAtEnd}
 use Rattle.std.specs.List.{concat, AllZip}
 use Rattle.std.specs.declared.alloc.Global.{Global}
@@ -13,10 +13,10 @@ use Rattle.sms_bind.specs.declared.ending.ReaderCause.TheVariants.{Ended, Stoppe
 use Rattle.sms_bind.specs.declared.ending.ReaderEnd.{ReaderEnd}
 use Rattle.sms_pdu.specs.declared.tap.Tap.{Tap}
 use Rattle.sms_bind.specs.Answers.{Bounds}
-use Rattle.sms_pdu.specs.Devices.{device, faults_of}
-use Rattle.sms_pdu.specs.Turn.{Turned}
+use Rattle.sms_pdu.specs.Devices.{device}
+use Rattle.sms_pdu.specs.Turn.{most_piece, GaveAtMost}
 use Rattle.sms_bind.specs.Follows.{most_held}
-use Rattle.sms_bind.specs.Turns.{Stops}
+use Rattle.sms_bind.specs.Turns.{Stops, TookTurns}
 use Rattle.sms_bind.specs.Ends.{HandsOn}
 use Rattle.sms_bind.specs.Held.{Held}
 use Rattle.sms_window.specs.SeatState.{SeatState}
@@ -55,7 +55,7 @@ pub record IsUnread (seat : SeatState) (rings : List (Producer Reply Global AnyI
   pub stopped : end.cause ≡ Stopped
 
 -- the answers of what was read went to the rings that were given, where `remaining` tells what there is to read; it was read in
--- so many turns at most, in no fewer where the cause is that they were used up, and to its end where that is the cause
+-- so many turns at most, in just as many where the cause is that they were used up, and to its end where that is the cause
 pub record HasRead {Rd : Type 0} (turns : ℕ) (remaining : Rd → Option (List ℕ)) (given : Reading Rd) (end : ReaderEnd) : Type 0 where
   pub same : AllZip SameProducer given.rings end.producers.items
   pub left : Option (List ℕ)
@@ -63,8 +63,8 @@ pub record HasRead {Rd : Type 0} (turns : ℕ) (remaining : Rd → Option (List 
   pub hands : HandsOn given.bound.session (concat given.bound.frames ++ given.bound.framer) (remaining (device given.reader)) left (map sent given.rings) (map sent end.producers.items) held end
   -- as many slots are held back as it is to follow by
   pub follows : held.most ≡ most_held given.follow.limit
-  pub faults : ℕ
-  pub turned : Turned turns (end.cause ≡ Turns) (remaining (device given.reader)) left (faults_of given.reader) faults
+  pub most : GaveAtMost (most_piece * turns) (remaining (device given.reader)) left
+  pub took : end.cause ≡ Turns → TookTurns turns end.errors (remaining (device given.reader)) left
   pub stopped : end.cause ≡ Stopped → Stops turns (remaining (device given.reader)) left
   pub ended : end.cause ≡ Ended → IsAtEnd left
 

@@ -11,7 +11,7 @@ use crate::latch::{Latch, Told, Word};
 use crate::threads::{ReaderPromise, ReaderTask};
 use rtrb::Producer;
 use sms_bind::{ReaderCause, ReaderEnd, read_loop};
-use sms_pdu::Reply;
+use sms_pdu::{Reply, Tap};
 use sms_window::WindowSeat;
 use sms_worker::Rules;
 use std::alloc::Global;
@@ -35,13 +35,15 @@ fn unread(producers: Vec<Producer<Reply>>, seat: WindowSeat) -> ReaderEnd
         noted: 0,
         nacked: 0,
         unreplied: 0,
+        errors: 0,
         cause: ReaderCause::Stopped,
         producers,
         seat,
     }
 }
 
-/// Waits for the word, and then reads until the bind's end or gives back what it has.
+/// Waits for the word, and then reads until the bind's end or gives back what it has. The errors of the
+/// input are counted from there on.
 fn listen<'s, Rd: Read, W: Write, R: Wait>(
     rt: &R,
     alloc: Global,
@@ -58,7 +60,7 @@ where
 {
     let said = latch.hear(rt);
     let ReaderTask {
-        mut reader,
+        reader,
         bound,
         follow,
         producers,
@@ -69,6 +71,7 @@ where
     } = reader_task;
     match latch.word(&said) {
         Word::Go => {
+            let mut reader = Tap::new(reader.into_inner());
             let (back, _down) = read_loop(
                 rt,
                 alloc,

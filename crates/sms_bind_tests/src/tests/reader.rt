@@ -337,19 +337,19 @@ fn answers_of_several_workers(rt: HostRuntime) -> Result<(), Fail> {
 #[test]
 fn readers_that_end_early(rt: HostRuntime) -> Result<(), Fail> {
     let cases = [
-        (10, 0, false, ReaderCause::WriteFault),
-        (1000, 3, false, ReaderCause::ReadFault),
-        (1000, 10, false, ReaderCause::Turns),
-        (1000, 0, true, ReaderCause::Stopped),
+        (10, 0, false, ReaderCause::WriteFault, 0),
+        (1000, 3, false, ReaderCause::ReadFault, 4),
+        (1000, 10, false, ReaderCause::Turns, 10),
+        (1000, 0, true, ReaderCause::Stopped, 0),
     ];
-    for (room, idle, stop, cause) in cases {
+    for (room, idle, stop, cause, errors) in cases {
         let alloc = rt.alloc();
         let (line, leave) = line_of(&rt, alloc, room, 0);
         line.stop.store(stop, Ordering::SeqCst);
         let bound = bound_as(&rt, alloc, Mode::Transmitter);
         let source = source_of(idle, ENQUIRE_LINK, true);
         let end = read_from(&rt, alloc, source, bound, Vec::new(alloc), &line, leave);
-        same(&rt, end.cause, cause);
+        same(&rt, (end.cause, end.errors), (cause, errors));
         let written: &[u8] = match cause {
             ReaderCause::WriteFault => &ENQUIRE_LINK_RESP[..10],
             ReaderCause::ReadFault => ENQUIRE_LINK_RESP.as_slice(),

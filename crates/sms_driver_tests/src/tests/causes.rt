@@ -112,11 +112,12 @@ fn rules_with(alloc: Global, turns: u16, answer_ms: u32) -> Result<Rules, AllocE
     Ok(rules)
 }
 
-// How the reader of the one bind of a sending ended, why the bind was closed to its worker, and how many
-// messages were refused for that.
+// How the reader of the one bind of a sending ended and how many errors it met, why the bind was closed to its
+// worker, and how many messages were refused for that.
 #[derive(Drop)]
 struct Told {
     cause: ReaderCause,
+    errors: u64,
     closing: BindClosing,
     refused: usize,
 }
@@ -133,6 +134,7 @@ fn told_of(sending: &Sending) -> Result<Told, Fail> {
     }
     Ok(Told {
         cause: bind.reader().cause,
+        errors: bind.reader().errors,
         closing: bind.closing(),
         refused,
     })
@@ -251,14 +253,15 @@ const ENDINGS: [Ending<'static>; 7] = [
     },
 ];
 
+// Where nothing comes, each turn meets an error.
 #[test]
 fn each_cause_is_told(rt: HostRuntime) -> Result<(), Fail> {
     for ending in &ENDINGS {
-        same(
-            &rt,
-            bind_told(&rt, rt.alloc(), *ending, 1)?.cause,
-            ending.cause,
-        );
+        let told = bind_told(&rt, rt.alloc(), *ending, 1)?;
+        same(&rt, told.cause, ending.cause);
+        if let ReaderCause::Turns = told.cause {
+            same(&rt, told.errors, u64::from(ending.turns));
+        }
     }
     Ok(())
 }

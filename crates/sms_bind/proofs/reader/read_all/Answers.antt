@@ -49,9 +49,9 @@ returns-clause-answers g c =
     let a : ReaderState = record { session = s; producers = c.args.producers; counts = c.new-2.result; follower = c.in-Ok.follower } in
     let held : Held = held_none c.args.seat (most_held c.args.follow) in
     let first : c.in-Ok.follower ≡ held = c.in-Ok.ensures.ok ∙ ap (λ (n : ℕ). held_none c.args.seat n) c.most_of.ensures in
-    let all = hands_on s a b _ _ r t c.read-cause.result c.args.bound.bound c.new-2.ensures c.read-cause.ensures.reads in
+    let all = hands_on s a b _ _ r t c.saturating_sub-errors.result c.read-cause.result c.args.bound.bound c.new-2.ensures c.read-cause.ensures.reads in
     let seat = ap (λ (x : ReaderEnd). x.seat) c.ended-2.ensures ∙ c.into_seat.ensures.seat in
-    let is : c.ended-2.result ≡ end_of b c.read-cause.result = search rules in
+    let is : c.ended-2.result ≡ end_of b c.saturating_sub-errors.result c.read-cause.result = search rules in
     let P : List ℕ → Held → ReaderEnd → Type 0 = λ l h e. HandsOn s l r t rings (map sent e.producers.items) h e in
     subst (λ l. P l held c.ended-2.result) begun (subst (λ h. P (concat c.as_slice.result.now ++ c.into_rest-rest.result.items) h c.ended-2.result) first (subst (λ e. P (concat c.as_slice.result.now ++ c.into_rest-rest.result.items) a.follower e) (sym is) all))
 
@@ -80,6 +80,6 @@ returns-clause-room g c =
     let rings = map sent c.args.producers.items in
     let free = map known_free c.args.producers.items in
     let a : ReaderState = record { session = s; producers = c.args.producers; counts = c.new-2.result; follower = c.in-Ok.follower } in
-    let all = leaves_room s a b _ _ r t c.read-cause.result c.new-2.ensures c.read-cause.ensures.reads in
-    let is : c.ended-2.result ≡ end_of b c.read-cause.result = search rules in
+    let all = leaves_room s a b _ _ r t c.saturating_sub-errors.result c.read-cause.result c.new-2.ensures c.read-cause.ensures.reads in
+    let is : c.ended-2.result ≡ end_of b c.saturating_sub-errors.result c.read-cause.result = search rules in
     subst (λ (e : ReaderEnd). LeavesRoom rings (map sent e.producers.items) free (map known_free e.producers.items) e) (sym is) all

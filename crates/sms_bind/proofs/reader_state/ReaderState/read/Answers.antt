@@ -59,3 +59,6 @@ returns-in-Some-clause-stopped g c = λ e. absurd (not_early c.in-Some.cause Sto
 
 pub returns-in-Some-clause-full : goal.returns-in-Some-clause-full
 returns-in-Some-clause-full g c = λ bad e. c.in-Some.ensures.full (ap (λ x. Some x) e)
+
+pub returns-in-Some-clause-took : goal.returns-in-Some-clause-took
+returns-in-Some-clause-took g c = λ room e. absurd (not_early c.in-Some.cause Turns c.in-Some.ensures.early refl e)

@@ -1,4 +1,4 @@
-use Rattle.std.proofs.Common.{[], Option, None, Some, refl, ap, ◌∙◌, subst, rules, arith}
+use Rattle.std.proofs.Common.{◌≡◌, ◌-◌, [], Option, None, Some, refl, ap, ◌∙◌, subst, rules, arith}
 use Rattle.std.proofs.KnownBytes.{Consumes-nil}
 use Rattle.sms_pdu.specs.Devices.{device, faults_of}
 use Rattle.sms_pdu.specs.Streams.{Reads, going, complete, early}
@@ -9,7 +9,8 @@ use Rattle.sms_bind.specs.declared.ending.ReaderCause.TheVariants.{OutOfMemory, 
 use Rattle.sms_bind.specs.Deeds.{stretch_of}
 use Rattle.sms_bind.specs.ReaderStates.{Worked}
 use Rattle.sms_bind.proofs.Works.{worked_none, worked_nothing, worked_more, worked_ends, leaves_end, follows_same, follows_on}
-use Rattle.sms_bind.proofs.Turning.{stops_before}
+use Rattle.sms_bind.specs.Turns.{TookTurns}
+use Rattle.sms_bind.proofs.Turning.{stops_before, took_more, took_none}
 use Rattle.sms_bind.proofs.reader_state.ReaderState.read_turns.Goals as goal
 
 pub returns-in_default-clause-reads : goal.returns-in_default-clause-reads
@@ -30,6 +31,7 @@ loop-turn-init g c =
       within = c.requires.within;
       reads = reads_none (Worked a.session None a a) held held r r going (worked_none a.session a) (Consumes-nil r) (c.requires.rest, refl);
       turned = turned_begins _ _;
+      took = λ room. took_none _ _;
       faults = omega arith;
       failures = refl;
       piece = search rules;
@@ -119,6 +121,7 @@ loop-turn-preserved g c =
       within = c.turn.ensures.within;
       reads = reads_more (Worked s None a b) (Worked s None b d) (Worked s None a d) begun held kept r t u going i.reads one (λ fs gs p q. worked_more s c.requires.bound None a b d fs gs p q);
       turned = turned_more c.loop-turn._turn _ _ _ _ _ _ _ c.turn.ensures.faults i.turned c.in_default-turn.ensures.turned refl;
+      took = took_more c.loop-turn._turn _ _ _ _ _ _ i.faults c.turn.ensures.faults i.took (λ room. c.in_default-turn.ensures.took room refl);
       faults = (let f = c.turn.ensures.faults in let h = i.faults in omega (arith, f, h));
       failures = c.in_default-turn.ensures.quiet (λ e. absurd cc) ∙ i.failures;
       piece = c.turn.ensures.piece;
@@ -143,3 +146,18 @@ returns-then-load-clause-stopped g c = λ e. stops_before c.loop-turn._turn _ _ 
 
 pub returns-in-Some-clause-stopped : goal.returns-in-Some-clause-stopped
 returns-in-Some-clause-stopped g c = λ e. absurd (c.in-Some.ensures.cause.0 (ap (λ x. Some x) e))
+
+pub returns-in_default-clause-took : goal.returns-in_default-clause-took
+returns-in_default-clause-took g c = λ room e. absurd cc
+
+pub returns-then-load-clause-took : goal.returns-then-load-clause-took
+returns-then-load-clause-took g c = λ room e. absurd cc
+
+pub returns-in-Some-clause-took : goal.returns-in-Some-clause-took
+returns-in-Some-clause-took g c = λ room e. absurd (c.in-Some.ensures.cause.1 (ap (λ x. Some x) e))
+
+pub returns-clause-took : goal.returns-clause-took
+returns-clause-took g c = λ room e.
+    let all : c.loop-turn._turn ≡ c.args.turns = search rules in
+    subst (λ n. TookTurns n (faults_of c.loop-turn.reader - faults_of c.args.reader.now) (g.R.Read.remaining (device c.args.reader.now)) (g.R.Read.remaining (device c.loop-turn.reader))) all
+    (c.loop-turn.invariant.took (omega (arith, all, room)))

@@ -6,6 +6,7 @@ use Rattle.sms_pdu.proofs.Streams.{reads_none, reads_once, went_none}
 use Rattle.sms_pdu.proofs.Turns.{not_spent, not_failed, turned_ends, turned_read, turned_fault}
 use Rattle.sms_bind.specs.declared.ending.ReaderCause.TheVariants.{Ended, ReadFault, Stopped, Turns, OutOfMemory}
 use Rattle.sms_bind.specs.ReaderStates.{Worked}
+use Rattle.sms_bind.proofs.Turning.{took_fault, took_read}
 use Rattle.sms_bind.proofs.Works.{worked_nothing, reads_failed}
 use Rattle.sms_bind.proofs.reader_state.ReaderState.turn.Goals as goal
 
@@ -56,3 +57,15 @@ returns-then-is_err-clause-spent g c = λ spent quiet. absurd (not_spent _ _ (ta
 
 pub returns-else-is_err-clause-spent : goal.returns-else-is_err-clause-spent
 returns-else-is_err-clause-spent g c = λ spent quiet. absurd (not_spent _ _ (take c.in-Ok.n c.read.new.buf) (search rules) c.in-Ok.ensures.bytes.0 spent)
+
+pub returns-then-is_err-clause-took : goal.returns-then-is_err-clause-took
+returns-then-is_err-clause-took g c = λ room e. absurd cc
+
+pub returns-else-is_err-clause-took : goal.returns-else-is_err-clause-took
+returns-else-is_err-clause-took g c = λ room e. took_read _ _ _ _ (take c.in-Ok.n c.read.new.buf) (search rules) (search rules) (search rules) c.in-Ok.ensures.bytes.0
+
+pub returns-in-Ok-eq0-clause-took : goal.returns-in-Ok-eq0-clause-took
+returns-in-Ok-eq0-clause-took g c = λ room e. absurd cc
+
+pub returns-in-Err-clause-took : goal.returns-in-Err-clause-took
+returns-in-Err-clause-took g c = λ room e. took_fault _ _ _ _ room c.in-Err.ensures.faults c.in-Err.ensures.bytes
