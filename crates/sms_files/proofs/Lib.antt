@@ -14,3 +14,6 @@ pub mod Tariffs
 pub mod Toml
 pub mod Quotes
 pub mod Seeking
+pub mod FirstFlaws
+pub mod AccountFlaws
+pub mod RateFlaws

@@ -1,13 +1,14 @@
 -- What is wrong with a record where it stands: which of its fields isn't what it should be, or what it has in common with one before it.
-use Rattle.std.specs.Prelude.{◌≡◌, ℕ, zero, suc, ◌+◌, ◌-◌, ◌==◌, ◌&&◌, nat_le, nat_lt, Bool, true, false, List, [], ◌∷◌, length, Option, None, Some, is_some, if◌then◌else◌, codes}
+use Rattle.std.specs.Prelude.{◌≡◌, ◌≢◌, ◌<◌, ◌≤◌, ℕ, zero, suc, ◌+◌, ◌-◌, ◌==◌, ◌&&◌, nat_le, nat_lt, Bool, true, false, List, [], ◌∷◌, length, Option, None, Some, is_some, if◌then◌else◌, codes}
 use Rattle.std.specs.Str.{bytes_eq}
 use Rattle.sms_core.specs.Limits.{most_accounts, most_slots, most_attempts, most_topped}
-use Rattle.sms_files.specs.Accounts.{is_accounts_header, name_in}
+use Rattle.sms_files.specs.Accounts.{accounts_fault, is_accounts_header, name_in}
 use Rattle.sms_files.specs.Fields.{Field, Record, number_at, text_in}
-use Rattle.sms_files.specs.Messages.{is_header, most_messages}
-use Rattle.sms_files.specs.Rates.{is_rates_header, most_rates}
+use Rattle.sms_files.specs.Messages.{is_header, messages_fault, most_messages}
+use Rattle.sms_files.specs.Rates.{TellsTariff, is_rates_header, most_rates}
 use Rattle.sms_files.specs.Rows.{field_is}
 use Rattle.sms_files.specs.Schedule.{most_events, most_flag, most_u32, most_u64}
+use Rattle.sms_files.specs.declared.fault.InputFault.TheVariants.{BadRecord}
 use Rattle.sms_files.specs.declared.fault.Source.{Source}
 use Rattle.sms_files.specs.declared.fault.Source.TheVariants.{Schedule, Messages, Accounts, Tariff}
 use Rattle.sms_files.specs.declared.flaw.Flaw.{Flaw}
@@ -149,3 +150,19 @@ flaw_there source place rs (Some r) = first_flaw (flaw_alone source place r) (fl
 abbrev pub flaw_at : Source → List Record → ℕ → Flaw
 flaw_at source rs zero = Missing
 flaw_at source rs (suc few) = flaw_there source (suc few) rs (record_behind few rs)
+
+-- ---- what a fault says of a file names a flaw
+
+-- the record at this place has a flaw, or isn't there, and each before it is there and has none
+abbrev pub IsFirstFlaw : Source → List Record → ℕ → Type 0
+IsFirstFlaw source rs place = (flaw_at source rs place ≢ Nothing) × ((k : ℕ) → 1 ≤ k → k < place → flaw_at source rs k ≡ Nothing)
+
+abbrev pub BadMessagesHaveFlaws : Type 0
+BadMessagesHaveFlaws = (rs : List Record) (place : ℕ) → messages_fault rs ≡ Some place → IsFirstFlaw Messages rs place
+
+abbrev pub BadAccountsHaveFlaws : Type 0
+BadAccountsHaveFlaws = (rs : List Record) (place : ℕ) → accounts_fault rs ≡ Some place → IsFirstFlaw Accounts rs place
+
+-- in a tariff a record before it may have one, too: prefixes and credits are looked at once all records are those of rates
+abbrev pub BadRatesHaveFlaws : Type 0
+BadRatesHaveFlaws = (rs : List Record) (place : ℕ) → TellsTariff rs (BadRecord Tariff place) → flaw_at Tariff rs place ≢ Nothing

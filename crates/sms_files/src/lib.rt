@@ -13,6 +13,7 @@ mod flaw;
 mod flawed;
 mod held;
 mod input;
+pub mod laws;
 mod limits;
 mod message_rows;
 mod messages;
