@@ -7,3 +7,4 @@ pub mod Buckets
 pub mod Headers
 pub mod Wakes
 pub mod Rests
+pub mod Connecting

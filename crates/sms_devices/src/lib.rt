@@ -6,6 +6,7 @@
 
 mod bell;
 mod bucket;
+mod connecting;
 mod devices;
 mod headers;
 mod host;
@@ -15,6 +16,7 @@ mod noting;
 mod opening;
 mod outbox;
 mod owning;
+mod posting;
 mod progress;
 mod rated;
 mod ringing;
@@ -26,14 +28,16 @@ mod stopping;
 mod wakes;
 
 pub use bell::{Bells, Rest};
+pub use connecting::{Reason, Unconnected};
 pub use devices::Ticks;
 pub use host::Host;
 pub use journal::{Journal, JournalFiles};
 pub use network::{LoopDial, TcpDial, listen};
 pub use noting::Noting;
 pub use opening::Opening;
-pub use outbox::{Guarded, Outbox, Outboxes, Posting};
+pub use outbox::{Guarded, Outbox, Outboxes};
 pub use owning::Owning;
+pub use posting::Posting;
 pub use progress::{Progress, Telling};
 pub use rated::Rated;
 pub use ringing::{Incoming, Ringing};

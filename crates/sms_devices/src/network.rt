@@ -1,7 +1,9 @@
 //! Connections over TCP: to a message centre, or to test centres of the program's own.
 
+use crate::connecting::{Unconnected, connect};
 use crate::opening::Deadline;
-use crate::outbox::{Outbox, Outboxes, Posting};
+use crate::outbox::{Outbox, Outboxes};
+use crate::posting::Posting;
 use crate::ringing::{Incoming, Ringing};
 use sms_centre::{Script, serve};
 use sms_driver::Dial;
@@ -9,7 +11,7 @@ use sms_pdu::Tap;
 use std::alloc::Global;
 use std::fs::OpenFile;
 use std::io::Write;
-use std::net::{Ipv4Addr, Net, SocketAddr, TcpListener, TcpStream, ToSocketAddrs};
+use std::net::{Ipv4Addr, Net, SocketAddr, TcpListener, TcpStream};
 use std::sync::Wait;
 use std::thread;
 use std::thread::Threads;
@@ -24,34 +26,15 @@ const CENTRE_TURNS: u64 = 1 << 40;
 /// How many others may connect to a test centre before its own sender.
 const MOST_STRANGERS: u32 = 1 << 20;
 
-/// Until when a bind that is dialled now has to be answered; the outer none where the clock can't be
-/// read.
-fn deadline_of<R: Clock>(rt: &R, connect_ms: Option<u32>) -> Option<Option<Deadline>> {
+/// Until when a bind that is dialled now has to be answered, if it has to; the clock may be unreadable.
+fn deadline_of<R: Clock>(rt: &R, connect_ms: Option<u32>) -> Result<Option<Deadline>, Unconnected> {
     match connect_ms {
-        Some(ms) => Some(Some(Deadline::new(rt, ms)?)),
-        None => Some(None),
+        Some(ms) => match Deadline::new(rt, ms) {
+            Some(deadline) => Ok(Some(deadline)),
+            None => Err(Unconnected::Other),
+        },
+        None => Ok(None),
     }
-}
-
-/// Connects to the first of the addresses that answers.
-fn connect<R: Net<Stream = TcpStream> + Clock, A: ToSocketAddrs>(
-    rt: &R,
-    addresses: A,
-    deadline: Option<Deadline>,
-) -> Option<TcpStream> {
-    let Some(deadline) = deadline else {
-        return TcpStream::connect(rt, addresses).ok();
-    };
-    for address in addresses.to_socket_addrs(rt).ok()? {
-        let left = deadline.left(rt);
-        if left.is_zero() {
-            return None;
-        }
-        if let Ok(stream) = TcpStream::connect_timeout(rt, &address, left) {
-            return Some(stream);
-        }
-    }
-    None
 }
 
 /// Reader and writer of one connection. What is written waits in the outbox alone, for no more than
@@ -108,6 +91,28 @@ pub struct TcpDial<'r, 'j, R: Wait, F: Write + OpenFile> {
     pub port: u16,
 }
 
+impl<'r, 'j, R: Net<Stream = TcpStream> + Clock + Wait, F: Write + OpenFile> TcpDial<'r, 'j, R, F> {
+    /// Reader and writer of a connection to the centre, or why there is none.
+    fn ends(
+        &self,
+        outbox: &'r Outbox<'j, R, F>,
+        bind: u32,
+    ) -> Result<(Ringing<'r, 'j, TcpStream, R, F>, Posting<'r, 'j, R, F>), Unconnected> {
+        let deadline = deadline_of(self.rt, self.connect_ms)?;
+        let stream = connect(self.rt, (self.host, self.port), deadline)?;
+        ends_of(
+            self.rt,
+            self.alloc,
+            self.outboxes,
+            outbox,
+            bind,
+            deadline,
+            stream,
+        )
+        .ok_or(Unconnected::Other)
+    }
+}
+
 impl<
     'r,
     'j,
@@ -120,17 +125,7 @@ impl<
 
     fn dial(&self, bind: u32) -> Option<(Ringing<'r, 'j, TcpStream, R, F>, Posting<'r, 'j, R, F>)> {
         let outbox = self.outboxes.get(bind)?;
-        let deadline = deadline_of(self.rt, self.connect_ms)?;
-        let stream = connect(self.rt, (self.host, self.port), deadline)?;
-        ends_of(
-            self.rt,
-            self.alloc,
-            self.outboxes,
-            outbox,
-            bind,
-            deadline,
-            stream,
-        )
+        outbox.dialled(self.rt, self.ends(outbox, bind))
     }
 }
 
@@ -151,21 +146,28 @@ pub struct LoopDial<'r, 'j, R: Wait, F: Write + OpenFile> {
 impl<
     'r,
     'j,
-    R: Net<Stream = TcpStream, Listener = TcpListener> + Threads + Clock + Wait + Sync,
-    F: Write + OpenFile + Send + Drop,
-> Dial for LoopDial<'r, 'j, R, F> {
-    type Reader = Ringing<'r, 'j, TcpStream, R, F>;
-
-    type Writer = Posting<'r, 'j, R, F>;
-
-    fn dial(&self, bind: u32) -> Option<(Ringing<'r, 'j, TcpStream, R, F>, Posting<'r, 'j, R, F>)> {
-        let outbox = self.outboxes.get(bind)?;
-        let address = self.listener.local_addr().ok()?;
-        let deadline = deadline_of(self.rt, self.connect_ms)?;
-        let near = connect(self.rt, address, deadline)?;
+    R: Net<Stream = TcpStream, Listener = TcpListener> + Threads + Clock + Wait,
+    F: Write + OpenFile,
+> LoopDial<'r, 'j, R, F> {
+    /// Serves a connection by a test centre of its own.
+    fn serve(&self, near: &TcpStream) -> Option<()> {
         let far = accept_from(&self.listener, near.local_addr().ok()?)?;
         let script = Script::of(self.alloc, self.bind_status, self.answers).ok()?;
-        start_centre(self.rt, self.alloc, far, script)?;
+        start_centre(self.rt, self.alloc, far, script)
+    }
+
+    /// Reader and writer of a connection to a test centre that serves it, or why there is none.
+    fn ends(
+        &self,
+        outbox: &'r Outbox<'j, R, F>,
+        bind: u32,
+    ) -> Result<(Ringing<'r, 'j, TcpStream, R, F>, Posting<'r, 'j, R, F>), Unconnected> {
+        let Ok(address) = self.listener.local_addr() else {
+            return Err(Unconnected::Other);
+        };
+        let deadline = deadline_of(self.rt, self.connect_ms)?;
+        let near = connect(self.rt, address, deadline)?;
+        self.serve(&near).ok_or(Unconnected::Other)?;
         ends_of(
             self.rt,
             self.alloc,
@@ -175,6 +177,23 @@ impl<
             deadline,
             near,
         )
+        .ok_or(Unconnected::Other)
+    }
+}
+
+impl<
+    'r,
+    'j,
+    R: Net<Stream = TcpStream, Listener = TcpListener> + Threads + Clock + Wait + Sync,
+    F: Write + OpenFile + Send + Drop,
+> Dial for LoopDial<'r, 'j, R, F> {
+    type Reader = Ringing<'r, 'j, TcpStream, R, F>;
+
+    type Writer = Posting<'r, 'j, R, F>;
+
+    fn dial(&self, bind: u32) -> Option<(Ringing<'r, 'j, TcpStream, R, F>, Posting<'r, 'j, R, F>)> {
+        let outbox = self.outboxes.get(bind)?;
+        outbox.dialled(self.rt, self.ends(outbox, bind))
     }
 }
 

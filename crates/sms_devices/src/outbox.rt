@@ -1,12 +1,14 @@
 //! What the wires have written and the connections haven't taken yet: the requests of a turn go out
 //! together, and not by a write each. Before any of it is written the journal of the run is let out.
 
-ghost use Rattle.std.specs.Prelude.{◌≡◌, ◌+◌, ◌<◌, ◌≤◌, [], IfOk, IsErr, None, false, if◌then◌else◌, is_err, length, min, option_copied, true};
+ghost use Rattle.std.specs.Prelude.{◌≡◌, ◌+◌, ◌<◌, ◌≤◌, [], IfOk, IsErr, false, if◌then◌else◌, is_err, length, min, option_copied, true};
+ghost use Rattle.std.specs.Result.{result_ok};
 ghost use Rattle.std.specs.Io.{WritesAtMost};
 ghost use Rattle.std.specs.Io.KnownBytes.{Keeps, WriteAppends};
 ghost use Rattle.sms_devices.specs.Outboxes.{outbox_of, put_in, waiting_in};
 
 use crate::bell::Bells;
+use crate::connecting::{Reason, Unconnected};
 use crate::journal::{Journal, let_out_of};
 use std::alloc::Global;
 use std::fs::OpenFile;
@@ -191,6 +193,8 @@ impl<W: Write + Shut + Drop> Held<W> {
 #[derive(Drop)]
 pub struct Outbox<'j, R: Wait, F: Write + OpenFile> {
     held: Mutex<Option<Held<Guarded<'j, TcpStream, R, F>>>>,
+    /// Why there is no connection, once one was dialled in vain.
+    unconnected: Mutex<Unconnected>,
 }
 
 impl<'j, R: Wait, F: Write + OpenFile> Outbox<'j, R, F> {
@@ -198,6 +202,7 @@ impl<'j, R: Wait, F: Write + OpenFile> Outbox<'j, R, F> {
     fn new() -> Outbox<'j, R, F> {
         Outbox {
             held: Mutex::new(None),
+            unconnected: Mutex::new(Unconnected::Other),
         }
     }
 
@@ -215,8 +220,21 @@ impl<'j, R: Wait, F: Write + OpenFile> Outbox<'j, R, F> {
         Some(())
     }
 
+    /// What was dialled for; where there is no connection, why is kept.
+    pub fn dialled<T: Drop>(&self, rt: &R, ends: Result<T, Unconnected>) -> Option<T>
+        ensures { result ≡ result_ok ends }
+    {
+        match ends {
+            Ok(ends) => Some(ends),
+            Err(why) => {
+                *self.unconnected.lock(rt) = why;
+                None
+            }
+        }
+    }
+
     /// Keeps octets to be written to the connection.
-    fn put(&self, rt: &R, octets: &[u8]) -> io::Result<usize>
+    pub(crate) fn put(&self, rt: &R, octets: &[u8]) -> io::Result<usize>
         ensures bound { WritesAtMost result octets.now }
     {
         let mut held = self.held.lock(rt);
@@ -295,6 +313,17 @@ impl<'j, R: Wait, F: Write + OpenFile> Outboxes<'j, R, F> {
         }
     }
 
+    /// Why there is no connection for a bind, once one was dialled for it in vain.
+    pub fn reason(&self, bind: u32) -> Reason
+        ensures { result.bind ≡ bind }
+    {
+        let why = match self.get(bind) {
+            Some(outbox) => *outbox.unconnected.lock(self.rt),
+            None => Unconnected::Other,
+        };
+        Reason { bind, why }
+    }
+
     /// Gives the connection of a bind up.
     pub fn give_up(&self, bind: u32) {
         if let Some(outbox) = self.get(bind) {
@@ -361,36 +390,5 @@ impl<'j, R: Wait, F: Write + OpenFile> Outboxes<'j, R, F> {
         self.third.flush();
         self.fourth.flush();
         let _let_out = let_out_of(self.rt, self.journal);
-    }
-}
-
-/// A bind's writer: what it is given goes to the outbox. Where that fails the workers of the bind are told.
-#[derive(Drop)]
-pub struct Posting<'r, 'j, R: Wait, F: Write + OpenFile> {
-    pub rt: &'j R,
-    /// The journal of the run, where it has one, behind which it goes on.
-    pub journal: Option<&'j Journal<F>>,
-    pub bells: &'r Bells,
-    pub bind: usize,
-    pub outbox: &'r Outbox<'j, R, F>,
-}
-
-impl<'r, 'j, R: Wait, F: Write + OpenFile> Write for Posting<'r, 'j, R, F> {
-    ghost contents = { λ _. None };
-
-    fn write(&mut self, buf: &[u8]) -> io::Result<usize>
-        ensures bound { WritesAtMost result buf.now }
-        ensures bytes { WriteAppends None None result buf.now }
-    {
-        let put = self.outbox.put(self.rt, buf);
-        if put.is_err() {
-            self.bells.fail(self.rt, self.bind);
-        }
-        put
-    }
-
-    fn flush(&mut self) -> io::Result<()> {
-        self.outbox.flush();
-        Ok(())
     }
 }

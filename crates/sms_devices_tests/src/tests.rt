@@ -1,6 +1,7 @@
 //! The devices by themselves, over connections of the tests' own.
 
 mod bells;
+mod connecting;
 mod journal;
 mod network;
 mod paper;
