@@ -15,7 +15,15 @@ use std::fmt;
 /// Why a bind failed, where it wasn't refused.
 #[derive(Clone, Copy, Debug, PartialEq, Eq)]
 pub enum BindTrouble {
-    /// There was no connection.
+    /// There was no connection, since it was refused.
+    ConnectionRefused,
+    /// There was none, since the name of the host was not resolved.
+    Unresolved,
+    /// There was none in time.
+    TimedOut,
+    /// There was none, since no way leads to the host or its network.
+    Unreachable,
+    /// There was none for another reason, or for one of this machine.
     NoConnection,
     /// No sequence_number could be drawn.
     NoNumber,
@@ -221,7 +229,12 @@ fn bind_text(why: BindTrouble) -> &'static str
     ensures { result.now ≡ bind_text why }
 {
     match why {
-        BindTrouble::NoConnection => "no connection: refused, no such host, or it took too long",
+        BindTrouble::ConnectionRefused => "no connection: it was refused",
+        BindTrouble::Unresolved => "no connection: the host's name was not resolved",
+        BindTrouble::TimedOut => "no connection: it took too long",
+        BindTrouble::Unreachable => "no connection: the host or its network is unreachable",
+        BindTrouble::NoConnection =>
+            "no connection: another reason; maybe no descriptor, port or memory is left here",
         BindTrouble::NoNumber => "no sequence_number is left",
         BindTrouble::Closed => "the connection was closed before an answer",
         BindTrouble::NotSmpp => "what came is no SMPP, or no answer to a bind",

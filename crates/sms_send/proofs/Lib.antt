@@ -11,3 +11,4 @@ pub mod Runs
 pub mod Sendings
 pub mod Statuses
 pub mod Telling
+pub mod Reasons

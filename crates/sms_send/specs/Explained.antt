@@ -1,5 +1,7 @@
 -- Which lines follow a fault's own.
 use Rattle.std.specs.Prelude.{◌≡◌, ◌⊎◌, ◌↔◌, ℕ, Bool, true, false, IsTrue, List, [], ◌++◌, Option, None, Some, codes, string_bytes}
+use Rattle.sms_devices.specs.declared.connecting.Unconnected.{Unconnected as Why}
+use Rattle.sms_devices.specs.declared.connecting.Unconnected.TheVariants as why
 use Rattle.sms_diagnostics.specs.Causes.{bind_text, cause_text, centre_line, file_text, key_lines, record_lines, status_line, words_lines}
 use Rattle.sms_diagnostics.specs.Keys.{range_of}
 use Rattle.sms_diagnostics.specs.Records.{record_of}
@@ -31,7 +33,7 @@ use Rattle.sms_send.specs.declared.explained.Doing.TheVariants.{Sending, Recover
 use Rattle.sms_send.specs.declared.explained.Known.{Known}
 use Rattle.sms_send.specs.declared.explained.Told.{Told}
 use Rattle.sms_send.specs.declared.fault.Fault.{Fault}
-use Rattle.sms_send.specs.declared.fault.Fault.TheVariants.{Words, Help, Version, File, Unreadable, BadRecord, NotToml, BadKey, BindRefused, BindFailed, BadNote, BadReport, Journal, Output, OutOfMemory}
+use Rattle.sms_send.specs.declared.fault.Fault.TheVariants.{Words, Help, Version, File, Unreadable, BadRecord, NotToml, BadKey, BindRefused, BindFailed, Unconnected, BadNote, BadReport, Journal, Output, OutOfMemory}
 
 -- the files of records
 abbrev pub file_in : Source → RecordOf
@@ -49,10 +51,18 @@ trouble_in bind.NotSmpp = trouble.NotSmpp
 trouble_in bind.Read = trouble.Read
 trouble_in bind.Write = trouble.Write
 
+-- why there is no connection for one
+abbrev pub trouble_to : Why → BindTrouble
+trouble_to why.Refused = trouble.ConnectionRefused
+trouble_to why.Unresolved = trouble.Unresolved
+trouble_to why.TimedOut = trouble.TimedOut
+trouble_to why.Unreachable = trouble.Unreachable
+trouble_to why.Other = trouble.NoConnection
+
 -- of a bind by the message centre, where that is known
-abbrev pub lines_of_bind : Option Address → BindFailure → List ℕ
-lines_of_bind None why = line (bind_text (trouble_in why))
-lines_of_bind (Some centre) why = centre_line (string_bytes centre.host) centre.port (bind_text (trouble_in why))
+abbrev pub lines_of_bind : Option Address → BindTrouble → List ℕ
+lines_of_bind None trouble = line (bind_text trouble)
+lines_of_bind (Some centre) trouble = centre_line (string_bytes centre.host) centre.port (bind_text trouble)
 
 -- of a journal and of the output by what the job does
 abbrev pub lines_of_journal : Doing → List ℕ
@@ -117,7 +127,8 @@ lines_of known (BadRecord source place) = record_lines (record_of (file_in sourc
 lines_of known NotToml = line (codes "it should be TOML in UTF-8: lines KEY = VALUE")
 lines_of known (BadKey key) = lines_of_key (string_bytes key) known.held
 lines_of known (BindRefused bind status) = status_line status (status_name status)
-lines_of known (BindFailed bind why) = lines_of_bind known.centre why
+lines_of known (BindFailed bind failure) = lines_of_bind known.centre (trouble_in failure)
+lines_of known (Unconnected reason) = lines_of_bind known.centre (trouble_to reason.why)
 lines_of known (BadNote place) = record_lines (record_of record-of.Journal place) record-trouble.Unknown
 lines_of known (BadReport place) = record_lines (record_of record-of.Report place) record-trouble.Unknown
 lines_of known Journal = lines_of_journal known.doing

@@ -2,7 +2,9 @@
 use Rattle.std.specs.Prelude.{◌≡◌, ℕ, List, ◌++◌, codes, decimal, string_bytes}
 use Rattle.sms_diagnostics.specs.Shown.{shown}
 use Rattle.sms_send.specs.declared.fault.Fault.{Fault}
-use Rattle.sms_send.specs.declared.fault.Fault.TheVariants.{Words, Help, Version, File, Unreadable, BadRecord, NotToml, BadKey, BindRefused, BindFailed, BadNote, BadReport, Journal, Output, OutOfMemory}
+use Rattle.sms_send.specs.declared.fault.Fault.TheVariants.{Words, Help, Version, File, Unreadable, BadRecord, NotToml, BadKey, BindRefused, BindFailed, Unconnected, BadNote, BadReport, Journal, Output, OutOfMemory}
+use Rattle.sms_devices.specs.declared.connecting.Unconnected.{Unconnected as Why}
+use Rattle.sms_driver.specs.declared.fault.BindFailure.TheVariants as failure
 use Rattle.sms_driver.specs.declared.fault.SendFault.{SendFault}
 use Rattle.sms_driver.specs.declared.fault.SendFault.TheVariants as send
 use Rattle.sms_files.specs.Faults.{source_name}
@@ -25,6 +27,7 @@ fault_text NotToml = codes "fault: config"
 fault_text (BadKey key) = codes "fault: config " ++ shown (string_bytes key)
 fault_text (BindRefused bind status) = codes "fault: bind " ++ decimal bind ++ codes " refused " ++ decimal status
 fault_text (BindFailed bind why) = codes "fault: bind " ++ decimal bind ++ codes " failed"
+fault_text (Unconnected reason) = codes "fault: bind " ++ decimal reason.bind ++ codes " failed"
 fault_text (BadNote place) = codes "fault: journal record " ++ decimal place
 fault_text (BadReport place) = codes "fault: report record " ++ decimal place
 fault_text Journal = codes "fault: journal"
@@ -37,6 +40,7 @@ status_of (Help text) = 0
 status_of (Version text) = 0
 status_of (BindRefused bind status) = 3
 status_of (BindFailed bind why) = 3
+status_of (Unconnected reason) = 3
 status_of _ = 1
 
 -- what is wrong with what was read, as the program tells it
@@ -55,6 +59,15 @@ told_sending (send.BookRefused why) = OutOfMemory
 told_sending send.ThreadRefused = OutOfMemory
 told_sending send.OutOfMemory = OutOfMemory
 told_sending send.EndsLost = OutOfMemory
+
+-- the fault of a bind without a connection is told with the reason of that bind, and each other as it is
+abbrev pub with_reason : Why → Fault → Fault
+with_reason why (BindFailed bind failure.NoConnection) = Unconnected (record { bind = bind; why = why })
+with_reason why fault = fault
+
+-- the fault is told so of one of which this holds
+abbrev pub IsTold : (Fault → Type 0) → Fault → Type 0
+IsTold P fault = (f : Fault) × P f × (why : Why) × (fault ≡ with_reason why f)
 
 -- why nothing is recovered
 abbrev pub told_recovery : RecoveryFault → Fault

@@ -13,7 +13,7 @@ use Rattle.sms_files.specs.declared.fault.InputFault.TheVariants.{BadRecord}
 use Rattle.sms_files.specs.declared.fault.Source.TheVariants.{Messages}
 use Rattle.sms_files.specs.declared.input.Input.{Input}
 use Rattle.sms_recovery.specs.Files.{Reads, told_of}
-use Rattle.sms_send.specs.Faults.{TellsRead}
+use Rattle.sms_send.specs.Faults.{IsTold, TellsRead}
 use Rattle.sms_send.specs.Opened.{OfInput}
 use Rattle.sms_send.specs.Runs.{AreNamed, TellsNamedFiles, tariff_in}
 use Rattle.sms_send.specs.Sent.{IsSent, SendsNamed, TellsNamed, TellsSending, report_in, untold}
@@ -49,12 +49,12 @@ abbrev pub TellsWanted : {F : Type 0} → (ℕ → Told) → (F → Told) → Wa
 TellsWanted told remaining (Files names) octets old new fault = TellsNamed told remaining names octets old new fault
 TellsWanted told remaining (Read input) octets old new fault = TellsSending told input old new fault
 
--- a centre of the program's own can't listen
+-- a centre of the program's own can't listen; a fault of a sending is told with the reason of a missing connection
 abbrev pub IsDeaf : Centre → Fault → Type 0
 IsDeaf centre fault = (centre ≡ Own) × (fault ≡ BindFailed 0 NoConnection)
 
 abbrev pub TellsOver : {F : Type 0} → Centre → (F → Told) → Wanted → List ℕ → Option (List ℕ) → Option (List ℕ) → Fault → Type 0
-TellsOver centre remaining wanted octets old new fault = IsDeaf centre fault ⊎ TellsWanted untold remaining wanted octets old new fault
+TellsOver centre remaining wanted octets old new fault = IsDeaf centre fault ⊎ IsTold (TellsWanted untold remaining wanted octets old new) fault
 
 -- ---- with files that were read to their ends
 
@@ -92,7 +92,7 @@ abbrev pub TellsChecked : {F : Type 0} → (F → Told) → Centre → FileNames
 TellsChecked {F} remaining centre names octets old new fault =
     TellsNamedFiles F names fault
     ⊎ ((named : NamedFiles) × AreNamed remaining names named × (TellsInputOf true octets named fault
-    ⊎ ((input : Input) × IsInputOf octets named input × (IsDeaf centre fault ⊎ TellsSending untold input old new fault))))
+    ⊎ ((input : Input) × IsInputOf octets named input × (IsDeaf centre fault ⊎ IsTold (TellsSending untold input old new) fault))))
 
 -- ---- without a journal
 
@@ -128,7 +128,7 @@ TellsReadFiles strict centre journal named octets old new fault =
     ⊎ (fault ≡ File journal.name)
     ⊎ ((fault ≡ Journal) × (new ≡ old))
     ⊎ ((input : Input) × IsInputOf octets named input
-    × (IsDeaf centre fault ⊎ TellsSending untold input old new fault ⊎ ((fault ≡ Journal) × (status : ℕ) × SendsInput untold strict input old new status)))
+    × (IsDeaf centre fault ⊎ IsTold (TellsSending untold input old new) fault ⊎ ((fault ≡ Journal) × (status : ℕ) × SendsInput untold strict input old new status)))
 
 abbrev pub TellsNoted : {F : Type 0} → Bool → (F → Told) → Centre → JournalFile → FileNames → List ℕ → Option (List ℕ) → Option (List ℕ) → Fault → Type 0
 TellsNoted {F} strict remaining centre journal names octets old new fault =

@@ -4,9 +4,10 @@ ghost use Rattle.std.specs.Prelude.{◌≡◌, ◌||◌, string_bytes};
 ghost use Rattle.sms_diagnostics.specs.Causes.{cause_text, record_lines};
 ghost use Rattle.sms_diagnostics.specs.Records.{record_of};
 ghost use Rattle.sms_diagnostics.specs.Troubles.{holding_text};
-ghost use Rattle.sms_send.specs.Explained.{file_in, lines_of, lines_of_bind, lines_of_held, lines_of_journal, lines_of_key, lines_of_output, told_text, told_with, trouble_in};
+ghost use Rattle.sms_send.specs.Explained.{file_in, lines_of, lines_of_bind, lines_of_held, lines_of_journal, lines_of_key, lines_of_output, told_text, told_with, trouble_in, trouble_to};
 
 use crate::fault::Fault;
+use sms_devices::Unconnected;
 use sms_diagnostics::{BindTrouble, Cause, FileTrouble, Holding, RecordOf, RecordTrouble};
 use sms_driver::BindFailure;
 use sms_files::{Held, Source};
@@ -75,13 +76,26 @@ fn trouble_of(why: BindFailure) -> BindTrouble
     }
 }
 
+/// Why there is no connection for one.
+fn trouble_to(why: Unconnected) -> BindTrouble
+    ensures { result ≡ trouble_to why }
+{
+    match why {
+        Unconnected::Refused => BindTrouble::ConnectionRefused,
+        Unconnected::Unresolved => BindTrouble::Unresolved,
+        Unconnected::TimedOut => BindTrouble::TimedOut,
+        Unconnected::Unreachable => BindTrouble::Unreachable,
+        Unconnected::Other => BindTrouble::NoConnection,
+    }
+}
+
 /// Why there is a fault of a bind.
-fn bind_cause<'a>(centre: &'a Option<Address>, why: BindFailure) -> Cause<'a>
-    ensures { cause_text result ≡ lines_of_bind centre.now why }
+fn bind_cause<'a>(centre: &'a Option<Address>, trouble: BindTrouble) -> Cause<'a>
+    ensures { cause_text result ≡ lines_of_bind centre.now trouble }
 {
     match centre {
-        None => Cause::Failed(trouble_of(why)),
-        Some(centre) => Cause::FailedAt(centre.host.as_str(), centre.port, trouble_of(why)),
+        None => Cause::Failed(trouble),
+        Some(centre) => Cause::FailedAt(centre.host.as_str(), centre.port, trouble),
     }
 }
 
@@ -149,7 +163,8 @@ fn cause_of<'a>(fault: &'a Fault, known: &'a Known) -> Cause<'a>
         Fault::NotToml => Cause::NotToml,
         Fault::BadKey(key) => key_cause(key, &known.held),
         Fault::BindRefused(_, status) => Cause::Refused(*status),
-        Fault::BindFailed(_, why) => bind_cause(&known.centre, *why),
+        Fault::BindFailed(_, failure) => bind_cause(&known.centre, trouble_of(*failure)),
+        Fault::Unconnected(reason) => bind_cause(&known.centre, trouble_to(reason.why)),
         Fault::BadNote(place) => record_cause(RecordOf::Journal, *place, RecordTrouble::Unknown),
         Fault::BadReport(place) => record_cause(RecordOf::Report, *place, RecordTrouble::Unknown),
         Fault::Journal => journal_cause(known.doing),

@@ -4,6 +4,7 @@ ghost use Rattle.std.specs.Fmt.{WritesOnOk};
 ghost use Rattle.std.specs.Prelude.{◌≡◌, ◌++◌, codes, decimal};
 ghost use Rattle.sms_diagnostics.specs.Shown.{shown};
 
+use sms_devices::Reason;
 use sms_diagnostics::write_shown;
 use sms_driver::{BindFailure, SendFault};
 use sms_files::{InputFault, Source};
@@ -37,6 +38,8 @@ pub enum Fault {
     BindRefused(u32, u32),
     /// The bind of this number failed otherwise, or there was no connection.
     BindFailed(u32, BindFailure),
+    /// There was no connection for a bind, and this is why.
+    Unconnected(Reason),
     /// The record of a journal, counted from 1, isn't one that may stand there.
     BadNote(usize),
     /// The record of a report, counted from 1, isn't one that may stand there.
@@ -66,6 +69,7 @@ impl fmt::Display for Fault {
             Fault::BadKey(key) => write_named(f, "fault: config ", key.as_str()),
             Fault::BindRefused(bind, status) => write_refused(f, *bind, *status),
             Fault::BindFailed(bind, _) => write_failed(f, *bind),
+            Fault::Unconnected(reason) => write_failed(f, reason.bind),
             Fault::BadNote(place) => write_record(f, "journal", *place),
             Fault::BadReport(place) => write_record(f, "report", *place),
             Fault::Journal => f.write_str("fault: journal"),
@@ -121,7 +125,7 @@ impl Fault {
         match self {
             Fault::Words => 2,
             Fault::Help(_) | Fault::Version(_) => 0,
-            Fault::BindRefused(_, _) | Fault::BindFailed(_, _) => 3,
+            Fault::BindRefused(_, _) | Fault::BindFailed(_, _) | Fault::Unconnected(_) => 3,
             _ => 1,
         }
     }

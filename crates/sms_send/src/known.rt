@@ -49,7 +49,9 @@ fn centre_of<R: AllocGlobal + Files>(
     job: &Result<Job, Fault>,
 ) -> Option<Address> {
     match (fault, job) {
-        (Fault::BindFailed(_, _), Ok(Job::Send(order))) => address_in(rt, order.config.as_str()),
+        (Fault::BindFailed(_, _) | Fault::Unconnected(_), Ok(Job::Send(order))) => {
+            address_in(rt, order.config.as_str())
+        }
         _ => None,
     }
 }

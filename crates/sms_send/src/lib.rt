@@ -30,6 +30,7 @@ mod sender;
 mod sending;
 mod standard_error;
 mod status;
+mod unconnected;
 mod unsent;
 mod words;
 

@@ -14,6 +14,7 @@ use crate::reading::read_input;
 use crate::remarks::Remarks;
 use crate::send_job::Centre;
 use crate::sender::write_report;
+use crate::unconnected::reasoned;
 use crate::unsent::tell_unsent;
 use sms_devices::{
     Host, Journal, JournalFiles, LoopDial, Noting, Outboxes, Progress, Rest, Screen, TcpDial,
@@ -81,9 +82,10 @@ pub fn send_over<'j, R: Host + Net<Stream = TcpStream, Listener = TcpListener>, 
                 host: reach.host.as_str(),
                 port: reach.port,
             };
-            send_wanted(
+            let sent = send_wanted(
                 rt, config, wanted, &outboxes, &dial, &pause, remarks, pace, strict, output,
-            )
+            );
+            reasoned(&outboxes, sent)
         }
         Centre::Own => {
             let Some(listener) = listen(rt) else {
@@ -98,9 +100,10 @@ pub fn send_over<'j, R: Host + Net<Stream = TcpStream, Listener = TcpListener>, 
                 bind_status: reach.bind_status,
                 answers: reach.answers.as_slice(),
             };
-            send_wanted(
+            let sent = send_wanted(
                 rt, config, wanted, &outboxes, &dial, &pause, remarks, pace, strict, output,
-            )
+            );
+            reasoned(&outboxes, sent)
         }
     }
 }

@@ -7,7 +7,7 @@ use sms_diagnostics::{
 use std::test::Fail;
 
 /// Causes, and what is told of them.
-const TOLD: [(Cause<'static>, &str); 21] = [
+const TOLD: [(Cause<'static>, &str); 26] = [
     (
         Cause::Words("error: no such word '\x1b[2Jx'\n\nfault: words"),
         "  error: no such word '\\x1b[2Jx'\n  \n  fault: words\n",
@@ -69,6 +69,26 @@ const TOLD: [(Cause<'static>, &str); 21] = [
     (
         Cause::Failed(BindTrouble::Closed),
         "  the connection was closed before an answer\n",
+    ),
+    (
+        Cause::FailedAt("127.0.0.1", 1, BindTrouble::ConnectionRefused),
+        "  127.0.0.1:1: no connection: it was refused\n",
+    ),
+    (
+        Cause::FailedAt("nothing.invalid", 2775, BindTrouble::Unresolved),
+        "  nothing.invalid:2775: no connection: the host's name was not resolved\n",
+    ),
+    (
+        Cause::FailedAt("192.0.2.1", 2775, BindTrouble::TimedOut),
+        "  192.0.2.1:2775: no connection: it took too long\n",
+    ),
+    (
+        Cause::FailedAt("240.0.0.1", 2775, BindTrouble::Unreachable),
+        "  240.0.0.1:2775: no connection: the host or its network is unreachable\n",
+    ),
+    (
+        Cause::Failed(BindTrouble::NoConnection),
+        "  no connection: another reason; maybe no descriptor, port or memory is left here\n",
     ),
     (
         Cause::FailedAt("smsc\n1", 2775, BindTrouble::NotSmpp),
