@@ -9,9 +9,13 @@ use Rattle.sms_send.specs.Sent.{IsSent, TellsSending, report_in}
 use Rattle.sms_files.specs.Setups.{names_in, setup_in}
 use Rattle.sms_files.specs.declared.config.Config.{Config}
 use Rattle.sms_files.specs.declared.config.FileNames.{FileNames}
+use Rattle.sms_driver.specs.Starts.{TellsStart}
+use Rattle.sms_driver.specs.declared.fault.SendFault.{SendFault}
 use Rattle.sms_driver.specs.declared.fault.SendFault.TheVariants as send
+use Rattle.sms_driver.specs.declared.start.Begun.{Begun}
+use Rattle.sms_send.specs.Faults.{IsToldAt, told_sending}
 use Rattle.sms_send.specs.declared.fault.Fault.{Fault}
-use Rattle.sms_send.specs.declared.fault.Fault.TheVariants.{Output, OutOfMemory}
+use Rattle.sms_send.specs.declared.fault.Fault.TheVariants.{Output, Unreported}
 use Rattle.sms_files.specs.declared.input.Input.{Input}
 use Rattle.sms_send.specs.declared.sender.Ended.{Ended}
 use Rattle.sms_files.specs.declared.setup.Setup.{Setup}
@@ -34,9 +38,18 @@ of_config remaining items read handed setup Q P input one two (config, says, sam
 
 -- the report wasn't written: the output failed behind a front of it, or memory ran out
 pub unwritten_told : (told : ℕ → Told) (input : Input) (ended : Ended) (old new : Option (List ℕ)) (fault : Fault) → IsSent told input ended
-    → (fault ≡ Output) ⊎ (fault ≡ OutOfMemory) → (fault ≡ Output → WritesFront old new (report_in ended)) → TellsSending told input old new fault
+    → (fault ≡ Output) ⊎ (fault ≡ Unreported) → (fault ≡ Output → WritesFront old new (report_in ended)) → TellsSending told input old new fault
 unwritten_told told input ended old new fault sent (inl out) front = inr (out, ended, sent, front out)
-unwritten_told told input ended old new fault sent (inr memory) front = inl (send.OutOfMemory, inl (inl refl), memory)
+unwritten_told told input ended old new fault sent (inr memory) front = inl (send.EndsLost, inl (inr (inr refl)), memory)
+
+-- a fault is told by how far the sending came
+pub told_at : (b : Begun) (f : SendFault) → TellsStart b f → IsToldAt b (told_sending f)
+told_at b (send.BindRefused bind status) h = h
+told_at b (send.BindFailed bind why) h = h
+told_at b (send.BookRefused why) h = inl h
+told_at b send.ThreadRefused h = inr h
+told_at b send.OutOfMemory h = h
+told_at b send.EndsLost h = h
 
 -- one of three, from two of them
 pub of_two : {A B C : Type 0} → A ⊎ B → A ⊎ (B ⊎ C)

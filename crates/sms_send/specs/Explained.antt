@@ -33,7 +33,7 @@ use Rattle.sms_send.specs.declared.explained.Doing.TheVariants.{Sending, Recover
 use Rattle.sms_send.specs.declared.explained.Known.{Known}
 use Rattle.sms_send.specs.declared.explained.Told.{Told}
 use Rattle.sms_send.specs.declared.fault.Fault.{Fault}
-use Rattle.sms_send.specs.declared.fault.Fault.TheVariants.{Words, Help, Version, File, Unreadable, BadRecord, NotToml, BadKey, BindRefused, BindFailed, Unconnected, BadNote, BadReport, Journal, Output, OutOfMemory}
+use Rattle.sms_send.specs.declared.fault.Fault.TheVariants.{Words, Help, Version, File, Unreadable, BadRecord, NotToml, BadKey, BindRefused, BindFailed, Unconnected, BadNote, BadReport, Journal, Output, OutOfMemory, Unreported}
 
 -- the files of records
 abbrev pub file_in : Source → RecordOf
@@ -133,7 +133,8 @@ lines_of known (BadNote place) = record_lines (record_of record-of.Journal place
 lines_of known (BadReport place) = record_lines (record_of record-of.Report place) record-trouble.Unknown
 lines_of known Journal = lines_of_journal known.doing
 lines_of known Output = lines_of_output known.doing
-lines_of known OutOfMemory = line (codes "memory or a thread was refused; messages may have been sent")
+lines_of known OutOfMemory = line (codes "nothing was sent")
+lines_of known Unreported = line (codes "memory or a thread was refused; messages may have been sent")
 
 -- a fault as it is told: one line, and behind it those of its cause
 abbrev pub told_text : Told → List ℕ

@@ -1,12 +1,15 @@
 -- The line that tells a fault, the exit status that it ends the program with, and what the faults of the crates below are told as.
-use Rattle.std.specs.Prelude.{◌≡◌, ℕ, List, ◌++◌, codes, decimal, string_bytes}
+use Rattle.std.specs.Prelude.{◌≡◌, ◌⊎◌, ℕ, List, ◌++◌, codes, decimal, string_bytes}
 use Rattle.sms_diagnostics.specs.Shown.{shown}
 use Rattle.sms_send.specs.declared.fault.Fault.{Fault}
-use Rattle.sms_send.specs.declared.fault.Fault.TheVariants.{Words, Help, Version, File, Unreadable, BadRecord, NotToml, BadKey, BindRefused, BindFailed, Unconnected, BadNote, BadReport, Journal, Output, OutOfMemory}
+use Rattle.sms_send.specs.declared.fault.Fault.TheVariants.{Words, Help, Version, File, Unreadable, BadRecord, NotToml, BadKey, BindRefused, BindFailed, Unconnected, BadNote, BadReport, Journal, Output, OutOfMemory, Unreported}
 use Rattle.sms_devices.specs.declared.connecting.Unconnected.{Unconnected as Why}
 use Rattle.sms_driver.specs.declared.fault.BindFailure.TheVariants as failure
 use Rattle.sms_driver.specs.declared.fault.SendFault.{SendFault}
 use Rattle.sms_driver.specs.declared.fault.SendFault.TheVariants as send
+use Rattle.sms_driver.specs.declared.latch.Word.TheVariants.{Go, Leave}
+use Rattle.sms_driver.specs.declared.start.Begun.{Begun}
+use Rattle.sms_driver.specs.declared.start.Begun.TheVariants.{NotYet, Heard}
 use Rattle.sms_files.specs.Faults.{source_name}
 use Rattle.sms_files.specs.declared.fault.InputFault.{InputFault}
 use Rattle.sms_files.specs.declared.fault.InputFault.TheVariants as input
@@ -33,6 +36,7 @@ fault_text (BadReport place) = codes "fault: report record " ++ decimal place
 fault_text Journal = codes "fault: journal"
 fault_text Output = codes "fault: output"
 fault_text OutOfMemory = codes "fault: out of memory"
+fault_text Unreported = codes "fault: out of memory"
 
 abbrev pub status_of : Fault → ℕ
 status_of Words = 2
@@ -51,14 +55,24 @@ told_input input.NotToml = NotToml
 told_input (input.BadKey key) = BadKey key
 told_input input.OutOfMemory = OutOfMemory
 
--- why nothing is told of a sending; a thread that is refused is told as want of memory, and so are accounts that no book opens with
+-- why nothing is told of a sending; a thread that is refused is told as want of memory, and so are accounts that no book opens with, but not ends that are
+-- lost: behind them messages may have been sent
 abbrev pub told_sending : SendFault → Fault
 told_sending (send.BindRefused bind status) = BindRefused bind status
 told_sending (send.BindFailed bind why) = BindFailed bind why
 told_sending (send.BookRefused why) = OutOfMemory
 told_sending send.ThreadRefused = OutOfMemory
 told_sending send.OutOfMemory = OutOfMemory
-told_sending send.EndsLost = OutOfMemory
+told_sending send.EndsLost = Unreported
+
+-- how far a sending came of which this fault is told: messages may have been sent just where all workers were told to go, and a fault by whose lines nothing
+-- was sent comes before a word is said or, but for a bind's, where all were told to leave; no other fault is told of a sending
+abbrev pub IsToldAt : Begun → Fault → Type 0
+IsToldAt begun (BindRefused bind status) = begun ≡ NotYet
+IsToldAt begun (BindFailed bind why) = begun ≡ NotYet
+IsToldAt begun OutOfMemory = (begun ≡ NotYet) ⊎ (begun ≡ Heard Leave)
+IsToldAt begun Unreported = begun ≡ Heard Go
+IsToldAt begun _ = ⊥
 
 -- the fault of a bind without a connection is told with the reason of that bind, and each other as it is
 abbrev pub with_reason : Why → Fault → Fault

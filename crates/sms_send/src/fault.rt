@@ -48,8 +48,11 @@ pub enum Fault {
     Journal,
     /// What is to be printed can't be written.
     Output,
-    /// Memory was refused, or a thread; of a sending maybe once messages had gone out.
+    /// Memory was refused, or a thread, and nothing was sent.
     OutOfMemory,
+    /// Memory was refused once all workers of a sending were told to go: messages may have been sent, and
+    /// nothing is told of them.
+    Unreported,
 }
 
 impl fmt::Display for Fault {
@@ -74,7 +77,7 @@ impl fmt::Display for Fault {
             Fault::BadReport(place) => write_record(f, "report", *place),
             Fault::Journal => f.write_str("fault: journal"),
             Fault::Output => f.write_str("fault: output"),
-            Fault::OutOfMemory => f.write_str("fault: out of memory"),
+            Fault::OutOfMemory | Fault::Unreported => f.write_str("fault: out of memory"),
         }
     }
 }
@@ -178,7 +181,7 @@ impl From<SendFault> for Fault {
             SendFault::BindFailed(bind, why) => Fault::BindFailed(bind, why),
             SendFault::BookRefused(_) => Fault::OutOfMemory,
             SendFault::ThreadRefused | SendFault::OutOfMemory => Fault::OutOfMemory,
-            SendFault::EndsLost => Fault::OutOfMemory,
+            SendFault::EndsLost => Fault::Unreported,
         }
     }
 }

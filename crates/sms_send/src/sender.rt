@@ -6,20 +6,20 @@ ghost use Rattle.sms_report.specs.Output.{WritesFront};
 ghost use Rattle.sms_report.specs.Report.{report_of};
 ghost use Rattle.sms_driver.specs.SendFaults.{IsFaultOfOne};
 ghost use Rattle.sms_driver.specs.Starts.{TellsStart};
-ghost use Rattle.sms_send.specs.Faults.{told_sending};
+ghost use Rattle.sms_send.specs.Faults.{IsToldAt, told_sending};
 ghost use Rattle.sms_send.specs.Sent.{AreSettingsOf, IsRulesOf, IsSent};
 ghost use Rattle.sms_send.specs.Statuses.{status_by};
 ghost use Rattle.sms_driver.specs.declared.fault.SendFault.{SendFault};
 ghost use Rattle.sms_driver.specs.declared.latch.Word.TheVariants.{Go};
 ghost use Rattle.sms_driver.specs.declared.start.Begun.TheVariants.{NotYet, Heard};
-ghost use Rattle.sms_send.specs.declared.fault.Fault.TheVariants.{Output, OutOfMemory};
+ghost use Rattle.sms_send.specs.declared.fault.Fault.TheVariants.{Output, Unreported};
 
 use crate::fault::Fault;
 use crate::status::status_of;
 use sms_book::{Opening, Statement, Tariff};
 use sms_driver::{BindEnd, BindSettings, Dial, Latch, Sending, Start, drive_all};
 use sms_files::{Config, Connection, Flags, Input, Limits, Retry};
-use sms_report::write_report_of;
+use sms_report::{OutputFault, write_report_of};
 use sms_worker::{Clock, Gate, MessageEnd, Pause, Rules};
 use std::alloc::Global;
 use std::io::Write;
@@ -159,6 +159,8 @@ pub fn send_from<
     // A fault is of one of the config's binds, or of memory; and a fault that comes before a message could go out comes where no
     // worker was told to go, and one that comes after where all were.
     ensures refused { IfErr result (λ fault. (f : SendFault) × IsFaultOfOne input.config.limits.binds f × TellsStart start.new.begun f × (fault ≡ told_sending f)) }
+    // So the fault that is told says whether messages may have been sent.
+    ensures told { IfErr result (IsToldAt start.new.begun) }
 {
     let (config, openings, messages, tariff) = input.into_parts();
     let Config {
@@ -205,14 +207,15 @@ pub fn send_from<
     })
 }
 
-/// Writes what is printed of a sending. It is made whole before its first octet is written.
+/// Writes what is printed of a sending. It is made whole before its first octet is written; where memory is
+/// refused for that, the messages have ended.
 pub fn write_report<W: Write>(alloc: Global, ended: &Ended, output: &mut W) -> Result<(), Fault>
     ensures written { OnOk result (Appends (W.contents output.old) (W.contents output.new) (report_of ended.now.openings.items ended.now.ends.items ended.now.statement)) }
-    ensures failed { IfErr result (λ fault. (fault ≡ Output) ⊎ (fault ≡ OutOfMemory)) }
+    ensures failed { IfErr result (λ fault. (fault ≡ Output) ⊎ (fault ≡ Unreported)) }
 
     // Where the output failed, a front of the text was written, and else nothing.
     ensures front { IfErr result (λ fault. fault ≡ Output → WritesFront (W.contents output.old) (W.contents output.new) (report_of ended.now.openings.items ended.now.ends.items ended.now.statement)) }
-    ensures quiet { IfErr result (λ fault. fault ≡ OutOfMemory → output.new ≡ output.old) }
+    ensures quiet { IfErr result (λ fault. fault ≡ Unreported → output.new ≡ output.old) }
 {
     let written = write_report_of(
         alloc,
@@ -223,6 +226,7 @@ pub fn write_report<W: Write>(alloc: Global, ended: &Ended, output: &mut W) -> R
     );
     match written {
         Ok(()) => Ok(()),
-        Err(fault) => Err(Fault::from(fault)),
+        Err(OutputFault::Output) => Err(Fault::Output),
+        Err(OutputFault::OutOfMemory) => Err(Fault::Unreported),
     }
 }

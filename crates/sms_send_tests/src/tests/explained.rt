@@ -2,7 +2,7 @@
 
 use super::same::same;
 use sms_diagnostics::{FileTrouble, RecordTrouble};
-use sms_driver::BindFailure;
+use sms_driver::{BindFailure, SendFault};
 use sms_files::{Held, Source};
 use sms_send::{Address, Doing, Fault, Known, told_of};
 use std::alloc::{AllocError, Global};
@@ -90,4 +90,26 @@ fn tells_faults_at_length(rt: HostRuntime) -> Result<(), Fail> {
         "fault: config binds\n",
         "  binds should be 1 to 4\n  it is 5\n",
     )
+}
+
+/// Want of memory has one line and one status; the lines behind it say whether anything can have been sent.
+#[test]
+fn tells_what_want_of_memory_came_to(rt: HostRuntime) -> Result<(), Fail> {
+    let unsent = Fault::from(SendFault::ThreadRefused);
+    want_told(
+        &rt,
+        &unsent,
+        "fault: out of memory\n",
+        "  nothing was sent\n",
+    )?;
+    same(&rt, unsent.exit_status(), 1);
+    let unreported = Fault::from(SendFault::EndsLost);
+    want_told(
+        &rt,
+        &unreported,
+        "fault: out of memory\n",
+        "  memory or a thread was refused; messages may have been sent\n",
+    )?;
+    same(&rt, unreported.exit_status(), 1);
+    Ok(())
 }

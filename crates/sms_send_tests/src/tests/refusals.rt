@@ -198,6 +198,8 @@ fn want_report_or_fault(rt: &impl Abort, alloc: Global, said: &Said, topped: u64
         want_report(rt, alloc, said, topped);
     } else {
         assert!(rt; said.printed.is_empty());
+        // Where it says that nothing was sent, the centre heard of a bind at the most.
+        assert!(rt; !said.unsent || said.heard.len() as u64 <= BIND + UNBIND);
         same(
             rt,
             (

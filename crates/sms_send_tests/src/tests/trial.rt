@@ -3,7 +3,7 @@
 
 use super::simulator::{Beside, Simulator};
 use sms_centre::Fuse;
-use sms_send::{run_sender, setup_of};
+use sms_send::{Fault, run_sender, setup_of};
 use sms_worker::Gate;
 use std::alloc::{AllocError, Global};
 use std::process::Abort;
@@ -24,12 +24,13 @@ pub struct Sending<'a> {
     pub prints: u64,
 }
 
-/// What is said in the end: what is printed, the fault or no text, and the exit status. And the octets
-/// that were written on the first connection.
+/// What is said in the end: what is printed, the fault or no text, whether it is one of memory behind which
+/// nothing was sent, and the exit status. And the octets that were written on the first connection.
 #[derive(Drop)]
 pub struct Said {
     pub printed: Vec<u8>,
     pub fault: String,
+    pub unsent: bool,
     pub status: u8,
     pub heard: Vec<u8>,
 }
@@ -113,13 +114,17 @@ pub fn send<R: Threads + Wait + Sync, G: Gate + Sync>(
         false,
         &mut Fuse::new(&mut printed, sending.prints),
     );
-    let (fault, status) = match ended {
-        Ok(status) => (String::new(alloc), status),
-        Err(fault) => (fault.to_string(alloc)?, fault.exit_status()),
+    let (fault, unsent, status) = match ended {
+        Ok(status) => (String::new(alloc), false, status),
+        Err(fault) => {
+            let unsent = matches!(&fault, Fault::OutOfMemory);
+            (fault.to_string(alloc)?, unsent, fault.exit_status())
+        }
     };
     Ok(Said {
         printed,
         fault,
+        unsent,
         status,
         heard: simulator.into_heard(alloc),
     })

@@ -1,4 +1,4 @@
-use Rattle.std.proofs.Common.{◌*◌, ◌≡◌, ◌∙◌, ap, subst, List, length, Vec, Global}
+use Rattle.std.proofs.Common.{◌*◌, ◌≡◌, ◌∙◌, ap, subst, sym, List, length, Vec, Global}
 use Rattle.std.specs.List.{AllZip}
 use Rattle.sms_book.specs.Openings.{credits_of}
 use Rattle.sms_book.specs.Tariffs.{Price}
@@ -11,6 +11,8 @@ use Rattle.sms_deal.specs.Deals.{dealt}
 use Rattle.sms_driver.specs.Closings.{AreExplained}
 use Rattle.sms_driver.specs.Numbered.{AreBelow, AreNumbered}
 use Rattle.sms_driver.specs.SendFaults.{IsFaultOfOne}
+use Rattle.sms_send.proofs.Sendings.{told_at}
+use Rattle.sms_send.specs.Faults.{IsToldAt}
 use Rattle.sms_send.specs.Sent.{AreSettingsOf, IsRulesOf}
 use Rattle.sms_driver.specs.Statements.{AreRows}
 use Rattle.sms_files.specs.declared.config.Config.{Config}
@@ -47,3 +49,7 @@ pub returns-in-Err-clause-refused : goal.returns-in-Err-clause-refused
 returns-in-Err-clause-refused g c =
     let e = c.into_parts-config.ensures in
     (c.in-Err.fault, subst (λ (k : Config). IsFaultOfOne k.limits.binds c.in-Err.fault) e.config c.in-Err.ensures.refused, c.in-Err.ensures.sent, c.from-told.ensures)
+
+pub returns-in-Err-clause-told : goal.returns-in-Err-clause-told
+returns-in-Err-clause-told g c =
+    subst (IsToldAt c.drive_all-driven.new.start.begun) (sym c.from-told.ensures) (told_at c.drive_all-driven.new.start.begun c.in-Err.fault c.in-Err.ensures.sent)
