@@ -79,7 +79,9 @@ pub enum Cause<'a> {
     OutputOfSent,
     /// It can't be written, and nothing was sent.
     Output,
-    /// Memory was refused, or a thread.
+    /// Memory was refused, or a thread, before anything was sent.
+    Unstarted,
+    /// Memory was refused, or a thread, and messages may have been sent.
     OutOfMemory,
     /// Nothing is wrong.
     Nothing,
@@ -117,6 +119,9 @@ impl<'a> fmt::Display for Cause<'a> {
                 )
             }
             Cause::Output => write_line(f, "nothing was sent"),
+            Cause::Unstarted => {
+                write_line(f, "memory or a thread was refused; nothing was sent")
+            }
             Cause::OutOfMemory => {
                 write_line(
                     f,

@@ -133,7 +133,7 @@ lines_of known (BadNote place) = record_lines (record_of record-of.Journal place
 lines_of known (BadReport place) = record_lines (record_of record-of.Report place) record-trouble.Unknown
 lines_of known Journal = lines_of_journal known.doing
 lines_of known Output = lines_of_output known.doing
-lines_of known OutOfMemory = line (codes "nothing was sent")
+lines_of known OutOfMemory = line (codes "memory or a thread was refused; nothing was sent")
 lines_of known Unreported = line (codes "memory or a thread was refused; messages may have been sent")
 
 -- a fault as it is told: one line, and behind it those of its cause

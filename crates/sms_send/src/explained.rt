@@ -169,8 +169,7 @@ fn cause_of<'a>(fault: &'a Fault, known: &'a Known) -> Cause<'a>
         Fault::BadReport(place) => record_cause(RecordOf::Report, *place, RecordTrouble::Unknown),
         Fault::Journal => journal_cause(known.doing),
         Fault::Output => output_cause(known.doing),
-        // Nothing was sent, as where the output fails of a job that sends nothing.
-        Fault::OutOfMemory => Cause::Output,
+        Fault::OutOfMemory => Cause::Unstarted,
         Fault::Unreported => Cause::OutOfMemory,
     }
 }

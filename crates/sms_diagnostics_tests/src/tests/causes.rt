@@ -99,6 +99,10 @@ const TOLD: [(Cause<'static>, &str); 26] = [
         "  messages were sent: don't send them again before you know which\n",
     ),
     (Cause::Output, "  nothing was sent\n"),
+    (
+        Cause::Unstarted,
+        "  memory or a thread was refused; nothing was sent\n",
+    ),
     (Cause::Nothing, ""),
 ];
 

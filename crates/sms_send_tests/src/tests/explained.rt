@@ -100,7 +100,7 @@ fn tells_what_want_of_memory_came_to(rt: HostRuntime) -> Result<(), Fail> {
         &rt,
         &unsent,
         "fault: out of memory\n",
-        "  nothing was sent\n",
+        "  memory or a thread was refused; nothing was sent\n",
     )?;
     same(&rt, unsent.exit_status(), 1);
     let unreported = Fault::from(SendFault::EndsLost);
