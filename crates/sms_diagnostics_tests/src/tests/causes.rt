@@ -7,7 +7,7 @@ use sms_diagnostics::{
 use std::test::Fail;
 
 /// Causes, and what is told of them.
-const TOLD: [(Cause<'static>, &str); 26] = [
+const TOLD: [(Cause<'static>, &str); 27] = [
     (
         Cause::Words("error: no such word '\x1b[2Jx'\n\nfault: words"),
         "  error: no such word '\\x1b[2Jx'\n  \n  fault: words\n",
