@@ -44,3 +44,8 @@ first i (x ∷ xs) low = x
 
 pub taken_more : {X : Type 0} (i : ℕ) (xs out : List X) (x d : X) → i < length xs → out ≡ take i xs → x ≡ get_or xs i d → out ++ x ∷ [] ≡ take (i + 1) xs
 taken_more i xs out x d low is at = (λ j. is j ++ at j ∷ []) ∙ sym (take-suc xs i d low) ∙ ap (λ n. take n xs) (sym (add-one i))
+
+-- one alone is dealt the whole list
+pub dealt_to_one : {X : Type 0} (xs : List X) → dealt 1 0 xs ≡ xs ∷ []
+dealt_to_one [] = refl
+dealt_to_one (x ∷ xs) = ap (λ ls. cons_at ls 0 x) (dealt_to_one xs)

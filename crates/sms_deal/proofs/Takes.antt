@@ -1,5 +1,5 @@
 -- Taking the first of one of several lists, and giving to one of them.
-use Rattle.std.proofs.Common.{◌≡◌, ℕ, zero, suc, ◌<◌, List, [], ◌∷◌, ◌++◌, length, set, map, get_or, sym, ap, ◌∙◌, arith, append_assoc}
+use Rattle.std.proofs.Common.{◌≡◌, ℕ, zero, suc, ◌<◌, List, [], ◌∷◌, ◌++◌, length, set, map, get_or, sym, ap, ◌∙◌, arith, append_assoc, length-append}
 use Rattle.sms_deal.specs.Deals.{cons_at, onto}
 
 module _ {A K : Type 0} (f : A → List K) where
@@ -29,3 +29,9 @@ module _ {A K : Type 0} (f : A → List K) where
 pub none_left : {A B : Type 0} (f : A → B) (l : List A) (x : B) (rest : List B) → length l ≡ 0 → map f l ≡ x ∷ rest → ⊥
 none_left f [] x rest e h = let n : 0 ≡ suc (length rest) = ap length h in absurd (omega arith)
 none_left f (y ∷ l) x rest e h = absurd (omega arith)
+
+-- the last of a list of one is that one
+pub only_taken : {A K : Type 0} (f : A → List K) (ps front : List A) (p : A) (es : List K) → length ps ≡ 1 → ps ≡ front ++ p ∷ [] → map f ps ≡ es ∷ [] → f p ≡ es
+only_taken f [] front p es one e h = absurd (omega arith)
+only_taken f (q ∷ ps) [] p es one e h = cc
+only_taken f (q ∷ ps) (y ∷ ys) p es one e h = let n : suc (length ps) ≡ suc (length (ys ++ p ∷ [])) = ap length e in let m = length-append ys (p ∷ []) in absurd (omega (arith, n, m, one))

@@ -14,13 +14,19 @@ fn next_place(place: usize, count: usize) -> usize
     if place + 1 == count { 0 } else { place + 1 }
 }
 
-fn empty_batches<T: Drop>(alloc: Global, count: usize) -> Result<Vec<Vec<T>>, AllocError>
+// So many empty batches, with room for so many elements each.
+fn empty_batches<T: Drop>(
+    alloc: Global,
+    count: usize,
+    each: usize,
+) -> Result<Vec<Vec<T>>, AllocError>
     ensures empty { IfOk result (λ v. map (λ l. l.items) v.items ≡ dealt count 0 []) }
     ensures long { IfOk result (λ v. length v.items ≡ count) }
 {
     let mut batches = Vec::with_capacity(alloc, count)?;
     for _i in 0..count {
-        batches.push_reserved(Vec::new(alloc));
+        let batch = Vec::with_capacity(alloc, each)?;
+        batches.push_reserved(batch);
     }
     Ok(batches)
 }
@@ -35,13 +41,27 @@ fn give<T: Drop>(batches: &mut Vec<Vec<T>>, place: usize, item: T) -> Result<(),
     Ok(())
 }
 
-/// Deals the list out to so many in turn.
+// The list as it is, which is all that one alone is dealt.
+fn one_batch<T: Drop>(alloc: Global, items: Vec<T>) -> Result<Vec<Vec<T>>, AllocError>
+    ensures dealt { IfOk result (λ v. map (λ l. l.items) v.items ≡ dealt 1 0 items.items) }
+    ensures long { IfOk result (λ v. length v.items ≡ 1) }
+{
+    let mut batches = Vec::with_capacity(alloc, 1)?;
+    batches.push_reserved(items);
+    Ok(batches)
+}
+
+/// Deals the list out to so many in turn. One alone gets the list as it is.
 pub fn deal<T: Drop>(alloc: Global, items: Vec<T>, count: usize) -> Result<Vec<Vec<T>>, AllocError>
     requires { 0 < count }
     ensures dealt { IfOk result (λ v. map (λ l. l.items) v.items ≡ dealt count 0 items.items) }
     ensures long { IfOk result (λ v. length v.items ≡ count) }
 {
-    let mut batches = empty_batches(alloc, count)?;
+    if count == 1 {
+        return one_batch(alloc, items);
+    }
+    let each = items.len().div_ceil(count);
+    let mut batches = empty_batches(alloc, count, each)?;
     let mut place = 0;
     for item in items {
         give(&mut batches, place, item)?;
@@ -77,13 +97,29 @@ fn take_over<T: Drop>(parts: &mut Vec<VecDeque<T>>, place: usize, out: &mut Vec<
     out.push_reserved(end);
 }
 
-/// Takes them back in the order in which they were dealt out.
+// The part that is the only one, which is in the order in which it was dealt out.
+fn only_part<T: Drop>(parts: Vec<VecDeque<T>>) -> Vec<T>
+    requires one { length parts.items ≡ 1 }
+    ensures { (es : List T) → map (λ p. p.items) parts.items ≡ dealt 1 0 es → result.items ≡ es }
+{
+    let mut parts = parts;
+    let Some(part) = parts.pop() else {
+        unreachable!()
+    };
+    Vec::from(part)
+}
+
+/// Takes them back in the order in which they were dealt out, into the room that was made for them; where one
+/// alone was dealt all, they are taken as they are.
 pub fn merged<T: Drop>(parts: Vec<VecDeque<T>>, count: usize, out: Vec<T>) -> Vec<T>
     requires some { 0 < length parts.items }
     requires room { (out.items ≡ []) × (count ≤ vec_capacity out) }
     requires dealt { (es : List T) × (length es ≡ count) × (map (λ p. p.items) parts.items ≡ dealt (length parts.items) 0 es) }
     ensures { (es : List T) → length es ≡ count → map (λ p. p.items) parts.items ≡ dealt (length parts.items) 0 es → result.items ≡ es }
 {
+    if parts.len() == 1 {
+        return only_part(parts);
+    }
     let mut parts = parts;
     let mut out = out;
     let mut place = 0;

@@ -27,7 +27,7 @@ loop-i-preserved g c =
           let e = get_or es c.loop-i._i d in
           let rest = dealt n (next n c.loop-i.place) (drop (c.loop-i._i + 1) es) in
           let t = c.take_over.ensures.taken rest e (i.0 ∙ dealt_next n c.loop-i.place c.loop-i._i es d low) in
-          let count : c.len.result ≡ n = search rules in (
+          let count : c.len-in-loop-i.result ≡ n = search rules in (
             t.1 ∙ ap (λ w. dealt n w (drop (c.loop-i._i + 1) es)) (ap (λ m. next m c.loop-i.place) (sym count) ∙ sym c.next_place-place.ensures.next),
             t.0 ∙ taken_more c.loop-i._i es c.loop-i.out.items e d low i.1 refl,
           );
