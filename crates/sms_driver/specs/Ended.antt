@@ -1,11 +1,11 @@
 -- How each bind's reader ended.
-use Rattle.std.specs.Prelude.{◌≡◌, ◌*◌, ◌++◌, ℕ, List, Option, Some, slice_get}
+use Rattle.std.specs.Prelude.{◌≡◌, ◌<◌, ◌*◌, ◌++◌, ℕ, List, Option, Some, slice_get}
 use Rattle.std.specs.Io.KnownBytes.{IsAtEnd}
 use Rattle.std.specs.List.{concat}
 use Rattle.sms_pdu.specs.Turn.{most_piece, GaveAtMost}
 use Rattle.sms_pdu.specs.declared.reply.Reply.{Reply}
 use Rattle.sms_bind.specs.declared.bound.Bound.{Bound}
-use Rattle.sms_bind.specs.declared.ending.ReaderCause.TheVariants.{Ended, Stopped, Turns}
+use Rattle.sms_bind.specs.declared.ending.ReaderCause.TheVariants.{Ended, ReadFault, Stopped, Turns}
 use Rattle.sms_bind.specs.declared.ending.ReaderEnd.{ReaderEnd}
 use Rattle.sms_bind.specs.Ends.{HandsOn}
 use Rattle.sms_bind.specs.Follows.{most_held}
@@ -33,11 +33,13 @@ pub record HasEnded (all : BindSettings) (turns : ℕ) (told : Option (List ℕ)
   -- it followed as it was to
   pub follows : held.most ≡ most_held (follow_of all)
   -- it was read in so many turns at most, and where they are told as used up in just as many, each of which met one of the errors or gave some octets; the
-  -- input is told as ended where all of it was read, and the reader as stopped where a turn was left
+  -- input is told as ended where all of it was read, the reader as stopped where a turn was left, and a read as failed where the input answered an error.
+  -- (Nothing stands behind memory that is told as refused, but that no response was broken and the session is open: a refusal leaves nothing to read.)
   pub most : GaveAtMost (most_piece * turns) between left
   pub took : outcome.cause ≡ Turns → TookTurns turns outcome.errors between left
   pub ended : outcome.cause ≡ Ended → IsAtEnd left
   pub stopped : outcome.cause ≡ Stopped → Stops turns between left
+  pub fault : outcome.cause ≡ ReadFault → 0 < outcome.errors
 
 -- so of each bind
 abbrev pub HaveEnded : BindSettings → ℕ → (ℕ → Option (List ℕ)) → List BindEnd → Type 0

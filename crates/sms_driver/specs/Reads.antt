@@ -1,5 +1,5 @@
 -- What the binds' readers are given, and what they do with it.
-use Rattle.std.specs.Prelude.{◌≡◌, ◌++◌, ◌+◌, ◌*◌, ℕ, List, [], ◌∷◌, map, Option}
+use Rattle.std.specs.Prelude.{◌≡◌, ◌<◌, ◌++◌, ◌+◌, ◌*◌, ℕ, List, [], ◌∷◌, map, Option}
 use Rattle.std.specs.Io.KnownBytes.{Consumes, IsAtEnd}
 use Rattle.std.specs.List.{concat, AllZip}
 use Rattle.std.specs.declared.alloc.Global.{Global}
@@ -9,7 +9,7 @@ use Rattle.rtrb.specs.Ring.{SameProducer, sent}
 use Rattle.sms_pdu.specs.declared.command.Mode.{Mode}
 use Rattle.sms_pdu.specs.declared.reply.Reply.{Reply}
 use Rattle.sms_bind.specs.declared.bound.Bound.{Bound}
-use Rattle.sms_bind.specs.declared.ending.ReaderCause.TheVariants.{Ended, Stopped, Turns}
+use Rattle.sms_bind.specs.declared.ending.ReaderCause.TheVariants.{Ended, ReadFault, Stopped, Turns}
 use Rattle.sms_bind.specs.declared.ending.ReaderEnd.{ReaderEnd}
 use Rattle.sms_pdu.specs.declared.tap.Tap.{Tap}
 use Rattle.sms_bind.specs.Answers.{Bounds}
@@ -55,7 +55,8 @@ pub record IsUnread (seat : SeatState) (rings : List (Producer Reply Global AnyI
   pub stopped : end.cause ≡ Stopped
 
 -- the answers of what was read went to the rings that were given, where `remaining` tells what there is to read; it was read in
--- so many turns at most, in just as many where the cause is that they were used up, and to its end where that is the cause
+-- so many turns at most, in just as many where the cause is that they were used up, to its end where that is the cause, and with
+-- an error that it answered where a read is told to have failed
 pub record HasRead {Rd : Type 0} (turns : ℕ) (remaining : Rd → Option (List ℕ)) (given : Reading Rd) (end : ReaderEnd) : Type 0 where
   pub same : AllZip SameProducer given.rings end.producers.items
   pub left : Option (List ℕ)
@@ -67,6 +68,7 @@ pub record HasRead {Rd : Type 0} (turns : ℕ) (remaining : Rd → Option (List 
   pub took : end.cause ≡ Turns → TookTurns turns end.errors (remaining (device given.reader)) left
   pub stopped : end.cause ≡ Stopped → Stops turns (remaining (device given.reader)) left
   pub ended : end.cause ≡ Ended → IsAtEnd left
+  pub fault : end.cause ≡ ReadFault → 0 < end.errors
 
 -- what was read while it was bound: the octets were told, and what is left; the first frame bound the session, and the bound
 -- session has what came behind it
