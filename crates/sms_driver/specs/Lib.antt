@@ -7,6 +7,7 @@ pub mod Latches
 pub mod Numbered
 pub mod Reads
 pub mod Rings
+pub mod Rooms
 pub mod Seated
 pub mod SendFaults
 pub mod Settled

@@ -1,5 +1,5 @@
 -- How far a sending came, and what a fault says of that.
-use Rattle.std.specs.Prelude.{◌≡◌, ◌⊎◌}
+use Rattle.std.specs.Prelude.{◌≡◌, ◌≢◌, ◌⊎◌}
 use Rattle.sms_driver.specs.declared.fault.SendFault.{SendFault}
 use Rattle.sms_driver.specs.declared.fault.SendFault.TheVariants as fault
 use Rattle.sms_driver.specs.declared.latch.Latch.{Latch}
@@ -35,3 +35,7 @@ TellsStart begun (fault.BookRefused why) = begun ≡ NotYet
 TellsStart begun fault.ThreadRefused = begun ≡ Heard Leave
 TellsStart begun fault.OutOfMemory = (begun ≡ NotYet) ⊎ (begun ≡ Heard Leave)
 TellsStart begun fault.EndsLost = begun ≡ Heard Go
+
+-- no thread was told to go
+abbrev pub NoneWent : Begun → Type 0
+NoneWent begun = begun ≢ Heard Go

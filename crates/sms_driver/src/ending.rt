@@ -1,6 +1,6 @@
 //! What a run ends with.
 
-ghost use Rattle.std.specs.Prelude.{◌≡◌, ◌∷◌, ◌++◌, [], ℕ, ◌<◌, List, length, map, IfOk, OnOk, Ok, vec_len, vec_capacity};
+ghost use Rattle.std.specs.Prelude.{◌≡◌, ◌∷◌, ◌++◌, [], ℕ, ◌<◌, List, length, map, IsOk, Ok, vec_len, vec_capacity};
 ghost use Rattle.std.specs.List.{AllByRecursion, AllZip};
 ghost use Rattle.rtrb.specs.Ring.{IsPair};
 ghost use Rattle.sms_book.specs.Portions.{row_at};
@@ -13,64 +13,59 @@ ghost use Rattle.sms_driver.specs.Closings.{AreTold};
 ghost use Rattle.sms_deal.specs.Deals.{dealt};
 ghost use Rattle.sms_driver.specs.Numbered.{AllDrewOnce, DrewBelow};
 ghost use Rattle.sms_driver.specs.Rings.{flat};
+ghost use Rattle.sms_driver.specs.Rooms.{ArePartsFor, IsFree, IsRoomFor};
 ghost use Rattle.sms_worker.specs.Rests.{HasReceived};
 ghost use Rattle.sms_driver.specs.Seated.{windows};
 
 use crate::bind_end::BindEnd;
-use crate::fault::Lost;
 use crate::joining::{Taken, take_rings};
 use crate::leaving::{Left, close_all};
+use crate::room::{Parts, Room};
 use crate::threads::WorkerResult;
 use rtrb::Consumer;
-use sms_book::{Book, BookName, GatherFault, Shares, Statement, Till, gather};
+use sms_book::{Book, BookName, Shares, Statement, Till, gather};
 use sms_deal::{keep_share, merged};
 use sms_pdu::Reply;
-use sms_window::WindowSeat;
 use sms_worker::laws::received_are_prefixes;
-use sms_worker::{ClosedBy, MessageEnd, WorkerEnd};
-use std::alloc::{AllocError, Global};
+use sms_worker::{MessageEnd, WorkerEnd};
 use std::collections::VecDeque;
 
-/// What all workers give back, where none was refused memory.
+/// What all workers give back, each of which did its work, in the room that was made for it.
 pub fn all_done<N: BookName>(
-    alloc: Global,
     worker_results: Vec<WorkerResult<N>>,
-) -> Result<Vec<WorkerEnd<N>>, Lost>
-    ensures { IfOk result (λ v. map (λ d. Ok d) v.items ≡ worker_results.items) }
+    room: Vec<WorkerEnd<N>>,
+) -> Vec<WorkerEnd<N>>
+    requires worked { AllByRecursion (λ r. IsOk r) worker_results.items }
+    requires room { IsFree (length worker_results.items) room }
+    ensures { map (λ d. Ok d) result.items ≡ worker_results.items }
 {
-    let mut done = Vec::with_capacity(alloc, worker_results.len())?;
+    let mut done = room;
     for worker_result in worker_results {
         let Ok(end) = worker_result else {
-            return Err(Lost);
+            unreachable!()
         };
         done.push_reserved(end);
     }
-    Ok(done)
+    done
 }
 
-#[derive(Drop)]
-struct Parts<N: BookName> {
-    shares: Vec<Shares<N>>,
-    ends: Vec<VecDeque<MessageEnd>>,
-    seats: Vec<WindowSeat>,
-    consumers: Vec<Consumer<Reply>>,
-    causes: Vec<Option<ClosedBy>>,
-}
-
-fn take_apart<N: BookName>(alloc: Global, done: Vec<WorkerEnd<N>>) -> Result<Parts<N>, AllocError>
-    ensures shares { IfOk result (λ p. p.shares.items ≡ map (λ d. d.shares) done.items) }
-    ensures ends { IfOk result (λ p. map (λ q. q.items) p.ends.items ≡ map (λ d. d.ends.items) done.items) }
-    ensures seats { IfOk result (λ p. map (λ s. s.window) p.seats.items ≡ map (λ d. d.seat.window) done.items) }
-    ensures views { IfOk result (λ p. map (λ s. s.view) p.seats.items ≡ map (λ d. d.seat.view) done.items) }
-    ensures consumers { IfOk result (λ p. p.consumers.items ≡ map (λ d. d.consumer) done.items) }
-    ensures causes { IfOk result (λ p. p.causes.items ≡ map (λ d. d.closed) done.items) }
-    ensures long { IfOk result (λ p. length p.ends.items ≡ length done.items) }
+fn take_apart<N: BookName>(done: Vec<WorkerEnd<N>>, room: Parts<N>) -> Parts<N>
+    requires room { ArePartsFor (length done.items) room }
+    ensures shares { result.shares.items ≡ map (λ d. d.shares) done.items }
+    ensures ends { map (λ q. q.items) result.ends.items ≡ map (λ d. d.ends.items) done.items }
+    ensures seats { map (λ s. s.window) result.seats.items ≡ map (λ d. d.seat.window) done.items }
+    ensures views { map (λ s. s.view) result.seats.items ≡ map (λ d. d.seat.view) done.items }
+    ensures consumers { result.consumers.items ≡ map (λ d. d.consumer) done.items }
+    ensures causes { result.causes.items ≡ map (λ d. d.closed) done.items }
+    ensures long { length result.ends.items ≡ length done.items }
 {
-    let mut shares = Vec::with_capacity(alloc, done.len())?;
-    let mut ends = Vec::with_capacity(alloc, done.len())?;
-    let mut seats = Vec::with_capacity(alloc, done.len())?;
-    let mut consumers = Vec::with_capacity(alloc, done.len())?;
-    let mut causes = Vec::with_capacity(alloc, done.len())?;
+    let Parts {
+        mut shares,
+        mut ends,
+        mut seats,
+        mut consumers,
+        mut causes,
+    } = room;
     for end in done {
         let WorkerEnd {
             shares: share,
@@ -85,13 +80,13 @@ fn take_apart<N: BookName>(alloc: Global, done: Vec<WorkerEnd<N>>) -> Result<Par
         consumers.push_reserved(consumer);
         causes.push_reserved(closed);
     }
-    Ok(Parts {
+    Parts {
         shares,
         ends,
         seats,
         consumers,
         causes,
-    })
+    }
 }
 
 /// What a sending gives: an end for each message, in order, a row for each account, and what became
@@ -104,35 +99,28 @@ pub struct Sending {
 }
 
 /// The statement, once all of the book's shares are back.
-fn settle<N: BookName>(
-    book: Book<N>,
-    till: Till<N>,
-    shares: Vec<Shares<N>>,
-) -> Result<Statement, AllocError>
+fn settle<N: BookName>(book: Book<N>, till: Till<N>, shares: Vec<Shares<N>>) -> Statement
     requires all { AreAll N.book.workers shares.items }
-    ensures accounts { IfOk result (λ s. length s ≡ N.book.accounts) }
-    ensures sums { IfOk result (λ s. (i : ℕ) → i < length s → IsSumOf (row_at s i) i till shares.items) }
+    ensures accounts { length result ≡ N.book.accounts }
+    ensures sums { (i : ℕ) → i < length result → IsSumOf (row_at result i) i till shares.items }
 {
     match gather(book, till, shares) {
-        Ok(statement) => Ok(statement),
-        Err((GatherFault::OutOfMemory, _book, _till, _shares)) => Err(AllocError),
-        Err((GatherFault::MissingShare, _book, _till, _shares)) => unreachable!(),
+        Ok(statement) => statement,
+        Err(_refused) => unreachable!(),
     }
 }
 
 /// Joins the ends of the rings, and gives what is left of the binds without them.
-fn join_ends<W: Drop>(
-    alloc: Global,
-    left: Left<W>,
-    consumers: Vec<Consumer<Reply>>,
-) -> Result<Left<W>, AllocError>
+fn join_ends<W: Drop>(left: Left<W>, consumers: Vec<Consumer<Reply>>, room: Taken) -> Left<W>
     requires rings { AllZip IsPair (flat (map (λ d. d.producers.items) left.readers.items)) consumers.items }
-    ensures received { OnOk result (AllZip HasReceived (flat (map (λ d. d.producers.items) left.readers.items)) consumers.items) }
-    ensures shared_binds { IfOk result (λ l. l.shared_binds ≡ left.shared_binds) }
-    ensures readers { IfOk result (λ l. map (λ d. d.seat.window) l.readers.items ≡ map (λ d. d.seat.window) left.readers.items) }
-    ensures outcomes { IfOk result (λ l. map outcome_of l.readers.items ≡ map outcome_of left.readers.items) }
-    ensures driver_seats { IfOk result (λ l. l.driver_seats ≡ left.driver_seats) }
-    ensures workers { IfOk result (λ l. l.workers ≡ left.workers) }
+    requires producers { IsFree (length (flat (map (λ d. d.producers.items) left.readers.items))) room.producers }
+    requires bare { IsFree (length left.readers.items) room.readers }
+    ensures received { AllZip HasReceived (flat (map (λ d. d.producers.items) left.readers.items)) consumers.items }
+    ensures shared_binds { result.shared_binds ≡ left.shared_binds }
+    ensures readers { map (λ d. d.seat.window) result.readers.items ≡ map (λ d. d.seat.window) left.readers.items }
+    ensures outcomes { map outcome_of result.readers.items ≡ map outcome_of left.readers.items }
+    ensures driver_seats { result.driver_seats ≡ left.driver_seats }
+    ensures workers { result.workers ≡ left.workers }
 {
     let Left {
         shared_binds,
@@ -140,25 +128,26 @@ fn join_ends<W: Drop>(
         driver_seats,
         workers,
     } = left;
-    let Taken { producers, readers } = take_rings(alloc, readers)?;
+    let Taken { producers, readers } = take_rings(readers, room);
     received_are_prefixes(producers, consumers);
-    Ok(Left {
+    Left {
         shared_binds,
         readers,
         driver_seats,
         workers,
-    })
+    }
 }
 
 /// Closes the binds' windows, and tells the ends in the order of the messages, and the statement.
 pub fn conclude<N: BookName, W: Drop>(
-    alloc: Global,
     book: Book<N>,
     till: Till<N>,
     done: Vec<WorkerEnd<N>>,
     count: usize,
     left: Left<W>,
-) -> Result<Sending, Lost>
+    room: Room<N>,
+) -> Sending
+    requires room { IsRoomFor count (length done.items) (length left.shared_binds.items) room }
     requires some { 0 < length done.items }
     requires dealt { (es : List MessageEnd) × (length es ≡ count) × (map (λ d. d.ends.items) done.items ≡ dealt (length done.items) 0 es) }
     requires shares { AreAll N.book.workers (map (λ d. d.shares) done.items) }
@@ -167,34 +156,39 @@ pub fn conclude<N: BookName, W: Drop>(
     requires tried { AllByRecursion (λ s. IsTried s.unbinding) left.driver_seats.items }
     requires rings { AllZip IsPair (flat (map (λ d. d.producers.items) left.readers.items)) (map (λ d. d.consumer) done.items) }
     requires seats { map (λ d. d.seat.window) done.items ≡ windows left.workers (map (λ b. b.window) left.shared_binds.items) }
-    ensures ends { (es : List MessageEnd) → length es ≡ count → map (λ d. d.ends.items) done.items ≡ dealt (length done.items) 0 es → IfOk result (λ r. r.ends.items ≡ es) }
+    ensures ends { (es : List MessageEnd) → length es ≡ count → map (λ d. d.ends.items) done.items ≡ dealt (length done.items) 0 es → result.ends.items ≡ es }
     // What each worker received is a beginning of what its reader handed to its ring.
-    ensures received { OnOk result (AllZip HasReceived (flat (map (λ d. d.producers.items) left.readers.items)) (map (λ d. d.consumer) done.items)) }
-    ensures accounts { IfOk result (λ r. length r.statement ≡ N.book.accounts) }
-    ensures sums { IfOk result (λ r. (i : ℕ) → i < length r.statement → IsSumOf (row_at r.statement i) i till (map (λ d. d.shares) done.items)) }
-    ensures binds { IfOk result (λ r. AreBinds (length left.shared_binds.items) left.workers r.binds.items) }
-    ensures outcomes { IfOk result (λ r. map (λ b. b.reader) r.binds.items ≡ map outcome_of left.readers.items) }
+    ensures received { AllZip HasReceived (flat (map (λ d. d.producers.items) left.readers.items)) (map (λ d. d.consumer) done.items) }
+    ensures accounts { length result.statement ≡ N.book.accounts }
+    ensures sums { (i : ℕ) → i < length result.statement → IsSumOf (row_at result.statement i) i till (map (λ d. d.shares) done.items) }
+    ensures binds { AreBinds (length left.shared_binds.items) left.workers result.binds.items }
+    ensures outcomes { map (λ b. b.reader) result.binds.items ≡ map outcome_of left.readers.items }
     // Each bind was closed as its workers say.
-    ensures told { IfOk result (λ r. AreTold left.workers (map (λ d. d.closed) done.items) (map (λ b. b.closing) r.binds.items)) }
+    ensures told { AreTold left.workers (map (λ d. d.closed) done.items) (map (λ b. b.closing) result.binds.items) }
     // No two workers of a bind drew one number.
-    ensures once { IfOk result (λ _. AllDrewOnce (length left.shared_binds.items) left.workers (map (λ d. d.seat.view) done.items)) }
-    ensures below { IfOk result (λ r. DrewBelow left.workers (map (λ d. d.seat.view) done.items) (map (λ b. b.window) r.binds.items)) }
+    ensures once { AllDrewOnce (length left.shared_binds.items) left.workers (map (λ d. d.seat.view) done.items) }
+    ensures below { DrewBelow left.workers (map (λ d. d.seat.view) done.items) (map (λ b. b.window) result.binds.items) }
 {
-    let out = Vec::with_capacity(alloc, count)?;
-    let parts = take_apart(alloc, done)?;
+    let Room {
+        parts,
+        taken,
+        bind_ends,
+        message_ends,
+    } = room;
+    let apart = take_apart(done, parts);
     let Parts {
         shares,
         ends,
         seats,
         consumers,
         causes,
-    } = parts;
-    let left = join_ends(alloc, left, consumers)?;
-    let binds = close_all(alloc, left, seats, causes)?;
-    let statement = settle(book, till, shares)?;
-    Ok(Sending {
-        ends: merged(ends, count, out),
+    } = apart;
+    let joined = join_ends(left, consumers, taken);
+    let binds = close_all(joined, seats, causes, bind_ends);
+    let statement = settle(book, till, shares);
+    Sending {
+        ends: merged(ends, count, message_ends),
         statement,
         binds,
-    })
+    }
 }

@@ -1,7 +1,7 @@
 //! Why a sending ends without a statement.
 
 use sms_book::BookError;
-use std::alloc::{AllocError, AllocFailed};
+use std::alloc::AllocError;
 
 /// Why a bind failed, where it wasn't refused.
 #[derive(Clone, Copy, Debug, PartialEq, Eq, thiserror::Error)]
@@ -26,7 +26,7 @@ pub enum BindFailure {
     Write,
 }
 
-/// Why nothing is told of a sending. Binds are counted from 0. But for `EndsLost` nothing was sent.
+/// Why nothing is told of a sending. Binds are counted from 0. Nothing was sent.
 #[derive(Clone, Copy, Debug, PartialEq, Eq, thiserror::Error)]
 pub enum SendFault {
     /// The bind was refused with this command_status; nothing was sent.
@@ -44,7 +44,8 @@ pub enum SendFault {
     /// Memory was refused before the first message; nothing was sent.
     #[error("out of memory")]
     OutOfMemory,
-    /// Memory was refused once messages may have gone out, and their ends are lost.
+    /// Memory was refused once messages may have gone out, and their ends are lost. No call answers this,
+    /// since the room for all ends is made before the first bind.
     #[error("out of memory; messages may have been sent")]
     EndsLost,
 }
@@ -57,32 +58,5 @@ impl From<AllocError> for SendFault {
 
     fn from(_e: AllocError) -> SendFault {
         SendFault::OutOfMemory
-    }
-}
-
-/// That memory was refused once messages may have gone out.
-#[derive(Clone, Copy, Debug, PartialEq, Eq)]
-pub struct Lost;
-
-impl From<AllocError> for Lost {
-    fn from(_e: AllocError) -> Lost {
-        Lost
-    }
-}
-
-impl<T: Drop> From<AllocFailed<T>> for Lost {
-    fn from(_e: AllocFailed<T>) -> Lost {
-        Lost
-    }
-}
-
-impl From<Lost> for SendFault {
-    ghost use Rattle.std.specs.Prelude.{◌≡◌};
-    ghost use Rattle.sms_driver.specs.declared.fault.SendFault.TheVariants.{EndsLost};
-
-    ghost from_gives = { λ _ f. f ≡ EndsLost };
-
-    fn from(_lost: Lost) -> SendFault {
-        SendFault::EndsLost
     }
 }

@@ -1,6 +1,6 @@
 //! How the seats of a bind come back to its keeper's, and its window is closed.
 
-ghost use Rattle.std.specs.Prelude.{◌≡◌, ◌<◌, ◌∷◌, ◌++◌, IfOk, List, length, map, replicate, take, drop};
+ghost use Rattle.std.specs.Prelude.{◌≡◌, ◌<◌, ◌∷◌, ◌++◌, List, length, map, replicate, take, drop};
 ghost use Rattle.std.specs.List.{AllByRecursion};
 ghost use Rattle.atomic_table.specs.Seated.{TableId};
 ghost use Rattle.sms_driver.specs.BindEnds.{outcome_of, AreBinds};
@@ -8,6 +8,7 @@ ghost use Rattle.sms_unbind.specs.Unbinds.{IsTried};
 ghost use Rattle.sms_driver.specs.Closings.{AreTold};
 ghost use Rattle.sms_driver.specs.Joined.{AreClosed, HasJoined, IsClosed};
 ghost use Rattle.sms_driver.specs.Numbered.{AllDrewOnce, DrewOnce};
+ghost use Rattle.sms_driver.specs.Rooms.{IsFree};
 ghost use Rattle.sms_driver.specs.Seated.{windows};
 
 use crate::bind_end::{BindEnd, outcome_in};
@@ -16,7 +17,6 @@ use sms_bind::ReaderEnd;
 use sms_unbind::{DriverSeat, SharedBind};
 use sms_window::{Closed, Window, WindowSeat};
 use sms_worker::ClosedBy;
-use std::alloc::{AllocError, Global};
 use std::collections::VecDeque;
 
 /// Joins so many of the seats, the first ones, into the keeper's.
@@ -89,21 +89,22 @@ pub(crate) struct Left<W> {
 /// Joins all seats of each bind into its keeper's, and closes its window. Tells what became of the
 /// binds, in order.
 pub(crate) fn close_all<W: Drop>(
-    alloc: Global,
     left: Left<W>,
     seats: Vec<WindowSeat>,
     causes: Vec<Option<ClosedBy>>,
-) -> Result<Vec<BindEnd>, AllocError>
+    room: Vec<BindEnd>,
+) -> Vec<BindEnd>
+    requires room { IsFree (length left.shared_binds.items) room }
     requires readers { map (λ d. d.seat.window) left.readers.items ≡ map (λ b. b.window) left.shared_binds.items }
     requires driver_seats { map (λ s. s.seat.window) left.driver_seats.items ≡ map (λ b. b.window) left.shared_binds.items }
     requires tried { AllByRecursion (λ s. IsTried s.unbinding) left.driver_seats.items }
     requires seats { map (λ s. s.window) seats.items ≡ windows left.workers (map (λ b. b.window) left.shared_binds.items) }
-    ensures binds { IfOk result (λ ends. AreBinds (length left.shared_binds.items) left.workers ends.items) }
-    ensures outcomes { IfOk result (λ ends. map (λ b. b.reader) ends.items ≡ map outcome_of left.readers.items) }
-    ensures closed { IfOk result (λ ends. AreClosed left.workers (map (λ d. d.seat.view) left.readers.items) (map (λ s. s.seat.view) left.driver_seats.items) (map (λ s. s.view) seats.items) (map (λ b. b.window) ends.items)) }
+    ensures binds { AreBinds (length left.shared_binds.items) left.workers result.items }
+    ensures outcomes { map (λ b. b.reader) result.items ≡ map outcome_of left.readers.items }
+    ensures closed { AreClosed left.workers (map (λ d. d.seat.view) left.readers.items) (map (λ s. s.seat.view) left.driver_seats.items) (map (λ s. s.view) seats.items) (map (λ b. b.window) result.items) }
     // Each was closed as its workers say.
-    ensures told { IfOk result (λ ends. AreTold left.workers causes.items (map (λ b. b.closing) ends.items)) }
-    ensures once { IfOk result (λ _. AllDrewOnce (length left.shared_binds.items) left.workers (map (λ s. s.view) seats.items)) }
+    ensures told { AreTold left.workers causes.items (map (λ b. b.closing) result.items) }
+    ensures once { AllDrewOnce (length left.shared_binds.items) left.workers (map (λ s. s.view) seats.items) }
 {
     let Left {
         shared_binds,
@@ -111,7 +112,7 @@ pub(crate) fn close_all<W: Drop>(
         driver_seats,
         workers,
     } = left;
-    let mut ends = Vec::with_capacity(alloc, shared_binds.len())?;
+    let mut ends = room;
     let mut readers = VecDeque::from(readers);
     let mut driver_seats = VecDeque::from(driver_seats);
     let mut seats = VecDeque::from(seats);
@@ -126,5 +127,5 @@ pub(crate) fn close_all<W: Drop>(
         let window = close_one(shared, keeper, seat, &mut seats, workers);
         ends.push_reserved(BindEnd::new(workers, unbinding, outcome, closing, window));
     }
-    Ok(ends)
+    ends
 }

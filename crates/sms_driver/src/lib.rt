@@ -17,6 +17,7 @@ mod latch;
 mod leaving;
 mod listening;
 mod rings;
+mod room;
 mod run;
 mod seating;
 mod seats;

@@ -15,11 +15,12 @@ ghost use Rattle.sms_driver.specs.Ended.{HaveEnded};
 ghost use Rattle.sms_driver.specs.Numbered.{AreBelow, AreNumbered, HasNumbers};
 ghost use Rattle.sms_driver.specs.Reads.{reading_in, reading_of, HasRead};
 ghost use Rattle.sms_driver.specs.Rings.{flat};
+ghost use Rattle.sms_driver.specs.Rooms.{IsFree};
 ghost use Rattle.sms_driver.specs.Statements.{AreRows};
 ghost use Rattle.sms_driver.specs.Seated.{all_keep, all_sit, keeping_of, sitting_of, CountFrom, IsSeated, windows};
 ghost use Rattle.sms_driver.specs.SendFaults.{IsFaultOfRun, IsOfNoBind};
 ghost use Rattle.sms_driver.specs.Settled.{AreSettled};
-ghost use Rattle.sms_driver.specs.Starts.{TellsStart};
+ghost use Rattle.sms_driver.specs.Starts.{NoneWent, TellsStart};
 ghost use Rattle.sms_driver.specs.Threads.{IsPrepared};
 ghost use Rattle.sms_driver.specs.declared.latch.Word.TheVariants.{Go};
 ghost use Rattle.sms_driver.specs.declared.start.Begun.TheVariants.{NotYet, Heard};
@@ -29,6 +30,7 @@ use crate::ending::{Sending, all_done, conclude};
 use crate::fault::SendFault;
 use crate::leaving::Left;
 use crate::rings::all_rings;
+use crate::room::Room;
 use crate::seating::{Seating, seat_all};
 use crate::start::Start;
 use crate::task::{WorkerTask, tasks};
@@ -137,7 +139,9 @@ fn send_over<
     gate: &'x G,
     clock: &'x K,
     pause: &'x P,
+    room: Vec<WorkerEnd<N>>,
 ) -> Result<Over<N>, SendFault>
+    requires room { IsFree N.book.workers room }
     requires shares { shares.items ≡ opening_shares N.book.accounts N.book.workers }
     requires bind_parts { AllZip (IsSeated workers) shared_binds.now bind_parts.items }
     requires driver_seats { map (λ s. s.seat.window) driver_seats.items ≡ map (λ b. b.window) shared_binds.now }
@@ -161,6 +165,7 @@ fn send_over<
     ensures driver_seats { IfOk result (λ r. map (λ s. s.seat.window) r.driver_seats.items ≡ map (λ b. b.window) shared_binds.now) }
     ensures tried { IfOk result (λ r. AllByRecursion (λ s. IsTried s.unbinding) r.driver_seats.items) }
     ensures refused { IfErr result IsOfNoBind }
+    ensures kept { IfErr result (λ _. NoneWent start.new.begun) }
 {
     let mut driver_seats = driver_seats;
     let Ready {
@@ -203,7 +208,7 @@ fn send_over<
         readers,
         driver_seats,
     } = returned;
-    let done = all_done(alloc, worker_results)?;
+    let done = all_done(worker_results, room);
     Ok(Over {
         done,
         readers,
@@ -258,6 +263,8 @@ pub fn run<
     ensures rows { IfOk result (λ r. AreRows blank.credits messages.items r.ends.items r.statement) }
     ensures binds { IfOk result (λ r. AreBinds binds workers r.binds.items) }
     ensures refused { IfErr result (IsFaultOfRun binds) }
+    // Where threads were told to go, no end is lost.
+    ensures kept { IfErr result (λ _. NoneWent start.new.begun) }
 {
     let count = messages.len();
     let Ok((book, till, shares)) = blank.open::<N>(alloc) else {
@@ -265,6 +272,8 @@ pub fn run<
     };
     let batches = deal_out(alloc, messages, shares.as_slice())?;
     let rings = all_rings(alloc, binds, workers)?;
+    let done_room = Vec::with_capacity(alloc, shares.len())?;
+    let room = Room::new(alloc, count, shares.len(), binds)?;
     let made = make_binds(rt, alloc, dial, bind_settings, workers, rings)?;
     let Binds {
         shared_binds,
@@ -286,6 +295,7 @@ pub fn run<
         gate,
         clock,
         pause,
+        done_room,
     )?;
     let Over {
         done,
@@ -298,6 +308,6 @@ pub fn run<
         driver_seats,
         workers,
     };
-    let ended = conclude(alloc, book.into_inner(), till, done, count, left)?;
+    let ended = conclude(book.into_inner(), till, done, count, left, room);
     Ok(ended)
 }
