@@ -82,8 +82,7 @@ module _ (o : List Opening) (n : ℕ) where
   -- a book that was opened isn't refused, and a run tells no such fault
   not_of_run : (binds : ℕ) (why : BookError) → ¬ (IsFaultOfRun binds (BookRefused why))
   not_of_run binds why (inl (inl e)) = absurd (cc)
-  not_of_run binds why (inl (inr (inl e))) = absurd (cc)
-  not_of_run binds why (inl (inr (inr e))) = absurd (cc)
+  not_of_run binds why (inl (inr e)) = absurd (cc)
   not_of_run binds why (inr (place, low, inl e)) = absurd (cc)
   not_of_run binds why (inr (place, low, inr (inl (failure, e)))) = absurd (cc)
   not_of_run binds why (inr (place, low, inr (inr (status, e)))) = absurd (cc)

@@ -8,7 +8,7 @@ use Rattle.sms_driver.specs.declared.latch.Word.TheVariants.{Go, Leave}
 use Rattle.sms_driver.specs.declared.start.Begun.{Begun}
 use Rattle.sms_driver.specs.declared.start.Begun.TheVariants.{NotYet, Heard}
 use Rattle.sms_driver.specs.SendFaults.{IsFaultOf, IsOfStart}
-use Rattle.sms_driver.specs.Starts.{NoneWent, TellsStart}
+use Rattle.sms_driver.specs.Starts.{TellsStart}
 
 -- a bind that fails, before a word
 pub tells_bind : (place : ℕ) (f : SendFault) → IsFaultOf place f → TellsStart NotYet f
@@ -28,13 +28,6 @@ tells_memory b f yet e = subst (TellsStart b) (sym e) (inl yet)
 pub tells_left : (b : Begun) (f : SendFault) → b ≡ Heard Leave → IsOfStart f → TellsStart b f
 tells_left b f left (inl e) = subst (TellsStart b) (sym e) (inr left)
 tells_left b f left (inr e) = subst (TellsStart b) (sym e) left
-
--- none went where no word was said, and where all were told to leave
-pub none_yet : (b : Begun) → b ≡ NotYet → NoneWent b
-none_yet b yet gone = let both : NotYet ≡ Heard Go = sym yet ∙ gone in absurd (cc)
-
-pub none_left : (b : Begun) → b ≡ Heard Leave → NoneWent b
-none_left b left gone = let both : Heard Leave ≡ Heard Go = sym left ∙ gone in absurd (cc)
 
 -- a start that has the word that was said: to go, or to leave where a fault is told
 pub told_word : {A E : Type 0} (r : Result A E) (w : Word) (b : Begun) → b ≡ Heard w → MatchResult r (λ _. w ≡ Go) (λ _. w ≡ Leave) → MatchResult r (λ _. b ≡ Heard Go) (λ _. b ≡ Heard Leave)

@@ -5,8 +5,3 @@ use Rattle.std.specs.Result.{IsErrAnd}
 pub told_so : {T E : Type 0} (r : Result T E) (e : E) (P : E → Type 0) → IsErrAnd r (λ f. f ≡ e) → P e → IfErr r P
 told_so (Ok x) e P h p = tt
 told_so (Err f) e P h p = rw h p
-
--- and what holds whatever is told
-pub so_or_not : {T E : Type 0} (r : Result T E) (P : Type 0) → P → IfErr r (λ e. P)
-so_or_not (Ok x) P p = tt
-so_or_not (Err e) P p = p

@@ -15,7 +15,7 @@ use Rattle.sms_window.specs.Drawing.{HasDrawn}
 use Rattle.sms_driver.specs.declared.fault.BindFailure.{BindFailure}
 use Rattle.sms_driver.specs.declared.fault.BindFailure.TheVariants as failure
 use Rattle.sms_driver.specs.declared.fault.SendFault.{SendFault}
-use Rattle.sms_driver.specs.declared.fault.SendFault.TheVariants.{BindFailed, BindRefused, BookRefused, ThreadRefused, OutOfMemory, EndsLost}
+use Rattle.sms_driver.specs.declared.fault.SendFault.TheVariants.{BindFailed, BindRefused, BookRefused, ThreadRefused, OutOfMemory}
 
 -- what is told of a bind that ended so
 abbrev pub fault_in : ℕ → BindFault → SendFault
@@ -56,17 +56,13 @@ StopsAt OutOfMemory all_workers all_readers workers readers = (workers ≡ 0) ×
 StopsAt ThreadRefused all_workers all_readers workers readers = ((workers ≡ 0) × (readers < all_readers)) ⊎ ((readers ≡ all_readers) × (workers < all_workers))
 StopsAt _ all_workers all_readers workers readers = ⊥
 
--- it is of no bind: of the start, or of memory that was refused once messages may have gone out
-abbrev pub IsOfNoBind : SendFault → Type 0
-IsOfNoBind fault = (fault ≡ OutOfMemory) ⊎ ((fault ≡ ThreadRefused) ⊎ (fault ≡ EndsLost))
-
--- it is of one of so many binds, or of none
+-- it is of one of so many binds, or of no bind
 abbrev pub IsFaultOfRun : ℕ → SendFault → Type 0
-IsFaultOfRun binds fault = IsOfNoBind fault ⊎ ((place : ℕ) × (place < binds) × IsFaultOf place fault)
+IsFaultOfRun binds fault = IsOfStart fault ⊎ ((place : ℕ) × (place < binds) × IsFaultOf place fault)
 
 -- or of the book
 abbrev pub IsFaultOfOne : ℕ → SendFault → Type 0
-IsFaultOfOne binds fault = IsOfNoBind fault ⊎ (((place : ℕ) × (place < binds) × IsFaultOf place fault) ⊎ ((why : BookError) × (fault ≡ BookRefused why)))
+IsFaultOfOne binds fault = IsOfStart fault ⊎ (((place : ℕ) × (place < binds) × IsFaultOf place fault) ⊎ ((why : BookError) × (fault ≡ BookRefused why)))
 
 -- no book is opened with these accounts for so many workers, for this cause
 abbrev pub RefusesBook : List Opening → ℕ → BookError → Type 0

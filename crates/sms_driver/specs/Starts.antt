@@ -1,9 +1,9 @@
 -- How far a sending came, and what a fault says of that.
-use Rattle.std.specs.Prelude.{◌≡◌, ◌≢◌, ◌⊎◌}
+use Rattle.std.specs.Prelude.{◌≡◌, ◌⊎◌}
 use Rattle.sms_driver.specs.declared.fault.SendFault.{SendFault}
 use Rattle.sms_driver.specs.declared.fault.SendFault.TheVariants as fault
 use Rattle.sms_driver.specs.declared.latch.Latch.{Latch}
-use Rattle.sms_driver.specs.declared.latch.Word.TheVariants.{Go, Leave}
+use Rattle.sms_driver.specs.declared.latch.Word.TheVariants.{Leave}
 use Rattle.sms_driver.specs.declared.start.Begun.{Begun}
 use Rattle.sms_driver.specs.declared.start.Begun.TheVariants.{NotYet, Asked, Heard}
 use Rattle.sms_driver.specs.declared.start.Stage.{Stage}
@@ -26,16 +26,11 @@ IsStageAt latch (stage.Unsaid unsaid) = unsaid.latch.value ≡ latch
 IsStageAt latch stage.Taken = Unit {0}
 IsStageAt latch (stage.Said said) = IsSaidAt latch said
 
--- how far a sending came that ends with this fault: a book is refused, and a bind fails, before a word is said, a thread is refused where all were told to
--- leave, and ends are lost where all were told to go; memory is refused, as such, where none was told to go
+-- how far a sending came that ends with this fault, which never is where threads were told to go: a book is refused, and a bind fails, before a word is said, a
+-- thread is refused where all were told to leave, and memory before a word or there
 abbrev pub TellsStart : Begun → SendFault → Type 0
 TellsStart begun (fault.BindRefused bind status) = begun ≡ NotYet
 TellsStart begun (fault.BindFailed bind why) = begun ≡ NotYet
 TellsStart begun (fault.BookRefused why) = begun ≡ NotYet
 TellsStart begun fault.ThreadRefused = begun ≡ Heard Leave
 TellsStart begun fault.OutOfMemory = (begun ≡ NotYet) ⊎ (begun ≡ Heard Leave)
-TellsStart begun fault.EndsLost = begun ≡ Heard Go
-
--- no thread was told to go
-abbrev pub NoneWent : Begun → Type 0
-NoneWent begun = begun ≢ Heard Go

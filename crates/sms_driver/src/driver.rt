@@ -12,7 +12,7 @@ ghost use Rattle.sms_deal.specs.Deals.{dealt};
 ghost use Rattle.sms_driver.specs.Ended.{HaveEnded};
 ghost use Rattle.sms_driver.specs.Numbered.{AreBelow, AreNumbered};
 ghost use Rattle.sms_driver.specs.SendFaults.{fault_of_book, IsFaultOfOne, RefusesBook};
-ghost use Rattle.sms_driver.specs.Starts.{NoneWent, TellsStart};
+ghost use Rattle.sms_driver.specs.Starts.{TellsStart};
 ghost use Rattle.sms_driver.specs.Statements.{AreRows};
 ghost use Rattle.sms_driver.specs.declared.fault.SendFault.TheVariants.{BookRefused};
 ghost use Rattle.sms_driver.specs.declared.latch.Word.TheVariants.{Go};
@@ -68,10 +68,9 @@ pub fn drive_all<
     ensures latch { start.new.latch ≡ start.old.latch }
     // All threads were told to go.
     ensures went { OnOk result (start.new.begun ≡ Heard Go) }
-    // A bind fails before a word is said, and where a thread is refused all were told to leave.
+    // No thread was told to go where a fault is told: a bind fails before a word is said, and where a thread is refused all were
+    // told to leave.
     ensures sent { IfErr result (TellsStart start.new.begun) }
-    // Where threads were told to go, no end is lost.
-    ensures kept { IfErr result (λ _. NoneWent start.new.begun) }
     ensures ends { IfOk result (λ r. AllZip (IsEndOf rules.now (length openings.now)) messages.items r.ends.items) }
     // Bind by bind, each answered attempt of its workers rests on an answer of its own that was read of it.
     ensures heard { IfOk result (λ r. AreHeard (D.told dial.now) binds workers (dealt (binds * workers) 0 r.ends.items)) }

@@ -44,10 +44,6 @@ pub enum SendFault {
     /// Memory was refused before the first message; nothing was sent.
     #[error("out of memory")]
     OutOfMemory,
-    /// Memory was refused once messages may have gone out, and their ends are lost. No call answers this,
-    /// since the room for all ends is made before the first bind.
-    #[error("out of memory; messages may have been sent")]
-    EndsLost,
 }
 
 impl From<AllocError> for SendFault {

@@ -18,9 +18,9 @@ ghost use Rattle.sms_driver.specs.Rings.{flat};
 ghost use Rattle.sms_driver.specs.Rooms.{IsFree};
 ghost use Rattle.sms_driver.specs.Statements.{AreRows};
 ghost use Rattle.sms_driver.specs.Seated.{all_keep, all_sit, keeping_of, sitting_of, CountFrom, IsSeated, windows};
-ghost use Rattle.sms_driver.specs.SendFaults.{IsFaultOfRun, IsOfNoBind};
+ghost use Rattle.sms_driver.specs.SendFaults.{IsFaultOfRun, IsOfStart};
 ghost use Rattle.sms_driver.specs.Settled.{AreSettled};
-ghost use Rattle.sms_driver.specs.Starts.{NoneWent, TellsStart};
+ghost use Rattle.sms_driver.specs.Starts.{TellsStart};
 ghost use Rattle.sms_driver.specs.Threads.{IsPrepared};
 ghost use Rattle.sms_driver.specs.declared.latch.Word.TheVariants.{Go};
 ghost use Rattle.sms_driver.specs.declared.start.Begun.TheVariants.{NotYet, Heard};
@@ -164,8 +164,7 @@ fn send_over<
     ensures readers { IfOk result (λ r. map (λ d. d.seat.window) r.readers.items ≡ map (λ b. b.window) shared_binds.now) }
     ensures driver_seats { IfOk result (λ r. map (λ s. s.seat.window) r.driver_seats.items ≡ map (λ b. b.window) shared_binds.now) }
     ensures tried { IfOk result (λ r. AllByRecursion (λ s. IsTried s.unbinding) r.driver_seats.items) }
-    ensures refused { IfErr result IsOfNoBind }
-    ensures kept { IfErr result (λ _. NoneWent start.new.begun) }
+    ensures refused { IfErr result IsOfStart }
 {
     let mut driver_seats = driver_seats;
     let Ready {
@@ -263,8 +262,6 @@ pub fn run<
     ensures rows { IfOk result (λ r. AreRows blank.credits messages.items r.ends.items r.statement) }
     ensures binds { IfOk result (λ r. AreBinds binds workers r.binds.items) }
     ensures refused { IfErr result (IsFaultOfRun binds) }
-    // Where threads were told to go, no end is lost.
-    ensures kept { IfErr result (λ _. NoneWent start.new.begun) }
 {
     let count = messages.len();
     let Ok((book, till, shares)) = blank.open::<N>(alloc) else {

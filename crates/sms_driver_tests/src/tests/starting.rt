@@ -37,10 +37,10 @@ fn threads_all_start_or_nothing_is_sent(rt: HostRuntime) -> Result<(), Fail> {
     Ok(())
 }
 
-// Only what says that ends were lost may come after a message.
+// No fault comes after a message.
 fn want_none_before(rt: &impl Abort, done: &Done) {
     match &done.ended {
-        Ok(_) | Err(SendFault::EndsLost) => same(rt, done.begun, Begun::Heard(Word::Go)),
+        Ok(_) => same(rt, done.begun, Begun::Heard(Word::Go)),
         Err(_) => same(rt, (done.first.submits, done.second.submits), (0, 0)),
     }
 }

@@ -1,6 +1,5 @@
 use Rattle.std.proofs.Common.{◌*◌, refl, Err}
 use Rattle.sms_driver.proofs.Books.{book_is_one, book_told, run_told, tells_book, told_one}
-use Rattle.sms_driver.proofs.Starts.{none_yet}
 use Rattle.sms_driver.proofs.driver.drive_all.Goals as goal
 
 pub returns-in-Err-clause-refused : goal.returns-in-Err-clause-refused
@@ -21,5 +20,3 @@ returns-clause-book g c why = run_told c.args.openings.now (c.args.binds * c.arg
 pub returns-in-Err-clause-sent : goal.returns-in-Err-clause-sent
 returns-in-Err-clause-sent g c = tells_book _ c.in-Err.why c.book_fault.result c.requires.yet c.book_fault.ensures
 
-pub returns-in-Err-clause-kept : goal.returns-in-Err-clause-kept
-returns-in-Err-clause-kept g c = none_yet _ c.requires.yet

@@ -23,8 +23,8 @@ use Rattle.sms_driver.proofs.Endings.{have_ended}
 use Rattle.sms_driver.specs.Closings.{AreExplained, SaysWhy}
 use Rattle.sms_driver.proofs.Closings.{are_explained}
 use Rattle.sms_driver.proofs.Numbering.{are_below, are_numbered}
-use Rattle.sms_driver.proofs.Starts.{none_yet, tells_before}
-use Rattle.sms_driver.proofs.Telling.{so_or_not, told_so}
+use Rattle.sms_driver.proofs.Starts.{tells_before}
+use Rattle.sms_driver.proofs.Telling.{told_so}
 use Rattle.sms_driver.proofs.run.run.Goals as goal
 
 pub deal_out-requires-clause-shares : goal.deal_out-requires-clause-shares
@@ -177,26 +177,11 @@ returns-in_err-room-clause-sent g c = told_so c.from_residual-in_err-room.result
 pub returns-in_err-made-clause-sent : goal.returns-in_err-made-clause-sent
 returns-in_err-made-clause-sent g c = told_so c.from_residual-in_err-made.result _ _ c.from_residual-in_err-made.ensures.1 (tells_before _ _ c.requires.yet c.in_err-made.ensures.early)
 
+pub returns-in_err-over-clause-refused : goal.returns-in_err-over-clause-refused
+returns-in_err-over-clause-refused g c = told_so c.from_residual-in_err-over.result _ _ c.from_residual-in_err-over.ensures.1 (inl c.in_err-over.ensures.refused)
+
 pub returns-in_err-over-clause-sent : goal.returns-in_err-over-clause-sent
 returns-in_err-over-clause-sent g c = told_so c.from_residual-in_err-over.result _ _ c.from_residual-in_err-over.ensures.1 c.in_err-over.ensures.sent
-
-pub returns-in_err-batches-clause-kept : goal.returns-in_err-batches-clause-kept
-returns-in_err-batches-clause-kept g c = so_or_not c.from_residual.result _ (none_yet _ c.requires.yet)
-
-pub returns-in_err-rings-clause-kept : goal.returns-in_err-rings-clause-kept
-returns-in_err-rings-clause-kept g c = so_or_not c.from_residual-in_err-rings.result _ (none_yet _ c.requires.yet)
-
-pub returns-in_err-done_room-clause-kept : goal.returns-in_err-done_room-clause-kept
-returns-in_err-done_room-clause-kept g c = so_or_not c.from_residual-in_err-done_room.result _ (none_yet _ c.requires.yet)
-
-pub returns-in_err-room-clause-kept : goal.returns-in_err-room-clause-kept
-returns-in_err-room-clause-kept g c = so_or_not c.from_residual-in_err-room.result _ (none_yet _ c.requires.yet)
-
-pub returns-in_err-made-clause-kept : goal.returns-in_err-made-clause-kept
-returns-in_err-made-clause-kept g c = so_or_not c.from_residual-in_err-made.result _ (none_yet _ c.requires.yet)
-
-pub returns-in_err-over-clause-kept : goal.returns-in_err-over-clause-kept
-returns-in_err-over-clause-kept g c = so_or_not c.from_residual-in_err-over.result _ c.in_err-over.ensures.kept
 
 pub send_over-requires-clause-room : goal.send_over-requires-clause-room
 send_over-requires-clause-room g c lives held =

@@ -19,8 +19,8 @@ use Rattle.std.proofs.lemmas.List.{length-map}
 use Rattle.sms_driver.proofs.Joins.{all_ok, each_ok}
 use Rattle.sms_driver.proofs.Returning.{kept_windows}
 use Rattle.sms_driver.proofs.Conclusions.{all_settled, all_back, map_map, zip_to, zip_map}
-use Rattle.sms_driver.proofs.Starts.{none_left, none_yet, tells_left}
-use Rattle.sms_driver.proofs.Telling.{so_or_not, told_so}
+use Rattle.sms_driver.proofs.Starts.{tells_left}
+use Rattle.sms_driver.proofs.Telling.{told_so}
 use Rattle.sms_driver.proofs.run.send_over.Goals as goal
 
 pub make_ready-requires-clause-shares : goal.make_ready-requires-clause-shares
@@ -151,12 +151,6 @@ returns-in-Err-clause-sent g c = inl c.requires.yet
 pub returns-in_err-returned-clause-sent : goal.returns-in_err-returned-clause-sent
 returns-in_err-returned-clause-sent g c =
     told_so c.from_residual.result _ _ c.from_residual.ensures.1 (tells_left _ _ c.in_err-returned.ensures.word c.in_err-returned.ensures.refused)
-
-pub returns-in-Err-clause-kept : goal.returns-in-Err-clause-kept
-returns-in-Err-clause-kept g c = none_yet _ c.requires.yet
-
-pub returns-in_err-returned-clause-kept : goal.returns-in_err-returned-clause-kept
-returns-in_err-returned-clause-kept g c = so_or_not c.from_residual.result _ (none_left _ c.in_err-returned.ensures.word)
 
 pub all_done-done-requires-clause-worked : goal.all_done-done-requires-clause-worked
 all_done-done-requires-clause-worked g c = each_ok (IsWorkOf c.args.rules.now) (map (λ t. t.assignment) c.in-Ok.ready.tasks.items) c.in_ok-returned.returned.worker_results.items c.in_ok-returned.ensures.returned.results
