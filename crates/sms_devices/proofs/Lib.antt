@@ -1,1 +1,4 @@
-mod Words
+pub mod Words
+pub mod Passing
+pub mod Looking
+pub mod Woken

@@ -8,3 +8,4 @@ pub mod Headers
 pub mod Wakes
 pub mod Rests
 pub mod Connecting
+pub mod Incomings

@@ -1,7 +1,9 @@
 //! The headers of the frames in a stream that goes by in pieces (SMPP 3.4 3.2).
 
-ghost use Rattle.std.specs.Prelude.{◌≡◌, ◌≤◌, ◌↔◌, [], length, IfSome, IsTrue};
-ghost use Rattle.sms_devices.specs.Headers.{begun, in_body, in_header, passed};
+ghost use Rattle.std.specs.Prelude.{◌≡◌, ◌<◌, ◌≤◌, ◌-◌, ◌++◌, ◌↔◌, ℕ, List, [], length, map, replicate, IfSome, IsTrue};
+ghost use Rattle.sms_pdu.specs.Frame.{announced, Division, IsBad};
+ghost use Rattle.sms_devices.specs.Headers.{Begun, between, ended, ends_in, in_body, in_header, passed, went};
+ghost use Rattle.sms_devices.specs.declared.headers.Passed.TheVariants.{Bad};
 
 use sms_pdu::{Header, frame_header};
 use std::alloc::Global;
@@ -32,20 +34,20 @@ pub struct Headers {
 }
 
 impl Model for Headers {
-    ghost use Rattle.std.specs.Prelude.{◌≤◌, vec_len, vec_capacity};
+    ghost use Rattle.std.specs.Prelude.{◌≡◌, ◌<◌, ◌≤◌, vec_len, vec_capacity};
     ghost use Rattle.sms_devices.specs.Headers.{Begun, begun};
 
     ghost Value = { Begun };
 
     ghost view = { λ h. begun h.front.items h.left };
 
-    ghost invariant = { λ h. (16 ≤ vec_capacity h.front) × (vec_len h.front ≤ 16) };
+    ghost invariant = { λ h. (16 ≤ vec_capacity h.front) × (vec_len h.front ≤ 16) × (vec_len h.front < 16 → h.left ≡ 0) };
 }
 
 impl Headers {
     /// Nothing has come. None where memory runs out.
     pub fn new(alloc: Global) -> Option<Headers>
-        ensures { IfSome result (λ h. h ≡ begun [] 0) }
+        ensures { IfSome result (λ h. h ≡ between) }
     {
         match Vec::with_capacity(alloc, HEADER_OCTETS as usize) {
             Ok(front) => Some(Headers { front, left: 0 }),
@@ -55,7 +57,7 @@ impl Headers {
 
     /// Whether the next octet is the first of a frame.
     pub fn is_between(&self) -> bool
-        ensures { IsTrue result ↔ (self.now.front ≡ []) }
+        ensures { IsTrue result ↔ (self.now ≡ between) }
     {
         self.front.is_empty()
     }
@@ -107,3 +109,18 @@ impl Headers {
         Passed::Frame(header)
     }
 }
+
+/// However the octets of a stream are cut into pieces, they leave the same and tell the same.
+pub fn pieces_tell_the_same()
+    ensures leave { (b : Begun) (octets more : List ℕ) → went b (octets ++ more) ≡ went (went b octets) more }
+    ensures tell { (b : Begun) (octets more : List ℕ) → ends_in b (octets ++ more) ≡ ends_in b octets ++ ends_in (went b octets) more }
+{}
+
+/// Each frame of a stream is told once, in their order, and nothing is told of the rest behind them unless
+/// its command_length is bad. One that is less than the header is told with the header's last octet and
+/// with each behind it.
+pub fn each_frame_is_told_once()
+    ensures frames { (stream rest : List ℕ) (frames : List (List ℕ)) → Division stream frames rest → ends_in between stream ≡ map ended frames ++ ends_in between rest }
+    ensures rest { (stream rest : List ℕ) (frames : List (List ℕ)) → Division stream frames rest → ¬ IsBad rest → ends_in between rest ≡ [] }
+    ensures bad { (rest : List ℕ) → 16 ≤ length rest → announced rest < 16 → ends_in between rest ≡ replicate (length rest - 15) Bad }
+{}

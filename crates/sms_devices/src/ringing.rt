@@ -1,7 +1,12 @@
 //! The reader of a bind's connection, which wakes the workers whose answers came in.
 
+ghost use Rattle.std.specs.Prelude.{◌≡◌, IfSome, MatchResult, nat_lt, take};
 ghost use Rattle.std.specs.Io.{ReadsAtMost};
 ghost use Rattle.std.specs.Io.KnownBytes.{ReadConsumes};
+ghost use Rattle.std.specs.Option.{is_some};
+ghost use Rattle.sms_devices.specs.Headers.{between};
+ghost use Rattle.sms_devices.specs.Incomings.{Heard, rung};
+ghost use Rattle.sms_devices.specs.Wakes.{nobody};
 
 use crate::bell::Bells;
 use crate::headers::Headers;
@@ -27,7 +32,9 @@ pub struct Incoming {
 
 impl Incoming {
     /// Nothing has come. None where memory runs out.
-    pub(crate) fn new(alloc: Global, deadline: Option<Deadline>) -> Option<Incoming> {
+    pub(crate) fn new(alloc: Global, deadline: Option<Deadline>) -> Option<Incoming>
+        ensures { IfSome result (λ i. i ≡ record { opening = record { deadline = deadline; seen = 0; length = 0 }; headers = between; wakes = nobody }) }
+    {
         Some(Incoming {
             opening: Opening::new(deadline),
             headers: Headers::new(alloc)?,
@@ -36,7 +43,9 @@ impl Incoming {
     }
 
     /// Octets came in.
-    fn see(&mut self, owners: Option<&Owners>, octets: &[u8]) {
+    fn see(&mut self, owners: Option<&Owners>, octets: &[u8])
+        ensures { Heard (is_some owners.entry) octets.now self.old self.new }
+    {
         if !self.opening.is_whole() {
             self.opening.see(octets);
         }
@@ -83,6 +92,8 @@ impl<'r, 'j, S: Read, R: Wait + Clock, F: Write + OpenFile> Read for Ringing<'r,
     fn read(&mut self, buf: &mut [u8]) -> io::Result<usize>
         ensures bound { ReadsAtMost result buf.new }
         ensures bytes { ReadConsumes (S.remaining self.old.inner) (S.remaining self.new.inner) result buf.new }
+        // Whoever was to be woken was, and is to be again only by the octets of this read.
+        ensures seen { MatchResult result (λ count. Heard (nat_lt self.old.bind 4) (take count buf.new) (rung self.old.incoming) self.new.incoming) (λ _. self.new.incoming ≡ rung self.old.incoming) }
     {
         self.outbox.flush();
         self.incoming.wakes.ring(self.rt, self.bells, self.bind);

@@ -1,12 +1,19 @@
 //! Whom the reader of a bind wakes: the workers whose answers came in (SMPP 3.4 4.3.1, 4.4.2).
 
-ghost use Rattle.std.specs.Prelude.{◌≡◌, ℕ, ◌-◌, ◌<◌, ◌==◌, ◌^◌, None, Some, false, if◌then◌else◌, replicate};
-ghost use Rattle.sms_devices.specs.Wakes.{and_this, owner_in, wake_by, word_of};
+ghost use Rattle.std.specs.Prelude.{◌≡◌, ℕ, ◌-◌, ◌<◌, ◌≤◌, ◌==◌, ◌^◌, ◌++◌, ◌∷◌, ◌⊎◌, List, None, Some, IfSome, false, if◌then◌else◌, length, take, replicate, slice_set};
+ghost use Rattle.std.specs.List.{slice_index_or};
+ghost use Rattle.sms_pdu.specs.Frame.{IsFrame, IsRest};
+ghost use Rattle.sms_pdu.specs.Header.{header_at_front};
+ghost use Rattle.sms_devices.specs.Headers.{ends_in, passed, told, went};
+ghost use Rattle.sms_devices.specs.declared.headers.Passed.{Passed};
+ghost use Rattle.sms_devices.specs.declared.wakes.Wake.{Wake};
+ghost use Rattle.sms_devices.specs.declared.wakes.Wakes.{Wakes};
+ghost use Rattle.sms_devices.specs.Wakes.{Concerns, Includes, Looked, Woke, and_this, nobody, owner_in, wake_by, wake_for, word_of};
 
 use crate::bell::Bells;
 use crate::headers::{Headers, Passed};
 use crate::rated::MOST_WORKERS;
-use sms_pdu::{FIRST_RESPONSE, GENERIC_NACK, Header, SUBMIT_SM_RESP, first_frame, header_of};
+use sms_pdu::{FIRST_RESPONSE, GENERIC_NACK, Header, SUBMIT_SM_RESP, first_frame, frame_header};
 use std::array;
 use std::sync::Wait;
 use std::sync::atomic::{AtomicU64, Ordering};
@@ -65,9 +72,23 @@ impl Owners {
     }
 
     /// Whom a frame with this header concerns.
-    pub fn wake_of(&self, header: &Header) -> Wake {
+    pub fn wake_of(&self, header: &Header) -> Wake
+        // The word is what stands in the number's place.
+        ensures { (word : ℕ) × (result ≡ wake_by header.now word) }
+    {
         let place = &self.words[header.number as usize % PLACES];
         wake_by(header, place.load(Ordering::SeqCst))
+    }
+
+    /// Whom it concerns that this passed.
+    fn wake_for(&self, passed: Passed) -> Wake
+        ensures { (word : ℕ) × (result ≡ wake_for passed word) }
+    {
+        match passed {
+            Passed::Part => Wake::Nobody,
+            Passed::Frame(header) => self.wake_of(&header),
+            Passed::Bad => Wake::All,
+        }
     }
 }
 
@@ -105,7 +126,7 @@ pub struct Wakes {
 impl Wakes {
     /// Nobody is.
     pub fn new() -> Wakes
-        ensures { result ≡ record { all = false; workers = replicate 32 false } }
+        ensures { result ≡ nobody }
     {
         Wakes {
             all: false,
@@ -129,26 +150,24 @@ impl Wakes {
     }
 
     /// The octets come in: whom the frames concern that end in them is to be woken.
-    pub fn see(&mut self, owners: &Owners, headers: &mut Headers, octets: &[u8]) {
+    pub fn see(&mut self, owners: &Owners, headers: &mut Headers, octets: &[u8])
+        ensures headers { headers.new ≡ went headers.old octets.now }
+        ensures woken { Woke (ends_in headers.old octets.now) self.old self.new }
+    {
         let mut rest = octets;
-        for _step in 0..octets.len() {
-            if rest.is_empty() {
-                return;
-            }
+        while !rest.is_empty() {
             rest = self.see_some(owners, headers, rest);
         }
     }
 
     /// Looks at the frame that the octets begin with, where it is there whole, else at one octet. Gives
     /// what follows.
-    fn see_some<'a>(
-        &mut self,
-        owners: &Owners,
-        headers: &mut Headers,
-        octets: &'a [u8],
-    ) -> &'a [u8] {
+    fn see_some<'a>(&mut self, owners: &Owners, headers: &mut Headers, octets: &'a [u8]) -> &'a [u8]
+        ensures looked { Looked octets.now result.now headers.old headers.new self.old self.new }
+        ensures fewer { 0 < length octets.now → length result.now < length octets.now }
+    {
         if headers.is_between() {
-            if let (Some(length), Some(header)) = (first_frame(octets), header_of(octets)) {
+            if let Some((length, header)) = whole_frame(octets) {
                 self.add(owners.wake_of(&header));
                 return &octets[length..];
             }
@@ -156,25 +175,69 @@ impl Wakes {
         let Some((octet, after)) = octets.split_first() else {
             return octets;
         };
-        match headers.pass(*octet) {
-            Passed::Part => {}
-            Passed::Frame(header) => self.add(owners.wake_of(&header)),
-            Passed::Bad => self.add(Wake::All),
-        }
+        self.see_one(owners, headers, *octet);
         after
     }
 
+    /// Looks at an octet.
+    fn see_one(&mut self, owners: &Owners, headers: &mut Headers, octet: u8)
+        ensures headers { headers.new ≡ (passed headers.old octet).0 }
+        ensures woken { Woke (told (passed headers.old octet).1) self.old self.new }
+    {
+        let passed = headers.pass(octet);
+        self.add(owners.wake_for(passed));
+    }
+
     /// Wakes them.
-    pub fn ring<R: Wait>(&mut self, rt: &R, bells: &Bells, bind: usize) {
-        if self.all {
-            self.all = false;
+    pub fn ring<R: Wait>(&mut self, rt: &R, bells: &Bells, bind: usize)
+        ensures { self.new ≡ nobody }
+    {
+        if self.take_all() {
             bells.ring_bind(rt, bind);
         }
         for worker in 0..MOST_WORKERS {
-            if self.workers[worker] {
-                self.workers[worker] = false;
+            if self.take_worker(worker) {
                 bells.ring_worker(rt, worker);
             }
         }
+    }
+
+    /// Whether all workers of the bind were to be woken: they no longer are.
+    fn take_all(&mut self) -> bool
+        ensures was { result ≡ self.old.all }
+        ensures left { self.new ≡ record { all = false; workers = self.old.workers } }
+    {
+        let was = self.all;
+        self.all = false;
+        was
+    }
+
+    /// Whether this worker was to be woken: it no longer is.
+    fn take_worker(&mut self, worker: usize) -> bool
+        requires { worker < 32 }
+        ensures was { result ≡ slice_index_or self.old.workers worker false }
+        ensures left { self.new ≡ record { all = self.old.all; workers = slice_set self.old.workers worker false } }
+    {
+        let was = self.workers[worker];
+        self.workers[worker] = false;
+        was
+    }
+}
+
+/// Whom what passed concerns is to be woken, and whoever was to be woken still is; and nobody is but these.
+pub fn nobody_is_forgotten()
+    ensures told { (ps qs : List Passed) (p : Passed) (old new : Wakes) → length old.workers ≡ 32 → Woke (ps ++ p ∷ qs) old new → (word : ℕ) × Includes new (wake_for p word) }
+    ensures kept { (ps : List Passed) (old new : Wakes) (wake : Wake) → length old.workers ≡ 32 → Woke ps old new → Includes old wake → Includes new wake }
+    ensures none_else { (ps : List Passed) (old new : Wakes) (wake : Wake) → Woke ps old new → Includes new wake → Includes old wake ⊎ Concerns ps wake }
+{}
+
+/// How many octets the frame has that these begin with, and its header, where it is there whole.
+fn whole_frame(octets: &[u8]) -> Option<(usize, Header)>
+    ensures frame { IfSome result (λ f. (f.0 ≤ length octets.now) × IsFrame (take f.0 octets.now) × (f.1 ≡ header_at_front octets.now)) }
+    ensures rest { result ≡ None → IsRest octets.now }
+{
+    match first_frame(octets) {
+        Some(length) => Some((length, frame_header(octets))),
+        None => None,
     }
 }
