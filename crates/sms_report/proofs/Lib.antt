@@ -1,8 +1,11 @@
 pub mod Below
 pub mod Capped
+pub mod Counting
+pub mod Digits
 pub mod LastReply
 pub mod Plans
 pub mod Quotes
 pub mod RowTexts
 pub mod Tallies
+pub mod WayLines
 pub mod Writing

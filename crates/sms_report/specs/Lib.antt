@@ -1,3 +1,4 @@
+pub mod Laws
 pub mod Output
 pub mod PlanText
 pub mod Report

@@ -6,6 +6,7 @@
 #![tactic(auto)]
 
 mod fault;
+pub mod laws;
 mod output;
 mod plan;
 mod replay;
