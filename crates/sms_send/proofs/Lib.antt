@@ -9,6 +9,7 @@ pub mod Quoting
 pub mod Replaying
 pub mod Runs
 pub mod Sendings
+pub mod Starts
 pub mod Statuses
 pub mod Telling
 pub mod Reasons

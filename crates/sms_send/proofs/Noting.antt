@@ -10,7 +10,7 @@ use Rattle.sms_send.specs.Faults.{TellsRead}
 use Rattle.sms_send.specs.Noted.{SendsBy, SendsNoted, SendsPlain, SendsThem, TellsBy, TellsNoted, TellsOrder, TellsPlain, TellsThem}
 use Rattle.sms_send.specs.Opened.{OfInput}
 use Rattle.sms_send.specs.declared.fault.Fault.{Fault}
-use Rattle.sms_send.specs.declared.fault.Fault.TheVariants.{File, Journal, OutOfMemory, Output}
+use Rattle.sms_send.specs.declared.fault.Fault.TheVariants.{Journal, Output}
 use Rattle.sms_send.specs.declared.order.JournalFile.{JournalFile}
 use Rattle.sms_send.specs.declared.order.Order.{Order}
 use Rattle.sms_send.specs.declared.send_job.Centre.{Centre}

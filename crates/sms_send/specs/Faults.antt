@@ -65,11 +65,19 @@ told_sending send.ThreadRefused = OutOfMemory
 told_sending send.OutOfMemory = OutOfMemory
 told_sending send.EndsLost = Unreported
 
--- how far a sending came of which this fault is told: messages may have been sent just where all workers were told to go, and a fault by whose lines nothing
--- was sent comes before a word is said or, but for a bind's, where all were told to leave; no other fault is told of a sending
+-- how far a sending came of which this fault is told: messages may have been sent just where all workers were told to go. A fault of what is read, or of a bind,
+-- comes before a word is said, and memory is refused, as such, there or where all were told to leave; behind the word to go the output fails, or nothing is told
+-- of the messages. No other fault is told of a sending without a journal
 abbrev pub IsToldAt : Begun → Fault → Type 0
+IsToldAt begun (File name) = begun ≡ NotYet
+IsToldAt begun (Unreadable source) = begun ≡ NotYet
+IsToldAt begun (BadRecord source place) = begun ≡ NotYet
+IsToldAt begun NotToml = begun ≡ NotYet
+IsToldAt begun (BadKey key) = begun ≡ NotYet
 IsToldAt begun (BindRefused bind status) = begun ≡ NotYet
 IsToldAt begun (BindFailed bind why) = begun ≡ NotYet
+IsToldAt begun (Unconnected reason) = begun ≡ NotYet
+IsToldAt begun Output = begun ≡ Heard Go
 IsToldAt begun OutOfMemory = (begun ≡ NotYet) ⊎ (begun ≡ Heard Leave)
 IsToldAt begun Unreported = begun ≡ Heard Go
 IsToldAt begun _ = ⊥

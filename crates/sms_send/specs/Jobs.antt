@@ -13,7 +13,10 @@ use Rattle.sms_send.specs.Quoted.{QuotesFiles, TellsQuoteJob}
 use Rattle.sms_send.specs.Recovered.{PrintsLeft, RecoversRun, TellsRecoverJob, TellsRestJob}
 use Rattle.sms_send.specs.Replays.{Replays, TellsReplay}
 use Rattle.sms_send.specs.Runs.{IsRun}
-use Rattle.sms_send.specs.Noted.{SendsBy, TellsOrder}
+use Rattle.sms_send.specs.Noted.{IsToldNoted, SendsBy, TellsOrder}
+use Rattle.sms_driver.specs.declared.latch.Word.TheVariants.{Go}
+use Rattle.sms_driver.specs.declared.start.Begun.{Begun}
+use Rattle.sms_driver.specs.declared.start.Begun.TheVariants.{NotYet, Heard}
 use Rattle.sms_send.specs.declared.fault.Fault.{Fault}
 use Rattle.sms_send.specs.declared.fault.Fault.TheVariants.{File}
 use Rattle.sms_send.specs.declared.job.Job.{Job}
@@ -63,6 +66,18 @@ TellsJob standard file (Send order) old new fault = TellsOrder file Named order 
 TellsJob standard file (Recover order) old new fault = TellsRecoverJob file order old new fault
 TellsJob standard file (Rest order) old new fault = TellsRestJob file order old new fault
 
+-- how far its sending came once a job was done: all workers were told to go, of one that sends
+abbrev pub HasBegun : Job → Begun → Type 0
+HasBegun (Loop order) begun = begun ≡ Heard Go
+HasBegun (Send order) begun = begun ≡ Heard Go
+HasBegun _ begun = begun ≡ NotYet
+
+-- how far it came where this fault of the job is told
+abbrev pub IsToldOf : Job → Begun → Option (List ℕ) → Option (List ℕ) → Fault → Type 0
+IsToldOf (Loop order) begun old new fault = IsToldNoted order.strict begun old new fault
+IsToldOf (Send order) begun old new fault = IsToldNoted order.strict begun old new fault
+IsToldOf _ begun old new fault = begun ≡ NotYet
+
 -- these words ask for a job, and it was done
 abbrev pub Works : {S F : Type 0} → (S → Told) → (F → Told) → List Text → ℕ → Option (List ℕ) → Option (List ℕ) → Type 0
 Works standard file words status old new = (job : Job) × IsJob (subcommand_in words) job × IsStatusOf job status × Does standard file job old new status
@@ -70,3 +85,10 @@ Works standard file words status old new = (job : Job) × IsJob (subcommand_in w
 -- what a fault says of the words: they are refused, or what it says of the job that they ask for
 abbrev pub TellsRun : {S F : Type 0} → (S → Told) → (F → Told) → List Text → Option (List ℕ) → Option (List ℕ) → Fault → Type 0
 TellsRun standard file words old new fault = TellsWords words fault ⊎ ((job : Job) × IsJob (subcommand_in words) job × TellsJob standard file job old new fault)
+
+-- how far the sending came that these words ask for, once what they ask for was done, and where this fault is told
+abbrev pub WentSo : List Text → Begun → Type 0
+WentSo words begun = (job : Job) × IsJob (subcommand_in words) job × HasBegun job begun
+
+abbrev pub IsToldSo : List Text → Begun → Option (List ℕ) → Option (List ℕ) → Fault → Type 0
+IsToldSo words begun old new fault = ((begun ≡ NotYet) × TellsWords words fault) ⊎ ((job : Job) × IsJob (subcommand_in words) job × IsToldOf job begun old new fault)

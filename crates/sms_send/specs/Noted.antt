@@ -13,12 +13,15 @@ use Rattle.sms_files.specs.declared.fault.InputFault.TheVariants.{BadRecord}
 use Rattle.sms_files.specs.declared.fault.Source.TheVariants.{Messages}
 use Rattle.sms_files.specs.declared.input.Input.{Input}
 use Rattle.sms_recovery.specs.Files.{Reads, told_of}
-use Rattle.sms_send.specs.Faults.{IsTold, TellsRead}
+use Rattle.sms_send.specs.Faults.{IsTold, IsToldAt, TellsRead}
 use Rattle.sms_send.specs.Opened.{OfInput}
 use Rattle.sms_send.specs.Runs.{AreNamed, TellsNamedFiles, tariff_in}
 use Rattle.sms_send.specs.Sent.{IsSent, SendsNamed, TellsNamed, TellsSending, report_in, untold}
 use Rattle.sms_send.specs.Statuses.{status_by}
 use Rattle.sms_driver.specs.declared.fault.BindFailure.TheVariants.{NoConnection}
+use Rattle.sms_driver.specs.declared.latch.Word.TheVariants.{Go}
+use Rattle.sms_driver.specs.declared.start.Begun.{Begun}
+use Rattle.sms_driver.specs.declared.start.Begun.TheVariants.{NotYet, Heard}
 use Rattle.sms_send.specs.declared.fault.Fault.{Fault}
 use Rattle.sms_send.specs.declared.fault.Fault.TheVariants.{BindFailed, File, Journal, OutOfMemory}
 use Rattle.sms_send.specs.declared.order.JournalFile.{JournalFile}
@@ -133,6 +136,13 @@ TellsReadFiles strict centre journal named octets old new fault =
 abbrev pub TellsNoted : {F : Type 0} → Bool → (F → Told) → Centre → JournalFile → FileNames → List ℕ → Option (List ℕ) → Option (List ℕ) → Fault → Type 0
 TellsNoted {F} strict remaining centre journal names octets old new fault =
     TellsNamedFiles F names fault ⊎ ((named : NamedFiles) × AreNamed remaining names named × TellsReadFiles strict centre journal named octets old new fault)
+
+-- how far a sending with a journal came of which this fault is told: the journal failed before a word was said, and then nothing was written, or behind the
+-- whole report; else the fault says so as of one without
+abbrev pub IsToldNoted : Bool → Begun → Option (List ℕ) → Option (List ℕ) → Fault → Type 0
+IsToldNoted strict begun old new Journal =
+    ((begun ≡ NotYet) × (new ≡ old)) ⊎ ((begun ≡ Heard Go) × (input : Input) × (status : ℕ) × SendsInput untold strict input old new status)
+IsToldNoted strict begun old new fault = IsToldAt begun fault
 
 -- ---- the job
 

@@ -19,6 +19,7 @@ use Rattle.sms_send.specs.Statuses.{status_by}
 use Rattle.sms_report.specs.Output.{WritesFront}
 use Rattle.sms_report.specs.Report.{report_of}
 use Rattle.sms_driver.specs.SendFaults.{IsFaultOfOne}
+use Rattle.sms_driver.specs.Starts.{TellsStart}
 use Rattle.sms_driver.specs.Statements.{AreRows}
 use Rattle.sms_book.specs.Tariffs.{Price}
 use Rattle.sms_files.specs.declared.config.Connection.{Connection}
@@ -27,7 +28,7 @@ use Rattle.sms_files.specs.declared.config.Flags.{Flags}
 use Rattle.sms_files.specs.declared.config.Retry.{Retry}
 use Rattle.sms_driver.specs.declared.binding.BindSettings.{BindSettings}
 use Rattle.sms_driver.specs.declared.fault.SendFault.{SendFault}
-use Rattle.sms_driver.specs.declared.fault.BindFailure.TheVariants.{NoConnection}
+use Rattle.sms_driver.specs.declared.start.Begun.{Begun}
 use Rattle.sms_send.specs.declared.fault.Fault.{Fault}
 use Rattle.sms_send.specs.declared.fault.Fault.TheVariants.{File, Output}
 use Rattle.sms_files.specs.declared.input.Input.{Input}
@@ -89,6 +90,10 @@ pub record RunsSender (told : ℕ → Told) (strict : Bool) (config : List ℕ) 
   pub sent : IsSent told input ended
   pub written : Appends old new (report_in ended)
   pub status_is : status ≡ status_by strict ended.ends.items
+
+-- what a fault of the sending says that came so far: it is of one of so many binds, or of memory, and comes where the sending came so far
+abbrev pub TellsDriven : ℕ → Begun → Fault → Type 0
+TellsDriven binds begun fault = (f : SendFault) × IsFaultOfOne binds f × TellsStart begun f × (fault ≡ told_sending f)
 
 -- what a fault says once the input was read: it is of one of the config's binds, or of memory; or all was sent, and the
 -- output failed behind a front of the report of that

@@ -1,8 +1,10 @@
 //! Files that are read to their ends, and a sending of them without a journal.
 
 ghost use Rattle.std.specs.Prelude.{◌≡◌, ◌≢◌, IfErr, IfOk, OnOk, true};
+ghost use Rattle.sms_driver.specs.declared.latch.Word.TheVariants.{Go};
+ghost use Rattle.sms_driver.specs.declared.start.Begun.TheVariants.{NotYet, Heard};
 ghost use Rattle.sms_files.specs.Quoting.{EndsQuoted};
-ghost use Rattle.sms_send.specs.Faults.{TellsRead};
+ghost use Rattle.sms_send.specs.Faults.{IsToldAt, TellsRead};
 ghost use Rattle.sms_send.specs.Jobs.{IsStatusBy};
 ghost use Rattle.sms_send.specs.Noted.{IsInputOf, IsOpenQuoteOf, SendsNoted, SendsPlain, TellsChecked, TellsFilesOf, TellsInputOf, TellsPlain};
 ghost use Rattle.sms_send.specs.declared.fault.Fault.TheVariants.{Output};
@@ -14,6 +16,7 @@ use crate::remarks::Remarks;
 use crate::run_files::{NamedFiles, read_named};
 use crate::sending::{Reach, Wanted, send_over};
 use sms_devices::Host;
+use sms_driver::Start;
 use sms_files::{FileNames, Input, check_quotes};
 use std::alloc::Global;
 use std::io::Write;
@@ -76,6 +79,7 @@ pub fn input_in(
 /// file ends within a quote.
 fn send_checked<R: Host + Net<Stream = TcpStream, Listener = TcpListener>, W: Write>(
     rt: &R,
+    start: &mut Start<'_>,
     reach: &Reach,
     config: &[u8],
     files: FileNames,
@@ -83,9 +87,13 @@ fn send_checked<R: Host + Net<Stream = TcpStream, Listener = TcpListener>, W: Wr
     pace: Pace,
     output: &mut W,
 ) -> Result<u8, Fault>
+    requires yet { start.old.begun ≡ NotYet }
+    ensures latch { start.new.latch ≡ start.old.latch }
+    ensures went { OnOk result (start.new.begun ≡ Heard Go) }
     ensures sent { IfOk result (SendsNoted true R.File.remaining files config.now (W.contents output.old) (W.contents output.new)) }
     ensures status { IfOk result (IsStatusBy true) }
     ensures refused { IfErr result (TellsChecked R.File.remaining reach.now.centre files config.now (W.contents output.old) (W.contents output.new)) }
+    ensures told { IfErr result (IsToldAt start.new.begun) }
     ensures unwritten { IfErr result (λ fault. fault ≢ Output → output.new ≡ output.old) }
 {
     let named = read_named(rt, files)?;
@@ -93,6 +101,7 @@ fn send_checked<R: Host + Net<Stream = TcpStream, Listener = TcpListener>, W: Wr
     drop(named);
     send_over(
         rt,
+        start,
         reach,
         config,
         Wanted::Read(input),
@@ -108,6 +117,7 @@ fn send_checked<R: Host + Net<Stream = TcpStream, Listener = TcpListener>, W: Wr
 /// ends first, and a messages file that ends within a quote is refused.
 pub fn send_plain<R: Host + Net<Stream = TcpStream, Listener = TcpListener>, W: Write>(
     rt: &R,
+    start: &mut Start<'_>,
     reach: &Reach,
     config: &[u8],
     files: FileNames,
@@ -116,16 +126,21 @@ pub fn send_plain<R: Host + Net<Stream = TcpStream, Listener = TcpListener>, W: 
     strict: bool,
     output: &mut W,
 ) -> Result<u8, Fault>
+    requires yet { start.old.begun ≡ NotYet }
+    ensures latch { start.new.latch ≡ start.old.latch }
+    ensures went { OnOk result (start.new.begun ≡ Heard Go) }
     ensures sent { IfOk result (SendsPlain strict R.File.remaining files config.now (W.contents output.old) (W.contents output.new)) }
     ensures status { IfOk result (IsStatusBy strict) }
     ensures refused { IfErr result (TellsPlain strict R.File.remaining reach.now.centre files config.now (W.contents output.old) (W.contents output.new)) }
+    ensures told { IfErr result (IsToldAt start.new.begun) }
     ensures unwritten { IfErr result (λ fault. fault ≢ Output → output.new ≡ output.old) }
 {
     if strict {
-        send_checked(rt, reach, config, files, remarks, pace, output)
+        send_checked(rt, start, reach, config, files, remarks, pace, output)
     } else {
         send_over(
             rt,
+            start,
             reach,
             config,
             Wanted::Files(files),

@@ -1,9 +1,11 @@
 //! A sending that is noted in a journal.
 
-ghost use Rattle.std.specs.Prelude.{◌≡◌, ◌≢◌, ◌⊎◌, ℕ, Err, Ok, IfErr, IfOk, IsOk};
+ghost use Rattle.std.specs.Prelude.{◌≡◌, ◌≢◌, ◌⊎◌, ℕ, Err, Ok, IfErr, IfOk, IsOk, OnOk};
+ghost use Rattle.sms_driver.specs.declared.latch.Word.TheVariants.{Go};
+ghost use Rattle.sms_driver.specs.declared.start.Begun.TheVariants.{NotYet, Heard};
 ghost use Rattle.sms_journal.specs.Digests.{digests_of as of_files};
 ghost use Rattle.sms_send.specs.Jobs.{IsStatusBy};
-ghost use Rattle.sms_send.specs.Noted.{IsMade, IsNoted, SendsNoted, TellsBegin, TellsNoted};
+ghost use Rattle.sms_send.specs.Noted.{IsMade, IsNoted, IsToldNoted, SendsNoted, TellsBegin, TellsNoted};
 ghost use Rattle.sms_send.specs.Runs.{tariff_in};
 ghost use Rattle.sms_send.specs.declared.fault.Fault.TheVariants.{Journal as JournalFault, Output};
 
@@ -14,6 +16,7 @@ use crate::remarks::Remarks;
 use crate::run_files::{NamedFiles, read_named};
 use crate::sending::{Reach, Wanted, send_over};
 use sms_devices::{Host, Journal, JournalFiles};
+use sms_driver::Start;
 use sms_files::FileNames;
 use sms_journal::{Digests, digests_of};
 use std::fs::OpenFile;
@@ -79,6 +82,7 @@ fn end_journal<R: Clock, F: Write + OpenFile + Drop>(
 /// Reads the files that the config names to their ends, begins the journal, and sends what they say.
 pub fn send_noted<R: Host + Net<Stream = TcpStream, Listener = TcpListener>, W: Write>(
     rt: &R,
+    start: &mut Start<'_>,
     reach: &Reach,
     config: &[u8],
     files: FileNames,
@@ -88,10 +92,15 @@ pub fn send_noted<R: Host + Net<Stream = TcpStream, Listener = TcpListener>, W: 
     strict: bool,
     output: &mut W,
 ) -> Result<u8, Fault>
+    requires yet { start.old.begun ≡ NotYet }
+    ensures latch { start.new.latch ≡ start.old.latch }
+    ensures went { OnOk result (start.new.begun ≡ Heard Go) }
     ensures sent { IfOk result (SendsNoted strict R.File.remaining files config.now (W.contents output.old) (W.contents output.new)) }
     ensures status { IfOk result (IsStatusBy strict) }
     ensures noted { IfOk result (IsNoted R.JournalFile.contents) }
     ensures refused { IfErr result (TellsNoted strict R.File.remaining reach.now.centre wanted files config.now (W.contents output.old) (W.contents output.new)) }
+    // A journal that failed is told before anything was sent or written, or behind the whole report.
+    ensures told { IfErr result (IsToldNoted strict start.new.begun (W.contents output.old) (W.contents output.new)) }
     ensures unwritten { IfErr result (λ fault. fault ≢ Output → fault ≢ JournalFault → output.new ≡ output.old) }
 {
     let named = read_named(rt, files)?;
@@ -101,6 +110,7 @@ pub fn send_noted<R: Host + Net<Stream = TcpStream, Listener = TcpListener>, W: 
     let journal = begin_journal(rt, wanted, &digests)?;
     let sent = send_over(
         rt,
+        start,
         reach,
         config,
         Wanted::Read(input),

@@ -1,17 +1,17 @@
 //! How fast a sending goes, how far without answers, and whom an answer wakes: gates around the one
 //! that notes it.
 
-ghost use Rattle.std.specs.Prelude.{◌≡◌, IfErr, IfOk};
-ghost use Rattle.sms_driver.specs.SendFaults.{IsFaultOfOne};
-ghost use Rattle.sms_driver.specs.declared.fault.SendFault.{SendFault};
-ghost use Rattle.sms_send.specs.Faults.{told_sending};
-ghost use Rattle.sms_send.specs.Sent.{IsSent};
+ghost use Rattle.std.specs.Prelude.{◌≡◌, IfErr, IfOk, OnOk};
+ghost use Rattle.sms_driver.specs.declared.latch.Word.TheVariants.{Go};
+ghost use Rattle.sms_driver.specs.declared.start.Begun.TheVariants.{NotYet, Heard};
+ghost use Rattle.sms_send.specs.Faults.{IsToldAt};
+ghost use Rattle.sms_send.specs.Sent.{IsSent, TellsDriven};
 
 use crate::fault::Fault;
 use crate::order::Pace;
 use crate::sender::{Ended, send_all};
 use sms_devices::{Outboxes, Owning, Rated, Stopping};
-use sms_driver::Dial;
+use sms_driver::{Dial, Start};
 use sms_files::Input;
 use sms_worker::{Clock, Gate, Pause};
 use std::fs::OpenFile;
@@ -31,6 +31,7 @@ pub fn send_paced<
     R: AllocGlobal + Threads + Wait + Sync,
 >(
     rt: &'j R,
+    start: &mut Start<'_>,
     input: Input,
     outboxes: &'r Outboxes<'j, R, F>,
     dial: &D,
@@ -39,8 +40,12 @@ pub fn send_paced<
     pause: &P,
     pace: Pace,
 ) -> Result<Ended, Fault>
+    requires yet { start.old.begun ≡ NotYet }
+    ensures latch { start.new.latch ≡ start.old.latch }
+    ensures went { OnOk result (start.new.begun ≡ Heard Go) }
     ensures sent { IfOk result (IsSent (D.told dial.now) input) }
-    ensures refused { IfErr result (λ fault. (f : SendFault) × IsFaultOfOne input.config.limits.binds f × (fault ≡ told_sending f)) }
+    ensures refused { IfErr result (TellsDriven input.config.limits.binds start.new.begun) }
+    ensures told { IfErr result (IsToldAt start.new.begun) }
 {
     let bells = outboxes.bells();
     bells.set_workers(input.config().limits.workers);
@@ -49,7 +54,9 @@ pub fn send_paced<
         bells,
         alloc: rt.alloc(),
     };
-    send_stopping(rt, input, &*outboxes, dial, &owning, clock, pause, pace)
+    send_stopping(
+        rt, start, input, &*outboxes, dial, &owning, clock, pause, pace,
+    )
 }
 
 /// The same where whom an answer wakes is seen to.
@@ -64,6 +71,7 @@ fn send_stopping<
     R: AllocGlobal + Threads + Wait + Sync,
 >(
     rt: &'j R,
+    start: &mut Start<'_>,
     input: Input,
     outboxes: &'r Outboxes<'j, R, F>,
     dial: &D,
@@ -72,8 +80,12 @@ fn send_stopping<
     pause: &P,
     pace: Pace,
 ) -> Result<Ended, Fault>
+    requires yet { start.old.begun ≡ NotYet }
+    ensures latch { start.new.latch ≡ start.old.latch }
+    ensures went { OnOk result (start.new.begun ≡ Heard Go) }
     ensures sent { IfOk result (IsSent (D.told dial.now) input) }
-    ensures refused { IfErr result (λ fault. (f : SendFault) × IsFaultOfOne input.config.limits.binds f × (fault ≡ told_sending f)) }
+    ensures refused { IfErr result (TellsDriven input.config.limits.binds start.new.begun) }
+    ensures told { IfErr result (IsToldAt start.new.begun) }
 {
     let workers = input.config().limits.workers;
     let answer_ms = input.config().retry.answer_ms;
@@ -86,7 +98,7 @@ fn send_stopping<
         answer_ms,
         pace.stop_after,
     );
-    send_rated(rt, input, dial, &stopping, clock, pause, pace.rate)
+    send_rated(rt, start, input, dial, &stopping, clock, pause, pace.rate)
 }
 
 /// The same with no more requests of a bind in a second than are asked for.
@@ -99,6 +111,7 @@ fn send_rated<
     R: AllocGlobal + Threads + Wait + Sync,
 >(
     rt: &'r R,
+    start: &mut Start<'_>,
     input: Input,
     dial: &D,
     gate: &'r G,
@@ -106,10 +119,14 @@ fn send_rated<
     pause: &P,
     rate: Option<u32>,
 ) -> Result<Ended, Fault>
+    requires yet { start.old.begun ≡ NotYet }
+    ensures latch { start.new.latch ≡ start.old.latch }
+    ensures went { OnOk result (start.new.begun ≡ Heard Go) }
     ensures sent { IfOk result (IsSent (D.told dial.now) input) }
-    ensures refused { IfErr result (λ fault. (f : SendFault) × IsFaultOfOne input.config.limits.binds f × (fault ≡ told_sending f)) }
+    ensures refused { IfErr result (TellsDriven input.config.limits.binds start.new.begun) }
+    ensures told { IfErr result (IsToldAt start.new.begun) }
 {
     let limits = input.config().limits;
     let rated = Rated::new(rt, gate, clock, limits.workers, limits.depth, rate);
-    send_all(rt, rt.alloc(), input, dial, &rated, clock, pause)
+    send_all(rt, rt.alloc(), start, input, dial, &rated, clock, pause)
 }

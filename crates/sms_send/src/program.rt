@@ -1,9 +1,10 @@
 //! The program over its words: the job that they ask for, and what is told of a fault.
 
-ghost use Rattle.std.specs.Prelude.{◌≡◌, ◌≢◌, ◌⊎◌, List, IfErr, IfOk, is_ok, map, string_bytes, if◌then◌else◌};
+ghost use Rattle.std.specs.Prelude.{◌≡◌, ◌≢◌, ◌⊎◌, List, IfErr, IfOk, OnOk, is_ok, map, string_bytes, if◌then◌else◌};
 ghost use Rattle.clap.specs.Words.{Text};
+ghost use Rattle.sms_driver.specs.declared.start.Begun.TheVariants.{NotYet};
 ghost use Rattle.sms_send.specs.Faults.{status_of};
-ghost use Rattle.sms_send.specs.Jobs.{Does, IsStatusOf, TellsJob, TellsRun, Works};
+ghost use Rattle.sms_send.specs.Jobs.{Does, HasBegun, IsStatusOf, IsToldOf, IsToldSo, TellsJob, TellsRun, WentSo, Works};
 ghost use Rattle.sms_send.specs.declared.fault.Fault.TheVariants.{Journal, Output, OutOfMemory, Words};
 
 use crate::explained::{is_at_length, told_of};
@@ -19,6 +20,7 @@ use crate::send_job::{Centre, send_job};
 use crate::standard_error::tell_lines;
 use crate::words::is_verbose;
 use sms_devices::{Host, Screen};
+use sms_driver::{Latch, Start};
 use std::io::{ErrorKind, Write};
 use std::net::{Net, TcpListener, TcpStream};
 use std::rt::{Env, Files};
@@ -33,7 +35,9 @@ pub fn run<R: Host + Net<Stream = TcpStream, Listener = TcpListener>, W: Write>(
     ensures unwritten { IfErr result (λ fault. fault ≢ Output → fault ≢ Journal → output.new ≡ output.old) }
 {
     let words = words_of(rt)?;
-    do_words(rt, words.as_slice(), output)
+    let (latch, unsaid) = Latch::new();
+    let mut start = Start::new(&latch, unsaid);
+    do_words(rt, &mut start, words.as_slice(), output)
 }
 
 /// The words after the program's name. One that is not UTF-8 is refused.
@@ -50,28 +54,38 @@ fn words_of<R: AllocGlobal + Env>(rt: &R) -> Result<Vec<String>, Fault>
 /// Does the job that these words ask for, and gives the exit status.
 fn do_words<R: Host + Net<Stream = TcpStream, Listener = TcpListener>, W: Write>(
     rt: &R,
+    start: &mut Start<'_>,
     words: &[String],
     output: &mut W,
 ) -> Result<u8, Fault>
+    requires yet { start.old.begun ≡ NotYet }
+    ensures latch { start.new.latch ≡ start.old.latch }
+    ensures went { OnOk result (WentSo (map string_bytes words.now) start.new.begun) }
     ensures done { IfOk result (λ status. Works R.Reader.remaining R.File.remaining (map string_bytes words.now) status (W.contents output.old) (W.contents output.new)) }
     ensures refused { IfErr result (TellsRun R.Reader.remaining R.File.remaining (map string_bytes words.now) (W.contents output.old) (W.contents output.new)) }
+    ensures told { IfErr result (IsToldSo (map string_bytes words.now) start.new.begun (W.contents output.old) (W.contents output.new)) }
     ensures unwritten { IfErr result (λ fault. fault ≢ Output → fault ≢ Journal → output.new ≡ output.old) }
 {
     match job_of(rt.alloc(), words) {
-        Ok(job) => do_job(rt, job, output),
+        Ok(job) => do_job(rt, start, job, output),
         Err(fault) => Err(fault),
     }
 }
 
-/// Does a job, and gives the exit status.
+/// Does a job, and gives the exit status. Where the job sends, the start says how far the sending came.
 pub fn do_job<R: Host + Net<Stream = TcpStream, Listener = TcpListener>, W: Write>(
     rt: &R,
+    start: &mut Start<'_>,
     job: Job,
     output: &mut W,
 ) -> Result<u8, Fault>
+    requires yet { start.old.begun ≡ NotYet }
+    ensures latch { start.new.latch ≡ start.old.latch }
+    ensures went { OnOk result (HasBegun job start.new.begun) }
     ensures status { IfOk result (IsStatusOf job) }
     ensures done { IfOk result (Does R.Reader.remaining R.File.remaining job (W.contents output.old) (W.contents output.new)) }
     ensures refused { IfErr result (TellsJob R.Reader.remaining R.File.remaining job (W.contents output.old) (W.contents output.new)) }
+    ensures told { IfErr result (IsToldOf job start.new.begun (W.contents output.old) (W.contents output.new)) }
     ensures unwritten { IfErr result (λ fault. fault ≢ Output → fault ≢ Journal → output.new ≡ output.old) }
 {
     match job {
@@ -79,8 +93,8 @@ pub fn do_job<R: Host + Net<Stream = TcpStream, Listener = TcpListener>, W: Writ
         Job::Replay(Some(name)) => run_replay(rt.alloc(), open(rt, name)?, output),
         Job::Plan(name, long) => run_plan(rt.alloc(), open(rt, name)?, long, output),
         Job::Quote(config, verbose) => quote_job(rt, config, verbose, output),
-        Job::Loop(order) => send_job(rt, Centre::Own, order, output),
-        Job::Send(order) => send_job(rt, Centre::Named, order, output),
+        Job::Loop(order) => send_job(rt, start, Centre::Own, order, output),
+        Job::Send(order) => send_job(rt, start, Centre::Named, order, output),
         Job::Recover(order) => recover_job(rt, order, output),
         Job::Rest(order) => rest_job(rt, order, output),
     }

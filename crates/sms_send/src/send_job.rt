@@ -1,9 +1,12 @@
 //! The job of `loop` and `send`: the files that the config names are opened and read, and sent.
 
-ghost use Rattle.std.specs.Prelude.{◌≡◌, ◌≢◌, IfErr, IfOk, option_map};
+ghost use Rattle.std.specs.Prelude.{◌≡◌, ◌≢◌, IfErr, IfOk, OnOk, option_map};
+ghost use Rattle.sms_driver.specs.declared.latch.Word.TheVariants.{Go};
+ghost use Rattle.sms_driver.specs.declared.start.Begun.TheVariants.{NotYet, Heard};
+ghost use Rattle.sms_send.specs.Faults.{IsToldAt};
 ghost use Rattle.sms_send.specs.Opened.{OfInput};
 ghost use Rattle.sms_send.specs.Jobs.{IsStatusBy};
-ghost use Rattle.sms_send.specs.Noted.{SendsBy, TellsOrder};
+ghost use Rattle.sms_send.specs.Noted.{IsToldNoted, SendsBy, TellsOrder};
 ghost use Rattle.sms_send.specs.Sent.{RunsSender, TellsSender};
 ghost use Rattle.sms_send.specs.declared.fault.Fault.TheVariants.{Journal, Output};
 
@@ -17,7 +20,7 @@ use crate::remarks::Remarks;
 use crate::sender::{send_all, write_report};
 use crate::sending::Reach;
 use sms_devices::Host;
-use sms_driver::Dial;
+use sms_driver::{Dial, Start};
 use sms_files::{FileNames, Setup};
 use sms_worker::{Clock, Gate, Pause};
 use std::alloc::Global;
@@ -51,6 +54,7 @@ pub fn run_sender<
 >(
     rt: &R,
     alloc: Global,
+    start: &mut Start<'_>,
     config: &[u8],
     accounts: A,
     messages: M,
@@ -62,13 +66,18 @@ pub fn run_sender<
     strict: bool,
     output: &mut W,
 ) -> Result<u8, Fault>
+    requires yet { start.old.begun ≡ NotYet }
+    ensures latch { start.new.latch ≡ start.old.latch }
+    ensures went { OnOk result (start.new.begun ≡ Heard Go) }
     ensures sent { IfOk result (λ status. RunsSender (D.told dial.now) strict config.now (A.remaining accounts) (M.remaining messages) (option_map T.remaining tariff) (W.contents output.old) (W.contents output.new) status) }
     // A fault is of the first of these that has one, or of the sending of what they say.
     ensures refused { IfErr result (TellsSender (D.told dial.now) config.now (A.remaining accounts) (M.remaining messages) (option_map T.remaining tariff) (W.contents output.old) (W.contents output.new)) }
+    // And it says whether messages may have been sent: just where all workers were told to go.
+    ensures told { IfErr result (IsToldAt start.new.begun) }
     ensures unwritten { IfErr result (λ fault. fault ≢ Output → output.new ≡ output.old) }
 {
     let input = read_input(alloc, config, accounts, messages, tariff)?;
-    let ended = send_all(rt, alloc, input, dial, gate, clock, pause)?;
+    let ended = send_all(rt, alloc, start, input, dial, gate, clock, pause)?;
     write_report(alloc, &ended, output)?;
     Ok(ended.exit_status(strict))
 }
@@ -77,13 +86,18 @@ pub fn run_sender<
 /// the files are read to their ends first, and what goes out is noted.
 pub fn send_job<R: Host + Net<Stream = TcpStream, Listener = TcpListener>, W: Write>(
     rt: &R,
+    start: &mut Start<'_>,
     centre: Centre,
     order: Order,
     output: &mut W,
 ) -> Result<u8, Fault>
+    requires yet { start.old.begun ≡ NotYet }
+    ensures latch { start.new.latch ≡ start.old.latch }
+    ensures went { OnOk result (start.new.begun ≡ Heard Go) }
     ensures sent { IfOk result (λ status. OfInput R.File.remaining (λ octets. SendsBy order.strict R.File.remaining order.journal octets (W.contents output.old) (W.contents output.new) status)) }
     ensures status { IfOk result (IsStatusBy order.strict) }
     ensures refused { IfErr result (TellsOrder R.File.remaining centre order (W.contents output.old) (W.contents output.new)) }
+    ensures told { IfErr result (IsToldNoted order.strict start.new.begun (W.contents output.old) (W.contents output.new)) }
     ensures unwritten { IfErr result (λ fault. fault ≢ Output → fault ≢ Journal → output.new ≡ output.old) }
 {
     let Order {
@@ -120,6 +134,7 @@ pub fn send_job<R: Host + Net<Stream = TcpStream, Listener = TcpListener>, W: Wr
     match journal {
         None => send_plain(
             rt,
+            start,
             &reach,
             config.as_slice(),
             files,
@@ -130,6 +145,7 @@ pub fn send_job<R: Host + Net<Stream = TcpStream, Listener = TcpListener>, W: Wr
         ),
         Some(journal) => send_noted(
             rt,
+            start,
             &reach,
             config.as_slice(),
             files,

@@ -4,12 +4,9 @@ ghost use Rattle.std.specs.Prelude.{◌≡◌, ◌⊎◌, IfErr, IfOk, OnOk};
 ghost use Rattle.std.specs.Io.KnownBytes.{Appends};
 ghost use Rattle.sms_report.specs.Output.{WritesFront};
 ghost use Rattle.sms_report.specs.Report.{report_of};
-ghost use Rattle.sms_driver.specs.SendFaults.{IsFaultOfOne};
-ghost use Rattle.sms_driver.specs.Starts.{TellsStart};
-ghost use Rattle.sms_send.specs.Faults.{IsToldAt, told_sending};
-ghost use Rattle.sms_send.specs.Sent.{AreSettingsOf, IsRulesOf, IsSent};
+ghost use Rattle.sms_send.specs.Faults.{IsToldAt};
+ghost use Rattle.sms_send.specs.Sent.{AreSettingsOf, IsRulesOf, IsSent, TellsDriven};
 ghost use Rattle.sms_send.specs.Statuses.{status_by};
-ghost use Rattle.sms_driver.specs.declared.fault.SendFault.{SendFault};
 ghost use Rattle.sms_driver.specs.declared.latch.Word.TheVariants.{Go};
 ghost use Rattle.sms_driver.specs.declared.start.Begun.TheVariants.{NotYet, Heard};
 ghost use Rattle.sms_send.specs.declared.fault.Fault.TheVariants.{Output, Unreported};
@@ -17,7 +14,7 @@ ghost use Rattle.sms_send.specs.declared.fault.Fault.TheVariants.{Output, Unrepo
 use crate::fault::Fault;
 use crate::status::status_of;
 use sms_book::{Opening, Statement, Tariff};
-use sms_driver::{BindEnd, BindSettings, Dial, Latch, Sending, Start, drive_all};
+use sms_driver::{BindEnd, BindSettings, Dial, Sending, Start, drive_all};
 use sms_files::{Config, Connection, Flags, Input, Limits, Retry};
 use sms_report::{OutputFault, write_report_of};
 use sms_worker::{Clock, Gate, MessageEnd, Pause, Rules};
@@ -105,37 +102,9 @@ fn settings_of(connection: Connection, limits: Limits, flags: Flags) -> BindSett
 }
 
 /// Makes all binds, sends all messages, and ends the binds. Nothing is sent where a bind fails; the
-/// first that fails is told.
-pub fn send_all<
-    D: Dial,
-    G: Gate + Sync,
-    K: Clock + Sync,
-    P: Pause + Sync,
-    R: Threads + Wait + Sync,
->(
-    rt: &R,
-    alloc: Global,
-    input: Input,
-    dial: &D,
-    gate: &G,
-    clock: &K,
-    pause: &P,
-) -> Result<Ended, Fault>
-    ensures sent { IfOk result (IsSent (D.told dial.now) input) }
-    // A fault is of one of the config's binds, or of memory.
-    ensures refused { IfErr result (λ fault. (f : SendFault) × IsFaultOfOne input.config.limits.binds f × (fault ≡ told_sending f)) }
-{
-    let (latch, unsaid) = Latch::new();
-    let mut start = Start::new(&latch, unsaid);
-    match send_from(rt, alloc, &mut start, input, dial, gate, clock, pause) {
-        Ok(ended) => Ok(ended),
-        Err(fault) => Err(fault),
-    }
-}
-
-/// Sends as `send_all` does. Where a fault is told, the start says whether a message could have gone out
+/// first that fails is told. Where a fault is told, the start says whether a message could have gone out
 /// before it: only where all workers were told to go.
-pub fn send_from<
+pub fn send_all<
     'l,
     D: Dial,
     G: Gate + Sync,
@@ -158,7 +127,7 @@ pub fn send_from<
     ensures sent { IfOk result (IsSent (D.told dial.now) input) }
     // A fault is of one of the config's binds, or of memory; and a fault that comes before a message could go out comes where no
     // worker was told to go, and one that comes after where all were.
-    ensures refused { IfErr result (λ fault. (f : SendFault) × IsFaultOfOne input.config.limits.binds f × TellsStart start.new.begun f × (fault ≡ told_sending f)) }
+    ensures refused { IfErr result (TellsDriven input.config.limits.binds start.new.begun) }
     // So the fault that is told says whether messages may have been sent.
     ensures told { IfErr result (IsToldAt start.new.begun) }
 {

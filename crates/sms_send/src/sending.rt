@@ -1,6 +1,9 @@
 //! A sending: what it stands on, and how it goes to its report.
 
-ghost use Rattle.std.specs.Prelude.{◌≡◌, ◌≢◌, IfErr, IfOk};
+ghost use Rattle.std.specs.Prelude.{◌≡◌, ◌≢◌, IfErr, IfOk, OnOk};
+ghost use Rattle.sms_driver.specs.declared.latch.Word.TheVariants.{Go};
+ghost use Rattle.sms_driver.specs.declared.start.Begun.TheVariants.{NotYet, Heard};
+ghost use Rattle.sms_send.specs.Faults.{IsToldAt};
 ghost use Rattle.sms_send.specs.Jobs.{IsStatusBy};
 ghost use Rattle.sms_send.specs.Noted.{SendsInput, SendsWanted, TellsOver, TellsWanted};
 ghost use Rattle.sms_send.specs.Sent.{SendsNamed, TellsNamed, TellsSending, untold};
@@ -20,7 +23,7 @@ use sms_devices::{
     Host, Journal, JournalFiles, LoopDial, Noting, Outboxes, Progress, Rest, Screen, TcpDial,
     Terminal, Ticks, listen,
 };
-use sms_driver::{BindFailure, Dial};
+use sms_driver::{BindFailure, Dial, Start};
 use sms_files::{FileNames, Input};
 use sms_worker::Pause;
 use std::io::{Eprint, Write};
@@ -53,6 +56,7 @@ pub enum Wanted {
 /// there is one.
 pub fn send_over<'j, R: Host + Net<Stream = TcpStream, Listener = TcpListener>, W: Write>(
     rt: &'j R,
+    start: &mut Start<'_>,
     reach: &Reach,
     config: &[u8],
     wanted: Wanted,
@@ -62,9 +66,13 @@ pub fn send_over<'j, R: Host + Net<Stream = TcpStream, Listener = TcpListener>, 
     strict: bool,
     output: &mut W,
 ) -> Result<u8, Fault>
+    requires yet { start.old.begun ≡ NotYet }
+    ensures latch { start.new.latch ≡ start.old.latch }
+    ensures went { OnOk result (start.new.begun ≡ Heard Go) }
     ensures sent { IfOk result (SendsWanted untold strict R.File.remaining wanted config.now (W.contents output.old) (W.contents output.new)) }
     ensures status { IfOk result (IsStatusBy strict) }
     ensures refused { IfErr result (TellsOver reach.now.centre R.File.remaining wanted config.now (W.contents output.old) (W.contents output.new)) }
+    ensures told { IfErr result (IsToldAt start.new.begun) }
     ensures unwritten { IfErr result (λ fault. fault ≢ Output → output.new ≡ output.old) }
 {
     let outboxes = Outboxes::new(rt, journal);
@@ -83,7 +91,7 @@ pub fn send_over<'j, R: Host + Net<Stream = TcpStream, Listener = TcpListener>, 
                 port: reach.port,
             };
             let sent = send_wanted(
-                rt, config, wanted, &outboxes, &dial, &pause, remarks, pace, strict, output,
+                rt, start, config, wanted, &outboxes, &dial, &pause, remarks, pace, strict, output,
             );
             reasoned(&outboxes, sent)
         }
@@ -101,7 +109,7 @@ pub fn send_over<'j, R: Host + Net<Stream = TcpStream, Listener = TcpListener>, 
                 answers: reach.answers.as_slice(),
             };
             let sent = send_wanted(
-                rt, config, wanted, &outboxes, &dial, &pause, remarks, pace, strict, output,
+                rt, start, config, wanted, &outboxes, &dial, &pause, remarks, pace, strict, output,
             );
             reasoned(&outboxes, sent)
         }
@@ -117,6 +125,7 @@ fn send_wanted<
     W: Write,
 >(
     rt: &'j R,
+    start: &mut Start<'_>,
     config: &[u8],
     wanted: Wanted,
     outboxes: &Outboxes<'j, R, R::JournalFile>,
@@ -127,17 +136,21 @@ fn send_wanted<
     strict: bool,
     output: &mut W,
 ) -> Result<u8, Fault>
+    requires yet { start.old.begun ≡ NotYet }
+    ensures latch { start.new.latch ≡ start.old.latch }
+    ensures went { OnOk result (start.new.begun ≡ Heard Go) }
     ensures sent { IfOk result (SendsWanted (D.told dial.now) strict R.File.remaining wanted config.now (W.contents output.old) (W.contents output.new)) }
     ensures status { IfOk result (IsStatusBy strict) }
     ensures refused { IfErr result (TellsWanted (D.told dial.now) R.File.remaining wanted config.now (W.contents output.old) (W.contents output.new)) }
+    ensures told { IfErr result (IsToldAt start.new.begun) }
     ensures unwritten { IfErr result (λ fault. fault ≢ Output → output.new ≡ output.old) }
 {
     match wanted {
         Wanted::Files(names) => send_files(
-            rt, config, names, outboxes, dial, pause, remarks, pace, strict, output,
+            rt, start, config, names, outboxes, dial, pause, remarks, pace, strict, output,
         ),
         Wanted::Read(input) => send_input(
-            rt, input, outboxes, dial, pause, remarks, pace, strict, output,
+            rt, start, input, outboxes, dial, pause, remarks, pace, strict, output,
         ),
     }
 }
@@ -151,6 +164,7 @@ fn send_files<
     W: Write,
 >(
     rt: &'j R,
+    start: &mut Start<'_>,
     config: &[u8],
     names: FileNames,
     outboxes: &Outboxes<'j, R, R::JournalFile>,
@@ -161,9 +175,13 @@ fn send_files<
     strict: bool,
     output: &mut W,
 ) -> Result<u8, Fault>
+    requires yet { start.old.begun ≡ NotYet }
+    ensures latch { start.new.latch ≡ start.old.latch }
+    ensures went { OnOk result (start.new.begun ≡ Heard Go) }
     ensures sent { IfOk result (SendsNamed (D.told dial.now) strict R.File.remaining names config.now (W.contents output.old) (W.contents output.new)) }
     ensures status { IfOk result (IsStatusBy strict) }
     ensures refused { IfErr result (TellsNamed (D.told dial.now) R.File.remaining names config.now (W.contents output.old) (W.contents output.new)) }
+    ensures told { IfErr result (IsToldAt start.new.begun) }
     ensures unwritten { IfErr result (λ fault. fault ≢ Output → output.new ≡ output.old) }
 {
     let accounts = open(rt, names.accounts)?;
@@ -171,7 +189,7 @@ fn send_files<
     let tariff = open_named(rt, names.tariff)?;
     let input = read_input(rt.alloc(), config, accounts, messages, tariff)?;
     send_input(
-        rt, input, outboxes, dial, pause, remarks, pace, strict, output,
+        rt, start, input, outboxes, dial, pause, remarks, pace, strict, output,
     )
 }
 
@@ -186,6 +204,7 @@ fn send_input<
     W: Write,
 >(
     rt: &'j R,
+    start: &mut Start<'_>,
     input: Input,
     outboxes: &Outboxes<'j, R, R::JournalFile>,
     dial: &D,
@@ -195,9 +214,13 @@ fn send_input<
     strict: bool,
     output: &mut W,
 ) -> Result<u8, Fault>
+    requires yet { start.old.begun ≡ NotYet }
+    ensures latch { start.new.latch ≡ start.old.latch }
+    ensures went { OnOk result (start.new.begun ≡ Heard Go) }
     ensures sent { IfOk result (SendsInput (D.told dial.now) strict input (W.contents output.old) (W.contents output.new)) }
     ensures status { IfOk result (IsStatusBy strict) }
     ensures refused { IfErr result (TellsSending (D.told dial.now) input (W.contents output.old) (W.contents output.new)) }
+    ensures told { IfErr result (IsToldAt start.new.begun) }
     ensures unwritten { IfErr result (λ fault. fault ≢ Output → output.new ≡ output.old) }
 {
     outboxes.set_patience(input.config().retry.answer_ms);
@@ -209,7 +232,9 @@ fn send_input<
         gate: &progress,
         journal: outboxes.journal(),
     };
-    let sent = send_paced(rt, input, &*outboxes, dial, &noting, &clock, pause, pace);
+    let sent = send_paced(
+        rt, start, input, &*outboxes, dial, &noting, &clock, pause, pace,
+    );
     outboxes.flush();
     progress.clear();
     let ended = sent?;

@@ -1,6 +1,7 @@
 use Rattle.std.proofs.Common.{inl, inr}
 use Rattle.std.proofs.lemmas.Result.{IfErr-weaker, IfOk-weaker}
 use Rattle.sms_send.proofs.Telling.{told_so}
+use Rattle.sms_send.proofs.Starts.{checked_at, named_at}
 use Rattle.sms_send.proofs.checked.send_checked.Goals as goal
 
 pub returns-clause-sent : goal.returns-clause-sent
@@ -26,3 +27,9 @@ pub returns-in_err-input-clause-refused : goal.returns-in_err-input-clause-refus
 returns-in_err-input-clause-refused g c =
     told_so c.from_residual-in_err-input.result _ _ c.from_residual-in_err-input.ensures.1
     (inr (c.in_ok-named.named, c.in_ok-named.ensures.read, inl c.in_err-input.ensures.refused))
+
+pub returns-in_err-named-clause-told : goal.returns-in_err-named-clause-told
+returns-in_err-named-clause-told g c = told_so c.from_residual.result _ _ c.from_residual.ensures.1 (named_at _ _ _ _ c.requires.yet c.in_err-named.ensures.refused)
+
+pub returns-in_err-input-clause-told : goal.returns-in_err-input-clause-told
+returns-in_err-input-clause-told g c = told_so c.from_residual-in_err-input.result _ _ c.from_residual-in_err-input.ensures.1 (checked_at _ _ _ c.in_ok-named.named _ c.requires.yet c.in_err-input.ensures.refused)

@@ -1,7 +1,7 @@
 use Rattle.std.proofs.Common.{codes, ◌≡◌}
 use Rattle.std.proofs.lemmas.Result.{IfOk-weaker}
 use Rattle.clap.specs.Words.{App, app_of, with_subcommand}
-use Rattle.sms_send.specs.CommandLine.{plan_line, program_line, quote_line, recover_line, replay_line, rest_line, sender_line}
+use Rattle.sms_send.specs.CommandLine.{plan_line, program_line, quote_line, recover_line, replay_line, sender_line}
 use Rattle.sms_send.proofs.Jobs.{subcommand-added}
 use Rattle.sms_send.proofs.command_line.command_line.Goals as goal
 

@@ -1,6 +1,7 @@
 use Rattle.std.proofs.Common.{inl, inr, refl}
 use Rattle.sms_send.proofs.Telling.{told_so}
 use Rattle.sms_send.proofs.Sendings.{unwritten_told}
+use Rattle.sms_send.proofs.Starts.{read_at, unwritten_at}
 use Rattle.sms_send.proofs.send_job.run_sender.Goals as goal
 
 pub returns-clause-sent : goal.returns-clause-sent
@@ -19,7 +20,7 @@ returns-in_err-input-clause-refused g c = told_so c.from_residual.result _ _ c.f
 pub returns-in_err-ended-clause-refused : goal.returns-in_err-ended-clause-refused
 returns-in_err-ended-clause-refused g c =
     told_so c.from_residual-in_err-ended.result _ _ c.from_residual-in_err-ended.ensures.1
-    (inr (c.in_ok-input.input, c.in_ok-input.ensures.read, inl c.in_err-ended.ensures.refused))
+    (inr (c.in_ok-input.input, c.in_ok-input.ensures.read, inl (c.in_err-ended.ensures.refused.0, c.in_err-ended.ensures.refused.1, c.in_err-ended.ensures.refused.3)))
 
 pub returns-in_err-write_report-clause-refused : goal.returns-in_err-write_report-clause-refused
 returns-in_err-write_report-clause-refused g c =
@@ -35,3 +36,15 @@ returns-in_err-input-clause-unwritten g c = told_so c.from_residual.result _ _ c
 
 pub returns-in_err-ended-clause-unwritten : goal.returns-in_err-ended-clause-unwritten
 returns-in_err-ended-clause-unwritten g c = told_so c.from_residual-in_err-ended.result _ _ c.from_residual-in_err-ended.ensures.1 (λ other. refl)
+
+pub returns-clause-went : goal.returns-clause-went
+returns-clause-went g c = c.in_ok-ended.ensures.went
+
+pub returns-in_err-input-clause-told : goal.returns-in_err-input-clause-told
+returns-in_err-input-clause-told g c = told_so c.from_residual.result _ _ c.from_residual.ensures.1 (read_at _ _ _ c.requires.yet c.in_err-input.ensures.refused)
+
+pub returns-in_err-ended-clause-told : goal.returns-in_err-ended-clause-told
+returns-in_err-ended-clause-told g c = told_so c.from_residual-in_err-ended.result _ _ c.from_residual-in_err-ended.ensures.1 c.in_err-ended.ensures.told
+
+pub returns-in_err-write_report-clause-told : goal.returns-in_err-write_report-clause-told
+returns-in_err-write_report-clause-told g c = told_so c.from_residual-in_err-write_report.result _ _ c.from_residual-in_err-write_report.ensures.1 (unwritten_at _ _ c.in_ok-ended.ensures.went c.in_err-write_report.ensures.failed)

@@ -3,6 +3,7 @@ use Rattle.std.proofs.lemmas.Result.{IfErr-weaker, IfOk-weaker}
 use Rattle.sms_send.proofs.Noting.{noted_sends, noted_tells, plain_sends, plain_tells, tells_setup}
 use Rattle.sms_send.proofs.Sendings.{of_two}
 use Rattle.sms_send.proofs.Telling.{told_so}
+use Rattle.sms_send.proofs.Starts.{noted_at, octets_at, read_at}
 use Rattle.sms_send.proofs.send_job.send_job.Goals as goal
 
 pub returns-in-None-clause-sent : goal.returns-in-None-clause-sent
@@ -55,3 +56,24 @@ returns-in_err-config-clause-unwritten g c = told_so c.from_residual.result _ _ 
 
 pub returns-in_err-accounts-clause-unwritten : goal.returns-in_err-accounts-clause-unwritten
 returns-in_err-accounts-clause-unwritten g c = told_so c.from_residual-in_err-accounts.result _ _ c.from_residual-in_err-accounts.ensures.1 (λ other more. refl)
+
+pub returns-in-None-clause-told : goal.returns-in-None-clause-told
+returns-in-None-clause-told g c = IfErr-weaker c.send_plain.result _ _ (λ fault so. noted_at _ _ _ _ fault so) c.send_plain.ensures.told
+
+pub returns-in-None-clause-went : goal.returns-in-None-clause-went
+returns-in-None-clause-went g c = c.send_plain.ensures.went
+
+pub returns-clause-latch : goal.returns-clause-latch
+returns-clause-latch g c = c.send_noted.ensures.latch
+
+pub returns-clause-went : goal.returns-clause-went
+returns-clause-went g c = c.send_noted.ensures.went
+
+pub returns-clause-told : goal.returns-clause-told
+returns-clause-told g c = c.send_noted.ensures.told
+
+pub returns-in_err-config-clause-told : goal.returns-in_err-config-clause-told
+returns-in_err-config-clause-told g c = told_so c.from_residual.result _ _ c.from_residual.ensures.1 (noted_at _ _ _ _ _ (octets_at _ _ _ c.requires.yet c.in_err-config.ensures.refused))
+
+pub returns-in_err-accounts-clause-told : goal.returns-in_err-accounts-clause-told
+returns-in_err-accounts-clause-told g c = told_so c.from_residual-in_err-accounts.result _ _ c.from_residual-in_err-accounts.ensures.1 (noted_at _ _ _ _ _ (read_at _ _ _ c.requires.yet c.in_err-accounts.ensures.refused))

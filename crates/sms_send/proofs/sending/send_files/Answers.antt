@@ -1,6 +1,7 @@
 use Rattle.std.proofs.Common.{inl, inr, refl}
 use Rattle.std.proofs.lemmas.Result.{IfErr-weaker, IfOk-weaker}
 use Rattle.sms_send.proofs.Telling.{told_so}
+use Rattle.sms_send.proofs.Starts.{file_at, read_at}
 use Rattle.sms_send.proofs.sending.send_files.Goals as goal
 
 pub returns-clause-sent : goal.returns-clause-sent
@@ -65,3 +66,24 @@ returns-in_err-tariff-clause-unwritten g c = told_so c.from_residual-in_err-tari
 
 pub returns-in_err-input-clause-unwritten : goal.returns-in_err-input-clause-unwritten
 returns-in_err-input-clause-unwritten g c = told_so c.from_residual-in_err-input.result _ _ c.from_residual-in_err-input.ensures.1 (λ other. refl)
+
+pub returns-clause-latch : goal.returns-clause-latch
+returns-clause-latch g c = c.send_input.ensures.latch
+
+pub returns-clause-went : goal.returns-clause-went
+returns-clause-went g c = c.send_input.ensures.went
+
+pub returns-clause-told : goal.returns-clause-told
+returns-clause-told g c = c.send_input.ensures.told
+
+pub returns-in_err-accounts-clause-told : goal.returns-in_err-accounts-clause-told
+returns-in_err-accounts-clause-told g c = told_so c.from_residual.result _ _ c.from_residual.ensures.1 (file_at _ _ _ c.requires.yet c.in_err-accounts.ensures)
+
+pub returns-in_err-messages-clause-told : goal.returns-in_err-messages-clause-told
+returns-in_err-messages-clause-told g c = told_so c.from_residual-in_err-messages.result _ _ c.from_residual-in_err-messages.ensures.1 (file_at _ _ _ c.requires.yet c.in_err-messages.ensures)
+
+pub returns-in_err-tariff-clause-told : goal.returns-in_err-tariff-clause-told
+returns-in_err-tariff-clause-told g c = told_so c.from_residual-in_err-tariff.result _ _ c.from_residual-in_err-tariff.ensures.1 (file_at _ _ _ c.requires.yet c.in_err-tariff.ensures.refused.0)
+
+pub returns-in_err-input-clause-told : goal.returns-in_err-input-clause-told
+returns-in_err-input-clause-told g c = told_so c.from_residual-in_err-input.result _ _ c.from_residual-in_err-input.ensures.1 (read_at _ _ _ c.requires.yet c.in_err-input.ensures.refused)

@@ -2,6 +2,7 @@ use Rattle.std.proofs.Common.{inl, refl}
 use Rattle.sms_send.specs.Jobs.{IsStatusBy}
 use Rattle.sms_send.proofs.Noting.{ended_ok}
 use Rattle.sms_send.proofs.Reasons.{reasoned_quiet, reasoned_told}
+use Rattle.sms_send.proofs.Starts.{reasoned_at}
 use Rattle.sms_send.proofs.sending.send_over.Goals as goal
 
 pub returns-in-Named-clause-sent : goal.returns-in-Named-clause-sent
@@ -31,3 +32,18 @@ returns-clause-refused g c = reasoned_told c.reasoned-in-Own.result c.send_wante
 
 pub returns-clause-unwritten : goal.returns-clause-unwritten
 returns-clause-unwritten g c = reasoned_quiet c.reasoned-in-Own.result c.send_wanted-sent-in-Own.result _ c.reasoned-in-Own.ensures.told c.send_wanted-sent-in-Own.ensures.unwritten
+
+pub returns-in-Named-clause-went : goal.returns-in-Named-clause-went
+returns-in-Named-clause-went g c = ended_ok c.reasoned.result c.send_wanted-sent.result _ c.reasoned.ensures.sent c.send_wanted-sent.ensures.went
+
+pub returns-in-Named-clause-told : goal.returns-in-Named-clause-told
+returns-in-Named-clause-told g c = reasoned_at c.reasoned.result c.send_wanted-sent.result _ c.reasoned.ensures.told c.send_wanted-sent.ensures.told
+
+pub returns-in_default-clause-told : goal.returns-in_default-clause-told
+returns-in_default-clause-told g c = c.requires.yet
+
+pub returns-clause-went : goal.returns-clause-went
+returns-clause-went g c = ended_ok c.reasoned-in-Own.result c.send_wanted-sent-in-Own.result _ c.reasoned-in-Own.ensures.sent c.send_wanted-sent-in-Own.ensures.went
+
+pub returns-clause-told : goal.returns-clause-told
+returns-clause-told g c = reasoned_at c.reasoned-in-Own.result c.send_wanted-sent-in-Own.result _ c.reasoned-in-Own.ensures.told c.send_wanted-sent-in-Own.ensures.told

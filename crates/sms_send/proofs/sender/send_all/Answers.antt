@@ -16,7 +16,7 @@ use Rattle.sms_send.specs.Faults.{IsToldAt}
 use Rattle.sms_send.specs.Sent.{AreSettingsOf, IsRulesOf}
 use Rattle.sms_driver.specs.Statements.{AreRows}
 use Rattle.sms_files.specs.declared.config.Config.{Config}
-use Rattle.sms_send.proofs.sender.send_from.Goals as goal
+use Rattle.sms_send.proofs.sender.send_all.Goals as goal
 
 pub returns-clause-sent : goal.returns-clause-sent
 returns-clause-sent g c =

@@ -1,0 +1,101 @@
+-- How far a sending came of which a fault is told.
+use Rattle.std.proofs.Common.{◌≡◌, ◌⊎◌, inl, inr, sym, subst, ℕ, Bool, List, Option, String, Global, Result, Ok, Err, IfErr, IfOk, OnOk}
+use Rattle.sms_devices.specs.declared.connecting.Unconnected.{Unconnected as Why}
+use Rattle.sms_driver.specs.declared.fault.BindFailure.TheVariants as failure
+use Rattle.sms_driver.specs.declared.latch.Word.TheVariants.{Go}
+use Rattle.sms_driver.specs.declared.start.Begun.{Begun}
+use Rattle.sms_driver.specs.declared.start.Begun.TheVariants.{NotYet, Heard}
+use Rattle.sms_files.specs.declared.config.FileNames.{FileNames}
+use Rattle.sms_files.specs.declared.fault.InputFault.{InputFault}
+use Rattle.sms_files.specs.declared.fault.InputFault.TheVariants as input
+use Rattle.sms_files.specs.declared.fault.Source.{Source}
+use Rattle.sms_files.specs.declared.input.Input.{Input}
+use Rattle.sms_send.specs.Faults.{IsToldAt, TellsRead, told_input, with_reason}
+use Rattle.sms_send.specs.Noted.{IsToldNoted, SendsInput, TellsInputOf}
+use Rattle.sms_send.specs.Runs.{TellsNamedFiles, TellsOpened}
+use Rattle.sms_send.specs.Sent.{untold}
+use Rattle.sms_send.specs.declared.fault.Fault.{Fault}
+use Rattle.sms_send.specs.declared.fault.Fault.TheVariants.{BindFailed, File, Journal, Output, OutOfMemory, Unreadable, Unreported}
+use Rattle.sms_send.specs.declared.run_files.NamedFiles.{NamedFiles}
+use Rattle.sms_send.proofs.Noting.{Ends}
+use Rattle.sms_send.proofs.Reasons.{IsOf}
+
+-- ---- before a word is said
+
+pub file_at : (b : Begun) (name : String Global) (fault : Fault) → b ≡ NotYet → fault ≡ File name → IsToldAt b fault
+file_at b name fault yet is = subst (IsToldAt b) (sym is) yet
+
+pub unreadable_at : (b : Begun) (source : Source) (fault : Fault) → b ≡ NotYet → fault ≡ Unreadable source → IsToldAt b fault
+unreadable_at b source fault yet is = subst (IsToldAt b) (sym is) yet
+
+pub memory_at : (b : Begun) (fault : Fault) → b ≡ NotYet → fault ≡ OutOfMemory → IsToldAt b fault
+memory_at b fault yet is = subst (IsToldAt b) (sym is) (inl yet)
+
+-- a file's octets, or no memory for them
+pub octets_at : (b : Begun) (name : String Global) (fault : Fault) → b ≡ NotYet → (fault ≡ OutOfMemory) ⊎ (fault ≡ File name) → IsToldAt b fault
+octets_at b name fault yet (inl is) = memory_at b fault yet is
+octets_at b name fault yet (inr is) = file_at b name fault yet is
+
+pub input_at : (b : Begun) (f : InputFault) → b ≡ NotYet → IsToldAt b (told_input f)
+input_at b (input.Unreadable source) yet = yet
+input_at b (input.BadRecord source place) yet = yet
+input_at b input.NotToml yet = yet
+input_at b (input.BadKey key) yet = yet
+input_at b input.OutOfMemory yet = inl yet
+
+-- what is told of what is read
+pub read_at : (b : Begun) (P : InputFault → Type 0) (fault : Fault) → b ≡ NotYet → TellsRead P fault → IsToldAt b fault
+read_at b P fault yet (f, holds, is) = subst (IsToldAt b) (sym is) (input_at b f yet)
+
+pub opened_at : {F : Type 0} (b : Begun) (tariff : Option F) (fault : Fault) → b ≡ NotYet → TellsOpened tariff fault → IsToldAt b fault
+opened_at b tariff fault yet (inl is) = memory_at b fault yet is
+opened_at b tariff fault yet (inr (inl is)) = unreadable_at b _ fault yet is
+opened_at b tariff fault yet (inr (inr (inl is))) = unreadable_at b _ fault yet is
+opened_at b tariff fault yet (inr (inr (inr (is, some)))) = unreadable_at b _ fault yet is
+
+pub named_at : (F : Type 0) (names : FileNames) (b : Begun) (fault : Fault) → b ≡ NotYet → TellsNamedFiles F names fault → IsToldAt b fault
+named_at F names b fault yet (inl is) = file_at b _ fault yet is
+named_at F names b fault yet (inr (inl is)) = file_at b _ fault yet is
+named_at F names b fault yet (inr (inr (inl (is, some)))) = file_at b _ fault yet is
+named_at F names b fault yet (inr (inr (inr (tariff, named, tells)))) = opened_at b tariff fault yet tells
+
+pub checked_at : (b : Begun) (strict : Bool) (octets : List ℕ) (named : NamedFiles) (fault : Fault) → b ≡ NotYet → TellsInputOf strict octets named fault → IsToldAt b fault
+checked_at b strict octets named fault yet (inl tells) = read_at b _ fault yet tells
+checked_at b strict octets named fault yet (inr (is, (some, read, tells))) = read_at b _ fault yet tells
+
+-- ---- behind the word to go
+
+-- the report wasn't written
+pub unwritten_at : (b : Begun) (fault : Fault) → b ≡ Heard Go → (fault ≡ Output) ⊎ (fault ≡ Unreported) → IsToldAt b fault
+unwritten_at b fault gone (inl is) = subst (IsToldAt b) (sym is) gone
+unwritten_at b fault gone (inr is) = subst (IsToldAt b) (sym is) gone
+
+-- ---- told with a reason
+
+pub reason_at : (b : Begun) (why : Why) (f : Fault) → IsToldAt b f → IsToldAt b (with_reason why f)
+reason_at b why (BindFailed bind failure.NoConnection) so = so
+reason_at b why f so = so
+
+pub reasoned_at : (r x : Result ℕ Fault) (b : Begun) → IfErr r (IsOf x) → IfErr x (IsToldAt b) → IfErr r (IsToldAt b)
+reasoned_at (Ok s) x b told so = tt
+reasoned_at (Err e) x b (f, is, why, same) so = subst (IsToldAt b) (sym same) (reason_at b why f (rw is at so))
+
+-- ---- with a journal
+
+-- a fault is told as of a sending without one
+pub noted_at : (strict : Bool) (b : Begun) (old new : Option (List ℕ)) (f : Fault) → IsToldAt b f → IsToldNoted strict b old new f
+noted_at strict b old new Journal so = absurd so
+noted_at strict b old new f so = so
+
+-- its file can't be made, or what was made doesn't take the first line
+pub begun_at : {A C : Type 0} (strict : Bool) (b : Begun) (old new : Option (List ℕ)) (name : String Global) (fault : Fault) → b ≡ NotYet → new ≡ old
+    → ((fault ≡ File name) × A) ⊎ ((fault ≡ Journal) × C) → IsToldNoted strict b old new fault
+begun_at strict b old new name fault yet same (inl (is, made)) = subst (IsToldNoted strict b old new) (sym is) yet
+begun_at strict b old new name fault yet same (inr (is, made)) = subst (IsToldNoted strict b old new) (sym is) (inl (yet, same))
+
+-- it has ended behind the report, or the fault is that of the sending
+pub ended_at : (r x : Result ℕ Fault) (strict : Bool) (b : Begun) (sent : Input) (old new : Option (List ℕ))
+    → IfErr r (Ends x) → IfErr x (IsToldAt b) → OnOk x (b ≡ Heard Go) → IfOk x (SendsInput untold strict sent old new) → IfErr r (IsToldNoted strict b old new)
+ended_at (Ok s) x strict b sent old new told bad went good = tt
+ended_at (Err f) x strict b sent old new (inl same) bad went good = noted_at strict b old new f (rw same at bad)
+ended_at (Err f) x strict b sent old new (inr (is, s, ok)) bad went good = subst (IsToldNoted strict b old new) (sym is) (inr (rw ok at went, sent, s, rw ok at good))
