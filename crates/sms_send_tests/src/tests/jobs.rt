@@ -3,6 +3,7 @@
 use super::broken::{FailingInput, FailingOutput};
 use super::same::same;
 use super::told::told_of;
+use sms_driver::{Latch, Start};
 use sms_send::{Fault, Job, Order, Pace, do_job, run_replay};
 use std::alloc::Global;
 use std::io::{Read, Write};
@@ -199,7 +200,9 @@ fn tells_files_that_cannot_be_read(rt: HostRuntime) -> Result<(), Fail> {
     for (word, name, wanted) in UNREAD {
         let job = job_with(word, String::from_str(rt.alloc(), name)?);
         let mut output = Vec::new(rt.alloc());
-        want_fault(&rt, do_job(&rt, job, &mut output), wanted);
+        let (latch, unsaid) = Latch::new();
+        let done = do_job(&rt, &mut Start::new(&latch, unsaid), job, &mut output);
+        want_fault(&rt, done, wanted);
         assert!(rt; output.is_empty());
     }
     Ok(())

@@ -3,6 +3,7 @@
 use super::broken::FailingOutput;
 use super::same::same;
 use super::told::told_of;
+use sms_driver::{Latch, Start};
 use sms_send::{Fault, Job, JournalFile, Order, Pace, RecoverOrder, do_job};
 use std::alloc::{AllocError, Global};
 use std::fs;
@@ -85,7 +86,13 @@ fn ends_a_journal_behind_its_report(rt: HostRuntime) -> Result<(), Fail> {
     }
     let _removed = fs::remove_file(&rt, JOURNAL);
     let mut printed = Vec::new(alloc);
-    let done = do_job(&rt, noted_job(alloc)?, &mut printed);
+    let (latch, unsaid) = Latch::new();
+    let done = do_job(
+        &rt,
+        &mut Start::new(&latch, unsaid),
+        noted_job(alloc)?,
+        &mut printed,
+    );
     assert!(rt; done.is_ok());
     let text = journal_text(&rt);
     let Some(last) = text.split_inclusive('\n').last() else {
@@ -93,13 +100,33 @@ fn ends_a_journal_behind_its_report(rt: HostRuntime) -> Result<(), Fail> {
     };
     assert!(rt; last.starts_with("end,") && last.ends_with(",0\n"));
     let mut recovered = Vec::new(alloc);
-    assert!(rt; do_job(&rt, recover_job(alloc)?, &mut recovered).is_ok());
+    let (latch, unsaid) = Latch::new();
+    let told = do_job(
+        &rt,
+        &mut Start::new(&latch, unsaid),
+        recover_job(alloc)?,
+        &mut recovered,
+    );
+    assert!(rt; told.is_ok());
     same(&rt, recovered.as_slice(), printed.as_slice());
-    let again = do_job(&rt, noted_job(alloc)?, &mut printed);
+    let (latch, unsaid) = Latch::new();
+    let again = do_job(
+        &rt,
+        &mut Start::new(&latch, unsaid),
+        noted_job(alloc)?,
+        &mut printed,
+    );
     want_fault(&rt, alloc, again, "fault: file noted-journal.csv")?;
     same(&rt, journal_text(&rt).as_str(), text.as_str());
     assert!(rt; fs::remove_file(&rt, JOURNAL).is_ok());
-    let failed = do_job(&rt, noted_job(alloc)?, &mut FailingOutput { room: 9 });
+    let (latch, unsaid) = Latch::new();
+    let output = &mut FailingOutput { room: 9 };
+    let failed = do_job(
+        &rt,
+        &mut Start::new(&latch, unsaid),
+        noted_job(alloc)?,
+        output,
+    );
     want_fault(&rt, alloc, failed, "fault: output")?;
     assert!(rt; !journal_text(&rt).contains("\nend,"));
     assert!(rt; fs::remove_file(&rt, JOURNAL).is_ok());

@@ -3,6 +3,7 @@
 
 use super::simulator::{Beside, Simulator};
 use sms_centre::Fuse;
+use sms_driver::{Latch, Start};
 use sms_send::{Fault, run_sender, setup_of};
 use sms_worker::Gate;
 use std::alloc::{AllocError, Global};
@@ -100,9 +101,12 @@ pub fn send<R: Threads + Wait + Sync, G: Gate + Sync>(
         writes: sending.writes,
     };
     let mut printed = Vec::with_capacity(alloc, PRINTED)?;
+    let (latch, unsaid) = Latch::new();
+    let mut start = Start::new(&latch, unsaid);
     let ended = run_sender(
         rt,
         alloc,
+        &mut start,
         sending.config.as_bytes(),
         sending.accounts.as_bytes(),
         sending.messages.as_bytes(),
