@@ -36,11 +36,11 @@ of_config remaining items read handed setup Q P input one two (config, says, sam
     beside remaining items items P input refl
     (into items (config, subst (λ (octets : List ℕ). IsConfig octets config) one says, subst (λ (octets : List ℕ). Q config.files octets) two (subst (λ (s : Setup). Q (names_in s) handed) same holds)))
 
--- the report wasn't written: the output failed behind a front of it, or memory ran out
+-- the report wasn't written: the output failed behind a front of it, or memory was refused for it
 pub unwritten_told : (told : ℕ → Told) (input : Input) (ended : Ended) (old new : Option (List ℕ)) (fault : Fault) → IsSent told input ended
-    → (fault ≡ Output) ⊎ (fault ≡ Unreported) → (fault ≡ Output → WritesFront old new (report_in ended)) → TellsSending told input old new fault
-unwritten_told told input ended old new fault sent (inl out) front = inr (out, ended, sent, front out)
-unwritten_told told input ended old new fault sent (inr memory) front = inl (send.EndsLost, inl (inr (inr refl)), memory)
+    → (fault ≡ Output) ⊎ (fault ≡ Unreported) → (fault ≡ Output → WritesFront old new (report_in ended)) → (fault ≡ Unreported → new ≡ old) → TellsSending told input old new fault
+unwritten_told told input ended old new fault sent (inl out) front quiet = inr (inl (out, ended, sent, front out))
+unwritten_told told input ended old new fault sent (inr memory) front quiet = inr (inr (memory, ended, sent, quiet memory))
 
 -- a fault is told by how far the sending came
 pub told_at : (b : Begun) (f : SendFault) → TellsStart b f → IsToldAt b (told_sending f)
@@ -49,7 +49,6 @@ told_at b (send.BindFailed bind why) h = h
 told_at b (send.BookRefused why) h = inl h
 told_at b send.ThreadRefused h = inr h
 told_at b send.OutOfMemory h = h
-told_at b send.EndsLost h = h
 
 -- one of three, from two of them
 pub of_two : {A B C : Type 0} → A ⊎ B → A ⊎ (B ⊎ C)

@@ -55,15 +55,13 @@ told_input input.NotToml = NotToml
 told_input (input.BadKey key) = BadKey key
 told_input input.OutOfMemory = OutOfMemory
 
--- why nothing is told of a sending; a thread that is refused is told as want of memory, and so are accounts that no book opens with, but not ends that are
--- lost: behind them messages may have been sent
+-- why nothing is sent; a thread that is refused is told as want of memory, and so are accounts that no book opens with
 abbrev pub told_sending : SendFault → Fault
 told_sending (send.BindRefused bind status) = BindRefused bind status
 told_sending (send.BindFailed bind why) = BindFailed bind why
 told_sending (send.BookRefused why) = OutOfMemory
 told_sending send.ThreadRefused = OutOfMemory
 told_sending send.OutOfMemory = OutOfMemory
-told_sending send.EndsLost = Unreported
 
 -- how far a sending came of which this fault is told: messages may have been sent just where all workers were told to go. A fault of what is read, or of a bind,
 -- comes before a word is said, and memory is refused, as such, there or where all were told to leave; behind the word to go the output fails, or nothing is told

@@ -30,7 +30,7 @@ use Rattle.sms_driver.specs.declared.binding.BindSettings.{BindSettings}
 use Rattle.sms_driver.specs.declared.fault.SendFault.{SendFault}
 use Rattle.sms_driver.specs.declared.start.Begun.{Begun}
 use Rattle.sms_send.specs.declared.fault.Fault.{Fault}
-use Rattle.sms_send.specs.declared.fault.Fault.TheVariants.{File, Output}
+use Rattle.sms_send.specs.declared.fault.Fault.TheVariants.{File, Output, Unreported}
 use Rattle.sms_files.specs.declared.input.Input.{Input}
 use Rattle.sms_files.specs.declared.limits.Limits.{Limits}
 use Rattle.sms_send.specs.declared.sender.Ended.{Ended}
@@ -96,11 +96,12 @@ abbrev pub TellsDriven : ℕ → Begun → Fault → Type 0
 TellsDriven binds begun fault = (f : SendFault) × IsFaultOfOne binds f × TellsStart begun f × (fault ≡ told_sending f)
 
 -- what a fault says once the input was read: it is of one of the config's binds, or of memory; or all was sent, and the
--- output failed behind a front of the report of that
+-- output failed behind a front of the report of that, or memory was refused for the report and none of it was written
 abbrev pub TellsSending : (ℕ → Told) → Input → Option (List ℕ) → Option (List ℕ) → Fault → Type 0
 TellsSending told input old new fault =
     ((f : SendFault) × IsFaultOfOne input.config.limits.binds f × (fault ≡ told_sending f))
-    ⊎ ((fault ≡ Output) × (ended : Ended) × IsSent told input ended × WritesFront old new (report_in ended))
+    ⊎ (((fault ≡ Output) × (ended : Ended) × IsSent told input ended × WritesFront old new (report_in ended))
+    ⊎ ((fault ≡ Unreported) × (ended : Ended) × IsSent told input ended × (new ≡ old)))
 
 -- what a fault says of these octets: it is of the first that have one, or of the sending of what they all say
 abbrev pub TellsSender : (ℕ → Told) → List ℕ → Told → Told → Option Told → Option (List ℕ) → Option (List ℕ) → Fault → Type 0

@@ -50,8 +50,7 @@ pub enum Fault {
     Output,
     /// Memory was refused, or a thread, and nothing was sent.
     OutOfMemory,
-    /// Memory was refused once all workers of a sending were told to go: messages may have been sent, and
-    /// nothing is told of them.
+    /// Memory was refused for the report of a sending, once its messages had ended: nothing is told of them.
     Unreported,
 }
 
@@ -181,7 +180,6 @@ impl From<SendFault> for Fault {
             SendFault::BindFailed(bind, why) => Fault::BindFailed(bind, why),
             SendFault::BookRefused(_) => Fault::OutOfMemory,
             SendFault::ThreadRefused | SendFault::OutOfMemory => Fault::OutOfMemory,
-            SendFault::EndsLost => Fault::Unreported,
         }
     }
 }

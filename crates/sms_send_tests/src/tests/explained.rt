@@ -103,7 +103,7 @@ fn tells_what_want_of_memory_came_to(rt: HostRuntime) -> Result<(), Fail> {
         "  memory or a thread was refused; nothing was sent\n",
     )?;
     same(&rt, unsent.exit_status(), 1);
-    let unreported = Fault::from(SendFault::EndsLost);
+    let unreported = Fault::Unreported;
     want_told(
         &rt,
         &unreported,
