@@ -19,4 +19,3 @@ returns-clause-book g c why = run_told c.args.openings.now (c.args.binds * c.arg
 
 pub returns-in-Err-clause-sent : goal.returns-in-Err-clause-sent
 returns-in-Err-clause-sent g c = tells_book _ c.in-Err.why c.book_fault.result c.requires.yet c.book_fault.ensures
-
