@@ -8,8 +8,8 @@
 //! the line is down, since the worker that failed takes it down behind its ring; so nobody rests long at
 //! such a bind: one that looked before it was marked is rung behind the mark.
 
-ghost use Rattle.std.specs.Prelude.{◌≡◌, ◌≤◌, ◌↔◌, IsTrue, nat_lt, slice_get};
-ghost use Rattle.std.specs.Option.{is_some, option_copied};
+ghost use Rattle.std.specs.Prelude.{◌≡◌, ◌≤◌, ◌↔◌, IsTrue, nat_lt};
+ghost use Rattle.std.specs.Option.{is_some};
 ghost use Rattle.sms_devices.specs.Rests.{rest_ms};
 
 use crate::outbox::Outboxes;
@@ -104,8 +104,7 @@ impl Bells {
 
     /// Whose request each number of this bind is.
     pub fn owners(&self, bind: usize) -> Option<&Owners>
-        ensures some { is_some result ≡ nat_lt bind 4 }
-        ensures of_bind { option_copied result ≡ slice_get self.now.owners bind }
+        ensures { is_some result ≡ nat_lt bind 4 }
     {
         self.owners.get(bind)
     }
