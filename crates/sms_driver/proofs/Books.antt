@@ -1,5 +1,5 @@
 -- What is told where no book is opened.
-use Rattle.std.specs.Prelude.{◌≡◌, ◌≢◌, ◌↔◌, ℕ, List, Result, Ok, Err, IfErr, IsErrOf}
+use Rattle.std.specs.Prelude.{◌≡◌, ◌≢◌, ◌↔◌, ℕ, List, Option, Result, Ok, Err, IfErr, IsErrOf}
 use Rattle.std.proofs.Common.{sym, ap, ◌∙◌, subst, inl, inr}
 use Rattle.sms_book.specs.Openings.{credits_of, names_of, AllSmall, GoodCount, IsFirstDouble, NoDouble}
 use Rattle.sms_book.specs.declared.error.BookError.{BookError}
@@ -8,7 +8,10 @@ use Rattle.sms_book.specs.declared.error.BookError.TheVariants.{BadCount, Duplic
 use Rattle.sms_book.specs.declared.opening.Opening.{Opening}
 use Rattle.sms_driver.specs.declared.fault.SendFault.{SendFault}
 use Rattle.sms_driver.specs.declared.fault.SendFault.TheVariants.{BookRefused}
-use Rattle.sms_driver.specs.SendFaults.{fault_of_book, IsFaultOfOne, IsFaultOfRun, RefusesBook}
+use Rattle.sms_pdu.specs.declared.command.Mode.{Mode}
+use Rattle.sms_bind.specs.declared.binding.BindFault.{BindFault}
+use Rattle.sms_bind.specs.declared.binding.BindFault.TheVariants as bind
+use Rattle.sms_driver.specs.SendFaults.{fault_in, fault_of_book, IsFaultOfOne, IsFaultOfRun, RefusesBook}
 use Rattle.sms_driver.specs.declared.start.Begun.{Begun}
 use Rattle.sms_driver.specs.declared.start.Begun.TheVariants.{NotYet}
 use Rattle.sms_driver.specs.Starts.{TellsStart}
@@ -23,19 +26,20 @@ tells_book b NoAccount f yet e = subst (TellsStart b) (sym e) yet
 tells_book b book.OutOfMemory f yet e = subst (TellsStart b) (sym e) (inl yet)
 
 -- what is told is of the book, or of memory
-pub book_is_one : (binds : ℕ) (w : BookError) (f : SendFault) → f ≡ fault_of_book w → IsFaultOfOne binds f
-book_is_one binds BadCount f e = inr (inr (BadCount, e))
-book_is_one binds (Duplicate first second) f e = inr (inr (Duplicate first second, e))
-book_is_one binds AmountTooLarge f e = inr (inr (AmountTooLarge, e))
-book_is_one binds (NoCredit free needed) f e = inr (inr (NoCredit free needed, e))
-book_is_one binds NoAccount f e = inr (inr (NoAccount, e))
-book_is_one binds book.OutOfMemory f e = inl (inl e)
+pub book_is_one : (refuses : ℕ → Type 0) (told : ℕ → Option (List ℕ)) (mode : Mode) (binds : ℕ) (w : BookError) (f : SendFault) → f ≡ fault_of_book w → IsFaultOfOne refuses told mode binds f
+book_is_one refuses told mode binds BadCount f e = inr (inr (BadCount, e))
+book_is_one refuses told mode binds (Duplicate first second) f e = inr (inr (Duplicate first second, e))
+book_is_one refuses told mode binds AmountTooLarge f e = inr (inr (AmountTooLarge, e))
+book_is_one refuses told mode binds (NoCredit free needed) f e = inr (inr (NoCredit free needed, e))
+book_is_one refuses told mode binds NoAccount f e = inr (inr (NoAccount, e))
+book_is_one refuses told mode binds book.OutOfMemory f e = inl (inl e)
 
 -- and so is what a run tells
-pub told_one : {T : Type 0} (binds : ℕ) (q : Result T SendFault) → IfErr q (IsFaultOfRun binds) → IfErr q (IsFaultOfOne binds)
-told_one binds (Ok x) h = tt
-told_one binds (Err f) (inl h) = inl h
-told_one binds (Err f) (inr h) = inr (inl h)
+pub told_one : {T : Type 0} (refuses : ℕ → Type 0) (told : ℕ → Option (List ℕ)) (mode : Mode) (binds : ℕ) (q : Result T SendFault) → IfErr q (IsFaultOfRun refuses told mode binds)
+    → IfErr q (IsFaultOfOne refuses told mode binds)
+told_one refuses told mode binds (Ok x) h = tt
+told_one refuses told mode binds (Err f) (inl h) = inl h
+told_one refuses told mode binds (Err f) (inr h) = inr (inl h)
 
 is_told : (w why : BookError) → fault_of_book w ≡ BookRefused why → w ≡ why
 is_told BadCount why e = cc
@@ -80,12 +84,21 @@ module _ (o : List Opening) (n : ℕ) where
     book_told f q err e why = ((λ told. said_why f why e (fault_in_err f (BookRefused why) q err told)), (λ h. err ∙ ap Err (e ∙ is_refused why h)))
 
   -- a book that was opened isn't refused, and a run tells no such fault
-  not_of_run : (binds : ℕ) (why : BookError) → ¬ (IsFaultOfRun binds (BookRefused why))
-  not_of_run binds why (inl (inl e)) = absurd (cc)
-  not_of_run binds why (inl (inr e)) = absurd (cc)
-  not_of_run binds why (inr (place, low, inl e)) = absurd (cc)
-  not_of_run binds why (inr (place, low, inr (inl (failure, e)))) = absurd (cc)
-  not_of_run binds why (inr (place, low, inr (inr (status, e)))) = absurd (cc)
+  not_in : (place : ℕ) (bind : BindFault) (why : BookError) → BookRefused why ≡ fault_in place bind → ⊥
+  not_in place (bind.Refused status) why e = cc
+  not_in place bind.Closed why e = cc
+  not_in place bind.NotSmpp why e = cc
+  not_in place bind.Read why e = cc
+  not_in place bind.Write why e = cc
+  not_in place bind.OutOfMemory why e = cc
+
+  not_of_run : (refuses : ℕ → Type 0) (told : ℕ → Option (List ℕ)) (mode : Mode) (binds : ℕ) (why : BookError) → ¬ (IsFaultOfRun refuses told mode binds (BookRefused why))
+  not_of_run refuses told mode binds why (inl (inl e)) = absurd (cc)
+  not_of_run refuses told mode binds why (inl (inr e)) = absurd (cc)
+  not_of_run refuses told mode binds why (inr (place, low, inl e)) = absurd (cc)
+  not_of_run refuses told mode binds why (inr (place, low, inr (inl (e, none)))) = absurd (cc)
+  not_of_run refuses told mode binds why (inr (place, low, inr (inr (inl e)))) = absurd (cc)
+  not_of_run refuses told mode binds why (inr (place, low, inr (inr (inr (fault, refused, e))))) = absurd (not_in place fault why e)
 
   not_refused : GoodCount o n × NoDouble (names_of o) × AllSmall (credits_of o) → (why : BookError) → ¬ (RefusesBook o n why)
   not_refused good BadCount h = h good.0
@@ -98,5 +111,5 @@ module _ (o : List Opening) (n : ℕ) where
   err_holds : {T : Type 0} (P : SendFault → Type 0) (q : Result T SendFault) (f : SendFault) → q ≡ Err f → IfErr q P → P f
   err_holds P q f e h = subst (λ x. IfErr x P) e h
 
-  pub run_told : {T : Type 0} (binds : ℕ) (q : Result T SendFault) → IfErr q (IsFaultOfRun binds) → GoodCount o n × NoDouble (names_of o) × AllSmall (credits_of o) → (why : BookError) → IsErrOf q (BookRefused why) ↔ RefusesBook o n why
-  run_told binds q refused good why = ((λ told. absurd (not_of_run binds why (err_holds (IsFaultOfRun binds) q (BookRefused why) told refused))), (λ h. absurd (not_refused good why h)))
+  pub run_told : {T : Type 0} (refuses : ℕ → Type 0) (told : ℕ → Option (List ℕ)) (mode : Mode) (binds : ℕ) (q : Result T SendFault) → IfErr q (IsFaultOfRun refuses told mode binds) → GoodCount o n × NoDouble (names_of o) × AllSmall (credits_of o) → (why : BookError) → IsErrOf q (BookRefused why) ↔ RefusesBook o n why
+  run_told refuses told mode binds q refused good why = ((λ is. absurd (not_of_run refuses told mode binds why (err_holds (IsFaultOfRun refuses told mode binds) q (BookRefused why) is refused))), (λ h. absurd (not_refused good why h)))

@@ -1,5 +1,5 @@
 -- What a fault says of the start of a sending.
-use Rattle.std.specs.Prelude.{◌≡◌, ℕ, Result, Ok, Err, MatchResult}
+use Rattle.std.specs.Prelude.{◌≡◌, ℕ, List, Option, Result, Ok, Err, MatchResult}
 use Rattle.std.proofs.Common.{refl, sym, ap, ◌∙◌, subst, inl, inr}
 use Rattle.sms_driver.specs.declared.fault.SendFault.{SendFault}
 use Rattle.sms_driver.specs.declared.fault.SendFault.TheVariants.{OutOfMemory}
@@ -7,14 +7,26 @@ use Rattle.sms_driver.specs.declared.latch.Word.{Word}
 use Rattle.sms_driver.specs.declared.latch.Word.TheVariants.{Go, Leave}
 use Rattle.sms_driver.specs.declared.start.Begun.{Begun}
 use Rattle.sms_driver.specs.declared.start.Begun.TheVariants.{NotYet, Heard}
-use Rattle.sms_driver.specs.SendFaults.{IsFaultOf, IsOfStart}
+use Rattle.sms_pdu.specs.declared.command.Mode.{Mode}
+use Rattle.sms_bind.specs.declared.binding.BindFault.{BindFault}
+use Rattle.sms_bind.specs.declared.binding.BindFault.TheVariants as bind
+use Rattle.sms_driver.specs.SendFaults.{fault_in, IsFaultOf, IsOfStart}
 use Rattle.sms_driver.specs.Starts.{TellsStart}
 
 -- a bind that fails, before a word
-pub tells_bind : (place : ℕ) (f : SendFault) → IsFaultOf place f → TellsStart NotYet f
-tells_bind place f (inl e) = subst (TellsStart NotYet) (sym e) (inl refl)
-tells_bind place f (inr (inl (why, e))) = subst (TellsStart NotYet) (sym e) refl
-tells_bind place f (inr (inr (status, e))) = subst (TellsStart NotYet) (sym e) refl
+tells_in : (place : ℕ) (why : BindFault) → TellsStart NotYet (fault_in place why)
+tells_in place (bind.Refused status) = refl
+tells_in place bind.Closed = refl
+tells_in place bind.NotSmpp = refl
+tells_in place bind.Read = refl
+tells_in place bind.Write = refl
+tells_in place bind.OutOfMemory = inl refl
+
+pub tells_bind : (refuses : ℕ → Type 0) (told : ℕ → Option (List ℕ)) (mode : Mode) (place : ℕ) (f : SendFault) → IsFaultOf refuses told mode place f → TellsStart NotYet f
+tells_bind refuses told mode place f (inl e) = subst (TellsStart NotYet) (sym e) (inl refl)
+tells_bind refuses told mode place f (inr (inl (e, none))) = subst (TellsStart NotYet) (sym e) refl
+tells_bind refuses told mode place f (inr (inr (inl e))) = subst (TellsStart NotYet) (sym e) refl
+tells_bind refuses told mode place f (inr (inr (inr (why, refused, e)))) = subst (TellsStart NotYet) (sym e) (tells_in place why)
 
 -- so whatever is told before a word, of a start at which none was said
 pub tells_before : (b : Begun) (f : SendFault) → b ≡ NotYet → TellsStart NotYet f → TellsStart b f

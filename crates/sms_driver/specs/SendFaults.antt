@@ -12,7 +12,6 @@ use Rattle.sms_bind.specs.declared.binding.BindFault.{BindFault}
 use Rattle.sms_bind.specs.declared.binding.BindFault.TheVariants as bind
 use Rattle.sms_window.specs.declared.view.View.{View}
 use Rattle.sms_window.specs.Drawing.{HasDrawn}
-use Rattle.sms_driver.specs.declared.fault.BindFailure.{BindFailure}
 use Rattle.sms_driver.specs.declared.fault.BindFailure.TheVariants as failure
 use Rattle.sms_driver.specs.declared.fault.SendFault.{SendFault}
 use Rattle.sms_driver.specs.declared.fault.SendFault.TheVariants.{BindFailed, BindRefused, BookRefused, ThreadRefused, OutOfMemory}
@@ -41,9 +40,20 @@ pub record HasFailed (place : ℕ) (mode : Mode) (before after : Option (List �
   pub says : Refuses mode octets why
   pub told : fault ≡ fault_in place why
 
--- the fault is of this bind, or of memory
-abbrev pub IsFaultOf : ℕ → SendFault → Type 0
-IsFaultOf place fault = (fault ≡ OutOfMemory) ⊎ (((why : BindFailure) × (fault ≡ BindFailed place why)) ⊎ ((status : ℕ) × (fault ≡ BindRefused place status)))
+-- of a bind's reader this was told, and so many octets of that were read, which refuse the bind so
+pub record WasRefused (mode : Mode) (told : Option (List ℕ)) (why : BindFault) : Type 0 where
+  pub left : Option (List ℕ)
+  pub octets : List ℕ
+  pub read : Consumes told left octets
+  pub says : Refuses mode octets why
+
+-- the fault is of this bind: there is no connection for it, no number was drawn, or what was read of it refuses it so; or it is of memory
+abbrev pub IsFaultOf : (ℕ → Type 0) → (ℕ → Option (List ℕ)) → Mode → ℕ → SendFault → Type 0
+IsFaultOf refuses told mode place fault =
+    (fault ≡ OutOfMemory)
+    ⊎ ((fault ≡ BindFailed place failure.NoConnection) × refuses place)
+    ⊎ (fault ≡ BindFailed place failure.NoNumber)
+    ⊎ ((why : BindFault) × WasRefused mode (told place) why × (fault ≡ fault_in place why))
 
 -- not everything could start: memory or a thread was refused
 abbrev pub IsOfStart : SendFault → Type 0
@@ -57,12 +67,13 @@ StopsAt ThreadRefused all_workers all_readers workers readers = ((workers ≡ 0)
 StopsAt _ all_workers all_readers workers readers = ⊥
 
 -- it is of one of so many binds, or of no bind
-abbrev pub IsFaultOfRun : ℕ → SendFault → Type 0
-IsFaultOfRun binds fault = IsOfStart fault ⊎ ((place : ℕ) × (place < binds) × IsFaultOf place fault)
+abbrev pub IsFaultOfRun : (ℕ → Type 0) → (ℕ → Option (List ℕ)) → Mode → ℕ → SendFault → Type 0
+IsFaultOfRun refuses told mode binds fault = IsOfStart fault ⊎ ((place : ℕ) × (place < binds) × IsFaultOf refuses told mode place fault)
 
 -- or of the book
-abbrev pub IsFaultOfOne : ℕ → SendFault → Type 0
-IsFaultOfOne binds fault = IsOfStart fault ⊎ (((place : ℕ) × (place < binds) × IsFaultOf place fault) ⊎ ((why : BookError) × (fault ≡ BookRefused why)))
+abbrev pub IsFaultOfOne : (ℕ → Type 0) → (ℕ → Option (List ℕ)) → Mode → ℕ → SendFault → Type 0
+IsFaultOfOne refuses told mode binds fault =
+    IsOfStart fault ⊎ (((place : ℕ) × (place < binds) × IsFaultOf refuses told mode place fault) ⊎ ((why : BookError) × (fault ≡ BookRefused why)))
 
 -- no book is opened with these accounts for so many workers, for this cause
 abbrev pub RefusesBook : List Opening → ℕ → BookError → Type 0

@@ -32,10 +32,13 @@ use std::sync::Wait;
 
 /// Where connections come from.
 pub trait Dial {
-    ghost use Rattle.std.specs.Prelude.{◌≡◌, ℕ, List, Option, None, IfSome};
+    ghost use Rattle.std.specs.Prelude.{◌≡◌, ℕ, List, Option, None, IfSome, ⊤};
 
     // The octets that the reader for the bind with this place will give, where they are known.
     ghost told: { Self → ℕ → Option (List ℕ) } = { λ _ _. None };
+
+    // What is known of a bind for which there is no connection.
+    ghost refuses: { Self → ℕ → Type 0 } = { λ _ _. ⊤ };
 
     type Reader: Read + Send + Drop;
 
@@ -43,7 +46,8 @@ pub trait Dial {
 
     /// A connection for the bind with this place, counted from 0; none where there is no connection.
     fn dial(&self, bind: u32) -> Option<(Self::Reader, Self::Writer)>
-        ensures { IfSome result (λ ends. Self.Reader.remaining ends.0 ≡ told self.now bind) };
+        ensures told { IfSome result (λ ends. Self.Reader.remaining ends.0 ≡ told self.now bind) }
+        ensures refused { result ≡ None → refuses self.now bind };
 }
 
 /// What the binds of a sending have in common.
@@ -68,8 +72,7 @@ struct Made<Rd, W> {
 
 /// A bind's fault, as the sending tells it.
 fn fault_of(bind: u32, fault: BindFault) -> SendFault
-    ensures told { result ≡ fault_in bind fault }
-    ensures bind { IsFaultOf bind result }
+    ensures { result ≡ fault_in bind fault }
 {
     match fault {
         BindFault::Refused(status) => SendFault::BindRefused(bind, status),
@@ -110,7 +113,6 @@ fn bind_with<Rd: Read, W: Write>(
     ensures bound { OnOk result (HasBound seat.old.view settings.now (W.contents (writer wire.old)) (W.contents (writer wire.new)) seat.new.view) }
     // What was read is the bind's answer and what came behind it.
     ensures opened { IfOk result (IsOpened settings.now.mode (Rd.remaining (device reader.old)) (Rd.remaining (device reader.new))) }
-    ensures refused { IfErr result (IsFaultOf bind_place) }
     // What is told is what came of it.
     ensures told { IfErr result (λ fault. DrewNone bind_place seat.old.view fault seat.new.view
         ⊎ HasFailed bind_place settings.now.mode (Rd.remaining (device reader.old)) (Rd.remaining (device reader.new)) seat.old.view fault seat.new.view) }
@@ -127,7 +129,7 @@ fn bind_with<Rd: Read, W: Write>(
 /// A connection for the bind.
 fn connect<D: Dial>(dial: &D, bind_place: u32) -> Result<(D::Reader, D::Writer), SendFault>
     ensures told { IfOk result (λ ends. D.Reader.remaining ends.0 ≡ D.told dial.now bind_place) }
-    ensures refused { IfErr result (λ fault. fault ≡ BindFailed bind_place NoConnection) }
+    ensures refused { IfErr result (λ fault. (fault ≡ BindFailed bind_place NoConnection) × D.refuses dial.now bind_place) }
 {
     match dial.dial(bind_place) {
         Some(ends) => Ok(ends),
@@ -157,7 +159,7 @@ fn dial_and_bind<D: Dial>(
     ensures window { seat.new.window ≡ seat.old.window }
     ensures opened { IfOk result (λ c. IsOpened settings.now.mode (D.told dial.now bind_place) (D.Reader.remaining (device c.reader)) c.bound) }
     ensures asked { IfOk result (λ c. HasBound seat.old.view settings.now (D.Writer.contents (writer c.dialled.value)) (D.Writer.contents (writer c.wire)) seat.new.view) }
-    ensures refused { IfErr result (IsFaultOf bind_place) }
+    ensures refused { IfErr result (IsFaultOf (D.refuses dial.now) (D.told dial.now) settings.now.mode bind_place) }
 {
     let (reader, writer) = connect(dial, bind_place)?;
     let mut reader = Tap::new(reader);
@@ -200,7 +202,7 @@ fn make_bind<D: Dial>(
     // The settings' bind went out, with a number that the driver's seat drew.
     ensures asked { IfOk result (λ m. (before : View) × HasBound before bind_settings.now.settings (D.Writer.contents (writer m.dialled.value)) (D.Writer.contents (writer m.asked.value)) m.driver_seat.seat.view) }
     ensures driver_seat { IfOk result (λ m. m.driver_seat.seat.window ≡ m.shared.window) }
-    ensures refused { IfErr result (IsFaultOf bind_place) }
+    ensures refused { IfErr result (IsFaultOf (D.refuses dial.now) (D.told dial.now) bind_settings.now.settings.mode bind_place) }
 {
     let Rings {
         producers,
@@ -267,7 +269,7 @@ fn bind_each<D: Dial>(
     ensures seated { AllZip (IsSeated workers) result.0.shared_binds.items result.0.bind_parts.items }
     ensures long { OnOk result.1 (length result.0.shared_binds.items ≡ length rings.items) }
     // The first that failed is told.
-    ensures refused { IfErr result.1 (λ fault. (length result.0.shared_binds.items < length rings.items) × IsFaultOf (length result.0.shared_binds.items) fault) }
+    ensures refused { IfErr result.1 (λ fault. (length result.0.shared_binds.items < length rings.items) × IsFaultOf (D.refuses dial.now) (D.told dial.now) bind_settings.now.settings.mode (length result.0.shared_binds.items) fault) }
 {
     let Binds {
         mut shared_binds,
@@ -330,7 +332,7 @@ pub(crate) fn make_binds<D: Dial, R: Wait>(
     ensures set { IfOk result (λ b. AllByRecursion (IsSetUp bind_settings.now) b.bind_parts.items) }
     ensures seated { IfOk result (λ b. AllZip (IsSeated workers) b.shared_binds.items b.bind_parts.items) }
     ensures long { IfOk result (λ b. length b.shared_binds.items ≡ length rings.items) }
-    ensures refused { IfErr result (IsFaultOfRun (length rings.items)) }
+    ensures refused { IfErr result (IsFaultOfRun (D.refuses dial.now) (D.told dial.now) bind_settings.now.settings.mode (length rings.items)) }
     // No word was said yet.
     ensures early { IfErr result (TellsStart NotYet) }
 {

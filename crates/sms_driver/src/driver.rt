@@ -85,8 +85,8 @@ pub fn drive_all<
     ensures rows { IfOk result (λ r. AreRows (credits_of openings.now) messages.items r.ends.items r.statement) }
     // Each bind was made and ended, and had its workers.
     ensures binds { IfOk result (λ r. AreBinds binds workers r.binds.items) }
-    // A fault is of one of the binds, of the book, of memory, or of a thread.
-    ensures refused { IfErr result (IsFaultOfOne binds) }
+    // A fault is of one of the binds, and tells what was read of it; of the book, of memory, or of a thread.
+    ensures refused { IfErr result (IsFaultOfOne (D.refuses dial.now) (D.told dial.now) bind_settings.now.settings.mode binds) }
     // The book is told to be refused where no book is opened with these accounts, for that cause, and only there.
     ensures book { (why : BookError) → IsErrOf result (BookRefused why) ↔ RefusesBook openings.now (binds * workers) why }
 {

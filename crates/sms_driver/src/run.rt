@@ -261,7 +261,7 @@ pub fn run<
     ensures explained { IfOk result (λ r. AreExplained workers r.binds.items (dealt (binds * workers) 0 r.ends.items)) }
     ensures rows { IfOk result (λ r. AreRows blank.credits messages.items r.ends.items r.statement) }
     ensures binds { IfOk result (λ r. AreBinds binds workers r.binds.items) }
-    ensures refused { IfErr result (IsFaultOfRun binds) }
+    ensures refused { IfErr result (IsFaultOfRun (D.refuses dial.now) (D.told dial.now) bind_settings.now.settings.mode binds) }
 {
     let count = messages.len();
     let Ok((book, till, shares)) = blank.open::<N>(alloc) else {

@@ -1,6 +1,6 @@
 -- What a sending ended with, and what it ends with once its journal has ended.
 use Rattle.std.proofs.Common.{◌≡◌, ◌⊎◌, inl, inr, subst, sym, ℕ, Bool, List, Option, Some, None, Result, Ok, Err, IfOk, IfErr}
-use Rattle.std.specs.Prelude.{◌≢◌}
+use Rattle.std.specs.Prelude.{◌≢◌, string_bytes}
 use Rattle.sms_files.specs.ConfigFaults.{IsConfig, TellsConfig}
 use Rattle.sms_files.specs.Inputs.{Told}
 use Rattle.sms_files.specs.Setups.{names_in, setup_in}
@@ -8,7 +8,7 @@ use Rattle.sms_files.specs.declared.config.Config.{Config}
 use Rattle.sms_files.specs.declared.setup.Setup.{Setup}
 use Rattle.sms_send.specs.Faults.{TellsRead}
 use Rattle.sms_send.specs.Noted.{SendsBy, SendsNoted, SendsPlain, SendsThem, TellsBy, TellsNoted, TellsOrder, TellsPlain, TellsThem}
-use Rattle.sms_send.specs.Opened.{OfInput}
+use Rattle.sms_send.specs.Opened.{OfFile}
 use Rattle.sms_send.specs.declared.fault.Fault.{Fault}
 use Rattle.sms_send.specs.declared.fault.Fault.TheVariants.{Journal, Output}
 use Rattle.sms_send.specs.declared.order.JournalFile.{JournalFile}
@@ -40,62 +40,57 @@ ended_quiet (Ok s) x A told quiet = tt
 ended_quiet (Err f) x A (inl same) quiet = λ other _. (rw same at quiet) other
 ended_quiet (Err f) x A (inr told) quiet = λ other not. absurd (not told.0)
 
--- a fault of a journal that is begun, before anything is written
-pub begun_fault : {A B C D P Q : Type 0} → C → (A × P) ⊎ (B × Q) → A ⊎ ((B × C) ⊎ D)
-begun_fault same (inl a) = inl a.0
-begun_fault same (inr b) = inr (inl (b.0, same))
-
 -- a fault of the config's octets
-pub tells_setup : {F : Type 0} (remaining : F → Told) (centre : Centre) (order : Order) (old new : Option (List ℕ)) (fault : Fault) (items octets : List ℕ)
-    → OfInput remaining (λ bytes. items ≡ bytes) → octets ≡ items → TellsRead (TellsConfig octets) fault → TellsOrder remaining centre order old new fault
-tells_setup remaining centre order old new fault items octets input same told =
-    inr (inr (beside remaining items octets (λ bytes. TellsBy order.strict remaining centre order.journal bytes old new fault) input same (inl told)))
+pub tells_setup : (begins : JournalFile → Fault → Type 0) (finds : List ℕ → Option Told → Type 0) (centre : Centre) (order : Order) (old new : Option (List ℕ)) (fault : Fault) (items octets : List ℕ)
+    → OfFile finds (string_bytes order.config) (λ bytes. items ≡ bytes) → octets ≡ items → TellsRead (TellsConfig octets) fault → TellsOrder begins finds centre order old new fault
+tells_setup begins finds centre order old new fault items octets input same told =
+    inr (inr (beside finds (string_bytes order.config) items octets (λ bytes. TellsBy begins order.strict finds centre order.journal bytes old new fault) input same (inl told)))
 
--- what was read of a config: its octets are an input's, and the setup is of the config that they are
-pub record IsSetUp {F : Type 0} (remaining : F → Told) (items read handed : List ℕ) (setup : Setup) : Type 0 where
-  pub input : OfInput remaining (λ bytes. items ≡ bytes)
+-- what was read of a config: its octets are those of the file of its name, and the setup is of the config that they are
+pub record IsSetUp (finds : List ℕ → Option Told → Type 0) (name items read handed : List ℕ) (setup : Setup) : Type 0 where
+  pub input : OfFile finds name (λ bytes. items ≡ bytes)
   pub one : read ≡ items
   pub two : handed ≡ items
   pub says : (config : Config) × IsConfig read config × (setup ≡ setup_in config)
 
 -- what was sent of the files that a setup names, and what a fault says of them
-pub sends_them : {F : Type 0} (strict : Bool) (remaining : F → Told) (items read handed : List ℕ) (setup : Setup) (journal : Option JournalFile) (old new : Option (List ℕ)) (status : ℕ)
-    → IsSetUp remaining items read handed setup → SendsThem strict remaining journal (names_in setup) handed old new status
-    → OfInput remaining (λ octets. SendsBy strict remaining journal octets old new status)
-sends_them strict remaining items read handed setup journal old new status set sent =
-    of_config remaining items read handed setup (λ names octets. SendsThem strict remaining journal names octets old new status) (λ octets. SendsBy strict remaining journal octets old new status)
+pub sends_them : (strict : Bool) (finds : List ℕ → Option Told → Type 0) (name items read handed : List ℕ) (setup : Setup) (journal : Option JournalFile) (old new : Option (List ℕ)) (status : ℕ)
+    → IsSetUp finds name items read handed setup → SendsThem strict finds journal (names_in setup) handed old new status
+    → OfFile finds name (λ octets. SendsBy strict finds journal octets old new status)
+sends_them strict finds name items read handed setup journal old new status set sent =
+    of_config finds name items read handed setup (λ names octets. SendsThem strict finds journal names octets old new status) (λ octets. SendsBy strict finds journal octets old new status)
     set.input set.one set.two set.says (λ octets so. so) sent
 
-pub tells_them : {F : Type 0} (remaining : F → Told) (items read handed : List ℕ) (setup : Setup) (centre : Centre) (order : Order) (old new : Option (List ℕ)) (fault : Fault)
-    → IsSetUp remaining items read handed setup → TellsThem order.strict remaining centre order.journal (names_in setup) handed old new fault → TellsOrder remaining centre order old new fault
-tells_them remaining items read handed setup centre order old new fault set tells =
-    inr (inr (of_config remaining items read handed setup (λ names octets. TellsThem order.strict remaining centre order.journal names octets old new fault) (λ octets. TellsBy order.strict remaining centre order.journal octets old new fault)
+pub tells_them : (begins : JournalFile → Fault → Type 0) (finds : List ℕ → Option Told → Type 0) (items read handed : List ℕ) (setup : Setup) (centre : Centre) (order : Order) (old new : Option (List ℕ)) (fault : Fault)
+    → IsSetUp finds (string_bytes order.config) items read handed setup → TellsThem begins order.strict finds centre order.journal (names_in setup) handed old new fault → TellsOrder begins finds centre order old new fault
+tells_them begins finds items read handed setup centre order old new fault set tells =
+    inr (inr (of_config finds (string_bytes order.config) items read handed setup (λ names octets. TellsThem begins order.strict finds centre order.journal names octets old new fault) (λ octets. TellsBy begins order.strict finds centre order.journal octets old new fault)
     set.input set.one set.two set.says (λ octets so. inr so) tells))
 
 -- without a journal
-pub plain_sends : {F : Type 0} (strict : Bool) (remaining : F → Told) (items read handed : List ℕ) (setup : Setup) (journal : Option JournalFile) (old new : Option (List ℕ)) (status : ℕ)
-    → journal ≡ None → IsSetUp remaining items read handed setup → SendsPlain strict remaining (names_in setup) handed old new status
-    → OfInput remaining (λ octets. SendsBy strict remaining journal octets old new status)
-plain_sends strict remaining items read handed setup journal old new status is set sent =
-    sends_them strict remaining items read handed setup journal old new status set
-    (subst (λ (j : Option JournalFile). SendsThem strict remaining j (names_in setup) handed old new status) (sym is) sent)
+pub plain_sends : (strict : Bool) (finds : List ℕ → Option Told → Type 0) (name items read handed : List ℕ) (setup : Setup) (journal : Option JournalFile) (old new : Option (List ℕ)) (status : ℕ)
+    → journal ≡ None → IsSetUp finds name items read handed setup → SendsPlain strict finds (names_in setup) handed old new status
+    → OfFile finds name (λ octets. SendsBy strict finds journal octets old new status)
+plain_sends strict finds name items read handed setup journal old new status is set sent =
+    sends_them strict finds name items read handed setup journal old new status set
+    (subst (λ (j : Option JournalFile). SendsThem strict finds j (names_in setup) handed old new status) (sym is) sent)
 
-pub plain_tells : {F : Type 0} (remaining : F → Told) (items read handed : List ℕ) (setup : Setup) (centre : Centre) (order : Order) (old new : Option (List ℕ)) (fault : Fault)
-    → order.journal ≡ None → IsSetUp remaining items read handed setup → TellsPlain order.strict remaining centre (names_in setup) handed old new fault → TellsOrder remaining centre order old new fault
-plain_tells remaining items read handed setup centre order old new fault is set tells =
-    tells_them remaining items read handed setup centre order old new fault set
-    (subst (λ (j : Option JournalFile). TellsThem order.strict remaining centre j (names_in setup) handed old new fault) (sym is) tells)
+pub plain_tells : (begins : JournalFile → Fault → Type 0) (finds : List ℕ → Option Told → Type 0) (items read handed : List ℕ) (setup : Setup) (centre : Centre) (order : Order) (old new : Option (List ℕ)) (fault : Fault)
+    → order.journal ≡ None → IsSetUp finds (string_bytes order.config) items read handed setup → TellsPlain order.strict finds centre (names_in setup) handed old new fault → TellsOrder begins finds centre order old new fault
+plain_tells begins finds items read handed setup centre order old new fault is set tells =
+    tells_them begins finds items read handed setup centre order old new fault set
+    (subst (λ (j : Option JournalFile). TellsThem begins order.strict finds centre j (names_in setup) handed old new fault) (sym is) tells)
 
 -- and with one
-pub noted_sends : {F : Type 0} (strict : Bool) (remaining : F → Told) (items read handed : List ℕ) (setup : Setup) (journal : Option JournalFile) (file : JournalFile) (old new : Option (List ℕ)) (status : ℕ)
-    → journal ≡ Some file → IsSetUp remaining items read handed setup → SendsNoted strict remaining (names_in setup) handed old new status
-    → OfInput remaining (λ octets. SendsBy strict remaining journal octets old new status)
-noted_sends strict remaining items read handed setup journal file old new status is set sent =
-    sends_them strict remaining items read handed setup journal old new status set
-    (subst (λ (j : Option JournalFile). SendsThem strict remaining j (names_in setup) handed old new status) (sym is) sent)
+pub noted_sends : (strict : Bool) (finds : List ℕ → Option Told → Type 0) (name items read handed : List ℕ) (setup : Setup) (journal : Option JournalFile) (file : JournalFile) (old new : Option (List ℕ)) (status : ℕ)
+    → journal ≡ Some file → IsSetUp finds name items read handed setup → SendsNoted strict finds (names_in setup) handed old new status
+    → OfFile finds name (λ octets. SendsBy strict finds journal octets old new status)
+noted_sends strict finds name items read handed setup journal file old new status is set sent =
+    sends_them strict finds name items read handed setup journal old new status set
+    (subst (λ (j : Option JournalFile). SendsThem strict finds j (names_in setup) handed old new status) (sym is) sent)
 
-pub noted_tells : {F : Type 0} (remaining : F → Told) (items read handed : List ℕ) (setup : Setup) (centre : Centre) (order : Order) (file : JournalFile) (old new : Option (List ℕ)) (fault : Fault)
-    → order.journal ≡ Some file → IsSetUp remaining items read handed setup → TellsNoted order.strict remaining centre file (names_in setup) handed old new fault → TellsOrder remaining centre order old new fault
-noted_tells remaining items read handed setup centre order file old new fault is set tells =
-    tells_them remaining items read handed setup centre order old new fault set
-    (subst (λ (j : Option JournalFile). TellsThem order.strict remaining centre j (names_in setup) handed old new fault) (sym is) tells)
+pub noted_tells : (begins : JournalFile → Fault → Type 0) (finds : List ℕ → Option Told → Type 0) (items read handed : List ℕ) (setup : Setup) (centre : Centre) (order : Order) (file : JournalFile) (old new : Option (List ℕ)) (fault : Fault)
+    → order.journal ≡ Some file → IsSetUp finds (string_bytes order.config) items read handed setup → TellsNoted begins order.strict finds centre file (names_in setup) handed old new fault → TellsOrder begins finds centre order old new fault
+noted_tells begins finds items read handed setup centre order file old new fault is set tells =
+    tells_them begins finds items read handed setup centre order old new fault set
+    (subst (λ (j : Option JournalFile). TellsThem begins order.strict finds centre j (names_in setup) handed old new fault) (sym is) tells)

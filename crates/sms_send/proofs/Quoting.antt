@@ -1,6 +1,6 @@
 -- What was written of a quote, from its parts to the job.
 use Rattle.std.proofs.Common.{◌≡◌, ◌∙◌, ◌⊎◌, inl, inr, refl, sym, subst, append-nil, ℕ, List, [], Option, Result, Ok, Err}
-use Rattle.std.specs.Prelude.{◌≢◌, IfErr, IfOk, OnOk, String, option_map, string_bytes}
+use Rattle.std.specs.Prelude.{◌≢◌, IfErr, IfOk, OnOk, String, string_bytes}
 use Rattle.std.specs.Io.KnownBytes.{Appends}
 use Rattle.std.specs.declared.alloc.Global.{Global}
 use Rattle.std.proofs.KnownBytes.{Appends-nil}
@@ -14,7 +14,7 @@ use Rattle.sms_files.specs.declared.input.Input.{Input}
 use Rattle.sms_files.specs.declared.setup.Setup.{Setup}
 use Rattle.sms_report.specs.Output.{WritesFront}
 use Rattle.sms_send.specs.Faults.{TellsRead, told_input}
-use Rattle.sms_send.specs.Opened.{IsNamed, OfInput}
+use Rattle.sms_send.specs.Opened.{AreFound, OfFile}
 use Rattle.sms_send.specs.Quoted.{FailsBehind, HasQuote, PrintsFront, PrintsQuote, QuotesAndWarns, QuotesFiles, QuotesNamed, TellsQuoteFiles, TellsQuoteJob, TellsQuoteNamed}
 use Rattle.sms_send.specs.declared.fault.Fault.{Fault}
 use Rattle.sms_send.specs.declared.fault.Fault.TheVariants.{File, OutOfMemory, Output}
@@ -48,33 +48,32 @@ pub read_is_no_output : {A : Type 0} (P : InputFault → Type 0) (fault : Fault)
 read_is_no_output P fault (f, holds, told) is = absurd (never_output f (sym told ∙ is))
 
 -- of files that were opened
-pub named_quotes : {F : Type 0} (remaining : F → Told) (names : FileNames) (config : List ℕ) (accounts messages : F) (tariff : Option F) (old new told_old told_new : Option (List ℕ))
-    → IsNamed (string_bytes names.tariff) tariff → QuotesAndWarns config (remaining accounts) (remaining messages) (option_map remaining tariff) old new told_old told_new
-    → QuotesNamed remaining names config old new
-named_quotes remaining names config accounts messages tariff old new told_old told_new named quotes =
-    (accounts, messages, tariff, named, record { input = quotes.input; read = quotes.read; printed = quotes.printed })
+pub named_quotes : (finds : List ℕ → Option Told → Type 0) (names : FileNames) (config : List ℕ) (accounts messages : Told) (tariff : Option Told) (old new told_old told_new : Option (List ℕ))
+    → AreFound finds names accounts messages tariff → QuotesAndWarns config accounts messages tariff old new told_old told_new → QuotesNamed finds names config old new
+named_quotes finds names config accounts messages tariff old new told_old told_new found quotes =
+    (accounts, messages, tariff, found, record { input = quotes.input; read = quotes.read; printed = quotes.printed })
 
 -- of those that a config names
-pub set_up_quotes : {F : Type 0} (remaining : F → Told) (items read handed : List ℕ) (setup : Setup) (old new : Option (List ℕ))
-    → IsSetUp remaining items read handed setup → QuotesNamed remaining (names_in setup) handed old new → OfInput remaining (λ octets. QuotesFiles remaining octets old new)
-set_up_quotes remaining items read handed setup old new set quotes =
-    of_config remaining items read handed setup (λ names octets. QuotesNamed remaining names octets old new) (λ octets. QuotesFiles remaining octets old new)
+pub set_up_quotes : (finds : List ℕ → Option Told → Type 0) (name items read handed : List ℕ) (setup : Setup) (old new : Option (List ℕ))
+    → IsSetUp finds name items read handed setup → QuotesNamed finds (names_in setup) handed old new → OfFile finds name (λ octets. QuotesFiles finds octets old new)
+set_up_quotes finds name items read handed setup old new set quotes =
+    of_config finds name items read handed setup (λ names octets. QuotesNamed finds names octets old new) (λ octets. QuotesFiles finds octets old new)
     set.input set.one set.two set.says (λ octets so. so) quotes
 
-pub set_up_tells : {F : Type 0} (remaining : F → Told) (items read handed : List ℕ) (setup : Setup) (name : String Global) (old new : Option (List ℕ)) (fault : Fault)
-    → IsSetUp remaining items read handed setup → TellsQuoteNamed remaining (names_in setup) handed old new fault → TellsQuoteJob remaining name old new fault
-set_up_tells remaining items read handed setup name old new fault set tells =
-    inr (inr (of_config remaining items read handed setup (λ names octets. TellsQuoteNamed remaining names octets old new fault) (λ octets. TellsQuoteFiles remaining octets old new fault)
+pub set_up_tells : (finds : List ℕ → Option Told → Type 0) (items read handed : List ℕ) (setup : Setup) (name : String Global) (old new : Option (List ℕ)) (fault : Fault)
+    → IsSetUp finds (string_bytes name) items read handed setup → TellsQuoteNamed finds (names_in setup) handed old new fault → TellsQuoteJob finds name old new fault
+set_up_tells finds items read handed setup name old new fault set tells =
+    inr (inr (of_config finds (string_bytes name) items read handed setup (λ names octets. TellsQuoteNamed finds names octets old new fault) (λ octets. TellsQuoteFiles finds octets old new fault)
     set.input set.one set.two set.says (λ octets so. inr so) tells))
 
-pub config_tells : {F : Type 0} (remaining : F → Told) (name : String Global) (old new : Option (List ℕ)) (fault : Fault)
-    → (fault ≡ OutOfMemory) ⊎ (fault ≡ File name) → TellsQuoteJob remaining name old new fault
-config_tells remaining name old new fault told = of_two told
+pub config_tells : (finds : List ℕ → Option Told → Type 0) (name : String Global) (old new : Option (List ℕ)) (fault : Fault)
+    → (fault ≡ OutOfMemory) ⊎ (fault ≡ File name) → TellsQuoteJob finds name old new fault
+config_tells finds name old new fault told = of_two told
 
-pub setup_tells : {F : Type 0} (remaining : F → Told) (name : String Global) (old new : Option (List ℕ)) (fault : Fault) (items octets : List ℕ)
-    → OfInput remaining (λ bytes. items ≡ bytes) → octets ≡ items → TellsRead (TellsConfig octets) fault → TellsQuoteJob remaining name old new fault
-setup_tells remaining name old new fault items octets given same told =
-    inr (inr (beside remaining items octets (λ bytes. TellsQuoteFiles remaining bytes old new fault) given same (inl told)))
+pub setup_tells : (finds : List ℕ → Option Told → Type 0) (name : String Global) (old new : Option (List ℕ)) (fault : Fault) (items octets : List ℕ)
+    → OfFile finds (string_bytes name) (λ bytes. items ≡ bytes) → octets ≡ items → TellsRead (TellsConfig octets) fault → TellsQuoteJob finds name old new fault
+setup_tells finds name old new fault items octets given same told =
+    inr (inr (beside finds (string_bytes name) items octets (λ bytes. TellsQuoteFiles finds bytes old new fault) given same (inl told)))
 
 -- what is told behind a quote
 
@@ -83,10 +82,10 @@ pub front_of_all : (old new : Option (List ℕ)) (text : List ℕ) → Appends o
 front_of_all old new text written = record { front = text; back = []; whole = sym (append-nil text); out = written }
 
 -- a quote that was printed, where the output fails behind it
-pub untold_names : {F : Type 0} (remaining : F → Told) (names : FileNames) (config : List ℕ) (old new : Option (List ℕ))
-    → QuotesNamed remaining names config old new → TellsQuoteNamed remaining names config old new Output
-untold_names remaining names config old new (accounts, messages, tariff, named, quotes) =
-    inr (inr (inr (accounts, messages, tariff, named, inr (quotes.input, quotes.read, inr (refl, record { text = quotes.printed.text; quote = quotes.printed.quote; front = front_of_all old new quotes.printed.text quotes.printed.written })))))
+pub untold_names : (finds : List ℕ → Option Told → Type 0) (names : FileNames) (config : List ℕ) (old new : Option (List ℕ))
+    → QuotesNamed finds names config old new → TellsQuoteNamed finds names config old new Output
+untold_names finds names config old new (accounts, messages, tariff, found, quotes) =
+    inr (accounts, messages, tariff, found, inr (quotes.input, quotes.read, inr (refl, record { text = quotes.printed.text; quote = quotes.printed.quote; front = front_of_all old new quotes.printed.text quotes.printed.written })))
 
 -- what holds of a quote holds of what it ends with
 pub told_on : (P : Type 0) (r x : Result ℕ Fault) → IfOk r (λ s. x ≡ Ok s) → OnOk x P → OnOk r P

@@ -3,7 +3,7 @@ use Rattle.std.proofs.Common.{◌≡◌, ◌∙◌, ◌⊎◌, inl, inr, refl, s
 use Rattle.std.proofs.lemmas.Option.{IfSome_then}
 use Rattle.sms_files.specs.ConfigFaults.{IsConfig}
 use Rattle.sms_files.specs.Inputs.{Told}
-use Rattle.sms_send.specs.Opened.{OfInput}
+use Rattle.sms_send.specs.Opened.{OfFile}
 use Rattle.sms_report.specs.Output.{WritesFront}
 use Rattle.sms_send.specs.Sent.{IsSent, TellsSending, report_in}
 use Rattle.sms_files.specs.Setups.{names_in, setup_in}
@@ -21,26 +21,25 @@ use Rattle.sms_send.specs.declared.sender.Ended.{Ended}
 use Rattle.sms_files.specs.declared.setup.Setup.{Setup}
 
 -- what holds of octets holds of the input that they are
-pub beside : {F : Type 0} (remaining : F → Told) (items octets : List ℕ) (P : List ℕ → Type 0)
-    → OfInput remaining (λ bytes. items ≡ bytes) → octets ≡ items → P octets → OfInput remaining P
-beside remaining items octets P (input, told) same holds =
-    (input, IfSome_then (remaining input) told (λ bytes is. subst P (same ∙ is) holds))
+pub beside : (finds : List ℕ → Option Told → Type 0) (name items octets : List ℕ) (P : List ℕ → Type 0)
+    → OfFile finds name (λ bytes. items ≡ bytes) → octets ≡ items → P octets → OfFile finds name P
+beside finds name items octets P (told, found, are) same holds = (told, found, IfSome_then told are (λ bytes is. subst P (same ∙ is) holds))
 
 -- what holds of the files that a setup names holds of those of the config that it is of
-pub of_config : {F : Type 0} (remaining : F → Told) (items read handed : List ℕ) (setup : Setup) (Q : FileNames → List ℕ → Type 0) (P : List ℕ → Type 0)
-    → OfInput remaining (λ bytes. items ≡ bytes) → read ≡ items → handed ≡ items
+pub of_config : (finds : List ℕ → Option Told → Type 0) (name items read handed : List ℕ) (setup : Setup) (Q : FileNames → List ℕ → Type 0) (P : List ℕ → Type 0)
+    → OfFile finds name (λ bytes. items ≡ bytes) → read ≡ items → handed ≡ items
     → ((config : Config) × IsConfig read config × (setup ≡ setup_in config))
     → ((octets : List ℕ) → ((config : Config) × IsConfig octets config × Q config.files octets) → P octets)
-    → Q (names_in setup) handed → OfInput remaining P
-of_config remaining items read handed setup Q P input one two (config, says, same) into holds =
-    beside remaining items items P input refl
+    → Q (names_in setup) handed → OfFile finds name P
+of_config finds name items read handed setup Q P input one two (config, says, same) into holds =
+    beside finds name items items P input refl
     (into items (config, subst (λ (octets : List ℕ). IsConfig octets config) one says, subst (λ (octets : List ℕ). Q config.files octets) two (subst (λ (s : Setup). Q (names_in s) handed) same holds)))
 
 -- the report wasn't written: the output failed behind a front of it, or memory was refused for it
-pub unwritten_told : (told : ℕ → Told) (input : Input) (ended : Ended) (old new : Option (List ℕ)) (fault : Fault) → IsSent told input ended
-    → (fault ≡ Output) ⊎ (fault ≡ Unreported) → (fault ≡ Output → WritesFront old new (report_in ended)) → (fault ≡ Unreported → new ≡ old) → TellsSending told input old new fault
-unwritten_told told input ended old new fault sent (inl out) front quiet = inr (inl (out, ended, sent, front out))
-unwritten_told told input ended old new fault sent (inr memory) front quiet = inr (inr (memory, ended, sent, quiet memory))
+pub unwritten_told : (refuses : ℕ → Type 0) (told : ℕ → Told) (input : Input) (ended : Ended) (old new : Option (List ℕ)) (fault : Fault) → IsSent told input ended
+    → (fault ≡ Output) ⊎ (fault ≡ Unreported) → (fault ≡ Output → WritesFront old new (report_in ended)) → (fault ≡ Unreported → new ≡ old) → TellsSending refuses told input old new fault
+unwritten_told refuses told input ended old new fault sent (inl out) front quiet = inr (inl (out, ended, sent, front out))
+unwritten_told refuses told input ended old new fault sent (inr memory) front quiet = inr (inr (memory, ended, sent, quiet memory))
 
 -- a fault is told by how far the sending came
 pub told_at : (b : Begun) (f : SendFault) → TellsStart b f → IsToldAt b (told_sending f)

@@ -5,6 +5,7 @@ use Rattle.sms_driver.specs.declared.fault.BindFailure.TheVariants as failure
 use Rattle.sms_driver.specs.declared.latch.Word.TheVariants.{Go}
 use Rattle.sms_driver.specs.declared.start.Begun.{Begun}
 use Rattle.sms_driver.specs.declared.start.Begun.TheVariants.{NotYet, Heard}
+use Rattle.sms_files.specs.Inputs.{Told}
 use Rattle.sms_files.specs.declared.config.FileNames.{FileNames}
 use Rattle.sms_files.specs.declared.fault.InputFault.{InputFault}
 use Rattle.sms_files.specs.declared.fault.InputFault.TheVariants as input
@@ -12,6 +13,7 @@ use Rattle.sms_files.specs.declared.fault.Source.{Source}
 use Rattle.sms_files.specs.declared.input.Input.{Input}
 use Rattle.sms_send.specs.Faults.{IsToldAt, TellsRead, told_input, with_reason}
 use Rattle.sms_send.specs.Noted.{IsToldNoted, SendsInput, TellsInputOf}
+use Rattle.sms_send.specs.Opened.{TellsMissing}
 use Rattle.sms_send.specs.Runs.{TellsNamedFiles, TellsOpened}
 use Rattle.sms_send.specs.Sent.{untold}
 use Rattle.sms_send.specs.declared.fault.Fault.{Fault}
@@ -47,17 +49,20 @@ input_at b input.OutOfMemory yet = inl yet
 pub read_at : (b : Begun) (P : InputFault → Type 0) (fault : Fault) → b ≡ NotYet → TellsRead P fault → IsToldAt b fault
 read_at b P fault yet (f, holds, is) = subst (IsToldAt b) (sym is) (input_at b f yet)
 
-pub opened_at : {F : Type 0} (b : Begun) (tariff : Option F) (fault : Fault) → b ≡ NotYet → TellsOpened tariff fault → IsToldAt b fault
+pub opened_at : (b : Begun) (tariff : Option Told) (fault : Fault) → b ≡ NotYet → TellsOpened tariff fault → IsToldAt b fault
 opened_at b tariff fault yet (inl is) = memory_at b fault yet is
 opened_at b tariff fault yet (inr (inl is)) = unreadable_at b _ fault yet is
 opened_at b tariff fault yet (inr (inr (inl is))) = unreadable_at b _ fault yet is
 opened_at b tariff fault yet (inr (inr (inr (is, some)))) = unreadable_at b _ fault yet is
 
-pub named_at : (F : Type 0) (names : FileNames) (b : Begun) (fault : Fault) → b ≡ NotYet → TellsNamedFiles F names fault → IsToldAt b fault
-named_at F names b fault yet (inl is) = file_at b _ fault yet is
-named_at F names b fault yet (inr (inl is)) = file_at b _ fault yet is
-named_at F names b fault yet (inr (inr (inl (is, some)))) = file_at b _ fault yet is
-named_at F names b fault yet (inr (inr (inr (tariff, named, tells)))) = opened_at b tariff fault yet tells
+pub missing_at : (finds : List ℕ → Option Told → Type 0) (names : FileNames) (b : Begun) (fault : Fault) → b ≡ NotYet → TellsMissing finds names fault → IsToldAt b fault
+missing_at finds names b fault yet (inl (is, lost)) = file_at b _ fault yet is
+missing_at finds names b fault yet (inr (inl ((is, lost), found))) = file_at b _ fault yet is
+missing_at finds names b fault yet (inr (inr ((is, lost), some, accounts, messages))) = file_at b _ fault yet is
+
+pub named_at : (finds : List ℕ → Option Told → Type 0) (names : FileNames) (b : Begun) (fault : Fault) → b ≡ NotYet → TellsNamedFiles finds names fault → IsToldAt b fault
+named_at finds names b fault yet (inl missing) = missing_at finds names b fault yet missing
+named_at finds names b fault yet (inr (accounts, messages, tariff, found, tells)) = opened_at b tariff fault yet tells
 
 pub checked_at : (b : Begun) (strict : Bool) (octets : List ℕ) (named : NamedFiles) (fault : Fault) → b ≡ NotYet → TellsInputOf strict octets named fault → IsToldAt b fault
 checked_at b strict octets named fault yet (inl tells) = read_at b _ fault yet tells

@@ -1,5 +1,5 @@
 -- What the program does: a job, of an input of the kind that the job names.
-use Rattle.std.specs.Prelude.{◌≡◌, ◌⊎◌, Bool, true, ℕ, List, Option, None, Some}
+use Rattle.std.specs.Prelude.{◌≡◌, ◌⊎◌, Bool, true, ℕ, List, Option, None, Some, string_bytes}
 use Rattle.std.specs.Io.KnownBytes.{Appends}
 use Rattle.clap.specs.Words.{Text}
 use Rattle.sms_send.specs.CommandLine.{IsJob, TellsWords, subcommand_in}
@@ -7,7 +7,7 @@ use Rattle.sms_files.specs.Fields.{records_of}
 use Rattle.sms_files.specs.Inputs.{Told}
 use Rattle.sms_files.specs.Messages.{messages_fault}
 use Rattle.sms_report.specs.PlanText.{kind_of, plan_of}
-use Rattle.sms_send.specs.Opened.{OfInput}
+use Rattle.sms_send.specs.Opened.{OfFile, OfInput, TellsLost}
 use Rattle.sms_send.specs.Plans.{TellsPlan}
 use Rattle.sms_send.specs.Quoted.{QuotesFiles, TellsQuoteJob}
 use Rattle.sms_send.specs.Recovered.{PrintsLeft, RecoversRun, TellsRecoverJob, TellsRestJob}
@@ -18,8 +18,8 @@ use Rattle.sms_driver.specs.declared.latch.Word.TheVariants.{Go}
 use Rattle.sms_driver.specs.declared.start.Begun.{Begun}
 use Rattle.sms_driver.specs.declared.start.Begun.TheVariants.{NotYet, Heard}
 use Rattle.sms_send.specs.declared.fault.Fault.{Fault}
-use Rattle.sms_send.specs.declared.fault.Fault.TheVariants.{File}
 use Rattle.sms_send.specs.declared.job.Job.{Job}
+use Rattle.sms_send.specs.declared.order.JournalFile.{JournalFile}
 use Rattle.sms_send.specs.declared.job.Job.TheVariants.{Loop, Plan, Quote, Recover, Replay, Rest, Send}
 use Rattle.sms_send.specs.declared.run_files.RunFiles.{RunFiles}
 use Rattle.sms_send.specs.declared.send_job.Centre.TheVariants.{Named, Own}
@@ -44,27 +44,27 @@ IsStatusOf (Send order) status = IsStatusBy order.strict status
 IsStatusOf (Recover order) status = IsStatus status
 IsStatusOf (Rest order) status = status ≡ 0
 
--- the job was done with this status: standard input or a file was replayed, a file planned, the files that a config names quoted or sent, or what is left of a run printed
-abbrev pub Does : {S F : Type 0} → (S → Told) → (F → Told) → Job → Option (List ℕ) → Option (List ℕ) → ℕ → Type 0
-Does standard file (Replay None) old new status = OfInput standard (λ bytes. Replays bytes old new)
-Does standard file (Replay (Some name)) old new status = OfInput file (λ bytes. Replays bytes old new)
-Does standard file (Plan name long) old new status = OfInput file (λ bytes. Plans long bytes old new)
-Does standard file (Quote config verbose) old new status = OfInput file (λ octets. QuotesFiles file octets old new)
-Does standard file (Loop order) old new status = OfInput file (λ octets. SendsBy order.strict file order.journal octets old new status)
-Does standard file (Send order) old new status = OfInput file (λ octets. SendsBy order.strict file order.journal octets old new status)
-Does standard file (Recover order) old new status = (run : RunFiles) × IsRun file run × RecoversRun run old new status
-Does standard file (Rest order) old new status = (run : RunFiles) × IsRun file run × PrintsLeft order.accounts run old new
+-- the job was done with this status: standard input or the file of the name was replayed, that file planned, the files that the config names quoted or sent, or what is left of a run printed
+abbrev pub Does : {S : Type 0} → (S → Told) → (List ℕ → Option Told → Type 0) → Job → Option (List ℕ) → Option (List ℕ) → ℕ → Type 0
+Does standard finds (Replay None) old new status = OfInput standard (λ bytes. Replays bytes old new)
+Does standard finds (Replay (Some name)) old new status = OfFile finds (string_bytes name) (λ bytes. Replays bytes old new)
+Does standard finds (Plan name long) old new status = OfFile finds (string_bytes name) (λ bytes. Plans long bytes old new)
+Does standard finds (Quote config verbose) old new status = OfFile finds (string_bytes config) (λ octets. QuotesFiles finds octets old new)
+Does standard finds (Loop order) old new status = OfFile finds (string_bytes order.config) (λ octets. SendsBy order.strict finds order.journal octets old new status)
+Does standard finds (Send order) old new status = OfFile finds (string_bytes order.config) (λ octets. SendsBy order.strict finds order.journal octets old new status)
+Does standard finds (Recover order) old new status = (run : RunFiles) × IsRun finds (string_bytes order.config) (string_bytes order.journal) run × RecoversRun run old new status
+Does standard finds (Rest order) old new status = (run : RunFiles) × IsRun finds (string_bytes order.config) (string_bytes order.report) run × PrintsLeft order.accounts run old new
 
--- what a fault of a job says: its file can't be opened, or what the fault says of the input
-abbrev pub TellsJob : {S F : Type 0} → (S → Told) → (F → Told) → Job → Option (List ℕ) → Option (List ℕ) → Fault → Type 0
-TellsJob standard file (Replay None) old new fault = OfInput standard (λ bytes. TellsReplay (records_of bytes) fault)
-TellsJob standard file (Replay (Some name)) old new fault = (fault ≡ File name) ⊎ OfInput file (λ bytes. TellsReplay (records_of bytes) fault)
-TellsJob standard file (Plan name long) old new fault = (fault ≡ File name) ⊎ OfInput file (λ bytes. TellsPlan (records_of bytes) fault)
-TellsJob standard file (Quote config verbose) old new fault = TellsQuoteJob file config old new fault
-TellsJob standard file (Loop order) old new fault = TellsOrder file Own order old new fault
-TellsJob standard file (Send order) old new fault = TellsOrder file Named order old new fault
-TellsJob standard file (Recover order) old new fault = TellsRecoverJob file order old new fault
-TellsJob standard file (Rest order) old new fault = TellsRestJob file order old new fault
+-- what a fault of a job says, of a world where a journal's beginning tells such: its file can't be opened, or what the fault says of the input
+abbrev pub TellsJob : {S : Type 0} → (JournalFile → Fault → Type 0) → (S → Told) → (List ℕ → Option Told → Type 0) → Job → Option (List ℕ) → Option (List ℕ) → Fault → Type 0
+TellsJob begins standard finds (Replay None) old new fault = OfInput standard (λ bytes. TellsReplay (records_of bytes) fault)
+TellsJob begins standard finds (Replay (Some name)) old new fault = TellsLost finds name fault ⊎ OfFile finds (string_bytes name) (λ bytes. TellsReplay (records_of bytes) fault)
+TellsJob begins standard finds (Plan name long) old new fault = TellsLost finds name fault ⊎ OfFile finds (string_bytes name) (λ bytes. TellsPlan (records_of bytes) fault)
+TellsJob begins standard finds (Quote config verbose) old new fault = TellsQuoteJob finds config old new fault
+TellsJob begins standard finds (Loop order) old new fault = TellsOrder begins finds Own order old new fault
+TellsJob begins standard finds (Send order) old new fault = TellsOrder begins finds Named order old new fault
+TellsJob begins standard finds (Recover order) old new fault = TellsRecoverJob finds order old new fault
+TellsJob begins standard finds (Rest order) old new fault = TellsRestJob finds order old new fault
 
 -- how far its sending came once a job was done: all workers were told to go, of one that sends
 abbrev pub HasBegun : Job → Begun → Type 0
@@ -79,12 +79,12 @@ IsToldOf (Send order) begun old new fault = IsToldNoted order.strict begun old n
 IsToldOf _ begun old new fault = begun ≡ NotYet
 
 -- these words ask for a job, and it was done
-abbrev pub Works : {S F : Type 0} → (S → Told) → (F → Told) → List Text → ℕ → Option (List ℕ) → Option (List ℕ) → Type 0
-Works standard file words status old new = (job : Job) × IsJob (subcommand_in words) job × IsStatusOf job status × Does standard file job old new status
+abbrev pub Works : {S : Type 0} → (S → Told) → (List ℕ → Option Told → Type 0) → List Text → ℕ → Option (List ℕ) → Option (List ℕ) → Type 0
+Works standard finds words status old new = (job : Job) × IsJob (subcommand_in words) job × IsStatusOf job status × Does standard finds job old new status
 
 -- what a fault says of the words: they are refused, or what it says of the job that they ask for
-abbrev pub TellsRun : {S F : Type 0} → (S → Told) → (F → Told) → List Text → Option (List ℕ) → Option (List ℕ) → Fault → Type 0
-TellsRun standard file words old new fault = TellsWords words fault ⊎ ((job : Job) × IsJob (subcommand_in words) job × TellsJob standard file job old new fault)
+abbrev pub TellsRun : {S : Type 0} → (JournalFile → Fault → Type 0) → (S → Told) → (List ℕ → Option Told → Type 0) → List Text → Option (List ℕ) → Option (List ℕ) → Fault → Type 0
+TellsRun begins standard finds words old new fault = TellsWords words fault ⊎ ((job : Job) × IsJob (subcommand_in words) job × TellsJob begins standard finds job old new fault)
 
 -- how far the sending came that these words ask for, once what they ask for was done, and where this fault is told
 abbrev pub WentSo : List Text → Begun → Type 0

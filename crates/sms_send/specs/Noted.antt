@@ -14,9 +14,9 @@ use Rattle.sms_files.specs.declared.fault.Source.TheVariants.{Messages}
 use Rattle.sms_files.specs.declared.input.Input.{Input}
 use Rattle.sms_recovery.specs.Files.{Reads, told_of}
 use Rattle.sms_send.specs.Faults.{IsTold, IsToldAt, TellsRead}
-use Rattle.sms_send.specs.Opened.{OfInput}
+use Rattle.sms_send.specs.Opened.{OfFile}
 use Rattle.sms_send.specs.Runs.{AreNamed, TellsNamedFiles, tariff_in}
-use Rattle.sms_send.specs.Sent.{IsSent, SendsNamed, TellsNamed, TellsSending, report_in, untold}
+use Rattle.sms_send.specs.Sent.{IsSent, SendsNamed, TellsNamed, TellsSending, report_in, unknown, untold}
 use Rattle.sms_send.specs.Statuses.{status_by}
 use Rattle.sms_driver.specs.declared.fault.BindFailure.TheVariants.{NoConnection}
 use Rattle.sms_driver.specs.declared.latch.Word.TheVariants.{Go}
@@ -43,21 +43,21 @@ pub record SendsInput (told : ℕ → Told) (strict : Bool) (input : Input) (old
   pub status_is : status ≡ status_by strict ended.ends.items
 
 -- what is wanted was sent: the files of these names beside a config of these octets, or an input that was read
-abbrev pub SendsWanted : {F : Type 0} → (ℕ → Told) → Bool → (F → Told) → Wanted → List ℕ → Option (List ℕ) → Option (List ℕ) → ℕ → Type 0
-SendsWanted told strict remaining (Files names) octets old new status = SendsNamed told strict remaining names octets old new status
-SendsWanted told strict remaining (Read input) octets old new status = SendsInput told strict input old new status
+abbrev pub SendsWanted : (ℕ → Told) → Bool → (List ℕ → Option Told → Type 0) → Wanted → List ℕ → Option (List ℕ) → Option (List ℕ) → ℕ → Type 0
+SendsWanted told strict finds (Files names) octets old new status = SendsNamed told strict finds names octets old new status
+SendsWanted told strict finds (Read input) octets old new status = SendsInput told strict input old new status
 
 -- what a fault says of that
-abbrev pub TellsWanted : {F : Type 0} → (ℕ → Told) → (F → Told) → Wanted → List ℕ → Option (List ℕ) → Option (List ℕ) → Fault → Type 0
-TellsWanted told remaining (Files names) octets old new fault = TellsNamed told remaining names octets old new fault
-TellsWanted told remaining (Read input) octets old new fault = TellsSending told input old new fault
+abbrev pub TellsWanted : (ℕ → Type 0) → (ℕ → Told) → (List ℕ → Option Told → Type 0) → Wanted → List ℕ → Option (List ℕ) → Option (List ℕ) → Fault → Type 0
+TellsWanted refuses told finds (Files names) octets old new fault = TellsNamed refuses told finds names octets old new fault
+TellsWanted refuses told finds (Read input) octets old new fault = TellsSending refuses told input old new fault
 
 -- a centre of the program's own can't listen; a fault of a sending is told with the reason of a missing connection
 abbrev pub IsDeaf : Centre → Fault → Type 0
 IsDeaf centre fault = (centre ≡ Own) × (fault ≡ BindFailed 0 NoConnection)
 
-abbrev pub TellsOver : {F : Type 0} → Centre → (F → Told) → Wanted → List ℕ → Option (List ℕ) → Option (List ℕ) → Fault → Type 0
-TellsOver centre remaining wanted octets old new fault = IsDeaf centre fault ⊎ IsTold (TellsWanted untold remaining wanted octets old new) fault
+abbrev pub TellsOver : Centre → (List ℕ → Option Told → Type 0) → Wanted → List ℕ → Option (List ℕ) → Option (List ℕ) → Fault → Type 0
+TellsOver centre finds wanted octets old new fault = IsDeaf centre fault ⊎ IsTold (TellsWanted unknown untold finds wanted octets old new) fault
 
 -- ---- with files that were read to their ends
 
@@ -82,32 +82,32 @@ TellsInputOf strict octets named fault = TellsFilesOf octets named fault ⊎ ((s
 
 -- the files of these names were read to their ends, and what they say beside a config of these octets was sent; strictly only
 -- where the messages file doesn't end within a quote
-pub record SendsNoted {F : Type 0} (strict : Bool) (remaining : F → Told) (names : FileNames) (octets : List ℕ) (old new : Option (List ℕ)) (status : ℕ) : Type 0 where
+pub record SendsNoted (strict : Bool) (finds : List ℕ → Option Told → Type 0) (names : FileNames) (octets : List ℕ) (old new : Option (List ℕ)) (status : ℕ) : Type 0 where
   pub named : NamedFiles
-  pub are : AreNamed remaining names named
+  pub are : AreNamed finds names named
   pub input : Input
   pub read : IsInputOf octets named input
   pub closed : strict ≡ true → ¬ EndsQuoted named.messages.items
   pub sends : SendsInput untold strict input old new status
 
 -- what a fault says of them: one can't be opened or read, or it is of what they say, or of the sending
-abbrev pub TellsChecked : {F : Type 0} → (F → Told) → Centre → FileNames → List ℕ → Option (List ℕ) → Option (List ℕ) → Fault → Type 0
-TellsChecked {F} remaining centre names octets old new fault =
-    TellsNamedFiles F names fault
-    ⊎ ((named : NamedFiles) × AreNamed remaining names named × (TellsInputOf true octets named fault
-    ⊎ ((input : Input) × IsInputOf octets named input × (IsDeaf centre fault ⊎ IsTold (TellsSending untold input old new) fault))))
+abbrev pub TellsChecked : (List ℕ → Option Told → Type 0) → Centre → FileNames → List ℕ → Option (List ℕ) → Option (List ℕ) → Fault → Type 0
+TellsChecked finds centre names octets old new fault =
+    TellsNamedFiles finds names fault
+    ⊎ ((named : NamedFiles) × AreNamed finds names named × (TellsInputOf true octets named fault
+    ⊎ ((input : Input) × IsInputOf octets named input × (IsDeaf centre fault ⊎ IsTold (TellsSending unknown untold input old new) fault))))
 
 -- ---- without a journal
 
 -- the files of these names were sent; where that is strict they were read to their ends before
-abbrev pub SendsPlain : {F : Type 0} → Bool → (F → Told) → FileNames → List ℕ → Option (List ℕ) → Option (List ℕ) → ℕ → Type 0
-SendsPlain true remaining names octets old new status = SendsNoted true remaining names octets old new status
-SendsPlain false remaining names octets old new status = SendsNamed untold false remaining names octets old new status
+abbrev pub SendsPlain : Bool → (List ℕ → Option Told → Type 0) → FileNames → List ℕ → Option (List ℕ) → Option (List ℕ) → ℕ → Type 0
+SendsPlain true finds names octets old new status = SendsNoted true finds names octets old new status
+SendsPlain false finds names octets old new status = SendsNamed untold false finds names octets old new status
 
 -- what a fault says of that
-abbrev pub TellsPlain : {F : Type 0} → Bool → (F → Told) → Centre → FileNames → List ℕ → Option (List ℕ) → Option (List ℕ) → Fault → Type 0
-TellsPlain true remaining centre names octets old new fault = TellsChecked remaining centre names octets old new fault
-TellsPlain false remaining centre names octets old new fault = TellsOver centre remaining (Files names) octets old new fault
+abbrev pub TellsPlain : Bool → (List ℕ → Option Told → Type 0) → Centre → FileNames → List ℕ → Option (List ℕ) → Option (List ℕ) → Fault → Type 0
+TellsPlain true finds centre names octets old new fault = TellsChecked finds centre names octets old new fault
+TellsPlain false finds centre names octets old new fault = TellsOver centre finds (Files names) octets old new fault
 
 -- ---- with a journal
 
@@ -123,19 +123,18 @@ TellsBegin makes refuses journal fault = ((fault ≡ File journal.name) × refus
 abbrev pub IsNoted : {F : Type 0} → (F → Option (List ℕ)) → ℕ → Type 0
 IsNoted {F} contents status = (file : F) × HasEnded contents status file
 
--- what a fault says of them once they were read: it is of what they say; the journal's file can't be made, or it failed before
--- anything was sent or behind the report; a centre of the program's own can't listen; or it is of the sending
-abbrev pub TellsReadFiles : Bool → Centre → JournalFile → NamedFiles → List ℕ → Option (List ℕ) → Option (List ℕ) → Fault → Type 0
-TellsReadFiles strict centre journal named octets old new fault =
+-- what a fault says of them once they were read: it is of what they say; it is told so where the journal is begun, and nothing was
+-- written; the journal failed behind the report; a centre of the program's own can't listen; or it is of the sending
+abbrev pub TellsReadFiles : (JournalFile → Fault → Type 0) → Bool → Centre → JournalFile → NamedFiles → List ℕ → Option (List ℕ) → Option (List ℕ) → Fault → Type 0
+TellsReadFiles begins strict centre journal named octets old new fault =
     TellsInputOf strict octets named fault
-    ⊎ (fault ≡ File journal.name)
-    ⊎ ((fault ≡ Journal) × (new ≡ old))
+    ⊎ (begins journal fault × (new ≡ old))
     ⊎ ((input : Input) × IsInputOf octets named input
-    × (IsDeaf centre fault ⊎ IsTold (TellsSending untold input old new) fault ⊎ ((fault ≡ Journal) × (status : ℕ) × SendsInput untold strict input old new status)))
+    × (IsDeaf centre fault ⊎ IsTold (TellsSending unknown untold input old new) fault ⊎ ((fault ≡ Journal) × (status : ℕ) × SendsInput untold strict input old new status)))
 
-abbrev pub TellsNoted : {F : Type 0} → Bool → (F → Told) → Centre → JournalFile → FileNames → List ℕ → Option (List ℕ) → Option (List ℕ) → Fault → Type 0
-TellsNoted {F} strict remaining centre journal names octets old new fault =
-    TellsNamedFiles F names fault ⊎ ((named : NamedFiles) × AreNamed remaining names named × TellsReadFiles strict centre journal named octets old new fault)
+abbrev pub TellsNoted : (JournalFile → Fault → Type 0) → Bool → (List ℕ → Option Told → Type 0) → Centre → JournalFile → FileNames → List ℕ → Option (List ℕ) → Option (List ℕ) → Fault → Type 0
+TellsNoted begins strict finds centre journal names octets old new fault =
+    TellsNamedFiles finds names fault ⊎ ((named : NamedFiles) × AreNamed finds names named × TellsReadFiles begins strict centre journal named octets old new fault)
 
 -- how far a sending with a journal came of which this fault is told: the journal failed before a word was said, and then nothing was written, or behind the
 -- whole report; else the fault says so as of one without
@@ -147,25 +146,24 @@ IsToldNoted strict begun old new fault = IsToldAt begun fault
 -- ---- the job
 
 -- the files of these names were sent, with a journal or without
-abbrev pub SendsThem : {F : Type 0} → Bool → (F → Told) → Option JournalFile → FileNames → List ℕ → Option (List ℕ) → Option (List ℕ) → ℕ → Type 0
-SendsThem strict remaining None names octets old new status = SendsPlain strict remaining names octets old new status
-SendsThem strict remaining (Some journal) names octets old new status = SendsNoted strict remaining names octets old new status
+abbrev pub SendsThem : Bool → (List ℕ → Option Told → Type 0) → Option JournalFile → FileNames → List ℕ → Option (List ℕ) → Option (List ℕ) → ℕ → Type 0
+SendsThem strict finds None names octets old new status = SendsPlain strict finds names octets old new status
+SendsThem strict finds (Some journal) names octets old new status = SendsNoted strict finds names octets old new status
 
-abbrev pub TellsThem : {F : Type 0} → Bool → (F → Told) → Centre → Option JournalFile → FileNames → List ℕ → Option (List ℕ) → Option (List ℕ) → Fault → Type 0
-TellsThem strict remaining centre None names octets old new fault = TellsPlain strict remaining centre names octets old new fault
-TellsThem strict remaining centre (Some journal) names octets old new fault = TellsNoted strict remaining centre journal names octets old new fault
+abbrev pub TellsThem : (JournalFile → Fault → Type 0) → Bool → (List ℕ → Option Told → Type 0) → Centre → Option JournalFile → FileNames → List ℕ → Option (List ℕ) → Option (List ℕ) → Fault → Type 0
+TellsThem begins strict finds centre None names octets old new fault = TellsPlain strict finds centre names octets old new fault
+TellsThem begins strict finds centre (Some journal) names octets old new fault = TellsNoted begins strict finds centre journal names octets old new fault
 
 -- the octets are a config's, and the files that it names were sent
-abbrev pub SendsBy : {F : Type 0} → Bool → (F → Told) → Option JournalFile → List ℕ → Option (List ℕ) → Option (List ℕ) → ℕ → Type 0
-SendsBy strict remaining journal octets old new status = (config : Config) × IsConfig octets config × SendsThem strict remaining journal config.files octets old new status
+abbrev pub SendsBy : Bool → (List ℕ → Option Told → Type 0) → Option JournalFile → List ℕ → Option (List ℕ) → Option (List ℕ) → ℕ → Type 0
+SendsBy strict finds journal octets old new status = (config : Config) × IsConfig octets config × SendsThem strict finds journal config.files octets old new status
 
 -- what a fault says of a config's octets: they are none, or what it says of the files that the config names
-abbrev pub TellsBy : {F : Type 0} → Bool → (F → Told) → Centre → Option JournalFile → List ℕ → Option (List ℕ) → Option (List ℕ) → Fault → Type 0
-TellsBy strict remaining centre journal octets old new fault =
-    TellsRead (TellsConfig octets) fault ⊎ ((config : Config) × IsConfig octets config × TellsThem strict remaining centre journal config.files octets old new fault)
+abbrev pub TellsBy : (JournalFile → Fault → Type 0) → Bool → (List ℕ → Option Told → Type 0) → Centre → Option JournalFile → List ℕ → Option (List ℕ) → Option (List ℕ) → Fault → Type 0
+TellsBy begins strict finds centre journal octets old new fault =
+    TellsRead (TellsConfig octets) fault ⊎ ((config : Config) × IsConfig octets config × TellsThem begins strict finds centre journal config.files octets old new fault)
 
--- what a fault of a sending that is ordered so says: the config's file can't be read, memory ran out, or what it says of the
--- octets of some file
-abbrev pub TellsOrder : {F : Type 0} → (F → Told) → Centre → Order → Option (List ℕ) → Option (List ℕ) → Fault → Type 0
-TellsOrder remaining centre order old new fault =
-    (fault ≡ OutOfMemory) ⊎ (fault ≡ File order.config) ⊎ OfInput remaining (λ octets. TellsBy order.strict remaining centre order.journal octets old new fault)
+-- what a fault of a sending that is ordered so says: the config's file can't be read, memory ran out, or what it says of its octets
+abbrev pub TellsOrder : (JournalFile → Fault → Type 0) → (List ℕ → Option Told → Type 0) → Centre → Order → Option (List ℕ) → Option (List ℕ) → Fault → Type 0
+TellsOrder begins finds centre order old new fault =
+    (fault ≡ OutOfMemory) ⊎ (fault ≡ File order.config) ⊎ OfFile finds (string_bytes order.config) (λ octets. TellsBy begins order.strict finds centre order.journal octets old new fault)

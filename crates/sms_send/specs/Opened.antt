@@ -1,19 +1,48 @@
--- What the program says of files that it opened by their names, and of a job on the records of one.
-use Rattle.std.specs.Prelude.{◌≡◌, ◌⊎◌, ℕ, List, [], Option, None, IfSome}
+-- What the program says of the files that it opens by their names, and of a job on the records of one.
+-- What is found by a name is a relation of the world that the program runs in: nothing that can be opened, or a file of which so
+-- much is told, from its first octet on.
+use Rattle.std.specs.Prelude.{◌≡◌, ◌≢◌, ◌⊎◌, ℕ, List, [], Option, Some, None, IfSome, String, string_bytes}
+use Rattle.std.specs.declared.alloc.Global.{Global}
 use Rattle.sms_files.specs.Inputs.{Told}
 use Rattle.sms_files.specs.Records.{TellsRecords}
+use Rattle.sms_files.specs.declared.config.FileNames.{FileNames}
 use Rattle.sms_files.specs.declared.fault.Source.{Source}
 use Rattle.sms_send.specs.Faults.{TellsRead}
 use Rattle.sms_send.specs.declared.fault.Fault.{Fault}
-use Rattle.sms_send.specs.declared.fault.Fault.TheVariants.{Output}
+use Rattle.sms_send.specs.declared.fault.Fault.TheVariants.{File, Output}
 
 -- it holds of an input's bytes, where they are told
 abbrev pub OfInput : {I : Type 0} → (I → Told) → (List ℕ → Type 0) → Type 0
 OfInput {I} remaining P = (input : I) × IfSome (remaining input) P
 
--- a file is there just where it has a name
-abbrev pub IsNamed : {F : Type 0} → List ℕ → Option F → Type 0
-IsNamed name file = (file ≡ None → name ≡ []) × (name ≡ [] → file ≡ None)
+-- a file is found by a name
+abbrev pub IsFound : (List ℕ → Option Told → Type 0) → List ℕ → Type 0
+IsFound finds name = (told : Told) × finds name (Some told)
+
+-- it holds of the bytes of the file that is found by a name, where they are told
+abbrev pub OfFile : (List ℕ → Option Told → Type 0) → List ℕ → (List ℕ → Type 0) → Type 0
+OfFile finds name P = (told : Told) × finds name (Some told) × IfSome told P
+
+-- a file is found just where it has a name, and by that
+abbrev pub IsNamed : (List ℕ → Option Told → Type 0) → List ℕ → Option Told → Type 0
+IsNamed finds name None = name ≡ []
+IsNamed finds name (Some told) = (name ≢ []) × finds name (Some told)
+
+-- these files are found by the names, that of the tariff just where it has one
+abbrev pub AreFound : (List ℕ → Option Told → Type 0) → FileNames → Told → Told → Option Told → Type 0
+AreFound finds names accounts messages tariff =
+    finds (string_bytes names.accounts) (Some accounts) × finds (string_bytes names.messages) (Some messages) × IsNamed finds (string_bytes names.tariff) tariff
+
+-- no file that can be opened is found by a name
+abbrev pub TellsLost : (List ℕ → Option Told → Type 0) → String Global → Fault → Type 0
+TellsLost finds name fault = (fault ≡ File name) × finds (string_bytes name) None
+
+-- one of them can't be opened, and those before it are found: accounts, messages, tariff
+abbrev pub TellsMissing : (List ℕ → Option Told → Type 0) → FileNames → Fault → Type 0
+TellsMissing finds names fault =
+    TellsLost finds names.accounts fault
+    ⊎ (TellsLost finds names.messages fault × IsFound finds (string_bytes names.accounts))
+    ⊎ (TellsLost finds names.tariff fault × (string_bytes names.tariff ≢ []) × IsFound finds (string_bytes names.accounts) × IsFound finds (string_bytes names.messages))
 
 -- what a fault of a job on a source says, of whose records this is the first faulty one: that it is, or that the device
 -- failed, or that the output failed where no record was faulty

@@ -1,5 +1,5 @@
 -- What `quote` prints of the files that a config names, what it warns of, and what a fault of it says.
-use Rattle.std.specs.Prelude.{◌≡◌, ◌≢◌, ◌⊎◌, ℕ, List, [], Option, Result, Err, Ok, String, option_map, string_bytes}
+use Rattle.std.specs.Prelude.{◌≡◌, ◌⊎◌, ℕ, List, Option, Result, Err, Ok, String, string_bytes}
 use Rattle.std.specs.Io.KnownBytes.{Appends}
 use Rattle.std.specs.declared.alloc.Global.{Global}
 use Rattle.sms_files.specs.ConfigFaults.{IsConfig, TellsConfig}
@@ -11,7 +11,7 @@ use Rattle.sms_quote.specs.QuoteText.{IsQuoteText}
 use Rattle.sms_quote.specs.Warnings.{warning_lines}
 use Rattle.sms_report.specs.Output.{WritesFront}
 use Rattle.sms_send.specs.Faults.{TellsRead}
-use Rattle.sms_send.specs.Opened.{IsNamed, OfInput}
+use Rattle.sms_send.specs.Opened.{AreFound, OfFile, TellsMissing}
 use Rattle.sms_send.specs.declared.fault.Fault.{Fault}
 use Rattle.sms_send.specs.declared.fault.Fault.TheVariants.{File, OutOfMemory, Output}
 
@@ -73,32 +73,28 @@ WarnsFront config accounts messages tariff told_old told_new =
 
 -- ---- of files
 
--- some files were read beside a config of these octets, that of the tariff just where it has a name, and quoted so
-abbrev pub QuotesNamed : {F : Type 0} → (F → Told) → FileNames → List ℕ → Option (List ℕ) → Option (List ℕ) → Type 0
-QuotesNamed {F} remaining names config old new =
-    (accounts : F) × (messages : F) × (tariff : Option F) × IsNamed (string_bytes names.tariff) tariff
-    × Quotes config (remaining accounts) (remaining messages) (option_map remaining tariff) old new
+-- the files that are found by the names were read beside a config of these octets, that of the tariff just where it has a name, and quoted so
+abbrev pub QuotesNamed : (List ℕ → Option Told → Type 0) → FileNames → List ℕ → Option (List ℕ) → Option (List ℕ) → Type 0
+QuotesNamed finds names config old new =
+    (accounts : Told) × (messages : Told) × (tariff : Option Told) × AreFound finds names accounts messages tariff × Quotes config accounts messages tariff old new
 
 -- what a fault says of files of these names: one can't be opened, or what it says of the quote of them all
-abbrev pub TellsQuoteNamed : {F : Type 0} → (F → Told) → FileNames → List ℕ → Option (List ℕ) → Option (List ℕ) → Fault → Type 0
-TellsQuoteNamed {F} remaining names config old new fault =
-    (fault ≡ File names.accounts)
-    ⊎ (fault ≡ File names.messages)
-    ⊎ ((fault ≡ File names.tariff) × (string_bytes names.tariff ≢ []))
-    ⊎ ((accounts : F) × (messages : F) × (tariff : Option F) × IsNamed (string_bytes names.tariff) tariff
-    × TellsQuote config (remaining accounts) (remaining messages) (option_map remaining tariff) old new fault)
+abbrev pub TellsQuoteNamed : (List ℕ → Option Told → Type 0) → FileNames → List ℕ → Option (List ℕ) → Option (List ℕ) → Fault → Type 0
+TellsQuoteNamed finds names config old new fault =
+    TellsMissing finds names fault
+    ⊎ ((accounts : Told) × (messages : Told) × (tariff : Option Told) × AreFound finds names accounts messages tariff × TellsQuote config accounts messages tariff old new fault)
 
 -- the octets are a config's, and the files that it names were quoted
-abbrev pub QuotesFiles : {F : Type 0} → (F → Told) → List ℕ → Option (List ℕ) → Option (List ℕ) → Type 0
-QuotesFiles remaining octets old new = (config : Config) × IsConfig octets config × QuotesNamed remaining config.files octets old new
+abbrev pub QuotesFiles : (List ℕ → Option Told → Type 0) → List ℕ → Option (List ℕ) → Option (List ℕ) → Type 0
+QuotesFiles finds octets old new = (config : Config) × IsConfig octets config × QuotesNamed finds config.files octets old new
 
 -- what a fault says of a config's octets: they are none, or what it says of the files that the config names
-abbrev pub TellsQuoteFiles : {F : Type 0} → (F → Told) → List ℕ → Option (List ℕ) → Option (List ℕ) → Fault → Type 0
-TellsQuoteFiles remaining octets old new fault =
-    TellsRead (TellsConfig octets) fault ⊎ ((config : Config) × IsConfig octets config × TellsQuoteNamed remaining config.files octets old new fault)
+abbrev pub TellsQuoteFiles : (List ℕ → Option Told → Type 0) → List ℕ → Option (List ℕ) → Option (List ℕ) → Fault → Type 0
+TellsQuoteFiles finds octets old new fault =
+    TellsRead (TellsConfig octets) fault ⊎ ((config : Config) × IsConfig octets config × TellsQuoteNamed finds config.files octets old new fault)
 
 -- what a fault of a quote by the config of this name says: its file can't be read, memory ran out, or what it says of
--- the octets of some file
-abbrev pub TellsQuoteJob : {F : Type 0} → (F → Told) → String Global → Option (List ℕ) → Option (List ℕ) → Fault → Type 0
-TellsQuoteJob remaining name old new fault =
-    (fault ≡ OutOfMemory) ⊎ (fault ≡ File name) ⊎ OfInput remaining (λ octets. TellsQuoteFiles remaining octets old new fault)
+-- its octets
+abbrev pub TellsQuoteJob : (List ℕ → Option Told → Type 0) → String Global → Option (List ℕ) → Option (List ℕ) → Fault → Type 0
+TellsQuoteJob finds name old new fault =
+    (fault ≡ OutOfMemory) ⊎ (fault ≡ File name) ⊎ OfFile finds (string_bytes name) (λ octets. TellsQuoteFiles finds octets old new fault)

@@ -1,5 +1,5 @@
 -- What `recover` and `rest` print of a run, and what a fault of them says.
-use Rattle.std.specs.Prelude.{◌≡◌, ◌⊎◌, ℕ, Bool, true, false, List, Option}
+use Rattle.std.specs.Prelude.{◌≡◌, ◌⊎◌, ℕ, Bool, true, false, List, Option, string_bytes}
 use Rattle.sms_files.specs.Inputs.{Told}
 use Rattle.sms_files.specs.declared.input.Input.{Input}
 use Rattle.sms_recovery.specs.Recovering.{RecoversJournal, TellsJournal}
@@ -40,10 +40,12 @@ TellsLeft accounts run old new =
     TellsOf (TellsPrinting run.config.items run.named.accounts.items run.named.messages.items (tariff_in run.named) run.written.items (left_of accounts run) old new)
 
 -- what a fault of the jobs says: it is of the files, or of what they say
-abbrev pub TellsRecoverJob : {F : Type 0} → (F → Told) → RecoverOrder → Option (List ℕ) → Option (List ℕ) → Fault → Type 0
-TellsRecoverJob remaining order old new fault =
-    TellsRunFiles remaining order.config order.journal fault ⊎ ((run : RunFiles) × IsRun remaining run × TellsRecovered run old new fault)
+abbrev pub TellsRecoverJob : (List ℕ → Option Told → Type 0) → RecoverOrder → Option (List ℕ) → Option (List ℕ) → Fault → Type 0
+TellsRecoverJob finds order old new fault =
+    TellsRunFiles finds order.config order.journal fault
+    ⊎ ((run : RunFiles) × IsRun finds (string_bytes order.config) (string_bytes order.journal) run × TellsRecovered run old new fault)
 
-abbrev pub TellsRestJob : {F : Type 0} → (F → Told) → RestOrder → Option (List ℕ) → Option (List ℕ) → Fault → Type 0
-TellsRestJob remaining order old new fault =
-    TellsRunFiles remaining order.config order.report fault ⊎ ((run : RunFiles) × IsRun remaining run × TellsLeft order.accounts run old new fault)
+abbrev pub TellsRestJob : (List ℕ → Option Told → Type 0) → RestOrder → Option (List ℕ) → Option (List ℕ) → Fault → Type 0
+TellsRestJob finds order old new fault =
+    TellsRunFiles finds order.config order.report fault
+    ⊎ ((run : RunFiles) × IsRun finds (string_bytes order.config) (string_bytes order.report) run × TellsLeft order.accounts run old new fault)

@@ -1,5 +1,5 @@
 -- What a sending promises of what was read.
-use Rattle.std.specs.Prelude.{◌≡◌, ◌≢◌, ◌⊎◌, ◌*◌, ℕ, Bool, List, [], Option, None, length, option_map, string_bytes}
+use Rattle.std.specs.Prelude.{◌≡◌, ◌⊎◌, ◌*◌, ℕ, Bool, List, Option, None, length}
 use Rattle.std.specs.Io.KnownBytes.{Appends}
 use Rattle.std.specs.List.{AllZip}
 use Rattle.sms_book.specs.Openings.{credits_of}
@@ -14,7 +14,7 @@ use Rattle.sms_driver.specs.Closings.{AreExplained}
 use Rattle.sms_driver.specs.Numbered.{AreBelow, AreNumbered}
 use Rattle.sms_files.specs.Inputs.{IsInput, Told, TellsInput}
 use Rattle.sms_send.specs.Faults.{TellsRead, told_sending}
-use Rattle.sms_send.specs.Opened.{IsNamed}
+use Rattle.sms_send.specs.Opened.{AreFound, TellsMissing}
 use Rattle.sms_send.specs.Statuses.{status_by}
 use Rattle.sms_report.specs.Output.{WritesFront}
 use Rattle.sms_report.specs.Report.{report_of}
@@ -22,6 +22,7 @@ use Rattle.sms_driver.specs.SendFaults.{IsFaultOfOne}
 use Rattle.sms_driver.specs.Starts.{TellsStart}
 use Rattle.sms_driver.specs.Statements.{AreRows}
 use Rattle.sms_book.specs.Tariffs.{Price}
+use Rattle.sms_files.specs.declared.config.Config.{Config}
 use Rattle.sms_files.specs.declared.config.Connection.{Connection}
 use Rattle.sms_files.specs.declared.config.FileNames.{FileNames}
 use Rattle.sms_files.specs.declared.config.Flags.{Flags}
@@ -30,7 +31,7 @@ use Rattle.sms_driver.specs.declared.binding.BindSettings.{BindSettings}
 use Rattle.sms_driver.specs.declared.fault.SendFault.{SendFault}
 use Rattle.sms_driver.specs.declared.start.Begun.{Begun}
 use Rattle.sms_send.specs.declared.fault.Fault.{Fault}
-use Rattle.sms_send.specs.declared.fault.Fault.TheVariants.{File, Output, Unreported}
+use Rattle.sms_send.specs.declared.fault.Fault.TheVariants.{Output, Unreported}
 use Rattle.sms_files.specs.declared.input.Input.{Input}
 use Rattle.sms_files.specs.declared.limits.Limits.{Limits}
 use Rattle.sms_send.specs.declared.sender.Ended.{Ended}
@@ -77,6 +78,10 @@ pub record IsSent (told : ℕ → Told) (input : Input) (ended : Ended) : Type 0
 abbrev pub untold : ℕ → Told
 untold = λ bind. None
 
+-- nor anything of a bind for which there is none
+abbrev pub unknown : ℕ → Type 0
+unknown = λ bind. Unit {0}
+
 -- the report of what was sent
 abbrev pub report_in : Ended → List ℕ
 report_in ended = report_of ended.openings.items ended.ends.items ended.statement
@@ -91,35 +96,35 @@ pub record RunsSender (told : ℕ → Told) (strict : Bool) (config : List ℕ) 
   pub written : Appends old new (report_in ended)
   pub status_is : status ≡ status_by strict ended.ends.items
 
--- what a fault of the sending says that came so far: it is of one of so many binds, or of memory, and comes where the sending came so far
-abbrev pub TellsDriven : ℕ → Begun → Fault → Type 0
-TellsDriven binds begun fault = (f : SendFault) × IsFaultOfOne binds f × TellsStart begun f × (fault ≡ told_sending f)
+-- a fault is of one of the config's binds, and tells what was read of it or that there is no connection, or of memory
+abbrev pub IsFaultIn : (ℕ → Type 0) → (ℕ → Told) → Config → SendFault → Type 0
+IsFaultIn refuses told config = IsFaultOfOne refuses told config.connection.settings.mode config.limits.binds
+
+-- what a fault of the sending says that came so far: it is such a one, and comes where the sending came so far
+abbrev pub TellsDriven : (ℕ → Type 0) → (ℕ → Told) → Config → Begun → Fault → Type 0
+TellsDriven refuses told config begun fault = (f : SendFault) × IsFaultIn refuses told config f × TellsStart begun f × (fault ≡ told_sending f)
 
 -- what a fault says once the input was read: it is of one of the config's binds, or of memory; or all was sent, and the
 -- output failed behind a front of the report of that, or memory was refused for the report and none of it was written
-abbrev pub TellsSending : (ℕ → Told) → Input → Option (List ℕ) → Option (List ℕ) → Fault → Type 0
-TellsSending told input old new fault =
-    ((f : SendFault) × IsFaultOfOne input.config.limits.binds f × (fault ≡ told_sending f))
+abbrev pub TellsSending : (ℕ → Type 0) → (ℕ → Told) → Input → Option (List ℕ) → Option (List ℕ) → Fault → Type 0
+TellsSending refuses told input old new fault =
+    ((f : SendFault) × IsFaultIn refuses told input.config f × (fault ≡ told_sending f))
     ⊎ (((fault ≡ Output) × (ended : Ended) × IsSent told input ended × WritesFront old new (report_in ended))
     ⊎ ((fault ≡ Unreported) × (ended : Ended) × IsSent told input ended × (new ≡ old)))
 
 -- what a fault says of these octets: it is of the first that have one, or of the sending of what they all say
-abbrev pub TellsSender : (ℕ → Told) → List ℕ → Told → Told → Option Told → Option (List ℕ) → Option (List ℕ) → Fault → Type 0
-TellsSender told config accounts messages tariff old new fault =
+abbrev pub TellsSender : (ℕ → Type 0) → (ℕ → Told) → List ℕ → Told → Told → Option Told → Option (List ℕ) → Option (List ℕ) → Fault → Type 0
+TellsSender refuses told config accounts messages tariff old new fault =
     TellsRead (TellsInput config accounts messages tariff) fault
-    ⊎ ((input : Input) × IsInput config accounts messages tariff input × TellsSending told input old new fault)
+    ⊎ ((input : Input) × IsInput config accounts messages tariff input × TellsSending refuses told input old new fault)
 
--- some files were read beside a config of these octets, that of the tariff just where it has a name, and sent so
-abbrev pub SendsNamed : {F : Type 0} → (ℕ → Told) → Bool → (F → Told) → FileNames → List ℕ → Option (List ℕ) → Option (List ℕ) → ℕ → Type 0
-SendsNamed {F} told strict remaining names config old new status =
-    (accounts : F) × (messages : F) × (tariff : Option F) × IsNamed (string_bytes names.tariff) tariff
-    × RunsSender told strict config (remaining accounts) (remaining messages) (option_map remaining tariff) old new status
+-- the files that are found by the names were read beside a config of these octets, that of the tariff just where it has a name, and sent so
+abbrev pub SendsNamed : (ℕ → Told) → Bool → (List ℕ → Option Told → Type 0) → FileNames → List ℕ → Option (List ℕ) → Option (List ℕ) → ℕ → Type 0
+SendsNamed told strict finds names config old new status =
+    (accounts : Told) × (messages : Told) × (tariff : Option Told) × AreFound finds names accounts messages tariff × RunsSender told strict config accounts messages tariff old new status
 
 -- what a fault says of files of these names: one can't be opened, or what it says of the sending of them all
-abbrev pub TellsNamed : {F : Type 0} → (ℕ → Told) → (F → Told) → FileNames → List ℕ → Option (List ℕ) → Option (List ℕ) → Fault → Type 0
-TellsNamed {F} told remaining names config old new fault =
-    (fault ≡ File names.accounts)
-    ⊎ (fault ≡ File names.messages)
-    ⊎ ((fault ≡ File names.tariff) × (string_bytes names.tariff ≢ []))
-    ⊎ ((accounts : F) × (messages : F) × (tariff : Option F) × IsNamed (string_bytes names.tariff) tariff
-    × TellsSender told config (remaining accounts) (remaining messages) (option_map remaining tariff) old new fault)
+abbrev pub TellsNamed : (ℕ → Type 0) → (ℕ → Told) → (List ℕ → Option Told → Type 0) → FileNames → List ℕ → Option (List ℕ) → Option (List ℕ) → Fault → Type 0
+TellsNamed refuses told finds names config old new fault =
+    TellsMissing finds names fault
+    ⊎ ((accounts : Told) × (messages : Told) × (tariff : Option Told) × AreFound finds names accounts messages tariff × TellsSender refuses told config accounts messages tariff old new fault)

@@ -10,6 +10,7 @@ ghost use Rattle.sms_send.specs.Noted.{IsInputOf, IsOpenQuoteOf, SendsNoted, Sen
 ghost use Rattle.sms_send.specs.declared.fault.Fault.TheVariants.{Output};
 
 use crate::fault::Fault;
+use crate::opened::InputFiles;
 use crate::order::Pace;
 use crate::reading::read_input;
 use crate::remarks::Remarks;
@@ -77,7 +78,7 @@ pub fn input_in(
 
 /// Reads the files that the config names to their ends, and sends what they say, unless the messages
 /// file ends within a quote.
-fn send_checked<R: Host + Net<Stream = TcpStream, Listener = TcpListener>, W: Write>(
+fn send_checked<R: Host + InputFiles + Net<Stream = TcpStream, Listener = TcpListener>, W: Write>(
     rt: &R,
     start: &mut Start<'_>,
     reach: &Reach,
@@ -90,9 +91,9 @@ fn send_checked<R: Host + Net<Stream = TcpStream, Listener = TcpListener>, W: Wr
     requires yet { start.old.begun ≡ NotYet }
     ensures latch { start.new.latch ≡ start.old.latch }
     ensures went { OnOk result (start.new.begun ≡ Heard Go) }
-    ensures sent { IfOk result (SendsNoted true R.File.remaining files config.now (W.contents output.old) (W.contents output.new)) }
+    ensures sent { IfOk result (SendsNoted true (R.finds rt.now) files config.now (W.contents output.old) (W.contents output.new)) }
     ensures status { IfOk result (IsStatusBy true) }
-    ensures refused { IfErr result (TellsChecked R.File.remaining reach.now.centre files config.now (W.contents output.old) (W.contents output.new)) }
+    ensures refused { IfErr result (TellsChecked (R.finds rt.now) reach.now.centre files config.now (W.contents output.old) (W.contents output.new)) }
     ensures told { IfErr result (IsToldAt start.new.begun) }
     ensures unwritten { IfErr result (λ fault. fault ≢ Output → output.new ≡ output.old) }
 {
@@ -115,7 +116,7 @@ fn send_checked<R: Host + Net<Stream = TcpStream, Listener = TcpListener>, W: Wr
 
 /// Sends what the files say that the config names, without a journal. Strictly, they are read to their
 /// ends first, and a messages file that ends within a quote is refused.
-pub fn send_plain<R: Host + Net<Stream = TcpStream, Listener = TcpListener>, W: Write>(
+pub fn send_plain<R: Host + InputFiles + Net<Stream = TcpStream, Listener = TcpListener>, W: Write>(
     rt: &R,
     start: &mut Start<'_>,
     reach: &Reach,
@@ -129,9 +130,9 @@ pub fn send_plain<R: Host + Net<Stream = TcpStream, Listener = TcpListener>, W: 
     requires yet { start.old.begun ≡ NotYet }
     ensures latch { start.new.latch ≡ start.old.latch }
     ensures went { OnOk result (start.new.begun ≡ Heard Go) }
-    ensures sent { IfOk result (SendsPlain strict R.File.remaining files config.now (W.contents output.old) (W.contents output.new)) }
+    ensures sent { IfOk result (SendsPlain strict (R.finds rt.now) files config.now (W.contents output.old) (W.contents output.new)) }
     ensures status { IfOk result (IsStatusBy strict) }
-    ensures refused { IfErr result (TellsPlain strict R.File.remaining reach.now.centre files config.now (W.contents output.old) (W.contents output.new)) }
+    ensures refused { IfErr result (TellsPlain strict (R.finds rt.now) reach.now.centre files config.now (W.contents output.old) (W.contents output.new)) }
     ensures told { IfErr result (IsToldAt start.new.begun) }
     ensures unwritten { IfErr result (λ fault. fault ≢ Output → output.new ≡ output.old) }
 {

@@ -1,15 +1,15 @@
 //! A config with a password that others can read.
 
-ghost use Rattle.std.specs.Prelude.{◌≡◌, ◌⊎◌, IfErr, IfOk, codes, option_and_then, option_map};
+ghost use Rattle.std.specs.Prelude.{◌≡◌, ◌⊎◌, IfErr, IfOk, codes, option_and_then, option_map, string_bytes};
 ghost use Rattle.toml.specs.Data.{as_str, get_member};
 ghost use Rattle.toml.specs.View.{table_view};
 ghost use Rattle.sms_files.specs.ConfigFaults.{toml_of};
 ghost use Rattle.sms_send.specs.Exposed.{is_some_text as is_text, says_password};
-ghost use Rattle.sms_send.specs.Opened.{OfInput};
+ghost use Rattle.sms_send.specs.Opened.{OfFile};
 ghost use Rattle.sms_send.specs.declared.fault.Fault.TheVariants.{File, OutOfMemory};
 
 use crate::fault::Fault;
-use crate::opened::octets_of;
+use crate::opened::{InputFiles, octets_of};
 use crate::standard_error::tell_beside;
 use sms_devices::Screen;
 use sms_diagnostics::is_open_to_others;
@@ -83,12 +83,12 @@ fn warn_if_exposed<R: AllocGlobal + Threads + Clock + Eprint + Screen>(
 }
 
 /// The octets of the config of this name. At length it is told where others can read a password there.
-pub fn config_of<R: AllocGlobal + Files + Threads + Clock + Eprint + Screen>(
+pub fn config_of<R: AllocGlobal + Files + InputFiles + Threads + Clock + Eprint + Screen>(
     rt: &R,
     name: String,
     at_length: bool,
 ) -> Result<Vec<u8>, Fault>
-    ensures octets { IfOk result (λ octets. OfInput R.File.remaining (λ bytes. octets.items ≡ bytes)) }
+    ensures octets { IfOk result (λ octets. OfFile (R.finds rt.now) (string_bytes name) (λ bytes. octets.items ≡ bytes)) }
     ensures refused { IfErr result (λ fault. (fault ≡ OutOfMemory) ⊎ (fault ≡ File name)) }
 {
     let is_open = at_length && is_readable_by_others(rt, name.as_str());

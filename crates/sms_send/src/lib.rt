@@ -38,6 +38,7 @@ pub use explained::{Address, Doing, Known, Told, told_of};
 pub use fault::Fault;
 pub use full_names::{FullNames, files_told};
 pub use job::{Job, job_of};
+pub use opened::InputFiles;
 pub use order::{JournalFile, Order, Pace, RecoverOrder, RestOrder};
 pub use plan::run_plan;
 pub use program::{do_job, run, status_after, tell};

@@ -11,6 +11,7 @@ ghost use Rattle.sms_send.specs.declared.fault.Fault.TheVariants.{Journal as Jou
 
 use crate::checked::input_in;
 use crate::fault::Fault;
+use crate::opened::InputFiles;
 use crate::order::{JournalFile, Pace};
 use crate::remarks::Remarks;
 use crate::run_files::{NamedFiles, read_named};
@@ -80,7 +81,7 @@ fn end_journal<R: Clock, F: Write + OpenFile + Drop>(
 }
 
 /// Reads the files that the config names to their ends, begins the journal, and sends what they say.
-pub fn send_noted<R: Host + Net<Stream = TcpStream, Listener = TcpListener>, W: Write>(
+pub fn send_noted<R: Host + InputFiles + Net<Stream = TcpStream, Listener = TcpListener>, W: Write>(
     rt: &R,
     start: &mut Start<'_>,
     reach: &Reach,
@@ -95,10 +96,10 @@ pub fn send_noted<R: Host + Net<Stream = TcpStream, Listener = TcpListener>, W: 
     requires yet { start.old.begun ≡ NotYet }
     ensures latch { start.new.latch ≡ start.old.latch }
     ensures went { OnOk result (start.new.begun ≡ Heard Go) }
-    ensures sent { IfOk result (SendsNoted strict R.File.remaining files config.now (W.contents output.old) (W.contents output.new)) }
+    ensures sent { IfOk result (SendsNoted strict (R.finds rt.now) files config.now (W.contents output.old) (W.contents output.new)) }
     ensures status { IfOk result (IsStatusBy strict) }
     ensures noted { IfOk result (IsNoted R.JournalFile.contents) }
-    ensures refused { IfErr result (TellsNoted strict R.File.remaining reach.now.centre wanted files config.now (W.contents output.old) (W.contents output.new)) }
+    ensures refused { IfErr result (TellsNoted (TellsBegin (R.makes rt.now) (R.refuses rt.now)) strict (R.finds rt.now) reach.now.centre wanted files config.now (W.contents output.old) (W.contents output.new)) }
     // A journal that failed is told before anything was sent or written, or behind the whole report.
     ensures told { IfErr result (IsToldNoted strict start.new.begun (W.contents output.old) (W.contents output.new)) }
     ensures unwritten { IfErr result (λ fault. fault ≢ Output → fault ≢ JournalFault → output.new ≡ output.old) }

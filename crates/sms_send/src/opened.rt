@@ -1,28 +1,52 @@
 //! The files that the program reads, by their names.
 
-ghost use Rattle.std.specs.Prelude.{◌≡◌, ◌≢◌, ◌⊎◌, [], IfErr, IfOk, string_bytes};
-ghost use Rattle.sms_send.specs.Opened.{IsNamed, OfInput};
+ghost use Rattle.std.specs.Prelude.{◌≡◌, ◌≢◌, ◌⊎◌, [], Some, IfErr, IfOk, option_map, string_bytes};
+ghost use Rattle.sms_send.specs.Opened.{IsNamed, OfFile, TellsLost};
 ghost use Rattle.sms_send.specs.declared.fault.Fault.TheVariants.{File, OutOfMemory};
 
 use crate::fault::Fault;
 use std::fs;
-use std::io::{ErrorKind, Read};
-use std::rt::Files;
+use std::io::{self, ErrorKind, Read};
+
+/// Opens the files that the program reads.
+pub trait InputFiles {
+    ghost use Rattle.std.specs.Prelude.{ℕ, List, Option, None, Some, IfOk, IsErr, ⊤};
+    ghost use Rattle.sms_files.specs.Inputs.{Told};
+
+    type InputFile: Read + Drop;
+
+    // What may be found by a name: no file that can be opened, or one of which so much is told.
+    ghost finds: { Self → List ℕ → Option Told → Type 0 } = { λ _ _ _. ⊤ };
+
+    /// The file of this name, opened to be read from its first octet on.
+    fn open_input(&self, name: &str) -> io::Result<Self::InputFile>
+        ensures found { IfOk result (λ file. finds self.now name.now (Some (Self.InputFile.remaining file))) }
+        ensures lost { IsErr result → finds self.now name.now None };
+}
+
+impl InputFiles for HostRuntime {
+    type InputFile = fs::File;
+
+    fn open_input(&self, name: &str) -> io::Result<fs::File> {
+        fs::open(self, name)
+    }
+}
 
 /// The file of this name, opened to be read.
-pub fn open<R: Files>(rt: &R, name: String) -> Result<R::File, Fault>
-    ensures { IfErr result (λ fault. fault ≡ File name) }
+pub fn open<R: InputFiles>(rt: &R, name: String) -> Result<R::InputFile, Fault>
+    ensures found { IfOk result (λ file. R.finds rt.now (string_bytes name) (Some (R.InputFile.remaining file))) }
+    ensures lost { IfErr result (TellsLost (R.finds rt.now) name) }
 {
-    match fs::open(rt, name.as_str()) {
+    match rt.open_input(name.as_str()) {
         Ok(file) => Ok(file),
         Err(_) => Err(Fault::File(name)),
     }
 }
 
 /// The file of this name, opened to be read; none where the name is empty.
-pub fn open_named<R: Files>(rt: &R, name: String) -> Result<Option<R::File>, Fault>
-    ensures named { IfOk result (IsNamed (string_bytes name)) }
-    ensures refused { IfErr result (λ fault. (fault ≡ File name) × (string_bytes name ≢ [])) }
+pub fn open_named<R: InputFiles>(rt: &R, name: String) -> Result<Option<R::InputFile>, Fault>
+    ensures named { IfOk result (λ file. IsNamed (R.finds rt.now) (string_bytes name) (option_map R.InputFile.remaining file)) }
+    ensures refused { IfErr result (λ fault. TellsLost (R.finds rt.now) name fault × (string_bytes name ≢ [])) }
 {
     if name.is_empty() {
         return Ok(None);
@@ -34,11 +58,11 @@ pub fn open_named<R: Files>(rt: &R, name: String) -> Result<Option<R::File>, Fau
 }
 
 /// The octets of the file of this name.
-pub fn octets_of<R: AllocGlobal + Files>(rt: &R, name: String) -> Result<Vec<u8>, Fault>
-    ensures octets { IfOk result (λ octets. OfInput R.File.remaining (λ bytes. octets.items ≡ bytes)) }
+pub fn octets_of<R: AllocGlobal + InputFiles>(rt: &R, name: String) -> Result<Vec<u8>, Fault>
+    ensures octets { IfOk result (λ octets. OfFile (R.finds rt.now) (string_bytes name) (λ bytes. octets.items ≡ bytes)) }
     ensures refused { IfErr result (λ fault. (fault ≡ OutOfMemory) ⊎ (fault ≡ File name)) }
 {
-    let Ok(mut file) = fs::open(rt, name.as_str()) else {
+    let Ok(mut file) = rt.open_input(name.as_str()) else {
         return Err(Fault::File(name));
     };
     let mut octets = Vec::new(rt.alloc());

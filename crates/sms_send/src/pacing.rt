@@ -44,7 +44,7 @@ pub fn send_paced<
     ensures latch { start.new.latch ≡ start.old.latch }
     ensures went { OnOk result (start.new.begun ≡ Heard Go) }
     ensures sent { IfOk result (IsSent (D.told dial.now) input) }
-    ensures refused { IfErr result (TellsDriven input.config.limits.binds start.new.begun) }
+    ensures refused { IfErr result (TellsDriven (D.refuses dial.now) (D.told dial.now) input.config start.new.begun) }
     ensures told { IfErr result (IsToldAt start.new.begun) }
 {
     let bells = outboxes.bells();
@@ -84,7 +84,7 @@ fn send_stopping<
     ensures latch { start.new.latch ≡ start.old.latch }
     ensures went { OnOk result (start.new.begun ≡ Heard Go) }
     ensures sent { IfOk result (IsSent (D.told dial.now) input) }
-    ensures refused { IfErr result (TellsDriven input.config.limits.binds start.new.begun) }
+    ensures refused { IfErr result (TellsDriven (D.refuses dial.now) (D.told dial.now) input.config start.new.begun) }
     ensures told { IfErr result (IsToldAt start.new.begun) }
 {
     let workers = input.config().limits.workers;
@@ -123,7 +123,7 @@ fn send_rated<
     ensures latch { start.new.latch ≡ start.old.latch }
     ensures went { OnOk result (start.new.begun ≡ Heard Go) }
     ensures sent { IfOk result (IsSent (D.told dial.now) input) }
-    ensures refused { IfErr result (TellsDriven input.config.limits.binds start.new.begun) }
+    ensures refused { IfErr result (TellsDriven (D.refuses dial.now) (D.told dial.now) input.config start.new.begun) }
     ensures told { IfErr result (IsToldAt start.new.begun) }
 {
     let limits = input.config().limits;

@@ -5,13 +5,14 @@ ghost use Rattle.clap.specs.Words.{Text};
 ghost use Rattle.sms_driver.specs.declared.start.Begun.TheVariants.{NotYet};
 ghost use Rattle.sms_send.specs.Faults.{status_of};
 ghost use Rattle.sms_send.specs.Jobs.{Does, HasBegun, IsStatusOf, IsToldOf, IsToldSo, TellsJob, TellsRun, WentSo, Works};
+ghost use Rattle.sms_send.specs.Noted.{TellsBegin};
 ghost use Rattle.sms_send.specs.declared.fault.Fault.TheVariants.{Journal, Output, OutOfMemory, Words};
 
 use crate::explained::{is_at_length, told_of};
 use crate::fault::Fault;
 use crate::job::{Job, job_of};
 use crate::known::known_at;
-use crate::opened::open;
+use crate::opened::{InputFiles, open};
 use crate::plan::run_plan;
 use crate::quote_job::quote_job;
 use crate::recover_job::{recover_job, rest_job};
@@ -27,11 +28,11 @@ use std::rt::{Env, Files};
 use std::{env, io};
 
 /// Does the job that the program's words ask for, and gives the exit status.
-pub fn run<R: Host + Net<Stream = TcpStream, Listener = TcpListener>, W: Write>(
+pub fn run<R: Host + InputFiles + Net<Stream = TcpStream, Listener = TcpListener>, W: Write>(
     rt: &R,
     output: &mut W,
 ) -> Result<u8, Fault>
-    ensures done { IfOk result (λ status. (words : List Text) × Works R.Reader.remaining R.File.remaining words status (W.contents output.old) (W.contents output.new)) }
+    ensures done { IfOk result (λ status. (words : List Text) × Works R.Reader.remaining (R.finds rt.now) words status (W.contents output.old) (W.contents output.new)) }
     ensures unwritten { IfErr result (λ fault. fault ≢ Output → fault ≢ Journal → output.new ≡ output.old) }
 {
     let words = words_of(rt)?;
@@ -52,7 +53,7 @@ fn words_of<R: AllocGlobal + Env>(rt: &R) -> Result<Vec<String>, Fault>
 }
 
 /// Does the job that these words ask for, and gives the exit status.
-fn do_words<R: Host + Net<Stream = TcpStream, Listener = TcpListener>, W: Write>(
+fn do_words<R: Host + InputFiles + Net<Stream = TcpStream, Listener = TcpListener>, W: Write>(
     rt: &R,
     start: &mut Start<'_>,
     words: &[String],
@@ -61,8 +62,8 @@ fn do_words<R: Host + Net<Stream = TcpStream, Listener = TcpListener>, W: Write>
     requires yet { start.old.begun ≡ NotYet }
     ensures latch { start.new.latch ≡ start.old.latch }
     ensures went { OnOk result (WentSo (map string_bytes words.now) start.new.begun) }
-    ensures done { IfOk result (λ status. Works R.Reader.remaining R.File.remaining (map string_bytes words.now) status (W.contents output.old) (W.contents output.new)) }
-    ensures refused { IfErr result (TellsRun R.Reader.remaining R.File.remaining (map string_bytes words.now) (W.contents output.old) (W.contents output.new)) }
+    ensures done { IfOk result (λ status. Works R.Reader.remaining (R.finds rt.now) (map string_bytes words.now) status (W.contents output.old) (W.contents output.new)) }
+    ensures refused { IfErr result (TellsRun (TellsBegin (R.makes rt.now) (R.refuses rt.now)) R.Reader.remaining (R.finds rt.now) (map string_bytes words.now) (W.contents output.old) (W.contents output.new)) }
     ensures told { IfErr result (IsToldSo (map string_bytes words.now) start.new.begun (W.contents output.old) (W.contents output.new)) }
     ensures unwritten { IfErr result (λ fault. fault ≢ Output → fault ≢ Journal → output.new ≡ output.old) }
 {
@@ -73,7 +74,7 @@ fn do_words<R: Host + Net<Stream = TcpStream, Listener = TcpListener>, W: Write>
 }
 
 /// Does a job, and gives the exit status. Where the job sends, the start says how far the sending came.
-pub fn do_job<R: Host + Net<Stream = TcpStream, Listener = TcpListener>, W: Write>(
+pub fn do_job<R: Host + InputFiles + Net<Stream = TcpStream, Listener = TcpListener>, W: Write>(
     rt: &R,
     start: &mut Start<'_>,
     job: Job,
@@ -83,8 +84,8 @@ pub fn do_job<R: Host + Net<Stream = TcpStream, Listener = TcpListener>, W: Writ
     ensures latch { start.new.latch ≡ start.old.latch }
     ensures went { OnOk result (HasBegun job start.new.begun) }
     ensures status { IfOk result (IsStatusOf job) }
-    ensures done { IfOk result (Does R.Reader.remaining R.File.remaining job (W.contents output.old) (W.contents output.new)) }
-    ensures refused { IfErr result (TellsJob R.Reader.remaining R.File.remaining job (W.contents output.old) (W.contents output.new)) }
+    ensures done { IfOk result (Does R.Reader.remaining (R.finds rt.now) job (W.contents output.old) (W.contents output.new)) }
+    ensures refused { IfErr result (TellsJob (TellsBegin (R.makes rt.now) (R.refuses rt.now)) R.Reader.remaining (R.finds rt.now) job (W.contents output.old) (W.contents output.new)) }
     ensures told { IfErr result (IsToldOf job start.new.begun (W.contents output.old) (W.contents output.new)) }
     ensures unwritten { IfErr result (λ fault. fault ≢ Output → fault ≢ Journal → output.new ≡ output.old) }
 {

@@ -4,14 +4,14 @@
 ghost use Rattle.std.specs.Prelude.{◌≡◌, ◌≢◌, IfErr, IfOk, Ok, OnOk, option_map, string_bytes};
 ghost use Rattle.std.specs.Io.KnownBytes.{Appends};
 ghost use Rattle.sms_report.specs.Output.{WritesFront};
-ghost use Rattle.sms_send.specs.Opened.{OfInput};
+ghost use Rattle.sms_send.specs.Opened.{OfFile};
 ghost use Rattle.sms_send.specs.Quoted.{FailsBehind, HasQuote, PrintsQuote, QuotesAndWarns, QuotesFiles, QuotesNamed, TellsQuote, TellsQuoteJob, TellsQuoteNamed, TellsQuoting, WarnsFront, warnings_of};
 ghost use Rattle.sms_send.specs.declared.fault.Fault.TheVariants.{Output};
 
 use crate::explained::is_at_length;
 use crate::fault::Fault;
 use crate::full_names::{lines_at, name_at};
-use crate::opened::{octets_of, open, open_named};
+use crate::opened::{InputFiles, octets_of, open, open_named};
 use crate::reading::{read_input, setup_of};
 use crate::standard_error::StandardError;
 use sms_devices::Screen;
@@ -109,15 +109,15 @@ pub fn run_quote<A: Read + Drop, M: Read + Drop, T: Read + Drop, W: Write, E: Wr
 }
 
 /// Opens the files that the config names, and prints what a sending of them would come to.
-fn quote_named<R: AllocGlobal + Files + Eprint, W: Write>(
+fn quote_named<R: AllocGlobal + InputFiles + Eprint, W: Write>(
     rt: &R,
     config: &[u8],
     names: FileNames,
     output: &mut W,
 ) -> Result<u8, Fault>
     ensures status { IfOk result (λ status. status ≡ 0) }
-    ensures quoted { OnOk result (QuotesNamed R.File.remaining names config.now (W.contents output.old) (W.contents output.new)) }
-    ensures refused { IfErr result (TellsQuoteNamed R.File.remaining names config.now (W.contents output.old) (W.contents output.new)) }
+    ensures quoted { OnOk result (QuotesNamed (R.finds rt.now) names config.now (W.contents output.old) (W.contents output.new)) }
+    ensures refused { IfErr result (TellsQuoteNamed (R.finds rt.now) names config.now (W.contents output.old) (W.contents output.new)) }
     ensures unwritten { IfErr result (λ fault. fault ≢ Output → output.new ≡ output.old) }
 {
     let accounts = open(rt, names.accounts)?;
@@ -157,7 +157,7 @@ fn tell_behind<E: Write>(
 
 /// Opens the files that the config names, prints what a sending of them would come to, and tells these
 /// lines behind that.
-fn quote_told<R: AllocGlobal + Files + Eprint, W: Write>(
+fn quote_told<R: AllocGlobal + InputFiles + Eprint, W: Write>(
     rt: &R,
     config: &[u8],
     names: FileNames,
@@ -165,8 +165,8 @@ fn quote_told<R: AllocGlobal + Files + Eprint, W: Write>(
     output: &mut W,
 ) -> Result<u8, Fault>
     ensures status { IfOk result (λ status. status ≡ 0) }
-    ensures quoted { OnOk result (QuotesNamed R.File.remaining names config.now (W.contents output.old) (W.contents output.new)) }
-    ensures refused { IfErr result (TellsQuoteNamed R.File.remaining names config.now (W.contents output.old) (W.contents output.new)) }
+    ensures quoted { OnOk result (QuotesNamed (R.finds rt.now) names config.now (W.contents output.old) (W.contents output.new)) }
+    ensures refused { IfErr result (TellsQuoteNamed (R.finds rt.now) names config.now (W.contents output.old) (W.contents output.new)) }
     ensures unwritten { IfErr result (λ fault. fault ≢ Output → output.new ≡ output.old) }
 {
     let quoted = quote_named(rt, config, names, output);
@@ -176,15 +176,15 @@ fn quote_told<R: AllocGlobal + Files + Eprint, W: Write>(
 /// Reads the config of this name and the files that it names, and prints what a sending of them would
 /// come to. On a terminal, and where more is to be told, the full names of the files follow on standard
 /// error.
-pub fn quote_job<R: AllocGlobal + Files + Eprint + Screen, W: Write>(
+pub fn quote_job<R: AllocGlobal + Files + InputFiles + Eprint + Screen, W: Write>(
     rt: &R,
     config: String,
     verbose: bool,
     output: &mut W,
 ) -> Result<u8, Fault>
     ensures status { IfOk result (λ status. status ≡ 0) }
-    ensures quoted { OnOk result (OfInput R.File.remaining (λ octets. QuotesFiles R.File.remaining octets (W.contents output.old) (W.contents output.new))) }
-    ensures refused { IfErr result (TellsQuoteJob R.File.remaining config (W.contents output.old) (W.contents output.new)) }
+    ensures quoted { OnOk result (OfFile (R.finds rt.now) (string_bytes config) (λ octets. QuotesFiles (R.finds rt.now) octets (W.contents output.old) (W.contents output.new))) }
+    ensures refused { IfErr result (TellsQuoteJob (R.finds rt.now) config (W.contents output.old) (W.contents output.new)) }
     ensures unwritten { IfErr result (λ fault. fault ≢ Output → output.new ≡ output.old) }
 {
     let at_length = is_at_length(rt.is_terminal(), verbose);

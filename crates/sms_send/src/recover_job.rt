@@ -1,6 +1,6 @@
 //! The jobs of `recover` and `rest`: what is left of a run, by its journal or its report.
 
-ghost use Rattle.std.specs.Prelude.{◌≡◌, ◌≢◌, IfErr, IfOk, false, true};
+ghost use Rattle.std.specs.Prelude.{◌≡◌, ◌≢◌, IfErr, IfOk, false, string_bytes, true};
 ghost use Rattle.sms_send.specs.Jobs.{IsStatus};
 ghost use Rattle.sms_send.specs.Recovered.{PrintsLeft, RecoversRun, TellsLeft, TellsRecovered, TellsRecoverJob, TellsRestJob};
 ghost use Rattle.sms_send.specs.Runs.{IsRun};
@@ -8,23 +8,23 @@ ghost use Rattle.sms_send.specs.declared.fault.Fault.TheVariants.{Output};
 ghost use Rattle.sms_send.specs.declared.run_files.RunFiles.{RunFiles as TheRunFiles};
 
 use crate::fault::Fault;
+use crate::opened::InputFiles;
 use crate::order::{RecoverOrder, RestOrder};
 use crate::run_files::{RunFiles, read_run};
 use sms_recovery::{run_recover, run_rest, run_rest_accounts};
 use std::alloc::Global;
 use std::io::Write;
-use std::rt::Files;
 
 /// Prints what a run would have reported, by its journal, and gives the exit status that it would have
 /// had.
-pub fn recover_job<R: AllocGlobal + Files, W: Write>(
+pub fn recover_job<R: AllocGlobal + InputFiles, W: Write>(
     rt: &R,
     order: RecoverOrder,
     output: &mut W,
 ) -> Result<u8, Fault>
-    ensures recovered { IfOk result (λ status. (run : TheRunFiles) × IsRun R.File.remaining run × RecoversRun run (W.contents output.old) (W.contents output.new) status) }
+    ensures recovered { IfOk result (λ status. (run : TheRunFiles) × IsRun (R.finds rt.now) (string_bytes order.config) (string_bytes order.journal) run × RecoversRun run (W.contents output.old) (W.contents output.new) status) }
     ensures status { IfOk result IsStatus }
-    ensures refused { IfErr result (TellsRecoverJob R.File.remaining order (W.contents output.old) (W.contents output.new)) }
+    ensures refused { IfErr result (TellsRecoverJob (R.finds rt.now) order (W.contents output.old) (W.contents output.new)) }
     ensures unwritten { IfErr result (λ fault. fault ≢ Output → output.new ≡ output.old) }
 {
     match read_run(rt, order.config, order.journal) {
@@ -57,14 +57,14 @@ fn recovered<W: Write>(alloc: Global, run: &RunFiles, output: &mut W) -> Result<
 
 /// Prints the messages that a run did not send at all, by its report, or the accounts that go with
 /// them. The exit status is 0.
-pub fn rest_job<R: AllocGlobal + Files, W: Write>(
+pub fn rest_job<R: AllocGlobal + InputFiles, W: Write>(
     rt: &R,
     order: RestOrder,
     output: &mut W,
 ) -> Result<u8, Fault>
     ensures status { IfOk result (λ status. status ≡ 0) }
-    ensures printed { IfOk result (λ status. (run : TheRunFiles) × IsRun R.File.remaining run × PrintsLeft order.accounts run (W.contents output.old) (W.contents output.new)) }
-    ensures refused { IfErr result (TellsRestJob R.File.remaining order (W.contents output.old) (W.contents output.new)) }
+    ensures printed { IfOk result (λ status. (run : TheRunFiles) × IsRun (R.finds rt.now) (string_bytes order.config) (string_bytes order.report) run × PrintsLeft order.accounts run (W.contents output.old) (W.contents output.new)) }
+    ensures refused { IfErr result (TellsRestJob (R.finds rt.now) order (W.contents output.old) (W.contents output.new)) }
     ensures unwritten { IfErr result (λ fault. fault ≢ Output → output.new ≡ output.old) }
 {
     let accounts = order.accounts;

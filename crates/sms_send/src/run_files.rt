@@ -1,17 +1,15 @@
 //! The files of a run as octets: those that its config names, and one that was written of it.
 
-ghost use Rattle.std.specs.Prelude.{◌≡◌, ◌⊎◌, IfErr, IfOk, IfSome, option_copied, option_map};
-ghost use Rattle.sms_send.specs.Opened.{OfInput};
+ghost use Rattle.std.specs.Prelude.{◌≡◌, ◌⊎◌, IfErr, IfOk, IfSome, option_copied, option_map, string_bytes};
 ghost use Rattle.sms_send.specs.Runs.{AreNamed, AreOpened, IsRun, TellsNamedFiles, TellsOpened, TellsRunFiles};
 ghost use Rattle.sms_send.specs.declared.fault.Fault.TheVariants.{OutOfMemory, Unreadable};
 
 use crate::fault::Fault;
-use crate::opened::{octets_of, open, open_named};
+use crate::opened::{InputFiles, octets_of, open, open_named};
 use crate::reading::setup_of;
 use sms_files::{FileNames, Setup, Source};
 use std::alloc::Global;
 use std::io::{ErrorKind, Read};
-use std::rt::Files;
 
 /// The octets of the files that a config names; none of a tariff without a name.
 #[derive(Drop)]
@@ -43,13 +41,13 @@ pub struct RunFiles {
 }
 
 /// Reads the config of this name, the files that it names, and then the file that was written of the run.
-pub fn read_run<R: AllocGlobal + Files>(
+pub fn read_run<R: AllocGlobal + InputFiles>(
     rt: &R,
     config: String,
     written: String,
 ) -> Result<RunFiles, Fault>
-    ensures read { IfOk result (IsRun R.File.remaining) }
-    ensures refused { IfErr result (TellsRunFiles R.File.remaining config written) }
+    ensures read { IfOk result (IsRun (R.finds rt.now) (string_bytes config) (string_bytes written)) }
+    ensures refused { IfErr result (TellsRunFiles (R.finds rt.now) config written) }
 {
     let config = octets_of(rt, config)?;
     let Setup {
@@ -73,9 +71,12 @@ pub fn read_run<R: AllocGlobal + Files>(
 }
 
 /// Opens the files of these names, and then reads them.
-pub fn read_named<R: AllocGlobal + Files>(rt: &R, names: FileNames) -> Result<NamedFiles, Fault>
-    ensures read { IfOk result (AreNamed R.File.remaining names) }
-    ensures refused { IfErr result (TellsNamedFiles R.File names) }
+pub fn read_named<R: AllocGlobal + InputFiles>(
+    rt: &R,
+    names: FileNames,
+) -> Result<NamedFiles, Fault>
+    ensures read { IfOk result (AreNamed (R.finds rt.now) names) }
+    ensures refused { IfErr result (TellsNamedFiles (R.finds rt.now) names) }
 {
     let accounts = open(rt, names.accounts)?;
     let messages = open(rt, names.messages)?;
@@ -90,8 +91,8 @@ fn read_opened<F: Read + Drop>(
     messages: F,
     tariff: Option<F>,
 ) -> Result<NamedFiles, Fault>
-    ensures read { IfOk result (AreOpened F.remaining accounts messages tariff) }
-    ensures refused { IfErr result (TellsOpened tariff) }
+    ensures read { IfOk result (AreOpened (F.remaining accounts) (F.remaining messages) (option_map F.remaining tariff)) }
+    ensures refused { IfErr result (TellsOpened (option_map F.remaining tariff)) }
 {
     let accounts = match whole_of(alloc, accounts, Source::Accounts) {
         Ok(octets) => octets,

@@ -1,12 +1,12 @@
 //! The job of `loop` and `send`: the files that the config names are opened and read, and sent.
 
-ghost use Rattle.std.specs.Prelude.{◌≡◌, ◌≢◌, IfErr, IfOk, OnOk, option_map};
+ghost use Rattle.std.specs.Prelude.{◌≡◌, ◌≢◌, IfErr, IfOk, OnOk, option_map, string_bytes};
 ghost use Rattle.sms_driver.specs.declared.latch.Word.TheVariants.{Go};
 ghost use Rattle.sms_driver.specs.declared.start.Begun.TheVariants.{NotYet, Heard};
 ghost use Rattle.sms_send.specs.Faults.{IsToldAt};
-ghost use Rattle.sms_send.specs.Opened.{OfInput};
+ghost use Rattle.sms_send.specs.Opened.{OfFile};
 ghost use Rattle.sms_send.specs.Jobs.{IsStatusBy};
-ghost use Rattle.sms_send.specs.Noted.{IsToldNoted, SendsBy, TellsOrder};
+ghost use Rattle.sms_send.specs.Noted.{IsToldNoted, SendsBy, TellsBegin, TellsOrder};
 ghost use Rattle.sms_send.specs.Sent.{RunsSender, TellsSender};
 ghost use Rattle.sms_send.specs.declared.fault.Fault.TheVariants.{Journal, Output};
 
@@ -14,6 +14,7 @@ use crate::checked::send_plain;
 use crate::exposed::config_of;
 use crate::fault::Fault;
 use crate::noted::send_noted;
+use crate::opened::InputFiles;
 use crate::order::Order;
 use crate::reading::{read_input, setup_of};
 use crate::remarks::Remarks;
@@ -71,7 +72,7 @@ pub fn run_sender<
     ensures went { OnOk result (start.new.begun ≡ Heard Go) }
     ensures sent { IfOk result (λ status. RunsSender (D.told dial.now) strict config.now (A.remaining accounts) (M.remaining messages) (option_map T.remaining tariff) (W.contents output.old) (W.contents output.new) status) }
     // A fault is of the first of these that has one, or of the sending of what they say.
-    ensures refused { IfErr result (TellsSender (D.told dial.now) config.now (A.remaining accounts) (M.remaining messages) (option_map T.remaining tariff) (W.contents output.old) (W.contents output.new)) }
+    ensures refused { IfErr result (TellsSender (D.refuses dial.now) (D.told dial.now) config.now (A.remaining accounts) (M.remaining messages) (option_map T.remaining tariff) (W.contents output.old) (W.contents output.new)) }
     // And it says whether messages may have been sent: just where all workers were told to go.
     ensures told { IfErr result (IsToldAt start.new.begun) }
     ensures unwritten { IfErr result (λ fault. fault ≢ Output → output.new ≡ output.old) }
@@ -84,7 +85,7 @@ pub fn run_sender<
 
 /// Reads the config of this name and the files that it names, and sends. Where a journal is asked for,
 /// the files are read to their ends first, and what goes out is noted.
-pub fn send_job<R: Host + Net<Stream = TcpStream, Listener = TcpListener>, W: Write>(
+pub fn send_job<R: Host + InputFiles + Net<Stream = TcpStream, Listener = TcpListener>, W: Write>(
     rt: &R,
     start: &mut Start<'_>,
     centre: Centre,
@@ -94,9 +95,9 @@ pub fn send_job<R: Host + Net<Stream = TcpStream, Listener = TcpListener>, W: Wr
     requires yet { start.old.begun ≡ NotYet }
     ensures latch { start.new.latch ≡ start.old.latch }
     ensures went { OnOk result (start.new.begun ≡ Heard Go) }
-    ensures sent { IfOk result (λ status. OfInput R.File.remaining (λ octets. SendsBy order.strict R.File.remaining order.journal octets (W.contents output.old) (W.contents output.new) status)) }
+    ensures sent { IfOk result (λ status. OfFile (R.finds rt.now) (string_bytes order.config) (λ octets. SendsBy order.strict (R.finds rt.now) order.journal octets (W.contents output.old) (W.contents output.new) status)) }
     ensures status { IfOk result (IsStatusBy order.strict) }
-    ensures refused { IfErr result (TellsOrder R.File.remaining centre order (W.contents output.old) (W.contents output.new)) }
+    ensures refused { IfErr result (TellsOrder (TellsBegin (R.makes rt.now) (R.refuses rt.now)) (R.finds rt.now) centre order (W.contents output.old) (W.contents output.new)) }
     ensures told { IfErr result (IsToldNoted order.strict start.new.begun (W.contents output.old) (W.contents output.new)) }
     ensures unwritten { IfErr result (λ fault. fault ≢ Output → fault ≢ Journal → output.new ≡ output.old) }
 {

@@ -125,9 +125,9 @@ pub fn send_all<
     ensures latch { start.new.latch ≡ start.old.latch }
     ensures went { OnOk result (start.new.begun ≡ Heard Go) }
     ensures sent { IfOk result (IsSent (D.told dial.now) input) }
-    // A fault is of one of the config's binds, or of memory; and a fault that comes before a message could go out comes where no
+    // A fault is of one of the config's binds, and tells what was read of it, or of memory; and a fault that comes before a message could go out comes where no
     // worker was told to go, and one that comes after where all were.
-    ensures refused { IfErr result (TellsDriven input.config.limits.binds start.new.begun) }
+    ensures refused { IfErr result (TellsDriven (D.refuses dial.now) (D.told dial.now) input.config start.new.begun) }
     // So the fault that is told says whether messages may have been sent.
     ensures told { IfErr result (IsToldAt start.new.begun) }
 {

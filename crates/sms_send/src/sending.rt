@@ -10,7 +10,7 @@ ghost use Rattle.sms_send.specs.Sent.{SendsNamed, TellsNamed, TellsSending, unto
 ghost use Rattle.sms_send.specs.declared.fault.Fault.TheVariants.{Output};
 
 use crate::fault::Fault;
-use crate::opened::{open, open_named};
+use crate::opened::{InputFiles, open, open_named};
 use crate::order::Pace;
 use crate::pacing::send_paced;
 use crate::reading::read_input;
@@ -28,7 +28,6 @@ use sms_files::{FileNames, Input};
 use sms_worker::Pause;
 use std::io::{Eprint, Write};
 use std::net::{Net, TcpListener, TcpStream};
-use std::rt::Files;
 use std::sync::Wait;
 use std::thread::Threads;
 use std::{mem, time};
@@ -54,7 +53,11 @@ pub enum Wanted {
 
 /// Makes what a sending stands on, and sends over connections to the centre, behind the journal if
 /// there is one.
-pub fn send_over<'j, R: Host + Net<Stream = TcpStream, Listener = TcpListener>, W: Write>(
+pub fn send_over<
+    'j,
+    R: Host + InputFiles + Net<Stream = TcpStream, Listener = TcpListener>,
+    W: Write,
+>(
     rt: &'j R,
     start: &mut Start<'_>,
     reach: &Reach,
@@ -69,9 +72,9 @@ pub fn send_over<'j, R: Host + Net<Stream = TcpStream, Listener = TcpListener>, 
     requires yet { start.old.begun ≡ NotYet }
     ensures latch { start.new.latch ≡ start.old.latch }
     ensures went { OnOk result (start.new.begun ≡ Heard Go) }
-    ensures sent { IfOk result (SendsWanted untold strict R.File.remaining wanted config.now (W.contents output.old) (W.contents output.new)) }
+    ensures sent { IfOk result (SendsWanted untold strict (R.finds rt.now) wanted config.now (W.contents output.old) (W.contents output.new)) }
     ensures status { IfOk result (IsStatusBy strict) }
-    ensures refused { IfErr result (TellsOver reach.now.centre R.File.remaining wanted config.now (W.contents output.old) (W.contents output.new)) }
+    ensures refused { IfErr result (TellsOver reach.now.centre (R.finds rt.now) wanted config.now (W.contents output.old) (W.contents output.new)) }
     ensures told { IfErr result (IsToldAt start.new.begun) }
     ensures unwritten { IfErr result (λ fault. fault ≢ Output → output.new ≡ output.old) }
 {
@@ -119,7 +122,15 @@ pub fn send_over<'j, R: Host + Net<Stream = TcpStream, Listener = TcpListener>, 
 /// Sends what is wanted over the connections that the dial makes.
 fn send_wanted<
     'j,
-    R: AllocGlobal + Files + JournalFiles + Threads + Wait + time::Clock + Eprint + Screen + Sync,
+    R: AllocGlobal
+        + InputFiles
+        + JournalFiles
+        + Threads
+        + Wait
+        + time::Clock
+        + Eprint
+        + Screen
+        + Sync,
     D: Dial,
     P: Pause + Sync,
     W: Write,
@@ -139,9 +150,9 @@ fn send_wanted<
     requires yet { start.old.begun ≡ NotYet }
     ensures latch { start.new.latch ≡ start.old.latch }
     ensures went { OnOk result (start.new.begun ≡ Heard Go) }
-    ensures sent { IfOk result (SendsWanted (D.told dial.now) strict R.File.remaining wanted config.now (W.contents output.old) (W.contents output.new)) }
+    ensures sent { IfOk result (SendsWanted (D.told dial.now) strict (R.finds rt.now) wanted config.now (W.contents output.old) (W.contents output.new)) }
     ensures status { IfOk result (IsStatusBy strict) }
-    ensures refused { IfErr result (TellsWanted (D.told dial.now) R.File.remaining wanted config.now (W.contents output.old) (W.contents output.new)) }
+    ensures refused { IfErr result (TellsWanted (D.refuses dial.now) (D.told dial.now) (R.finds rt.now) wanted config.now (W.contents output.old) (W.contents output.new)) }
     ensures told { IfErr result (IsToldAt start.new.begun) }
     ensures unwritten { IfErr result (λ fault. fault ≢ Output → output.new ≡ output.old) }
 {
@@ -158,7 +169,15 @@ fn send_wanted<
 /// Opens the files that the config names, and sends what they say.
 fn send_files<
     'j,
-    R: AllocGlobal + Files + JournalFiles + Threads + Wait + time::Clock + Eprint + Screen + Sync,
+    R: AllocGlobal
+        + InputFiles
+        + JournalFiles
+        + Threads
+        + Wait
+        + time::Clock
+        + Eprint
+        + Screen
+        + Sync,
     D: Dial,
     P: Pause + Sync,
     W: Write,
@@ -178,9 +197,9 @@ fn send_files<
     requires yet { start.old.begun ≡ NotYet }
     ensures latch { start.new.latch ≡ start.old.latch }
     ensures went { OnOk result (start.new.begun ≡ Heard Go) }
-    ensures sent { IfOk result (SendsNamed (D.told dial.now) strict R.File.remaining names config.now (W.contents output.old) (W.contents output.new)) }
+    ensures sent { IfOk result (SendsNamed (D.told dial.now) strict (R.finds rt.now) names config.now (W.contents output.old) (W.contents output.new)) }
     ensures status { IfOk result (IsStatusBy strict) }
-    ensures refused { IfErr result (TellsNamed (D.told dial.now) R.File.remaining names config.now (W.contents output.old) (W.contents output.new)) }
+    ensures refused { IfErr result (TellsNamed (D.refuses dial.now) (D.told dial.now) (R.finds rt.now) names config.now (W.contents output.old) (W.contents output.new)) }
     ensures told { IfErr result (IsToldAt start.new.begun) }
     ensures unwritten { IfErr result (λ fault. fault ≢ Output → output.new ≡ output.old) }
 {
@@ -219,7 +238,7 @@ fn send_input<
     ensures went { OnOk result (start.new.begun ≡ Heard Go) }
     ensures sent { IfOk result (SendsInput (D.told dial.now) strict input (W.contents output.old) (W.contents output.new)) }
     ensures status { IfOk result (IsStatusBy strict) }
-    ensures refused { IfErr result (TellsSending (D.told dial.now) input (W.contents output.old) (W.contents output.new)) }
+    ensures refused { IfErr result (TellsSending (D.refuses dial.now) (D.told dial.now) input (W.contents output.old) (W.contents output.new)) }
     ensures told { IfErr result (IsToldAt start.new.begun) }
     ensures unwritten { IfErr result (λ fault. fault ≢ Output → output.new ≡ output.old) }
 {

@@ -21,7 +21,7 @@ pub returns-in-Err-clause-refused : goal.returns-in-Err-clause-refused
 returns-in-Err-clause-refused g c =
     let more = ap length c.in-Some.ensures.steps.0 in
     let long = c.loop-theirs.invariant.long in
-    (omega arith, subst (λ (n : ℕ). IsFaultOf n c.in-Err.fault) c.loop-theirs.invariant.place c.in-Err.ensures.refused)
+    (omega arith, subst (λ (n : ℕ). IsFaultOf (g.D.Dial.refuses c.args.dial.now) (g.D.Dial.told c.args.dial.now) c.args.bind_settings.now.settings.mode n c.in-Err.fault) c.loop-theirs.invariant.place c.in-Err.ensures.refused)
 
 pub loop-theirs-preserved : goal.loop-theirs-preserved
 loop-theirs-preserved g c =

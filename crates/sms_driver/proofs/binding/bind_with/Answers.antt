@@ -12,4 +12,4 @@ returns-in-Ok-clause-opened g c =
 pub returns-in-Err-clause-told : goal.returns-in-Err-clause-told
 returns-in-Err-clause-told g c =
     let (octets, read, says) = c.in-Err.ensures.answer in
-    inr (record { number = c.in-Drawn.number; drawn = c.in-Drawn.ensures.drawn; octets = octets; read = read; why = c.in-Err.fault; says = says; told = c.fault_of.ensures.told })
+    inr (record { number = c.in-Drawn.number; drawn = c.in-Drawn.ensures.drawn; octets = octets; read = read; why = c.in-Err.fault; says = says; told = c.fault_of.ensures })

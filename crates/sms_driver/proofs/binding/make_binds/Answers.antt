@@ -24,4 +24,4 @@ returns-clause-refused g c =
 
 pub returns-clause-early : goal.returns-clause-early
 returns-clause-early g c =
-    if_told _ _ _ _ c.unless_failed.ensures.told c.bind_each-binds.ensures.refused (λ fault h. tells_bind _ fault h.1)
+    if_told _ _ _ _ c.unless_failed.ensures.told c.bind_each-binds.ensures.refused (λ fault h. tells_bind (g.D.Dial.refuses c.args.dial.now) (g.D.Dial.told c.args.dial.now) _ _ fault h.1)

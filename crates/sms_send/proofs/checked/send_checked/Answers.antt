@@ -29,7 +29,7 @@ returns-in_err-input-clause-refused g c =
     (inr (c.in_ok-named.named, c.in_ok-named.ensures.read, inl c.in_err-input.ensures.refused))
 
 pub returns-in_err-named-clause-told : goal.returns-in_err-named-clause-told
-returns-in_err-named-clause-told g c = told_so c.from_residual.result _ _ c.from_residual.ensures.1 (named_at _ _ _ _ c.requires.yet c.in_err-named.ensures.refused)
+returns-in_err-named-clause-told g c = told_so c.from_residual.result _ _ c.from_residual.ensures.1 (named_at (g.R.InputFiles.finds c.args.rt.now) _ _ _ c.requires.yet c.in_err-named.ensures.refused)
 
 pub returns-in_err-input-clause-told : goal.returns-in_err-input-clause-told
 returns-in_err-input-clause-told g c = told_so c.from_residual-in_err-input.result _ _ c.from_residual-in_err-input.ensures.1 (checked_at _ _ _ c.in_ok-named.named _ c.requires.yet c.in_err-input.ensures.refused)

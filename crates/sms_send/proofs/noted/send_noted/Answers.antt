@@ -1,7 +1,7 @@
 use Rattle.std.proofs.Common.{inl, inr, refl}
 use Rattle.std.proofs.lemmas.Result.{IfErr-weaker, IfOk-weaker}
 use Rattle.sms_send.specs.Jobs.{IsStatusBy}
-use Rattle.sms_send.proofs.Noting.{begun_fault, ended_err, ended_ok, ended_quiet}
+use Rattle.sms_send.proofs.Noting.{ended_err, ended_ok, ended_quiet}
 use Rattle.sms_send.proofs.Telling.{told_so}
 use Rattle.sms_send.proofs.Starts.{begun_at, checked_at, ended_at, named_at, noted_at}
 use Rattle.sms_send.proofs.noted.send_noted.Goals as goal
@@ -25,7 +25,7 @@ returns-clause-status g c = ended_ok c.end_journal.result c.send_over-sent.resul
 pub returns-clause-refused : goal.returns-clause-refused
 returns-clause-refused g c =
     IfErr-weaker c.end_journal.result _ _
-    (λ fault tells. inr (c.in_ok-named.named, c.in_ok-named.ensures.read, inr (inr (inr (c.in_ok-input.input, c.in_ok-input.ensures.read, tells)))))
+    (λ fault tells. inr (c.in_ok-named.named, c.in_ok-named.ensures.read, inr (inr (c.in_ok-input.input, c.in_ok-input.ensures.read, tells))))
     (ended_err c.end_journal.result c.send_over-sent.result _ _ _ c.end_journal.ensures.refused c.send_over-sent.ensures.refused c.send_over-sent.ensures.sent)
 
 pub returns-clause-unwritten : goal.returns-clause-unwritten
@@ -39,7 +39,7 @@ returns-in_err-input-clause-refused g c =
 pub returns-in_err-journal-clause-refused : goal.returns-in_err-journal-clause-refused
 returns-in_err-journal-clause-refused g c =
     told_so c.from_residual-in_err-journal.result _ _ c.from_residual-in_err-journal.ensures.1
-    (inr (c.in_ok-named.named, c.in_ok-named.ensures.read, inr (begun_fault refl c.in_err-journal.ensures.refused)))
+    (inr (c.in_ok-named.named, c.in_ok-named.ensures.read, inr (inl (c.in_err-journal.ensures.refused, refl))))
 
 pub returns-clause-went : goal.returns-clause-went
 returns-clause-went g c = ended_ok c.end_journal.result c.send_over-sent.result _ c.end_journal.ensures.ended c.send_over-sent.ensures.went
@@ -50,7 +50,7 @@ returns-clause-told g c =
     c.end_journal.ensures.refused c.send_over-sent.ensures.told c.send_over-sent.ensures.went c.send_over-sent.ensures.sent
 
 pub returns-in_err-named-clause-told : goal.returns-in_err-named-clause-told
-returns-in_err-named-clause-told g c = told_so c.from_residual.result _ _ c.from_residual.ensures.1 (noted_at _ _ _ _ _ (named_at _ _ _ _ c.requires.yet c.in_err-named.ensures.refused))
+returns-in_err-named-clause-told g c = told_so c.from_residual.result _ _ c.from_residual.ensures.1 (noted_at _ _ _ _ _ (named_at (g.R.InputFiles.finds c.args.rt.now) _ _ _ c.requires.yet c.in_err-named.ensures.refused))
 
 pub returns-in_err-input-clause-told : goal.returns-in_err-input-clause-told
 returns-in_err-input-clause-told g c = told_so c.from_residual-in_err-input.result _ _ c.from_residual-in_err-input.ensures.1 (noted_at _ _ _ _ _ (checked_at _ _ _ c.in_ok-named.named _ c.requires.yet c.in_err-input.ensures.refused))

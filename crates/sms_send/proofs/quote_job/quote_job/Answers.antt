@@ -7,14 +7,14 @@ use Rattle.sms_send.proofs.quote_job.quote_job.Goals as goal
 pub returns-clause-quoted : goal.returns-clause-quoted
 returns-clause-quoted g c =
     on_ok_weaker c.quote_told.result
-    (set_up_quotes g.R.File.Read.remaining _ _ _ c.in_ok-accounts.field-0 _ _
+    (set_up_quotes (g.R.InputFiles.finds c.args.rt.now) _ _ _ _ c.in_ok-accounts.field-0 _ _
     (record { input = c.in_ok-config.ensures.octets; one = c.as_slice.ensures.value; two = c.as_slice-2.ensures.value; says = c.in_ok-accounts.ensures.setup }))
     c.quote_told.ensures.quoted
 
 pub returns-clause-refused : goal.returns-clause-refused
 returns-clause-refused g c =
     IfErr-weaker c.quote_told.result _ _
-    (λ fault tells. set_up_tells g.R.File.Read.remaining _ _ _ c.in_ok-accounts.field-0 c.args.config _ _ fault
+    (λ fault tells. set_up_tells (g.R.InputFiles.finds c.args.rt.now) _ _ _ c.in_ok-accounts.field-0 c.args.config _ _ fault
     (record { input = c.in_ok-config.ensures.octets; one = c.as_slice.ensures.value; two = c.as_slice-2.ensures.value; says = c.in_ok-accounts.ensures.setup }) tells)
     c.quote_told.ensures.refused
 
@@ -23,12 +23,12 @@ returns-clause-unwritten g c = c.quote_told.ensures.unwritten
 
 pub returns-in_err-config-clause-refused : goal.returns-in_err-config-clause-refused
 returns-in_err-config-clause-refused g c =
-    told_so c.from_residual-in_err-config.result _ _ c.from_residual-in_err-config.ensures.1 (config_tells g.R.File.Read.remaining c.args.config _ _ _ c.in_err-config.ensures.refused)
+    told_so c.from_residual-in_err-config.result _ _ c.from_residual-in_err-config.ensures.1 (config_tells (g.R.InputFiles.finds c.args.rt.now) c.args.config _ _ _ c.in_err-config.ensures.refused)
 
 pub returns-in_err-accounts-clause-refused : goal.returns-in_err-accounts-clause-refused
 returns-in_err-accounts-clause-refused g c =
     told_so c.from_residual-in_err-accounts.result _ _ c.from_residual-in_err-accounts.ensures.1
-    (setup_tells g.R.File.Read.remaining c.args.config _ _ _ _ _ c.in_ok-config.ensures.octets c.as_slice.ensures.value c.in_err-accounts.ensures.refused)
+    (setup_tells (g.R.InputFiles.finds c.args.rt.now) c.args.config _ _ _ _ _ c.in_ok-config.ensures.octets c.as_slice.ensures.value c.in_err-accounts.ensures.refused)
 
 pub returns-in_err-config-clause-unwritten : goal.returns-in_err-config-clause-unwritten
 returns-in_err-config-clause-unwritten g c = told_so c.from_residual-in_err-config.result _ _ c.from_residual-in_err-config.ensures.1 (λ other. refl)

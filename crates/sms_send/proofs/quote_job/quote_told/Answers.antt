@@ -11,7 +11,7 @@ returns-clause-quoted g c = told_on _ c.tell_behind.result c.quote_named-quoted.
 pub returns-clause-refused : goal.returns-clause-refused
 returns-clause-refused g c =
     told_err c.tell_behind.result c.quote_named-quoted.result _ c.tell_behind.ensures.refused c.quote_named-quoted.ensures.refused c.quote_named-quoted.ensures.quoted
-    (untold_names g.R.File.Read.remaining c.args.names c.args.config.now _ _)
+    (untold_names (g.R.InputFiles.finds c.args.rt.now) c.args.names c.args.config.now _ _)
 
 pub returns-clause-unwritten : goal.returns-clause-unwritten
 returns-clause-unwritten g c = told_quiet c.tell_behind.result c.quote_named-quoted.result _ c.tell_behind.ensures.refused c.quote_named-quoted.ensures.unwritten

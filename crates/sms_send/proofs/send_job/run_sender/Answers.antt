@@ -28,7 +28,7 @@ returns-in_err-write_report-clause-refused g c =
     (inr (
       c.in_ok-input.input,
       c.in_ok-input.ensures.read,
-      unwritten_told _ _ c.in_ok-ended.ended _ _ _ c.in_ok-ended.ensures.sent c.in_err-write_report.ensures.failed c.in_err-write_report.ensures.front (λ memory. ap g.W.Write.contents (c.in_err-write_report.ensures.quiet memory)),
+      unwritten_told (g.D.Dial.refuses c.args.dial.now) _ _ c.in_ok-ended.ended _ _ _ c.in_ok-ended.ensures.sent c.in_err-write_report.ensures.failed c.in_err-write_report.ensures.front (λ memory. ap g.W.Write.contents (c.in_err-write_report.ensures.quiet memory)),
     ))
 
 pub returns-in_err-input-clause-unwritten : goal.returns-in_err-input-clause-unwritten

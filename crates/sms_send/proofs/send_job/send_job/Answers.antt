@@ -1,5 +1,6 @@
 use Rattle.std.proofs.Common.{refl}
 use Rattle.std.proofs.lemmas.Result.{IfErr-weaker, IfOk-weaker}
+use Rattle.sms_send.specs.Noted.{TellsBegin}
 use Rattle.sms_send.proofs.Noting.{noted_sends, noted_tells, plain_sends, plain_tells, tells_setup}
 use Rattle.sms_send.proofs.Sendings.{of_two}
 use Rattle.sms_send.proofs.Telling.{told_so}
@@ -9,28 +10,28 @@ use Rattle.sms_send.proofs.send_job.send_job.Goals as goal
 pub returns-in-None-clause-sent : goal.returns-in-None-clause-sent
 returns-in-None-clause-sent g c =
     IfOk-weaker c.send_plain.result _ _
-    (λ status sent. plain_sends c.args.order.strict g.R.File.Read.remaining _ _ _ c.in_ok-accounts.field-0 c.args.order.journal _ _ status c.in-None.is
+    (λ status sent. plain_sends c.args.order.strict (g.R.InputFiles.finds c.args.rt.now) _ _ _ _ c.in_ok-accounts.field-0 c.args.order.journal _ _ status c.in-None.is
     (record { input = c.in_ok-config.ensures.octets; one = c.as_slice.ensures.value; two = c.as_slice-in-None.ensures.value; says = c.in_ok-accounts.ensures.setup }) sent)
     c.send_plain.ensures.sent
 
 pub returns-in-None-clause-refused : goal.returns-in-None-clause-refused
 returns-in-None-clause-refused g c =
     IfErr-weaker c.send_plain.result _ _
-    (λ fault tells. plain_tells g.R.File.Read.remaining _ _ _ c.in_ok-accounts.field-0 c.args.centre c.args.order _ _ fault c.in-None.is
+    (λ fault tells. plain_tells (TellsBegin (g.R.JournalFiles.makes c.args.rt.now) (g.R.JournalFiles.refuses c.args.rt.now)) (g.R.InputFiles.finds c.args.rt.now) _ _ _ c.in_ok-accounts.field-0 c.args.centre c.args.order _ _ fault c.in-None.is
     (record { input = c.in_ok-config.ensures.octets; one = c.as_slice.ensures.value; two = c.as_slice-in-None.ensures.value; says = c.in_ok-accounts.ensures.setup }) tells)
     c.send_plain.ensures.refused
 
 pub returns-clause-sent : goal.returns-clause-sent
 returns-clause-sent g c =
     IfOk-weaker c.send_noted.result _ _
-    (λ status sent. noted_sends c.args.order.strict g.R.File.Read.remaining _ _ _ c.in_ok-accounts.field-0 c.args.order.journal _ _ _ status c.in-Some.is
+    (λ status sent. noted_sends c.args.order.strict (g.R.InputFiles.finds c.args.rt.now) _ _ _ _ c.in_ok-accounts.field-0 c.args.order.journal _ _ _ status c.in-Some.is
     (record { input = c.in_ok-config.ensures.octets; one = c.as_slice.ensures.value; two = c.as_slice-in-Some.ensures.value; says = c.in_ok-accounts.ensures.setup }) sent)
     c.send_noted.ensures.sent
 
 pub returns-clause-refused : goal.returns-clause-refused
 returns-clause-refused g c =
     IfErr-weaker c.send_noted.result _ _
-    (λ fault tells. noted_tells g.R.File.Read.remaining _ _ _ c.in_ok-accounts.field-0 c.args.centre c.args.order _ _ _ fault c.in-Some.is
+    (λ fault tells. noted_tells (TellsBegin (g.R.JournalFiles.makes c.args.rt.now) (g.R.JournalFiles.refuses c.args.rt.now)) (g.R.InputFiles.finds c.args.rt.now) _ _ _ c.in_ok-accounts.field-0 c.args.centre c.args.order _ _ _ fault c.in-Some.is
     (record { input = c.in_ok-config.ensures.octets; one = c.as_slice.ensures.value; two = c.as_slice-in-Some.ensures.value; says = c.in_ok-accounts.ensures.setup }) tells)
     c.send_noted.ensures.refused
 
@@ -48,7 +49,7 @@ returns-in_err-config-clause-refused g c =
 pub returns-in_err-accounts-clause-refused : goal.returns-in_err-accounts-clause-refused
 returns-in_err-accounts-clause-refused g c =
     told_so c.from_residual-in_err-accounts.result _ _ c.from_residual-in_err-accounts.ensures.1
-    (tells_setup g.R.File.Read.remaining c.args.centre c.args.order _ _ _ _ _
+    (tells_setup (TellsBegin (g.R.JournalFiles.makes c.args.rt.now) (g.R.JournalFiles.refuses c.args.rt.now)) (g.R.InputFiles.finds c.args.rt.now) c.args.centre c.args.order _ _ _ _ _
     c.in_ok-config.ensures.octets c.as_slice.ensures.value c.in_err-accounts.ensures.refused)
 
 pub returns-in_err-config-clause-unwritten : goal.returns-in_err-config-clause-unwritten

@@ -5,6 +5,8 @@ use Rattle.sms_book.specs.Tariffs.{Price}
 use Rattle.sms_book.specs.declared.opening.Opening.{Opening}
 use Rattle.sms_worker.specs.EndOf.{IsEndOf}
 use Rattle.sms_worker.specs.declared.message.Message.{Message}
+use Rattle.sms_pdu.specs.declared.command.Mode.{Mode}
+use Rattle.sms_bind.specs.declared.settings.Settings.{Settings}
 use Rattle.sms_driver.specs.Answered.{AreHeard}
 use Rattle.sms_driver.specs.BindEnds.{AreBinds}
 use Rattle.sms_deal.specs.Deals.{dealt}
@@ -13,7 +15,7 @@ use Rattle.sms_driver.specs.Numbered.{AreBelow, AreNumbered}
 use Rattle.sms_driver.specs.SendFaults.{IsFaultOfOne}
 use Rattle.sms_send.proofs.Sendings.{told_at}
 use Rattle.sms_send.specs.Faults.{IsToldAt}
-use Rattle.sms_send.specs.Sent.{AreSettingsOf, IsRulesOf}
+use Rattle.sms_send.specs.Sent.{AreSettingsOf, IsFaultIn, IsRulesOf}
 use Rattle.sms_driver.specs.Statements.{AreRows}
 use Rattle.sms_files.specs.declared.config.Config.{Config}
 use Rattle.sms_send.proofs.sender.send_all.Goals as goal
@@ -48,7 +50,15 @@ returns-clause-sent g c =
 pub returns-in-Err-clause-refused : goal.returns-in-Err-clause-refused
 returns-in-Err-clause-refused g c =
     let e = c.into_parts-config.ensures in
-    (c.in-Err.fault, subst (λ (k : Config). IsFaultOfOne k.limits.binds c.in-Err.fault) e.config c.in-Err.ensures.refused, c.in-Err.ensures.sent, c.from-told.ensures)
+    let refuses = g.D.Dial.refuses c.args.dial.now in
+    let told = g.D.Dial.told c.args.dial.now in
+    let binds = c.into_parts-config.result.0.limits.binds in
+    let mode = ap (λ (s : Settings). s.mode) c.settings_of-settings.ensures.settings in (
+      c.in-Err.fault,
+      subst (λ (k : Config). IsFaultIn refuses told k c.in-Err.fault) e.config (subst (λ (m : Mode). IsFaultOfOne refuses told m binds c.in-Err.fault) mode c.in-Err.ensures.refused),
+      c.in-Err.ensures.sent,
+      c.from-told.ensures,
+    )
 
 pub returns-in-Err-clause-told : goal.returns-in-Err-clause-told
 returns-in-Err-clause-told g c =

@@ -8,10 +8,10 @@ pub returns-clause-sent : goal.returns-clause-sent
 returns-clause-sent g c =
     IfOk-weaker c.send_input.result _ _
     (λ status sends. (
-      c.in_ok-accounts.accounts,
-      c.in_ok-messages.messages,
-      c.in_ok-tariff.tariff,
-      c.in_ok-tariff.ensures.named,
+      _,
+      _,
+      _,
+      (c.in_ok-accounts.ensures.found, c.in_ok-messages.ensures.found, c.in_ok-tariff.ensures.named),
       record {
         input = c.in_ok-input.input;
         read = c.in_ok-input.ensures.read;
@@ -26,13 +26,13 @@ returns-clause-sent g c =
 pub returns-clause-refused : goal.returns-clause-refused
 returns-clause-refused g c =
     IfErr-weaker c.send_input.result _ _
-    (λ fault tells. inr (inr (inr (
-      c.in_ok-accounts.accounts,
-      c.in_ok-messages.messages,
-      c.in_ok-tariff.tariff,
-      c.in_ok-tariff.ensures.named,
+    (λ fault tells. inr (
+      _,
+      _,
+      _,
+      (c.in_ok-accounts.ensures.found, c.in_ok-messages.ensures.found, c.in_ok-tariff.ensures.named),
       inr (c.in_ok-input.input, c.in_ok-input.ensures.read, tells),
-    ))))
+    ))
     c.send_input.ensures.refused
 
 pub returns-clause-status : goal.returns-clause-status
@@ -42,18 +42,18 @@ pub returns-clause-unwritten : goal.returns-clause-unwritten
 returns-clause-unwritten g c = c.send_input.ensures.unwritten
 
 pub returns-in_err-accounts-clause-refused : goal.returns-in_err-accounts-clause-refused
-returns-in_err-accounts-clause-refused g c = told_so c.from_residual.result _ _ c.from_residual.ensures.1 (inl c.in_err-accounts.ensures)
+returns-in_err-accounts-clause-refused g c = told_so c.from_residual.result _ _ c.from_residual.ensures.1 (inl (inl c.in_err-accounts.ensures.lost))
 
 pub returns-in_err-messages-clause-refused : goal.returns-in_err-messages-clause-refused
-returns-in_err-messages-clause-refused g c = told_so c.from_residual-in_err-messages.result _ _ c.from_residual-in_err-messages.ensures.1 (inr (inl c.in_err-messages.ensures))
+returns-in_err-messages-clause-refused g c = told_so c.from_residual-in_err-messages.result _ _ c.from_residual-in_err-messages.ensures.1 (inl (inr (inl (c.in_err-messages.ensures.lost, (_, c.in_ok-accounts.ensures.found)))))
 
 pub returns-in_err-tariff-clause-refused : goal.returns-in_err-tariff-clause-refused
-returns-in_err-tariff-clause-refused g c = told_so c.from_residual-in_err-tariff.result _ _ c.from_residual-in_err-tariff.ensures.1 (inr (inr (inl c.in_err-tariff.ensures.refused)))
+returns-in_err-tariff-clause-refused g c = told_so c.from_residual-in_err-tariff.result _ _ c.from_residual-in_err-tariff.ensures.1 (inl (inr (inr (c.in_err-tariff.ensures.refused.0, c.in_err-tariff.ensures.refused.1, (_, c.in_ok-accounts.ensures.found), (_, c.in_ok-messages.ensures.found)))))
 
 pub returns-in_err-input-clause-refused : goal.returns-in_err-input-clause-refused
 returns-in_err-input-clause-refused g c =
     told_so c.from_residual-in_err-input.result _ _ c.from_residual-in_err-input.ensures.1
-    (inr (inr (inr (c.in_ok-accounts.accounts, c.in_ok-messages.messages, c.in_ok-tariff.tariff, c.in_ok-tariff.ensures.named, inl c.in_err-input.ensures.refused))))
+    (inr (_, _, _, (c.in_ok-accounts.ensures.found, c.in_ok-messages.ensures.found, c.in_ok-tariff.ensures.named), inl c.in_err-input.ensures.refused))
 
 pub returns-in_err-accounts-clause-unwritten : goal.returns-in_err-accounts-clause-unwritten
 returns-in_err-accounts-clause-unwritten g c = told_so c.from_residual.result _ _ c.from_residual.ensures.1 (λ other. refl)
@@ -77,13 +77,13 @@ pub returns-clause-told : goal.returns-clause-told
 returns-clause-told g c = c.send_input.ensures.told
 
 pub returns-in_err-accounts-clause-told : goal.returns-in_err-accounts-clause-told
-returns-in_err-accounts-clause-told g c = told_so c.from_residual.result _ _ c.from_residual.ensures.1 (file_at _ _ _ c.requires.yet c.in_err-accounts.ensures)
+returns-in_err-accounts-clause-told g c = told_so c.from_residual.result _ _ c.from_residual.ensures.1 (file_at _ _ _ c.requires.yet c.in_err-accounts.ensures.lost.0)
 
 pub returns-in_err-messages-clause-told : goal.returns-in_err-messages-clause-told
-returns-in_err-messages-clause-told g c = told_so c.from_residual-in_err-messages.result _ _ c.from_residual-in_err-messages.ensures.1 (file_at _ _ _ c.requires.yet c.in_err-messages.ensures)
+returns-in_err-messages-clause-told g c = told_so c.from_residual-in_err-messages.result _ _ c.from_residual-in_err-messages.ensures.1 (file_at _ _ _ c.requires.yet c.in_err-messages.ensures.lost.0)
 
 pub returns-in_err-tariff-clause-told : goal.returns-in_err-tariff-clause-told
-returns-in_err-tariff-clause-told g c = told_so c.from_residual-in_err-tariff.result _ _ c.from_residual-in_err-tariff.ensures.1 (file_at _ _ _ c.requires.yet c.in_err-tariff.ensures.refused.0)
+returns-in_err-tariff-clause-told g c = told_so c.from_residual-in_err-tariff.result _ _ c.from_residual-in_err-tariff.ensures.1 (file_at _ _ _ c.requires.yet c.in_err-tariff.ensures.refused.0.0)
 
 pub returns-in_err-input-clause-told : goal.returns-in_err-input-clause-told
 returns-in_err-input-clause-told g c = told_so c.from_residual-in_err-input.result _ _ c.from_residual-in_err-input.ensures.1 (read_at _ _ _ c.requires.yet c.in_err-input.ensures.refused)

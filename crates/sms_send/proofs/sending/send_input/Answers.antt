@@ -22,7 +22,7 @@ returns-in_err-ended-clause-refused g c = told_so c.from_residual.result _ _ c.f
 pub returns-in_err-written-clause-refused : goal.returns-in_err-written-clause-refused
 returns-in_err-written-clause-refused g c =
     told_so c.from_residual-in_err-written.result _ _ c.from_residual-in_err-written.ensures.1
-    (unwritten_told _ _ c.in_ok-ended.ended _ _ _ c.in_ok-ended.ensures.sent c.in_err-written.ensures.failed c.in_err-written.ensures.front (λ memory. ap g.W.Write.contents (c.in_err-written.ensures.quiet memory)))
+    (unwritten_told (g.D.Dial.refuses c.args.dial.now) _ _ c.in_ok-ended.ended _ _ _ c.in_ok-ended.ensures.sent c.in_err-written.ensures.failed c.in_err-written.ensures.front (λ memory. ap g.W.Write.contents (c.in_err-written.ensures.quiet memory)))
 
 pub returns-in_err-ended-clause-unwritten : goal.returns-in_err-ended-clause-unwritten
 returns-in_err-ended-clause-unwritten g c = told_so c.from_residual.result _ _ c.from_residual.ensures.1 (λ other. refl)
