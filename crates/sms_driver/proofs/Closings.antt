@@ -1,8 +1,7 @@
 -- Why binds were closed, from what their workers say.
-use Rattle.std.proofs.Common.{◌≡◌, ◌+◌, ◌-◌, ◌++◌, ◌<◌, ◌⊎◌, ℕ, zero, suc, true, List, [], ◌∷◌, length, map, Option, Some, None, refl, sym, ap, ◌∙◌, subst, arith, inl, inr, append_assoc, append-nil}
+use Rattle.std.proofs.Common.{◌≡◌, ◌+◌, ◌-◌, ◌++◌, ◌<◌, ℕ, zero, suc, List, [], ◌∷◌, length, map, Option, Some, None, refl, sym, ap, ◌∙◌, subst, arith, inl, inr, append_assoc, append-nil}
 use Rattle.std.specs.Prelude.{take, drop, slice_get, IsSome}
 use Rattle.std.specs.List.{AllByRecursion, AllZip}
-use Rattle.sms_worker.specs.Closing.{IsClosed}
 use Rattle.sms_worker.specs.declared.closure.ClosedBy.{ClosedBy}
 use Rattle.sms_worker.specs.declared.closure.ClosedBy.TheVariants.{Down, Turns}
 use Rattle.sms_worker.specs.declared.ends.MessageEnd.{MessageEnd}

@@ -1,6 +1,7 @@
 -- The numbers of a bind's seats, as they are joined into its keeper's.
 use Rattle.std.proofs.Common.{◌≡◌, ◌+◌, ◌-◌, ◌++◌, ◌≤◌, ◌<◌, ℕ, zero, suc, List, [], ◌∷◌, length, map, refl, sym, ap, ◌∙◌, subst, arith, append_assoc, append-nil}
-use Rattle.std.specs.Prelude.{take, drop}
+use Rattle.std.specs.Prelude.{take, drop, max}
+use Rattle.std.proofs.Math.Nat.{le-max_left, le-max_right}
 use Rattle.sms_core.specs.Numbers.{times, AllBelow}
 use Rattle.sms_window.specs.declared.outcome.Closed.{Closed}
 use Rattle.sms_window.specs.declared.view.View.{View}
@@ -19,7 +20,7 @@ next_views f n i xs xs' x low is =
     ((λ j. take (e j) (map f (is j))), (λ j. drop (e j) (map f (is j))))
 
 pub none_joined : (v : View) → HasJoined v [] v
-none_joined v = record { names = omega arith; slots = omega arith; numbers = sym (append-nil v.numbers); first = refl }
+none_joined v = record { names = omega arith; slots = omega arith; numbers = sym (append-nil v.numbers); first = refl; seen = omega arith; others_seen = tt }
 
 -- a seat that was taken in goes before those that are taken in behind it
 pub joined_first : (v u w own : View) (word : ℕ) (rest : List View) → u ≡ met_with (joined v own) word → HasJoined u rest w → HasJoined v (own ∷ rest) w
@@ -27,6 +28,10 @@ joined_first v u w own word rest is h =
     let family : u.family ≡ v.family + own.family = ap (λ (x : View). x.family) is in
     let slots : u.slots ≡ v.slots + own.slots = ap (λ (x : View). x.slots) is in
     let first : u.first ≡ v.first = ap (λ (x : View). x.first) is in
+    let knows : u.seen ≡ max v.seen own.seen = ap (λ (x : View). x.seen) is in
+    let mine : v.seen ≤ max v.seen own.seen = le-max_left v.seen own.seen in
+    let theirs : own.seen ≤ max v.seen own.seen = le-max_right v.seen own.seen in
+    let more = h.seen in
     let n = h.names in
     let s = h.slots in
     record {
@@ -34,6 +39,8 @@ joined_first v u w own word rest is h =
       slots = omega arith;
       numbers = h.numbers ∙ ap (λ (x : View). x.numbers ++ numbers_of rest) is ∙ append_assoc v.numbers own.numbers (numbers_of rest);
       first = h.first ∙ first;
+      seen = omega arith;
+      others_seen = (omega arith, h.others_seen);
     }
 
 -- where none is left, all were taken in
@@ -80,7 +87,7 @@ pub all_closed : (workers : ℕ) (ks ds vs : List View) (cs : List Closed) → A
 all_closed workers ks ds vs cs h = subst (AreClosed workers ks ds vs) (append-nil cs) h
 
 -- of two lists, each is below the top where they are below it together
-below_behind : (top : ℕ) (xs ys : List ℕ) → AllBelow top (xs ++ ys) → AllBelow top ys
+pub below_behind : (top : ℕ) (xs ys : List ℕ) → AllBelow top (xs ++ ys) → AllBelow top ys
 below_behind top [] ys a = a
 below_behind top (x ∷ xs) ys a = below_behind top xs ys a.1
 

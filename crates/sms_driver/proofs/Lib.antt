@@ -17,4 +17,5 @@ pub mod Sitting
 pub mod Starts
 pub mod Sums
 pub mod Telling
+pub mod Unbindings
 pub mod Windows

@@ -8,7 +8,7 @@ ghost use Rattle.sms_book.specs.Shares.{AreAll};
 ghost use Rattle.sms_book.specs.Sums.{IsSumOf};
 ghost use Rattle.sms_worker.specs.declared.ends.MessageEnd.{MessageEnd};
 ghost use Rattle.sms_driver.specs.BindEnds.{outcome_of, AreBinds};
-ghost use Rattle.sms_unbind.specs.Unbinds.{IsTried};
+ghost use Rattle.sms_unbind.specs.Unbinds.{HasTried};
 ghost use Rattle.sms_driver.specs.Closings.{AreTold};
 ghost use Rattle.sms_deal.specs.Deals.{dealt};
 ghost use Rattle.sms_driver.specs.Numbered.{AllDrewOnce, DrewBelow};
@@ -153,7 +153,7 @@ pub fn conclude<N: BookName, W: Drop>(
     requires shares { AreAll N.book.workers (map (λ d. d.shares) done.items) }
     requires readers { map (λ d. d.seat.window) left.readers.items ≡ map (λ b. b.window) left.shared_binds.items }
     requires driver_seats { map (λ s. s.seat.window) left.driver_seats.items ≡ map (λ b. b.window) left.shared_binds.items }
-    requires tried { AllByRecursion (λ s. IsTried s.unbinding) left.driver_seats.items }
+    requires tried { AllByRecursion HasTried left.driver_seats.items }
     requires rings { AllZip IsPair (flat (map (λ d. d.producers.items) left.readers.items)) (map (λ d. d.consumer) done.items) }
     requires seats { map (λ d. d.seat.window) done.items ≡ windows left.workers (map (λ b. b.window) left.shared_binds.items) }
     ensures ends { (es : List MessageEnd) → length es ≡ count → map (λ d. d.ends.items) done.items ≡ dealt (length done.items) 0 es → result.ends.items ≡ es }

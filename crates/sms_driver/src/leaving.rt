@@ -4,7 +4,7 @@ ghost use Rattle.std.specs.Prelude.{◌≡◌, ◌<◌, ◌∷◌, ◌++◌, Lis
 ghost use Rattle.std.specs.List.{AllByRecursion};
 ghost use Rattle.atomic_table.specs.Seated.{TableId};
 ghost use Rattle.sms_driver.specs.BindEnds.{outcome_of, AreBinds};
-ghost use Rattle.sms_unbind.specs.Unbinds.{IsTried};
+ghost use Rattle.sms_unbind.specs.Unbinds.{HasTried};
 ghost use Rattle.sms_driver.specs.Closings.{AreTold};
 ghost use Rattle.sms_driver.specs.Joined.{AreClosed, HasJoined, IsClosed};
 ghost use Rattle.sms_driver.specs.Numbered.{AllDrewOnce, DrewOnce};
@@ -97,7 +97,7 @@ pub(crate) fn close_all<W: Drop>(
     requires room { IsFree (length left.shared_binds.items) room }
     requires readers { map (λ d. d.seat.window) left.readers.items ≡ map (λ b. b.window) left.shared_binds.items }
     requires driver_seats { map (λ s. s.seat.window) left.driver_seats.items ≡ map (λ b. b.window) left.shared_binds.items }
-    requires tried { AllByRecursion (λ s. IsTried s.unbinding) left.driver_seats.items }
+    requires tried { AllByRecursion HasTried left.driver_seats.items }
     requires seats { map (λ s. s.window) seats.items ≡ windows left.workers (map (λ b. b.window) left.shared_binds.items) }
     ensures binds { AreBinds (length left.shared_binds.items) left.workers result.items }
     ensures outcomes { map (λ b. b.reader) result.items ≡ map outcome_of left.readers.items }

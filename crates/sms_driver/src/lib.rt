@@ -33,5 +33,5 @@ pub use driver::drive_all;
 pub use ending::Sending;
 pub use fault::{BindFailure, SendFault};
 pub use latch::{Latch, Unsaid, Word};
-pub use sms_unbind::{Unasked, Unbinding};
+pub use sms_unbind::{AllDrawn, NoFrame, NoneDrawn, Unasked, Unbinding, WasDown, WireBroken};
 pub use start::{Begun, Start};

@@ -8,7 +8,7 @@ ghost use Rattle.sms_worker.specs.declared.message.Message.{Message};
 ghost use Rattle.rtrb.specs.Ring.{received, IsPair};
 ghost use Rattle.sms_driver.specs.Answered.{AreHeard, Hears};
 ghost use Rattle.sms_driver.specs.BindEnds.{AreBinds};
-ghost use Rattle.sms_unbind.specs.Unbinds.{IsTried};
+ghost use Rattle.sms_unbind.specs.Unbinds.{HasTried};
 ghost use Rattle.sms_driver.specs.Closings.{AreExplained, SaysWhy};
 ghost use Rattle.sms_deal.specs.Deals.{dealt};
 ghost use Rattle.sms_driver.specs.Ended.{HaveEnded};
@@ -163,7 +163,7 @@ fn send_over<
     ensures rings { IfOk result (λ r. AllZip IsPair (flat (map (λ d. d.producers.items) r.readers.items)) (map (λ d. d.consumer) r.done.items)) }
     ensures readers { IfOk result (λ r. map (λ d. d.seat.window) r.readers.items ≡ map (λ b. b.window) shared_binds.now) }
     ensures driver_seats { IfOk result (λ r. map (λ s. s.seat.window) r.driver_seats.items ≡ map (λ b. b.window) shared_binds.now) }
-    ensures tried { IfOk result (λ r. AllByRecursion (λ s. IsTried s.unbinding) r.driver_seats.items) }
+    ensures tried { IfOk result (λ r. AllByRecursion HasTried r.driver_seats.items) }
     ensures refused { IfErr result IsOfStart }
 {
     let mut driver_seats = driver_seats;

@@ -2,7 +2,7 @@
 
 ghost use Rattle.std.specs.Prelude.{◌≡◌, length, map, IfErr, IfOk, MatchResult, OnOk};
 ghost use Rattle.std.specs.List.{AllByRecursion};
-ghost use Rattle.sms_unbind.specs.Unbinds.{IsTried};
+ghost use Rattle.sms_unbind.specs.Unbinds.{HasTried};
 ghost use Rattle.sms_driver.specs.Latches.{IsSaidAt, word_of};
 ghost use Rattle.sms_driver.specs.SendFaults.{IsOfStart, StopsAt};
 ghost use Rattle.sms_driver.specs.Threads.{AreSeated, HasRoom, HaveLeft, HaveReturned, IsCrew, IsNoCrew, IsPrepared, IsWhole};
@@ -219,7 +219,7 @@ fn end_binds<N: BookName, W: Write, G: Gate, K: Clock, P: Pause, R: Wait>(
 )
     requires driver_seats { map (λ s. s.seat.window) driver_seats.old.items ≡ map (λ b. b.window) shared_binds.now }
     ensures driver_seats { map (λ s. s.seat.window) driver_seats.new.items ≡ map (λ s. s.seat.window) driver_seats.old.items }
-    ensures tried { AllByRecursion (λ s. IsTried s.unbinding) driver_seats.new.items }
+    ensures tried { AllByRecursion HasTried driver_seats.new.items }
 {
     match word {
         Word::Go => hang_up_all(

@@ -1,38 +1,21 @@
 //! How binds are ended (SMPP 3.4 4.2).
 
-ghost use Rattle.std.specs.Prelude.{◌≡◌, ◌+◌, ◌<◌, Err, IfErr, IfOk, IfSome, IsOk, OnOk, map, length, take};
+ghost use Rattle.std.specs.Prelude.{◌≡◌, ◌+◌, ◌<◌, Err, IfErr, IfOk, IsOk, OnOk, map, length, take};
 ghost use Rattle.std.specs.List.{AllByRecursion};
-ghost use Rattle.sms_unbind.specs.Unbinds.{HasAsked, IsTried, SpellsUnbind};
+ghost use Rattle.sms_unbind.specs.Unbinds.{HasAsked, HasTried, IsOfMark};
 
 use crate::binds::{Binds, DriverSeat, SharedBind};
-use crate::unbinding::{Unasked, Unbinding};
-use sms_bind::WireFault;
-use sms_pdu::{BodyRef, Frame, PduRef, encode_into};
+use crate::unasked::{Unasked, down_now, hand_over, number_for, unbind_frame};
+use crate::unbinding::Unbinding;
 use sms_window::WindowSeat;
-use sms_worker::{Clock, Number, Pause, Rules, draw};
+use sms_worker::{Clock, Pause, Rules};
 use std::alloc::Global;
 use std::io::Write;
 use std::sync::Wait;
 use std::sync::atomic::Ordering;
 
-/// The frame of the unbind with this number; none where memory runs out.
-fn unbind_frame(alloc: Global, number: u32) -> Option<Frame>
-    ensures { IfSome result (λ frame. SpellsUnbind number frame) }
-{
-    let pdu = PduRef {
-        status: 0,
-        number,
-        body: BodyRef::Unbind,
-    };
-    let mut octets = Vec::new(alloc);
-    match encode_into(&mut octets, &pdu) {
-        Ok(_) => Some(Frame::new(octets)),
-        Err(_) => None,
-    }
-}
-
-/// Writes an unbind. None is written where the bind is down, all its numbers are drawn, or memory
-/// runs out.
+/// Writes an unbind. None is written where the bind is down, no number can be drawn, memory runs out, or an
+/// earlier write failed.
 fn ask<W: Write, R: Wait>(
     rt: &R,
     alloc: Global,
@@ -41,23 +24,19 @@ fn ask<W: Write, R: Wait>(
 ) -> Unbinding
     requires own { seat.old.window ≡ shared.now.window }
     ensures window { seat.new.window ≡ seat.old.window }
-    ensures tried { IsTried result }
     ensures asked { HasAsked seat.old.view result seat.new.view }
+    ensures down { IsOfMark shared.now.line.down result }
 {
-    if shared.line.down.look().is_some() {
-        return Unbinding::Unasked(Unasked::Down);
+    if let Some(was) = down_now(&shared.line) {
+        return Unbinding::Unasked(Unasked::Down(was));
     }
-    let Number::Drawn(number) = draw(&shared.window, seat) else {
-        return Unbinding::Unasked(Unasked::NoNumber);
+    let number = match number_for(&shared.window, seat) {
+        Ok(number) => number,
+        Err(why) => return Unbinding::Unasked(why),
     };
-    let Some(frame) = unbind_frame(alloc, number) else {
-        return Unbinding::Unasked(Unasked::OutOfMemory);
-    };
-    let sent = shared.line.wire.lock(rt).send(frame);
-    match sent {
-        Ok(receipt) => Unbinding::Sent(receipt),
-        Err(WireFault::Write(receipt)) => Unbinding::Failed(receipt),
-        Err(WireFault::Broken) => Unbinding::Unasked(Unasked::Broken),
+    match unbind_frame(alloc, number) {
+        Ok(frame) => hand_over(&mut shared.line.wire.lock(rt), number, frame),
+        Err(no) => Unbinding::Unasked(Unasked::OutOfMemory(no)),
     }
 }
 
@@ -70,7 +49,7 @@ fn unbind<W: Write, R: Wait>(
 )
     requires own { driver_seat.old.seat.window ≡ shared.now.window }
     ensures window { driver_seat.new.seat.window ≡ driver_seat.old.seat.window }
-    ensures tried { IsTried driver_seat.new.unbinding }
+    ensures tried { HasTried driver_seat.new }
 {
     driver_seat.unbinding = ask(rt, alloc, shared, &mut driver_seat.seat);
 }
@@ -87,7 +66,7 @@ fn unbind_at<W: Write, R: Wait>(
     requires there { bind < length shared_binds.now }
     requires driver_seats { map (λ s. s.seat.window) driver_seats.old.items ≡ map (λ b. b.window) shared_binds.now }
     ensures driver_seats { map (λ s. s.seat.window) driver_seats.new.items ≡ map (λ s. s.seat.window) driver_seats.old.items }
-    ensures tried { AllByRecursion (λ s. IsTried s.unbinding) (take bind driver_seats.old.items) → AllByRecursion (λ s. IsTried s.unbinding) (take (bind + 1) driver_seats.new.items) }
+    ensures tried { AllByRecursion HasTried (take bind driver_seats.old.items) → AllByRecursion HasTried (take (bind + 1) driver_seats.new.items) }
 {
     let driver_seat = &mut driver_seats[bind];
     unbind(rt, alloc, &shared_binds[bind], driver_seat);
@@ -102,7 +81,7 @@ pub fn unbind_all<W: Write, R: Wait>(
 )
     requires driver_seats { map (λ s. s.seat.window) driver_seats.old.items ≡ map (λ b. b.window) shared_binds.now }
     ensures driver_seats { map (λ s. s.seat.window) driver_seats.new.items ≡ map (λ s. s.seat.window) driver_seats.old.items }
-    ensures tried { AllByRecursion (λ s. IsTried s.unbinding) driver_seats.new.items }
+    ensures tried { AllByRecursion HasTried driver_seats.new.items }
 {
     for bind in 0..shared_binds.len() {
         unbind_at(rt, alloc, shared_binds, driver_seats, bind);
@@ -165,7 +144,7 @@ fn wait_until_down<W, K: Clock, P: Pause>(
     pause: &P,
 )
     // It begins once an unbind was tried at each bind.
-    requires tried { AllByRecursion (λ s. IsTried s.unbinding) driver_seats.now }
+    requires tried { AllByRecursion HasTried driver_seats.now }
 {
     let begun = clock.now_ms();
     for _turn in 0..rules.turns {
@@ -198,7 +177,7 @@ pub fn hang_up_all<W: Write, K: Clock, P: Pause, R: Wait>(
 )
     requires driver_seats { map (λ s. s.seat.window) driver_seats.old.items ≡ map (λ b. b.window) shared_binds.now }
     ensures driver_seats { map (λ s. s.seat.window) driver_seats.new.items ≡ map (λ s. s.seat.window) driver_seats.old.items }
-    ensures tried { AllByRecursion (λ s. IsTried s.unbinding) driver_seats.new.items }
+    ensures tried { AllByRecursion HasTried driver_seats.new.items }
 {
     unbind_all(rt, alloc, shared_binds, driver_seats);
     wait_until_down(shared_binds, driver_seats.as_slice(), rules, clock, pause);

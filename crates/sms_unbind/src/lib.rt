@@ -6,9 +6,11 @@
 mod binds;
 mod following;
 mod hanging_up;
+mod unasked;
 mod unbinding;
 
 pub use binds::{BindParts, Binds, DriverSeat, SharedBind};
 pub use following::Following;
 pub use hanging_up::{hang_up_all, unbind_all, unless_failed};
-pub use unbinding::{Unasked, Unbinding};
+pub use unasked::{AllDrawn, NoFrame, NoneDrawn, Unasked, WasDown, WireBroken};
+pub use unbinding::Unbinding;

@@ -1,19 +1,7 @@
 //! What came of an unbind.
 
+use crate::unasked::Unasked;
 use sms_bind::Receipt;
-
-/// Why no unbind was written.
-#[derive(Clone, Copy, Debug, PartialEq, Eq)]
-pub enum Unasked {
-    /// The bind was down.
-    Down,
-    /// No sequence number was left, or none could be drawn.
-    NoNumber,
-    /// There was no memory for its frame.
-    OutOfMemory,
-    /// An earlier write had failed.
-    Broken,
-}
 
 /// What came of a bind's unbind (SMPP 3.4 4.2.1).
 #[derive(Drop)]

@@ -2,7 +2,7 @@ use Rattle.std.proofs.Common.{◌≡◌, rules, arith, ◌∙◌, [], ◌∷◌,
 use Rattle.std.proofs.lemmas.List.{length-map}
 use Rattle.std.specs.Vec.Iter.{into_iter_items}
 use Rattle.sms_driver.specs.BindEnds.{outcome_of, IsBindEnd}
-use Rattle.sms_unbind.specs.Unbinds.{IsTried}
+use Rattle.sms_unbind.specs.Unbinds.{HasTried}
 use Rattle.sms_driver.proofs.Drawn.{all_closed, closed_more, first_once, none_closed}
 use Rattle.sms_driver.specs.Closings.{AreTold}
 use Rattle.sms_driver.specs.declared.bind_end.BindEnd.{BindEnd}
@@ -10,6 +10,7 @@ use Rattle.sms_driver.proofs.Closings.{all_told, none_told, told_more}
 use Rattle.sms_driver.specs.Joined.{AreClosed}
 use Rattle.sms_driver.proofs.Moves.{all_moved, moved, none_moved}
 use Rattle.sms_driver.proofs.Windows.{map_more}
+use Rattle.sms_driver.proofs.Unbindings.{is_unbound}
 use Rattle.sms_driver.proofs.Returning.{firsts, first_windows, first_holds, more_hold}
 use Rattle.sms_unbind.proofs.Places.{same_length}
 use Rattle.sms_driver.proofs.leaving.close_all.Goals as goal
@@ -50,7 +51,7 @@ loop-shared-preserved g c =
     let steps = c.in-Some.ensures.steps.0 in
     let readers = firsts (λ d. d.seat.window) (λ b. b.window) c.loop-shared.readers.items c.take_first-reader.new.queue.items _ _ c.take_first-reader.result c.in-Some.shared c.take_first-reader.ensures steps i.readers in
     let driver_seats = firsts (λ s. s.seat.window) (λ b. b.window) c.loop-shared.driver_seats.items c.take_first-driver_seat.new.queue.items _ _ c.take_first-driver_seat.result c.in-Some.shared c.take_first-driver_seat.ensures steps i.driver_seats in
-    let tried = first_holds (λ s. IsTried s.unbinding) c.loop-shared.driver_seats.items c.take_first-driver_seat.new.queue.items c.take_first-driver_seat.result c.take_first-driver_seat.ensures i.tried in
+    let tried = first_holds HasTried c.loop-shared.driver_seats.items c.take_first-driver_seat.new.queue.items c.take_first-driver_seat.result c.take_first-driver_seat.ensures i.tried in
     record {
       readers = readers.1;
       driver_seats = driver_seats.1;
@@ -61,7 +62,7 @@ loop-shared-preserved g c =
       told = λ rest h. told_more c.args.left.workers _ _ _ _ rest _ (AreTold c.args.left.workers c.args.causes.items) (ap (map (λ b. b.closing)) adds ∙ map_more (λ b. b.closing) c.loop-shared.ends.items _) c.next_closing-closing.ensures.left c.next_closing-closing.ensures.closing h (i.told (_ ∷ rest));
       closed = λ rest h. closed_more c.args.left.workers _ _ _ _ _ _ _ _ _ _ rest _ (AreClosed c.args.left.workers (map (λ d. d.seat.view) c.args.left.readers.items) (map (λ s. s.seat.view) c.args.left.driver_seats.items) (map (λ s. s.view) c.args.seats.items)) (ap (map (λ b. b.window)) adds ∙ map_more (λ b. b.window) c.loop-shared.ends.items _) (ap (map (λ d. d.seat.view)) c.take_first-reader.ensures) (ap (map (λ s. s.seat.view)) c.take_first-driver_seat.ensures) c.close_one-window.ensures.left c.close_one-window.ensures.closed h (i.closed (_ ∷ rest));
       once = λ rest. i.once (first_once c.args.left.workers _ _ c.in-Some.shared (map (λ s. s.view) c.loop-shared.seats.items) _ steps c.close_one-window.ensures.left c.close_one-window.ensures.once rest);
-      ended = more_hold (IsBindEnd c.args.left.workers) c.loop-shared.ends.items _ _ adds i.ended (record { workers_are = refl; unbound = tried.0 });
+      ended = more_hold (IsBindEnd c.args.left.workers) c.loop-shared.ends.items _ _ adds i.ended (record { workers_are = refl; unbound = is_unbound _ _ _ _ _ _ tried.0.1 c.close_one-window.ensures.closed });
       room = search rules;
     }
 

@@ -2,7 +2,7 @@ use Rattle.std.proofs.Common.{◌≡◌, ◌≤◌, ◌+◌, ◌++◌, List, len
 use Rattle.std.specs.List.{AllByRecursion}
 use Rattle.std.specs.Vec.Iter.{into_iter_items}
 use Rattle.sms_driver.specs.BindEnds.{outcome_of, IsBindEnd}
-use Rattle.sms_unbind.specs.Unbinds.{IsTried}
+use Rattle.sms_unbind.specs.Unbinds.{HasTried}
 use Rattle.sms_window.specs.declared.outcome.Closed.{Closed}
 use Rattle.sms_driver.specs.Closings.{AreTold}
 use Rattle.sms_driver.specs.declared.bind_end.BindClosing.{BindClosing}
@@ -15,7 +15,7 @@ abbrev pub invariant-loop-shared : goal.invariant-loop-shared
 invariant-loop-shared g l = record {
   readers : map (λ d. d.seat.window) l.readers.items ≡ map (λ b. b.window) (into_iter_items l.shared-iterator);
   driver_seats : map (λ s. s.seat.window) l.driver_seats.items ≡ map (λ b. b.window) (into_iter_items l.shared-iterator);
-  tried : AllByRecursion (λ s. IsTried s.unbinding) l.driver_seats.items;
+  tried : AllByRecursion HasTried l.driver_seats.items;
   seats : map (λ s. s.window) l.seats.items ≡ windows l.workers (map (λ b. b.window) (into_iter_items l.shared-iterator));
   each : length l.ends.items + length (into_iter_items l.shared-iterator) ≡ length l.fn.left.shared_binds.items;
   outcomes : map (λ b. b.reader) l.ends.items ++ map outcome_of l.readers.items ≡ map outcome_of l.fn.left.readers.items;

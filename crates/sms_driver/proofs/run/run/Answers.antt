@@ -1,4 +1,4 @@
-use Rattle.std.proofs.Common.{◌≡◌, ◌*◌, ℕ, List, length, map, rules, arith, sym, ap, ◌∙◌, subst, inl, inr, refl}
+use Rattle.std.proofs.Common.{◌≡◌, ◌*◌, ℕ, List, length, map, rules, arith, sym, ap, ◌∙◌, subst, inl, refl}
 use Rattle.std.specs.List.{AllZip}
 use Rattle.sms_book.specs.Name.{BookId}
 use Rattle.sms_book.specs.Portions.{row_at}

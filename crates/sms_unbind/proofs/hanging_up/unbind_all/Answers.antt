@@ -1,7 +1,7 @@
 use Rattle.std.proofs.Common.{rules, arith, ◌∙◌, ◌≤◌, subst, length}
 use Rattle.std.proofs.lemmas.List.{take_all}
 use Rattle.std.specs.List.{AllByRecursion}
-use Rattle.sms_unbind.specs.Unbinds.{IsTried}
+use Rattle.sms_unbind.specs.Unbinds.{HasTried}
 use Rattle.sms_unbind.proofs.Places.{same_length}
 use Rattle.sms_unbind.proofs.hanging_up.unbind_all.Goals as goal
 
@@ -18,4 +18,4 @@ returns-clause-tried g c =
     let i = c.loop-bind.invariant in
     let long = same_length (λ s. s.seat.window) (λ b. b.window) c.loop-bind.driver_seats.items c.args.shared_binds.now (i.windows ∙ c.requires.driver_seats) in
     let all : length c.args.shared_binds.now ≤ c.loop-bind.bind = search rules in
-    subst (AllByRecursion (λ s. IsTried s.unbinding)) (take_all c.loop-bind.bind c.loop-bind.driver_seats.items (omega arith)) i.tried
+    subst (AllByRecursion HasTried) (take_all c.loop-bind.bind c.loop-bind.driver_seats.items (omega arith)) i.tried

@@ -2,7 +2,7 @@ use Rattle.std.proofs.Common.{arith, ◌∙◌, ◌<◌, [], ◌∷◌, sym, ap,
 use Rattle.std.proofs.lemmas.List.{take_more_set}
 use Rattle.std.specs.List.{AllByRecursion}
 use Rattle.sms_pdu.proofs.Fronts.{AllByRecursion-append}
-use Rattle.sms_unbind.specs.Unbinds.{IsTried}
+use Rattle.sms_unbind.specs.Unbinds.{HasTried}
 use Rattle.sms_unbind.proofs.Places.{same_length, at_place, kept_at}
 use Rattle.sms_unbind.proofs.hanging_up.unbind_at.Goals as goal
 
@@ -23,5 +23,5 @@ returns-clause-tried g c before =
     let long = same_length (λ s. s.seat.window) (λ b. b.window) c.args.driver_seats.now.items c.args.shared_binds.now c.requires.driver_seats in
     let here : c.args.bind < length c.args.shared_binds.now = c.requires.there in
     let low : c.args.bind < length c.args.driver_seats.now.items = omega arith in
-    subst (AllByRecursion (λ s. IsTried s.unbinding)) (sym (take_more_set c.args.driver_seats.now.items c.args.bind c.unbind.new.driver_seat low))
-    (AllByRecursion-append (λ s. IsTried s.unbinding) _ (c.unbind.new.driver_seat ∷ []) before (c.unbind.ensures.tried, tt))
+    subst (AllByRecursion HasTried) (sym (take_more_set c.args.driver_seats.now.items c.args.bind c.unbind.new.driver_seat low))
+    (AllByRecursion-append HasTried _ (c.unbind.new.driver_seat ∷ []) before (c.unbind.ensures.tried, tt))

@@ -1,7 +1,7 @@
 use Rattle.std.proofs.Common.{◌≡◌, ◌++◌, [], ◌∙◌, ap, sym, subst, rules}
 use Rattle.sms_pdu.specs.Frame.{IsFrame}
 use Rattle.sms_pdu.proofs.Spellings.{spelling_is_frame}
-use Rattle.sms_unbind.proofs.hanging_up.unbind_frame.Goals as goal
+use Rattle.sms_unbind.proofs.unasked.unbind_frame.Goals as goal
 
 pub new-requires : goal.new-requires
 new-requires c =

@@ -1,0 +1,116 @@
+//! Why no unbind was written. Each reason is had from what was asked alone, so that none is made up.
+
+ghost use Rattle.std.specs.Prelude.{◌≡◌, ◌≢◌, ◌∷◌, [], Err, IfErr, IfOk, IfSome, MatchResult};
+ghost use Rattle.sms_bind.specs.Wires.{is_broken};
+ghost use Rattle.sms_window.specs.Drawing.{HasDrawn};
+ghost use Rattle.sms_unbind.specs.Unbinds.{IsHandedOver, IsWhy, SpellsUnbind, WasDownAt};
+ghost use Rattle.sms_unbind.specs.declared.unasked.Unasked.TheVariants.{Down};
+ghost use Rattle.sms_unbind.specs.declared.unasked.WasDown.{WasDown};
+
+use crate::unbinding::Unbinding;
+use sms_bind::{DownCause, Line, Wire, WireFault};
+use sms_core::TOP_NUMBER;
+use sms_pdu::{BodyRef, Frame, PduRef, encode_into};
+use sms_window::{Window, WindowSeat};
+use sms_worker::{Number, draw};
+use std::alloc::Global;
+use std::io::Write;
+
+/// That the line was down, for this cause. Only a look that found it so gives one.
+#[derive(Clone, Copy, Debug, PartialEq, Eq)]
+pub struct WasDown {
+    cause: DownCause,
+}
+
+/// That all numbers to this one, the last, are drawn. Only a draw gives one.
+#[derive(Clone, Copy, Debug, PartialEq, Eq)]
+pub struct AllDrawn {
+    last: u32,
+}
+
+/// That no number was drawn, since each try met another seat's step. Only draws give one.
+#[derive(Clone, Copy, Debug, PartialEq, Eq)]
+pub struct NoneDrawn {
+    _met: (),
+}
+
+/// That memory was refused for the frame of the unbind with this number. Only making it gives one.
+#[derive(Clone, Copy, Debug, PartialEq, Eq)]
+pub struct NoFrame {
+    number: u32,
+}
+
+/// That the wire was broken when the unbind with this number was handed to it. Only handing it over gives one.
+#[derive(Clone, Copy, Debug, PartialEq, Eq)]
+pub struct WireBroken {
+    number: u32,
+}
+
+/// Why no unbind was written.
+#[derive(Clone, Copy, Debug, PartialEq, Eq)]
+pub enum Unasked {
+    /// The bind was down.
+    Down(WasDown),
+    /// The window has given all its numbers.
+    UsedUp(AllDrawn),
+    /// No number could be drawn.
+    Contended(NoneDrawn),
+    /// There was no memory for its frame.
+    OutOfMemory(NoFrame),
+    /// An earlier write had failed.
+    Broken(WireBroken),
+}
+
+/// That the line is down, if it is now.
+pub(crate) fn down_now<W>(line: &Line<W>) -> Option<WasDown>
+    ensures { IfSome result (WasDownAt line.now.down) }
+{
+    match line.down.look() {
+        Some(down) => Some(WasDown {
+            cause: line.down.cause(&down),
+        }),
+        None => None,
+    }
+}
+
+/// Draws the sequence_number of an unbind.
+pub(crate) fn number_for(window: &Window, seat: &mut WindowSeat) -> Result<u32, Unasked>
+    requires own { seat.old.window ≡ window.now }
+    ensures window { seat.new.window ≡ seat.old.window }
+    ensures drawn { MatchResult result (λ number. HasDrawn seat.old.view (number ∷ []) seat.new.view) (λ why. IsWhy seat.old.view why seat.new.view) }
+    ensures looked { (was : WasDown) → result ≢ Err (Down was) }
+{
+    match draw(window, seat) {
+        Number::Drawn(number) => Ok(number),
+        Number::UsedUp => Err(Unasked::UsedUp(AllDrawn { last: TOP_NUMBER })),
+        Number::Contended => Err(Unasked::Contended(NoneDrawn { _met: () })),
+    }
+}
+
+/// The frame of the unbind with this number.
+pub(crate) fn unbind_frame(alloc: Global, number: u32) -> Result<Frame, NoFrame>
+    ensures spelled { IfOk result (λ frame. SpellsUnbind number frame) }
+    ensures number { IfErr result (λ no. no.number ≡ number) }
+{
+    let pdu = PduRef {
+        status: 0,
+        number,
+        body: BodyRef::Unbind,
+    };
+    let mut octets = Vec::new(alloc);
+    match encode_into(&mut octets, &pdu) {
+        Ok(_) => Ok(Frame::new(octets)),
+        Err(_) => Err(NoFrame { number }),
+    }
+}
+
+/// Hands the frame of the unbind with this number to the wire.
+pub(crate) fn hand_over<W: Write>(wire: &mut Wire<W>, number: u32, frame: Frame) -> Unbinding
+    ensures { IsHandedOver (is_broken wire.old) number frame result }
+{
+    match wire.send(frame) {
+        Ok(receipt) => Unbinding::Sent(receipt),
+        Err(WireFault::Write(receipt)) => Unbinding::Failed(receipt),
+        Err(WireFault::Broken) => Unbinding::Unasked(Unasked::Broken(WireBroken { number })),
+    }
+}
