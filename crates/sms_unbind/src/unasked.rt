@@ -22,6 +22,15 @@ pub struct WasDown {
     cause: DownCause,
 }
 
+impl WasDown {
+    /// Why it was down.
+    pub fn cause(&self) -> DownCause
+        ensures { result ≡ self.now.cause }
+    {
+        self.cause
+    }
+}
+
 /// That all numbers to this one, the last, are drawn. Only a draw gives one.
 #[derive(Clone, Copy, Debug, PartialEq, Eq)]
 pub struct AllDrawn {

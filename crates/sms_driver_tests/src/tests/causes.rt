@@ -2,9 +2,9 @@
 
 use super::driving::{Beside, bind_settings, messages, rules};
 use super::same::same;
-use sms_bind::ReaderCause;
+use sms_bind::{DownCause, ReaderCause};
 use sms_book::Opening;
-use sms_driver::{BindClosing, Dial, DownBy, Latch, Sending, Start, drive_all};
+use sms_driver::{BindClosing, Dial, DownBy, Latch, Sending, Start, Unasked, Unbinding, drive_all};
 use sms_worker::{MessageRefusal, MessageResult, Rules};
 use std::alloc::{AllocError, Global};
 use std::test::Fail;
@@ -113,13 +113,21 @@ fn rules_with(alloc: Global, turns: u16, answer_ms: u32) -> Result<Rules, AllocE
 }
 
 // How the reader of the one bind of a sending ended and how many errors it met, why the bind was closed to its
-// worker, and how many messages were refused for that.
+// worker, how many messages were refused for that, and for which cause its line was down when it wasn't unbound.
 #[derive(Drop)]
 struct Told {
     cause: ReaderCause,
     errors: u64,
     closing: BindClosing,
     refused: usize,
+    down: Option<DownCause>,
+}
+
+fn down_of(unbinding: &Unbinding) -> Option<DownCause> {
+    match unbinding {
+        Unbinding::Unasked(Unasked::Down(was)) => Some(was.cause()),
+        _ => None,
+    }
 }
 
 fn told_of(sending: &Sending) -> Result<Told, Fail> {
@@ -137,6 +145,7 @@ fn told_of(sending: &Sending) -> Result<Told, Fail> {
         errors: bind.reader().errors,
         closing: bind.closing(),
         refused,
+        down: down_of(bind.unbinding()),
     })
 }
 
@@ -284,5 +293,6 @@ fn a_write_that_fails_closes_its_bind(rt: HostRuntime) -> Result<(), Fail> {
         turns_over: false,
     };
     same(&rt, (told.closing, told.refused), (wanted, 2));
+    same(&rt, told.down, Some(DownCause::Write));
     Ok(())
 }
