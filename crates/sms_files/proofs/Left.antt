@@ -7,7 +7,7 @@ use Rattle.csv.specs.declared.parser.State.{State}
 use Rattle.csv.specs.declared.parser.State.TheVariants as st
 use Rattle.csv.specs.declared.reader.Reader.{Reader}
 use Rattle.sms_files.specs.Fields.{Record}
-use Rattle.sms_files.specs.Records.{GivesFirst, records_left}
+use Rattle.sms_files.specs.Records.{GivesFirst, reader_left}
 
 -- a record that was read took some bytes, or is the empty one at the end of the text
 abbrev pub Takes : List ℕ → Read → Type 0
@@ -77,21 +77,21 @@ after-read s xs (Some p) found fields s2 ys e (is_found, fields_are, state_is, r
 
 told-read : {R : Type 0} (remaining : R → Option (List ℕ)) (b : Reader R) (s : State) (before after : Option (List ℕ)) (found : Bool) (fields : Record)
     → source_of remaining b ≡ after → ReadsNext default_config s before after found fields b.state
-    → IfSome before (λ bytes. GivesFirst (records_from default_config (length bytes + 1) s bytes) found fields (records_left remaining b))
+    → IfSome before (λ bytes. GivesFirst (records_from default_config (length bytes + 1) s bytes) found fields (reader_left remaining b))
 told-read remaining b s None after found fields e h = tt
 told-read remaining b s (Some xs) None found fields e h = absurd h
 told-read remaining b s (Some xs) (Some ys) found fields e h = rw e (after-read s xs (next_record default_config s [] [] xs) found fields b.state ys refl h)
 
 from-source : {R : Type 0} (remaining : R → Option (List ℕ)) (a b : Reader R) (o after : Option (List ℕ)) (found : Bool) (fields : Record)
     → source_of remaining a ≡ o → source_of remaining b ≡ after → ReadsNext default_config a.state o after found fields b.state
-    → IfSome (records_left remaining a) (λ left. GivesFirst left found fields (records_left remaining b))
+    → IfSome (reader_left remaining a) (λ left. GivesFirst left found fields (reader_left remaining b))
 from-source remaining a b None after found fields e f h = rw e tt
 from-source remaining a b (Some xs) after found fields e f h = rw e (told-read remaining b a.state (Some xs) after found fields f h)
 
 -- one read of a record gives the first of those that are left
 pub first-left : {R : Type 0} (remaining : R → Option (List ℕ)) (a b : Reader R) (found : Bool) (fields : Record)
     → a.config ≡ default_config → ReadRecord remaining a b found fields
-    → IfSome (records_left remaining a) (λ left. GivesFirst left found fields (records_left remaining b))
+    → IfSome (reader_left remaining a) (λ left. GivesFirst left found fields (reader_left remaining b))
 first-left remaining a b found fields plain r =
     let (read, begun, _, _, _, _) = r in
     let after : source_of remaining b ≡ pending_of (remaining b.rdr) b = rw begun refl in

@@ -5,6 +5,8 @@ use Rattle.csv.specs.declared.error.ErrorKind.{ErrorKind}
 use Rattle.csv.specs.declared.error.ErrorKind.TheVariants as kind
 use Rattle.csv.specs.declared.reader.Reader.{Reader}
 use Rattle.csv.specs.declared.reader.Trim.TheVariants as trim
+use Rattle.sms_pdu.specs.Devices.{device}
+use Rattle.sms_pdu.specs.declared.tap.Tap.{Tap}
 use Rattle.sms_files.specs.Faults.{IsDevice}
 use Rattle.sms_files.specs.Fields.{Record}
 use Rattle.sms_files.specs.declared.fault.InputFault.{InputFault}
@@ -23,8 +25,12 @@ abbrev pub IsDeviceError : ErrorKind → Type 0
 IsDeviceError k = (is_io k ≡ true) ⊎ (k ≡ kind.OutOfMemory)
 
 -- the records that a reader has left, where the bytes underneath are told
-abbrev pub records_left : {R : Type 0} → (R → Option (List ℕ)) → Reader R → Option (List Record)
-records_left remaining a = option_map (λ bytes. records_from default_config (length bytes + 1) (reader_state a) bytes) (source_of remaining a)
+abbrev pub reader_left : {R : Type 0} → (R → Option (List ℕ)) → Reader R → Option (List Record)
+reader_left remaining a = option_map (λ bytes. records_from default_config (length bytes + 1) (reader_state a) bytes) (source_of remaining a)
+
+-- the same of a reader of a file whose errors are counted
+abbrev pub records_left : {R : Type 0} → (R → Option (List ℕ)) → Reader (Tap R) → Option (List Record)
+records_left remaining a = reader_left (λ tap. remaining (device tap)) a
 
 -- a read finds the first of the records that are left, and none where none is left
 abbrev pub GivesFirst : List Record → Bool → Record → Option (List Record) → Type 0

@@ -15,6 +15,7 @@ use crate::rows::is_pair;
 use csv::{ByteRecord, Reader};
 use sms_book::Opening;
 use sms_core::{MOST_ACCOUNTS, MOST_TOPPED};
+use sms_pdu::Tap;
 use std::alloc::{AllocError, Global};
 use std::io::Read;
 
@@ -92,7 +93,7 @@ pub fn read_accounts<R: Read + Drop>(alloc: Global, input: R) -> Result<Vec<Open
 /// The accounts that the reader has left, which come after the header.
 fn read_openings<R: Read>(
     alloc: Global,
-    reader: &mut Reader<R>,
+    reader: &mut Reader<Tap<R>>,
     record: &mut ByteRecord,
 ) -> Result<Vec<Opening>, InputFault>
     requires reads { ReadsAll reader.old }

@@ -1,5 +1,6 @@
 //! What is wrong with what is read.
 
+use crate::unread::Unread;
 use std::alloc::{AllocError, AllocFailed};
 use std::fmt;
 
@@ -49,7 +50,7 @@ impl fmt::Display for Source {
 pub enum InputFault {
     /// What was opened can't be read.
     #[error("file {0}")]
-    Unreadable(Source),
+    Unreadable(Unread),
     /// The record of a file, counted from 1, isn't one that may stand there.
     #[error("{0} record {1}")]
     BadRecord(Source, usize),

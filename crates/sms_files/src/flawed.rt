@@ -11,13 +11,14 @@ use crate::fault::{InputFault, Source};
 use crate::flaw::{Flaw, flaw_alone, name_of};
 use crate::records::{next_record, read_all};
 use csv::{ByteRecord, Reader};
+use sms_pdu::Tap;
 use std::alloc::Global;
 use std::io::Read;
 
 /// Reads the record at this place, from 1, of those that the reader has left, and tells whether there
 /// is one.
 fn seek<R: Read>(
-    reader: &mut Reader<R>,
+    reader: &mut Reader<Tap<R>>,
     record: &mut ByteRecord,
     source: Source,
     place: usize,
@@ -35,7 +36,7 @@ fn seek<R: Read>(
 
 /// The flaw of a name that a record behind the header and before this place has, too.
 fn named_before<R: Read>(
-    reader: &mut Reader<R>,
+    reader: &mut Reader<Tap<R>>,
     record: &mut ByteRecord,
     source: Source,
     place: usize,

@@ -24,6 +24,7 @@ mod rows;
 mod schedule;
 mod setup;
 mod toml_value;
+mod unread;
 
 pub use accounts::read_accounts;
 pub use config::{Answers, Config, Connection, FileNames, Flags, Retry};
@@ -38,3 +39,4 @@ pub use messages::{MessageText, read_texts};
 pub use quoting::{check_quotes, ends_quoted};
 pub use schedule::{Schedule, read_schedule};
 pub use setup::{Setup, setup_of};
+pub use unread::Unread;

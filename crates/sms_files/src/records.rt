@@ -1,16 +1,19 @@
 //! The records of a CSV file, one at a time, and those after the first as rows of one kind.
 
-ghost use Rattle.std.specs.Prelude.{◌≡◌, ◌≤◌, ◌+◌, None, Bool, List, ℕ, false, true, IfErr, IfOk, IfSome, OnOk, length, option_map};
+ghost use Rattle.std.specs.Prelude.{◌≡◌, ◌<◌, ◌≤◌, ◌+◌, None, Bool, List, ℕ, false, true, IfErr, IfOk, IfSome, OnOk, length, option_map};
 ghost use Rattle.std.specs.List.{AllZip};
-ghost use Rattle.csv.specs.Reading.{error_kind, is_io};
+ghost use Rattle.csv.specs.Reading.{error_kind, is_io, reader_source};
 ghost use Rattle.csv.specs.Records.{fields_of};
-ghost use Rattle.sms_files.specs.Faults.{IsDevice};
+ghost use Rattle.sms_files.specs.Faults.{CountsErrors, IsDevice, IsUnreadable};
 ghost use Rattle.sms_files.specs.Fields.{records_of};
 ghost use Rattle.sms_files.specs.Records.{GivesFirst, IsDeviceError, IsReadAs, ReadsAll, TellsRecords, record_fault, records_left};
-ghost use Rattle.sms_files.specs.declared.fault.InputFault.TheVariants.{OutOfMemory, Unreadable};
+ghost use Rattle.sms_files.specs.declared.fault.InputFault.TheVariants.{OutOfMemory};
+ghost use Rattle.sms_pdu.specs.Devices.{faults_of};
 
 use crate::fault::{InputFault, Source};
+use crate::unread::Unread;
 use csv::{ByteRecord, Error, Reader, ReaderBuilder};
+use sms_pdu::Tap;
 use std::alloc::{AllocError, Global};
 use std::io::Read;
 
@@ -31,7 +34,7 @@ pub trait FromRecord: Drop {
 /// the first faulty one, or to one past the most that there may be.
 pub fn read_records<T: FromRecord, R: Read>(
     alloc: Global,
-    reader: &mut Reader<R>,
+    reader: &mut Reader<Tap<R>>,
     record: &mut ByteRecord,
     source: Source,
     most: usize,
@@ -60,20 +63,21 @@ pub fn read_records<T: FromRecord, R: Read>(
     Ok(rows)
 }
 
-/// A reader of all records of a file, of whatever lengths, the header among them.
-pub fn read_all<R: Read>(alloc: Global, input: R) -> Reader<R>
+/// A reader of all records of a file, of whatever lengths, the header among them. It counts the errors
+/// that the file answers.
+pub fn read_all<R: Read>(alloc: Global, input: R) -> Reader<Tap<R>>
     ensures reads { ReadsAll result }
     ensures whole { records_left R.remaining result ≡ option_map records_of (R.remaining input) }
 {
     ReaderBuilder::new()
         .has_headers(false)
         .flexible(true)
-        .from_reader(alloc, input)
+        .from_reader(alloc, Tap::new(input))
 }
 
 /// Reads the next record into `record`, and tells whether there was one.
 pub fn next_record<R: Read>(
-    reader: &mut Reader<R>,
+    reader: &mut Reader<Tap<R>>,
     record: &mut ByteRecord,
     source: Source,
 ) -> Result<bool, InputFault>
@@ -82,22 +86,27 @@ pub fn next_record<R: Read>(
     ensures first { IfOk result (λ found. IfSome (records_left R.remaining reader.old) (λ left.
         GivesFirst left found (fields_of «record».new) (records_left R.remaining reader.new))) }
     ensures device { IfErr result (IsDevice source) }
+    ensures counted { IfErr result (CountsErrors (reader_source reader.new)) }
 {
     match reader.read_byte_record(record) {
         Ok(found) => Ok(found),
-        Err(error) => Err(fault_of(&error, source)),
+        Err(error) => Err(fault_of(&error, reader.get_ref(), source)),
     }
 }
 
-/// The fault that an error in reading a source is.
-fn fault_of(error: &Error, source: Source) -> InputFault
+/// The fault that an error in reading a source is, by the errors that its device answered.
+fn fault_of<T>(error: &Error, device: &Tap<T>, source: Source) -> InputFault
     requires { IsDeviceError (error_kind error.now) }
-    ensures reader { is_io (error_kind error.now) ≡ true → result ≡ Unreadable source }
+    ensures reader { is_io (error_kind error.now) ≡ true → 0 < faults_of device.now → IsUnreadable source result }
     ensures memory { is_io (error_kind error.now) ≡ false → result ≡ OutOfMemory }
+    ensures device { IsDevice source result }
+    ensures counted { CountsErrors device.now result }
 {
-    if error.is_io_error() {
-        InputFault::Unreadable(source)
-    } else {
-        InputFault::OutOfMemory
+    if !error.is_io_error() {
+        return InputFault::OutOfMemory;
+    }
+    match Unread::of(device, source) {
+        Some(unread) => InputFault::Unreadable(unread),
+        None => InputFault::OutOfMemory,
     }
 }

@@ -9,6 +9,7 @@ ghost use Rattle.sms_files.specs.Rows.{AreRows, field_is, is_pair as are_pair};
 use crate::fault::{InputFault, Source};
 use crate::records::{FromRecord, next_record, read_all, read_records};
 use csv::{ByteRecord, Reader};
+use sms_pdu::Tap;
 use std::alloc::Global;
 use std::io::Read;
 
@@ -46,7 +47,7 @@ pub fn read_rows<T: Headed, R: Read + Drop>(
 /// The same of the records that a reader has left, which are all of a file.
 fn rows_left<T: Headed, R: Read>(
     alloc: Global,
-    reader: &mut Reader<R>,
+    reader: &mut Reader<Tap<R>>,
     record: &mut ByteRecord,
     source: Source,
     most: usize,

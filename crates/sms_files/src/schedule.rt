@@ -11,6 +11,7 @@ use crate::field::{number_at, u32_at};
 use crate::records::{FromRecord, next_record, read_all, read_records};
 use csv::{ByteRecord, Reader};
 use sms_core::{CoreError, Event, World};
+use sms_pdu::Tap;
 use std::alloc::{AllocError, Global};
 use std::io::Read;
 
@@ -207,7 +208,7 @@ pub fn read_schedule<R: Read + Drop>(alloc: Global, input: R) -> Result<Schedule
 /// The same of the records that a reader has left, which are all of a file.
 fn schedule_left<R: Read>(
     alloc: Global,
-    reader: &mut Reader<R>,
+    reader: &mut Reader<Tap<R>>,
     record: &mut ByteRecord,
 ) -> Result<Schedule, InputFault>
     requires { ReadsAll reader.old }

@@ -3,7 +3,7 @@
 ghost use Rattle.std.specs.Prelude.{◌≡◌, IfErr, IfOk, IfSome, OnOk, Some, map, option_map};
 ghost use Rattle.csv.specs.Records.{fields_of};
 ghost use Rattle.sms_files.specs.Fields.{records_of};
-ghost use Rattle.sms_files.specs.Records.{GivesFirst, ReadsAll, records_left};
+ghost use Rattle.sms_files.specs.Records.{GivesFirst, ReadsAll, reader_left};
 
 use csv::{ByteRecord, Reader, ReaderBuilder};
 use std::alloc::{AllocError, Global};
@@ -12,7 +12,7 @@ use std::io::Read;
 /// A reader of all records, of whatever lengths, the header among them.
 fn read_all<R: Read>(alloc: Global, input: R) -> Reader<R>
     ensures reads { ReadsAll result }
-    ensures whole { records_left R.remaining result ≡ option_map records_of (R.remaining input) }
+    ensures whole { reader_left R.remaining result ≡ option_map records_of (R.remaining input) }
 {
     ReaderBuilder::new()
         .has_headers(false)
@@ -25,8 +25,8 @@ fn read_all<R: Read>(alloc: Global, input: R) -> Reader<R>
 fn next_record<R: Read>(reader: &mut Reader<R>, record: &mut ByteRecord) -> Result<bool, AllocError>
     requires { ReadsAll reader.old }
     ensures reads { OnOk result (ReadsAll reader.new) }
-    ensures first { IfOk result (λ found. IfSome (records_left R.remaining reader.old) (λ left.
-        GivesFirst left found (fields_of «record».new) (records_left R.remaining reader.new))) }
+    ensures first { IfOk result (λ found. IfSome (reader_left R.remaining reader.old) (λ left.
+        GivesFirst left found (fields_of «record».new) (reader_left R.remaining reader.new))) }
 {
     let Ok(found) = reader.read_byte_record(record) else {
         return Err(AllocError);
@@ -40,7 +40,7 @@ fn records_of_all<R: Read>(
     reader: &mut Reader<R>,
 ) -> Result<Vec<ByteRecord>, AllocError>
     requires reads { ReadsAll reader.old }
-    ensures { IfOk result (λ records. IfSome (records_left R.remaining reader.old) (λ left. map fields_of records.items ≡ left)) }
+    ensures { IfOk result (λ records. IfSome (reader_left R.remaining reader.old) (λ left. map fields_of records.items ≡ left)) }
 {
     let mut records = Vec::new(alloc);
     for _ in 0..u64::MAX {

@@ -14,10 +14,10 @@ use Rattle.sms_files.specs.declared.input.Input.{Input}
 use Rattle.sms_files.specs.declared.setup.Setup.{Setup}
 use Rattle.sms_report.specs.Output.{WritesFront}
 use Rattle.sms_send.specs.Faults.{TellsRead, told_input}
-use Rattle.sms_send.specs.Opened.{AreFound, OfFile}
+use Rattle.sms_send.specs.Opened.{AreFound, OfFile, TellsUnreadFile}
 use Rattle.sms_send.specs.Quoted.{FailsBehind, HasQuote, PrintsFront, PrintsQuote, QuotesAndWarns, QuotesFiles, QuotesNamed, TellsQuoteFiles, TellsQuoteJob, TellsQuoteNamed}
 use Rattle.sms_send.specs.declared.fault.Fault.{Fault}
-use Rattle.sms_send.specs.declared.fault.Fault.TheVariants.{File, OutOfMemory, Output}
+use Rattle.sms_send.specs.declared.fault.Fault.TheVariants.{OutOfMemory, Output}
 use Rattle.sms_send.proofs.Noting.{IsSetUp}
 use Rattle.sms_send.proofs.Sendings.{beside, of_config, of_two}
 
@@ -38,7 +38,7 @@ printed_front given text out old new quote same front = record { text = text; qu
 
 -- a fault of what is read is none of the output
 never_output : (f : InputFault) → told_input f ≡ Output → ⊥
-never_output (input.Unreadable source) e = cc
+never_output (input.Unreadable unread) e = cc
 never_output (input.BadRecord source place) e = cc
 never_output input.NotToml e = cc
 never_output (input.BadKey key) e = cc
@@ -67,7 +67,7 @@ set_up_tells finds items read handed setup name old new fault set tells =
     set.input set.one set.two set.says (λ octets so. inr so) tells))
 
 pub config_tells : (finds : List ℕ → Option Told → Type 0) (name : String Global) (old new : Option (List ℕ)) (fault : Fault)
-    → (fault ≡ OutOfMemory) ⊎ (fault ≡ File name) → TellsQuoteJob finds name old new fault
+    → (fault ≡ OutOfMemory) ⊎ TellsUnreadFile finds name fault → TellsQuoteJob finds name old new fault
 config_tells finds name old new fault told = of_two told
 
 pub setup_tells : (finds : List ℕ → Option Told → Type 0) (name : String Global) (old new : Option (List ℕ)) (fault : Fault) (items octets : List ℕ)

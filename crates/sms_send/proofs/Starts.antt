@@ -13,11 +13,11 @@ use Rattle.sms_files.specs.declared.fault.Source.{Source}
 use Rattle.sms_files.specs.declared.input.Input.{Input}
 use Rattle.sms_send.specs.Faults.{IsToldAt, TellsRead, told_input, with_reason}
 use Rattle.sms_send.specs.Noted.{IsToldNoted, SendsInput, TellsInputOf}
-use Rattle.sms_send.specs.Opened.{TellsMissing}
-use Rattle.sms_send.specs.Runs.{TellsNamedFiles, TellsOpened}
+use Rattle.sms_send.specs.Opened.{TellsMissing, TellsUnreadFile}
+use Rattle.sms_send.specs.Runs.{TellsNamedFiles, TellsOpened, TellsUnread}
 use Rattle.sms_send.specs.Sent.{untold}
 use Rattle.sms_send.specs.declared.fault.Fault.{Fault}
-use Rattle.sms_send.specs.declared.fault.Fault.TheVariants.{BindFailed, File, Journal, Output, OutOfMemory, Unreadable, Unreported}
+use Rattle.sms_send.specs.declared.fault.Fault.TheVariants.{BindFailed, File, Journal, Output, OutOfMemory, Unreported}
 use Rattle.sms_send.specs.declared.run_files.NamedFiles.{NamedFiles}
 use Rattle.sms_send.proofs.Noting.{Ends}
 use Rattle.sms_send.proofs.Reasons.{IsOf}
@@ -27,19 +27,19 @@ use Rattle.sms_send.proofs.Reasons.{IsOf}
 pub file_at : (b : Begun) (name : String Global) (fault : Fault) → b ≡ NotYet → fault ≡ File name → IsToldAt b fault
 file_at b name fault yet is = subst (IsToldAt b) (sym is) yet
 
-pub unreadable_at : (b : Begun) (source : Source) (fault : Fault) → b ≡ NotYet → fault ≡ Unreadable source → IsToldAt b fault
-unreadable_at b source fault yet is = subst (IsToldAt b) (sym is) yet
+pub unreadable_at : (b : Begun) (source : Source) (fault : Fault) → b ≡ NotYet → TellsUnread source fault → IsToldAt b fault
+unreadable_at b source fault yet (unread, is, of) = subst (IsToldAt b) (sym is) yet
 
 pub memory_at : (b : Begun) (fault : Fault) → b ≡ NotYet → fault ≡ OutOfMemory → IsToldAt b fault
 memory_at b fault yet is = subst (IsToldAt b) (sym is) (inl yet)
 
 -- a file's octets, or no memory for them
-pub octets_at : (b : Begun) (name : String Global) (fault : Fault) → b ≡ NotYet → (fault ≡ OutOfMemory) ⊎ (fault ≡ File name) → IsToldAt b fault
-octets_at b name fault yet (inl is) = memory_at b fault yet is
-octets_at b name fault yet (inr is) = file_at b name fault yet is
+pub octets_at : (finds : List ℕ → Option Told → Type 0) (b : Begun) (name : String Global) (fault : Fault) → b ≡ NotYet → (fault ≡ OutOfMemory) ⊎ TellsUnreadFile finds name fault → IsToldAt b fault
+octets_at finds b name fault yet (inl is) = memory_at b fault yet is
+octets_at finds b name fault yet (inr (is, found)) = file_at b name fault yet is
 
 pub input_at : (b : Begun) (f : InputFault) → b ≡ NotYet → IsToldAt b (told_input f)
-input_at b (input.Unreadable source) yet = yet
+input_at b (input.Unreadable unread) yet = yet
 input_at b (input.BadRecord source place) yet = yet
 input_at b input.NotToml yet = yet
 input_at b (input.BadKey key) yet = yet
@@ -51,9 +51,9 @@ read_at b P fault yet (f, holds, is) = subst (IsToldAt b) (sym is) (input_at b f
 
 pub opened_at : (b : Begun) (tariff : Option Told) (fault : Fault) → b ≡ NotYet → TellsOpened tariff fault → IsToldAt b fault
 opened_at b tariff fault yet (inl is) = memory_at b fault yet is
-opened_at b tariff fault yet (inr (inl is)) = unreadable_at b _ fault yet is
-opened_at b tariff fault yet (inr (inr (inl is))) = unreadable_at b _ fault yet is
-opened_at b tariff fault yet (inr (inr (inr (is, some)))) = unreadable_at b _ fault yet is
+opened_at b tariff fault yet (inr (inl tells)) = unreadable_at b _ fault yet tells
+opened_at b tariff fault yet (inr (inr (inl tells))) = unreadable_at b _ fault yet tells
+opened_at b tariff fault yet (inr (inr (inr (tells, some)))) = unreadable_at b _ fault yet tells
 
 pub missing_at : (finds : List ℕ → Option Told → Type 0) (names : FileNames) (b : Begun) (fault : Fault) → b ≡ NotYet → TellsMissing finds names fault → IsToldAt b fault
 missing_at finds names b fault yet (inl (is, lost)) = file_at b _ fault yet is

@@ -122,7 +122,7 @@ lines_of known Words = words_lines (string_bytes known.message)
 lines_of known (Help text) = []
 lines_of known (Version text) = []
 lines_of known (File name) = line (file_text known.file)
-lines_of known (Unreadable source) = line (file_text Other)
+lines_of known (Unreadable unread) = line (file_text Other)
 lines_of known (BadRecord source place) = record_lines (record_of (file_in source) place) known.trouble
 lines_of known NotToml = line (codes "it should be TOML in UTF-8: lines KEY = VALUE")
 lines_of known (BadKey key) = lines_of_key (string_bytes key) known.held

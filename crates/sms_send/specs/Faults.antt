@@ -10,7 +10,7 @@ use Rattle.sms_driver.specs.declared.fault.SendFault.TheVariants as send
 use Rattle.sms_driver.specs.declared.latch.Word.TheVariants.{Go, Leave}
 use Rattle.sms_driver.specs.declared.start.Begun.{Begun}
 use Rattle.sms_driver.specs.declared.start.Begun.TheVariants.{NotYet, Heard}
-use Rattle.sms_files.specs.Faults.{source_name}
+use Rattle.sms_files.specs.Faults.{source_name, unread_source}
 use Rattle.sms_files.specs.declared.fault.InputFault.{InputFault}
 use Rattle.sms_files.specs.declared.fault.InputFault.TheVariants as input
 use Rattle.sms_recovery.specs.declared.fault.RecoveryFault.{RecoveryFault}
@@ -24,7 +24,7 @@ fault_text Words = codes "fault: words"
 fault_text (Help text) = string_bytes text
 fault_text (Version text) = string_bytes text
 fault_text (File name) = codes "fault: file " ++ shown (string_bytes name)
-fault_text (Unreadable source) = codes "fault: file " ++ source_name source
+fault_text (Unreadable unread) = codes "fault: file " ++ source_name (unread_source unread)
 fault_text (BadRecord source place) = codes "fault: " ++ source_name source ++ codes " record " ++ decimal place
 fault_text NotToml = codes "fault: config"
 fault_text (BadKey key) = codes "fault: config " ++ shown (string_bytes key)
@@ -49,7 +49,7 @@ status_of _ = 1
 
 -- what is wrong with what was read, as the program tells it
 abbrev pub told_input : InputFault → Fault
-told_input (input.Unreadable source) = Unreadable source
+told_input (input.Unreadable unread) = Unreadable unread
 told_input (input.BadRecord source place) = BadRecord source place
 told_input input.NotToml = NotToml
 told_input (input.BadKey key) = BadKey key
@@ -68,7 +68,7 @@ told_sending send.OutOfMemory = OutOfMemory
 -- of the messages. No other fault is told of a sending without a journal
 abbrev pub IsToldAt : Begun → Fault → Type 0
 IsToldAt begun (File name) = begun ≡ NotYet
-IsToldAt begun (Unreadable source) = begun ≡ NotYet
+IsToldAt begun (Unreadable unread) = begun ≡ NotYet
 IsToldAt begun (BadRecord source place) = begun ≡ NotYet
 IsToldAt begun NotToml = begun ≡ NotYet
 IsToldAt begun (BadKey key) = begun ≡ NotYet

@@ -14,7 +14,7 @@ use Rattle.sms_files.specs.declared.fault.Source.TheVariants.{Messages}
 use Rattle.sms_files.specs.declared.input.Input.{Input}
 use Rattle.sms_recovery.specs.Files.{Reads, told_of}
 use Rattle.sms_send.specs.Faults.{IsTold, IsToldAt, TellsRead}
-use Rattle.sms_send.specs.Opened.{OfFile}
+use Rattle.sms_send.specs.Opened.{OfFile, TellsUnreadFile}
 use Rattle.sms_send.specs.Runs.{AreNamed, TellsNamedFiles, tariff_in}
 use Rattle.sms_send.specs.Sent.{IsSent, SendsNamed, TellsNamed, TellsSending, report_in, unknown, untold}
 use Rattle.sms_send.specs.Statuses.{status_by}
@@ -163,7 +163,7 @@ abbrev pub TellsBy : (JournalFile → Fault → Type 0) → Bool → (List ℕ �
 TellsBy begins strict finds centre journal octets old new fault =
     TellsRead (TellsConfig octets) fault ⊎ ((config : Config) × IsConfig octets config × TellsThem begins strict finds centre journal config.files octets old new fault)
 
--- what a fault of a sending that is ordered so says: the config's file can't be read, memory ran out, or what it says of its octets
+-- what a fault of a sending that is ordered so says: the config's file can't be opened or read, memory ran out, or what it says of its octets
 abbrev pub TellsOrder : (JournalFile → Fault → Type 0) → (List ℕ → Option Told → Type 0) → Centre → Order → Option (List ℕ) → Option (List ℕ) → Fault → Type 0
 TellsOrder begins finds centre order old new fault =
-    (fault ≡ OutOfMemory) ⊎ (fault ≡ File order.config) ⊎ OfFile finds (string_bytes order.config) (λ octets. TellsBy begins order.strict finds centre order.journal octets old new fault)
+    (fault ≡ OutOfMemory) ⊎ TellsUnreadFile finds order.config fault ⊎ OfFile finds (string_bytes order.config) (λ octets. TellsBy begins order.strict finds centre order.journal octets old new fault)

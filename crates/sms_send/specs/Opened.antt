@@ -37,6 +37,10 @@ AreFound finds names accounts messages tariff =
 abbrev pub TellsLost : (List ℕ → Option Told → Type 0) → String Global → Fault → Type 0
 TellsLost finds name fault = (fault ≡ File name) × finds (string_bytes name) None
 
+-- a file's octets can't be had, and the fault tells its name: none that can be opened is found by that, or one is found, which can't be read
+abbrev pub TellsUnreadFile : (List ℕ → Option Told → Type 0) → String Global → Fault → Type 0
+TellsUnreadFile finds name fault = (fault ≡ File name) × (finds (string_bytes name) None ⊎ IsFound finds (string_bytes name))
+
 -- one of them can't be opened, and those before it are found: accounts, messages, tariff
 abbrev pub TellsMissing : (List ℕ → Option Told → Type 0) → FileNames → Fault → Type 0
 TellsMissing finds names fault =

@@ -11,9 +11,9 @@ use Rattle.sms_quote.specs.QuoteText.{IsQuoteText}
 use Rattle.sms_quote.specs.Warnings.{warning_lines}
 use Rattle.sms_report.specs.Output.{WritesFront}
 use Rattle.sms_send.specs.Faults.{TellsRead}
-use Rattle.sms_send.specs.Opened.{AreFound, OfFile, TellsMissing}
+use Rattle.sms_send.specs.Opened.{AreFound, OfFile, TellsMissing, TellsUnreadFile}
 use Rattle.sms_send.specs.declared.fault.Fault.{Fault}
-use Rattle.sms_send.specs.declared.fault.Fault.TheVariants.{File, OutOfMemory, Output}
+use Rattle.sms_send.specs.declared.fault.Fault.TheVariants.{OutOfMemory, Output}
 
 -- ---- of an input
 
@@ -93,8 +93,8 @@ abbrev pub TellsQuoteFiles : (List ℕ → Option Told → Type 0) → List ℕ 
 TellsQuoteFiles finds octets old new fault =
     TellsRead (TellsConfig octets) fault ⊎ ((config : Config) × IsConfig octets config × TellsQuoteNamed finds config.files octets old new fault)
 
--- what a fault of a quote by the config of this name says: its file can't be read, memory ran out, or what it says of
+-- what a fault of a quote by the config of this name says: its file can't be opened or read, memory ran out, or what it says of
 -- its octets
 abbrev pub TellsQuoteJob : (List ℕ → Option Told → Type 0) → String Global → Option (List ℕ) → Option (List ℕ) → Fault → Type 0
 TellsQuoteJob finds name old new fault =
-    (fault ≡ OutOfMemory) ⊎ (fault ≡ File name) ⊎ OfFile finds (string_bytes name) (λ octets. TellsQuoteFiles finds octets old new fault)
+    (fault ≡ OutOfMemory) ⊎ TellsUnreadFile finds name fault ⊎ OfFile finds (string_bytes name) (λ octets. TellsQuoteFiles finds octets old new fault)

@@ -2,14 +2,17 @@
 use Rattle.std.specs.Prelude.{◌≡◌, ◌≢◌, ◌⊎◌, ℕ, String, List, Option, Some, None, IfSome, option_map, string_bytes}
 use Rattle.std.specs.declared.alloc.Global.{Global}
 use Rattle.sms_files.specs.ConfigFaults.{IsConfig, TellsConfig}
+use Rattle.sms_files.specs.Faults.{unread_source}
 use Rattle.sms_files.specs.Inputs.{Told}
 use Rattle.sms_files.specs.declared.config.Config.{Config}
 use Rattle.sms_files.specs.declared.config.FileNames.{FileNames}
+use Rattle.sms_files.specs.declared.fault.Source.{Source}
 use Rattle.sms_files.specs.declared.fault.Source.TheVariants.{Accounts, Messages, Tariff}
+use Rattle.sms_files.specs.declared.unread.Unread.{Unread}
 use Rattle.sms_send.specs.Faults.{TellsRead}
-use Rattle.sms_send.specs.Opened.{AreFound, OfFile, TellsMissing}
+use Rattle.sms_send.specs.Opened.{AreFound, OfFile, TellsMissing, TellsUnreadFile}
 use Rattle.sms_send.specs.declared.fault.Fault.{Fault}
-use Rattle.sms_send.specs.declared.fault.Fault.TheVariants.{File, OutOfMemory, Unreadable}
+use Rattle.sms_send.specs.declared.fault.Fault.TheVariants.{OutOfMemory, Unreadable}
 use Rattle.sms_send.specs.declared.run_files.NamedFiles.{NamedFiles}
 use Rattle.sms_send.specs.declared.run_files.RunFiles.{RunFiles}
 
@@ -40,13 +43,17 @@ pub record IsRun (finds : List ℕ → Option Told → Type 0) (name written : L
   pub named : AreNamed finds config.files run.named
   pub written_is : OfFile finds written (λ bytes. run.written.items ≡ bytes)
 
+-- a fault tells that this source can't be read; only a device that answered an error gives an `Unread` to tell
+abbrev pub TellsUnread : Source → Fault → Type 0
+TellsUnread source fault = (unread : Unread) × (fault ≡ Unreadable unread) × (unread_source unread ≡ source)
+
 -- what a fault says of opened files: one can't be read, or memory ran out
 abbrev pub TellsOpened : Option Told → Fault → Type 0
 TellsOpened tariff fault =
     (fault ≡ OutOfMemory)
-    ⊎ (fault ≡ Unreadable Accounts)
-    ⊎ (fault ≡ Unreadable Messages)
-    ⊎ ((fault ≡ Unreadable Tariff) × (tariff ≢ None))
+    ⊎ TellsUnread Accounts fault
+    ⊎ TellsUnread Messages fault
+    ⊎ (TellsUnread Tariff fault × (tariff ≢ None))
 
 -- what a fault says of files of these names: one can't be opened, or what it says of them once they are
 abbrev pub TellsNamedFiles : (List ℕ → Option Told → Type 0) → FileNames → Fault → Type 0
@@ -58,9 +65,9 @@ TellsNamedFiles finds names fault =
 abbrev pub TellsConfigured : (List ℕ → Option Told → Type 0) → String Global → List ℕ → Fault → Type 0
 TellsConfigured finds written octets fault =
     TellsRead (TellsConfig octets) fault
-    ⊎ ((config : Config) × IsConfig octets config × (TellsNamedFiles finds config.files fault ⊎ (fault ≡ File written)))
+    ⊎ ((config : Config) × IsConfig octets config × (TellsNamedFiles finds config.files fault ⊎ TellsUnreadFile finds written fault))
 
 -- what a fault says of a run by the config of this name, of which the file of this name was written
 abbrev pub TellsRunFiles : (List ℕ → Option Told → Type 0) → String Global → String Global → Fault → Type 0
 TellsRunFiles finds config written fault =
-    (fault ≡ OutOfMemory) ⊎ (fault ≡ File config) ⊎ OfFile finds (string_bytes config) (λ octets. TellsConfigured finds written octets fault)
+    (fault ≡ OutOfMemory) ⊎ TellsUnreadFile finds config fault ⊎ OfFile finds (string_bytes config) (λ octets. TellsConfigured finds written octets fault)

@@ -5,8 +5,8 @@ ghost use Rattle.toml.specs.Data.{as_str, get_member};
 ghost use Rattle.toml.specs.View.{table_view};
 ghost use Rattle.sms_files.specs.ConfigFaults.{toml_of};
 ghost use Rattle.sms_send.specs.Exposed.{is_some_text as is_text, says_password};
-ghost use Rattle.sms_send.specs.Opened.{OfFile};
-ghost use Rattle.sms_send.specs.declared.fault.Fault.TheVariants.{File, OutOfMemory};
+ghost use Rattle.sms_send.specs.Opened.{OfFile, TellsUnreadFile};
+ghost use Rattle.sms_send.specs.declared.fault.Fault.TheVariants.{OutOfMemory};
 
 use crate::fault::Fault;
 use crate::opened::{InputFiles, octets_of};
@@ -89,7 +89,7 @@ pub fn config_of<R: AllocGlobal + Files + InputFiles + Threads + Clock + Eprint 
     at_length: bool,
 ) -> Result<Vec<u8>, Fault>
     ensures octets { IfOk result (λ octets. OfFile (R.finds rt.now) (string_bytes name) (λ bytes. octets.items ≡ bytes)) }
-    ensures refused { IfErr result (λ fault. (fault ≡ OutOfMemory) ⊎ (fault ≡ File name)) }
+    ensures refused { IfErr result (λ fault. (fault ≡ OutOfMemory) ⊎ TellsUnreadFile (R.finds rt.now) name fault) }
 {
     let is_open = at_length && is_readable_by_others(rt, name.as_str());
     match octets_of(rt, name) {

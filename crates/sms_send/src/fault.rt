@@ -7,7 +7,7 @@ ghost use Rattle.sms_diagnostics.specs.Shown.{shown};
 use sms_devices::Reason;
 use sms_diagnostics::write_shown;
 use sms_driver::{BindFailure, SendFault};
-use sms_files::{InputFault, Source};
+use sms_files::{InputFault, Source, Unread};
 use sms_recovery::RecoveryFault;
 use sms_report::OutputFault;
 use std::alloc::{AllocError, AllocFailed};
@@ -27,7 +27,7 @@ pub enum Fault {
     /// The file of this name can't be opened.
     File(String),
     /// What was opened can't be read.
-    Unreadable(Source),
+    Unreadable(Unread),
     /// The record of a file, counted from 1, isn't one that may stand there.
     BadRecord(Source, usize),
     /// The config isn't TOML.
@@ -65,7 +65,7 @@ impl fmt::Display for Fault {
             Fault::Words => f.write_str("fault: words"),
             Fault::Help(text) | Fault::Version(text) => f.write_str(text.as_str()),
             Fault::File(name) => write_named(f, "fault: file ", name.as_str()),
-            Fault::Unreadable(source) => write_source(f, source.name()),
+            Fault::Unreadable(unread) => write_source(f, unread.source().name()),
             Fault::BadRecord(source, place) => write_record(f, source.name(), *place),
             Fault::NotToml => f.write_str("fault: config"),
             Fault::BadKey(key) => write_named(f, "fault: config ", key.as_str()),
@@ -160,7 +160,7 @@ impl From<InputFault> for Fault {
 
     fn from(fault: InputFault) -> Fault {
         match fault {
-            InputFault::Unreadable(source) => Fault::Unreadable(source),
+            InputFault::Unreadable(unread) => Fault::Unreadable(unread),
             InputFault::BadRecord(source, place) => Fault::BadRecord(source, place),
             InputFault::NotToml => Fault::NotToml,
             InputFault::BadKey(key) => Fault::BadKey(key),

@@ -1,8 +1,8 @@
 //! The files that the program reads, by their names.
 
 ghost use Rattle.std.specs.Prelude.{◌≡◌, ◌≢◌, ◌⊎◌, [], Some, IfErr, IfOk, option_map, string_bytes};
-ghost use Rattle.sms_send.specs.Opened.{IsNamed, OfFile, TellsLost};
-ghost use Rattle.sms_send.specs.declared.fault.Fault.TheVariants.{File, OutOfMemory};
+ghost use Rattle.sms_send.specs.Opened.{IsNamed, OfFile, TellsLost, TellsUnreadFile};
+ghost use Rattle.sms_send.specs.declared.fault.Fault.TheVariants.{OutOfMemory};
 
 use crate::fault::Fault;
 use std::fs;
@@ -60,7 +60,7 @@ pub fn open_named<R: InputFiles>(rt: &R, name: String) -> Result<Option<R::Input
 /// The octets of the file of this name.
 pub fn octets_of<R: AllocGlobal + InputFiles>(rt: &R, name: String) -> Result<Vec<u8>, Fault>
     ensures octets { IfOk result (λ octets. OfFile (R.finds rt.now) (string_bytes name) (λ bytes. octets.items ≡ bytes)) }
-    ensures refused { IfErr result (λ fault. (fault ≡ OutOfMemory) ⊎ (fault ≡ File name)) }
+    ensures refused { IfErr result (λ fault. (fault ≡ OutOfMemory) ⊎ TellsUnreadFile (R.finds rt.now) name fault) }
 {
     let Ok(mut file) = rt.open_input(name.as_str()) else {
         return Err(Fault::File(name));

@@ -1,13 +1,14 @@
 //! The files of a run as octets: those that its config names, and one that was written of it.
 
 ghost use Rattle.std.specs.Prelude.{◌≡◌, ◌⊎◌, IfErr, IfOk, IfSome, option_copied, option_map, string_bytes};
-ghost use Rattle.sms_send.specs.Runs.{AreNamed, AreOpened, IsRun, TellsNamedFiles, TellsOpened, TellsRunFiles};
-ghost use Rattle.sms_send.specs.declared.fault.Fault.TheVariants.{OutOfMemory, Unreadable};
+ghost use Rattle.sms_send.specs.Runs.{AreNamed, AreOpened, IsRun, TellsNamedFiles, TellsOpened, TellsRunFiles, TellsUnread};
+ghost use Rattle.sms_send.specs.declared.fault.Fault.TheVariants.{OutOfMemory};
 
 use crate::fault::Fault;
 use crate::opened::{InputFiles, octets_of, open, open_named};
 use crate::reading::setup_of;
-use sms_files::{FileNames, Setup, Source};
+use sms_files::{FileNames, Setup, Source, Unread};
+use sms_pdu::Tap;
 use std::alloc::Global;
 use std::io::{ErrorKind, Read};
 
@@ -119,15 +120,19 @@ fn read_opened<F: Read + Drop>(
     }
 }
 
-/// The octets of a file that was opened.
-fn whole_of<F: Read + Drop>(alloc: Global, mut file: F, source: Source) -> Result<Vec<u8>, Fault>
+/// The octets of a file that was opened. That it can't be read is told by the errors that it answered.
+fn whole_of<F: Read + Drop>(alloc: Global, file: F, source: Source) -> Result<Vec<u8>, Fault>
     ensures octets { IfOk result (λ octets. IfSome (F.remaining file) (λ bytes. octets.items ≡ bytes)) }
-    ensures refused { IfErr result (λ fault. (fault ≡ OutOfMemory) ⊎ (fault ≡ Unreadable source)) }
+    ensures refused { IfErr result (λ fault. (fault ≡ OutOfMemory) ⊎ TellsUnread source fault) }
 {
+    let mut device = Tap::new(file);
     let mut octets = Vec::new(alloc);
-    match file.read_to_end(&mut octets) {
+    match device.read_to_end(&mut octets) {
         Ok(_) => Ok(octets),
         Err(error) if error.kind() == ErrorKind::OutOfMemory => Err(Fault::OutOfMemory),
-        Err(_unread) => Err(Fault::Unreadable(source)),
+        Err(_) => match Unread::of(&device, source) {
+            Some(unread) => Err(Fault::Unreadable(unread)),
+            None => Err(Fault::OutOfMemory),
+        },
     }
 }

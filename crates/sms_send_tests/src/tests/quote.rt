@@ -168,7 +168,7 @@ fn want_broken_reader(rt: &(impl AllocGlobal + Abort), left: &[u8]) {
         &mut Vec::new(alloc),
     );
     match done {
-        Err(Fault::Unreadable(Source::Messages)) => {}
+        Err(Fault::Unreadable(unread)) if unread.source() == Source::Messages => {}
         _ => panic!(rt; "a broken reader"),
     }
 }

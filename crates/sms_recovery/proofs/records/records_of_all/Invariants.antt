@@ -2,12 +2,12 @@
 use Rattle.std.proofs.Common.{◌≡◌, List, Some}
 use Rattle.csv.specs.Records.{fields_of}
 use Rattle.sms_files.specs.Fields.{Record}
-use Rattle.sms_files.specs.Records.{ReadsAll, records_left}
+use Rattle.sms_files.specs.Records.{ReadsAll, reader_left}
 use Rattle.sms_recovery.proofs.Taken.{HasRead}
 use Rattle.sms_recovery.proofs.records.records_of_all.Given as goal
 
 abbrev pub invariant-loop : goal.invariant-loop
 invariant-loop g l = record {
   reads : ReadsAll l.reader;
-  rest : (left : List Record) → records_left g.R.Read.remaining l.initial.reader ≡ Some left → HasRead fields_of left l.records.items (records_left g.R.Read.remaining l.reader);
+  rest : (left : List Record) → reader_left g.R.Read.remaining l.initial.reader ≡ Some left → HasRead fields_of left l.records.items (reader_left g.R.Read.remaining l.reader);
 }

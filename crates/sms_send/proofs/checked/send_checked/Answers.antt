@@ -33,3 +33,6 @@ returns-in_err-named-clause-told g c = told_so c.from_residual.result _ _ c.from
 
 pub returns-in_err-input-clause-told : goal.returns-in_err-input-clause-told
 returns-in_err-input-clause-told g c = told_so c.from_residual-in_err-input.result _ _ c.from_residual-in_err-input.ensures.1 (checked_at _ _ _ c.in_ok-named.named _ c.requires.yet c.in_err-input.ensures.refused)
+
+pub returns-in_err-named-clause-refused : goal.returns-in_err-named-clause-refused
+returns-in_err-named-clause-refused g c = told_so c.from_residual.result _ _ c.from_residual.ensures.1 (inl c.in_err-named.ensures.refused)

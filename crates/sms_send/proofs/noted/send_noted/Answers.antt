@@ -57,3 +57,6 @@ returns-in_err-input-clause-told g c = told_so c.from_residual-in_err-input.resu
 
 pub returns-in_err-journal-clause-told : goal.returns-in_err-journal-clause-told
 returns-in_err-journal-clause-told g c = told_so c.from_residual-in_err-journal.result _ _ c.from_residual-in_err-journal.ensures.1 (begun_at _ _ _ _ _ _ c.requires.yet refl c.in_err-journal.ensures.refused)
+
+pub returns-in_err-named-clause-refused : goal.returns-in_err-named-clause-refused
+returns-in_err-named-clause-refused g c = told_so c.from_residual.result _ _ c.from_residual.ensures.1 (inl c.in_err-named.ensures.refused)

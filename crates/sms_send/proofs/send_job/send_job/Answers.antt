@@ -74,7 +74,7 @@ pub returns-clause-told : goal.returns-clause-told
 returns-clause-told g c = c.send_noted.ensures.told
 
 pub returns-in_err-config-clause-told : goal.returns-in_err-config-clause-told
-returns-in_err-config-clause-told g c = told_so c.from_residual.result _ _ c.from_residual.ensures.1 (noted_at _ _ _ _ _ (octets_at _ _ _ c.requires.yet c.in_err-config.ensures.refused))
+returns-in_err-config-clause-told g c = told_so c.from_residual.result _ _ c.from_residual.ensures.1 (noted_at _ _ _ _ _ (octets_at (g.R.InputFiles.finds c.args.rt.now) _ _ _ c.requires.yet c.in_err-config.ensures.refused))
 
 pub returns-in_err-accounts-clause-told : goal.returns-in_err-accounts-clause-told
 returns-in_err-accounts-clause-told g c = told_so c.from_residual-in_err-accounts.result _ _ c.from_residual-in_err-accounts.ensures.1 (noted_at _ _ _ _ _ (read_at _ _ _ c.requires.yet c.in_err-accounts.ensures.refused))
