@@ -4,7 +4,8 @@ use Rattle.sms_files.specs.Inputs.{IsInput, Told, TellsInput}
 use Rattle.sms_files.specs.declared.fault.InputFault.{InputFault}
 use Rattle.sms_files.specs.declared.input.Input.{Input as TheInput}
 use Rattle.sms_recovery.specs.declared.fault.RecoveryFault.{RecoveryFault}
-use Rattle.sms_recovery.specs.declared.fault.RecoveryFault.TheVariants.{Input, OutOfMemory, Output}
+use Rattle.sms_recovery.specs.Faults.{output_failed}
+use Rattle.sms_recovery.specs.declared.fault.RecoveryFault.TheVariants.{Input, OutOfMemory}
 use Rattle.sms_report.specs.Output.{WritesFront}
 
 -- octets that there may be, as a reader tells them
@@ -21,4 +22,4 @@ TellsFiles config accounts messages tariff fault = (f : InputFault) × TellsInpu
 
 -- the output failed behind a front of the text, or memory was refused
 abbrev pub IsCut : List ℕ → Option (List ℕ) → Option (List ℕ) → RecoveryFault → Type 0
-IsCut text old new fault = (fault ≡ OutOfMemory) ⊎ ((fault ≡ Output) × WritesFront old new text)
+IsCut text old new fault = (fault ≡ OutOfMemory) ⊎ ((fault ≡ output_failed) × WritesFront old new text)

@@ -21,7 +21,8 @@ use Rattle.sms_recovery.specs.Files.{Reads, TellsFiles}
 use Rattle.sms_recovery.specs.Reports.{told_report_of, told_status}
 use Rattle.sms_recovery.specs.Rules.{IsRulesOf}
 use Rattle.sms_recovery.specs.declared.fault.RecoveryFault.{RecoveryFault}
-use Rattle.sms_recovery.specs.declared.fault.RecoveryFault.TheVariants.{Journal, Overdrawn, Output, OutOfMemory}
+use Rattle.sms_recovery.specs.Faults.{output_failed}
+use Rattle.sms_recovery.specs.declared.fault.RecoveryFault.TheVariants.{Journal, Overdrawn, OutOfMemory}
 
 -- a row for each account, of what is told of the messages, and it balances
 pub record AreRowsTold (openings : List Opening) (ms : List Message) (told : List MessageTold) (rows : List Row) : Type 0 where
@@ -66,7 +67,7 @@ abbrev pub TellsRecovery : Rules → List Opening → List Message → List Note
 TellsRecovery rules openings ms notes old new fault =
     TellsNotes rules (length openings) ms notes fault
     ⊎ ((fault ≡ Overdrawn) × IsOverdrawn rules openings ms notes)
-    ⊎ ((fault ≡ Output) × IsCutOff rules openings ms notes old new)
+    ⊎ ((fault ≡ output_failed) × IsCutOff rules openings ms notes old new)
 
 -- ---- of an input
 

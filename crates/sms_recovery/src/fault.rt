@@ -1,7 +1,7 @@
 //! Why nothing is recovered.
 
 use sms_files::InputFault;
-use sms_report::OutputFault;
+use sms_report::{OutputFault, Unwritten};
 use std::alloc::AllocError;
 
 /// Why there is no report of a journal, or nothing left of a report.
@@ -21,7 +21,7 @@ pub enum RecoveryFault {
     Report(usize),
     /// The output failed.
     #[error("output")]
-    Output,
+    Output(Unwritten),
     /// Memory was refused.
     #[error("out of memory")]
     OutOfMemory,
@@ -46,7 +46,7 @@ impl From<OutputFault> for RecoveryFault {
 
     fn from(fault: OutputFault) -> RecoveryFault {
         match fault {
-            OutputFault::Output => RecoveryFault::Output,
+            OutputFault::Output(unwritten) => RecoveryFault::Output(unwritten),
             OutputFault::OutOfMemory => RecoveryFault::OutOfMemory,
         }
     }

@@ -7,7 +7,8 @@ ghost use Rattle.sms_journal.specs.Sums.{AreCovered};
 ghost use Rattle.sms_recovery.specs.Recovering.{AreRowsTold, Recovers, TellsNotes, TellsRecovery};
 ghost use Rattle.sms_recovery.specs.Files.{IsCut};
 ghost use Rattle.sms_recovery.specs.Reports.{told_report_of, told_status};
-ghost use Rattle.sms_recovery.specs.declared.fault.RecoveryFault.TheVariants.{Journal, OutOfMemory, Output, Overdrawn};
+ghost use Rattle.sms_recovery.specs.Faults.{output_failed};
+ghost use Rattle.sms_recovery.specs.declared.fault.RecoveryFault.TheVariants.{Journal, OutOfMemory, Overdrawn};
 
 use crate::fault::RecoveryFault;
 use crate::reporting::{status_told, write_told_report};
@@ -74,11 +75,11 @@ fn print_told<W: Write>(
 ) -> Result<u8, RecoveryFault>
     ensures printed { IfOk result (λ status. Appends (W.contents output.old) (W.contents output.new) (told_report_of openings.now told.now rows.now) × (status ≡ told_status told.now)) }
     ensures refused { IfErr result (IsCut (told_report_of openings.now told.now rows.now) (W.contents output.old) (W.contents output.new)) }
-    ensures quiet { IfErr result (λ fault. fault ≢ Output → output.new ≡ output.old) }
+    ensures quiet { IfErr result (λ fault. fault ≢ output_failed → output.new ≡ output.old) }
 {
     match write_told_report(alloc, openings, told, rows, output) {
         Ok(()) => Ok(status_told(told)),
-        Err(OutputFault::Output) => Err(RecoveryFault::Output),
+        Err(OutputFault::Output(unwritten)) => Err(RecoveryFault::Output(unwritten)),
         Err(OutputFault::OutOfMemory) => Err(RecoveryFault::OutOfMemory),
     }
 }
@@ -95,7 +96,7 @@ pub fn recover_notes<W: Write>(
 ) -> Result<u8, RecoveryFault>
     ensures recovered { IfOk result (Recovers rules.now openings.now messages.now notes.now (W.contents output.old) (W.contents output.new)) }
     ensures refused { IfErr result (TellsRecovery rules.now openings.now messages.now notes.now (W.contents output.old) (W.contents output.new)) }
-    ensures quiet { IfErr result (λ fault. fault ≢ Output → output.new ≡ output.old) }
+    ensures quiet { IfErr result (λ fault. fault ≢ output_failed → output.new ≡ output.old) }
 {
     if let Err(fault) = checked(alloc, rules, openings.len(), messages, notes) {
         return Err(fault);

@@ -4,7 +4,7 @@ ghost use Rattle.std.specs.Prelude.{◌≡◌, ◌≢◌, IfErr, IfOk, option_co
 ghost use Rattle.sms_journal.specs.Digests.{digests_of as of_files};
 ghost use Rattle.sms_journal.specs.Lines.{IsJournalText};
 ghost use Rattle.sms_recovery.specs.Recovering.{RecoversInput, RecoversJournal, TellsInputsRecovery, TellsJournal, TellsText};
-ghost use Rattle.sms_recovery.specs.declared.fault.RecoveryFault.TheVariants.{Output};
+ghost use Rattle.sms_recovery.specs.Faults.{output_failed};
 
 use crate::fault::RecoveryFault;
 use crate::files::input_of;
@@ -45,7 +45,7 @@ fn recover_input<W: Write>(
 ) -> Result<u8, RecoveryFault>
     ensures recovered { IfOk result (RecoversInput input notes.now (W.contents output.old) (W.contents output.new)) }
     ensures refused { IfErr result (TellsInputsRecovery input notes.now (W.contents output.old) (W.contents output.new)) }
-    ensures quiet { IfErr result (λ fault. fault ≢ Output → output.new ≡ output.old) }
+    ensures quiet { IfErr result (λ fault. fault ≢ output_failed → output.new ≡ output.old) }
 {
     let (config, openings, messages, tariff) = input.into_parts();
     let Config {
@@ -79,7 +79,7 @@ pub fn run_recover<W: Write>(
 ) -> Result<u8, RecoveryFault>
     ensures recovered { IfOk result (RecoversJournal config.now accounts.now messages.now (option_copied tariff.entry) journal.now (W.contents output.old) (W.contents output.new)) }
     ensures refused { IfErr result (TellsJournal config.now accounts.now messages.now (option_copied tariff.entry) journal.now (W.contents output.old) (W.contents output.new)) }
-    ensures quiet { IfErr result (λ fault. fault ≢ Output → output.new ≡ output.old) }
+    ensures quiet { IfErr result (λ fault. fault ≢ output_failed → output.new ≡ output.old) }
 {
     let input = match input_of(alloc, config, accounts, messages, tariff) {
         Ok(input) => input,

@@ -2,8 +2,8 @@
 
 ghost use Rattle.std.specs.Prelude.{◌≡◌, ◌⊎◌, ◌++◌, IfErr, IfOk, OnOk, string_bytes};
 ghost use Rattle.std.specs.Io.KnownBytes.{Appends};
-ghost use Rattle.sms_report.specs.Output.{WritesFront};
-ghost use Rattle.sms_report.specs.declared.fault.OutputFault.TheVariants.{OutOfMemory, Output};
+ghost use Rattle.sms_report.specs.Output.{WritesFront, output_failed};
+ghost use Rattle.sms_report.specs.declared.fault.OutputFault.TheVariants.{OutOfMemory};
 ghost use Rattle.sms_recovery.specs.Reports.{has_unanswered, is_open_part, is_open_result, last_text, part_text, part_texts, some_unanswered, told_report_of, told_status, told_text, told_texts};
 
 use sms_book::Opening;
@@ -103,8 +103,8 @@ pub fn write_told_report<W: io::Write>(
     output: &mut W,
 ) -> Result<(), OutputFault>
     ensures written { OnOk result (Appends (W.contents output.old) (W.contents output.new) (told_report_of openings.now all.now rows.now)) }
-    ensures failed { IfErr result (λ fault. (fault ≡ Output) ⊎ (fault ≡ OutOfMemory)) }
-    ensures front { IfErr result (λ fault. fault ≡ Output → WritesFront (W.contents output.old) (W.contents output.new) (told_report_of openings.now all.now rows.now)) }
+    ensures failed { IfErr result (λ fault. (fault ≡ output_failed) ⊎ (fault ≡ OutOfMemory)) }
+    ensures front { IfErr result (λ fault. fault ≡ output_failed → WritesFront (W.contents output.old) (W.contents output.new) (told_report_of openings.now all.now rows.now)) }
     ensures quiet { IfErr result (λ fault. fault ≡ OutOfMemory → output.new ≡ output.old) }
 {
     let text = told_report(alloc, openings, all, rows)?;

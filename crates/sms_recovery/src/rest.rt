@@ -7,7 +7,7 @@ ghost use Rattle.sms_files.specs.Fields.{records_of};
 ghost use Rattle.sms_recovery.specs.Files.{IsCut, Reads};
 ghost use Rattle.sms_recovery.specs.Rest.{rest_accounts_of, rest_of};
 ghost use Rattle.sms_recovery.specs.Resting.{IsReportOf, Prints, TellsPrinting, TellsReport, TellsReported, accounts_by, rest_by};
-ghost use Rattle.sms_recovery.specs.declared.fault.RecoveryFault.TheVariants.{Output};
+ghost use Rattle.sms_recovery.specs.Faults.{output_failed};
 
 use crate::fault::RecoveryFault;
 use crate::files::input_of;
@@ -75,7 +75,7 @@ fn print_rest<W: Write>(
 ) -> Result<(), RecoveryFault>
     ensures written { OnOk result (Appends (W.contents output.old) (W.contents output.new) (rest_of (map fields_of report.now) (records_of messages.now))) }
     ensures refused { IfErr result (IsCut (rest_of (map fields_of report.now) (records_of messages.now)) (W.contents output.old) (W.contents output.new)) }
-    ensures quiet { IfErr result (λ fault. fault ≢ Output → output.new ≡ output.old) }
+    ensures quiet { IfErr result (λ fault. fault ≢ output_failed → output.new ≡ output.old) }
 {
     let messages = records_in(alloc, messages)?;
     let text = rest_text(alloc, report, messages.as_slice())?;
@@ -92,7 +92,7 @@ fn print_accounts<W: Write>(
 ) -> Result<(), RecoveryFault>
     ensures written { OnOk result (Appends (W.contents output.old) (W.contents output.new) (rest_accounts_of openings.now (map fields_of report.now))) }
     ensures refused { IfErr result (IsCut (rest_accounts_of openings.now (map fields_of report.now)) (W.contents output.old) (W.contents output.new)) }
-    ensures quiet { IfErr result (λ fault. fault ≢ Output → output.new ≡ output.old) }
+    ensures quiet { IfErr result (λ fault. fault ≢ output_failed → output.new ≡ output.old) }
 {
     let text = accounts_text(alloc, openings, report)?;
     write_out(output, text.as_slice())?;
@@ -113,7 +113,7 @@ pub fn run_rest<W: Write>(
 ) -> Result<(), RecoveryFault>
     ensures printed { OnOk result (Prints config.now accounts.now messages.now (option_copied tariff.entry) report.now (rest_by report.now messages.now) (W.contents output.old) (W.contents output.new)) }
     ensures refused { IfErr result (TellsPrinting config.now accounts.now messages.now (option_copied tariff.entry) report.now (rest_by report.now messages.now) (W.contents output.old) (W.contents output.new)) }
-    ensures quiet { IfErr result (λ fault. fault ≢ Output → output.new ≡ output.old) }
+    ensures quiet { IfErr result (λ fault. fault ≢ output_failed → output.new ≡ output.old) }
 {
     let reported = match read_report(alloc, config, accounts, messages, tariff, report) {
         Ok(reported) => reported,
@@ -136,7 +136,7 @@ pub fn run_rest_accounts<W: Write>(
 ) -> Result<(), RecoveryFault>
     ensures printed { OnOk result (Prints config.now accounts.now messages.now (option_copied tariff.entry) report.now (accounts_by report.now) (W.contents output.old) (W.contents output.new)) }
     ensures refused { IfErr result (TellsPrinting config.now accounts.now messages.now (option_copied tariff.entry) report.now (accounts_by report.now) (W.contents output.old) (W.contents output.new)) }
-    ensures quiet { IfErr result (λ fault. fault ≢ Output → output.new ≡ output.old) }
+    ensures quiet { IfErr result (λ fault. fault ≢ output_failed → output.new ≡ output.old) }
 {
     let reported = match read_report(alloc, config, accounts, messages, tariff, report) {
         Ok(reported) => reported,

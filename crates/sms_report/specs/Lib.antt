@@ -1,3 +1,4 @@
+pub mod Errors
 pub mod Laws
 pub mod Output
 pub mod PlanText

@@ -1,6 +1,8 @@
 -- What became of a text that was to be written.
 use Rattle.std.specs.Prelude.{◌≡◌, ℕ, List, ◌++◌, Option}
 use Rattle.std.specs.Io.KnownBytes.{Appends}
+use Rattle.sms_report.specs.declared.fault.OutputFault.{OutputFault}
+use Rattle.sms_report.specs.declared.fault.OutputFault.TheVariants.{Output}
 
 -- a front of the text was written, and nothing else
 pub record WritesFront (old new : Option (List ℕ)) (text : List ℕ) : Type 0 where
@@ -8,3 +10,7 @@ pub record WritesFront (old new : Option (List ℕ)) (text : List ℕ) : Type 0 
   pub back : List ℕ
   pub whole : text ≡ front ++ back
   pub out : Appends old new front
+
+-- the fault of an output that failed; a body has an `Unwritten` to tell only of an output that answered an error
+abbrev pub output_failed : OutputFault
+output_failed = Output tt

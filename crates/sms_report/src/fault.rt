@@ -1,13 +1,14 @@
 //! Why a text isn't written.
 
+use crate::unwritten::Unwritten;
 use std::alloc::AllocError;
 
 /// Why a text isn't written whole.
-#[derive(Clone, Copy, Debug, PartialEq, Eq, thiserror::Error)]
+#[derive(Debug, Drop, thiserror::Error)]
 pub enum OutputFault {
     /// The output failed.
     #[error("output")]
-    Output,
+    Output(Unwritten),
     /// Memory was refused before the first octet was written.
     #[error("out of memory")]
     OutOfMemory,

@@ -14,6 +14,7 @@ mod report;
 mod status;
 mod summary;
 mod tally;
+mod unwritten;
 
 pub use fault::OutputFault;
 pub use output::write_out;
@@ -26,3 +27,4 @@ pub use report::{
 pub use status::exit_status_of;
 pub use summary::{Credits, EndLine, Summary, summary_of};
 pub use tally::{Tally, WayLine, tally_of};
+pub use unwritten::Unwritten;

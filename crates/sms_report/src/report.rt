@@ -2,9 +2,9 @@
 
 ghost use Rattle.std.specs.Prelude.{◌≡◌, ◌⊎◌, ◌++◌, IfErr, IfOk, OnOk, string_bytes};
 ghost use Rattle.std.specs.Io.KnownBytes.{Appends};
-ghost use Rattle.sms_report.specs.Output.{WritesFront};
+ghost use Rattle.sms_report.specs.Output.{WritesFront, output_failed};
 ghost use Rattle.sms_report.specs.Report.{amount_text, amounts_text, answer_text, end_text, end_texts, field_text, head_text, last_text, needs_quotes as wants_quotes, outcome_name as name_of_outcome, quoted, refusal_name as name_of_refusal, refused_text, report_header, report_of, row_text, row_texts, segment_text, segment_texts, shown_id, statement_header};
-ghost use Rattle.sms_report.specs.declared.fault.OutputFault.TheVariants.{OutOfMemory, Output};
+ghost use Rattle.sms_report.specs.declared.fault.OutputFault.TheVariants.{OutOfMemory};
 
 use crate::fault::OutputFault;
 use crate::output::write_out;
@@ -292,10 +292,10 @@ pub fn write_report_of<W: io::Write>(
     output: &mut W,
 ) -> Result<(), OutputFault>
     ensures written { OnOk result (Appends (W.contents output.old) (W.contents output.new) (report_of openings.now ends.now statement.now)) }
-    ensures failed { IfErr result (λ fault. (fault ≡ Output) ⊎ (fault ≡ OutOfMemory)) }
+    ensures failed { IfErr result (λ fault. (fault ≡ output_failed) ⊎ (fault ≡ OutOfMemory)) }
 
     // Where the output failed, a front of the text was written, and else nothing.
-    ensures front { IfErr result (λ fault. fault ≡ Output → WritesFront (W.contents output.old) (W.contents output.new) (report_of openings.now ends.now statement.now)) }
+    ensures front { IfErr result (λ fault. fault ≡ output_failed → WritesFront (W.contents output.old) (W.contents output.new) (report_of openings.now ends.now statement.now)) }
     ensures quiet { IfErr result (λ fault. fault ≡ OutOfMemory → output.new ≡ output.old) }
 {
     let text = report_text(alloc, openings, ends, statement)?;

@@ -6,11 +6,11 @@ use Rattle.sms_files.specs.Inputs.{Told}
 use Rattle.sms_files.specs.Setups.{names_in, setup_in}
 use Rattle.sms_files.specs.declared.config.Config.{Config}
 use Rattle.sms_files.specs.declared.setup.Setup.{Setup}
-use Rattle.sms_send.specs.Faults.{TellsRead}
+use Rattle.sms_send.specs.Faults.{TellsRead, output_failed}
 use Rattle.sms_send.specs.Noted.{SendsBy, SendsNoted, SendsPlain, SendsThem, TellsBy, TellsNoted, TellsOrder, TellsPlain, TellsThem}
 use Rattle.sms_send.specs.Opened.{OfFile}
 use Rattle.sms_send.specs.declared.fault.Fault.{Fault}
-use Rattle.sms_send.specs.declared.fault.Fault.TheVariants.{Journal, Output}
+use Rattle.sms_send.specs.declared.fault.Fault.TheVariants.{Journal}
 use Rattle.sms_send.specs.declared.order.JournalFile.{JournalFile}
 use Rattle.sms_send.specs.declared.order.Order.{Order}
 use Rattle.sms_send.specs.declared.send_job.Centre.{Centre}
@@ -35,7 +35,7 @@ ended_err (Ok s) x A B P told bad good = tt
 ended_err (Err f) x A B P (inl same) bad good = three_of (rw same at bad)
 ended_err (Err f) x A B P (inr told) bad good = inr (inr (told.0, told.1, rw told.2 at good))
 
-pub ended_quiet : (r x : Result ℕ Fault) (A : Type 0) → IfErr r (Ends x) → IfErr x (λ f. f ≢ Output → A) → IfErr r (λ f. f ≢ Output → f ≢ Journal → A)
+pub ended_quiet : (r x : Result ℕ Fault) (A : Type 0) → IfErr r (Ends x) → IfErr x (λ f. f ≢ output_failed → A) → IfErr r (λ f. f ≢ output_failed → f ≢ Journal → A)
 ended_quiet (Ok s) x A told quiet = tt
 ended_quiet (Err f) x A (inl same) quiet = λ other _. (rw same at quiet) other
 ended_quiet (Err f) x A (inr told) quiet = λ other not. absurd (not told.0)

@@ -13,11 +13,11 @@ use Rattle.sms_files.specs.declared.fault.InputFault.TheVariants as input
 use Rattle.sms_files.specs.declared.input.Input.{Input}
 use Rattle.sms_files.specs.declared.setup.Setup.{Setup}
 use Rattle.sms_report.specs.Output.{WritesFront}
-use Rattle.sms_send.specs.Faults.{TellsRead, told_input}
+use Rattle.sms_send.specs.Faults.{TellsRead, told_input, output_failed}
 use Rattle.sms_send.specs.Opened.{AreFound, OfFile, TellsUnreadFile}
 use Rattle.sms_send.specs.Quoted.{FailsBehind, HasQuote, PrintsFront, PrintsQuote, QuotesAndWarns, QuotesFiles, QuotesNamed, TellsQuoteFiles, TellsQuoteJob, TellsQuoteNamed}
 use Rattle.sms_send.specs.declared.fault.Fault.{Fault}
-use Rattle.sms_send.specs.declared.fault.Fault.TheVariants.{OutOfMemory, Output}
+use Rattle.sms_send.specs.declared.fault.Fault.TheVariants.{OutOfMemory}
 use Rattle.sms_send.proofs.Noting.{IsSetUp}
 use Rattle.sms_send.proofs.Sendings.{beside, of_config, of_two}
 
@@ -37,14 +37,14 @@ pub printed_front : (given : Input) (text out : List ℕ) (old new : Option (Lis
 printed_front given text out old new quote same front = record { text = text; quote = quote; front = subst (WritesFront old new) same front }
 
 -- a fault of what is read is none of the output
-never_output : (f : InputFault) → told_input f ≡ Output → ⊥
+never_output : (f : InputFault) → told_input f ≡ output_failed → ⊥
 never_output (input.Unreadable unread) e = cc
 never_output (input.BadRecord source place) e = cc
 never_output input.NotToml e = cc
 never_output (input.BadKey key) e = cc
 never_output input.OutOfMemory e = cc
 
-pub read_is_no_output : {A : Type 0} (P : InputFault → Type 0) (fault : Fault) → TellsRead P fault → fault ≡ Output → A
+pub read_is_no_output : {A : Type 0} (P : InputFault → Type 0) (fault : Fault) → TellsRead P fault → fault ≡ output_failed → A
 read_is_no_output P fault (f, holds, told) is = absurd (never_output f (sym told ∙ is))
 
 -- of files that were opened
@@ -83,7 +83,7 @@ front_of_all old new text written = record { front = text; back = []; whole = sy
 
 -- a quote that was printed, where the output fails behind it
 pub untold_names : (finds : List ℕ → Option Told → Type 0) (names : FileNames) (config : List ℕ) (old new : Option (List ℕ))
-    → QuotesNamed finds names config old new → TellsQuoteNamed finds names config old new Output
+    → QuotesNamed finds names config old new → TellsQuoteNamed finds names config old new output_failed
 untold_names finds names config old new (accounts, messages, tariff, found, quotes) =
     inr (accounts, messages, tariff, found, inr (quotes.input, quotes.read, inr (refl, record { text = quotes.printed.text; quote = quotes.printed.quote; front = front_of_all old new quotes.printed.text quotes.printed.written })))
 
@@ -92,12 +92,12 @@ pub told_on : (P : Type 0) (r x : Result ℕ Fault) → IfOk r (λ s. x ≡ Ok s
 told_on P (Ok s) x same holds = subst (λ (y : Result ℕ Fault). OnOk y P) same holds
 told_on P (Err f) x same holds = tt
 
-pub told_err : {P : Type 0} (r x : Result ℕ Fault) (A : Fault → Type 0) → IfErr r (FailsBehind x) → IfErr x A → OnOk x P → (P → A Output) → IfErr r A
+pub told_err : {P : Type 0} (r x : Result ℕ Fault) (A : Fault → Type 0) → IfErr r (FailsBehind x) → IfErr x A → OnOk x P → (P → A output_failed) → IfErr r A
 told_err (Ok s) x A told bad good behind = tt
 told_err (Err f) x A (inl same) bad good behind = rw same at bad
 told_err (Err f) x A (inr told) bad good behind = subst A (sym told.0) (behind (rw told.2 at good))
 
-pub told_quiet : (r x : Result ℕ Fault) (A : Type 0) → IfErr r (FailsBehind x) → IfErr x (λ f. f ≢ Output → A) → IfErr r (λ f. f ≢ Output → A)
+pub told_quiet : (r x : Result ℕ Fault) (A : Type 0) → IfErr r (FailsBehind x) → IfErr x (λ f. f ≢ output_failed → A) → IfErr r (λ f. f ≢ output_failed → A)
 told_quiet (Ok s) x A told quiet = tt
 told_quiet (Err f) x A (inl same) quiet = rw same at quiet
 told_quiet (Err f) x A (inr told) quiet = λ other. absurd (other told.0)

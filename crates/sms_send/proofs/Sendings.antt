@@ -13,9 +13,9 @@ use Rattle.sms_driver.specs.Starts.{TellsStart}
 use Rattle.sms_driver.specs.declared.fault.SendFault.{SendFault}
 use Rattle.sms_driver.specs.declared.fault.SendFault.TheVariants as send
 use Rattle.sms_driver.specs.declared.start.Begun.{Begun}
-use Rattle.sms_send.specs.Faults.{IsToldAt, told_sending}
+use Rattle.sms_send.specs.Faults.{IsToldAt, told_sending, output_failed}
 use Rattle.sms_send.specs.declared.fault.Fault.{Fault}
-use Rattle.sms_send.specs.declared.fault.Fault.TheVariants.{Output, Unreported}
+use Rattle.sms_send.specs.declared.fault.Fault.TheVariants.{Unreported}
 use Rattle.sms_files.specs.declared.input.Input.{Input}
 use Rattle.sms_send.specs.declared.sender.Ended.{Ended}
 use Rattle.sms_files.specs.declared.setup.Setup.{Setup}
@@ -37,7 +37,7 @@ of_config finds name items read handed setup Q P input one two (config, says, sa
 
 -- the report wasn't written: the output failed behind a front of it, or memory was refused for it
 pub unwritten_told : (refuses : ℕ → Type 0) (told : ℕ → Told) (input : Input) (ended : Ended) (old new : Option (List ℕ)) (fault : Fault) → IsSent told input ended
-    → (fault ≡ Output) ⊎ (fault ≡ Unreported) → (fault ≡ Output → WritesFront old new (report_in ended)) → (fault ≡ Unreported → new ≡ old) → TellsSending refuses told input old new fault
+    → (fault ≡ output_failed) ⊎ (fault ≡ Unreported) → (fault ≡ output_failed → WritesFront old new (report_in ended)) → (fault ≡ Unreported → new ≡ old) → TellsSending refuses told input old new fault
 unwritten_told refuses told input ended old new fault sent (inl out) front quiet = inr (inl (out, ended, sent, front out))
 unwritten_told refuses told input ended old new fault sent (inr memory) front quiet = inr (inr (memory, ended, sent, quiet memory))
 

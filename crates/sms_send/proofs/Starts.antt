@@ -11,13 +11,13 @@ use Rattle.sms_files.specs.declared.fault.InputFault.{InputFault}
 use Rattle.sms_files.specs.declared.fault.InputFault.TheVariants as input
 use Rattle.sms_files.specs.declared.fault.Source.{Source}
 use Rattle.sms_files.specs.declared.input.Input.{Input}
-use Rattle.sms_send.specs.Faults.{IsToldAt, TellsRead, told_input, with_reason}
+use Rattle.sms_send.specs.Faults.{IsToldAt, TellsRead, told_input, with_reason, output_failed}
 use Rattle.sms_send.specs.Noted.{IsToldNoted, SendsInput, TellsInputOf}
 use Rattle.sms_send.specs.Opened.{TellsMissing, TellsUnreadFile}
 use Rattle.sms_send.specs.Runs.{TellsNamedFiles, TellsOpened, TellsUnread}
 use Rattle.sms_send.specs.Sent.{untold}
 use Rattle.sms_send.specs.declared.fault.Fault.{Fault}
-use Rattle.sms_send.specs.declared.fault.Fault.TheVariants.{BindFailed, File, Journal, Output, OutOfMemory, Unreported}
+use Rattle.sms_send.specs.declared.fault.Fault.TheVariants.{BindFailed, File, Journal, OutOfMemory, Unreported}
 use Rattle.sms_send.specs.declared.run_files.NamedFiles.{NamedFiles}
 use Rattle.sms_send.proofs.Noting.{Ends}
 use Rattle.sms_send.proofs.Reasons.{IsOf}
@@ -71,7 +71,7 @@ checked_at b strict octets named fault yet (inr (is, (some, read, tells))) = rea
 -- ---- behind the word to go
 
 -- the report wasn't written
-pub unwritten_at : (b : Begun) (fault : Fault) → b ≡ Heard Go → (fault ≡ Output) ⊎ (fault ≡ Unreported) → IsToldAt b fault
+pub unwritten_at : (b : Begun) (fault : Fault) → b ≡ Heard Go → (fault ≡ output_failed) ⊎ (fault ≡ Unreported) → IsToldAt b fault
 unwritten_at b fault gone (inl is) = subst (IsToldAt b) (sym is) gone
 unwritten_at b fault gone (inr is) = subst (IsToldAt b) (sym is) gone
 

@@ -7,11 +7,11 @@ use Rattle.sms_files.specs.declared.fault.InputFault.{InputFault}
 use Rattle.sms_files.specs.declared.fault.InputFault.TheVariants as input
 use Rattle.sms_files.specs.declared.fault.Source.{Source}
 use Rattle.sms_report.specs.declared.fault.OutputFault.{OutputFault}
-use Rattle.sms_report.specs.declared.fault.OutputFault.TheVariants as output
-use Rattle.sms_send.specs.Faults.{TellsRead, told_input, told_output}
+use Rattle.sms_report.specs.Output.{output_failed as writing_failed}
+use Rattle.sms_send.specs.Faults.{TellsRead, told_input, told_output, output_failed}
 use Rattle.sms_send.specs.Opened.{TellsFile}
 use Rattle.sms_send.specs.declared.fault.Fault.{Fault}
-use Rattle.sms_send.specs.declared.fault.Fault.TheVariants.{Output, OutOfMemory}
+use Rattle.sms_send.specs.declared.fault.Fault.TheVariants.{OutOfMemory}
 
 -- what holds of a fault holds of it when it is told
 pub told_so : {T E : Type 0} (r : Result T E) (e : E) (P : E → Type 0) → IsErrAnd r (λ f. f ≡ e) → P e → IfErr r P
@@ -58,11 +58,11 @@ told-memory source None faulty = tt
 told-memory source (Some bytes) faulty = inl (input.OutOfMemory, inl (inr refl), refl)
 
 pub told-writing : (source : Source) (o : Option (List ℕ)) (faulty : List Record → Option ℕ) (f : OutputFault)
-    → IfSome o (λ bytes. faulty (records_of bytes) ≡ None) → f ≡ output.Output → IfSome o (λ bytes. TellsFile source (faulty (records_of bytes)) (told_output f))
+    → IfSome o (λ bytes. faulty (records_of bytes) ≡ None) → f ≡ writing_failed → IfSome o (λ bytes. TellsFile source (faulty (records_of bytes)) (told_output f))
 told-writing source None faulty f h e = tt
 told-writing source (Some bytes) faulty f h e = inr (ap told_output e, h)
 
 -- what holds where the output failed, whatever the fault
-pub where-output : {T : Type 0} (r : Result T Fault) (P : Type 0) → P → IfErr r (λ fault. fault ≡ Output → P)
+pub where-output : {T : Type 0} (r : Result T Fault) (P : Type 0) → P → IfErr r (λ fault. fault ≡ output_failed → P)
 where-output (Ok x) P p = tt
 where-output (Err f) P p = λ _. p

@@ -132,7 +132,7 @@ lines_of known (Unconnected reason) = lines_of_bind known.centre (trouble_to rea
 lines_of known (BadNote place) = record_lines (record_of record-of.Journal place) record-trouble.Unknown
 lines_of known (BadReport place) = record_lines (record_of record-of.Report place) record-trouble.Unknown
 lines_of known Journal = lines_of_journal known.doing
-lines_of known Output = lines_of_output known.doing
+lines_of known (Output unwritten) = lines_of_output known.doing
 lines_of known OutOfMemory = line (codes "memory or a thread was refused; nothing was sent")
 lines_of known Unreported = line (codes "memory or a thread was refused; messages may have been sent")
 

@@ -18,6 +18,10 @@ use Rattle.sms_recovery.specs.declared.fault.RecoveryFault.TheVariants as recove
 use Rattle.sms_report.specs.declared.fault.OutputFault.{OutputFault}
 use Rattle.sms_report.specs.declared.fault.OutputFault.TheVariants as output
 
+-- the fault of an output that failed; a body has an `Unwritten` to tell only of an output that answered an error
+abbrev pub output_failed : Fault
+output_failed = Output tt
+
 -- help and the version are the parser's own texts
 abbrev pub fault_text : Fault → List ℕ
 fault_text Words = codes "fault: words"
@@ -34,7 +38,7 @@ fault_text (Unconnected reason) = codes "fault: bind " ++ decimal reason.bind ++
 fault_text (BadNote place) = codes "fault: journal record " ++ decimal place
 fault_text (BadReport place) = codes "fault: report record " ++ decimal place
 fault_text Journal = codes "fault: journal"
-fault_text Output = codes "fault: output"
+fault_text (Output unwritten) = codes "fault: output"
 fault_text OutOfMemory = codes "fault: out of memory"
 fault_text Unreported = codes "fault: out of memory"
 
@@ -75,7 +79,7 @@ IsToldAt begun (BadKey key) = begun ≡ NotYet
 IsToldAt begun (BindRefused bind status) = begun ≡ NotYet
 IsToldAt begun (BindFailed bind why) = begun ≡ NotYet
 IsToldAt begun (Unconnected reason) = begun ≡ NotYet
-IsToldAt begun Output = begun ≡ Heard Go
+IsToldAt begun (Output unwritten) = begun ≡ Heard Go
 IsToldAt begun OutOfMemory = (begun ≡ NotYet) ⊎ (begun ≡ Heard Leave)
 IsToldAt begun Unreported = begun ≡ Heard Go
 IsToldAt begun _ = ⊥
@@ -95,12 +99,12 @@ told_recovery (recovery.Input fault) = told_input fault
 told_recovery (recovery.Journal place) = BadNote place
 told_recovery recovery.Overdrawn = Journal
 told_recovery (recovery.Report place) = BadReport place
-told_recovery recovery.Output = Output
+told_recovery (recovery.Output unwritten) = Output unwritten
 told_recovery recovery.OutOfMemory = OutOfMemory
 
 -- why a text isn't written
 abbrev pub told_output : OutputFault → Fault
-told_output output.Output = Output
+told_output (output.Output unwritten) = Output unwritten
 told_output output.OutOfMemory = OutOfMemory
 
 -- the fault tells one of what is read, and this holds of that

@@ -7,9 +7,9 @@ use Rattle.sms_files.specs.Inputs.{Told}
 use Rattle.sms_files.specs.Records.{TellsRecords}
 use Rattle.sms_files.specs.declared.config.FileNames.{FileNames}
 use Rattle.sms_files.specs.declared.fault.Source.{Source}
-use Rattle.sms_send.specs.Faults.{TellsRead}
+use Rattle.sms_send.specs.Faults.{TellsRead, output_failed}
 use Rattle.sms_send.specs.declared.fault.Fault.{Fault}
-use Rattle.sms_send.specs.declared.fault.Fault.TheVariants.{File, Output}
+use Rattle.sms_send.specs.declared.fault.Fault.TheVariants.{File}
 
 -- it holds of an input's bytes, where they are told
 abbrev pub OfInput : {I : Type 0} → (I → Told) → (List ℕ → Type 0) → Type 0
@@ -51,4 +51,4 @@ TellsMissing finds names fault =
 -- what a fault of a job on a source says, of whose records this is the first faulty one: that it is, or that the device
 -- failed, or that the output failed where no record was faulty
 abbrev pub TellsFile : Source → Option ℕ → Fault → Type 0
-TellsFile source faulty f = TellsRead (TellsRecords source faulty) f ⊎ ((f ≡ Output) × (faulty ≡ None))
+TellsFile source faulty f = TellsRead (TellsRecords source faulty) f ⊎ ((f ≡ output_failed) × (faulty ≡ None))

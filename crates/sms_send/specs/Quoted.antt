@@ -10,10 +10,10 @@ use Rattle.sms_files.specs.declared.input.Input.{Input}
 use Rattle.sms_quote.specs.QuoteText.{IsQuoteText}
 use Rattle.sms_quote.specs.Warnings.{warning_lines}
 use Rattle.sms_report.specs.Output.{WritesFront}
-use Rattle.sms_send.specs.Faults.{TellsRead}
+use Rattle.sms_send.specs.Faults.{TellsRead, output_failed}
 use Rattle.sms_send.specs.Opened.{AreFound, OfFile, TellsMissing, TellsUnreadFile}
 use Rattle.sms_send.specs.declared.fault.Fault.{Fault}
-use Rattle.sms_send.specs.declared.fault.Fault.TheVariants.{OutOfMemory, Output}
+use Rattle.sms_send.specs.declared.fault.Fault.TheVariants.{OutOfMemory}
 
 -- ---- of an input
 
@@ -39,11 +39,11 @@ pub record PrintsFront (input : Input) (old new : Option (List ℕ)) : Type 0 wh
 
 -- what a fault says: memory ran out, or the output failed behind a front of the quote
 abbrev pub TellsQuoting : Input → Option (List ℕ) → Option (List ℕ) → Fault → Type 0
-TellsQuoting input old new fault = (fault ≡ OutOfMemory) ⊎ ((fault ≡ Output) × PrintsFront input old new)
+TellsQuoting input old new fault = (fault ≡ OutOfMemory) ⊎ ((fault ≡ output_failed) × PrintsFront input old new)
 
 -- a quote failed so, or was printed and what is told behind it wasn't
 abbrev pub FailsBehind : Result ℕ Fault → Fault → Type 0
-FailsBehind quoted fault = (quoted ≡ Err fault) ⊎ ((fault ≡ Output) × (status : ℕ) × (quoted ≡ Ok status))
+FailsBehind quoted fault = (quoted ≡ Err fault) ⊎ ((fault ≡ output_failed) × (status : ℕ) × (quoted ≡ Ok status))
 
 -- ---- of octets
 

@@ -13,7 +13,7 @@ use Rattle.sms_driver.specs.Ended.{HaveEnded}
 use Rattle.sms_driver.specs.Closings.{AreExplained}
 use Rattle.sms_driver.specs.Numbered.{AreBelow, AreNumbered}
 use Rattle.sms_files.specs.Inputs.{IsInput, Told, TellsInput}
-use Rattle.sms_send.specs.Faults.{TellsRead, told_sending}
+use Rattle.sms_send.specs.Faults.{TellsRead, told_sending, output_failed}
 use Rattle.sms_send.specs.Opened.{AreFound, TellsMissing}
 use Rattle.sms_send.specs.Statuses.{status_by}
 use Rattle.sms_report.specs.Output.{WritesFront}
@@ -31,7 +31,7 @@ use Rattle.sms_driver.specs.declared.binding.BindSettings.{BindSettings}
 use Rattle.sms_driver.specs.declared.fault.SendFault.{SendFault}
 use Rattle.sms_driver.specs.declared.start.Begun.{Begun}
 use Rattle.sms_send.specs.declared.fault.Fault.{Fault}
-use Rattle.sms_send.specs.declared.fault.Fault.TheVariants.{Output, Unreported}
+use Rattle.sms_send.specs.declared.fault.Fault.TheVariants.{Unreported}
 use Rattle.sms_files.specs.declared.input.Input.{Input}
 use Rattle.sms_files.specs.declared.limits.Limits.{Limits}
 use Rattle.sms_send.specs.declared.sender.Ended.{Ended}
@@ -109,7 +109,7 @@ TellsDriven refuses told config begun fault = (f : SendFault) × IsFaultIn refus
 abbrev pub TellsSending : (ℕ → Type 0) → (ℕ → Told) → Input → Option (List ℕ) → Option (List ℕ) → Fault → Type 0
 TellsSending refuses told input old new fault =
     ((f : SendFault) × IsFaultIn refuses told input.config f × (fault ≡ told_sending f))
-    ⊎ (((fault ≡ Output) × (ended : Ended) × IsSent told input ended × WritesFront old new (report_in ended))
+    ⊎ (((fault ≡ output_failed) × (ended : Ended) × IsSent told input ended × WritesFront old new (report_in ended))
     ⊎ ((fault ≡ Unreported) × (ended : Ended) × IsSent told input ended × (new ≡ old)))
 
 -- what a fault says of these octets: it is of the first that have one, or of the sending of what they all say

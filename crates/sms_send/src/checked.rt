@@ -4,10 +4,9 @@ ghost use Rattle.std.specs.Prelude.{◌≡◌, ◌≢◌, IfErr, IfOk, OnOk, tru
 ghost use Rattle.sms_driver.specs.declared.latch.Word.TheVariants.{Go};
 ghost use Rattle.sms_driver.specs.declared.start.Begun.TheVariants.{NotYet, Heard};
 ghost use Rattle.sms_files.specs.Quoting.{EndsQuoted};
-ghost use Rattle.sms_send.specs.Faults.{IsToldAt, TellsRead};
+ghost use Rattle.sms_send.specs.Faults.{IsToldAt, TellsRead, output_failed};
 ghost use Rattle.sms_send.specs.Jobs.{IsStatusBy};
 ghost use Rattle.sms_send.specs.Noted.{IsInputOf, IsOpenQuoteOf, SendsNoted, SendsPlain, TellsChecked, TellsFilesOf, TellsInputOf, TellsPlain};
-ghost use Rattle.sms_send.specs.declared.fault.Fault.TheVariants.{Output};
 
 use crate::fault::Fault;
 use crate::opened::InputFiles;
@@ -95,7 +94,7 @@ fn send_checked<R: Host + InputFiles + Net<Stream = TcpStream, Listener = TcpLis
     ensures status { IfOk result (IsStatusBy true) }
     ensures refused { IfErr result (TellsChecked (R.finds rt.now) reach.now.centre files config.now (W.contents output.old) (W.contents output.new)) }
     ensures told { IfErr result (IsToldAt start.new.begun) }
-    ensures unwritten { IfErr result (λ fault. fault ≢ Output → output.new ≡ output.old) }
+    ensures unwritten { IfErr result (λ fault. fault ≢ output_failed → output.new ≡ output.old) }
 {
     let named = read_named(rt, files)?;
     let input = input_in(rt.alloc(), config, &named, true)?;
@@ -134,7 +133,7 @@ pub fn send_plain<R: Host + InputFiles + Net<Stream = TcpStream, Listener = TcpL
     ensures status { IfOk result (IsStatusBy strict) }
     ensures refused { IfErr result (TellsPlain strict (R.finds rt.now) reach.now.centre files config.now (W.contents output.old) (W.contents output.new)) }
     ensures told { IfErr result (IsToldAt start.new.begun) }
-    ensures unwritten { IfErr result (λ fault. fault ≢ Output → output.new ≡ output.old) }
+    ensures unwritten { IfErr result (λ fault. fault ≢ output_failed → output.new ≡ output.old) }
 {
     if strict {
         send_checked(rt, start, reach, config, files, remarks, pace, output)

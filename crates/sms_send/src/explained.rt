@@ -168,7 +168,7 @@ fn cause_of<'a>(fault: &'a Fault, known: &'a Known) -> Cause<'a>
         Fault::BadNote(place) => record_cause(RecordOf::Journal, *place, RecordTrouble::Unknown),
         Fault::BadReport(place) => record_cause(RecordOf::Report, *place, RecordTrouble::Unknown),
         Fault::Journal => journal_cause(known.doing),
-        Fault::Output => output_cause(known.doing),
+        Fault::Output(_) => output_cause(known.doing),
         Fault::OutOfMemory => Cause::Unstarted,
         Fault::Unreported => Cause::OutOfMemory,
     }

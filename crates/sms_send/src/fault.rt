@@ -9,7 +9,7 @@ use sms_diagnostics::write_shown;
 use sms_driver::{BindFailure, SendFault};
 use sms_files::{InputFault, Source, Unread};
 use sms_recovery::RecoveryFault;
-use sms_report::OutputFault;
+use sms_report::{OutputFault, Unwritten};
 use std::alloc::{AllocError, AllocFailed};
 use std::fmt;
 use thiserror::Error;
@@ -47,7 +47,7 @@ pub enum Fault {
     /// The journal can't be written, or what it notes takes more of an account than that has.
     Journal,
     /// What is to be printed can't be written.
-    Output,
+    Output(Unwritten),
     /// Memory was refused, or a thread, and nothing was sent.
     OutOfMemory,
     /// Memory was refused for the report of a sending, once its messages had ended: nothing is told of them.
@@ -75,7 +75,7 @@ impl fmt::Display for Fault {
             Fault::BadNote(place) => write_record(f, "journal", *place),
             Fault::BadReport(place) => write_record(f, "report", *place),
             Fault::Journal => f.write_str("fault: journal"),
-            Fault::Output => f.write_str("fault: output"),
+            Fault::Output(_) => f.write_str("fault: output"),
             Fault::OutOfMemory | Fault::Unreported => f.write_str("fault: out of memory"),
         }
     }
@@ -191,7 +191,7 @@ impl From<OutputFault> for Fault {
 
     fn from(fault: OutputFault) -> Fault {
         match fault {
-            OutputFault::Output => Fault::Output,
+            OutputFault::Output(unwritten) => Fault::Output(unwritten),
             OutputFault::OutOfMemory => Fault::OutOfMemory,
         }
     }
@@ -208,7 +208,7 @@ impl From<RecoveryFault> for Fault {
             RecoveryFault::Journal(place) => Fault::BadNote(place),
             RecoveryFault::Overdrawn => Fault::Journal,
             RecoveryFault::Report(place) => Fault::BadReport(place),
-            RecoveryFault::Output => Fault::Output,
+            RecoveryFault::Output(unwritten) => Fault::Output(unwritten),
             RecoveryFault::OutOfMemory => Fault::OutOfMemory,
         }
     }

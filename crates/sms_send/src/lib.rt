@@ -41,7 +41,7 @@ pub use job::{Job, job_of};
 pub use opened::InputFiles;
 pub use order::{JournalFile, Order, Pace, RecoverOrder, RestOrder};
 pub use plan::run_plan;
-pub use program::{do_job, run, status_after, tell};
+pub use program::{Untold, do_job, run, status_after, tell};
 pub use quote_job::run_quote;
 pub use reading::setup_of;
 pub use replay::run_replay;

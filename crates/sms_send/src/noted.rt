@@ -7,7 +7,8 @@ ghost use Rattle.sms_journal.specs.Digests.{digests_of as of_files};
 ghost use Rattle.sms_send.specs.Jobs.{IsStatusBy};
 ghost use Rattle.sms_send.specs.Noted.{IsMade, IsNoted, IsToldNoted, SendsNoted, TellsBegin, TellsNoted};
 ghost use Rattle.sms_send.specs.Runs.{tariff_in};
-ghost use Rattle.sms_send.specs.declared.fault.Fault.TheVariants.{Journal as JournalFault, Output};
+ghost use Rattle.sms_send.specs.Faults.{output_failed};
+ghost use Rattle.sms_send.specs.declared.fault.Fault.TheVariants.{Journal as JournalFault};
 
 use crate::checked::input_in;
 use crate::fault::Fault;
@@ -102,7 +103,7 @@ pub fn send_noted<R: Host + InputFiles + Net<Stream = TcpStream, Listener = TcpL
     ensures refused { IfErr result (TellsNoted (TellsBegin (R.makes rt.now) (R.refuses rt.now)) strict (R.finds rt.now) reach.now.centre wanted files config.now (W.contents output.old) (W.contents output.new)) }
     // A journal that failed is told before anything was sent or written, or behind the whole report.
     ensures told { IfErr result (IsToldNoted strict start.new.begun (W.contents output.old) (W.contents output.new)) }
-    ensures unwritten { IfErr result (λ fault. fault ≢ Output → fault ≢ JournalFault → output.new ≡ output.old) }
+    ensures unwritten { IfErr result (λ fault. fault ≢ output_failed → fault ≢ JournalFault → output.new ≡ output.old) }
 {
     let named = read_named(rt, files)?;
     let input = input_in(rt.alloc(), config, &named, strict)?;

@@ -7,7 +7,7 @@ ghost use Rattle.sms_files.specs.Messages.{messages_fault};
 ghost use Rattle.sms_report.specs.Output.{WritesFront};
 ghost use Rattle.sms_report.specs.PlanText.{kind_of, plan_of};
 ghost use Rattle.sms_send.specs.Plans.{TellsPlan};
-ghost use Rattle.sms_send.specs.declared.fault.Fault.TheVariants.{Output};
+ghost use Rattle.sms_send.specs.Faults.{output_failed};
 
 use crate::fault::Fault;
 use sms_files::read_texts;
@@ -35,10 +35,10 @@ pub fn run_plan<R: Read + Drop, W: Write>(
     ensures faulty { IfErr result (λ fault. IfSome (R.remaining input) (λ bytes. TellsPlan (records_of bytes) fault)) }
 
     // Where the output failed, a front of the plan was written.
-    ensures front { IfErr result (λ fault. fault ≡ Output → IfSome (R.remaining input) (λ bytes. WritesFront (W.contents output.old) (W.contents output.new) (plan_of (kind_of long) (records_of bytes)))) }
+    ensures front { IfErr result (λ fault. fault ≡ output_failed → IfSome (R.remaining input) (λ bytes. WritesFront (W.contents output.old) (W.contents output.new) (plan_of (kind_of long) (records_of bytes)))) }
 
     // Nothing was written, save where writing itself failed.
-    ensures quiet { IfErr result (λ fault. fault ≢ Output → output.new ≡ output.old) }
+    ensures quiet { IfErr result (λ fault. fault ≢ output_failed → output.new ≡ output.old) }
 {
     let texts = read_texts(alloc, input)?;
     let text = plan_text(alloc, reference_of(long), &texts)?;

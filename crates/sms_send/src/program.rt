@@ -3,10 +3,10 @@
 ghost use Rattle.std.specs.Prelude.{◌≡◌, ◌≢◌, ◌⊎◌, List, IfErr, IfOk, OnOk, is_ok, map, string_bytes, if◌then◌else◌};
 ghost use Rattle.clap.specs.Words.{Text};
 ghost use Rattle.sms_driver.specs.declared.start.Begun.TheVariants.{NotYet};
-ghost use Rattle.sms_send.specs.Faults.{status_of};
+ghost use Rattle.sms_send.specs.Faults.{status_of, output_failed};
 ghost use Rattle.sms_send.specs.Jobs.{Does, HasBegun, IsStatusOf, IsToldOf, IsToldSo, TellsJob, TellsRun, WentSo, Works};
 ghost use Rattle.sms_send.specs.Noted.{TellsBegin};
-ghost use Rattle.sms_send.specs.declared.fault.Fault.TheVariants.{Journal, Output, OutOfMemory, Words};
+ghost use Rattle.sms_send.specs.declared.fault.Fault.TheVariants.{Journal, OutOfMemory, Words};
 
 use crate::explained::{is_at_length, told_of};
 use crate::fault::Fault;
@@ -22,10 +22,14 @@ use crate::standard_error::tell_lines;
 use crate::words::is_verbose;
 use sms_devices::{Host, Screen};
 use sms_driver::{Latch, Start};
+use sms_report::write_out;
 use std::io::{ErrorKind, Write};
 use std::net::{Net, TcpListener, TcpStream};
 use std::rt::{Env, Files};
 use std::{env, io};
+
+/// The exit status where a fault can't be told: that of a fault of the output.
+const UNTOLD: u8 = 1;
 
 /// Does the job that the program's words ask for, and gives the exit status.
 pub fn run<R: Host + InputFiles + Net<Stream = TcpStream, Listener = TcpListener>, W: Write>(
@@ -33,7 +37,7 @@ pub fn run<R: Host + InputFiles + Net<Stream = TcpStream, Listener = TcpListener
     output: &mut W,
 ) -> Result<u8, Fault>
     ensures done { IfOk result (λ status. (words : List Text) × Works R.Reader.remaining (R.finds rt.now) words status (W.contents output.old) (W.contents output.new)) }
-    ensures unwritten { IfErr result (λ fault. fault ≢ Output → fault ≢ Journal → output.new ≡ output.old) }
+    ensures unwritten { IfErr result (λ fault. fault ≢ output_failed → fault ≢ Journal → output.new ≡ output.old) }
 {
     let words = words_of(rt)?;
     let (latch, unsaid) = Latch::new();
@@ -65,7 +69,7 @@ fn do_words<R: Host + InputFiles + Net<Stream = TcpStream, Listener = TcpListene
     ensures done { IfOk result (λ status. Works R.Reader.remaining (R.finds rt.now) (map string_bytes words.now) status (W.contents output.old) (W.contents output.new)) }
     ensures refused { IfErr result (TellsRun (TellsBegin (R.makes rt.now) (R.refuses rt.now)) R.Reader.remaining (R.finds rt.now) (map string_bytes words.now) (W.contents output.old) (W.contents output.new)) }
     ensures told { IfErr result (IsToldSo (map string_bytes words.now) start.new.begun (W.contents output.old) (W.contents output.new)) }
-    ensures unwritten { IfErr result (λ fault. fault ≢ Output → fault ≢ Journal → output.new ≡ output.old) }
+    ensures unwritten { IfErr result (λ fault. fault ≢ output_failed → fault ≢ Journal → output.new ≡ output.old) }
 {
     match job_of(rt.alloc(), words) {
         Ok(job) => do_job(rt, start, job, output),
@@ -87,7 +91,7 @@ pub fn do_job<R: Host + InputFiles + Net<Stream = TcpStream, Listener = TcpListe
     ensures done { IfOk result (Does R.Reader.remaining (R.finds rt.now) job (W.contents output.old) (W.contents output.new)) }
     ensures refused { IfErr result (TellsJob (TellsBegin (R.makes rt.now) (R.refuses rt.now)) R.Reader.remaining (R.finds rt.now) job (W.contents output.old) (W.contents output.new)) }
     ensures told { IfErr result (IsToldOf job start.new.begun (W.contents output.old) (W.contents output.new)) }
-    ensures unwritten { IfErr result (λ fault. fault ≢ Output → fault ≢ Journal → output.new ≡ output.old) }
+    ensures unwritten { IfErr result (λ fault. fault ≢ output_failed → fault ≢ Journal → output.new ≡ output.old) }
 {
     match job {
         Job::Replay(None) => run_replay(rt.alloc(), rt.reader(), output),
@@ -101,21 +105,26 @@ pub fn do_job<R: Host + InputFiles + Net<Stream = TcpStream, Listener = TcpListe
     }
 }
 
+/// That what was to be told could not be told.
+#[derive(Clone, Copy, Debug, PartialEq, Eq)]
+pub struct Untold;
+
 /// Tells a fault on standard error, and help or the version on standard output. That they can't be
 /// printed is a fault of the output, which is told in its turn.
 pub fn tell<R: AllocGlobal + Env + Files + Screen + Eprint + Print>(
     rt: &R,
     fault: &Fault,
-) -> io::Result<()> {
-    match fault {
-        Fault::Help(text) | Fault::Version(text) => {
-            let printed = print!(rt; "{text}");
-            if printed.is_err() {
-                tell_fault(rt, &Fault::Output)?;
-            }
-            printed
+) -> Result<(), Untold> {
+    let text = match fault {
+        Fault::Help(text) | Fault::Version(text) => text,
+        _ => return tell_fault(rt, fault),
+    };
+    match write_out(&mut io::writer(rt), text.as_bytes()) {
+        Ok(()) => Ok(()),
+        Err(unprinted) => {
+            let _told = tell_fault(rt, &Fault::from(unprinted));
+            Err(Untold)
         }
-        _ => tell_fault(rt, fault),
     }
 }
 
@@ -124,22 +133,25 @@ pub fn tell<R: AllocGlobal + Env + Files + Screen + Eprint + Print>(
 fn tell_fault<R: AllocGlobal + Env + Files + Screen + Eprint>(
     rt: &R,
     fault: &Fault,
-) -> io::Result<()> {
+) -> Result<(), Untold> {
     let words = match words_of(rt) {
         Ok(words) => words,
         Err(_untold) => Vec::new(rt.alloc()),
     };
     let at_length = is_at_length(rt.is_terminal(), is_verbose(words.as_slice()));
     let known = known_at(rt, words.as_slice(), fault, at_length);
-    tell_lines(rt, &told_of(fault, &known))
+    match tell_lines(rt, &told_of(fault, &known)) {
+        Ok(()) => Ok(()),
+        Err(_) => Err(Untold),
+    }
 }
 
 /// The exit status after a fault was told: its own, and that of the output where telling failed.
-pub fn status_after(told: &io::Result<()>, fault: &Fault) -> u8
-    ensures { result ≡ (if is_ok told.now then status_of fault.now else status_of Output) }
+pub fn status_after(told: &Result<(), Untold>, fault: &Fault) -> u8
+    ensures { result ≡ (if is_ok told.now then status_of fault.now else status_of output_failed) }
 {
     match told {
         Ok(()) => fault.exit_status(),
-        Err(_) => Fault::Output.exit_status(),
+        Err(Untold) => UNTOLD,
     }
 }

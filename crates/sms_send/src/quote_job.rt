@@ -6,7 +6,7 @@ ghost use Rattle.std.specs.Io.KnownBytes.{Appends};
 ghost use Rattle.sms_report.specs.Output.{WritesFront};
 ghost use Rattle.sms_send.specs.Opened.{OfFile};
 ghost use Rattle.sms_send.specs.Quoted.{FailsBehind, HasQuote, PrintsQuote, QuotesAndWarns, QuotesFiles, QuotesNamed, TellsQuote, TellsQuoteJob, TellsQuoteNamed, TellsQuoting, WarnsFront, warnings_of};
-ghost use Rattle.sms_send.specs.declared.fault.Fault.TheVariants.{Output};
+ghost use Rattle.sms_send.specs.Faults.{output_failed};
 
 use crate::explained::is_at_length;
 use crate::fault::Fault;
@@ -45,7 +45,7 @@ fn write_both<W: Write, E: Write>(
     ensures warned { OnOk result (Appends (E.contents error.old) (E.contents error.new) warnings.now) }
     ensures front { WritesFront (W.contents output.old) (W.contents output.new) quote.now }
     ensures told { WritesFront (E.contents error.old) (E.contents error.new) warnings.now }
-    ensures failed { IfErr result (λ fault. fault ≡ Output) }
+    ensures failed { IfErr result (λ fault. fault ≡ output_failed) }
 {
     match write_out(output, quote) {
         Ok(()) => {}
@@ -68,8 +68,8 @@ fn quote_input<W: Write, E: Write>(
     ensures printed { OnOk result (PrintsQuote input.now (W.contents output.old) (W.contents output.new)) }
     ensures warned { OnOk result (Appends (E.contents error.old) (E.contents error.new) (warnings_of input.now)) }
     ensures refused { IfErr result (TellsQuoting input.now (W.contents output.old) (W.contents output.new)) }
-    ensures told { IfErr result (λ fault. fault ≡ Output → WritesFront (E.contents error.old) (E.contents error.new) (warnings_of input.now)) }
-    ensures unwritten { IfErr result (λ fault. fault ≢ Output → (output.new ≡ output.old) × (error.new ≡ error.old)) }
+    ensures told { IfErr result (λ fault. fault ≡ output_failed → WritesFront (E.contents error.old) (E.contents error.new) (warnings_of input.now)) }
+    ensures unwritten { IfErr result (λ fault. fault ≢ output_failed → (output.new ≡ output.old) × (error.new ≡ error.old)) }
 {
     match texts_of(alloc, input) {
         Ok((quote, warnings)) => write_both(output, error, quote.as_bytes(), warnings.as_bytes()),
@@ -94,8 +94,8 @@ pub fn run_quote<A: Read + Drop, M: Read + Drop, T: Read + Drop, W: Write, E: Wr
     ensures quoted { OnOk result (QuotesAndWarns config.now (A.remaining accounts) (M.remaining messages) (option_map T.remaining tariff) (W.contents output.old) (W.contents output.new) (E.contents error.old) (E.contents error.new)) }
     // A fault is of the first of these that has one, or of the quote of what they say.
     ensures refused { IfErr result (TellsQuote config.now (A.remaining accounts) (M.remaining messages) (option_map T.remaining tariff) (W.contents output.old) (W.contents output.new)) }
-    ensures told { IfErr result (λ fault. fault ≡ Output → WarnsFront config.now (A.remaining accounts) (M.remaining messages) (option_map T.remaining tariff) (E.contents error.old) (E.contents error.new)) }
-    ensures unwritten { IfErr result (λ fault. fault ≢ Output → (output.new ≡ output.old) × (error.new ≡ error.old)) }
+    ensures told { IfErr result (λ fault. fault ≡ output_failed → WarnsFront config.now (A.remaining accounts) (M.remaining messages) (option_map T.remaining tariff) (E.contents error.old) (E.contents error.new)) }
+    ensures unwritten { IfErr result (λ fault. fault ≢ output_failed → (output.new ≡ output.old) × (error.new ≡ error.old)) }
 {
     match read_input(alloc, config, accounts, messages, tariff) {
         Ok(input) => {
@@ -118,7 +118,7 @@ fn quote_named<R: AllocGlobal + InputFiles + Eprint, W: Write>(
     ensures status { IfOk result (λ status. status ≡ 0) }
     ensures quoted { OnOk result (QuotesNamed (R.finds rt.now) names config.now (W.contents output.old) (W.contents output.new)) }
     ensures refused { IfErr result (TellsQuoteNamed (R.finds rt.now) names config.now (W.contents output.old) (W.contents output.new)) }
-    ensures unwritten { IfErr result (λ fault. fault ≢ Output → output.new ≡ output.old) }
+    ensures unwritten { IfErr result (λ fault. fault ≢ output_failed → output.new ≡ output.old) }
 {
     let accounts = open(rt, names.accounts)?;
     let messages = open(rt, names.messages)?;
@@ -167,7 +167,7 @@ fn quote_told<R: AllocGlobal + InputFiles + Eprint, W: Write>(
     ensures status { IfOk result (λ status. status ≡ 0) }
     ensures quoted { OnOk result (QuotesNamed (R.finds rt.now) names config.now (W.contents output.old) (W.contents output.new)) }
     ensures refused { IfErr result (TellsQuoteNamed (R.finds rt.now) names config.now (W.contents output.old) (W.contents output.new)) }
-    ensures unwritten { IfErr result (λ fault. fault ≢ Output → output.new ≡ output.old) }
+    ensures unwritten { IfErr result (λ fault. fault ≢ output_failed → output.new ≡ output.old) }
 {
     let quoted = quote_named(rt, config, names, output);
     tell_behind(&mut StandardError { rt }, quoted, lines.as_bytes())
@@ -185,7 +185,7 @@ pub fn quote_job<R: AllocGlobal + Files + InputFiles + Eprint + Screen, W: Write
     ensures status { IfOk result (λ status. status ≡ 0) }
     ensures quoted { OnOk result (OfFile (R.finds rt.now) (string_bytes config) (λ octets. QuotesFiles (R.finds rt.now) octets (W.contents output.old) (W.contents output.new))) }
     ensures refused { IfErr result (TellsQuoteJob (R.finds rt.now) config (W.contents output.old) (W.contents output.new)) }
-    ensures unwritten { IfErr result (λ fault. fault ≢ Output → output.new ≡ output.old) }
+    ensures unwritten { IfErr result (λ fault. fault ≢ output_failed → output.new ≡ output.old) }
 {
     let at_length = is_at_length(rt.is_terminal(), verbose);
     let kept = name_at(rt.alloc(), config.as_str(), at_length)?;

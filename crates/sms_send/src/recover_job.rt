@@ -4,7 +4,7 @@ ghost use Rattle.std.specs.Prelude.{◌≡◌, ◌≢◌, IfErr, IfOk, false, st
 ghost use Rattle.sms_send.specs.Jobs.{IsStatus};
 ghost use Rattle.sms_send.specs.Recovered.{PrintsLeft, RecoversRun, TellsLeft, TellsRecovered, TellsRecoverJob, TellsRestJob};
 ghost use Rattle.sms_send.specs.Runs.{IsRun};
-ghost use Rattle.sms_send.specs.declared.fault.Fault.TheVariants.{Output};
+ghost use Rattle.sms_send.specs.Faults.{output_failed};
 ghost use Rattle.sms_send.specs.declared.run_files.RunFiles.{RunFiles as TheRunFiles};
 
 use crate::fault::Fault;
@@ -25,7 +25,7 @@ pub fn recover_job<R: AllocGlobal + InputFiles, W: Write>(
     ensures recovered { IfOk result (λ status. (run : TheRunFiles) × IsRun (R.finds rt.now) (string_bytes order.config) (string_bytes order.journal) run × RecoversRun run (W.contents output.old) (W.contents output.new) status) }
     ensures status { IfOk result IsStatus }
     ensures refused { IfErr result (TellsRecoverJob (R.finds rt.now) order (W.contents output.old) (W.contents output.new)) }
-    ensures unwritten { IfErr result (λ fault. fault ≢ Output → output.new ≡ output.old) }
+    ensures unwritten { IfErr result (λ fault. fault ≢ output_failed → output.new ≡ output.old) }
 {
     match read_run(rt, order.config, order.journal) {
         Ok(run) => recovered(rt.alloc(), &run, output),
@@ -38,7 +38,7 @@ fn recovered<W: Write>(alloc: Global, run: &RunFiles, output: &mut W) -> Result<
     ensures recovered { IfOk result (RecoversRun run.now (W.contents output.old) (W.contents output.new)) }
     ensures status { IfOk result IsStatus }
     ensures refused { IfErr result (TellsRecovered run.now (W.contents output.old) (W.contents output.new)) }
-    ensures unwritten { IfErr result (λ fault. fault ≢ Output → output.new ≡ output.old) }
+    ensures unwritten { IfErr result (λ fault. fault ≢ output_failed → output.new ≡ output.old) }
 {
     let recovered = run_recover(
         alloc,
@@ -65,7 +65,7 @@ pub fn rest_job<R: AllocGlobal + InputFiles, W: Write>(
     ensures status { IfOk result (λ status. status ≡ 0) }
     ensures printed { IfOk result (λ status. (run : TheRunFiles) × IsRun (R.finds rt.now) (string_bytes order.config) (string_bytes order.report) run × PrintsLeft order.accounts run (W.contents output.old) (W.contents output.new)) }
     ensures refused { IfErr result (TellsRestJob (R.finds rt.now) order (W.contents output.old) (W.contents output.new)) }
-    ensures unwritten { IfErr result (λ fault. fault ≢ Output → output.new ≡ output.old) }
+    ensures unwritten { IfErr result (λ fault. fault ≢ output_failed → output.new ≡ output.old) }
 {
     let accounts = order.accounts;
     match read_run(rt, order.config, order.report) {
@@ -84,7 +84,7 @@ fn left<W: Write>(
     ensures status { IfOk result (λ status. status ≡ 0) }
     ensures printed { IfOk result (λ status. PrintsLeft accounts run.now (W.contents output.old) (W.contents output.new)) }
     ensures refused { IfErr result (TellsLeft accounts run.now (W.contents output.old) (W.contents output.new)) }
-    ensures unwritten { IfErr result (λ fault. fault ≢ Output → output.new ≡ output.old) }
+    ensures unwritten { IfErr result (λ fault. fault ≢ output_failed → output.new ≡ output.old) }
 {
     if accounts {
         accounts_left(alloc, run, output)
@@ -98,7 +98,7 @@ fn accounts_left<W: Write>(alloc: Global, run: &RunFiles, output: &mut W) -> Res
     ensures status { IfOk result (λ status. status ≡ 0) }
     ensures printed { IfOk result (λ status. PrintsLeft true run.now (W.contents output.old) (W.contents output.new)) }
     ensures refused { IfErr result (TellsLeft true run.now (W.contents output.old) (W.contents output.new)) }
-    ensures unwritten { IfErr result (λ fault. fault ≢ Output → output.new ≡ output.old) }
+    ensures unwritten { IfErr result (λ fault. fault ≢ output_failed → output.new ≡ output.old) }
 {
     let printed = run_rest_accounts(
         alloc,
@@ -120,7 +120,7 @@ fn messages_left<W: Write>(alloc: Global, run: &RunFiles, output: &mut W) -> Res
     ensures status { IfOk result (λ status. status ≡ 0) }
     ensures printed { IfOk result (λ status. PrintsLeft false run.now (W.contents output.old) (W.contents output.new)) }
     ensures refused { IfErr result (TellsLeft false run.now (W.contents output.old) (W.contents output.new)) }
-    ensures unwritten { IfErr result (λ fault. fault ≢ Output → output.new ≡ output.old) }
+    ensures unwritten { IfErr result (λ fault. fault ≢ output_failed → output.new ≡ output.old) }
 {
     let printed = run_rest(
         alloc,

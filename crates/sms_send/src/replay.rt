@@ -2,6 +2,7 @@
 
 ghost use Rattle.std.specs.Prelude.{◌≡◌, ◌≢◌, None, IfErr, IfOk, IfSome, OnOk, string_bytes};
 ghost use Rattle.sms_files.specs.Fields.{records_of};
+ghost use Rattle.sms_send.specs.Faults.{output_failed};
 ghost use Rattle.sms_send.specs.Replays.{OfReplay, PrintsRun, Replays, ReplaysFront, TellsReplay, TellsSchedule};
 ghost use Rattle.sms_files.specs.Schedule.{schedule_fault};
 
@@ -26,8 +27,8 @@ pub fn run_replay<R: Read + Drop, W: Write>(
     ensures replayed { OnOk result (IfSome (R.remaining input) (λ bytes. Replays bytes (W.contents output.old) (W.contents output.new))) }
     ensures accepted { OnOk result (IfSome (R.remaining input) (λ bytes. schedule_fault (records_of bytes) ≡ None)) }
     ensures refused { IfErr result (λ fault. IfSome (R.remaining input) (λ bytes. TellsReplay (records_of bytes) fault)) }
-    ensures front { IfErr result (λ fault. fault ≡ Fault.Output → IfSome (R.remaining input) (λ bytes. ReplaysFront bytes (W.contents output.old) (W.contents output.new))) }
-    ensures unwritten { IfErr result (λ fault. fault ≢ Fault.Output → output.new ≡ output.old) }
+    ensures front { IfErr result (λ fault. fault ≡ output_failed → IfSome (R.remaining input) (λ bytes. ReplaysFront bytes (W.contents output.old) (W.contents output.new))) }
+    ensures unwritten { IfErr result (λ fault. fault ≢ output_failed → output.new ≡ output.old) }
 {
     let text = replayed(alloc, input)?;
     write_out(output, text.as_bytes())?;

@@ -3,12 +3,12 @@
 ghost use Rattle.std.specs.Prelude.{◌≡◌, ◌≢◌, IfErr, IfOk, OnOk, option_map, string_bytes};
 ghost use Rattle.sms_driver.specs.declared.latch.Word.TheVariants.{Go};
 ghost use Rattle.sms_driver.specs.declared.start.Begun.TheVariants.{NotYet, Heard};
-ghost use Rattle.sms_send.specs.Faults.{IsToldAt};
+ghost use Rattle.sms_send.specs.Faults.{IsToldAt, output_failed};
 ghost use Rattle.sms_send.specs.Opened.{OfFile};
 ghost use Rattle.sms_send.specs.Jobs.{IsStatusBy};
 ghost use Rattle.sms_send.specs.Noted.{IsToldNoted, SendsBy, TellsBegin, TellsOrder};
 ghost use Rattle.sms_send.specs.Sent.{RunsSender, TellsSender};
-ghost use Rattle.sms_send.specs.declared.fault.Fault.TheVariants.{Journal, Output};
+ghost use Rattle.sms_send.specs.declared.fault.Fault.TheVariants.{Journal};
 
 use crate::checked::send_plain;
 use crate::exposed::config_of;
@@ -75,7 +75,7 @@ pub fn run_sender<
     ensures refused { IfErr result (TellsSender (D.refuses dial.now) (D.told dial.now) config.now (A.remaining accounts) (M.remaining messages) (option_map T.remaining tariff) (W.contents output.old) (W.contents output.new)) }
     // And it says whether messages may have been sent: just where all workers were told to go.
     ensures told { IfErr result (IsToldAt start.new.begun) }
-    ensures unwritten { IfErr result (λ fault. fault ≢ Output → output.new ≡ output.old) }
+    ensures unwritten { IfErr result (λ fault. fault ≢ output_failed → output.new ≡ output.old) }
 {
     let input = read_input(alloc, config, accounts, messages, tariff)?;
     let ended = send_all(rt, alloc, start, input, dial, gate, clock, pause)?;
@@ -99,7 +99,7 @@ pub fn send_job<R: Host + InputFiles + Net<Stream = TcpStream, Listener = TcpLis
     ensures status { IfOk result (IsStatusBy order.strict) }
     ensures refused { IfErr result (TellsOrder (TellsBegin (R.makes rt.now) (R.refuses rt.now)) (R.finds rt.now) centre order (W.contents output.old) (W.contents output.new)) }
     ensures told { IfErr result (IsToldNoted order.strict start.new.begun (W.contents output.old) (W.contents output.new)) }
-    ensures unwritten { IfErr result (λ fault. fault ≢ Output → fault ≢ Journal → output.new ≡ output.old) }
+    ensures unwritten { IfErr result (λ fault. fault ≢ output_failed → fault ≢ Journal → output.new ≡ output.old) }
 {
     let Order {
         config,

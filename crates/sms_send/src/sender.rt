@@ -4,12 +4,12 @@ ghost use Rattle.std.specs.Prelude.{◌≡◌, ◌⊎◌, IfErr, IfOk, OnOk};
 ghost use Rattle.std.specs.Io.KnownBytes.{Appends};
 ghost use Rattle.sms_report.specs.Output.{WritesFront};
 ghost use Rattle.sms_report.specs.Report.{report_of};
-ghost use Rattle.sms_send.specs.Faults.{IsToldAt};
+ghost use Rattle.sms_send.specs.Faults.{IsToldAt, output_failed};
 ghost use Rattle.sms_send.specs.Sent.{AreSettingsOf, IsRulesOf, IsSent, TellsDriven};
 ghost use Rattle.sms_send.specs.Statuses.{status_by};
 ghost use Rattle.sms_driver.specs.declared.latch.Word.TheVariants.{Go};
 ghost use Rattle.sms_driver.specs.declared.start.Begun.TheVariants.{NotYet, Heard};
-ghost use Rattle.sms_send.specs.declared.fault.Fault.TheVariants.{Output, Unreported};
+ghost use Rattle.sms_send.specs.declared.fault.Fault.TheVariants.{Unreported};
 
 use crate::fault::Fault;
 use crate::status::status_of;
@@ -180,10 +180,10 @@ pub fn send_all<
 /// refused for that, the messages have ended.
 pub fn write_report<W: Write>(alloc: Global, ended: &Ended, output: &mut W) -> Result<(), Fault>
     ensures written { OnOk result (Appends (W.contents output.old) (W.contents output.new) (report_of ended.now.openings.items ended.now.ends.items ended.now.statement)) }
-    ensures failed { IfErr result (λ fault. (fault ≡ Output) ⊎ (fault ≡ Unreported)) }
+    ensures failed { IfErr result (λ fault. (fault ≡ output_failed) ⊎ (fault ≡ Unreported)) }
 
     // Where the output failed, a front of the text was written, and else nothing.
-    ensures front { IfErr result (λ fault. fault ≡ Output → WritesFront (W.contents output.old) (W.contents output.new) (report_of ended.now.openings.items ended.now.ends.items ended.now.statement)) }
+    ensures front { IfErr result (λ fault. fault ≡ output_failed → WritesFront (W.contents output.old) (W.contents output.new) (report_of ended.now.openings.items ended.now.ends.items ended.now.statement)) }
     ensures quiet { IfErr result (λ fault. fault ≡ Unreported → output.new ≡ output.old) }
 {
     let written = write_report_of(
@@ -195,7 +195,7 @@ pub fn write_report<W: Write>(alloc: Global, ended: &Ended, output: &mut W) -> R
     );
     match written {
         Ok(()) => Ok(()),
-        Err(OutputFault::Output) => Err(Fault::Output),
+        Err(OutputFault::Output(unwritten)) => Err(Fault::Output(unwritten)),
         Err(OutputFault::OutOfMemory) => Err(Fault::Unreported),
     }
 }

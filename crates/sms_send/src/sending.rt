@@ -3,11 +3,10 @@
 ghost use Rattle.std.specs.Prelude.{◌≡◌, ◌≢◌, IfErr, IfOk, OnOk};
 ghost use Rattle.sms_driver.specs.declared.latch.Word.TheVariants.{Go};
 ghost use Rattle.sms_driver.specs.declared.start.Begun.TheVariants.{NotYet, Heard};
-ghost use Rattle.sms_send.specs.Faults.{IsToldAt};
+ghost use Rattle.sms_send.specs.Faults.{IsToldAt, output_failed};
 ghost use Rattle.sms_send.specs.Jobs.{IsStatusBy};
 ghost use Rattle.sms_send.specs.Noted.{SendsInput, SendsWanted, TellsOver, TellsWanted};
 ghost use Rattle.sms_send.specs.Sent.{SendsNamed, TellsNamed, TellsSending, untold};
-ghost use Rattle.sms_send.specs.declared.fault.Fault.TheVariants.{Output};
 
 use crate::fault::Fault;
 use crate::opened::{InputFiles, open, open_named};
@@ -76,7 +75,7 @@ pub fn send_over<
     ensures status { IfOk result (IsStatusBy strict) }
     ensures refused { IfErr result (TellsOver reach.now.centre (R.finds rt.now) wanted config.now (W.contents output.old) (W.contents output.new)) }
     ensures told { IfErr result (IsToldAt start.new.begun) }
-    ensures unwritten { IfErr result (λ fault. fault ≢ Output → output.new ≡ output.old) }
+    ensures unwritten { IfErr result (λ fault. fault ≢ output_failed → output.new ≡ output.old) }
 {
     let outboxes = Outboxes::new(rt, journal);
     let pause = Rest {
@@ -154,7 +153,7 @@ fn send_wanted<
     ensures status { IfOk result (IsStatusBy strict) }
     ensures refused { IfErr result (TellsWanted (D.refuses dial.now) (D.told dial.now) (R.finds rt.now) wanted config.now (W.contents output.old) (W.contents output.new)) }
     ensures told { IfErr result (IsToldAt start.new.begun) }
-    ensures unwritten { IfErr result (λ fault. fault ≢ Output → output.new ≡ output.old) }
+    ensures unwritten { IfErr result (λ fault. fault ≢ output_failed → output.new ≡ output.old) }
 {
     match wanted {
         Wanted::Files(names) => send_files(
@@ -201,7 +200,7 @@ fn send_files<
     ensures status { IfOk result (IsStatusBy strict) }
     ensures refused { IfErr result (TellsNamed (D.refuses dial.now) (D.told dial.now) (R.finds rt.now) names config.now (W.contents output.old) (W.contents output.new)) }
     ensures told { IfErr result (IsToldAt start.new.begun) }
-    ensures unwritten { IfErr result (λ fault. fault ≢ Output → output.new ≡ output.old) }
+    ensures unwritten { IfErr result (λ fault. fault ≢ output_failed → output.new ≡ output.old) }
 {
     let accounts = open(rt, names.accounts)?;
     let messages = open(rt, names.messages)?;
@@ -240,7 +239,7 @@ fn send_input<
     ensures status { IfOk result (IsStatusBy strict) }
     ensures refused { IfErr result (TellsSending (D.refuses dial.now) (D.told dial.now) input (W.contents output.old) (W.contents output.new)) }
     ensures told { IfErr result (IsToldAt start.new.begun) }
-    ensures unwritten { IfErr result (λ fault. fault ≢ Output → output.new ≡ output.old) }
+    ensures unwritten { IfErr result (λ fault. fault ≢ output_failed → output.new ≡ output.old) }
 {
     outboxes.set_patience(input.config().retry.answer_ms);
     let clock = Ticks::new(rt);

@@ -236,7 +236,7 @@ fn tells_an_output_that_fails_at_each_octet(rt: HostRuntime) -> Result<(), Fail>
         );
         match written {
             Ok(()) => assert!(rt; room == wanted.len()),
-            Err(OutputFault::Output) => assert!(rt; room < wanted.len()),
+            Err(OutputFault::Output(_)) => assert!(rt; room < wanted.len()),
             Err(_) => return Err(Fail::from(AllocError)),
         }
         same(&rt, out.as_slice(), &wanted.as_bytes()[..room]);

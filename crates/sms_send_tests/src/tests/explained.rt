@@ -1,5 +1,7 @@
 //! What is told of a fault at length, and in a pipe.
 
+use super::broken::FailingOutput;
+use super::jobs::{SCHEDULE, replay_fault};
 use super::same::same;
 use sms_diagnostics::{FileTrouble, RecordTrouble};
 use sms_driver::{BindFailure, SendFault};
@@ -52,6 +54,14 @@ fn want_told(
     want_text(rt, fault, &Some(known), line, lines)
 }
 
+// The fault of an output that fails at once.
+fn output_fault(rt: &(impl AllocGlobal + Abort)) -> Fault {
+    match replay_fault(rt.alloc(), SCHEDULE, &mut FailingOutput { room: 0 }) {
+        Some(fault) => fault,
+        None => panic!(rt; "no fault"),
+    }
+}
+
 #[test]
 fn tells_faults_at_length(rt: HostRuntime) -> Result<(), Fail> {
     want_told(
@@ -80,7 +90,7 @@ fn tells_faults_at_length(rt: HostRuntime) -> Result<(), Fail> {
     )?;
     want_told(
         &rt,
-        &Fault::Output,
+        &output_fault(&rt),
         "fault: output\n",
         "  messages were sent: don't send them again before you know which\n",
     )?;

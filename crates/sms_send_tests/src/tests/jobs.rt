@@ -116,7 +116,7 @@ fn prints_schedules_and_faults(rt: HostRuntime) {
 }
 
 /// The schedule of the tests of broken devices.
-const SCHEDULE: &[u8] = b"world,1,64,3\nclaim,1,0\n";
+pub const SCHEDULE: &[u8] = b"world,1,64,3\nclaim,1,0\n";
 
 #[test]
 fn tells_a_broken_output(rt: HostRuntime) -> Result<(), Fail> {
@@ -218,7 +218,7 @@ fn stops_at(rt: &(impl AllocGlobal + Abort), left: &[u8], expected: &str) -> Res
     Ok(())
 }
 
-fn replay_fault<R: Read + Drop, W: Write>(
+pub fn replay_fault<R: Read + Drop, W: Write>(
     alloc: Global,
     input: R,
     output: &mut W,

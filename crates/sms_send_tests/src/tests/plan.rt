@@ -149,7 +149,7 @@ fn names_the_record_past_the_limit(rt: HostRuntime) -> Result<(), Fail> {
 fn want_broken_writer(rt: &(impl AllocGlobal + Abort), input: &[u8], room: usize) {
     let mut output = FailingOutput { room };
     match run_plan(rt.alloc(), input, false, &mut output) {
-        Err(Fault::Output) => {}
+        Err(Fault::Output(_)) => {}
         _ => panic!(rt; "a broken writer"),
     }
 }

@@ -149,7 +149,7 @@ fn want_broken_writers(rt: &(impl AllocGlobal + Abort), output: usize, error: us
         &mut FailingOutput { room: error },
     );
     match done {
-        Err(Fault::Output) => {}
+        Err(Fault::Output(_)) => {}
         _ => panic!(rt; "a broken writer"),
     }
 }
@@ -187,7 +187,7 @@ fn want_untold(rt: &(impl AllocGlobal + Abort), room: usize) {
         &mut FailingOutput { room },
     );
     match done {
-        Err(Fault::Output) => same(rt, printed.as_slice(), WARNED_QUOTE.as_bytes()),
+        Err(Fault::Output(_)) => same(rt, printed.as_slice(), WARNED_QUOTE.as_bytes()),
         _ => panic!(rt; "a broken writer"),
     }
 }
