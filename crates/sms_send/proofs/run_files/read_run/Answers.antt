@@ -1,4 +1,4 @@
-use Rattle.std.proofs.Common.{◌≡◌, ◌⊎◌, inl, inr, refl, subst, ℕ, List}
+use Rattle.std.proofs.Common.{◌⊎◌, inl, inr, refl, subst, ℕ, List}
 use Rattle.std.specs.Prelude.{string_bytes}
 use Rattle.sms_files.specs.ConfigFaults.{IsConfig}
 use Rattle.sms_files.specs.Setups.{names_in}
