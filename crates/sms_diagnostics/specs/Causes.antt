@@ -76,6 +76,7 @@ cause_text (cause.FailedAt host port why) = centre_line host.now port (bind_text
 cause_text cause.Unnoted = line (codes "what was not noted was not sent; a printed report is right")
 cause_text cause.Overdrawn = line (codes "it takes more of an account than that has")
 cause_text cause.OutputOfSent = line (codes "messages were sent: don't send them again before you know which")
+cause_text cause.OutputInDoubt = line (codes "messages may have been sent: don't send them again before you know which")
 cause_text cause.Output = line (codes "nothing was sent")
 cause_text cause.Unstarted = line (codes "memory or a thread was refused; nothing was sent")
 cause_text cause.OutOfMemory = line (codes "memory or a thread was refused; messages may have been sent")

@@ -77,6 +77,8 @@ pub enum Cause<'a> {
     Overdrawn,
     /// What is to be printed can't be written, once messages were sent.
     OutputOfSent,
+    /// It can't be written, and messages may have been sent: what the program did isn't known.
+    OutputInDoubt,
     /// It can't be written, and nothing was sent.
     Output,
     /// Memory was refused, or a thread, before anything was sent.
@@ -116,6 +118,12 @@ impl<'a> fmt::Display for Cause<'a> {
                 write_line(
                     f,
                     "messages were sent: don't send them again before you know which",
+                )
+            }
+            Cause::OutputInDoubt => {
+                write_line(
+                    f,
+                    "messages may have been sent: don't send them again before you know which",
                 )
             }
             Cause::Output => write_line(f, "nothing was sent"),

@@ -2,6 +2,7 @@ pub mod Accepting
 pub mod Charging
 pub mod Covering
 pub mod Jobs
+pub mod Knowing
 pub mod Lines
 pub mod Noting
 pub mod Plans

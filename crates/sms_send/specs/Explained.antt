@@ -29,7 +29,7 @@ use Rattle.sms_files.specs.declared.held.Held.TheVariants as held
 use Rattle.sms_send.specs.Faults.{fault_text}
 use Rattle.sms_send.specs.declared.explained.Address.{Address}
 use Rattle.sms_send.specs.declared.explained.Doing.{Doing}
-use Rattle.sms_send.specs.declared.explained.Doing.TheVariants.{Sending, Recovering, Else}
+use Rattle.sms_send.specs.declared.explained.Doing.TheVariants.{Sending, Recovering, Else, Unknown}
 use Rattle.sms_send.specs.declared.explained.Known.{Known}
 use Rattle.sms_send.specs.declared.explained.Told.{Told}
 use Rattle.sms_send.specs.declared.fault.Fault.{Fault}
@@ -64,16 +64,18 @@ abbrev pub lines_of_bind : Option Address → BindTrouble → List ℕ
 lines_of_bind None trouble = line (bind_text trouble)
 lines_of_bind (Some centre) trouble = centre_line (string_bytes centre.host) centre.port (bind_text trouble)
 
--- of a journal and of the output by what the job does
+-- of a journal and of the output by what the job does; where that isn't known, messages may have been sent
 abbrev pub lines_of_journal : Doing → List ℕ
 lines_of_journal Recovering = line (codes "it takes more of an account than that has")
 lines_of_journal Sending = line (codes "what was not noted was not sent; a printed report is right")
 lines_of_journal Else = line (codes "what was not noted was not sent; a printed report is right")
+lines_of_journal Unknown = []
 
 abbrev pub lines_of_output : Doing → List ℕ
 lines_of_output Sending = line (codes "messages were sent: don't send them again before you know which")
 lines_of_output Recovering = line (codes "nothing was sent")
 lines_of_output Else = line (codes "nothing was sent")
+lines_of_output Unknown = line (codes "messages may have been sent: don't send them again before you know which")
 
 -- the trouble with a record that has this flaw, in a file that may end within a quote; of a record without a flaw it is that, or isn't known
 abbrev pub trouble_by : Flaw → Bool → RecordTrouble

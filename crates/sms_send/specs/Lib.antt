@@ -2,6 +2,7 @@ pub mod Explained
 pub mod Exposed
 pub mod Faults
 pub mod FullNames
+pub mod Known
 pub mod Opened
 pub mod CommandLine
 pub mod Plans

@@ -1,66 +1,90 @@
 //! What stands now in the files of a run that has a fault.
 
-ghost use Rattle.std.specs.Prelude.{◌≡◌};
+ghost use Rattle.std.specs.Prelude.{◌≡◌, IfSome, option_map};
+ghost use Rattle.sms_files.specs.Setups.{names_in, setup_in};
+ghost use Rattle.sms_files.specs.declared.config.Config.{Config};
 ghost use Rattle.sms_send.specs.Explained.{IsHeldOf, IsTroubleOf, trouble_by as trouble_said};
+ghost use Rattle.sms_send.specs.Known.{IsCentreBy, IsConfigNow, IsHeldBy, IsHeldNow, IsTroubleNow, StandsBy, StandsIn, StandsNamed, config_in, named_in, records_in};
 
 use crate::explained::Address;
 use crate::fault::Fault;
 use crate::job::Job;
+use crate::looks::FilesAgain;
 use crate::reading::setup_of;
 use sms_diagnostics::RecordTrouble;
 use sms_files::{Flaw, Held, Setup, Source, ends_quoted, flaw_of, held_at};
 use std::alloc::Global;
-use std::fs;
-use std::io::Read;
-use std::rt::Files;
-
-/// The octets of the file of this name. What isn't a plain file can't be read once more.
-fn octets_again<R: AllocGlobal + Files>(rt: &R, name: &str) -> Option<Vec<u8>> {
-    match fs::metadata(rt, name) {
-        Ok(found) if found.is_file() => {}
-        _ => return None,
-    }
-    let mut file = fs::open(rt, name).ok()?;
-    let mut octets = Vec::new(rt.alloc());
-    match file.read_to_end(&mut octets) {
-        Ok(_) => Some(octets),
-        Err(_unread) => None,
-    }
-}
 
 /// What the config of this name names now.
-fn setup_again<R: AllocGlobal + Files>(rt: &R, config: &str) -> Option<Setup> {
-    let octets = octets_again(rt, config)?;
+fn setup_again<R: AllocGlobal + FilesAgain>(rt: &R, config: &str) -> Option<Setup>
+    ensures { IfSome result (λ setup. (c : Config) × IsConfigNow (R.holds rt.now) config.now c × (setup ≡ setup_in c)) }
+{
+    let Some(octets) = rt.octets_again(config) else {
+        return None;
+    };
     match setup_of(rt.alloc(), octets.as_slice()) {
         Ok(setup) => Some(setup),
         Err(_unknown) => None,
     }
 }
 
-/// The message centre that it names.
-pub fn address_in<R: AllocGlobal + Files>(rt: &R, config: &str) -> Option<Address> {
-    let Setup { host, port, .. } = setup_again(rt, config)?;
-    Some(Address { host, port })
+/// The message centre of a setup.
+fn centre_in(setup: Setup) -> Address
+    ensures host { result.host ≡ setup.host }
+    ensures port { result.port ≡ setup.port }
+{
+    let Setup { host, port, .. } = setup;
+    Address { host, port }
 }
 
-/// The octets of the file of a source that the config of this name names.
-fn named_again<R: AllocGlobal + Files>(rt: &R, config: &str, source: Source) -> Option<Vec<u8>> {
-    let Setup {
-        accounts,
-        messages,
-        tariff,
-        ..
-    } = setup_again(rt, config)?;
-    match source {
-        Source::Schedule => None,
-        Source::Accounts => octets_again(rt, accounts.as_str()),
-        Source::Messages => octets_again(rt, messages.as_str()),
-        Source::Tariff => octets_again(rt, tariff.as_str()),
+/// The message centre that the config of this name names now.
+pub fn address_in<R: AllocGlobal + FilesAgain>(rt: &R, config: &str) -> Option<Address>
+    ensures { IfSome result (IsCentreBy (R.holds rt.now) config.now) }
+{
+    match setup_again(rt, config) {
+        Some(setup) => Some(centre_in(setup)),
+        None => None,
     }
 }
 
+/// The name of the file of a source; a setup has none of a schedule.
+fn source_name(setup: &Setup, source: Source) -> Option<&str>
+    ensures { option_map (λ name. name.now) result ≡ named_in (names_in setup.now) source }
+{
+    match source {
+        Source::Schedule => None,
+        Source::Accounts => Some(setup.accounts.as_str()),
+        Source::Messages => Some(setup.messages.as_str()),
+        Source::Tariff => Some(setup.tariff.as_str()),
+    }
+}
+
+/// The octets of the file of a source that a setup names.
+fn octets_named<R: FilesAgain>(rt: &R, setup: &Setup, source: Source) -> Option<Vec<u8>>
+    ensures { IfSome result (λ octets. StandsNamed (R.holds rt.now) (names_in setup.now) source octets.items) }
+{
+    match source_name(setup, source) {
+        Some(name) => rt.octets_again(name),
+        None => None,
+    }
+}
+
+/// The octets of the file of a source that the config of this name names now.
+fn named_again<R: AllocGlobal + FilesAgain>(rt: &R, config: &str, source: Source) -> Option<Vec<u8>>
+    ensures { IfSome result (λ octets. StandsBy (R.holds rt.now) config.now source octets.items) }
+{
+    let Some(setup) = setup_again(rt, config) else {
+        return None;
+    };
+    let octets = octets_named(rt, &setup, source);
+    drop(setup);
+    octets
+}
+
 /// The name of a job's config, where it has one.
-fn config_name(job: &Job) -> Option<&str> {
+fn config_name(job: &Job) -> Option<&str>
+    ensures { option_map (λ name. name.now) result ≡ config_in job.now }
+{
     match job {
         Job::Replay(_) | Job::Plan(_, _) => None,
         Job::Quote(config, _) => Some(config.as_str()),
@@ -70,12 +94,27 @@ fn config_name(job: &Job) -> Option<&str> {
     }
 }
 
-/// The octets of a job's file of this source. Standard input can't be read once more.
-fn source_again<R: AllocGlobal + Files>(rt: &R, job: &Job, source: Source) -> Option<Vec<u8>> {
+/// The name of the file of records that its words name, where they do.
+fn records_name(job: &Job) -> Option<&str>
+    ensures { option_map (λ name. name.now) result ≡ records_in job.now }
+{
     match job {
-        Job::Replay(Some(name)) => octets_again(rt, name.as_str()),
-        Job::Plan(name, _) => octets_again(rt, name.as_str()),
-        _ => named_again(rt, config_name(job)?, source),
+        Job::Replay(Some(name)) => Some(name.as_str()),
+        Job::Plan(name, _) => Some(name.as_str()),
+        _ => None,
+    }
+}
+
+/// The octets of a job's file of this source. Standard input can't be read once more.
+fn source_again<R: AllocGlobal + FilesAgain>(rt: &R, job: &Job, source: Source) -> Option<Vec<u8>>
+    ensures { IfSome result (λ octets. StandsIn (R.holds rt.now) job.now source octets.items) }
+{
+    if let Some(name) = records_name(job) {
+        return rt.octets_again(name);
+    }
+    match config_name(job) {
+        Some(config) => named_again(rt, config, source),
+        None => None,
     }
 }
 
@@ -119,12 +158,10 @@ fn held_in(alloc: Global, octets: &[u8], key: &str) -> Held
 }
 
 /// The trouble with the record that a fault of a job names.
-pub fn trouble_again<R: AllocGlobal + Files>(
-    rt: &R,
-    fault: &Fault,
-    job: &Result<Job, Fault>,
-) -> RecordTrouble {
-    let (Fault::BadRecord(source, place), Ok(job)) = (fault, job) else {
+pub fn trouble_again<R: AllocGlobal + FilesAgain>(rt: &R, fault: &Fault, job: &Job) -> RecordTrouble
+    ensures { IsTroubleNow (R.holds rt.now) job.now fault.now result }
+{
+    let Fault::BadRecord(source, place) = fault else {
         return RecordTrouble::Unknown;
     };
     match source_again(rt, job, *source) {
@@ -133,16 +170,25 @@ pub fn trouble_again<R: AllocGlobal + Files>(
     }
 }
 
+/// What the config of this name holds now at a key.
+fn held_by<R: AllocGlobal + FilesAgain>(rt: &R, config: &str, key: &str) -> Held
+    ensures { IsHeldBy (R.holds rt.now) config.now key.now result }
+{
+    match rt.octets_again(config) {
+        Some(octets) => held_in(rt.alloc(), octets.as_slice(), key),
+        None => Held::Nothing,
+    }
+}
+
 /// What a job's config holds at the key that a fault names.
-pub fn held_again<R: AllocGlobal + Files>(rt: &R, fault: &Fault, job: &Result<Job, Fault>) -> Held {
-    let (Fault::BadKey(key), Ok(job)) = (fault, job) else {
+pub fn held_again<R: AllocGlobal + FilesAgain>(rt: &R, fault: &Fault, job: &Job) -> Held
+    ensures { IsHeldNow (R.holds rt.now) job.now fault.now result }
+{
+    let Fault::BadKey(key) = fault else {
         return Held::Nothing;
     };
-    let Some(config) = config_name(job) else {
-        return Held::Nothing;
-    };
-    match octets_again(rt, config) {
-        Some(octets) => held_in(rt.alloc(), octets.as_slice(), key.as_str()),
+    match config_name(job) {
+        Some(config) => held_by(rt, config, key.as_str()),
         None => Held::Nothing,
     }
 }

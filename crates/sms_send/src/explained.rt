@@ -20,8 +20,10 @@ pub enum Doing {
     Sending,
     /// It looks into the journal of a run.
     Recovering,
-    /// It does neither.
+    /// It does neither, or there is none.
     Else,
+    /// The words that ask for it couldn't be read once more.
+    Unknown,
 }
 
 /// To whom a bind goes.
@@ -106,6 +108,7 @@ fn journal_cause<'a>(doing: Doing) -> Cause<'a>
     match doing {
         Doing::Recovering => Cause::Overdrawn,
         Doing::Sending | Doing::Else => Cause::Unnoted,
+        Doing::Unknown => Cause::Nothing,
     }
 }
 
@@ -116,6 +119,7 @@ fn output_cause<'a>(doing: Doing) -> Cause<'a>
     match doing {
         Doing::Sending => Cause::OutputOfSent,
         Doing::Recovering | Doing::Else => Cause::Output,
+        Doing::Unknown => Cause::OutputInDoubt,
     }
 }
 

@@ -12,6 +12,7 @@ use crate::explained::{is_at_length, told_of};
 use crate::fault::Fault;
 use crate::job::{Job, job_of};
 use crate::known::known_at;
+use crate::looks::FilesAgain;
 use crate::opened::{InputFiles, open};
 use crate::plan::run_plan;
 use crate::quote_job::quote_job;
@@ -25,7 +26,7 @@ use sms_driver::{Latch, Start};
 use sms_report::write_out;
 use std::io::{ErrorKind, Write};
 use std::net::{Net, TcpListener, TcpStream};
-use std::rt::{Env, Files};
+use std::rt::Env;
 use std::{env, io};
 
 /// The exit status where a fault can't be told: that of a fault of the output.
@@ -111,7 +112,7 @@ pub struct Untold;
 
 /// Tells a fault on standard error, and help or the version on standard output. That they can't be
 /// printed is a fault of the output, which is told in its turn.
-pub fn tell<R: AllocGlobal + Env + Files + Screen + Eprint + Print>(
+pub fn tell<R: AllocGlobal + Env + FilesAgain + Screen + Eprint + Print>(
     rt: &R,
     fault: &Fault,
 ) -> Result<(), Untold> {
@@ -130,16 +131,16 @@ pub fn tell<R: AllocGlobal + Env + Files + Screen + Eprint + Print>(
 
 /// Tells a fault in one line on standard error; on a terminal, and where the words ask for more, lines
 /// follow it.
-fn tell_fault<R: AllocGlobal + Env + Files + Screen + Eprint>(
+fn tell_fault<R: AllocGlobal + Env + FilesAgain + Screen + Eprint>(
     rt: &R,
     fault: &Fault,
 ) -> Result<(), Untold> {
-    let words = match words_of(rt) {
-        Ok(words) => words,
-        Err(_untold) => Vec::new(rt.alloc()),
+    let words = words_of(rt).ok();
+    let verbose = match &words {
+        Some(words) => is_verbose(words.as_slice()),
+        None => false,
     };
-    let at_length = is_at_length(rt.is_terminal(), is_verbose(words.as_slice()));
-    let known = known_at(rt, words.as_slice(), fault, at_length);
+    let known = known_at(rt, &words, fault, is_at_length(rt.is_terminal(), verbose));
     match tell_lines(rt, &told_of(fault, &known)) {
         Ok(()) => Ok(()),
         Err(_) => Err(Untold),

@@ -7,7 +7,7 @@ use sms_diagnostics::{
 use std::test::Fail;
 
 /// Causes, and what is told of them.
-const TOLD: [(Cause<'static>, &str); 27] = [
+const TOLD: [(Cause<'static>, &str); 28] = [
     (
         Cause::Words("error: no such word '\x1b[2Jx'\n\nfault: words"),
         "  error: no such word '\\x1b[2Jx'\n  \n  fault: words\n",
@@ -97,6 +97,10 @@ const TOLD: [(Cause<'static>, &str); 27] = [
     (
         Cause::OutputOfSent,
         "  messages were sent: don't send them again before you know which\n",
+    ),
+    (
+        Cause::OutputInDoubt,
+        "  messages may have been sent: don't send them again before you know which\n",
     ),
     (Cause::Output, "  nothing was sent\n"),
     (

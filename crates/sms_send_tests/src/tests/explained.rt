@@ -123,3 +123,20 @@ fn tells_what_want_of_memory_came_to(rt: HostRuntime) -> Result<(), Fail> {
     same(&rt, unreported.exit_status(), 1);
     Ok(())
 }
+
+/// Where the words can't be read once more, it isn't known whether anything was sent.
+#[test]
+fn tells_no_more_than_is_known(rt: HostRuntime) -> Result<(), Fail> {
+    let known = Some(Known {
+        doing: Doing::Unknown,
+        ..known(rt.alloc())?
+    });
+    want_text(
+        &rt,
+        &Fault::Output,
+        &known,
+        "fault: output\n",
+        "  messages may have been sent: don't send them again before you know which\n",
+    )?;
+    want_text(&rt, &Fault::Journal, &known, "fault: journal\n", "")
+}
