@@ -133,7 +133,7 @@ fn tells_no_more_than_is_known(rt: HostRuntime) -> Result<(), Fail> {
     });
     want_text(
         &rt,
-        &Fault::Output,
+        &output_fault(&rt),
         &known,
         "fault: output\n",
         "  messages may have been sent: don't send them again before you know which\n",
