@@ -1,5 +1,6 @@
 pub mod Telling
 pub mod Outboxes
+pub mod Centres
 pub mod Standard
 pub mod Journals
 pub mod Openings

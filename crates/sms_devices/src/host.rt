@@ -1,5 +1,6 @@
 //! What the program asks of the process that it runs in.
 
+use crate::connects::Connects;
 use crate::journal::JournalFiles;
 use crate::screen::Screen;
 use std::io::Eprint;
@@ -8,12 +9,12 @@ use std::sync::Wait;
 use std::thread::Threads;
 use std::time::Clock;
 
-/// Memory, words, files, journals, standard input and error, threads and the time. Connections are asked for beside
-/// it, since they name the types of their streams.
+/// Memory, words, files, journals, connections, standard input and error, threads and the time.
 pub trait Host: AllocGlobal
     + Env
     + Files
     + JournalFiles
+    + Connects
     + Input
     + Threads
     + Wait
@@ -28,6 +29,7 @@ where
         + Env
         + Files
         + JournalFiles
+        + Connects
         + Input
         + Threads
         + Wait

@@ -10,7 +10,7 @@ const LENGTH_OCTETS: u64 = 4;
 
 /// A time from which on nothing is awaited any more.
 #[derive(Clone, Copy, Debug)]
-pub(crate) struct Deadline {
+pub struct Deadline {
     begun: Instant,
     most: Duration,
 }

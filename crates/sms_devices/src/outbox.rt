@@ -2,10 +2,11 @@
 //! together, and not by a write each. Before any of it is written the journal of the run is let out.
 
 ghost use Rattle.std.specs.Prelude.{◌≡◌, ◌+◌, ◌<◌, ◌≤◌, [], IfOk, IsErr, false, if◌then◌else◌, is_err, length, min, option_copied, true};
+ghost use Rattle.std.specs.Option.{is_some};
 ghost use Rattle.std.specs.Result.{result_ok};
 ghost use Rattle.std.specs.Io.{WritesAtMost};
 ghost use Rattle.std.specs.Io.KnownBytes.{Keeps, WriteAppends};
-ghost use Rattle.sms_devices.specs.Outboxes.{outbox_of, put_in, waiting_in};
+ghost use Rattle.sms_devices.specs.Outboxes.{has_journal, outbox_of, put_in, waiting_in};
 
 use crate::bell::Bells;
 use crate::connecting::{Reason, Unconnected};
@@ -287,7 +288,9 @@ pub struct Outboxes<'j, R: Wait, F: Write + OpenFile> {
 
 impl<'j, R: Wait, F: Write + OpenFile> Outboxes<'j, R, F> {
     /// Outboxes of no connection, in a run that may have a journal.
-    pub fn new(rt: &'j R, journal: Option<&'j Journal<F>>) -> Outboxes<'j, R, F> {
+    pub fn new(rt: &'j R, journal: Option<&'j Journal<F>>) -> Outboxes<'j, R, F>
+        ensures { has_journal result ≡ is_some journal.entry }
+    {
         Outboxes {
             rt,
             journal,

@@ -2,21 +2,19 @@
 //! someone waits, and who is served.
 
 use super::same::same;
-use sms_devices::{Journal, LoopDial, Outboxes, Rest, TcpDial, Ticks, listen};
+use sms_devices::{Connects, Journal, LoopDial, Outboxes, Rest, TcpDial, Ticks};
 use sms_driver::Dial;
 use sms_worker::{Clock, Pause};
 use std::fs::File;
 use std::io::{Read, Write};
-use std::net::{IpAddr, Ipv4Addr, Net, TcpListener, TcpStream};
+use std::net::{IpAddr, Ipv4Addr, TcpListener, TcpStream};
 use std::process::Abort;
 use std::thread;
 use std::time::Duration;
 
 /// A listener, which this machine alone reaches, and its port.
-pub fn listening(
-    rt: &(impl Net<Stream = TcpStream, Listener = TcpListener> + Abort),
-) -> (TcpListener, u16) {
-    let Some(listener) = listen(rt) else {
+pub fn listening(rt: &(impl Connects + Abort)) -> (TcpListener, u16) {
+    let Some(listener) = rt.listen() else {
         panic!(rt; "no listener")
     };
     match listener.local_addr() {
