@@ -14,3 +14,4 @@ pub mod Starts
 pub mod Statuses
 pub mod Telling
 pub mod Reasons
+pub mod Reaching

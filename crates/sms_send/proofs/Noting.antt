@@ -1,6 +1,7 @@
 -- What a sending ended with, and what it ends with once its journal has ended.
-use Rattle.std.proofs.Common.{◌≡◌, ◌⊎◌, inl, inr, subst, sym, ℕ, Bool, List, Option, Some, None, Result, Ok, Err, IfOk, IfErr}
+use Rattle.std.proofs.Common.{◌≡◌, ◌⊎◌, inl, inr, subst, sym, ℕ, Bool, true, false, List, Option, Some, None, Result, Ok, Err, IfOk, IfErr}
 use Rattle.std.specs.Prelude.{◌≢◌, string_bytes}
+use Rattle.sms_devices.specs.Centres.{CentreAt}
 use Rattle.sms_files.specs.ConfigFaults.{IsConfig, TellsConfig}
 use Rattle.sms_files.specs.Inputs.{Told}
 use Rattle.sms_files.specs.Setups.{names_in, setup_in}
@@ -9,6 +10,7 @@ use Rattle.sms_files.specs.declared.setup.Setup.{Setup}
 use Rattle.sms_send.specs.Faults.{TellsRead, output_failed}
 use Rattle.sms_send.specs.Noted.{SendsBy, SendsNoted, SendsPlain, SendsThem, TellsBy, TellsNoted, TellsOrder, TellsPlain, TellsThem}
 use Rattle.sms_send.specs.Opened.{OfFile}
+use Rattle.sms_send.specs.Reached.{centre_at}
 use Rattle.sms_send.specs.declared.fault.Fault.{Fault}
 use Rattle.sms_send.specs.declared.fault.Fault.TheVariants.{Journal}
 use Rattle.sms_send.specs.declared.order.JournalFile.{JournalFile}
@@ -41,10 +43,10 @@ ended_quiet (Err f) x A (inl same) quiet = λ other _. (rw same at quiet) other
 ended_quiet (Err f) x A (inr told) quiet = λ other not. absurd (not told.0)
 
 -- a fault of the config's octets
-pub tells_setup : (begins : JournalFile → Fault → Type 0) (finds : List ℕ → Option Told → Type 0) (centre : Centre) (order : Order) (old new : Option (List ℕ)) (fault : Fault) (items octets : List ℕ)
-    → OfFile finds (string_bytes order.config) (λ bytes. items ≡ bytes) → octets ≡ items → TellsRead (TellsConfig octets) fault → TellsOrder begins finds centre order old new fault
-tells_setup begins finds centre order old new fault items octets input same told =
-    inr (inr (beside finds (string_bytes order.config) items octets (λ bytes. TellsBy begins order.strict finds centre order.journal bytes old new fault) input same (inl told)))
+pub tells_setup : (begins : JournalFile → Fault → Type 0) (tells : CentreAt → Bool → ℕ → Told) (finds : List ℕ → Option Told → Type 0) (centre : Centre) (order : Order) (old new : Option (List ℕ)) (fault : Fault) (items octets : List ℕ)
+    → OfFile finds (string_bytes order.config) (λ bytes. items ≡ bytes) → octets ≡ items → TellsRead (TellsConfig octets) fault → TellsOrder begins tells finds centre order old new fault
+tells_setup begins tells finds centre order old new fault items octets input same told =
+    inr (inr (beside finds (string_bytes order.config) items octets (λ bytes. TellsBy begins tells order.strict finds centre order.journal bytes old new fault) input same (inl told)))
 
 -- what was read of a config: its octets are those of the file of its name, and the setup is of the config that they are
 pub record IsSetUp (finds : List ℕ → Option Told → Type 0) (name items read handed : List ℕ) (setup : Setup) : Type 0 where
@@ -53,44 +55,52 @@ pub record IsSetUp (finds : List ℕ → Option Told → Type 0) (name items rea
   pub two : handed ≡ items
   pub says : (config : Config) × IsConfig read config × (setup ≡ setup_in config)
 
--- what was sent of the files that a setup names, and what a fault says of them
-pub sends_them : (strict : Bool) (finds : List ℕ → Option Told → Type 0) (name items read handed : List ℕ) (setup : Setup) (journal : Option JournalFile) (old new : Option (List ℕ)) (status : ℕ)
-    → IsSetUp finds name items read handed setup → SendsThem strict finds journal (names_in setup) handed old new status
-    → OfFile finds name (λ octets. SendsBy strict finds journal octets old new status)
-sends_them strict finds name items read handed setup journal old new status set sent =
-    of_config finds name items read handed setup (λ names octets. SendsThem strict finds journal names octets old new status) (λ octets. SendsBy strict finds journal octets old new status)
+-- what was sent of the files that a setup names, to the centre that it says, and what a fault says of them
+pub sends_them : (tells : CentreAt → Bool → ℕ → Told) (centre : Centre) (strict : Bool) (finds : List ℕ → Option Told → Type 0) (name items read handed : List ℕ) (setup : Setup) (journal : Option JournalFile) (old new : Option (List ℕ)) (status : ℕ)
+    → IsSetUp finds name items read handed setup → SendsThem (tells (centre_at centre setup)) strict finds journal (names_in setup) handed old new status
+    → OfFile finds name (λ octets. SendsBy tells centre strict finds journal octets old new status)
+sends_them tells centre strict finds name items read handed setup journal old new status set sent =
+    of_config finds name items read handed setup (λ s octets. SendsThem (tells (centre_at centre s)) strict finds journal (names_in s) octets old new status) (λ octets. SendsBy tells centre strict finds journal octets old new status)
     set.input set.one set.two set.says (λ octets so. so) sent
 
-pub tells_them : (begins : JournalFile → Fault → Type 0) (finds : List ℕ → Option Told → Type 0) (items read handed : List ℕ) (setup : Setup) (centre : Centre) (order : Order) (old new : Option (List ℕ)) (fault : Fault)
-    → IsSetUp finds (string_bytes order.config) items read handed setup → TellsThem begins order.strict finds centre order.journal (names_in setup) handed old new fault → TellsOrder begins finds centre order old new fault
-tells_them begins finds items read handed setup centre order old new fault set tells =
-    inr (inr (of_config finds (string_bytes order.config) items read handed setup (λ names octets. TellsThem begins order.strict finds centre order.journal names octets old new fault) (λ octets. TellsBy begins order.strict finds centre order.journal octets old new fault)
-    set.input set.one set.two set.says (λ octets so. inr so) tells))
+pub tells_them : (begins : JournalFile → Fault → Type 0) (tells : CentreAt → Bool → ℕ → Told) (finds : List ℕ → Option Told → Type 0) (items read handed : List ℕ) (setup : Setup) (centre : Centre) (order : Order) (old new : Option (List ℕ)) (fault : Fault)
+    → IsSetUp finds (string_bytes order.config) items read handed setup
+    → TellsThem begins (tells (centre_at centre setup)) order.strict finds centre order.journal (names_in setup) handed old new fault → TellsOrder begins tells finds centre order old new fault
+tells_them begins tells finds items read handed setup centre order old new fault set told =
+    inr (inr (of_config finds (string_bytes order.config) items read handed setup (λ s octets. TellsThem begins (tells (centre_at centre s)) order.strict finds centre order.journal (names_in s) octets old new fault)
+    (λ octets. TellsBy begins tells order.strict finds centre order.journal octets old new fault)
+    set.input set.one set.two set.says (λ octets so. inr so) told))
 
--- without a journal
-pub plain_sends : (strict : Bool) (finds : List ℕ → Option Told → Type 0) (name items read handed : List ℕ) (setup : Setup) (journal : Option JournalFile) (old new : Option (List ℕ)) (status : ℕ)
-    → journal ≡ None → IsSetUp finds name items read handed setup → SendsPlain strict finds (names_in setup) handed old new status
-    → OfFile finds name (λ octets. SendsBy strict finds journal octets old new status)
-plain_sends strict finds name items read handed setup journal old new status is set sent =
-    sends_them strict finds name items read handed setup journal old new status set
-    (subst (λ (j : Option JournalFile). SendsThem strict finds j (names_in setup) handed old new status) (sym is) sent)
+-- without a journal, where it was sent to that centre
+pub plain_sends : (tells : CentreAt → Bool → ℕ → Told) (centre : Centre) (reached : CentreAt) (strict : Bool) (finds : List ℕ → Option Told → Type 0) (name items read handed : List ℕ) (setup : Setup) (journal : Option JournalFile) (old new : Option (List ℕ)) (status : ℕ)
+    → journal ≡ None → reached ≡ centre_at centre setup → IsSetUp finds name items read handed setup → SendsPlain (tells reached false) strict finds (names_in setup) handed old new status
+    → OfFile finds name (λ octets. SendsBy tells centre strict finds journal octets old new status)
+plain_sends tells centre reached strict finds name items read handed setup journal old new status is at set sent =
+    sends_them tells centre strict finds name items read handed setup journal old new status set
+    (subst (λ (j : Option JournalFile). SendsThem (tells (centre_at centre setup)) strict finds j (names_in setup) handed old new status) (sym is)
+    (subst (λ (c : CentreAt). SendsPlain (tells c false) strict finds (names_in setup) handed old new status) at sent))
 
-pub plain_tells : (begins : JournalFile → Fault → Type 0) (finds : List ℕ → Option Told → Type 0) (items read handed : List ℕ) (setup : Setup) (centre : Centre) (order : Order) (old new : Option (List ℕ)) (fault : Fault)
-    → order.journal ≡ None → IsSetUp finds (string_bytes order.config) items read handed setup → TellsPlain order.strict finds centre (names_in setup) handed old new fault → TellsOrder begins finds centre order old new fault
-plain_tells begins finds items read handed setup centre order old new fault is set tells =
-    tells_them begins finds items read handed setup centre order old new fault set
-    (subst (λ (j : Option JournalFile). TellsThem begins order.strict finds centre j (names_in setup) handed old new fault) (sym is) tells)
+pub plain_tells : (begins : JournalFile → Fault → Type 0) (tells : CentreAt → Bool → ℕ → Told) (reached : CentreAt) (finds : List ℕ → Option Told → Type 0) (items read handed : List ℕ) (setup : Setup) (centre : Centre) (order : Order) (old new : Option (List ℕ)) (fault : Fault)
+    → order.journal ≡ None → reached ≡ centre_at centre setup → IsSetUp finds (string_bytes order.config) items read handed setup
+    → TellsPlain (tells reached false) order.strict finds centre (names_in setup) handed old new fault → TellsOrder begins tells finds centre order old new fault
+plain_tells begins tells reached finds items read handed setup centre order old new fault is at set told =
+    tells_them begins tells finds items read handed setup centre order old new fault set
+    (subst (λ (j : Option JournalFile). TellsThem begins (tells (centre_at centre setup)) order.strict finds centre j (names_in setup) handed old new fault) (sym is)
+    (subst (λ (c : CentreAt). TellsPlain (tells c false) order.strict finds centre (names_in setup) handed old new fault) at told))
 
 -- and with one
-pub noted_sends : (strict : Bool) (finds : List ℕ → Option Told → Type 0) (name items read handed : List ℕ) (setup : Setup) (journal : Option JournalFile) (file : JournalFile) (old new : Option (List ℕ)) (status : ℕ)
-    → journal ≡ Some file → IsSetUp finds name items read handed setup → SendsNoted strict finds (names_in setup) handed old new status
-    → OfFile finds name (λ octets. SendsBy strict finds journal octets old new status)
-noted_sends strict finds name items read handed setup journal file old new status is set sent =
-    sends_them strict finds name items read handed setup journal old new status set
-    (subst (λ (j : Option JournalFile). SendsThem strict finds j (names_in setup) handed old new status) (sym is) sent)
+pub noted_sends : (tells : CentreAt → Bool → ℕ → Told) (centre : Centre) (reached : CentreAt) (strict : Bool) (finds : List ℕ → Option Told → Type 0) (name items read handed : List ℕ) (setup : Setup) (journal : Option JournalFile) (file : JournalFile) (old new : Option (List ℕ)) (status : ℕ)
+    → journal ≡ Some file → reached ≡ centre_at centre setup → IsSetUp finds name items read handed setup → SendsNoted (tells reached true) strict finds (names_in setup) handed old new status
+    → OfFile finds name (λ octets. SendsBy tells centre strict finds journal octets old new status)
+noted_sends tells centre reached strict finds name items read handed setup journal file old new status is at set sent =
+    sends_them tells centre strict finds name items read handed setup journal old new status set
+    (subst (λ (j : Option JournalFile). SendsThem (tells (centre_at centre setup)) strict finds j (names_in setup) handed old new status) (sym is)
+    (subst (λ (c : CentreAt). SendsNoted (tells c true) strict finds (names_in setup) handed old new status) at sent))
 
-pub noted_tells : (begins : JournalFile → Fault → Type 0) (finds : List ℕ → Option Told → Type 0) (items read handed : List ℕ) (setup : Setup) (centre : Centre) (order : Order) (file : JournalFile) (old new : Option (List ℕ)) (fault : Fault)
-    → order.journal ≡ Some file → IsSetUp finds (string_bytes order.config) items read handed setup → TellsNoted begins order.strict finds centre file (names_in setup) handed old new fault → TellsOrder begins finds centre order old new fault
-noted_tells begins finds items read handed setup centre order file old new fault is set tells =
-    tells_them begins finds items read handed setup centre order old new fault set
-    (subst (λ (j : Option JournalFile). TellsThem begins order.strict finds centre j (names_in setup) handed old new fault) (sym is) tells)
+pub noted_tells : (begins : JournalFile → Fault → Type 0) (tells : CentreAt → Bool → ℕ → Told) (reached : CentreAt) (finds : List ℕ → Option Told → Type 0) (items read handed : List ℕ) (setup : Setup) (centre : Centre) (order : Order) (file : JournalFile) (old new : Option (List ℕ)) (fault : Fault)
+    → order.journal ≡ Some file → reached ≡ centre_at centre setup → IsSetUp finds (string_bytes order.config) items read handed setup
+    → TellsNoted begins (tells reached true) order.strict finds centre file (names_in setup) handed old new fault → TellsOrder begins tells finds centre order old new fault
+noted_tells begins tells reached finds items read handed setup centre order file old new fault is at set told =
+    tells_them begins tells finds items read handed setup centre order old new fault set
+    (subst (λ (j : Option JournalFile). TellsThem begins (tells (centre_at centre setup)) order.strict finds centre j (names_in setup) handed old new fault) (sym is)
+    (subst (λ (c : CentreAt). TellsNoted begins (tells c true) order.strict finds centre file (names_in setup) handed old new fault) at told))

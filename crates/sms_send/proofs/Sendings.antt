@@ -6,9 +6,8 @@ use Rattle.sms_files.specs.Inputs.{Told}
 use Rattle.sms_send.specs.Opened.{OfFile}
 use Rattle.sms_report.specs.Output.{WritesFront}
 use Rattle.sms_send.specs.Sent.{IsSent, TellsSending, report_in}
-use Rattle.sms_files.specs.Setups.{names_in, setup_in}
+use Rattle.sms_files.specs.Setups.{setup_in}
 use Rattle.sms_files.specs.declared.config.Config.{Config}
-use Rattle.sms_files.specs.declared.config.FileNames.{FileNames}
 use Rattle.sms_driver.specs.Starts.{TellsStart}
 use Rattle.sms_driver.specs.declared.fault.SendFault.{SendFault}
 use Rattle.sms_driver.specs.declared.fault.SendFault.TheVariants as send
@@ -25,15 +24,15 @@ pub beside : (finds : List ℕ → Option Told → Type 0) (name items octets : 
     → OfFile finds name (λ bytes. items ≡ bytes) → octets ≡ items → P octets → OfFile finds name P
 beside finds name items octets P (told, found, are) same holds = (told, found, IfSome_then told are (λ bytes is. subst P (same ∙ is) holds))
 
--- what holds of the files that a setup names holds of those of the config that it is of
-pub of_config : (finds : List ℕ → Option Told → Type 0) (name items read handed : List ℕ) (setup : Setup) (Q : FileNames → List ℕ → Type 0) (P : List ℕ → Type 0)
+-- what holds of a setup holds of that of the config that it is of
+pub of_config : (finds : List ℕ → Option Told → Type 0) (name items read handed : List ℕ) (setup : Setup) (Q : Setup → List ℕ → Type 0) (P : List ℕ → Type 0)
     → OfFile finds name (λ bytes. items ≡ bytes) → read ≡ items → handed ≡ items
     → ((config : Config) × IsConfig read config × (setup ≡ setup_in config))
-    → ((octets : List ℕ) → ((config : Config) × IsConfig octets config × Q config.files octets) → P octets)
-    → Q (names_in setup) handed → OfFile finds name P
+    → ((octets : List ℕ) → ((config : Config) × IsConfig octets config × Q (setup_in config) octets) → P octets)
+    → Q setup handed → OfFile finds name P
 of_config finds name items read handed setup Q P input one two (config, says, same) into holds =
     beside finds name items items P input refl
-    (into items (config, subst (λ (octets : List ℕ). IsConfig octets config) one says, subst (λ (octets : List ℕ). Q config.files octets) two (subst (λ (s : Setup). Q (names_in s) handed) same holds)))
+    (into items (config, subst (λ (octets : List ℕ). IsConfig octets config) one says, subst (λ (octets : List ℕ). Q (setup_in config) octets) two (subst (λ (s : Setup). Q s handed) same holds)))
 
 -- the report wasn't written: the output failed behind a front of it, or memory was refused for it
 pub unwritten_told : (refuses : ℕ → Type 0) (told : ℕ → Told) (input : Input) (ended : Ended) (old new : Option (List ℕ)) (fault : Fault) → IsSent told input ended

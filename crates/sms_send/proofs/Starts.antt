@@ -1,5 +1,6 @@
 -- How far a sending came of which a fault is told.
-use Rattle.std.proofs.Common.{◌≡◌, ◌⊎◌, inl, inr, sym, subst, ℕ, Bool, List, Option, String, Global, Result, Ok, Err, IfErr, IfOk, OnOk}
+use Rattle.std.proofs.Common.{◌≡◌, ◌⊎◌, inl, inr, sym, subst, ℕ, Bool, true, List, Option, String, Global, Result, Ok, Err, IfErr, IfOk, OnOk}
+use Rattle.sms_devices.specs.Centres.{CentreAt}
 use Rattle.sms_devices.specs.declared.connecting.Unconnected.{Unconnected as Why}
 use Rattle.sms_driver.specs.declared.fault.BindFailure.TheVariants as failure
 use Rattle.sms_driver.specs.declared.latch.Word.TheVariants.{Go}
@@ -15,7 +16,6 @@ use Rattle.sms_send.specs.Faults.{IsToldAt, TellsRead, told_input, with_reason, 
 use Rattle.sms_send.specs.Noted.{IsToldNoted, SendsInput, TellsInputOf}
 use Rattle.sms_send.specs.Opened.{TellsMissing, TellsUnreadFile}
 use Rattle.sms_send.specs.Runs.{TellsNamedFiles, TellsOpened, TellsUnread}
-use Rattle.sms_send.specs.Sent.{untold}
 use Rattle.sms_send.specs.declared.fault.Fault.{Fault}
 use Rattle.sms_send.specs.declared.fault.Fault.TheVariants.{BindFailed, File, Journal, OutOfMemory, Unreported}
 use Rattle.sms_send.specs.declared.run_files.NamedFiles.{NamedFiles}
@@ -88,19 +88,19 @@ reasoned_at (Err e) x b (f, is, why, same) so = subst (IsToldAt b) (sym same) (r
 -- ---- with a journal
 
 -- a fault is told as of a sending without one
-pub noted_at : (strict : Bool) (b : Begun) (old new : Option (List ℕ)) (f : Fault) → IsToldAt b f → IsToldNoted strict b old new f
-noted_at strict b old new Journal so = absurd so
-noted_at strict b old new f so = so
+pub noted_at : (tells : CentreAt → Bool → ℕ → Told) (strict : Bool) (b : Begun) (old new : Option (List ℕ)) (f : Fault) → IsToldAt b f → IsToldNoted tells strict b old new f
+noted_at tells strict b old new Journal so = absurd so
+noted_at tells strict b old new f so = so
 
 -- its file can't be made, or what was made doesn't take the first line
-pub begun_at : {A C : Type 0} (strict : Bool) (b : Begun) (old new : Option (List ℕ)) (name : String Global) (fault : Fault) → b ≡ NotYet → new ≡ old
-    → ((fault ≡ File name) × A) ⊎ ((fault ≡ Journal) × C) → IsToldNoted strict b old new fault
-begun_at strict b old new name fault yet same (inl (is, made)) = subst (IsToldNoted strict b old new) (sym is) yet
-begun_at strict b old new name fault yet same (inr (is, made)) = subst (IsToldNoted strict b old new) (sym is) (inl (yet, same))
+pub begun_at : {A C : Type 0} (tells : CentreAt → Bool → ℕ → Told) (strict : Bool) (b : Begun) (old new : Option (List ℕ)) (name : String Global) (fault : Fault) → b ≡ NotYet → new ≡ old
+    → ((fault ≡ File name) × A) ⊎ ((fault ≡ Journal) × C) → IsToldNoted tells strict b old new fault
+begun_at tells strict b old new name fault yet same (inl (is, made)) = subst (IsToldNoted tells strict b old new) (sym is) yet
+begun_at tells strict b old new name fault yet same (inr (is, made)) = subst (IsToldNoted tells strict b old new) (sym is) (inl (yet, same))
 
 -- it has ended behind the report, or the fault is that of the sending
-pub ended_at : (r x : Result ℕ Fault) (strict : Bool) (b : Begun) (sent : Input) (old new : Option (List ℕ))
-    → IfErr r (Ends x) → IfErr x (IsToldAt b) → OnOk x (b ≡ Heard Go) → IfOk x (SendsInput untold strict sent old new) → IfErr r (IsToldNoted strict b old new)
-ended_at (Ok s) x strict b sent old new told bad went good = tt
-ended_at (Err f) x strict b sent old new (inl same) bad went good = noted_at strict b old new f (rw same at bad)
-ended_at (Err f) x strict b sent old new (inr (is, s, ok)) bad went good = subst (IsToldNoted strict b old new) (sym is) (inr (rw ok at went, sent, s, rw ok at good))
+pub ended_at : (r x : Result ℕ Fault) (tells : CentreAt → Bool → ℕ → Told) (centre : CentreAt) (strict : Bool) (b : Begun) (sent : Input) (old new : Option (List ℕ))
+    → IfErr r (Ends x) → IfErr x (IsToldAt b) → OnOk x (b ≡ Heard Go) → IfOk x (SendsInput (tells centre true) strict sent old new) → IfErr r (IsToldNoted tells strict b old new)
+ended_at (Ok s) x tells centre strict b sent old new told bad went good = tt
+ended_at (Err f) x tells centre strict b sent old new (inl same) bad went good = noted_at tells strict b old new f (rw same at bad)
+ended_at (Err f) x tells centre strict b sent old new (inr (is, s, ok)) bad went good = subst (IsToldNoted tells strict b old new) (sym is) (inr (rw ok at went, centre, sent, s, rw ok at good))

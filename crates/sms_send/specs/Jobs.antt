@@ -2,6 +2,7 @@
 use Rattle.std.specs.Prelude.{◌≡◌, ◌⊎◌, Bool, true, ℕ, List, Option, None, Some, string_bytes}
 use Rattle.std.specs.Io.KnownBytes.{Appends}
 use Rattle.clap.specs.Words.{Text}
+use Rattle.sms_devices.specs.Centres.{CentreAt}
 use Rattle.sms_send.specs.CommandLine.{IsJob, TellsWords, subcommand_in}
 use Rattle.sms_files.specs.Fields.{records_of}
 use Rattle.sms_files.specs.Inputs.{Told}
@@ -45,26 +46,26 @@ IsStatusOf (Recover order) status = IsStatus status
 IsStatusOf (Rest order) status = status ≡ 0
 
 -- the job was done with this status: standard input or the file of the name was replayed, that file planned, the files that the config names quoted or sent, or what is left of a run printed
-abbrev pub Does : {S : Type 0} → (S → Told) → (List ℕ → Option Told → Type 0) → Job → Option (List ℕ) → Option (List ℕ) → ℕ → Type 0
-Does standard finds (Replay None) old new status = OfInput standard (λ bytes. Replays bytes old new)
-Does standard finds (Replay (Some name)) old new status = OfFile finds (string_bytes name) (λ bytes. Replays bytes old new)
-Does standard finds (Plan name long) old new status = OfFile finds (string_bytes name) (λ bytes. Plans long bytes old new)
-Does standard finds (Quote config verbose) old new status = OfFile finds (string_bytes config) (λ octets. QuotesFiles finds octets old new)
-Does standard finds (Loop order) old new status = OfFile finds (string_bytes order.config) (λ octets. SendsBy order.strict finds order.journal octets old new status)
-Does standard finds (Send order) old new status = OfFile finds (string_bytes order.config) (λ octets. SendsBy order.strict finds order.journal octets old new status)
-Does standard finds (Recover order) old new status = (run : RunFiles) × IsRun finds (string_bytes order.config) (string_bytes order.journal) run × RecoversRun run old new status
-Does standard finds (Rest order) old new status = (run : RunFiles) × IsRun finds (string_bytes order.config) (string_bytes order.report) run × PrintsLeft order.accounts run old new
+abbrev pub Does : {S : Type 0} → (S → Told) → (List ℕ → Option Told → Type 0) → (CentreAt → Bool → ℕ → Told) → Job → Option (List ℕ) → Option (List ℕ) → ℕ → Type 0
+Does standard finds tells (Replay None) old new status = OfInput standard (λ bytes. Replays bytes old new)
+Does standard finds tells (Replay (Some name)) old new status = OfFile finds (string_bytes name) (λ bytes. Replays bytes old new)
+Does standard finds tells (Plan name long) old new status = OfFile finds (string_bytes name) (λ bytes. Plans long bytes old new)
+Does standard finds tells (Quote config verbose) old new status = OfFile finds (string_bytes config) (λ octets. QuotesFiles finds octets old new)
+Does standard finds tells (Loop order) old new status = OfFile finds (string_bytes order.config) (λ octets. SendsBy tells Own order.strict finds order.journal octets old new status)
+Does standard finds tells (Send order) old new status = OfFile finds (string_bytes order.config) (λ octets. SendsBy tells Named order.strict finds order.journal octets old new status)
+Does standard finds tells (Recover order) old new status = (run : RunFiles) × IsRun finds (string_bytes order.config) (string_bytes order.journal) run × RecoversRun run old new status
+Does standard finds tells (Rest order) old new status = (run : RunFiles) × IsRun finds (string_bytes order.config) (string_bytes order.report) run × PrintsLeft order.accounts run old new
 
 -- what a fault of a job says, of a world where a journal's beginning tells such: its file can't be opened, or what the fault says of the input
-abbrev pub TellsJob : {S : Type 0} → (JournalFile → Fault → Type 0) → (S → Told) → (List ℕ → Option Told → Type 0) → Job → Option (List ℕ) → Option (List ℕ) → Fault → Type 0
-TellsJob begins standard finds (Replay None) old new fault = OfInput standard (λ bytes. TellsReplay (records_of bytes) fault)
-TellsJob begins standard finds (Replay (Some name)) old new fault = TellsLost finds name fault ⊎ OfFile finds (string_bytes name) (λ bytes. TellsReplay (records_of bytes) fault)
-TellsJob begins standard finds (Plan name long) old new fault = TellsLost finds name fault ⊎ OfFile finds (string_bytes name) (λ bytes. TellsPlan (records_of bytes) fault)
-TellsJob begins standard finds (Quote config verbose) old new fault = TellsQuoteJob finds config old new fault
-TellsJob begins standard finds (Loop order) old new fault = TellsOrder begins finds Own order old new fault
-TellsJob begins standard finds (Send order) old new fault = TellsOrder begins finds Named order old new fault
-TellsJob begins standard finds (Recover order) old new fault = TellsRecoverJob finds order old new fault
-TellsJob begins standard finds (Rest order) old new fault = TellsRestJob finds order old new fault
+abbrev pub TellsJob : {S : Type 0} → (JournalFile → Fault → Type 0) → (S → Told) → (List ℕ → Option Told → Type 0) → (CentreAt → Bool → ℕ → Told) → Job → Option (List ℕ) → Option (List ℕ) → Fault → Type 0
+TellsJob begins standard finds tells (Replay None) old new fault = OfInput standard (λ bytes. TellsReplay (records_of bytes) fault)
+TellsJob begins standard finds tells (Replay (Some name)) old new fault = TellsLost finds name fault ⊎ OfFile finds (string_bytes name) (λ bytes. TellsReplay (records_of bytes) fault)
+TellsJob begins standard finds tells (Plan name long) old new fault = TellsLost finds name fault ⊎ OfFile finds (string_bytes name) (λ bytes. TellsPlan (records_of bytes) fault)
+TellsJob begins standard finds tells (Quote config verbose) old new fault = TellsQuoteJob finds config old new fault
+TellsJob begins standard finds tells (Loop order) old new fault = TellsOrder begins tells finds Own order old new fault
+TellsJob begins standard finds tells (Send order) old new fault = TellsOrder begins tells finds Named order old new fault
+TellsJob begins standard finds tells (Recover order) old new fault = TellsRecoverJob finds order old new fault
+TellsJob begins standard finds tells (Rest order) old new fault = TellsRestJob finds order old new fault
 
 -- how far its sending came once a job was done: all workers were told to go, of one that sends
 abbrev pub HasBegun : Job → Begun → Type 0
@@ -73,22 +74,22 @@ HasBegun (Send order) begun = begun ≡ Heard Go
 HasBegun _ begun = begun ≡ NotYet
 
 -- how far it came where this fault of the job is told
-abbrev pub IsToldOf : Job → Begun → Option (List ℕ) → Option (List ℕ) → Fault → Type 0
-IsToldOf (Loop order) begun old new fault = IsToldNoted order.strict begun old new fault
-IsToldOf (Send order) begun old new fault = IsToldNoted order.strict begun old new fault
-IsToldOf _ begun old new fault = begun ≡ NotYet
+abbrev pub IsToldOf : (CentreAt → Bool → ℕ → Told) → Job → Begun → Option (List ℕ) → Option (List ℕ) → Fault → Type 0
+IsToldOf tells (Loop order) begun old new fault = IsToldNoted tells order.strict begun old new fault
+IsToldOf tells (Send order) begun old new fault = IsToldNoted tells order.strict begun old new fault
+IsToldOf tells _ begun old new fault = begun ≡ NotYet
 
 -- these words ask for a job, and it was done
-abbrev pub Works : {S : Type 0} → (S → Told) → (List ℕ → Option Told → Type 0) → List Text → ℕ → Option (List ℕ) → Option (List ℕ) → Type 0
-Works standard finds words status old new = (job : Job) × IsJob (subcommand_in words) job × IsStatusOf job status × Does standard finds job old new status
+abbrev pub Works : {S : Type 0} → (S → Told) → (List ℕ → Option Told → Type 0) → (CentreAt → Bool → ℕ → Told) → List Text → ℕ → Option (List ℕ) → Option (List ℕ) → Type 0
+Works standard finds tells words status old new = (job : Job) × IsJob (subcommand_in words) job × IsStatusOf job status × Does standard finds tells job old new status
 
 -- what a fault says of the words: they are refused, or what it says of the job that they ask for
-abbrev pub TellsRun : {S : Type 0} → (JournalFile → Fault → Type 0) → (S → Told) → (List ℕ → Option Told → Type 0) → List Text → Option (List ℕ) → Option (List ℕ) → Fault → Type 0
-TellsRun begins standard finds words old new fault = TellsWords words fault ⊎ ((job : Job) × IsJob (subcommand_in words) job × TellsJob begins standard finds job old new fault)
+abbrev pub TellsRun : {S : Type 0} → (JournalFile → Fault → Type 0) → (S → Told) → (List ℕ → Option Told → Type 0) → (CentreAt → Bool → ℕ → Told) → List Text → Option (List ℕ) → Option (List ℕ) → Fault → Type 0
+TellsRun begins standard finds tells words old new fault = TellsWords words fault ⊎ ((job : Job) × IsJob (subcommand_in words) job × TellsJob begins standard finds tells job old new fault)
 
 -- how far the sending came that these words ask for, once what they ask for was done, and where this fault is told
 abbrev pub WentSo : List Text → Begun → Type 0
 WentSo words begun = (job : Job) × IsJob (subcommand_in words) job × HasBegun job begun
 
-abbrev pub IsToldSo : List Text → Begun → Option (List ℕ) → Option (List ℕ) → Fault → Type 0
-IsToldSo words begun old new fault = ((begun ≡ NotYet) × TellsWords words fault) ⊎ ((job : Job) × IsJob (subcommand_in words) job × IsToldOf job begun old new fault)
+abbrev pub IsToldSo : (CentreAt → Bool → ℕ → Told) → List Text → Begun → Option (List ℕ) → Option (List ℕ) → Fault → Type 0
+IsToldSo tells words begun old new fault = ((begun ≡ NotYet) × TellsWords words fault) ⊎ ((job : Job) × IsJob (subcommand_in words) job × IsToldOf tells job begun old new fault)

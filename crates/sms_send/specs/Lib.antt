@@ -7,6 +7,7 @@ pub mod Opened
 pub mod CommandLine
 pub mod Plans
 pub mod Quoted
+pub mod Reached
 pub mod Recovered
 pub mod Remarks
 pub mod Replays

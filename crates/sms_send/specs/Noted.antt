@@ -2,6 +2,7 @@
 use Rattle.std.specs.Prelude.{◌≡◌, ◌⊎◌, ◌+◌, ℕ, Bool, true, false, List, Option, Some, None, length}
 use Rattle.std.specs.Io.KnownBytes.{Appends}
 use Rattle.std.specs.String.{string_bytes}
+use Rattle.sms_devices.specs.Centres.{CentreAt}
 use Rattle.sms_devices.specs.Journals.{HasEnded}
 use Rattle.sms_files.specs.ConfigFaults.{IsConfig, TellsConfig}
 use Rattle.sms_files.specs.Inputs.{Told, TellsInput}
@@ -15,8 +16,9 @@ use Rattle.sms_files.specs.declared.input.Input.{Input}
 use Rattle.sms_recovery.specs.Files.{Reads, told_of}
 use Rattle.sms_send.specs.Faults.{IsTold, IsToldAt, TellsRead}
 use Rattle.sms_send.specs.Opened.{OfFile, TellsUnreadFile}
+use Rattle.sms_send.specs.Reached.{centre_in}
 use Rattle.sms_send.specs.Runs.{AreNamed, TellsNamedFiles, tariff_in}
-use Rattle.sms_send.specs.Sent.{IsSent, SendsNamed, TellsNamed, TellsSending, report_in, unknown, untold}
+use Rattle.sms_send.specs.Sent.{IsSent, SendsNamed, TellsNamed, TellsSending, report_in, unknown}
 use Rattle.sms_send.specs.Statuses.{status_by}
 use Rattle.sms_driver.specs.declared.fault.BindFailure.TheVariants.{NoConnection}
 use Rattle.sms_driver.specs.declared.latch.Word.TheVariants.{Go}
@@ -56,8 +58,8 @@ TellsWanted refuses told finds (Read input) octets old new fault = TellsSending 
 abbrev pub IsDeaf : Centre → Fault → Type 0
 IsDeaf centre fault = (centre ≡ Own) × (fault ≡ BindFailed 0 NoConnection)
 
-abbrev pub TellsOver : Centre → (List ℕ → Option Told → Type 0) → Wanted → List ℕ → Option (List ℕ) → Option (List ℕ) → Fault → Type 0
-TellsOver centre finds wanted octets old new fault = IsDeaf centre fault ⊎ IsTold (TellsWanted unknown untold finds wanted octets old new) fault
+abbrev pub TellsOver : (ℕ → Told) → Centre → (List ℕ → Option Told → Type 0) → Wanted → List ℕ → Option (List ℕ) → Option (List ℕ) → Fault → Type 0
+TellsOver told centre finds wanted octets old new fault = IsDeaf centre fault ⊎ IsTold (TellsWanted unknown told finds wanted octets old new) fault
 
 -- ---- with files that were read to their ends
 
@@ -82,32 +84,32 @@ TellsInputOf strict octets named fault = TellsFilesOf octets named fault ⊎ ((s
 
 -- the files of these names were read to their ends, and what they say beside a config of these octets was sent; strictly only
 -- where the messages file doesn't end within a quote
-pub record SendsNoted (strict : Bool) (finds : List ℕ → Option Told → Type 0) (names : FileNames) (octets : List ℕ) (old new : Option (List ℕ)) (status : ℕ) : Type 0 where
+pub record SendsNoted (told : ℕ → Told) (strict : Bool) (finds : List ℕ → Option Told → Type 0) (names : FileNames) (octets : List ℕ) (old new : Option (List ℕ)) (status : ℕ) : Type 0 where
   pub named : NamedFiles
   pub are : AreNamed finds names named
   pub input : Input
   pub read : IsInputOf octets named input
   pub closed : strict ≡ true → ¬ EndsQuoted named.messages.items
-  pub sends : SendsInput untold strict input old new status
+  pub sends : SendsInput told strict input old new status
 
 -- what a fault says of them: one can't be opened or read, or it is of what they say, or of the sending
-abbrev pub TellsChecked : (List ℕ → Option Told → Type 0) → Centre → FileNames → List ℕ → Option (List ℕ) → Option (List ℕ) → Fault → Type 0
-TellsChecked finds centre names octets old new fault =
+abbrev pub TellsChecked : (ℕ → Told) → (List ℕ → Option Told → Type 0) → Centre → FileNames → List ℕ → Option (List ℕ) → Option (List ℕ) → Fault → Type 0
+TellsChecked told finds centre names octets old new fault =
     TellsNamedFiles finds names fault
     ⊎ ((named : NamedFiles) × AreNamed finds names named × (TellsInputOf true octets named fault
-    ⊎ ((input : Input) × IsInputOf octets named input × (IsDeaf centre fault ⊎ IsTold (TellsSending unknown untold input old new) fault))))
+    ⊎ ((input : Input) × IsInputOf octets named input × (IsDeaf centre fault ⊎ IsTold (TellsSending unknown told input old new) fault))))
 
 -- ---- without a journal
 
 -- the files of these names were sent; where that is strict they were read to their ends before
-abbrev pub SendsPlain : Bool → (List ℕ → Option Told → Type 0) → FileNames → List ℕ → Option (List ℕ) → Option (List ℕ) → ℕ → Type 0
-SendsPlain true finds names octets old new status = SendsNoted true finds names octets old new status
-SendsPlain false finds names octets old new status = SendsNamed untold false finds names octets old new status
+abbrev pub SendsPlain : (ℕ → Told) → Bool → (List ℕ → Option Told → Type 0) → FileNames → List ℕ → Option (List ℕ) → Option (List ℕ) → ℕ → Type 0
+SendsPlain told true finds names octets old new status = SendsNoted told true finds names octets old new status
+SendsPlain told false finds names octets old new status = SendsNamed told false finds names octets old new status
 
 -- what a fault says of that
-abbrev pub TellsPlain : Bool → (List ℕ → Option Told → Type 0) → Centre → FileNames → List ℕ → Option (List ℕ) → Option (List ℕ) → Fault → Type 0
-TellsPlain true finds centre names octets old new fault = TellsChecked finds centre names octets old new fault
-TellsPlain false finds centre names octets old new fault = TellsOver centre finds (Files names) octets old new fault
+abbrev pub TellsPlain : (ℕ → Told) → Bool → (List ℕ → Option Told → Type 0) → Centre → FileNames → List ℕ → Option (List ℕ) → Option (List ℕ) → Fault → Type 0
+TellsPlain told true finds centre names octets old new fault = TellsChecked told finds centre names octets old new fault
+TellsPlain told false finds centre names octets old new fault = TellsOver told centre finds (Files names) octets old new fault
 
 -- ---- with a journal
 
@@ -125,45 +127,46 @@ IsNoted {F} contents status = (file : F) × HasEnded contents status file
 
 -- what a fault says of them once they were read: it is of what they say; it is told so where the journal is begun, and nothing was
 -- written; the journal failed behind the report; a centre of the program's own can't listen; or it is of the sending
-abbrev pub TellsReadFiles : (JournalFile → Fault → Type 0) → Bool → Centre → JournalFile → NamedFiles → List ℕ → Option (List ℕ) → Option (List ℕ) → Fault → Type 0
-TellsReadFiles begins strict centre journal named octets old new fault =
+abbrev pub TellsReadFiles : (JournalFile → Fault → Type 0) → (ℕ → Told) → Bool → Centre → JournalFile → NamedFiles → List ℕ → Option (List ℕ) → Option (List ℕ) → Fault → Type 0
+TellsReadFiles begins told strict centre journal named octets old new fault =
     TellsInputOf strict octets named fault
     ⊎ (begins journal fault × (new ≡ old))
     ⊎ ((input : Input) × IsInputOf octets named input
-    × (IsDeaf centre fault ⊎ IsTold (TellsSending unknown untold input old new) fault ⊎ ((fault ≡ Journal) × (status : ℕ) × SendsInput untold strict input old new status)))
+    × (IsDeaf centre fault ⊎ IsTold (TellsSending unknown told input old new) fault ⊎ ((fault ≡ Journal) × (status : ℕ) × SendsInput told strict input old new status)))
 
-abbrev pub TellsNoted : (JournalFile → Fault → Type 0) → Bool → (List ℕ → Option Told → Type 0) → Centre → JournalFile → FileNames → List ℕ → Option (List ℕ) → Option (List ℕ) → Fault → Type 0
-TellsNoted begins strict finds centre journal names octets old new fault =
-    TellsNamedFiles finds names fault ⊎ ((named : NamedFiles) × AreNamed finds names named × TellsReadFiles begins strict centre journal named octets old new fault)
+abbrev pub TellsNoted : (JournalFile → Fault → Type 0) → (ℕ → Told) → Bool → (List ℕ → Option Told → Type 0) → Centre → JournalFile → FileNames → List ℕ → Option (List ℕ) → Option (List ℕ) → Fault → Type 0
+TellsNoted begins told strict finds centre journal names octets old new fault =
+    TellsNamedFiles finds names fault ⊎ ((named : NamedFiles) × AreNamed finds names named × TellsReadFiles begins told strict centre journal named octets old new fault)
 
 -- how far a sending with a journal came of which this fault is told: the journal failed before a word was said, and then nothing was written, or behind the
 -- whole report; else the fault says so as of one without
-abbrev pub IsToldNoted : Bool → Begun → Option (List ℕ) → Option (List ℕ) → Fault → Type 0
-IsToldNoted strict begun old new Journal =
-    ((begun ≡ NotYet) × (new ≡ old)) ⊎ ((begun ≡ Heard Go) × (input : Input) × (status : ℕ) × SendsInput untold strict input old new status)
-IsToldNoted strict begun old new fault = IsToldAt begun fault
+abbrev pub IsToldNoted : (CentreAt → Bool → ℕ → Told) → Bool → Begun → Option (List ℕ) → Option (List ℕ) → Fault → Type 0
+IsToldNoted tells strict begun old new Journal =
+    ((begun ≡ NotYet) × (new ≡ old)) ⊎ ((begun ≡ Heard Go) × (centre : CentreAt) × (input : Input) × (status : ℕ) × SendsInput (tells centre true) strict input old new status)
+IsToldNoted tells strict begun old new fault = IsToldAt begun fault
 
 -- ---- the job
 
--- the files of these names were sent, with a journal or without
-abbrev pub SendsThem : Bool → (List ℕ → Option Told → Type 0) → Option JournalFile → FileNames → List ℕ → Option (List ℕ) → Option (List ℕ) → ℕ → Type 0
-SendsThem strict finds None names octets old new status = SendsPlain strict finds names octets old new status
-SendsThem strict finds (Some journal) names octets old new status = SendsNoted strict finds names octets old new status
+-- the files of these names were sent to a centre, of which connections tell this that are written to behind a journal, and without: with one or not
+abbrev pub SendsThem : (Bool → ℕ → Told) → Bool → (List ℕ → Option Told → Type 0) → Option JournalFile → FileNames → List ℕ → Option (List ℕ) → Option (List ℕ) → ℕ → Type 0
+SendsThem told strict finds None names octets old new status = SendsPlain (told false) strict finds names octets old new status
+SendsThem told strict finds (Some journal) names octets old new status = SendsNoted (told true) strict finds names octets old new status
 
-abbrev pub TellsThem : (JournalFile → Fault → Type 0) → Bool → (List ℕ → Option Told → Type 0) → Centre → Option JournalFile → FileNames → List ℕ → Option (List ℕ) → Option (List ℕ) → Fault → Type 0
-TellsThem begins strict finds centre None names octets old new fault = TellsPlain strict finds centre names octets old new fault
-TellsThem begins strict finds centre (Some journal) names octets old new fault = TellsNoted begins strict finds centre journal names octets old new fault
+abbrev pub TellsThem : (JournalFile → Fault → Type 0) → (Bool → ℕ → Told) → Bool → (List ℕ → Option Told → Type 0) → Centre → Option JournalFile → FileNames → List ℕ → Option (List ℕ) → Option (List ℕ) → Fault → Type 0
+TellsThem begins told strict finds centre None names octets old new fault = TellsPlain (told false) strict finds centre names octets old new fault
+TellsThem begins told strict finds centre (Some journal) names octets old new fault = TellsNoted begins (told true) strict finds centre journal names octets old new fault
 
--- the octets are a config's, and the files that it names were sent
-abbrev pub SendsBy : Bool → (List ℕ → Option Told → Type 0) → Option JournalFile → List ℕ → Option (List ℕ) → Option (List ℕ) → ℕ → Type 0
-SendsBy strict finds journal octets old new status = (config : Config) × IsConfig octets config × SendsThem strict finds journal config.files octets old new status
+-- the octets are a config's, and the files that it names were sent to the centre that it says
+abbrev pub SendsBy : (CentreAt → Bool → ℕ → Told) → Centre → Bool → (List ℕ → Option Told → Type 0) → Option JournalFile → List ℕ → Option (List ℕ) → Option (List ℕ) → ℕ → Type 0
+SendsBy tells centre strict finds journal octets old new status =
+    (config : Config) × IsConfig octets config × SendsThem (tells (centre_in centre config)) strict finds journal config.files octets old new status
 
 -- what a fault says of a config's octets: they are none, or what it says of the files that the config names
-abbrev pub TellsBy : (JournalFile → Fault → Type 0) → Bool → (List ℕ → Option Told → Type 0) → Centre → Option JournalFile → List ℕ → Option (List ℕ) → Option (List ℕ) → Fault → Type 0
-TellsBy begins strict finds centre journal octets old new fault =
-    TellsRead (TellsConfig octets) fault ⊎ ((config : Config) × IsConfig octets config × TellsThem begins strict finds centre journal config.files octets old new fault)
+abbrev pub TellsBy : (JournalFile → Fault → Type 0) → (CentreAt → Bool → ℕ → Told) → Bool → (List ℕ → Option Told → Type 0) → Centre → Option JournalFile → List ℕ → Option (List ℕ) → Option (List ℕ) → Fault → Type 0
+TellsBy begins tells strict finds centre journal octets old new fault =
+    TellsRead (TellsConfig octets) fault ⊎ ((config : Config) × IsConfig octets config × TellsThem begins (tells (centre_in centre config)) strict finds centre journal config.files octets old new fault)
 
 -- what a fault of a sending that is ordered so says: the config's file can't be opened or read, memory ran out, or what it says of its octets
-abbrev pub TellsOrder : (JournalFile → Fault → Type 0) → (List ℕ → Option Told → Type 0) → Centre → Order → Option (List ℕ) → Option (List ℕ) → Fault → Type 0
-TellsOrder begins finds centre order old new fault =
-    (fault ≡ OutOfMemory) ⊎ TellsUnreadFile finds order.config fault ⊎ OfFile finds (string_bytes order.config) (λ octets. TellsBy begins order.strict finds centre order.journal octets old new fault)
+abbrev pub TellsOrder : (JournalFile → Fault → Type 0) → (CentreAt → Bool → ℕ → Told) → (List ℕ → Option Told → Type 0) → Centre → Order → Option (List ℕ) → Option (List ℕ) → Fault → Type 0
+TellsOrder begins tells finds centre order old new fault =
+    (fault ≡ OutOfMemory) ⊎ TellsUnreadFile finds order.config fault ⊎ OfFile finds (string_bytes order.config) (λ octets. TellsBy begins tells order.strict finds centre order.journal octets old new fault)

@@ -1,5 +1,5 @@
 -- What `quote` prints of the files that a config names, what it warns of, and what a fault of it says.
-use Rattle.std.specs.Prelude.{◌≡◌, ◌⊎◌, ℕ, List, Option, Result, Err, Ok, String, string_bytes}
+use Rattle.std.specs.Prelude.{◌≡◌, ◌⊎◌, ◌++◌, ℕ, Bool, List, Option, None, Some, Result, Err, Ok, String, string_bytes, if◌then◌else◌}
 use Rattle.std.specs.Io.KnownBytes.{Appends}
 use Rattle.std.specs.declared.alloc.Global.{Global}
 use Rattle.sms_files.specs.ConfigFaults.{IsConfig, TellsConfig}
@@ -11,6 +11,7 @@ use Rattle.sms_quote.specs.QuoteText.{IsQuoteText}
 use Rattle.sms_quote.specs.Warnings.{warning_lines}
 use Rattle.sms_report.specs.Output.{WritesFront}
 use Rattle.sms_send.specs.Faults.{TellsRead, output_failed}
+use Rattle.sms_send.specs.FullNames.{TellsIfKept}
 use Rattle.sms_send.specs.Opened.{AreFound, OfFile, TellsMissing, TellsUnreadFile}
 use Rattle.sms_send.specs.declared.fault.Fault.{Fault}
 use Rattle.sms_send.specs.declared.fault.Fault.TheVariants.{OutOfMemory}
@@ -98,3 +99,42 @@ TellsQuoteFiles finds octets old new fault =
 abbrev pub TellsQuoteJob : (List ℕ → Option Told → Type 0) → String Global → Option (List ℕ) → Option (List ℕ) → Fault → Type 0
 TellsQuoteJob finds name old new fault =
     (fault ≡ OutOfMemory) ⊎ TellsUnreadFile finds name fault ⊎ OfFile finds (string_bytes name) (λ octets. TellsQuoteFiles finds octets old new fault)
+
+-- ---- and what is told beside the quote
+
+-- the files that are found by the names were read so and quoted, and what there is to warn of, and behind it these lines, was told and nothing else
+pub record QuotesNamedAndTells (finds : List ℕ → Option Told → Type 0) (names : FileNames) (config lines : List ℕ) (old new told_old told_new : Option (List ℕ)) : Type 0 where
+  pub accounts : Told
+  pub messages : Told
+  pub tariff : Option Told
+  pub found : AreFound finds names accounts messages tariff
+  pub input : Input
+  pub read : IsInput config accounts messages tariff input
+  pub printed : PrintsQuote input old new
+  pub told : Appends told_old told_new (warnings_of input ++ lines)
+
+-- a front of that was told
+pub record TellsFrontNamed (finds : List ℕ → Option Told → Type 0) (names : FileNames) (config lines : List ℕ) (told_old told_new : Option (List ℕ)) : Type 0 where
+  pub accounts : Told
+  pub messages : Told
+  pub tariff : Option Told
+  pub found : AreFound finds names accounts messages tariff
+  pub input : Input
+  pub read : IsInput config accounts messages tariff input
+  pub front : WritesFront told_old told_new (warnings_of input ++ lines)
+
+-- the lines that are told of the files of a config of this name: at length their full names, and else none
+abbrev pub TellsNames : (List ℕ → List ℕ → Type 0) → Bool → List ℕ → FileNames → List ℕ → Type 0
+TellsNames is_full at_length name names lines = TellsIfKept is_full (if at_length then Some name else None) names lines
+
+-- the octets are a config's of this name, and the files that it names were quoted; what there is to warn of was told and, behind it, those lines
+abbrev pub QuotesAndTells : (List ℕ → Option Told → Type 0) → (List ℕ → List ℕ → Type 0) → Bool → List ℕ → List ℕ → Option (List ℕ) → Option (List ℕ) → Option (List ℕ) → Option (List ℕ) → Type 0
+QuotesAndTells finds is_full at_length name octets old new told_old told_new =
+    (config : Config) × IsConfig octets config × (lines : List ℕ) × TellsNames is_full at_length name config.files lines
+    × QuotesNamedAndTells finds config.files octets lines old new told_old told_new
+
+-- a front of that was told
+abbrev pub TellsFront : (List ℕ → Option Told → Type 0) → (List ℕ → List ℕ → Type 0) → Bool → List ℕ → List ℕ → Option (List ℕ) → Option (List ℕ) → Type 0
+TellsFront finds is_full at_length name octets told_old told_new =
+    (config : Config) × IsConfig octets config × (lines : List ℕ) × TellsNames is_full at_length name config.files lines
+    × TellsFrontNamed finds config.files octets lines told_old told_new

@@ -1,5 +1,5 @@
 -- What a sending promises of what was read.
-use Rattle.std.specs.Prelude.{◌≡◌, ◌⊎◌, ◌*◌, ℕ, Bool, List, Option, None, length}
+use Rattle.std.specs.Prelude.{◌≡◌, ◌⊎◌, ◌*◌, ℕ, Bool, List, Option, length}
 use Rattle.std.specs.Io.KnownBytes.{Appends}
 use Rattle.std.specs.List.{AllZip}
 use Rattle.sms_book.specs.Openings.{credits_of}
@@ -74,11 +74,7 @@ pub record IsSent (told : ℕ → Told) (input : Input) (ended : Ended) : Type 0
   pub explained : AreExplained input.config.limits.workers ended.binds.items (dealt (input.config.limits.binds * input.config.limits.workers) 0 ended.ends.items)
   pub heard : AreHeard told input.config.limits.binds input.config.limits.workers (dealt (input.config.limits.binds * input.config.limits.workers) 0 ended.ends.items)
 
--- a TCP connection tells contracts nothing of the octets that will come
-abbrev pub untold : ℕ → Told
-untold = λ bind. None
-
--- nor anything of a bind for which there is none
+-- of a bind for which there is no connection a dial over TCP tells contracts nothing
 abbrev pub unknown : ℕ → Type 0
 unknown = λ bind. Unit {0}
 

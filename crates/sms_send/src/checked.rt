@@ -1,12 +1,13 @@
 //! Files that are read to their ends, and a sending of them without a journal.
 
-ghost use Rattle.std.specs.Prelude.{◌≡◌, ◌≢◌, IfErr, IfOk, OnOk, true};
+ghost use Rattle.std.specs.Prelude.{◌≡◌, ◌≢◌, IfErr, IfOk, OnOk, false, true};
 ghost use Rattle.sms_driver.specs.declared.latch.Word.TheVariants.{Go};
 ghost use Rattle.sms_driver.specs.declared.start.Begun.TheVariants.{NotYet, Heard};
 ghost use Rattle.sms_files.specs.Quoting.{EndsQuoted};
 ghost use Rattle.sms_send.specs.Faults.{IsToldAt, TellsRead, output_failed};
 ghost use Rattle.sms_send.specs.Jobs.{IsStatusBy};
 ghost use Rattle.sms_send.specs.Noted.{IsInputOf, IsOpenQuoteOf, SendsNoted, SendsPlain, TellsChecked, TellsFilesOf, TellsInputOf, TellsPlain};
+ghost use Rattle.sms_send.specs.Reached.{centre_of};
 
 use crate::fault::Fault;
 use crate::opened::InputFiles;
@@ -20,7 +21,6 @@ use sms_driver::Start;
 use sms_files::{FileNames, Input, check_quotes};
 use std::alloc::Global;
 use std::io::Write;
-use std::net::{Net, TcpListener, TcpStream};
 
 /// Refuses a messages file that ends within a quote, of which this input was read.
 fn check_open(named: &NamedFiles, input: &Input) -> Result<(), Fault>
@@ -77,7 +77,7 @@ pub fn input_in(
 
 /// Reads the files that the config names to their ends, and sends what they say, unless the messages
 /// file ends within a quote.
-fn send_checked<R: Host + InputFiles + Net<Stream = TcpStream, Listener = TcpListener>, W: Write>(
+fn send_checked<R: Host + InputFiles, W: Write>(
     rt: &R,
     start: &mut Start<'_>,
     reach: &Reach,
@@ -90,9 +90,9 @@ fn send_checked<R: Host + InputFiles + Net<Stream = TcpStream, Listener = TcpLis
     requires yet { start.old.begun ≡ NotYet }
     ensures latch { start.new.latch ≡ start.old.latch }
     ensures went { OnOk result (start.new.begun ≡ Heard Go) }
-    ensures sent { IfOk result (SendsNoted true (R.finds rt.now) files config.now (W.contents output.old) (W.contents output.new)) }
+    ensures sent { IfOk result (SendsNoted (R.tells rt.now (centre_of reach.now) false) true (R.finds rt.now) files config.now (W.contents output.old) (W.contents output.new)) }
     ensures status { IfOk result (IsStatusBy true) }
-    ensures refused { IfErr result (TellsChecked (R.finds rt.now) reach.now.centre files config.now (W.contents output.old) (W.contents output.new)) }
+    ensures refused { IfErr result (TellsChecked (R.tells rt.now (centre_of reach.now) false) (R.finds rt.now) reach.now.centre files config.now (W.contents output.old) (W.contents output.new)) }
     ensures told { IfErr result (IsToldAt start.new.begun) }
     ensures unwritten { IfErr result (λ fault. fault ≢ output_failed → output.new ≡ output.old) }
 {
@@ -115,7 +115,7 @@ fn send_checked<R: Host + InputFiles + Net<Stream = TcpStream, Listener = TcpLis
 
 /// Sends what the files say that the config names, without a journal. Strictly, they are read to their
 /// ends first, and a messages file that ends within a quote is refused.
-pub fn send_plain<R: Host + InputFiles + Net<Stream = TcpStream, Listener = TcpListener>, W: Write>(
+pub fn send_plain<R: Host + InputFiles, W: Write>(
     rt: &R,
     start: &mut Start<'_>,
     reach: &Reach,
@@ -129,9 +129,9 @@ pub fn send_plain<R: Host + InputFiles + Net<Stream = TcpStream, Listener = TcpL
     requires yet { start.old.begun ≡ NotYet }
     ensures latch { start.new.latch ≡ start.old.latch }
     ensures went { OnOk result (start.new.begun ≡ Heard Go) }
-    ensures sent { IfOk result (SendsPlain strict (R.finds rt.now) files config.now (W.contents output.old) (W.contents output.new)) }
+    ensures sent { IfOk result (SendsPlain (R.tells rt.now (centre_of reach.now) false) strict (R.finds rt.now) files config.now (W.contents output.old) (W.contents output.new)) }
     ensures status { IfOk result (IsStatusBy strict) }
-    ensures refused { IfErr result (TellsPlain strict (R.finds rt.now) reach.now.centre files config.now (W.contents output.old) (W.contents output.new)) }
+    ensures refused { IfErr result (TellsPlain (R.tells rt.now (centre_of reach.now) false) strict (R.finds rt.now) reach.now.centre files config.now (W.contents output.old) (W.contents output.new)) }
     ensures told { IfErr result (IsToldAt start.new.begun) }
     ensures unwritten { IfErr result (λ fault. fault ≢ output_failed → output.new ≡ output.old) }
 {

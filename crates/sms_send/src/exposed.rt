@@ -4,7 +4,7 @@ ghost use Rattle.std.specs.Prelude.{◌≡◌, ◌⊎◌, IfErr, IfOk, codes, op
 ghost use Rattle.toml.specs.Data.{as_str, get_member};
 ghost use Rattle.toml.specs.View.{table_view};
 ghost use Rattle.sms_files.specs.ConfigFaults.{toml_of};
-ghost use Rattle.sms_send.specs.Exposed.{is_some_text as is_text, says_password};
+ghost use Rattle.sms_send.specs.Exposed.{is_some_text as is_text, says_password, warning_for};
 ghost use Rattle.sms_send.specs.Opened.{OfFile, TellsUnreadFile};
 ghost use Rattle.sms_send.specs.declared.fault.Fault.TheVariants.{OutOfMemory};
 
@@ -68,17 +68,30 @@ fn is_readable_by_others<R: Files>(rt: &R, name: &str) -> bool {
     }
 }
 
-/// Tells on standard error that others can read a config, where they can and it has a password.
+/// What is told of a config that others can read or not: the warning where they can and it has a password,
+/// else nothing.
+fn warning_of(alloc: Global, is_open: bool, config: &[u8]) -> Result<&'static str, AllocError>
+    ensures { IfOk result (λ text. text.now ≡ warning_for is_open config.now) }
+{
+    if !is_open {
+        return Ok("");
+    }
+    match has_password(alloc, config) {
+        Ok(true) => Ok(EXPOSED),
+        Ok(false) => Ok(""),
+        Err(error) => Err(error),
+    }
+}
+
+/// Tells on standard error what is to be told of a config.
 fn warn_if_exposed<R: AllocGlobal + Threads + Clock + Eprint + Screen>(
     rt: &R,
     is_open: bool,
     config: &[u8],
 ) {
-    if !is_open {
-        return;
-    }
-    if let Ok(true) = has_password(rt.alloc(), config) {
-        tell_beside(rt, &EXPOSED);
+    match warning_of(rt.alloc(), is_open, config) {
+        Ok(warning) if !warning.is_empty() => tell_beside(rt, &warning),
+        _ => {}
     }
 }
 

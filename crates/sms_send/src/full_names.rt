@@ -26,7 +26,7 @@ pub trait FullNames {
         ensures { IfOk result (λ full. is_full self.now name.now (string_bytes full)) };
 }
 
-impl<R: Files> FullNames for R {
+impl FullNames for HostRuntime {
     fn full_name(&self, alloc: Global, name: &str) -> Result<String, AllocError> {
         match self.canonicalize(alloc, name) {
             Ok(full) => Ok(full.into_string()),

@@ -1,11 +1,12 @@
 //! A sending that is noted in a journal.
 
-ghost use Rattle.std.specs.Prelude.{◌≡◌, ◌≢◌, ◌⊎◌, ℕ, Err, Ok, IfErr, IfOk, IsOk, OnOk};
+ghost use Rattle.std.specs.Prelude.{◌≡◌, ◌≢◌, ◌⊎◌, ℕ, Err, Ok, IfErr, IfOk, IsOk, OnOk, true};
 ghost use Rattle.sms_driver.specs.declared.latch.Word.TheVariants.{Go};
 ghost use Rattle.sms_driver.specs.declared.start.Begun.TheVariants.{NotYet, Heard};
 ghost use Rattle.sms_journal.specs.Digests.{digests_of as of_files};
 ghost use Rattle.sms_send.specs.Jobs.{IsStatusBy};
 ghost use Rattle.sms_send.specs.Noted.{IsMade, IsNoted, IsToldNoted, SendsNoted, TellsBegin, TellsNoted};
+ghost use Rattle.sms_send.specs.Reached.{centre_of};
 ghost use Rattle.sms_send.specs.Runs.{tariff_in};
 ghost use Rattle.sms_send.specs.Faults.{output_failed};
 ghost use Rattle.sms_send.specs.declared.fault.Fault.TheVariants.{Journal as JournalFault};
@@ -23,7 +24,6 @@ use sms_files::FileNames;
 use sms_journal::{Digests, digests_of};
 use std::fs::OpenFile;
 use std::io::Write;
-use std::net::{Net, TcpListener, TcpStream};
 use std::sync::Wait;
 use std::time::Clock;
 
@@ -82,7 +82,7 @@ fn end_journal<R: Clock, F: Write + OpenFile + Drop>(
 }
 
 /// Reads the files that the config names to their ends, begins the journal, and sends what they say.
-pub fn send_noted<R: Host + InputFiles + Net<Stream = TcpStream, Listener = TcpListener>, W: Write>(
+pub fn send_noted<R: Host + InputFiles, W: Write>(
     rt: &R,
     start: &mut Start<'_>,
     reach: &Reach,
@@ -97,12 +97,12 @@ pub fn send_noted<R: Host + InputFiles + Net<Stream = TcpStream, Listener = TcpL
     requires yet { start.old.begun ≡ NotYet }
     ensures latch { start.new.latch ≡ start.old.latch }
     ensures went { OnOk result (start.new.begun ≡ Heard Go) }
-    ensures sent { IfOk result (SendsNoted strict (R.finds rt.now) files config.now (W.contents output.old) (W.contents output.new)) }
+    ensures sent { IfOk result (SendsNoted (R.tells rt.now (centre_of reach.now) true) strict (R.finds rt.now) files config.now (W.contents output.old) (W.contents output.new)) }
     ensures status { IfOk result (IsStatusBy strict) }
     ensures noted { IfOk result (IsNoted R.JournalFile.contents) }
-    ensures refused { IfErr result (TellsNoted (TellsBegin (R.makes rt.now) (R.refuses rt.now)) strict (R.finds rt.now) reach.now.centre wanted files config.now (W.contents output.old) (W.contents output.new)) }
+    ensures refused { IfErr result (TellsNoted (TellsBegin (R.makes rt.now) (R.refuses rt.now)) (R.tells rt.now (centre_of reach.now) true) strict (R.finds rt.now) reach.now.centre wanted files config.now (W.contents output.old) (W.contents output.new)) }
     // A journal that failed is told before anything was sent or written, or behind the whole report.
-    ensures told { IfErr result (IsToldNoted strict start.new.begun (W.contents output.old) (W.contents output.new)) }
+    ensures told { IfErr result (IsToldNoted (R.tells rt.now) strict start.new.begun (W.contents output.old) (W.contents output.new)) }
     ensures unwritten { IfErr result (λ fault. fault ≢ output_failed → fault ≢ JournalFault → output.new ≡ output.old) }
 {
     let named = read_named(rt, files)?;

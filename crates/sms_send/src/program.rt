@@ -10,6 +10,7 @@ ghost use Rattle.sms_send.specs.declared.fault.Fault.TheVariants.{Journal, OutOf
 
 use crate::explained::{is_at_length, told_of};
 use crate::fault::Fault;
+use crate::full_names::FullNames;
 use crate::job::{Job, job_of};
 use crate::known::known_at;
 use crate::looks::FilesAgain;
@@ -25,7 +26,6 @@ use sms_devices::{Host, Screen};
 use sms_driver::{Latch, Start};
 use sms_report::write_out;
 use std::io::{ErrorKind, Write};
-use std::net::{Net, TcpListener, TcpStream};
 use std::rt::Env;
 use std::{env, io};
 
@@ -33,11 +33,8 @@ use std::{env, io};
 const UNTOLD: u8 = 1;
 
 /// Does the job that the program's words ask for, and gives the exit status.
-pub fn run<R: Host + InputFiles + Net<Stream = TcpStream, Listener = TcpListener>, W: Write>(
-    rt: &R,
-    output: &mut W,
-) -> Result<u8, Fault>
-    ensures done { IfOk result (λ status. (words : List Text) × Works R.Reader.remaining (R.finds rt.now) words status (W.contents output.old) (W.contents output.new)) }
+pub fn run<R: FullNames + Host + InputFiles, W: Write>(rt: &R, output: &mut W) -> Result<u8, Fault>
+    ensures done { IfOk result (λ status. (words : List Text) × Works R.Reader.remaining (R.finds rt.now) (R.tells rt.now) words status (W.contents output.old) (W.contents output.new)) }
     ensures unwritten { IfErr result (λ fault. fault ≢ output_failed → fault ≢ Journal → output.new ≡ output.old) }
 {
     let words = words_of(rt)?;
@@ -58,7 +55,7 @@ fn words_of<R: AllocGlobal + Env>(rt: &R) -> Result<Vec<String>, Fault>
 }
 
 /// Does the job that these words ask for, and gives the exit status.
-fn do_words<R: Host + InputFiles + Net<Stream = TcpStream, Listener = TcpListener>, W: Write>(
+fn do_words<R: FullNames + Host + InputFiles, W: Write>(
     rt: &R,
     start: &mut Start<'_>,
     words: &[String],
@@ -67,9 +64,9 @@ fn do_words<R: Host + InputFiles + Net<Stream = TcpStream, Listener = TcpListene
     requires yet { start.old.begun ≡ NotYet }
     ensures latch { start.new.latch ≡ start.old.latch }
     ensures went { OnOk result (WentSo (map string_bytes words.now) start.new.begun) }
-    ensures done { IfOk result (λ status. Works R.Reader.remaining (R.finds rt.now) (map string_bytes words.now) status (W.contents output.old) (W.contents output.new)) }
-    ensures refused { IfErr result (TellsRun (TellsBegin (R.makes rt.now) (R.refuses rt.now)) R.Reader.remaining (R.finds rt.now) (map string_bytes words.now) (W.contents output.old) (W.contents output.new)) }
-    ensures told { IfErr result (IsToldSo (map string_bytes words.now) start.new.begun (W.contents output.old) (W.contents output.new)) }
+    ensures done { IfOk result (λ status. Works R.Reader.remaining (R.finds rt.now) (R.tells rt.now) (map string_bytes words.now) status (W.contents output.old) (W.contents output.new)) }
+    ensures refused { IfErr result (TellsRun (TellsBegin (R.makes rt.now) (R.refuses rt.now)) R.Reader.remaining (R.finds rt.now) (R.tells rt.now) (map string_bytes words.now) (W.contents output.old) (W.contents output.new)) }
+    ensures told { IfErr result (IsToldSo (R.tells rt.now) (map string_bytes words.now) start.new.begun (W.contents output.old) (W.contents output.new)) }
     ensures unwritten { IfErr result (λ fault. fault ≢ output_failed → fault ≢ Journal → output.new ≡ output.old) }
 {
     match job_of(rt.alloc(), words) {
@@ -79,7 +76,7 @@ fn do_words<R: Host + InputFiles + Net<Stream = TcpStream, Listener = TcpListene
 }
 
 /// Does a job, and gives the exit status. Where the job sends, the start says how far the sending came.
-pub fn do_job<R: Host + InputFiles + Net<Stream = TcpStream, Listener = TcpListener>, W: Write>(
+pub fn do_job<R: FullNames + Host + InputFiles, W: Write>(
     rt: &R,
     start: &mut Start<'_>,
     job: Job,
@@ -89,9 +86,9 @@ pub fn do_job<R: Host + InputFiles + Net<Stream = TcpStream, Listener = TcpListe
     ensures latch { start.new.latch ≡ start.old.latch }
     ensures went { OnOk result (HasBegun job start.new.begun) }
     ensures status { IfOk result (IsStatusOf job) }
-    ensures done { IfOk result (Does R.Reader.remaining (R.finds rt.now) job (W.contents output.old) (W.contents output.new)) }
-    ensures refused { IfErr result (TellsJob (TellsBegin (R.makes rt.now) (R.refuses rt.now)) R.Reader.remaining (R.finds rt.now) job (W.contents output.old) (W.contents output.new)) }
-    ensures told { IfErr result (IsToldOf job start.new.begun (W.contents output.old) (W.contents output.new)) }
+    ensures done { IfOk result (Does R.Reader.remaining (R.finds rt.now) (R.tells rt.now) job (W.contents output.old) (W.contents output.new)) }
+    ensures refused { IfErr result (TellsJob (TellsBegin (R.makes rt.now) (R.refuses rt.now)) R.Reader.remaining (R.finds rt.now) (R.tells rt.now) job (W.contents output.old) (W.contents output.new)) }
+    ensures told { IfErr result (IsToldOf (R.tells rt.now) job start.new.begun (W.contents output.old) (W.contents output.new)) }
     ensures unwritten { IfErr result (λ fault. fault ≢ output_failed → fault ≢ Journal → output.new ≡ output.old) }
 {
     match job {

@@ -5,12 +5,12 @@ ghost use Rattle.std.specs.Prelude.{◌≡◌, ◌≢◌, IfErr, IfOk, Ok, OnOk,
 ghost use Rattle.std.specs.Io.KnownBytes.{Appends};
 ghost use Rattle.sms_report.specs.Output.{WritesFront};
 ghost use Rattle.sms_send.specs.Opened.{OfFile};
-ghost use Rattle.sms_send.specs.Quoted.{FailsBehind, HasQuote, PrintsQuote, QuotesAndWarns, QuotesFiles, QuotesNamed, TellsQuote, TellsQuoteJob, TellsQuoteNamed, TellsQuoting, WarnsFront, warnings_of};
+ghost use Rattle.sms_send.specs.Quoted.{FailsBehind, HasQuote, PrintsQuote, QuotesAndTells, QuotesAndWarns, QuotesFiles, QuotesNamedAndTells, TellsFront, TellsFrontNamed, TellsQuote, TellsQuoteJob, TellsQuoteNamed, TellsQuoting, WarnsFront, warnings_of};
 ghost use Rattle.sms_send.specs.Faults.{output_failed};
 
 use crate::explained::is_at_length;
 use crate::fault::Fault;
-use crate::full_names::{lines_at, name_at};
+use crate::full_names::{FullNames, lines_at, name_at};
 use crate::opened::{InputFiles, octets_of, open, open_named};
 use crate::reading::{read_input, setup_of};
 use crate::standard_error::StandardError;
@@ -21,7 +21,6 @@ use sms_report::write_out;
 use std::alloc::{AllocError, Global};
 use std::io::{Eprint, Read, Write};
 use std::mem;
-use std::rt::Files;
 
 /// What is printed of an input, and what is told of its messages.
 fn texts_of(alloc: Global, input: &Input) -> Result<(String, String), AllocError>
@@ -108,32 +107,6 @@ pub fn run_quote<A: Read + Drop, M: Read + Drop, T: Read + Drop, W: Write, E: Wr
     }
 }
 
-/// Opens the files that the config names, and prints what a sending of them would come to.
-fn quote_named<R: AllocGlobal + InputFiles + Eprint, W: Write>(
-    rt: &R,
-    config: &[u8],
-    names: FileNames,
-    output: &mut W,
-) -> Result<u8, Fault>
-    ensures status { IfOk result (λ status. status ≡ 0) }
-    ensures quoted { OnOk result (QuotesNamed (R.finds rt.now) names config.now (W.contents output.old) (W.contents output.new)) }
-    ensures refused { IfErr result (TellsQuoteNamed (R.finds rt.now) names config.now (W.contents output.old) (W.contents output.new)) }
-    ensures unwritten { IfErr result (λ fault. fault ≢ output_failed → output.new ≡ output.old) }
-{
-    let accounts = open(rt, names.accounts)?;
-    let messages = open(rt, names.messages)?;
-    let tariff = open_named(rt, names.tariff)?;
-    run_quote(
-        rt.alloc(),
-        config,
-        accounts,
-        messages,
-        tariff,
-        output,
-        &mut StandardError { rt },
-    )
-}
-
 /// Tells these lines behind a quote that was printed. That they can't be told is a fault of the output.
 fn tell_behind<E: Write>(
     error: &mut E,
@@ -156,38 +129,52 @@ fn tell_behind<E: Write>(
 }
 
 /// Opens the files that the config names, prints what a sending of them would come to, and tells these
-/// lines behind that.
-fn quote_told<R: AllocGlobal + InputFiles + Eprint, W: Write>(
+/// lines behind what is told of their messages.
+fn quote_named<R: AllocGlobal + InputFiles, W: Write, E: Write>(
     rt: &R,
     config: &[u8],
     names: FileNames,
     lines: &str,
     output: &mut W,
+    error: &mut E,
 ) -> Result<u8, Fault>
     ensures status { IfOk result (λ status. status ≡ 0) }
-    ensures quoted { OnOk result (QuotesNamed (R.finds rt.now) names config.now (W.contents output.old) (W.contents output.new)) }
+    ensures quoted { OnOk result (QuotesNamedAndTells (R.finds rt.now) names config.now lines.now (W.contents output.old) (W.contents output.new) (E.contents error.old) (E.contents error.new)) }
     ensures refused { IfErr result (TellsQuoteNamed (R.finds rt.now) names config.now (W.contents output.old) (W.contents output.new)) }
-    ensures unwritten { IfErr result (λ fault. fault ≢ output_failed → output.new ≡ output.old) }
+    ensures told { IfErr result (λ fault. fault ≡ output_failed → TellsFrontNamed (R.finds rt.now) names config.now lines.now (E.contents error.old) (E.contents error.new)) }
+    ensures unwritten { IfErr result (λ fault. fault ≢ output_failed → (output.new ≡ output.old) × (error.new ≡ error.old)) }
 {
-    let quoted = quote_named(rt, config, names, output);
-    tell_behind(&mut StandardError { rt }, quoted, lines.as_bytes())
+    let accounts = open(rt, names.accounts)?;
+    let messages = open(rt, names.messages)?;
+    let tariff = open_named(rt, names.tariff)?;
+    let quoted = run_quote(
+        rt.alloc(),
+        config,
+        accounts,
+        messages,
+        tariff,
+        output,
+        error,
+    );
+    tell_behind(error, quoted, lines.as_bytes())
 }
 
 /// Reads the config of this name and the files that it names, and prints what a sending of them would
-/// come to. On a terminal, and where more is to be told, the full names of the files follow on standard
-/// error.
-pub fn quote_job<R: AllocGlobal + Files + InputFiles + Eprint + Screen, W: Write>(
+/// come to. Standard error is told what is to be said of their messages and, at length, the full names
+/// of the files behind that.
+fn quote_config<R: AllocGlobal + FullNames + InputFiles, W: Write, E: Write>(
     rt: &R,
     config: String,
-    verbose: bool,
+    at_length: bool,
     output: &mut W,
+    error: &mut E,
 ) -> Result<u8, Fault>
     ensures status { IfOk result (λ status. status ≡ 0) }
-    ensures quoted { OnOk result (OfFile (R.finds rt.now) (string_bytes config) (λ octets. QuotesFiles (R.finds rt.now) octets (W.contents output.old) (W.contents output.new))) }
+    ensures quoted { OnOk result (OfFile (R.finds rt.now) (string_bytes config) (λ octets. QuotesAndTells (R.finds rt.now) (R.is_full rt.now) at_length (string_bytes config) octets (W.contents output.old) (W.contents output.new) (E.contents error.old) (E.contents error.new))) }
     ensures refused { IfErr result (TellsQuoteJob (R.finds rt.now) config (W.contents output.old) (W.contents output.new)) }
-    ensures unwritten { IfErr result (λ fault. fault ≢ output_failed → output.new ≡ output.old) }
+    ensures told { IfErr result (λ fault. fault ≡ output_failed → OfFile (R.finds rt.now) (string_bytes config) (λ octets. TellsFront (R.finds rt.now) (R.is_full rt.now) at_length (string_bytes config) octets (E.contents error.old) (E.contents error.new))) }
+    ensures unwritten { IfErr result (λ fault. fault ≢ output_failed → (output.new ≡ output.old) × (error.new ≡ error.old)) }
 {
-    let at_length = is_at_length(rt.is_terminal(), verbose);
     let kept = name_at(rt.alloc(), config.as_str(), at_length)?;
     let config = octets_of(rt, config)?;
     let Setup {
@@ -202,5 +189,23 @@ pub fn quote_job<R: AllocGlobal + Files + InputFiles + Eprint + Screen, W: Write
         tariff,
     };
     let lines = lines_at(rt.alloc(), rt, &kept, &names)?;
-    quote_told(rt, config.as_slice(), names, lines.as_str(), output)
+    quote_named(rt, config.as_slice(), names, lines.as_str(), output, error)
+}
+
+/// Reads the config of this name and the files that it names, and prints what a sending of them would
+/// come to. On a terminal, and where more is to be told, the full names of the files follow on standard
+/// error.
+pub fn quote_job<R: AllocGlobal + FullNames + InputFiles + Eprint + Screen, W: Write>(
+    rt: &R,
+    config: String,
+    verbose: bool,
+    output: &mut W,
+) -> Result<u8, Fault>
+    ensures status { IfOk result (λ status. status ≡ 0) }
+    ensures quoted { OnOk result (OfFile (R.finds rt.now) (string_bytes config) (λ octets. QuotesFiles (R.finds rt.now) octets (W.contents output.old) (W.contents output.new))) }
+    ensures refused { IfErr result (TellsQuoteJob (R.finds rt.now) config (W.contents output.old) (W.contents output.new)) }
+    ensures unwritten { IfErr result (λ fault. fault ≢ output_failed → output.new ≡ output.old) }
+{
+    let at_length = is_at_length(rt.is_terminal(), verbose);
+    quote_config(rt, config, at_length, output, &mut StandardError { rt })
 }

@@ -26,7 +26,6 @@ use sms_files::{FileNames, Setup};
 use sms_worker::{Clock, Gate, Pause};
 use std::alloc::Global;
 use std::io::{Read, Write};
-use std::net::{Net, TcpListener, TcpStream};
 use std::sync::Wait;
 use std::thread::Threads;
 
@@ -85,7 +84,7 @@ pub fn run_sender<
 
 /// Reads the config of this name and the files that it names, and sends. Where a journal is asked for,
 /// the files are read to their ends first, and what goes out is noted.
-pub fn send_job<R: Host + InputFiles + Net<Stream = TcpStream, Listener = TcpListener>, W: Write>(
+pub fn send_job<R: Host + InputFiles, W: Write>(
     rt: &R,
     start: &mut Start<'_>,
     centre: Centre,
@@ -95,10 +94,10 @@ pub fn send_job<R: Host + InputFiles + Net<Stream = TcpStream, Listener = TcpLis
     requires yet { start.old.begun ≡ NotYet }
     ensures latch { start.new.latch ≡ start.old.latch }
     ensures went { OnOk result (start.new.begun ≡ Heard Go) }
-    ensures sent { IfOk result (λ status. OfFile (R.finds rt.now) (string_bytes order.config) (λ octets. SendsBy order.strict (R.finds rt.now) order.journal octets (W.contents output.old) (W.contents output.new) status)) }
+    ensures sent { IfOk result (λ status. OfFile (R.finds rt.now) (string_bytes order.config) (λ octets. SendsBy (R.tells rt.now) centre order.strict (R.finds rt.now) order.journal octets (W.contents output.old) (W.contents output.new) status)) }
     ensures status { IfOk result (IsStatusBy order.strict) }
-    ensures refused { IfErr result (TellsOrder (TellsBegin (R.makes rt.now) (R.refuses rt.now)) (R.finds rt.now) centre order (W.contents output.old) (W.contents output.new)) }
-    ensures told { IfErr result (IsToldNoted order.strict start.new.begun (W.contents output.old) (W.contents output.new)) }
+    ensures refused { IfErr result (TellsOrder (TellsBegin (R.makes rt.now) (R.refuses rt.now)) (R.tells rt.now) (R.finds rt.now) centre order (W.contents output.old) (W.contents output.new)) }
+    ensures told { IfErr result (IsToldNoted (R.tells rt.now) order.strict start.new.begun (W.contents output.old) (W.contents output.new)) }
     ensures unwritten { IfErr result (λ fault. fault ≢ output_failed → fault ≢ Journal → output.new ≡ output.old) }
 {
     let Order {

@@ -1,12 +1,13 @@
 //! A sending: what it stands on, and how it goes to its report.
 
-ghost use Rattle.std.specs.Prelude.{◌≡◌, ◌≢◌, IfErr, IfOk, OnOk};
+ghost use Rattle.std.specs.Prelude.{◌≡◌, ◌≢◌, IfErr, IfOk, OnOk, is_some};
 ghost use Rattle.sms_driver.specs.declared.latch.Word.TheVariants.{Go};
 ghost use Rattle.sms_driver.specs.declared.start.Begun.TheVariants.{NotYet, Heard};
 ghost use Rattle.sms_send.specs.Faults.{IsToldAt, output_failed};
 ghost use Rattle.sms_send.specs.Jobs.{IsStatusBy};
 ghost use Rattle.sms_send.specs.Noted.{SendsInput, SendsWanted, TellsOver, TellsWanted};
-ghost use Rattle.sms_send.specs.Sent.{SendsNamed, TellsNamed, TellsSending, untold};
+ghost use Rattle.sms_send.specs.Reached.{centre_of};
+ghost use Rattle.sms_send.specs.Sent.{SendsNamed, TellsNamed, TellsSending};
 
 use crate::fault::Fault;
 use crate::opened::{InputFiles, open, open_named};
@@ -20,13 +21,12 @@ use crate::unconnected::reasoned;
 use crate::unsent::tell_unsent;
 use sms_devices::{
     Host, Journal, JournalFiles, LoopDial, Noting, Outboxes, Progress, Rest, Screen, TcpDial,
-    Terminal, Ticks, listen,
+    Terminal, Ticks,
 };
 use sms_driver::{BindFailure, Dial, Start};
 use sms_files::{FileNames, Input};
 use sms_worker::Pause;
 use std::io::{Eprint, Write};
-use std::net::{Net, TcpListener, TcpStream};
 use std::sync::Wait;
 use std::thread::Threads;
 use std::{mem, time};
@@ -52,11 +52,7 @@ pub enum Wanted {
 
 /// Makes what a sending stands on, and sends over connections to the centre, behind the journal if
 /// there is one.
-pub fn send_over<
-    'j,
-    R: Host + InputFiles + Net<Stream = TcpStream, Listener = TcpListener>,
-    W: Write,
->(
+pub fn send_over<'j, R: Host + InputFiles, W: Write>(
     rt: &'j R,
     start: &mut Start<'_>,
     reach: &Reach,
@@ -71,9 +67,9 @@ pub fn send_over<
     requires yet { start.old.begun ≡ NotYet }
     ensures latch { start.new.latch ≡ start.old.latch }
     ensures went { OnOk result (start.new.begun ≡ Heard Go) }
-    ensures sent { IfOk result (SendsWanted untold strict (R.finds rt.now) wanted config.now (W.contents output.old) (W.contents output.new)) }
+    ensures sent { IfOk result (SendsWanted (R.tells rt.now (centre_of reach.now) (is_some journal.entry)) strict (R.finds rt.now) wanted config.now (W.contents output.old) (W.contents output.new)) }
     ensures status { IfOk result (IsStatusBy strict) }
-    ensures refused { IfErr result (TellsOver reach.now.centre (R.finds rt.now) wanted config.now (W.contents output.old) (W.contents output.new)) }
+    ensures refused { IfErr result (TellsOver (R.tells rt.now (centre_of reach.now) (is_some journal.entry)) reach.now.centre (R.finds rt.now) wanted config.now (W.contents output.old) (W.contents output.new)) }
     ensures told { IfErr result (IsToldAt start.new.begun) }
     ensures unwritten { IfErr result (λ fault. fault ≢ output_failed → output.new ≡ output.old) }
 {
@@ -98,7 +94,7 @@ pub fn send_over<
             reasoned(&outboxes, sent)
         }
         Centre::Own => {
-            let Some(listener) = listen(rt) else {
+            let Some(listener) = rt.listen() else {
                 return Err(Fault::BindFailed(0, BindFailure::NoConnection));
             };
             let dial = LoopDial {

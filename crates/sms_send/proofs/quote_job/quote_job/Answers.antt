@@ -1,49 +1,18 @@
-use Rattle.std.proofs.Common.{inl, refl}
+use Rattle.std.specs.Prelude.{string_bytes}
 use Rattle.std.proofs.lemmas.Result.{IfErr-weaker, on_ok_weaker}
-use Rattle.sms_send.proofs.Quoting.{config_tells, set_up_quotes, set_up_tells, setup_tells}
-use Rattle.sms_send.proofs.Telling.{told_so}
+use Rattle.sms_send.proofs.Quoting.{job_quotes}
 use Rattle.sms_send.proofs.quote_job.quote_job.Goals as goal
+
+pub returns-clause-status : goal.returns-clause-status
+returns-clause-status g c = c.quote_config.ensures.status
 
 pub returns-clause-quoted : goal.returns-clause-quoted
 returns-clause-quoted g c =
-    on_ok_weaker c.quote_told.result
-    (set_up_quotes (g.R.InputFiles.finds c.args.rt.now) _ _ _ _ c.in_ok-accounts.field-0 _ _
-    (record { input = c.in_ok-config.ensures.octets; one = c.as_slice.ensures.value; two = c.as_slice-2.ensures.value; says = c.in_ok-accounts.ensures.setup }))
-    c.quote_told.ensures.quoted
+    on_ok_weaker c.quote_config.result
+    (job_quotes (g.R.InputFiles.finds c.args.rt.now) (g.R.FullNames.is_full c.args.rt.now) c.is_at_length-at_length.result (string_bytes c.args.config) _ _ _ _) c.quote_config.ensures.quoted
 
 pub returns-clause-refused : goal.returns-clause-refused
-returns-clause-refused g c =
-    IfErr-weaker c.quote_told.result _ _
-    (λ fault tells. set_up_tells (g.R.InputFiles.finds c.args.rt.now) _ _ _ c.in_ok-accounts.field-0 c.args.config _ _ fault
-    (record { input = c.in_ok-config.ensures.octets; one = c.as_slice.ensures.value; two = c.as_slice-2.ensures.value; says = c.in_ok-accounts.ensures.setup }) tells)
-    c.quote_told.ensures.refused
+returns-clause-refused g c = c.quote_config.ensures.refused
 
 pub returns-clause-unwritten : goal.returns-clause-unwritten
-returns-clause-unwritten g c = c.quote_told.ensures.unwritten
-
-pub returns-in_err-config-clause-refused : goal.returns-in_err-config-clause-refused
-returns-in_err-config-clause-refused g c =
-    told_so c.from_residual-in_err-config.result _ _ c.from_residual-in_err-config.ensures.1 (config_tells (g.R.InputFiles.finds c.args.rt.now) c.args.config _ _ _ c.in_err-config.ensures.refused)
-
-pub returns-in_err-accounts-clause-refused : goal.returns-in_err-accounts-clause-refused
-returns-in_err-accounts-clause-refused g c =
-    told_so c.from_residual-in_err-accounts.result _ _ c.from_residual-in_err-accounts.ensures.1
-    (setup_tells (g.R.InputFiles.finds c.args.rt.now) c.args.config _ _ _ _ _ c.in_ok-config.ensures.octets c.as_slice.ensures.value c.in_err-accounts.ensures.refused)
-
-pub returns-in_err-config-clause-unwritten : goal.returns-in_err-config-clause-unwritten
-returns-in_err-config-clause-unwritten g c = told_so c.from_residual-in_err-config.result _ _ c.from_residual-in_err-config.ensures.1 (λ other. refl)
-
-pub returns-in_err-accounts-clause-unwritten : goal.returns-in_err-accounts-clause-unwritten
-returns-in_err-accounts-clause-unwritten g c = told_so c.from_residual-in_err-accounts.result _ _ c.from_residual-in_err-accounts.ensures.1 (λ other. refl)
-
-pub returns-in_err-kept-clause-refused : goal.returns-in_err-kept-clause-refused
-returns-in_err-kept-clause-refused g c = told_so c.from_residual.result _ _ c.from_residual.ensures.1 (inl c.in_err-kept.ensures.refused)
-
-pub returns-in_err-lines-clause-refused : goal.returns-in_err-lines-clause-refused
-returns-in_err-lines-clause-refused g c = told_so c.from_residual-in_err-lines.result _ _ c.from_residual-in_err-lines.ensures.1 (inl c.in_err-lines.ensures.refused)
-
-pub returns-in_err-kept-clause-unwritten : goal.returns-in_err-kept-clause-unwritten
-returns-in_err-kept-clause-unwritten g c = told_so c.from_residual.result _ _ c.from_residual.ensures.1 (λ other. refl)
-
-pub returns-in_err-lines-clause-unwritten : goal.returns-in_err-lines-clause-unwritten
-returns-in_err-lines-clause-unwritten g c = told_so c.from_residual-in_err-lines.result _ _ c.from_residual-in_err-lines.ensures.1 (λ other. refl)
+returns-clause-unwritten g c = IfErr-weaker c.quote_config.result _ _ (λ fault same not. (same not).0) c.quote_config.ensures.unwritten

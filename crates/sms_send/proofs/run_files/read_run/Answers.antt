@@ -14,7 +14,7 @@ returns-in_err-named-clause-refused g c =
     let fault = c.in_err-named.field-0.0 in
     told_so c.from_residual-in_err-named.result fault _ c.from_residual-in_err-named.ensures.1
     (inr (inr (of_config (g.R.InputFiles.finds c.args.rt.now) (string_bytes c.args.config) _ _ _ c.in_ok-accounts.field-0
-    (λ names octets. TellsNamedFiles (g.R.InputFiles.finds c.args.rt.now) names fault ⊎ TellsUnreadFile (g.R.InputFiles.finds c.args.rt.now) c.args.written fault) (λ octets. TellsConfigured (g.R.InputFiles.finds c.args.rt.now) c.args.written octets fault)
+    (λ s octets. TellsNamedFiles (g.R.InputFiles.finds c.args.rt.now) (names_in s) fault ⊎ TellsUnreadFile (g.R.InputFiles.finds c.args.rt.now) c.args.written fault) (λ octets. TellsConfigured (g.R.InputFiles.finds c.args.rt.now) c.args.written octets fault)
     c.in_ok-config.ensures.octets c.as_slice.ensures.value refl c.in_ok-accounts.ensures.setup (λ octets so. inr so) (inl c.in_err-named.ensures.refused))))
 
 pub returns-in_err-written-clause-refused : goal.returns-in_err-written-clause-refused
@@ -24,7 +24,7 @@ returns-in_err-written-clause-refused g c =
     (elim c.in_err-written.ensures.refused [
       | inl memory ↦ inl memory
       | inr named ↦ inr (inr (of_config (g.R.InputFiles.finds c.args.rt.now) (string_bytes c.args.config) _ _ _ c.in_ok-accounts.field-0
-          (λ names octets. TellsNamedFiles (g.R.InputFiles.finds c.args.rt.now) names fault ⊎ TellsUnreadFile (g.R.InputFiles.finds c.args.rt.now) c.args.written fault) (λ octets. TellsConfigured (g.R.InputFiles.finds c.args.rt.now) c.args.written octets fault)
+          (λ s octets. TellsNamedFiles (g.R.InputFiles.finds c.args.rt.now) (names_in s) fault ⊎ TellsUnreadFile (g.R.InputFiles.finds c.args.rt.now) c.args.written fault) (λ octets. TellsConfigured (g.R.InputFiles.finds c.args.rt.now) c.args.written octets fault)
           c.in_ok-config.ensures.octets c.as_slice.ensures.value refl c.in_ok-accounts.ensures.setup (λ octets so. inr so) (inr named)))
     ])
 
