@@ -45,7 +45,7 @@ IsStatusOf (Send order) status = IsStatusBy order.strict status
 IsStatusOf (Recover order) status = IsStatus status
 IsStatusOf (Rest order) status = status ≡ 0
 
--- the job was done with this status: standard input or the file of the name was replayed, that file planned, the files that the config names quoted or sent, or what is left of a run printed
+-- the job was done with this status: standard input or the file of the name was replayed, that file planned, the files that the config names quoted, or sent to the centre that is asked for, or what is left of a run printed
 abbrev pub Does : {S : Type 0} → (S → Told) → (List ℕ → Option Told → Type 0) → (CentreAt → Bool → ℕ → Told) → Job → Option (List ℕ) → Option (List ℕ) → ℕ → Type 0
 Does standard finds tells (Replay None) old new status = OfInput standard (λ bytes. Replays bytes old new)
 Does standard finds tells (Replay (Some name)) old new status = OfFile finds (string_bytes name) (λ bytes. Replays bytes old new)

@@ -1,4 +1,5 @@
 -- What a sending with a journal or without promises, from the input on, and what it makes of its files.
+-- What connections to a centre will give, written to behind a journal or not, is told of the world that the program runs in: `tells`.
 use Rattle.std.specs.Prelude.{◌≡◌, ◌⊎◌, ◌+◌, ℕ, Bool, true, false, List, Option, Some, None, length}
 use Rattle.std.specs.Io.KnownBytes.{Appends}
 use Rattle.std.specs.String.{string_bytes}
@@ -147,7 +148,7 @@ IsToldNoted tells strict begun old new fault = IsToldAt begun fault
 
 -- ---- the job
 
--- the files of these names were sent to a centre, of which connections tell this that are written to behind a journal, and without: with one or not
+-- the files of these names were sent, with a journal or without, over connections of which this is told behind one or not
 abbrev pub SendsThem : (Bool → ℕ → Told) → Bool → (List ℕ → Option Told → Type 0) → Option JournalFile → FileNames → List ℕ → Option (List ℕ) → Option (List ℕ) → ℕ → Type 0
 SendsThem told strict finds None names octets old new status = SendsPlain (told false) strict finds names octets old new status
 SendsThem told strict finds (Some journal) names octets old new status = SendsNoted (told true) strict finds names octets old new status
