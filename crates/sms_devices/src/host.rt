@@ -4,14 +4,13 @@ use crate::connects::Connects;
 use crate::journal::JournalFiles;
 use crate::screen::Screen;
 use std::io::Eprint;
-use std::rt::{Env, Files};
+use std::rt::Files;
 use std::sync::Wait;
 use std::thread::Threads;
 use std::time::Clock;
 
-/// Memory, words, files, journals, connections, standard input and error, threads and the time.
+/// Memory, files, journals, connections, standard input and error, threads and the time.
 pub trait Host: AllocGlobal
-    + Env
     + Files
     + JournalFiles
     + Connects
@@ -26,7 +25,6 @@ pub trait Host: AllocGlobal
 impl<R> Host for R
 where
     R: AllocGlobal
-        + Env
         + Files
         + JournalFiles
         + Connects

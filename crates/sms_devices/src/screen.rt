@@ -18,7 +18,13 @@ const PATIENCE_MS: u32 = 1_000;
 
 /// Standard error, and whether a person sees it.
 pub trait Screen {
-    fn is_terminal(&self) -> bool;
+    ghost use Rattle.std.specs.Prelude.{Bool, ⊤};
+
+    // Whether a person may see it.
+    ghost shows: { Self → Bool → Type 0 } = { λ _ _. ⊤ };
+
+    fn is_terminal(&self) -> bool
+        ensures { shows self.now result };
 
     fn pen(&self) -> Stderr;
 }

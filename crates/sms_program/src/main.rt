@@ -5,16 +5,21 @@
 #![tactic(auto)]
 
 use sms_devices::stand_ins;
-use sms_send::{run, status_after, tell};
+use sms_send::{StandardError, run, status_after, tell};
 use std::io;
 use std::process::ExitCode;
 
 fn main(rt: HostRuntime) -> ExitCode {
     // They stand in to the end.
     let _kept = stand_ins(&rt);
-    let status = match run(&rt, &mut io::writer(&rt)) {
+    let mut output = io::writer(&rt);
+    let mut error = StandardError { rt: &rt };
+    let status = match run(&rt, &mut output, &mut error) {
         Ok(status) => status,
-        Err(fault) => status_after(&tell(&rt, &fault), &fault),
+        Err(fault) => {
+            let told = tell(&rt, &fault, &mut output, &mut error);
+            status_after(&told, &fault)
+        }
     };
     ExitCode::from(status)
 }

@@ -1,4 +1,5 @@
 pub mod Accepting
+pub mod Asking
 pub mod Charging
 pub mod Covering
 pub mod Jobs

@@ -1,6 +1,6 @@
 -- What was written of a quote, from its parts to the job.
 use Rattle.std.proofs.Common.{◌≡◌, ◌∙◌, ◌⊎◌, inl, inr, refl, sym, subst, ap, append-nil, append_assoc, ℕ, List, [], ◌++◌, Option, None, Some, Result, Ok, Err}
-use Rattle.std.specs.Prelude.{◌≢◌, Bool, IfErr, IfOk, OnOk, String, string_bytes, if◌then◌else◌}
+use Rattle.std.specs.Prelude.{◌≢◌, ◌||◌, Bool, IfErr, IfOk, OnOk, String, string_bytes, if◌then◌else◌}
 use Rattle.std.specs.Io.KnownBytes.{Appends}
 use Rattle.std.specs.declared.alloc.Global.{Global}
 use Rattle.std.proofs.KnownBytes.{Appends-nil, Appends-trans}
@@ -17,7 +17,7 @@ use Rattle.sms_report.specs.Output.{WritesFront}
 use Rattle.sms_send.specs.Faults.{TellsRead, told_input, output_failed}
 use Rattle.sms_send.specs.Opened.{AreFound, OfFile, TellsUnreadFile}
 use Rattle.sms_send.specs.FullNames.{TellsIfKept}
-use Rattle.sms_send.specs.Quoted.{FailsBehind, HasQuote, PrintsFront, PrintsQuote, QuotesAndTells, QuotesAndWarns, QuotesFiles, QuotesNamedAndTells, TellsFront, TellsFrontNamed, TellsNames, TellsQuoteFiles, TellsQuoteJob, TellsQuoteNamed, WarnsFront, warnings_of}
+use Rattle.sms_send.specs.Quoted.{FailsBehind, HasQuote, PrintsFront, PrintsQuote, QuotesAndTells, QuotesAndWarns, QuotesAsAsked, QuotesFiles, QuotesNamedAndTells, TellsFront, TellsFrontAsAsked, TellsFrontNamed, TellsNames, TellsQuoteFiles, TellsQuoteJob, TellsQuoteNamed, WarnsFront, warnings_of}
 use Rattle.sms_send.specs.declared.fault.Fault.{Fault}
 use Rattle.sms_send.specs.declared.fault.Fault.TheVariants.{File, OutOfMemory}
 use Rattle.sms_send.proofs.Noting.{IsSetUp}
@@ -111,6 +111,19 @@ pub job_quotes : (finds : List ℕ → Option Told → Type 0) (is_full : List �
     → OfFile finds name (λ octets. QuotesAndTells finds is_full at_length name octets old new told_old told_new) → OfFile finds name (λ octets. QuotesFiles finds octets old new)
 job_quotes finds is_full at_length name old new told_old told_new (told, found, quotes) =
     (told, found, IfSome_then told quotes (λ octets so. tells_quote finds is_full at_length name octets old new told_old told_new so))
+
+-- what is so at length is so as it was asked for
+pub quotes_asked : (finds : List ℕ → Option Told → Type 0) (is_full : List ℕ → List ℕ → Type 0) (shows : Bool → Type 0) (name : String Global) (verbose terminal at_length : Bool) (old new told_old told_new : Option (List ℕ))
+    → shows terminal → at_length ≡ (terminal || verbose) → OfFile finds (string_bytes name) (λ octets. QuotesAndTells finds is_full at_length (string_bytes name) octets old new told_old told_new)
+    → QuotesAsAsked finds is_full shows name verbose old new told_old told_new
+quotes_asked finds is_full shows name verbose terminal at_length old new told_old told_new shown same quotes =
+    (terminal, shown, subst (λ (b : Bool). OfFile finds (string_bytes name) (λ octets. QuotesAndTells finds is_full b (string_bytes name) octets old new told_old told_new)) same quotes)
+
+pub front_asked : (finds : List ℕ → Option Told → Type 0) (is_full : List ℕ → List ℕ → Type 0) (shows : Bool → Type 0) (name : String Global) (verbose terminal at_length : Bool) (told_old told_new : Option (List ℕ))
+    → shows terminal → at_length ≡ (terminal || verbose) → OfFile finds (string_bytes name) (λ octets. TellsFront finds is_full at_length (string_bytes name) octets told_old told_new)
+    → TellsFrontAsAsked finds is_full shows name verbose told_old told_new
+front_asked finds is_full shows name verbose terminal at_length told_old told_new shown same front =
+    (terminal, shown, subst (λ (b : Bool). OfFile finds (string_bytes name) (λ octets. TellsFront finds is_full b (string_bytes name) octets told_old told_new)) same front)
 
 pub set_up_tells : (finds : List ℕ → Option Told → Type 0) (items read handed : List ℕ) (setup : Setup) (name : String Global) (old new : Option (List ℕ)) (fault : Fault)
     → IsSetUp finds (string_bytes name) items read handed setup → TellsQuoteNamed finds (names_in setup) handed old new fault → TellsQuoteJob finds name old new fault

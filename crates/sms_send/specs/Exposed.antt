@@ -1,5 +1,7 @@
--- Whether a config has a password, and what is told where others can read it.
-use Rattle.std.specs.Prelude.{ℕ, Bool, false, not, ◌==◌, ◌&&◌, if◌then◌else◌, List, [], length, Option, Some, None, option_and_then, codes}
+-- Whether a config has a password, whether others can read it, and what is told where they can. Which mode a file may have is a relation
+-- of the world that the program runs in.
+use Rattle.std.specs.Prelude.{◌≡◌, ℕ, Bool, false, not, ◌==◌, ◌&&◌, if◌then◌else◌, List, [], length, Option, Some, None, option_and_then, codes}
+use Rattle.sms_diagnostics.specs.Modes.{lets_others_read}
 use Rattle.sms_files.specs.ConfigFaults.{toml_of}
 use Rattle.toml.specs.Data.{Members, as_str, get_member}
 
@@ -12,6 +14,15 @@ is_some_text (Some text) = not (length text == 0)
 abbrev pub says_password : Option Members → Bool
 says_password None = false
 says_password (Some t) = is_some_text (option_and_then as_str (get_member (codes "password") t))
+
+-- others can read a file of this mode; of one whose mode can't be had it isn't said
+abbrev pub is_open_by : Option ℕ → Bool
+is_open_by None = false
+is_open_by (Some mode) = lets_others_read mode
+
+-- whether others can read the file of a name, by a mode that it may have
+abbrev pub IsReadable : (List ℕ → Option ℕ → Type 0) → List ℕ → Bool → Type 0
+IsReadable is_mode name readable = (mode : Option ℕ) × is_mode name mode × (readable ≡ is_open_by mode)
 
 -- what is told of a config of these octets that others can read or not
 abbrev pub warning_for : Bool → List ℕ → List ℕ

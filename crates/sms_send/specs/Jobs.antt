@@ -10,7 +10,7 @@ use Rattle.sms_files.specs.Messages.{messages_fault}
 use Rattle.sms_report.specs.PlanText.{kind_of, plan_of}
 use Rattle.sms_send.specs.Opened.{OfFile, OfInput, TellsLost}
 use Rattle.sms_send.specs.Plans.{TellsPlan}
-use Rattle.sms_send.specs.Quoted.{QuotesFiles, TellsQuoteJob}
+use Rattle.sms_send.specs.Quoted.{QuotesAsAsked, QuotesFiles, TellsFrontAsAsked, TellsQuoteJob}
 use Rattle.sms_send.specs.Recovered.{PrintsLeft, RecoversRun, TellsRecoverJob, TellsRestJob}
 use Rattle.sms_send.specs.Replays.{Replays, TellsReplay}
 use Rattle.sms_send.specs.Runs.{IsRun}
@@ -56,6 +56,17 @@ Does standard finds tells (Send order) old new status = OfFile finds (string_byt
 Does standard finds tells (Recover order) old new status = (run : RunFiles) × IsRun finds (string_bytes order.config) (string_bytes order.journal) run × RecoversRun run old new status
 Does standard finds tells (Rest order) old new status = (run : RunFiles) × IsRun finds (string_bytes order.config) (string_bytes order.report) run × PrintsLeft order.accounts run old new
 
+-- what standard error was told by a job that was done: by a quote what there is to warn of and, at length, its files' full names; by any other nothing (how a
+-- sending goes is told there by threads of its own)
+abbrev pub TellsBeside : (List ℕ → Option Told → Type 0) → (List ℕ → List ℕ → Type 0) → (Bool → Type 0) → Job → Option (List ℕ) → Option (List ℕ) → Option (List ℕ) → Option (List ℕ) → Type 0
+TellsBeside finds is_full shows (Quote config verbose) old new told_old told_new = QuotesAsAsked finds is_full shows config verbose old new told_old told_new
+TellsBeside finds is_full shows _ old new told_old told_new = told_new ≡ told_old
+
+-- and by one of which the output failed: a front of that
+abbrev pub TellsBesideFront : (List ℕ → Option Told → Type 0) → (List ℕ → List ℕ → Type 0) → (Bool → Type 0) → Job → Option (List ℕ) → Option (List ℕ) → Type 0
+TellsBesideFront finds is_full shows (Quote config verbose) told_old told_new = TellsFrontAsAsked finds is_full shows config verbose told_old told_new
+TellsBesideFront finds is_full shows _ told_old told_new = told_new ≡ told_old
+
 -- what a fault of a job says, of a world where a journal's beginning tells such: its file can't be opened, or what the fault says of the input
 abbrev pub TellsJob : {S : Type 0} → (JournalFile → Fault → Type 0) → (S → Told) → (List ℕ → Option Told → Type 0) → (CentreAt → Bool → ℕ → Told) → Job → Option (List ℕ) → Option (List ℕ) → Fault → Type 0
 TellsJob begins standard finds tells (Replay None) old new fault = OfInput standard (λ bytes. TellsReplay (records_of bytes) fault)
@@ -78,6 +89,10 @@ abbrev pub IsToldOf : (CentreAt → Bool → ℕ → Told) → Job → Begun →
 IsToldOf tells (Loop order) begun old new fault = IsToldNoted tells order.strict begun old new fault
 IsToldOf tells (Send order) begun old new fault = IsToldNoted tells order.strict begun old new fault
 IsToldOf tells _ begun old new fault = begun ≡ NotYet
+
+-- it holds of a job that these words ask for
+abbrev pub OfJob : List Text → (Job → Type 0) → Type 0
+OfJob words P = (job : Job) × IsJob (subcommand_in words) job × P job
 
 -- these words ask for a job, and it was done
 abbrev pub Works : {S : Type 0} → (S → Told) → (List ℕ → Option Told → Type 0) → (CentreAt → Bool → ℕ → Told) → List Text → ℕ → Option (List ℕ) → Option (List ℕ) → Type 0

@@ -1,3 +1,4 @@
+pub mod Asked
 pub mod Explained
 pub mod Exposed
 pub mod Faults

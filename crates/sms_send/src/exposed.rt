@@ -4,7 +4,7 @@ ghost use Rattle.std.specs.Prelude.{◌≡◌, ◌⊎◌, IfErr, IfOk, codes, op
 ghost use Rattle.toml.specs.Data.{as_str, get_member};
 ghost use Rattle.toml.specs.View.{table_view};
 ghost use Rattle.sms_files.specs.ConfigFaults.{toml_of};
-ghost use Rattle.sms_send.specs.Exposed.{is_some_text as is_text, says_password, warning_for};
+ghost use Rattle.sms_send.specs.Exposed.{IsReadable, is_some_text as is_text, says_password, warning_for};
 ghost use Rattle.sms_send.specs.Opened.{OfFile, TellsUnreadFile};
 ghost use Rattle.sms_send.specs.declared.fault.Fault.TheVariants.{OutOfMemory};
 
@@ -16,7 +16,6 @@ use sms_diagnostics::is_open_to_others;
 use std::alloc::{AllocError, Global};
 use std::io::Eprint;
 use std::os::unix::fs::PermissionsExt;
-use std::rt::Files;
 use std::thread::Threads;
 use std::time::Clock;
 use std::{fs, str};
@@ -60,11 +59,34 @@ fn has_password(alloc: Global, config: &[u8]) -> Result<bool, AllocError>
     }
 }
 
-/// Whether others can read the file of this name, as far as the system says so.
-fn is_readable_by_others<R: Files>(rt: &R, name: &str) -> bool {
-    match fs::metadata(rt, name) {
-        Ok(metadata) => is_open_to_others(metadata.permissions().mode()),
-        Err(_unknown) => false,
+/// Who knows the modes of files.
+pub trait FileModes {
+    ghost use Rattle.std.specs.Prelude.{ℕ, List, Option, ⊤};
+
+    // Which mode the file of a name may have; none where it can't be had.
+    ghost is_mode: { Self → List ℕ → Option ℕ → Type 0 } = { λ _ _ _. ⊤ };
+
+    /// The mode of the file of this name, where it can be had.
+    fn mode_of(&self, name: &str) -> Option<u32>
+        ensures { is_mode self.now name.now result };
+}
+
+impl FileModes for HostRuntime {
+    fn mode_of(&self, name: &str) -> Option<u32> {
+        match fs::metadata(self, name) {
+            Ok(metadata) => Some(metadata.permissions().mode()),
+            Err(_unknown) => None,
+        }
+    }
+}
+
+/// Whether others can read the file of this name, as far as its mode can be had.
+fn is_readable_by_others<R: FileModes>(rt: &R, name: &str) -> bool
+    ensures { IsReadable (R.is_mode rt.now) name.now result }
+{
+    match rt.mode_of(name) {
+        Some(mode) => is_open_to_others(mode),
+        None => false,
     }
 }
 
@@ -96,7 +118,7 @@ fn warn_if_exposed<R: AllocGlobal + Threads + Clock + Eprint + Screen>(
 }
 
 /// The octets of the config of this name. At length it is told where others can read a password there.
-pub fn config_of<R: AllocGlobal + Files + InputFiles + Threads + Clock + Eprint + Screen>(
+pub fn config_of<R: AllocGlobal + FileModes + InputFiles + Threads + Clock + Eprint + Screen>(
     rt: &R,
     name: String,
     at_length: bool,

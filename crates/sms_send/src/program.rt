@@ -1,14 +1,18 @@
 //! The program over its words: the job that they ask for, and what is told of a fault.
 
-ghost use Rattle.std.specs.Prelude.{◌≡◌, ◌≢◌, ◌⊎◌, List, IfErr, IfOk, OnOk, is_ok, map, string_bytes, if◌then◌else◌};
-ghost use Rattle.clap.specs.Words.{Text};
+ghost use Rattle.std.specs.Prelude.{◌≡◌, ◌≢◌, None, Some, IfErr, IfOk, IfSome, OnOk, is_ok, is_some, map, string_bytes, true, if◌then◌else◌};
+ghost use Rattle.std.specs.Io.KnownBytes.{Appends};
 ghost use Rattle.sms_driver.specs.declared.start.Begun.TheVariants.{NotYet};
+ghost use Rattle.sms_report.specs.Output.{WritesFront};
+ghost use Rattle.sms_send.specs.Asked.{IsKnownAt, IsKnownHere, IsUntold, OfAsked, TellsAsAsked, TellsLines, WorksAsAsked, printed_of};
 ghost use Rattle.sms_send.specs.Faults.{status_of, output_failed};
-ghost use Rattle.sms_send.specs.Jobs.{Does, HasBegun, IsStatusOf, IsToldOf, IsToldSo, TellsJob, TellsRun, WentSo, Works};
+ghost use Rattle.sms_send.specs.Jobs.{Does, HasBegun, IsStatusOf, IsToldOf, IsToldSo, OfJob, TellsBeside, TellsBesideFront, TellsJob, TellsRun, WentSo, Works};
+ghost use Rattle.sms_send.specs.Known.{texts_of};
 ghost use Rattle.sms_send.specs.Noted.{TellsBegin};
-ghost use Rattle.sms_send.specs.declared.fault.Fault.TheVariants.{Journal, OutOfMemory, Words};
+ghost use Rattle.sms_send.specs.declared.fault.Fault.TheVariants.{Journal};
 
-use crate::explained::{is_at_length, told_of};
+use crate::explained::{Known, is_at_length, told_of};
+use crate::exposed::FileModes;
 use crate::fault::Fault;
 use crate::full_names::FullNames;
 use crate::job::{Job, job_of};
@@ -16,86 +20,90 @@ use crate::known::known_at;
 use crate::looks::FilesAgain;
 use crate::opened::{InputFiles, open};
 use crate::plan::run_plan;
+use crate::program_words::ProgramWords;
 use crate::quote_job::quote_job;
 use crate::recover_job::{recover_job, rest_job};
 use crate::replay::run_replay;
 use crate::send_job::{Centre, send_job};
-use crate::standard_error::tell_lines;
+use crate::standard_error::TakesLines;
 use crate::words::is_verbose;
 use sms_devices::{Host, Screen};
 use sms_driver::{Latch, Start};
 use sms_report::write_out;
-use std::io::{ErrorKind, Write};
-use std::rt::Env;
-use std::{env, io};
+use std::io::{self, Write};
 
 /// The exit status where a fault can't be told: that of a fault of the output.
 const UNTOLD: u8 = 1;
 
-/// Does the job that the program's words ask for, and gives the exit status.
-pub fn run<R: FullNames + Host + InputFiles, W: Write>(rt: &R, output: &mut W) -> Result<u8, Fault>
-    ensures done { IfOk result (λ status. (words : List Text) × Works R.Reader.remaining (R.finds rt.now) (R.tells rt.now) words status (W.contents output.old) (W.contents output.new)) }
+/// Does the job that the program's words ask for, and gives the exit status. What there is to say beside
+/// a quote goes to standard error.
+pub fn run<R: FileModes + FullNames + Host + InputFiles + ProgramWords, W: Write, E: Write>(
+    rt: &R,
+    output: &mut W,
+    error: &mut E,
+) -> Result<u8, Fault>
+    ensures done { IfOk result (WorksAsAsked (R.has rt.now) R.Reader.remaining (R.finds rt.now) (R.tells rt.now) (λ job. TellsBeside (R.finds rt.now) (R.is_full rt.now) (R.shows rt.now) job (W.contents output.old) (W.contents output.new) (E.contents error.old) (E.contents error.new)) (W.contents output.old) (W.contents output.new)) }
+    ensures refused { IfErr result (TellsAsAsked (R.has rt.now) (TellsBegin (R.makes rt.now) (R.refuses rt.now)) R.Reader.remaining (R.finds rt.now) (R.tells rt.now) (W.contents output.old) (W.contents output.new)) }
     ensures unwritten { IfErr result (λ fault. fault ≢ output_failed → fault ≢ Journal → output.new ≡ output.old) }
+    ensures front { IfErr result (λ fault. fault ≡ output_failed → OfAsked (R.has rt.now) (λ job. TellsBesideFront (R.finds rt.now) (R.is_full rt.now) (R.shows rt.now) job (E.contents error.old) (E.contents error.new))) }
+    ensures untold { IfErr result (λ fault. fault ≢ output_failed → error.new ≡ error.old) }
 {
-    let words = words_of(rt)?;
+    let words = rt.words()?;
     let (latch, unsaid) = Latch::new();
     let mut start = Start::new(&latch, unsaid);
-    do_words(rt, &mut start, words.as_slice(), output)
-}
-
-/// The words after the program's name. One that is not UTF-8 is refused.
-fn words_of<R: AllocGlobal + Env>(rt: &R) -> Result<Vec<String>, Fault>
-    ensures { IfErr result (λ fault. (fault ≡ Words) ⊎ (fault ≡ OutOfMemory)) }
-{
-    match env::args(rt) {
-        Ok(words) => Ok(words.skip(1).collect(rt.alloc())?),
-        Err(error) if error.kind() == ErrorKind::OutOfMemory => Err(Fault::OutOfMemory),
-        Err(_) => Err(Fault::Words),
-    }
+    do_words(rt, &mut start, words.as_slice(), output, error)
 }
 
 /// Does the job that these words ask for, and gives the exit status.
-fn do_words<R: FullNames + Host + InputFiles, W: Write>(
+fn do_words<R: FileModes + FullNames + Host + InputFiles, W: Write, E: Write>(
     rt: &R,
     start: &mut Start<'_>,
     words: &[String],
     output: &mut W,
+    error: &mut E,
 ) -> Result<u8, Fault>
     requires yet { start.old.begun ≡ NotYet }
     ensures latch { start.new.latch ≡ start.old.latch }
     ensures went { OnOk result (WentSo (map string_bytes words.now) start.new.begun) }
     ensures done { IfOk result (λ status. Works R.Reader.remaining (R.finds rt.now) (R.tells rt.now) (map string_bytes words.now) status (W.contents output.old) (W.contents output.new)) }
+    ensures beside { OnOk result (OfJob (map string_bytes words.now) (λ job. TellsBeside (R.finds rt.now) (R.is_full rt.now) (R.shows rt.now) job (W.contents output.old) (W.contents output.new) (E.contents error.old) (E.contents error.new))) }
+    ensures front { IfErr result (λ fault. fault ≡ output_failed → OfJob (map string_bytes words.now) (λ job. TellsBesideFront (R.finds rt.now) (R.is_full rt.now) (R.shows rt.now) job (E.contents error.old) (E.contents error.new))) }
     ensures refused { IfErr result (TellsRun (TellsBegin (R.makes rt.now) (R.refuses rt.now)) R.Reader.remaining (R.finds rt.now) (R.tells rt.now) (map string_bytes words.now) (W.contents output.old) (W.contents output.new)) }
     ensures told { IfErr result (IsToldSo (R.tells rt.now) (map string_bytes words.now) start.new.begun (W.contents output.old) (W.contents output.new)) }
     ensures unwritten { IfErr result (λ fault. fault ≢ output_failed → fault ≢ Journal → output.new ≡ output.old) }
+    ensures untold { IfErr result (λ fault. fault ≢ output_failed → error.new ≡ error.old) }
 {
     match job_of(rt.alloc(), words) {
-        Ok(job) => do_job(rt, start, job, output),
+        Ok(job) => do_job(rt, start, job, output, error),
         Err(fault) => Err(fault),
     }
 }
 
 /// Does a job, and gives the exit status. Where the job sends, the start says how far the sending came.
-pub fn do_job<R: FullNames + Host + InputFiles, W: Write>(
+pub fn do_job<R: FileModes + FullNames + Host + InputFiles, W: Write, E: Write>(
     rt: &R,
     start: &mut Start<'_>,
     job: Job,
     output: &mut W,
+    error: &mut E,
 ) -> Result<u8, Fault>
     requires yet { start.old.begun ≡ NotYet }
     ensures latch { start.new.latch ≡ start.old.latch }
     ensures went { OnOk result (HasBegun job start.new.begun) }
     ensures status { IfOk result (IsStatusOf job) }
     ensures done { IfOk result (Does R.Reader.remaining (R.finds rt.now) (R.tells rt.now) job (W.contents output.old) (W.contents output.new)) }
+    ensures beside { OnOk result (TellsBeside (R.finds rt.now) (R.is_full rt.now) (R.shows rt.now) job (W.contents output.old) (W.contents output.new) (E.contents error.old) (E.contents error.new)) }
+    ensures front { IfErr result (λ fault. fault ≡ output_failed → TellsBesideFront (R.finds rt.now) (R.is_full rt.now) (R.shows rt.now) job (E.contents error.old) (E.contents error.new)) }
     ensures refused { IfErr result (TellsJob (TellsBegin (R.makes rt.now) (R.refuses rt.now)) R.Reader.remaining (R.finds rt.now) (R.tells rt.now) job (W.contents output.old) (W.contents output.new)) }
     ensures told { IfErr result (IsToldOf (R.tells rt.now) job start.new.begun (W.contents output.old) (W.contents output.new)) }
     ensures unwritten { IfErr result (λ fault. fault ≢ output_failed → fault ≢ Journal → output.new ≡ output.old) }
+    ensures untold { IfErr result (λ fault. fault ≢ output_failed → error.new ≡ error.old) }
 {
     match job {
         Job::Replay(None) => run_replay(rt.alloc(), rt.reader(), output),
         Job::Replay(Some(name)) => run_replay(rt.alloc(), open(rt, name)?, output),
         Job::Plan(name, long) => run_plan(rt.alloc(), open(rt, name)?, long, output),
-        Job::Quote(config, verbose) => quote_job(rt, config, verbose, output),
+        Job::Quote(config, verbose) => quote_job(rt, config, verbose, output, error),
         Job::Loop(order) => send_job(rt, start, Centre::Own, order, output),
         Job::Send(order) => send_job(rt, start, Centre::Named, order, output),
         Job::Recover(order) => recover_job(rt, order, output),
@@ -103,45 +111,98 @@ pub fn do_job<R: FullNames + Host + InputFiles, W: Write>(
     }
 }
 
-/// That what was to be told could not be told.
-#[derive(Clone, Copy, Debug, PartialEq, Eq)]
-pub struct Untold;
+/// Why something that was to be told could not be told.
+#[derive(Debug, Drop)]
+pub enum Untold {
+    /// The output of help or of the version failed, with this fault.
+    Output(Fault),
+    /// Standard error failed, with this error.
+    Error(io::Error),
+}
 
-/// Tells a fault on standard error, and help or the version on standard output. That they can't be
-/// printed is a fault of the output, which is told in its turn.
-pub fn tell<R: AllocGlobal + Env + FilesAgain + Screen + Eprint + Print>(
+/// Tells a fault on standard error, and help or the version on the output. That they can't be printed is
+/// a fault of the output, which is told in its turn.
+pub fn tell<R: AllocGlobal + FilesAgain + ProgramWords + Screen, W: Write, E: TakesLines>(
     rt: &R,
     fault: &Fault,
-) -> Result<(), Untold> {
-    let text = match fault {
-        Fault::Help(text) | Fault::Version(text) => text,
-        _ => return tell_fault(rt, fault),
-    };
-    match write_out(&mut io::writer(rt), text.as_bytes()) {
+    output: &mut W,
+    error: &mut E,
+) -> Result<(), Untold>
+    ensures printed { OnOk result (IfSome (printed_of fault.now) (Appends (W.contents output.old) (W.contents output.new))) }
+    ensures front { IfSome (printed_of fault.now) (WritesFront (W.contents output.old) (W.contents output.new)) }
+    ensures alone { OnOk result (is_some (printed_of fault.now) ≡ true → error.new ≡ error.old) }
+    ensures told { OnOk result (printed_of fault.now ≡ None → TellsLines (R.has rt.now) (R.shows rt.now) (R.holds rt.now) (R.says rt.now) fault.now (E.told error.old) (E.told error.new)) }
+    ensures unprinted { printed_of fault.now ≡ None → output.new ≡ output.old }
+    ensures untold { IfErr result (IsUntold (printed_of fault.now)) }
+{
+    match fault {
+        Fault::Help(text) | Fault::Version(text) => print_text(rt, text.as_bytes(), output, error),
+        _ => match tell_fault(rt, fault, error) {
+            Ok(()) => Ok(()),
+            Err(untold) => Err(Untold::Error(untold)),
+        },
+    }
+}
+
+/// Prints a text. That it can't be printed is told.
+fn print_text<R: AllocGlobal + FilesAgain + ProgramWords + Screen, W: Write, E: TakesLines>(
+    rt: &R,
+    text: &[u8],
+    output: &mut W,
+    error: &mut E,
+) -> Result<(), Untold>
+    ensures printed { OnOk result (Appends (W.contents output.old) (W.contents output.new) text.now) }
+    ensures front { WritesFront (W.contents output.old) (W.contents output.new) text.now }
+    ensures alone { OnOk result (error.new ≡ error.old) }
+    ensures untold { IfErr result (IsUntold (Some text.now)) }
+{
+    match write_out(output, text) {
         Ok(()) => Ok(()),
         Err(unprinted) => {
-            let _told = tell_fault(rt, &Fault::from(unprinted));
-            Err(Untold)
+            let lost = Fault::from(unprinted);
+            let _told = tell_fault(rt, &lost, error);
+            Err(Untold::Output(lost))
         }
     }
 }
 
-/// Tells a fault in one line on standard error; on a terminal, and where the words ask for more, lines
-/// follow it.
-fn tell_fault<R: AllocGlobal + Env + FilesAgain + Screen + Eprint>(
+/// Tells a fault in one line; on a terminal, and where the words ask for more, lines follow it.
+fn tell_fault<R: AllocGlobal + FilesAgain + ProgramWords + Screen, E: TakesLines>(
     rt: &R,
     fault: &Fault,
-) -> Result<(), Untold> {
-    let words = words_of(rt).ok();
-    let verbose = match &words {
+    error: &mut E,
+) -> io::Result<()>
+    ensures told { OnOk result (TellsLines (R.has rt.now) (R.shows rt.now) (R.holds rt.now) (R.says rt.now) fault.now (E.told error.old) (E.told error.new)) }
+{
+    let known = known_here(rt, fault);
+    error.tell_lines(&told_of(fault, &known))
+}
+
+/// What is known of this run, which has this fault, where more is told of it.
+fn known_here<R: AllocGlobal + FilesAgain + ProgramWords + Screen>(
+    rt: &R,
+    fault: &Fault,
+) -> Option<Known>
+    ensures { IsKnownHere (R.has rt.now) (R.shows rt.now) (R.holds rt.now) (R.says rt.now) fault.now result }
+{
+    let words = rt.words().ok();
+    known_by(rt, &words, rt.is_terminal(), fault)
+}
+
+/// The same by these words, which may be out of reach, on a terminal or elsewhere.
+fn known_by<R: AllocGlobal + FilesAgain>(
+    rt: &R,
+    words: &Option<Vec<String>>,
+    terminal: bool,
+    fault: &Fault,
+) -> Option<Known>
+    ensures { IsKnownAt (R.holds rt.now) (R.says rt.now) (texts_of words.now) terminal fault.now result }
+{
+    let verbose = match words {
         Some(words) => is_verbose(words.as_slice()),
         None => false,
     };
-    let known = known_at(rt, &words, fault, is_at_length(rt.is_terminal(), verbose));
-    match tell_lines(rt, &told_of(fault, &known)) {
-        Ok(()) => Ok(()),
-        Err(_) => Err(Untold),
-    }
+    known_at(rt, words, fault, is_at_length(terminal, verbose))
 }
 
 /// The exit status after a fault was told: its own, and that of the output where telling failed.
@@ -150,6 +211,6 @@ pub fn status_after(told: &Result<(), Untold>, fault: &Fault) -> u8
 {
     match told {
         Ok(()) => fault.exit_status(),
-        Err(Untold) => UNTOLD,
+        Err(_) => UNTOLD,
     }
 }

@@ -5,7 +5,7 @@ ghost use Rattle.std.specs.Prelude.{◌≡◌, ◌≢◌, IfErr, IfOk, Ok, OnOk,
 ghost use Rattle.std.specs.Io.KnownBytes.{Appends};
 ghost use Rattle.sms_report.specs.Output.{WritesFront};
 ghost use Rattle.sms_send.specs.Opened.{OfFile};
-ghost use Rattle.sms_send.specs.Quoted.{FailsBehind, HasQuote, PrintsQuote, QuotesAndTells, QuotesAndWarns, QuotesFiles, QuotesNamedAndTells, TellsFront, TellsFrontNamed, TellsQuote, TellsQuoteJob, TellsQuoteNamed, TellsQuoting, WarnsFront, warnings_of};
+ghost use Rattle.sms_send.specs.Quoted.{FailsBehind, HasQuote, PrintsQuote, QuotesAndTells, QuotesAndWarns, QuotesAsAsked, QuotesFiles, QuotesNamedAndTells, TellsFront, TellsFrontAsAsked, TellsFrontNamed, TellsQuote, TellsQuoteJob, TellsQuoteNamed, TellsQuoting, WarnsFront, warnings_of};
 ghost use Rattle.sms_send.specs.Faults.{output_failed};
 
 use crate::explained::is_at_length;
@@ -13,13 +13,12 @@ use crate::fault::Fault;
 use crate::full_names::{FullNames, lines_at, name_at};
 use crate::opened::{InputFiles, octets_of, open, open_named};
 use crate::reading::{read_input, setup_of};
-use crate::standard_error::StandardError;
 use sms_devices::Screen;
 use sms_files::{FileNames, Input, Setup};
 use sms_quote::{quote_text, warnings_text};
 use sms_report::write_out;
 use std::alloc::{AllocError, Global};
-use std::io::{Eprint, Read, Write};
+use std::io::{Read, Write};
 use std::mem;
 
 /// What is printed of an input, and what is told of its messages.
@@ -195,17 +194,20 @@ fn quote_config<R: AllocGlobal + FullNames + InputFiles, W: Write, E: Write>(
 /// Reads the config of this name and the files that it names, and prints what a sending of them would
 /// come to. On a terminal, and where more is to be told, the full names of the files follow on standard
 /// error.
-pub fn quote_job<R: AllocGlobal + FullNames + InputFiles + Eprint + Screen, W: Write>(
+pub fn quote_job<R: AllocGlobal + FullNames + InputFiles + Screen, W: Write, E: Write>(
     rt: &R,
     config: String,
     verbose: bool,
     output: &mut W,
+    error: &mut E,
 ) -> Result<u8, Fault>
     ensures status { IfOk result (λ status. status ≡ 0) }
     ensures quoted { OnOk result (OfFile (R.finds rt.now) (string_bytes config) (λ octets. QuotesFiles (R.finds rt.now) octets (W.contents output.old) (W.contents output.new))) }
+    ensures beside { OnOk result (QuotesAsAsked (R.finds rt.now) (R.is_full rt.now) (R.shows rt.now) config verbose (W.contents output.old) (W.contents output.new) (E.contents error.old) (E.contents error.new)) }
     ensures refused { IfErr result (TellsQuoteJob (R.finds rt.now) config (W.contents output.old) (W.contents output.new)) }
-    ensures unwritten { IfErr result (λ fault. fault ≢ output_failed → output.new ≡ output.old) }
+    ensures told { IfErr result (λ fault. fault ≡ output_failed → TellsFrontAsAsked (R.finds rt.now) (R.is_full rt.now) (R.shows rt.now) config verbose (E.contents error.old) (E.contents error.new)) }
+    ensures unwritten { IfErr result (λ fault. fault ≢ output_failed → (output.new ≡ output.old) × (error.new ≡ error.old)) }
 {
     let at_length = is_at_length(rt.is_terminal(), verbose);
-    quote_config(rt, config, at_length, output, &mut StandardError { rt })
+    quote_config(rt, config, at_length, output, error)
 }

@@ -11,7 +11,7 @@ ghost use Rattle.sms_send.specs.Sent.{RunsSender, TellsSender};
 ghost use Rattle.sms_send.specs.declared.fault.Fault.TheVariants.{Journal};
 
 use crate::checked::send_plain;
-use crate::exposed::config_of;
+use crate::exposed::{FileModes, config_of};
 use crate::fault::Fault;
 use crate::noted::send_noted;
 use crate::opened::InputFiles;
@@ -84,7 +84,7 @@ pub fn run_sender<
 
 /// Reads the config of this name and the files that it names, and sends. Where a journal is asked for,
 /// the files are read to their ends first, and what goes out is noted.
-pub fn send_job<R: Host + InputFiles, W: Write>(
+pub fn send_job<R: FileModes + Host + InputFiles, W: Write>(
     rt: &R,
     start: &mut Start<'_>,
     centre: Centre,

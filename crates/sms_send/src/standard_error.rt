@@ -1,4 +1,4 @@
-//! Standard error, as a writer of text, and what is told there of a run.
+//! Standard error, as a writer of text and of whole lines, and what is told there of a run.
 
 use sms_devices::{Notices, Screen};
 use std::fmt::Display;
@@ -29,10 +29,24 @@ impl<R: Eprint> Write for StandardError<'_, R> {
     }
 }
 
-/// Tells these lines, each with its end, at once. All that is told of a run beside how it goes is told so,
-/// or as `tell_beside` does.
-pub fn tell_lines<R: Eprint, T: Display>(rt: &R, lines: &T) -> io::Result<()> {
-    eprint!(rt; "{lines}")
+/// Who is told lines.
+pub trait TakesLines {
+    ghost use Rattle.std.specs.Prelude.{ℕ, List, Option, None, IfSome, OnOk};
+    ghost use Rattle.std.specs.Io.KnownBytes.{Appends};
+
+    // What it was told, where that is known.
+    ghost told: { Self → Option (List ℕ) } = { λ _. None };
+
+    /// Tells these lines, each with its end, at once. All that is told of a run beside how it goes is told
+    /// so, or as `tell_beside` does.
+    fn tell_lines<T: Display>(&mut self, lines: &T) -> io::Result<()>
+        ensures { OnOk result (IfSome (T.output lines.now) (Appends (told self.old) (told self.new))) };
+}
+
+impl<R: Eprint> TakesLines for StandardError<'_, R> {
+    fn tell_lines<T: Display>(&mut self, lines: &T) -> io::Result<()> {
+        eprint!(self.rt; "{lines}")
+    }
 }
 
 /// Tells these lines of a sending, and waits for a terminal a second at most: it may be stopped.
@@ -41,7 +55,7 @@ pub fn tell_beside<R: AllocGlobal + Threads + Clock + Eprint + Screen, T: Displa
     lines: &T,
 ) {
     if !rt.is_terminal() {
-        let _told = tell_lines(rt, lines);
+        let _told = StandardError { rt }.tell_lines(lines);
         return;
     }
     if let Ok(text) = format!(in rt.alloc(); "{lines}") {

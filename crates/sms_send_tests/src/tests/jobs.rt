@@ -201,9 +201,11 @@ fn tells_files_that_cannot_be_read(rt: HostRuntime) -> Result<(), Fail> {
         let job = job_with(word, String::from_str(rt.alloc(), name)?);
         let mut output = Vec::new(rt.alloc());
         let (latch, unsaid) = Latch::new();
-        let done = do_job(&rt, &mut Start::new(&latch, unsaid), job, &mut output);
+        let mut error = Vec::new(rt.alloc());
+        let start = &mut Start::new(&latch, unsaid);
+        let done = do_job(&rt, start, job, &mut output, &mut error);
         want_fault(&rt, done, wanted);
-        assert!(rt; output.is_empty());
+        assert!(rt; output.is_empty() && error.is_empty());
     }
     Ok(())
 }

@@ -86,12 +86,14 @@ fn ends_a_journal_behind_its_report(rt: HostRuntime) -> Result<(), Fail> {
     }
     let _removed = fs::remove_file(&rt, JOURNAL);
     let mut printed = Vec::new(alloc);
+    let mut told_beside = Vec::new(alloc);
     let (latch, unsaid) = Latch::new();
     let done = do_job(
         &rt,
         &mut Start::new(&latch, unsaid),
         noted_job(alloc)?,
         &mut printed,
+        &mut told_beside,
     );
     assert!(rt; done.is_ok());
     let text = journal_text(&rt);
@@ -106,6 +108,7 @@ fn ends_a_journal_behind_its_report(rt: HostRuntime) -> Result<(), Fail> {
         &mut Start::new(&latch, unsaid),
         recover_job(alloc)?,
         &mut recovered,
+        &mut told_beside,
     );
     assert!(rt; told.is_ok());
     same(&rt, recovered.as_slice(), printed.as_slice());
@@ -115,6 +118,7 @@ fn ends_a_journal_behind_its_report(rt: HostRuntime) -> Result<(), Fail> {
         &mut Start::new(&latch, unsaid),
         noted_job(alloc)?,
         &mut printed,
+        &mut told_beside,
     );
     want_fault(&rt, alloc, again, "fault: file noted-journal.csv")?;
     same(&rt, journal_text(&rt).as_str(), text.as_str());
@@ -126,8 +130,10 @@ fn ends_a_journal_behind_its_report(rt: HostRuntime) -> Result<(), Fail> {
         &mut Start::new(&latch, unsaid),
         noted_job(alloc)?,
         output,
+        &mut told_beside,
     );
     want_fault(&rt, alloc, failed, "fault: output")?;
+    assert!(rt; told_beside.is_empty());
     assert!(rt; !journal_text(&rt).contains("\nend,"));
     assert!(rt; fs::remove_file(&rt, JOURNAL).is_ok());
     for (name, _) in FILES {
