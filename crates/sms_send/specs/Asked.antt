@@ -3,6 +3,7 @@
 -- standard error.
 use Rattle.std.specs.Prelude.{◌≡◌, ◌⊎◌, ◌||◌, ℕ, Bool, List, Option, Some, None, IfSome, is_some, string_bytes}
 use Rattle.std.specs.Io.KnownBytes.{Appends}
+use Rattle.std.specs.declared.io.Error.{Error as IoError}
 use Rattle.clap.specs.Words.{Text}
 use Rattle.sms_devices.specs.Centres.{CentreAt}
 use Rattle.sms_diagnostics.specs.declared.cause.FileTrouble.{FileTrouble}
@@ -70,9 +71,9 @@ printed_of (Help text) = Some (string_bytes text)
 printed_of (Version text) = Some (string_bytes text)
 printed_of _ = None
 
--- why it can't be told: the output of what is printed failed, or standard error
-abbrev pub IsUntold : Option (List ℕ) → Untold → Type 0
-IsUntold None (Output fault) = ⊥
-IsUntold None (Error error) = Unit {0}
-IsUntold (Some text) (Output fault) = fault ≡ output_failed
-IsUntold (Some text) (Error error) = ⊥
+-- why it can't be told: the output of what is printed failed, or who is told of a fault did, with an error with which it may have
+abbrev pub IsUntold : (IoError → Type 0) → Option (List ℕ) → Untold → Type 0
+IsUntold fails None (Output fault) = ⊥
+IsUntold fails None (Error error) = fails error
+IsUntold fails (Some text) (Output fault) = fault ≡ output_failed
+IsUntold fails (Some text) (Error error) = ⊥

@@ -133,7 +133,7 @@ pub fn tell<R: AllocGlobal + FilesAgain + ProgramWords + Screen, W: Write, E: Ta
     ensures alone { OnOk result (is_some (printed_of fault.now) ≡ true → error.new ≡ error.old) }
     ensures told { OnOk result (printed_of fault.now ≡ None → TellsLines (R.has rt.now) (R.shows rt.now) (R.holds rt.now) (R.says rt.now) fault.now (E.told error.old) (E.told error.new)) }
     ensures unprinted { printed_of fault.now ≡ None → output.new ≡ output.old }
-    ensures untold { IfErr result (IsUntold (printed_of fault.now)) }
+    ensures untold { IfErr result (IsUntold (E.fails error.new) (printed_of fault.now)) }
 {
     match fault {
         Fault::Help(text) | Fault::Version(text) => print_text(rt, text.as_bytes(), output, error),
@@ -154,7 +154,7 @@ fn print_text<R: AllocGlobal + FilesAgain + ProgramWords + Screen, W: Write, E: 
     ensures printed { OnOk result (Appends (W.contents output.old) (W.contents output.new) text.now) }
     ensures front { WritesFront (W.contents output.old) (W.contents output.new) text.now }
     ensures alone { OnOk result (error.new ≡ error.old) }
-    ensures untold { IfErr result (IsUntold (Some text.now)) }
+    ensures untold { IfErr result (IsUntold (E.fails error.new) (Some text.now)) }
 {
     match write_out(output, text) {
         Ok(()) => Ok(()),
@@ -173,6 +173,7 @@ fn tell_fault<R: AllocGlobal + FilesAgain + ProgramWords + Screen, E: TakesLines
     error: &mut E,
 ) -> io::Result<()>
     ensures told { OnOk result (TellsLines (R.has rt.now) (R.shows rt.now) (R.holds rt.now) (R.says rt.now) fault.now (E.told error.old) (E.told error.new)) }
+    ensures failed { IfErr result (E.fails error.new) }
 {
     let known = known_here(rt, fault);
     error.tell_lines(&told_of(fault, &known))

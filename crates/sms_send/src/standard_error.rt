@@ -31,16 +31,20 @@ impl<R: Eprint> Write for StandardError<'_, R> {
 
 /// Who is told lines.
 pub trait TakesLines {
-    ghost use Rattle.std.specs.Prelude.{ℕ, List, Option, None, IfSome, OnOk};
+    ghost use Rattle.std.specs.Prelude.{ℕ, List, Option, None, IfErr, IfSome, OnOk, ⊤};
     ghost use Rattle.std.specs.Io.KnownBytes.{Appends};
+    ghost use Rattle.std.specs.declared.io.Error.{Error};
 
-    // What it was told, where that is known.
+    // What it was told, where that is known, and with which error it may have failed.
     ghost told: { Self → Option (List ℕ) } = { λ _. None };
+
+    ghost fails: { Self → Error → Type 0 } = { λ _ _. ⊤ };
 
     /// Tells these lines, each with its end, at once. All that is told of a run beside how it goes is told
     /// so, or as `tell_beside` does.
     fn tell_lines<T: Display>(&mut self, lines: &T) -> io::Result<()>
-        ensures { OnOk result (IfSome (T.output lines.now) (Appends (told self.old) (told self.new))) };
+        ensures told { OnOk result (IfSome (T.output lines.now) (Appends (told self.old) (told self.new))) }
+        ensures failed { IfErr result (fails self.new) };
 }
 
 impl<R: Eprint> TakesLines for StandardError<'_, R> {
