@@ -6,7 +6,7 @@ use Rattle.sms_diagnostics.specs.Shown.{indented, shown}
 use Rattle.sms_diagnostics.specs.Statuses.{status_name}
 use Rattle.sms_diagnostics.specs.Troubles.{holding_text, line, trouble_text}
 use Rattle.sms_diagnostics.specs.declared.cause.BindTrouble.{BindTrouble}
-use Rattle.sms_diagnostics.specs.declared.cause.BindTrouble.TheVariants.{ConnectionRefused, Unresolved, TimedOut, Unreachable, NoConnection, NoNumber, Closed, NotSmpp, Read, Write}
+use Rattle.sms_diagnostics.specs.declared.cause.BindTrouble.TheVariants.{ConnectionRefused, Unresolved, TimedOut, Unreachable, NoConnection, Closed, NotSmpp, Read, Write}
 use Rattle.sms_diagnostics.specs.declared.cause.Cause.{Cause}
 use Rattle.sms_diagnostics.specs.declared.cause.Cause.TheVariants as cause
 use Rattle.sms_diagnostics.specs.declared.cause.FileTrouble.{FileTrouble}
@@ -57,7 +57,6 @@ bind_text Unresolved = codes "no connection: the host's name was not resolved"
 bind_text TimedOut = codes "no connection: it took too long"
 bind_text Unreachable = codes "no connection: the host or its network is unreachable"
 bind_text NoConnection = codes "no connection: another reason; maybe no descriptor, port or memory is left here"
-bind_text NoNumber = codes "no sequence_number is left"
 bind_text Closed = codes "the connection was closed before an answer"
 bind_text NotSmpp = codes "what came is no SMPP, or no answer to a bind"
 bind_text Read = codes "no answer came in time, or the connection failed"

@@ -25,8 +25,6 @@ pub enum BindTrouble {
     Unreachable,
     /// There was none for another reason, or for one of this machine.
     NoConnection,
-    /// No sequence_number could be drawn.
-    NoNumber,
     /// The connection was closed before an answer was whole.
     Closed,
     /// What came is no answer to a bind.
@@ -248,7 +246,6 @@ fn bind_text(why: BindTrouble) -> &'static str
         BindTrouble::Unreachable => "no connection: the host or its network is unreachable",
         BindTrouble::NoConnection =>
             "no connection: another reason; maybe no descriptor, port or memory is left here",
-        BindTrouble::NoNumber => "no sequence_number is left",
         BindTrouble::Closed => "the connection was closed before an answer",
         BindTrouble::NotSmpp => "what came is no SMPP, or no answer to a bind",
         BindTrouble::Read => "no answer came in time, or the connection failed",

@@ -97,8 +97,7 @@ module _ (o : List Opening) (n : ℕ) where
   not_of_run refuses told mode binds why (inl (inr e)) = absurd (cc)
   not_of_run refuses told mode binds why (inr (place, low, inl e)) = absurd (cc)
   not_of_run refuses told mode binds why (inr (place, low, inr (inl (e, none)))) = absurd (cc)
-  not_of_run refuses told mode binds why (inr (place, low, inr (inr (inl e)))) = absurd (cc)
-  not_of_run refuses told mode binds why (inr (place, low, inr (inr (inr (fault, refused, e))))) = absurd (not_in place fault why e)
+  not_of_run refuses told mode binds why (inr (place, low, inr (inr (fault, refused, e)))) = absurd (not_in place fault why e)
 
   not_refused : GoodCount o n × NoDouble (names_of o) × AllSmall (credits_of o) → (why : BookError) → ¬ (RefusesBook o n why)
   not_refused good BadCount h = h good.0

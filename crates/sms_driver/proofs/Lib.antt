@@ -5,6 +5,7 @@ pub mod Conclusions
 pub mod Dealings
 pub mod Drawn
 pub mod Endings
+pub mod Firsts
 pub mod Grouping
 pub mod Heads
 pub mod Joins

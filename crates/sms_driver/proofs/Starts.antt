@@ -25,8 +25,7 @@ tells_in place bind.OutOfMemory = inl refl
 pub tells_bind : (refuses : ℕ → Type 0) (told : ℕ → Option (List ℕ)) (mode : Mode) (place : ℕ) (f : SendFault) → IsFaultOf refuses told mode place f → TellsStart NotYet f
 tells_bind refuses told mode place f (inl e) = subst (TellsStart NotYet) (sym e) (inl refl)
 tells_bind refuses told mode place f (inr (inl (e, none))) = subst (TellsStart NotYet) (sym e) refl
-tells_bind refuses told mode place f (inr (inr (inl e))) = subst (TellsStart NotYet) (sym e) refl
-tells_bind refuses told mode place f (inr (inr (inr (why, refused, e)))) = subst (TellsStart NotYet) (sym e) (tells_in place why)
+tells_bind refuses told mode place f (inr (inr (why, refused, e))) = subst (TellsStart NotYet) (sym e) (tells_in place why)
 
 -- so whatever is told before a word, of a start at which none was said
 pub tells_before : (b : Begun) (f : SendFault) → b ≡ NotYet → TellsStart NotYet f → TellsStart b f

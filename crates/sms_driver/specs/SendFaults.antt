@@ -1,5 +1,5 @@
 -- Which faults a sending ends with.
-use Rattle.std.specs.Prelude.{◌≡◌, ◌⊎◌, ℕ, ◌<◌, List, [], ◌∷◌, Option}
+use Rattle.std.specs.Prelude.{◌≡◌, ◌⊎◌, ℕ, ◌<◌, List, Option}
 use Rattle.std.specs.Io.KnownBytes.{Consumes}
 use Rattle.sms_pdu.specs.declared.command.Mode.{Mode}
 use Rattle.sms_book.specs.Openings.{credits_of, names_of, AllSmall, GoodCount, IsFirstDouble, NoDouble}
@@ -10,8 +10,6 @@ use Rattle.sms_book.specs.declared.opening.Opening.{Opening}
 use Rattle.sms_bind.specs.Answers.{Refuses}
 use Rattle.sms_bind.specs.declared.binding.BindFault.{BindFault}
 use Rattle.sms_bind.specs.declared.binding.BindFault.TheVariants as bind
-use Rattle.sms_window.specs.declared.view.View.{View}
-use Rattle.sms_window.specs.Drawing.{HasDrawn}
 use Rattle.sms_driver.specs.declared.fault.BindFailure.TheVariants as failure
 use Rattle.sms_driver.specs.declared.fault.SendFault.{SendFault}
 use Rattle.sms_driver.specs.declared.fault.SendFault.TheVariants.{BindFailed, BindRefused, BookRefused, ThreadRefused, OutOfMemory}
@@ -25,15 +23,8 @@ fault_in place bind.Read = BindFailed place failure.Read
 fault_in place bind.Write = BindFailed place failure.Write
 fault_in place bind.OutOfMemory = OutOfMemory
 
--- the seat drew no number, and this is told
-pub record DrewNone (place : ℕ) (v : View) (fault : SendFault) (w : View) : Type 0 where
-  pub drawn : HasDrawn v [] w
-  pub told : fault ≡ BindFailed place failure.NoNumber
-
--- the bind went out with a number that the seat drew, and what is told is what the octets say that were read then
-pub record HasFailed (place : ℕ) (mode : Mode) (before after : Option (List ℕ)) (v : View) (fault : SendFault) (w : View) : Type 0 where
-  pub number : ℕ
-  pub drawn : HasDrawn v (number ∷ []) w
+-- the bind went out, and what is told is what the octets say that were read then
+pub record HasFailed (place : ℕ) (mode : Mode) (before after : Option (List ℕ)) (fault : SendFault) : Type 0 where
   pub octets : List ℕ
   pub read : Consumes before after octets
   pub why : BindFault
@@ -47,12 +38,11 @@ pub record WasRefused (mode : Mode) (told : Option (List ℕ)) (why : BindFault)
   pub read : Consumes told left octets
   pub says : Refuses mode octets why
 
--- the fault is of this bind: there is no connection for it, no number was drawn, or what was read of it refuses it so; or it is of memory
+-- the fault is of this bind: there is no connection for it, or what was read of it refuses it so; or it is of memory
 abbrev pub IsFaultOf : (ℕ → Type 0) → (ℕ → Option (List ℕ)) → Mode → ℕ → SendFault → Type 0
 IsFaultOf refuses told mode place fault =
     (fault ≡ OutOfMemory)
     ⊎ ((fault ≡ BindFailed place failure.NoConnection) × refuses place)
-    ⊎ (fault ≡ BindFailed place failure.NoNumber)
     ⊎ ((why : BindFault) × WasRefused mode (told place) why × (fault ≡ fault_in place why))
 
 -- not everything could start: memory or a thread was refused

@@ -1,16 +1,15 @@
 //! How the binds are made, one after the other (SMPP 3.4 4.1).
 
-ghost use Rattle.std.specs.Prelude.{◌≡◌, ◌⊎◌, ℕ, ◌<◌, ◌≤◌, [], length, map, vec_capacity, Err, IfErr, IfOk, IsOk, OnOk};
+ghost use Rattle.std.specs.Prelude.{◌≡◌, ℕ, ◌<◌, ◌≤◌, [], ◌∷◌, length, map, vec_capacity, Err, IfErr, IfOk, IsOk, OnOk};
 ghost use Rattle.std.specs.List.{AllByRecursion, AllZip};
 ghost use Rattle.sms_core.specs.Limits.{most_slots};
 ghost use Rattle.sms_pdu.specs.Devices.{device};
 ghost use Rattle.sms_bind.specs.Wires.{writer};
 ghost use Rattle.sms_driver.specs.BindEnds.{follow_of, HasBound, IsSetUp};
-ghost use Rattle.sms_window.specs.declared.view.View.{View};
 ghost use Rattle.sms_driver.specs.Reads.{AreOpened, IsOpened};
 ghost use Rattle.sms_driver.specs.Rings.{IsNewPair};
 ghost use Rattle.sms_driver.specs.Seated.{IsSeated};
-ghost use Rattle.sms_driver.specs.SendFaults.{fault_in, DrewNone, HasFailed, IsFaultOf, IsFaultOfRun};
+ghost use Rattle.sms_driver.specs.SendFaults.{fault_in, HasFailed, IsFaultOf, IsFaultOfRun};
 ghost use Rattle.sms_driver.specs.Starts.{TellsStart};
 ghost use Rattle.sms_driver.specs.declared.fault.BindFailure.TheVariants.{NoConnection};
 ghost use Rattle.sms_driver.specs.declared.fault.SendFault.TheVariants.{BindFailed};
@@ -18,13 +17,11 @@ ghost use Rattle.sms_driver.specs.declared.start.Begun.TheVariants.{NotYet};
 
 use crate::fault::{BindFailure, SendFault};
 use crate::rings::Rings;
-use crate::seats::split_seats;
+use crate::seats::{NewWindow, open_window, split_seats};
 use sms_bind::{BindFault, Bound, Line, Settings, Wire, bind};
 use sms_pdu::Tap;
 use sms_slot::SlotRow;
 use sms_unbind::{BindParts, Binds, DriverSeat, Following, SharedBind, Unbinding, unless_failed};
-use sms_window::{Window, WindowSeat};
-use sms_worker::{Number, draw};
 use std::alloc::Global;
 use std::io::{Read, Write};
 use std::snapshot::Snapshot;
@@ -98,28 +95,21 @@ fn following(bind_settings: &BindSettings) -> Following
     }
 }
 
-/// Binds with a number that the seat draws.
+/// Binds with a number.
 fn bind_with<Rd: Read, W: Write>(
     alloc: Global,
-    window: &Window,
-    seat: &mut WindowSeat,
     reader: &mut Tap<Rd>,
     wire: &mut Wire<W>,
     settings: &Settings,
     bind_place: u32,
+    number: u32,
 ) -> Result<Bound, SendFault>
-    requires own { seat.old.window ≡ window.now }
-    ensures window { seat.new.window ≡ seat.old.window }
-    ensures bound { OnOk result (HasBound seat.old.view settings.now (W.contents (writer wire.old)) (W.contents (writer wire.new)) seat.new.view) }
+    ensures bound { OnOk result (HasBound settings.now number (W.contents (writer wire.old)) (W.contents (writer wire.new))) }
     // What was read is the bind's answer and what came behind it.
     ensures opened { IfOk result (IsOpened settings.now.mode (Rd.remaining (device reader.old)) (Rd.remaining (device reader.new))) }
     // What is told is what came of it.
-    ensures told { IfErr result (λ fault. DrewNone bind_place seat.old.view fault seat.new.view
-        ⊎ HasFailed bind_place settings.now.mode (Rd.remaining (device reader.old)) (Rd.remaining (device reader.new)) seat.old.view fault seat.new.view) }
+    ensures told { IfErr result (HasFailed bind_place settings.now.mode (Rd.remaining (device reader.old)) (Rd.remaining (device reader.new))) }
 {
-    let Number::Drawn(number) = draw(window, seat) else {
-        return Err(SendFault::BindFailed(bind_place, BindFailure::NoNumber));
-    };
     match bind(alloc, reader, wire, settings, number) {
         Ok(bound) => Ok(bound),
         Err(fault) => Err(fault_of(bind_place, fault)),
@@ -146,34 +136,23 @@ struct Connected<Rd, W> {
     dialled: Snapshot<Wire<W>>,
 }
 
-/// Dials and binds.
+/// Dials, and binds with a number.
 fn dial_and_bind<D: Dial>(
     alloc: Global,
     dial: &D,
-    window: &Window,
-    seat: &mut WindowSeat,
     settings: &Settings,
     bind_place: u32,
+    number: u32,
 ) -> Result<Connected<D::Reader, D::Writer>, SendFault>
-    requires own { seat.old.window ≡ window.now }
-    ensures window { seat.new.window ≡ seat.old.window }
     ensures opened { IfOk result (λ c. IsOpened settings.now.mode (D.told dial.now bind_place) (D.Reader.remaining (device c.reader)) c.bound) }
-    ensures asked { IfOk result (λ c. HasBound seat.old.view settings.now (D.Writer.contents (writer c.dialled.value)) (D.Writer.contents (writer c.wire)) seat.new.view) }
+    ensures asked { IfOk result (λ c. HasBound settings.now number (D.Writer.contents (writer c.dialled.value)) (D.Writer.contents (writer c.wire))) }
     ensures refused { IfErr result (IsFaultOf (D.refuses dial.now) (D.told dial.now) settings.now.mode bind_place) }
 {
     let (reader, writer) = connect(dial, bind_place)?;
     let mut reader = Tap::new(reader);
     let mut wire = Wire::new(Tap::new(writer));
     let dialled = Snapshot::of(&wire);
-    match bind_with(
-        alloc,
-        window,
-        seat,
-        &mut reader,
-        &mut wire,
-        settings,
-        bind_place,
-    ) {
+    match bind_with(alloc, &mut reader, &mut wire, settings, bind_place, number) {
         Ok(bound) => Ok(Connected {
             reader,
             wire,
@@ -184,7 +163,7 @@ fn dial_and_bind<D: Dial>(
     }
 }
 
-/// Dials and binds; splits off a seat for each worker and one for the driver.
+/// Makes a bind's window, dials and binds; splits off a seat for each worker and one for the driver.
 fn make_bind<D: Dial>(
     alloc: Global,
     dial: &D,
@@ -199,8 +178,8 @@ fn make_bind<D: Dial>(
     ensures seated { IfOk result (λ m. IsSeated workers m.shared m.parts) }
     ensures opened { IfOk result (λ m. IsOpened bind_settings.now.settings.mode (D.told dial.now bind_place) (D.Reader.remaining (device m.parts.reader)) m.parts.bound) }
     ensures set { IfOk result (λ m. IsSetUp bind_settings.now m.parts) }
-    // The settings' bind went out, with a number that the driver's seat drew.
-    ensures asked { IfOk result (λ m. (before : View) × HasBound before bind_settings.now.settings (D.Writer.contents (writer m.dialled.value)) (D.Writer.contents (writer m.asked.value)) m.driver_seat.seat.view) }
+    // The settings' bind went out, with the one number that was drawn of its window.
+    ensures asked { IfOk result (λ m. (number : ℕ) × (m.parts.keeper.view.numbers ≡ number ∷ []) × HasBound bind_settings.now.settings number (D.Writer.contents (writer m.dialled.value)) (D.Writer.contents (writer m.asked.value))) }
     ensures driver_seat { IfOk result (λ m. m.driver_seat.seat.window ≡ m.shared.window) }
     ensures refused { IfErr result (IsFaultOf (D.refuses dial.now) (D.told dial.now) bind_settings.now.settings.mode bind_place) }
 {
@@ -208,13 +187,15 @@ fn make_bind<D: Dial>(
         producers,
         consumers,
     } = rings;
-    let Ok((window, mut keeper)) = Window::make(alloc, bind_settings.limit) else {
-        return Err(SendFault::OutOfMemory);
-    };
+    let NewWindow {
+        window,
+        mut keeper,
+        number,
+    } = open_window(alloc, bind_settings.limit)?;
     let Ok(seats) = split_seats(alloc, &window, &mut keeper, workers) else {
         return Err(SendFault::OutOfMemory);
     };
-    let mut seat = window.split(&mut keeper);
+    let seat = window.split(&mut keeper);
     let Ok(slots) = SlotRow::new(alloc) else {
         return Err(SendFault::OutOfMemory);
     };
@@ -224,7 +205,7 @@ fn make_bind<D: Dial>(
         wire,
         bound,
         dialled,
-    } = dial_and_bind(alloc, dial, &window, &mut seat, settings, bind_place)?;
+    } = dial_and_bind(alloc, dial, settings, bind_place, number)?;
     let asked = Snapshot::of(&wire);
     let (line, leave) = Line::new(slots, wire);
     Ok(Made {

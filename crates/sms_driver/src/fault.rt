@@ -9,9 +9,6 @@ pub enum BindFailure {
     /// The dial gave no connection.
     #[error("there was no connection")]
     NoConnection,
-    /// No sequence_number could be drawn for it.
-    #[error("no sequence number could be drawn")]
-    NoNumber,
     /// The input ended before an answer was whole.
     #[error("the connection ended before an answer")]
     Closed,

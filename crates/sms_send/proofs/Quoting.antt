@@ -58,7 +58,8 @@ memory_is_no_output fault told is = let bad = sym told ∙ is in cc
 
 pub config_is_no_output : {A : Type 0} (finds : List ℕ → Option Told → Type 0) (name : String Global) (fault : Fault) → (fault ≡ OutOfMemory) ⊎ TellsUnreadFile finds name fault → fault ≡ output_failed → A
 config_is_no_output finds name fault (inl memory) is = memory_is_no_output fault memory is
-config_is_no_output finds name fault (inr lost) is = name_is_no_output fault name lost.0 is
+config_is_no_output finds name fault (inr (inl lost)) is = name_is_no_output fault name lost.0 is
+config_is_no_output finds name fault (inr (inr unread)) is = let bad = sym unread.0 ∙ is in cc
 
 -- of files that were opened
 pub named_tells : (finds : List ℕ → Option Told → Type 0) (names : FileNames) (config lines shown : List ℕ) (accounts messages : Told) (tariff : Option Told) (old new told_old mid told_new : Option (List ℕ))

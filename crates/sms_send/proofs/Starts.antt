@@ -36,7 +36,8 @@ memory_at b fault yet is = subst (IsToldAt b) (sym is) (inl yet)
 -- a file's octets, or no memory for them
 pub octets_at : (finds : List ℕ → Option Told → Type 0) (b : Begun) (name : String Global) (fault : Fault) → b ≡ NotYet → (fault ≡ OutOfMemory) ⊎ TellsUnreadFile finds name fault → IsToldAt b fault
 octets_at finds b name fault yet (inl is) = memory_at b fault yet is
-octets_at finds b name fault yet (inr (is, found)) = file_at b name fault yet is
+octets_at finds b name fault yet (inr (inl (is, lost))) = file_at b name fault yet is
+octets_at finds b name fault yet (inr (inr (is, found))) = subst (IsToldAt b) (sym is) yet
 
 pub input_at : (b : Begun) (f : InputFault) → b ≡ NotYet → IsToldAt b (told_input f)
 input_at b (input.Unreadable unread) yet = yet

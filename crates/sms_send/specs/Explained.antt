@@ -33,7 +33,7 @@ use Rattle.sms_send.specs.declared.explained.Doing.TheVariants.{Sending, Recover
 use Rattle.sms_send.specs.declared.explained.Known.{Known}
 use Rattle.sms_send.specs.declared.explained.Told.{Told}
 use Rattle.sms_send.specs.declared.fault.Fault.{Fault}
-use Rattle.sms_send.specs.declared.fault.Fault.TheVariants.{Words, Help, Version, File, Unreadable, BadRecord, NotToml, BadKey, BindRefused, BindFailed, Unconnected, BadNote, BadReport, Journal, Output, OutOfMemory, Unreported}
+use Rattle.sms_send.specs.declared.fault.Fault.TheVariants.{Words, Help, Version, File, UnreadFile, Unreadable, BadRecord, NotToml, BadKey, BindRefused, BindFailed, Unconnected, BadNote, BadReport, Journal, Output, OutOfMemory, Unreported}
 
 -- the files of records
 abbrev pub file_in : Source → RecordOf
@@ -45,7 +45,6 @@ file_in source.Tariff = record-of.Tariff
 -- why a bind failed
 abbrev pub trouble_in : BindFailure → BindTrouble
 trouble_in bind.NoConnection = trouble.NoConnection
-trouble_in bind.NoNumber = trouble.NoNumber
 trouble_in bind.Closed = trouble.Closed
 trouble_in bind.NotSmpp = trouble.NotSmpp
 trouble_in bind.Read = trouble.Read
@@ -124,6 +123,7 @@ lines_of known Words = words_lines (string_bytes known.message)
 lines_of known (Help text) = []
 lines_of known (Version text) = []
 lines_of known (File name) = line (file_text known.file)
+lines_of known (UnreadFile name failure) = line (file_text known.file)
 lines_of known (Unreadable unread) = line (file_text Other)
 lines_of known (BadRecord source place) = record_lines (record_of (file_in source) place) known.trouble
 lines_of known NotToml = line (codes "it should be TOML in UTF-8: lines KEY = VALUE")

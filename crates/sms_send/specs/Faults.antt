@@ -2,7 +2,7 @@
 use Rattle.std.specs.Prelude.{◌≡◌, ◌⊎◌, ℕ, List, ◌++◌, codes, decimal, string_bytes}
 use Rattle.sms_diagnostics.specs.Shown.{shown}
 use Rattle.sms_send.specs.declared.fault.Fault.{Fault}
-use Rattle.sms_send.specs.declared.fault.Fault.TheVariants.{Words, Help, Version, File, Unreadable, BadRecord, NotToml, BadKey, BindRefused, BindFailed, Unconnected, BadNote, BadReport, Journal, Output, OutOfMemory, Unreported}
+use Rattle.sms_send.specs.declared.fault.Fault.TheVariants.{Words, Help, Version, File, UnreadFile, Unreadable, BadRecord, NotToml, BadKey, BindRefused, BindFailed, Unconnected, BadNote, BadReport, Journal, Output, OutOfMemory, Unreported}
 use Rattle.sms_devices.specs.declared.connecting.Unconnected.{Unconnected as Why}
 use Rattle.sms_driver.specs.declared.fault.BindFailure.TheVariants as failure
 use Rattle.sms_driver.specs.declared.fault.SendFault.{SendFault}
@@ -28,6 +28,7 @@ fault_text Words = codes "fault: words"
 fault_text (Help text) = string_bytes text
 fault_text (Version text) = string_bytes text
 fault_text (File name) = codes "fault: file " ++ shown (string_bytes name)
+fault_text (UnreadFile name failure) = codes "fault: file " ++ shown (string_bytes name)
 fault_text (Unreadable unread) = codes "fault: file " ++ source_name (unread_source unread)
 fault_text (BadRecord source place) = codes "fault: " ++ source_name source ++ codes " record " ++ decimal place
 fault_text NotToml = codes "fault: config"
@@ -72,6 +73,7 @@ told_sending send.OutOfMemory = OutOfMemory
 -- of the messages. No other fault is told of a sending without a journal
 abbrev pub IsToldAt : Begun → Fault → Type 0
 IsToldAt begun (File name) = begun ≡ NotYet
+IsToldAt begun (UnreadFile name failure) = begun ≡ NotYet
 IsToldAt begun (Unreadable unread) = begun ≡ NotYet
 IsToldAt begun (BadRecord source place) = begun ≡ NotYet
 IsToldAt begun NotToml = begun ≡ NotYet

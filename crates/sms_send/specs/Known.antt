@@ -24,7 +24,7 @@ use Rattle.sms_send.specs.declared.explained.Doing.{Doing}
 use Rattle.sms_send.specs.declared.explained.Doing.TheVariants.{Sending, Recovering, Else, Unknown}
 use Rattle.sms_send.specs.declared.explained.Known.{Known}
 use Rattle.sms_send.specs.declared.fault.Fault.{Fault}
-use Rattle.sms_send.specs.declared.fault.Fault.TheVariants.{Words, File, BadRecord, BadKey, BindFailed, Unconnected, OutOfMemory}
+use Rattle.sms_send.specs.declared.fault.Fault.TheVariants.{Words, File, UnreadFile, BadRecord, BadKey, BindFailed, Unconnected, OutOfMemory}
 use Rattle.sms_send.specs.declared.job.Job.{Job}
 use Rattle.sms_send.specs.declared.job.Job.TheVariants.{Loop, Plan, Quote, Recover, Replay, Rest, Send}
 
@@ -152,6 +152,7 @@ IsMessageOf words fault message = message ≡ []
 -- what the system says is of the file that the fault names
 abbrev pub IsFileNow : (Text → FileTrouble → Type 0) → Fault → FileTrouble → Type 0
 IsFileNow says (File name) file = says (string_bytes name) file
+IsFileNow says (UnreadFile name failure) file = says (string_bytes name) file
 IsFileNow says _ file = file ≡ Other
 
 -- this may be known of a run by these words that has this fault

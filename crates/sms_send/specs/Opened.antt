@@ -9,7 +9,7 @@ use Rattle.sms_files.specs.declared.config.FileNames.{FileNames}
 use Rattle.sms_files.specs.declared.fault.Source.{Source}
 use Rattle.sms_send.specs.Faults.{TellsRead, output_failed}
 use Rattle.sms_send.specs.declared.fault.Fault.{Fault}
-use Rattle.sms_send.specs.declared.fault.Fault.TheVariants.{File}
+use Rattle.sms_send.specs.declared.fault.Fault.TheVariants.{File, UnreadFile}
 
 -- it holds of an input's bytes, where they are told
 abbrev pub OfInput : {I : Type 0} → (I → Told) → (List ℕ → Type 0) → Type 0
@@ -37,9 +37,10 @@ AreFound finds names accounts messages tariff =
 abbrev pub TellsLost : (List ℕ → Option Told → Type 0) → String Global → Fault → Type 0
 TellsLost finds name fault = (fault ≡ File name) × finds (string_bytes name) None
 
--- a file's octets can't be had, and the fault tells its name: none that can be opened is found by that, or one is found, which can't be read
+-- a file's octets can't be had, and the fault tells its name: none that can be opened is found by that, or one is found, which can't be
+-- read; a body has a `ReadFailure` to tell only of a file that answered an error
 abbrev pub TellsUnreadFile : (List ℕ → Option Told → Type 0) → String Global → Fault → Type 0
-TellsUnreadFile finds name fault = (fault ≡ File name) × (finds (string_bytes name) None ⊎ IsFound finds (string_bytes name))
+TellsUnreadFile finds name fault = TellsLost finds name fault ⊎ ((fault ≡ UnreadFile name tt) × IsFound finds (string_bytes name))
 
 -- one of them can't be opened, and those before it are found: accounts, messages, tariff
 abbrev pub TellsMissing : (List ℕ → Option Told → Type 0) → FileNames → Fault → Type 0

@@ -70,7 +70,6 @@ fn trouble_of(why: BindFailure) -> BindTrouble
 {
     match why {
         BindFailure::NoConnection => BindTrouble::NoConnection,
-        BindFailure::NoNumber => BindTrouble::NoNumber,
         BindFailure::Closed => BindTrouble::Closed,
         BindFailure::NotSmpp => BindTrouble::NotSmpp,
         BindFailure::Read => BindTrouble::Read,
@@ -161,7 +160,7 @@ fn cause_of<'a>(fault: &'a Fault, known: &'a Known) -> Cause<'a>
     match fault {
         Fault::Words => Cause::Words(known.message.as_str()),
         Fault::Help(_) | Fault::Version(_) => Cause::Nothing,
-        Fault::File(_) => Cause::File(known.file),
+        Fault::File(_) | Fault::UnreadFile(_, _) => Cause::File(known.file),
         Fault::Unreadable(_) => Cause::File(FileTrouble::Other),
         Fault::BadRecord(source, place) => record_cause(file_of(*source), *place, known.trouble),
         Fault::NotToml => Cause::NotToml,

@@ -4,6 +4,7 @@ ghost use Rattle.std.specs.Fmt.{WritesOnOk};
 ghost use Rattle.std.specs.Prelude.{◌≡◌, ◌++◌, codes, decimal};
 ghost use Rattle.sms_diagnostics.specs.Shown.{shown};
 
+use crate::read_failure::ReadFailure;
 use sms_devices::Reason;
 use sms_diagnostics::write_shown;
 use sms_driver::{BindFailure, SendFault};
@@ -26,6 +27,8 @@ pub enum Fault {
     Version(String),
     /// The file of this name can't be opened.
     File(String),
+    /// The file of this name was opened, and can't be read.
+    UnreadFile(String, ReadFailure),
     /// What was opened can't be read.
     Unreadable(Unread),
     /// The record of a file, counted from 1, isn't one that may stand there.
@@ -64,7 +67,11 @@ impl fmt::Display for Fault {
         match self {
             Fault::Words => f.write_str("fault: words"),
             Fault::Help(text) | Fault::Version(text) => f.write_str(text.as_str()),
-            Fault::File(name) => write_named(f, "fault: file ", name.as_str()),
+            Fault::File(name) | Fault::UnreadFile(name, _) => write_named(
+                f,
+                "fault: file ",
+                name.as_str(),
+            ),
             Fault::Unreadable(unread) => write_source(f, unread.source().name()),
             Fault::BadRecord(source, place) => write_record(f, source.name(), *place),
             Fault::NotToml => f.write_str("fault: config"),

@@ -60,7 +60,7 @@ fn file_now<R: FilesAgain>(rt: &R, fault: &Fault) -> FileTrouble
     ensures { IsFileNow (R.says rt.now) fault.now result }
 {
     match fault {
-        Fault::File(name) => rt.trouble_again(name.as_str()),
+        Fault::File(name) | Fault::UnreadFile(name, _) => rt.trouble_again(name.as_str()),
         _ => FileTrouble::Other,
     }
 }

@@ -1,10 +1,13 @@
 //! The files that the program reads, by their names.
 
-ghost use Rattle.std.specs.Prelude.{◌≡◌, ◌≢◌, ◌⊎◌, [], Some, IfErr, IfOk, option_map, string_bytes};
+ghost use Rattle.std.specs.Prelude.{◌≡◌, ◌≢◌, ◌⊎◌, [], Some, IfErr, IfOk, IfSome, option_map, string_bytes};
 ghost use Rattle.sms_send.specs.Opened.{IsNamed, OfFile, TellsLost, TellsUnreadFile};
 ghost use Rattle.sms_send.specs.declared.fault.Fault.TheVariants.{OutOfMemory};
 
 use crate::fault::Fault;
+use crate::read_failure::ReadFailure;
+use sms_pdu::Tap;
+use std::alloc::Global;
 use std::fs;
 use std::io::{self, ErrorKind, Read};
 
@@ -62,13 +65,37 @@ pub fn octets_of<R: AllocGlobal + InputFiles>(rt: &R, name: String) -> Result<Ve
     ensures octets { IfOk result (λ octets. OfFile (R.finds rt.now) (string_bytes name) (λ bytes. octets.items ≡ bytes)) }
     ensures refused { IfErr result (λ fault. (fault ≡ OutOfMemory) ⊎ TellsUnreadFile (R.finds rt.now) name fault) }
 {
-    let Ok(mut file) = rt.open_input(name.as_str()) else {
+    let Ok(file) = rt.open_input(name.as_str()) else {
         return Err(Fault::File(name));
     };
-    let mut octets = Vec::new(rt.alloc());
+    let mut device = Tap::new(file);
+    match read_through(rt.alloc(), &mut device) {
+        Ok(octets) => Ok(octets),
+        Err(Unended::OutOfMemory) => Err(Fault::OutOfMemory),
+        Err(Unended::Failed) => match ReadFailure::of(&device) {
+            Some(failure) => Err(Fault::UnreadFile(name, failure)),
+            None => Err(Fault::OutOfMemory),
+        },
+    }
+}
+
+/// Why a file wasn't read to its end.
+#[derive(Clone, Copy, Debug)]
+pub(crate) enum Unended {
+    /// Memory was refused for what it holds.
+    OutOfMemory,
+    /// A read failed.
+    Failed,
+}
+
+/// The octets of an opened file from where it stands to its end.
+pub(crate) fn read_through<F: Read>(alloc: Global, file: &mut F) -> Result<Vec<u8>, Unended>
+    ensures { IfOk result (λ octets. IfSome (F.remaining file.old) (λ bytes. octets.items ≡ bytes)) }
+{
+    let mut octets = Vec::new(alloc);
     match file.read_to_end(&mut octets) {
         Ok(_) => Ok(octets),
-        Err(error) if error.kind() == ErrorKind::OutOfMemory => Err(Fault::OutOfMemory),
-        Err(_unread) => Err(Fault::File(name)),
+        Err(error) if error.kind() == ErrorKind::OutOfMemory => Err(Unended::OutOfMemory),
+        Err(_) => Err(Unended::Failed),
     }
 }

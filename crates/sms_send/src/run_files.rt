@@ -5,12 +5,12 @@ ghost use Rattle.sms_send.specs.Runs.{AreNamed, AreOpened, IsRun, TellsNamedFile
 ghost use Rattle.sms_send.specs.declared.fault.Fault.TheVariants.{OutOfMemory};
 
 use crate::fault::Fault;
-use crate::opened::{InputFiles, octets_of, open, open_named};
+use crate::opened::{InputFiles, Unended, octets_of, open, open_named, read_through};
 use crate::reading::setup_of;
 use sms_files::{FileNames, Setup, Source, Unread};
 use sms_pdu::Tap;
 use std::alloc::Global;
-use std::io::{ErrorKind, Read};
+use std::io::Read;
 
 /// The octets of the files that a config names; none of a tariff without a name.
 #[derive(Drop)]
@@ -126,11 +126,10 @@ fn whole_of<F: Read + Drop>(alloc: Global, file: F, source: Source) -> Result<Ve
     ensures refused { IfErr result (λ fault. (fault ≡ OutOfMemory) ⊎ TellsUnread source fault) }
 {
     let mut device = Tap::new(file);
-    let mut octets = Vec::new(alloc);
-    match device.read_to_end(&mut octets) {
-        Ok(_) => Ok(octets),
-        Err(error) if error.kind() == ErrorKind::OutOfMemory => Err(Fault::OutOfMemory),
-        Err(_) => match Unread::of(&device, source) {
+    match read_through(alloc, &mut device) {
+        Ok(octets) => Ok(octets),
+        Err(Unended::OutOfMemory) => Err(Fault::OutOfMemory),
+        Err(Unended::Failed) => match Unread::of(&device, source) {
             Some(unread) => Err(Fault::Unreadable(unread)),
             None => Err(Fault::OutOfMemory),
         },
