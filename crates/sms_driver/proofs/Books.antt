@@ -11,7 +11,7 @@ use Rattle.sms_driver.specs.declared.fault.SendFault.TheVariants.{BookRefused}
 use Rattle.sms_pdu.specs.declared.command.Mode.{Mode}
 use Rattle.sms_bind.specs.declared.binding.BindFault.{BindFault}
 use Rattle.sms_bind.specs.declared.binding.BindFault.TheVariants as bind
-use Rattle.sms_driver.specs.SendFaults.{fault_in, fault_of_book, IsFaultOfOne, IsFaultOfRun, RefusesBook}
+use Rattle.sms_driver.specs.SendFaults.{fault_of_book, IsFaultOfOne, IsFaultOfRun, RefusesBook, TellsBind}
 use Rattle.sms_driver.specs.declared.start.Begun.{Begun}
 use Rattle.sms_driver.specs.declared.start.Begun.TheVariants.{NotYet}
 use Rattle.sms_driver.specs.Starts.{TellsStart}
@@ -84,12 +84,12 @@ module _ (o : List Opening) (n : ℕ) where
     book_told f q err e why = ((λ told. said_why f why e (fault_in_err f (BookRefused why) q err told)), (λ h. err ∙ ap Err (e ∙ is_refused why h)))
 
   -- a book that was opened isn't refused, and a run tells no such fault
-  not_in : (place : ℕ) (bind : BindFault) (why : BookError) → BookRefused why ≡ fault_in place bind → ⊥
+  not_in : (place : ℕ) (bind : BindFault) (why : BookError) → ¬ (TellsBind place bind (BookRefused why))
   not_in place (bind.Refused status) why e = cc
   not_in place bind.Closed why e = cc
   not_in place bind.NotSmpp why e = cc
-  not_in place bind.Read why e = cc
-  not_in place bind.Write why e = cc
+  not_in place bind.Read why (failure, e) = cc
+  not_in place bind.Write why (failure, e) = cc
   not_in place bind.OutOfMemory why e = cc
 
   not_of_run : (refuses : ℕ → Type 0) (told : ℕ → Option (List ℕ)) (mode : Mode) (binds : ℕ) (why : BookError) → ¬ (IsFaultOfRun refuses told mode binds (BookRefused why))

@@ -1,11 +1,12 @@
 -- What is given unless something failed before.
-use Rattle.std.specs.Prelude.{◌≡◌, ℕ, List, Option, Result, Ok, Err, IfOk, IfErr, IsOk, OnOk}
-use Rattle.std.specs.Io.KnownBytes.{Consumes}
-use Rattle.std.proofs.Common.{sym, subst, inr, true≢false}
+use Rattle.std.specs.Prelude.{◌≡◌, ◌⊎◌, ◌<◌, ℕ, Bool, true, false, List, Option, Result, Ok, Err, IfOk, IfErr, IsOk, OnOk}
+use Rattle.std.proofs.Common.{◌∙◌, sym, subst, inl, inr, true≢false, arith}
 use Rattle.std.proofs.lemmas.Result.{IfErr-at_err}
 use Rattle.sms_driver.specs.declared.fault.SendFault.{SendFault}
+use Rattle.sms_pdu.specs.Faults.{IsCounted}
 use Rattle.sms_pdu.specs.declared.command.Mode.{Mode}
-use Rattle.sms_driver.specs.SendFaults.{HasFailed, IsFaultOf, StopsAt}
+use Rattle.sms_bind.specs.declared.binding.BindFault.{BindFault}
+use Rattle.sms_driver.specs.SendFaults.{HasFailed, IsFaultOf, StopsAt, TellsBind}
 
 -- what holds of the value that was there holds of the one that is given
 pub if_given : {A E : Type 0} (r : Result A E) (a : A) (P : A → Type 0) → IfOk r (λ b. b ≡ a) → P a → IfOk r P
@@ -26,10 +27,20 @@ module _ {A U E : Type 0} where
   if_told made (Err e) P Q is h f = f e (IfErr-at_err P is h)
 
 -- a bind that failed once it was dialled, in the terms of what the dial told
-pub of_dial : (refuses : ℕ → Type 0) (told : ℕ → Option (List ℕ)) (mode : Mode) (place : ℕ) (before after : Option (List ℕ)) (f : SendFault) → before ≡ told place
-    → HasFailed place mode before after f → IsFaultOf refuses told mode place f
-of_dial refuses told mode place before after f is failed =
-    inr (inr (failed.why, record { left = after; octets = failed.octets; read = subst (λ (o : Option (List ℕ)). Consumes o after failed.octets) is failed.read; says = failed.says }, failed.told))
+pub of_dial : (refuses : ℕ → Type 0) (told : ℕ → Option (List ℕ)) (mode : Mode) (place : ℕ) (before after : Option (List ℕ)) (why : BindFault) (f : SendFault) → before ≡ told place
+    → HasFailed mode before after why → TellsBind place why f → IsFaultOf refuses told mode place f
+of_dial refuses told mode place before after why f is failed tells =
+    inr (inr (why, (after, subst (λ (o : Option (List ℕ)). HasFailed mode o after why) is failed), tells))
+
+-- a device that had answered no error has answered one by now
+pub some_counted : (old new : ℕ) → old ≡ 0 → IsCounted old new → 0 < new
+some_counted old new none (inl more) = omega arith
+some_counted old new none (inr full) = absurd (omega arith)
+
+-- so a wire that was whole and failed
+pub some_written : (broken : Bool) (old new : ℕ) → broken ≡ false → old ≡ 0 → (broken ≡ true) ⊎ IsCounted old new → 0 < new
+some_written broken old new whole none (inl was) = absurd (true≢false (sym was ∙ whole))
+some_written broken old new whole none (inr counted) = some_counted old new none counted
 
 -- a start stopped behind as many as gave something back
 pub stops_so : (f : SendFault) (workers readers w r back_w back_r : ℕ) → back_w ≡ w → back_r ≡ r → StopsAt f workers readers w r → StopsAt f workers readers back_w back_r

@@ -10,22 +10,22 @@ use Rattle.sms_driver.specs.declared.start.Begun.TheVariants.{NotYet, Heard}
 use Rattle.sms_pdu.specs.declared.command.Mode.{Mode}
 use Rattle.sms_bind.specs.declared.binding.BindFault.{BindFault}
 use Rattle.sms_bind.specs.declared.binding.BindFault.TheVariants as bind
-use Rattle.sms_driver.specs.SendFaults.{fault_in, IsFaultOf, IsOfStart}
+use Rattle.sms_driver.specs.SendFaults.{IsFaultOf, IsOfStart, TellsBind}
 use Rattle.sms_driver.specs.Starts.{TellsStart}
 
 -- a bind that fails, before a word
-tells_in : (place : ℕ) (why : BindFault) → TellsStart NotYet (fault_in place why)
-tells_in place (bind.Refused status) = refl
-tells_in place bind.Closed = refl
-tells_in place bind.NotSmpp = refl
-tells_in place bind.Read = refl
-tells_in place bind.Write = refl
-tells_in place bind.OutOfMemory = inl refl
+tells_in : (place : ℕ) (why : BindFault) (f : SendFault) → TellsBind place why f → TellsStart NotYet f
+tells_in place (bind.Refused status) f is = subst (TellsStart NotYet) (sym is) refl
+tells_in place bind.Closed f is = subst (TellsStart NotYet) (sym is) refl
+tells_in place bind.NotSmpp f is = subst (TellsStart NotYet) (sym is) refl
+tells_in place bind.Read f (failure, is) = subst (TellsStart NotYet) (sym is) refl
+tells_in place bind.Write f (failure, is) = subst (TellsStart NotYet) (sym is) refl
+tells_in place bind.OutOfMemory f is = subst (TellsStart NotYet) (sym is) (inl refl)
 
 pub tells_bind : (refuses : ℕ → Type 0) (told : ℕ → Option (List ℕ)) (mode : Mode) (place : ℕ) (f : SendFault) → IsFaultOf refuses told mode place f → TellsStart NotYet f
 tells_bind refuses told mode place f (inl e) = subst (TellsStart NotYet) (sym e) (inl refl)
 tells_bind refuses told mode place f (inr (inl (e, none))) = subst (TellsStart NotYet) (sym e) refl
-tells_bind refuses told mode place f (inr (inr (why, refused, e))) = subst (TellsStart NotYet) (sym e) (tells_in place why)
+tells_bind refuses told mode place f (inr (inr (why, refused, tells))) = tells_in place why f tells
 
 -- so whatever is told before a word, of a start at which none was said
 pub tells_before : (b : Begun) (f : SendFault) → b ≡ NotYet → TellsStart NotYet f → TellsStart b f

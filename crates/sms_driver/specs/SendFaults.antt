@@ -1,6 +1,6 @@
 -- Which faults a sending ends with.
 use Rattle.std.specs.Prelude.{◌≡◌, ◌⊎◌, ℕ, ◌<◌, List, Option}
-use Rattle.std.specs.Io.KnownBytes.{Consumes}
+use Rattle.std.specs.Io.KnownBytes.{Consumes, IsAtEnd}
 use Rattle.sms_pdu.specs.declared.command.Mode.{Mode}
 use Rattle.sms_book.specs.Openings.{credits_of, names_of, AllSmall, GoodCount, IsFirstDouble, NoDouble}
 use Rattle.sms_book.specs.declared.error.BookError.{BookError}
@@ -10,40 +10,45 @@ use Rattle.sms_book.specs.declared.opening.Opening.{Opening}
 use Rattle.sms_bind.specs.Answers.{Refuses}
 use Rattle.sms_bind.specs.declared.binding.BindFault.{BindFault}
 use Rattle.sms_bind.specs.declared.binding.BindFault.TheVariants as bind
+use Rattle.sms_driver.specs.declared.failures.ReadFailure.{ReadFailure}
+use Rattle.sms_driver.specs.declared.failures.WriteFailure.{WriteFailure}
 use Rattle.sms_driver.specs.declared.fault.BindFailure.TheVariants as failure
 use Rattle.sms_driver.specs.declared.fault.SendFault.{SendFault}
 use Rattle.sms_driver.specs.declared.fault.SendFault.TheVariants.{BindFailed, BindRefused, BookRefused, ThreadRefused, OutOfMemory}
 
--- what is told of a bind that ended so
-abbrev pub fault_in : ℕ → BindFault → SendFault
-fault_in place (bind.Refused status) = BindRefused place status
-fault_in place bind.Closed = BindFailed place failure.Closed
-fault_in place bind.NotSmpp = BindFailed place failure.NotSmpp
-fault_in place bind.Read = BindFailed place failure.Read
-fault_in place bind.Write = BindFailed place failure.Write
-fault_in place bind.OutOfMemory = OutOfMemory
+-- how many errors the reader, or the writer, had answered of which it is told that it failed: at least one
+abbrev pub read_errors : ReadFailure → ℕ
+read_errors failure = failure.errors
 
--- the bind went out, and what is told is what the octets say that were read then
-pub record HasFailed (place : ℕ) (mode : Mode) (before after : Option (List ℕ)) (fault : SendFault) : Type 0 where
+abbrev pub write_errors : WriteFailure → ℕ
+write_errors failure = failure.errors
+
+-- what is told of a bind that ended so; a body has a failure to tell only of a device that answered an error
+abbrev pub TellsBind : ℕ → BindFault → SendFault → Type 0
+TellsBind place (bind.Refused status) fault = fault ≡ BindRefused place status
+TellsBind place bind.Closed fault = fault ≡ BindFailed place failure.Closed
+TellsBind place bind.NotSmpp fault = fault ≡ BindFailed place failure.NotSmpp
+TellsBind place bind.Read fault = (f : ReadFailure) × (fault ≡ BindFailed place (failure.Read f))
+TellsBind place bind.Write fault = (f : WriteFailure) × (fault ≡ BindFailed place (failure.Write f))
+TellsBind place bind.OutOfMemory fault = fault ≡ OutOfMemory
+
+-- so many octets were read, which refuse the bind so; that the connection was closed is told only once all was read
+pub record HasFailed (mode : Mode) (before after : Option (List ℕ)) (why : BindFault) : Type 0 where
   pub octets : List ℕ
   pub read : Consumes before after octets
-  pub why : BindFault
   pub says : Refuses mode octets why
-  pub told : fault ≡ fault_in place why
+  pub ended : why ≡ bind.Closed → IsAtEnd after
 
--- of a bind's reader this was told, and so many octets of that were read, which refuse the bind so
-pub record WasRefused (mode : Mode) (told : Option (List ℕ)) (why : BindFault) : Type 0 where
-  pub left : Option (List ℕ)
-  pub octets : List ℕ
-  pub read : Consumes told left octets
-  pub says : Refuses mode octets why
+-- of a bind's reader this was told, of which so much was read
+abbrev pub WasRefused : Mode → Option (List ℕ) → BindFault → Type 0
+WasRefused mode told why = (left : Option (List ℕ)) × HasFailed mode told left why
 
 -- the fault is of this bind: there is no connection for it, or what was read of it refuses it so; or it is of memory
 abbrev pub IsFaultOf : (ℕ → Type 0) → (ℕ → Option (List ℕ)) → Mode → ℕ → SendFault → Type 0
 IsFaultOf refuses told mode place fault =
     (fault ≡ OutOfMemory)
     ⊎ ((fault ≡ BindFailed place failure.NoConnection) × refuses place)
-    ⊎ ((why : BindFault) × WasRefused mode (told place) why × (fault ≡ fault_in place why))
+    ⊎ ((why : BindFault) × WasRefused mode (told place) why × TellsBind place why fault)
 
 -- not everything could start: memory or a thread was refused
 abbrev pub IsOfStart : SendFault → Type 0

@@ -1,20 +1,22 @@
 //! How the binds are made, one after the other (SMPP 3.4 4.1).
 
-ghost use Rattle.std.specs.Prelude.{◌≡◌, ℕ, ◌<◌, ◌≤◌, [], ◌∷◌, length, map, vec_capacity, Err, IfErr, IfOk, IsOk, OnOk};
+ghost use Rattle.std.specs.Prelude.{◌≡◌, ℕ, ◌<◌, ◌≤◌, [], ◌∷◌, length, map, vec_capacity, false, Err, IfErr, IfOk, IsOk, OnOk};
 ghost use Rattle.std.specs.List.{AllByRecursion, AllZip};
 ghost use Rattle.sms_core.specs.Limits.{most_slots};
-ghost use Rattle.sms_pdu.specs.Devices.{device};
-ghost use Rattle.sms_bind.specs.Wires.{writer};
+ghost use Rattle.sms_pdu.specs.Devices.{device, faults_of};
+ghost use Rattle.sms_bind.specs.Wires.{is_broken, write_faults, writer};
+ghost use Rattle.sms_bind.specs.declared.binding.BindFault.TheVariants.{Read as ReadFault, Write as WriteFault};
 ghost use Rattle.sms_driver.specs.BindEnds.{follow_of, HasBound, IsSetUp};
 ghost use Rattle.sms_driver.specs.Reads.{AreOpened, IsOpened};
 ghost use Rattle.sms_driver.specs.Rings.{IsNewPair};
 ghost use Rattle.sms_driver.specs.Seated.{IsSeated};
-ghost use Rattle.sms_driver.specs.SendFaults.{fault_in, HasFailed, IsFaultOf, IsFaultOfRun};
+ghost use Rattle.sms_driver.specs.SendFaults.{HasFailed, IsFaultOf, IsFaultOfRun, TellsBind};
 ghost use Rattle.sms_driver.specs.Starts.{TellsStart};
 ghost use Rattle.sms_driver.specs.declared.fault.BindFailure.TheVariants.{NoConnection};
 ghost use Rattle.sms_driver.specs.declared.fault.SendFault.TheVariants.{BindFailed};
 ghost use Rattle.sms_driver.specs.declared.start.Begun.TheVariants.{NotYet};
 
+use crate::failures::{ReadFailure, WriteFailure};
 use crate::fault::{BindFailure, SendFault};
 use crate::rings::Rings;
 use crate::seats::{NewWindow, open_window, split_seats};
@@ -67,16 +69,29 @@ struct Made<Rd, W> {
     asked: Snapshot<Wire<W>>,
 }
 
-/// A bind's fault, as the sending tells it.
-fn fault_of(bind: u32, fault: BindFault) -> SendFault
-    ensures { result ≡ fault_in bind fault }
+/// A bind's fault, as the sending tells it, by what its reader and its writer answered.
+fn fault_of<Rd: Read, W: Write>(
+    bind: u32,
+    fault: BindFault,
+    reader: &Tap<Rd>,
+    writer: &Tap<W>,
+) -> SendFault
+    requires read { fault ≡ ReadFault → 0 < faults_of reader.now }
+    requires write { fault ≡ WriteFault → 0 < faults_of writer.now }
+    ensures { TellsBind bind fault result }
 {
     match fault {
         BindFault::Refused(status) => SendFault::BindRefused(bind, status),
         BindFault::Closed => SendFault::BindFailed(bind, BindFailure::Closed),
         BindFault::NotSmpp => SendFault::BindFailed(bind, BindFailure::NotSmpp),
-        BindFault::Read => SendFault::BindFailed(bind, BindFailure::Read),
-        BindFault::Write => SendFault::BindFailed(bind, BindFailure::Write),
+        BindFault::Read => match ReadFailure::of(reader) {
+            Some(failure) => SendFault::BindFailed(bind, BindFailure::Read(failure)),
+            None => unreachable!(),
+        },
+        BindFault::Write => match WriteFailure::of(writer) {
+            Some(failure) => SendFault::BindFailed(bind, BindFailure::Write(failure)),
+            None => unreachable!(),
+        },
         BindFault::OutOfMemory => SendFault::OutOfMemory,
     }
 }
@@ -101,18 +116,20 @@ fn bind_with<Rd: Read, W: Write>(
     reader: &mut Tap<Rd>,
     wire: &mut Wire<W>,
     settings: &Settings,
-    bind_place: u32,
     number: u32,
-) -> Result<Bound, SendFault>
+) -> Result<Bound, BindFault>
+    requires unused { (faults_of reader.old ≡ 0) × (write_faults wire.old ≡ 0) }
     ensures bound { OnOk result (HasBound settings.now number (W.contents (writer wire.old)) (W.contents (writer wire.new))) }
     // What was read is the bind's answer and what came behind it.
     ensures opened { IfOk result (IsOpened settings.now.mode (Rd.remaining (device reader.old)) (Rd.remaining (device reader.new))) }
-    // What is told is what came of it.
-    ensures told { IfErr result (HasFailed bind_place settings.now.mode (Rd.remaining (device reader.old)) (Rd.remaining (device reader.new))) }
+    // What is told is what the octets say that were read then, or what the devices answered.
+    ensures told { IfErr result (HasFailed settings.now.mode (Rd.remaining (device reader.old)) (Rd.remaining (device reader.new))) }
+    ensures read { result ≡ Err ReadFault → 0 < faults_of reader.new }
+    ensures write { result ≡ Err WriteFault → is_broken wire.old ≡ false → 0 < write_faults wire.new }
 {
     match bind(alloc, reader, wire, settings, number) {
         Ok(bound) => Ok(bound),
-        Err(fault) => Err(fault_of(bind_place, fault)),
+        Err(fault) => Err(fault),
     }
 }
 
@@ -152,14 +169,14 @@ fn dial_and_bind<D: Dial>(
     let mut reader = Tap::new(reader);
     let mut wire = Wire::new(Tap::new(writer));
     let dialled = Snapshot::of(&wire);
-    match bind_with(alloc, &mut reader, &mut wire, settings, bind_place, number) {
+    match bind_with(alloc, &mut reader, &mut wire, settings, number) {
         Ok(bound) => Ok(Connected {
             reader,
             wire,
             bound,
             dialled,
         }),
-        Err(fault) => Err(fault),
+        Err(fault) => Err(fault_of(bind_place, fault, &reader, &wire.into_tap())),
     }
 }
 

@@ -1,5 +1,6 @@
 //! Why a sending ends without a statement.
 
+use crate::failures::{ReadFailure, WriteFailure};
 use sms_book::BookError;
 use std::alloc::AllocError;
 
@@ -15,12 +16,12 @@ pub enum BindFailure {
     /// What came is no answer to a bind.
     #[error("what came was no answer to a bind")]
     NotSmpp,
-    /// A read failed.
+    /// A read failed, or gave nothing too often.
     #[error("the answer could not be read")]
-    Read,
+    Read(ReadFailure),
     /// A write failed.
     #[error("the bind could not be written")]
-    Write,
+    Write(WriteFailure),
 }
 
 /// Why nothing is told of a sending. Binds are counted from 0. Nothing was sent.

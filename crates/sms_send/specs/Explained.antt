@@ -47,8 +47,8 @@ abbrev pub trouble_in : BindFailure → BindTrouble
 trouble_in bind.NoConnection = trouble.NoConnection
 trouble_in bind.Closed = trouble.Closed
 trouble_in bind.NotSmpp = trouble.NotSmpp
-trouble_in bind.Read = trouble.Read
-trouble_in bind.Write = trouble.Write
+trouble_in (bind.Read failure) = trouble.Read
+trouble_in (bind.Write failure) = trouble.Write
 
 -- why there is no connection for one
 abbrev pub trouble_to : Why → BindTrouble

@@ -72,8 +72,8 @@ fn trouble_of(why: BindFailure) -> BindTrouble
         BindFailure::NoConnection => BindTrouble::NoConnection,
         BindFailure::Closed => BindTrouble::Closed,
         BindFailure::NotSmpp => BindTrouble::NotSmpp,
-        BindFailure::Read => BindTrouble::Read,
-        BindFailure::Write => BindTrouble::Write,
+        BindFailure::Read(_) => BindTrouble::Read,
+        BindFailure::Write(_) => BindTrouble::Write,
     }
 }
 
