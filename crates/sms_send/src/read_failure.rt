@@ -1,6 +1,6 @@
 //! That a file can't be read, as it showed it.
 
-ghost use Rattle.std.specs.Prelude.{◌≡◌, ◌<◌, None};
+ghost use Rattle.std.specs.Prelude.{◌≡◌, ◌<◌, ◌↔◌, None};
 ghost use Rattle.sms_pdu.specs.Devices.{faults_of};
 
 use sms_pdu::Tap;
@@ -24,7 +24,7 @@ impl Model for ReadFailure {
 impl ReadFailure {
     /// That this file failed, by the errors that it answered; none where it answered none.
     pub(crate) fn of<T>(file: &Tap<T>) -> Option<ReadFailure>
-        ensures none { result ≡ None → faults_of file.now ≡ 0 }
+        ensures { (result ≡ None) ↔ (faults_of file.now ≡ 0) }
     {
         let errors = file.faults();
         if errors == 0 {
