@@ -90,19 +90,117 @@ class Answers(unittest.TestCase):
             self.assertIn(self.file, self.cut((path, "keep", 1, 9), "returns"))
 
 
-class Verdicts(unittest.TestCase):
-    def test_a_goal_shows_it(self):
-        for rest in ("note: src/book.rt:9:1: it is not proved that the sum fits", "./proofs/book/keep/Answers.antt:3:7: error: `returns`: no"):
-            self.assertEqual(plants.verdict_of(f"refused, as it must be: {rest}"), ("refused", rest))
+SOURCE = """pub fn keep() -> u32 {
+    1
+}
 
-    def test_form_and_names_show_nothing(self):
-        self.assertEqual(plants.verdict_of("refused, as it must be")[0], "NOT SHOWN")
-        self.assertEqual(plants.verdict_of("refused, as it must be (only because a proof file names what the edit took away): x")[0], "NOT SHOWN")
+pub fn drop() -> u32 {
+    2
+}
+"""
+KEEP = "src/book.rt:2:5: it is not proved that what the function ensures holds when it returns (`returns`)"
+MISS = "./proofs/book/keep/Answers.antt:4:3: error: `returns-clause-long`: `search`: no proof of `1 ≡ 2` was found"
+UNFIT = "./proofs/book/keep/Answers.antt:4:3: error: `returns-clause-long`: expected type `1 ≡ 1`"
+PROVED = "logic=proved functions=2"
 
-    def test_other_words(self):
-        self.assertEqual(plants.verdict_of("NOT REFUSED: the crate is still proved with this edit")[0], "NOT REFUSED")
-        self.assertEqual(plants.verdict_of("BAD EDIT: an old text")[0], "NOT READ by the prover")
-        self.assertEqual(plants.verdict_of("something else")[0], "NOT TRIED")
+
+class Tried(unittest.TestCase):
+    """What edits of a crate of two functions come to, where the prover's words are those of `says`, by what it is asked of."""
+
+    def setUp(self):
+        self.folder = tempfile.TemporaryDirectory()
+        self.addCleanup(self.folder.cleanup)
+        self.addCleanup(setattr, plants, "rt", plants.rt)
+        plants.rt = lambda folder, *words: (0, self.says(plants.read(f"{folder}/src/book.rt"), plants.read(f"{folder}/{self.file}")))
+        self.file = "proofs/book/keep/Answers.antt"
+        for file, text in ((self.file, ANSWERS), ("src/book.rt", SOURCE)):
+            os.makedirs(f"{self.folder.name}/{os.path.dirname(file)}")
+            with open(f"{self.folder.name}/{file}", "w", encoding="utf-8") as it:
+                it.write(text)
+        os.mkdir(f"{self.folder.name}/plants")
+
+    def edit(self, name, text):
+        with open(f"{self.folder.name}/plants/{name}.edit", "w", encoding="utf-8") as it:
+            it.write(text)
+        return it.name
+
+    def keeps_two(self, own=""):
+        return self.edit("keeps_two", f"file: src/book.rt\nold:     1\nnew:     2\n{own}")
+
+    def drops_three(self):
+        return self.edit("drops_three", "file: src/book.rt\nold:     2\nnew:     3\n")
+
+    def tried(self, *edits):
+        groups, alone = plants.batches_of(self.folder.name, edits)
+        self.assertEqual((len(groups), alone), (1, []))
+        return plants.tried(self.folder.name, groups[0])
+
+    def test_an_open_goal_refuses_the_edit_of_its_function(self):
+        self.says = lambda source, answers: f"{KEEP}\nlogic=not-proved"
+        one, other = self.keeps_two(), self.drops_three()
+        self.assertEqual(self.tried(one, other), {one: ("refused", KEEP), other: ("NOT SHOWN", "")})
+
+    def test_without_a_place_each_goal_counts(self):
+        self.says = lambda source, answers: KEEP
+        other = self.drops_three()
+        self.assertEqual(plants.tried(self.folder.name, {None: other}), {other: ("refused", KEEP)})
+
+    def test_a_search_in_a_stored_answer(self):
+        self.says = lambda source, answers: MISS if source != SOURCE else PROVED
+        one = self.keeps_two()
+        self.assertEqual(self.tried(one), {one: ("refused", MISS[len("./"):])})
+
+    def test_what_is_proved_is_not_refused(self):
+        self.says = lambda source, answers: PROVED
+        one = self.keeps_two()
+        self.assertEqual(self.tried(one)[one][0], "NOT REFUSED")
+
+    def test_what_does_not_compile_is_left_out(self):
+        error = "src/book.rt:6:5: error[E0308]: mismatched types"
+        self.says = lambda source, answers: error if "    3" in source else f"{KEEP}\nlogic=not-proved"
+        one, other = self.keeps_two(), self.drops_three()
+        self.assertEqual(self.tried(one, other), {one: ("refused", KEEP), other: ("NOT READ by the prover", error)})
+
+    def test_a_stored_answer_alone_shows_nothing(self):
+        # (without it the goal is open, whatever the body)
+        self.says = lambda source, answers: (PROVED if source == SOURCE else f"rt: begins\n{UNFIT}") if "clause-long" in answers else KEEP
+        one = self.keeps_two()
+        self.assertEqual(self.tried(one), {one: ("NOT SHOWN", UNFIT)})
+
+    def test_a_goal_behind_a_stored_answer(self):
+        self.says = lambda source, answers: PROVED if source == SOURCE else UNFIT if "clause-long" in answers else KEEP
+        one = self.keeps_two()
+        self.assertEqual(self.tried(one), {one: ("refused", KEEP)})
+
+    def test_a_goal_that_lost_its_name_says_nothing(self):
+        lost = "src/book.rt:2:5: it is not proved that what the function ensures holds when it returns (`returns-2-clause-long`)"
+        self.says = lambda source, answers: PROVED if source == SOURCE else f"{lost}\n{MISS.replace('long', 'all')}"
+        one = self.keeps_two()
+        with open(f"{self.folder.name}/{self.file}", "a", encoding="utf-8") as it:
+            it.write("\npub returns-clause-all : goal.returns-clause-all\nreturns-clause-all g c = search rules\n")
+        self.assertEqual(self.tried(one), {one: ("refused", MISS.replace("long", "all")[len("./"):])})
+        self.says = lambda source, answers: PROVED if source == SOURCE else f"{lost}\n{MISS}"
+        self.assertEqual(self.tried(one)[one][0], "NOT SHOWN")
+
+    def test_a_later_goal_of_one_name(self):
+        stored = {"returns-then-eq", "returns-then-eq-2", "loop-turn-preserved"}
+        self.assertEqual(plants.renamed("returns-then-eq-3", stored), "returns-then-eq-2")
+        self.assertEqual(plants.renamed("loop-turn-2-preserved", stored), "loop-turn-preserved")
+        self.assertEqual([plants.renamed(it, stored) for it in ("returns-then-eq-2", "returns-then-eq", "loop-turn-3-preserved")], [None] * 3)
+
+    def test_an_answer_of_its_own(self):
+        self.says = lambda source, answers: MISS if source != SOURCE and "by_search" in answers else UNFIT if source != SOURCE else PROVED
+        one = self.keeps_two(f"file: {self.file}\nold:   refl,\nnew:   by_search,\n")
+        self.assertEqual(self.tried(one), {one: ("refused", MISS[len("./"):])})
+
+    def test_an_answer_of_its_own_that_proves_nothing(self):
+        self.says = lambda source, answers: MISS if "by_search" in answers else PROVED
+        one = self.keeps_two(f"file: {self.file}\nold:   refl,\nnew:   by_search,\n")
+        self.assertEqual(self.tried(one)[one][0], "NOT SHOWN")
+
+    def test_an_answer_of_another_function_has_no_place(self):
+        one = self.edit("drops", f"file: src/book.rt\nold:     2\nnew:     3\nfile: {self.file}\nold:   refl,\nnew:   by_search,\n")
+        self.assertEqual(plants.batches_of(self.folder.name, [one]), ([], [one]))
 
 
 if __name__ == "__main__":
