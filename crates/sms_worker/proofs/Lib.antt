@@ -14,6 +14,7 @@ pub mod Hearing
 pub mod Keeping
 pub mod Kept
 pub mod Naming
+pub mod Nearest
 pub mod Placed
 pub mod Leaving
 pub mod Resting

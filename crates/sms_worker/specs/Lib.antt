@@ -25,3 +25,4 @@ pub mod Told
 pub mod Turn
 pub mod Turns
 pub mod UserData
+pub mod Waits

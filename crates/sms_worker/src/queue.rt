@@ -5,6 +5,7 @@ ghost use Rattle.std.specs.List.{list_all};
 ghost use Rattle.sms_worker.specs.declared.open.SegmentPlace.{SegmentPlace};
 ghost use Rattle.sms_worker.specs.Queues.{Waiting, appended, first_in, first_place, IsAway, IsDue, IsKept, IsOutside, last_in, later, NoneIsDue, sooner_of, SpellsAt, with_last, without_first};
 ghost use Rattle.sms_worker.specs.TextsState.{TextsState, carried, kept_at, link_of, relinked};
+ghost use Rattle.sms_worker.specs.Waits.{IsDueIn};
 
 use crate::open::SegmentPlace;
 use crate::texts::{Link, NO_LINK, Texts};
@@ -181,6 +182,21 @@ impl Queues {
             Some(head) => Some(head.queue),
             None => None,
         }
+    }
+
+    /// How long it is until the first segment of a queue is due, of the one that is due before the others; as
+    /// long as a number says where no segment waits.
+    pub fn due_in(&self, texts: &[Texts], now_ms: u64) -> u64
+        ensures { IsDueIn texts.now self.now.all now_ms result }
+    {
+        let mut least = u64::MAX;
+        for queue in 0..MOST_ATTEMPTS {
+            if let Some(first) = self.all[queue].first {
+                let due_ms = link_at(texts, first).due_ms;
+                least = least.min(due_ms.saturating_sub(now_ms));
+            }
+        }
+        least
     }
 
     /// The first segment of a queue.
