@@ -9,7 +9,7 @@ use Rattle.sms_driver.specs.declared.task.WorkerTask.{WorkerTask}
 use Rattle.sms_driver.specs.declared.threads.ReaderTask.{ReaderTask}
 use Rattle.sms_driver.specs.declared.thread_scope.Crew.{Crew}
 use Rattle.sms_driver.specs.declared.thread_scope.Returned.{Returned}
-use Rattle.sms_unbind.specs.Unbinds.{HasTried}
+use Rattle.sms_unbind.specs.Unbinds.{AsksEach, HasTried}
 use Rattle.sms_driver.specs.Reads.{listener_of, listener_promised, reading_of, HasRead, IsUnread}
 use Rattle.sms_driver.specs.Worked.{IsHandedBack, IsResultOf}
 
@@ -24,19 +24,21 @@ pub record AreSeated {N Rd W : Type 0} (rules : Rules) (tasks : List (WorkerTask
   pub driver : map (λ s. s.seat.window) driver_seats ≡ map (λ b. b.window) shared_binds
 
 -- in order, a result of each assignment, each reader's seat with what it did with what it read, and the driver's seats; an unbind
--- was tried at each bind
-pub record HaveReturned {N Rd W : Type 0} (rules : Rules) (remaining : Rd → Option (List ℕ)) (tasks : List (WorkerTask N W)) (reader_tasks : List (ReaderTask Rd W)) (shared_binds : List (SharedBind W)) (returned : Returned N) : Type 0 where
+-- was asked for once at each bind
+pub record HaveReturned {N Rd W : Type 0} (rules : Rules) (remaining : Rd → Option (List ℕ)) (tasks : List (WorkerTask N W)) (reader_tasks : List (ReaderTask Rd W)) (driver_seats : List DriverSeat) (shared_binds : List (SharedBind W)) (returned : Returned N) : Type 0 where
   pub results : AllZip (IsResultOf rules) (map (λ t. t.assignment) tasks) returned.worker_results.items
   pub readers : map (λ d. d.seat.window) returned.readers.items ≡ map (λ t. t.seat.window) reader_tasks
   pub read : AllZip (HasRead rules.turns remaining) (map reading_of reader_tasks) returned.readers.items
   pub driver : map (λ s. s.seat.window) returned.driver_seats.items ≡ map (λ b. b.window) shared_binds
+  pub asked : AsksEach driver_seats returned.driver_seats.items
   pub tried : AllByRecursion HasTried returned.driver_seats.items
 
--- nothing was done: in order, the first of the workers and of the readers gave back what they were given; an unbind was tried at each bind
-pub record HaveLeft {N Rd W : Type 0} (tasks : List (WorkerTask N W)) (reader_tasks : List (ReaderTask Rd W)) (shared_binds : List (SharedBind W)) (left : Returned N) : Type 0 where
+-- nothing was done: in order, the first of the workers and of the readers gave back what they were given; an unbind was asked for once at each bind
+pub record HaveLeft {N Rd W : Type 0} (tasks : List (WorkerTask N W)) (reader_tasks : List (ReaderTask Rd W)) (driver_seats : List DriverSeat) (shared_binds : List (SharedBind W)) (left : Returned N) : Type 0 where
   pub workers : AllZip IsHandedBack (take (length left.worker_results.items) (map (λ t. t.assignment) tasks)) left.worker_results.items
   pub readers : AllZip (λ given end. IsUnread given.0 given.1.rings end) (take (length left.readers.items) (map listener_of reader_tasks)) left.readers.items
   pub driver : map (λ s. s.seat.window) left.driver_seats.items ≡ map (λ b. b.window) shared_binds
+  pub asked : AsksEach driver_seats left.driver_seats.items
   pub tried : AllByRecursion HasTried left.driver_seats.items
 
 module _ {N Rd : Type 0} where

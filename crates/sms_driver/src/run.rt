@@ -8,7 +8,7 @@ ghost use Rattle.sms_worker.specs.declared.message.Message.{Message};
 ghost use Rattle.rtrb.specs.Ring.{received, IsPair};
 ghost use Rattle.sms_driver.specs.Answered.{AreHeard, Hears};
 ghost use Rattle.sms_driver.specs.BindEnds.{AreBinds};
-ghost use Rattle.sms_unbind.specs.Unbinds.{HasTried};
+ghost use Rattle.sms_unbind.specs.Unbinds.{AsksEach, HasTried};
 ghost use Rattle.sms_driver.specs.Closings.{AreExplained, SaysWhy};
 ghost use Rattle.sms_deal.specs.Deals.{dealt};
 ghost use Rattle.sms_driver.specs.Ended.{HaveEnded};
@@ -163,6 +163,8 @@ fn send_over<
     ensures rings { IfOk result (λ r. AllZip IsPair (flat (map (λ d. d.producers.items) r.readers.items)) (map (λ d. d.consumer) r.done.items)) }
     ensures readers { IfOk result (λ r. map (λ d. d.seat.window) r.readers.items ≡ map (λ b. b.window) shared_binds.now) }
     ensures driver_seats { IfOk result (λ r. map (λ s. s.seat.window) r.driver_seats.items ≡ map (λ b. b.window) shared_binds.now) }
+    // An unbind was asked for once at each bind.
+    ensures asked { IfOk result (λ r. AsksEach driver_seats.items r.driver_seats.items) }
     ensures tried { IfOk result (λ r. AllByRecursion HasTried r.driver_seats.items) }
     ensures refused { IfErr result IsOfStart }
 {

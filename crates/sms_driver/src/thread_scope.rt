@@ -2,7 +2,7 @@
 
 ghost use Rattle.std.specs.Prelude.{◌≡◌, length, map, IfErr, IfOk, MatchResult, OnOk};
 ghost use Rattle.std.specs.List.{AllByRecursion};
-ghost use Rattle.sms_unbind.specs.Unbinds.{HasTried};
+ghost use Rattle.sms_unbind.specs.Unbinds.{AsksEach, HasTried};
 ghost use Rattle.sms_driver.specs.Latches.{IsSaidAt, word_of};
 ghost use Rattle.sms_driver.specs.SendFaults.{IsOfStart, StopsAt};
 ghost use Rattle.sms_driver.specs.Threads.{AreSeated, HasRoom, HaveLeft, HaveReturned, IsCrew, IsNoCrew, IsPrepared, IsWhole};
@@ -167,9 +167,9 @@ fn drive<
 ) -> Told<'l, Result<Returned<N>, Unsent<N>>>
     requires seated { AreSeated context.now.rules.now tasks.items reader_tasks.items driver_seats.items shared_binds.now }
     requires leave { unsaid.latch.value ≡ latch.now }
-    ensures returned { IfOk result.back (HaveReturned context.now.rules.now Rd.remaining tasks.entry.items reader_tasks.entry.items shared_binds.now) }
+    ensures returned { IfOk result.back (HaveReturned context.now.rules.now Rd.remaining tasks.entry.items reader_tasks.entry.items driver_seats.items shared_binds.now) }
     // Nothing was sent: each thread that was started gave back what it was given.
-    ensures left { IfErr result.back (λ unsent. HaveLeft tasks.entry.items reader_tasks.entry.items shared_binds.now unsent.left) }
+    ensures left { IfErr result.back (λ unsent. HaveLeft tasks.entry.items reader_tasks.entry.items driver_seats.items shared_binds.now unsent.left) }
     ensures refused { IfErr result.back (λ unsent. IsOfStart unsent.fault) }
     ensures stopped { IfErr result.back (λ unsent. StopsAt unsent.fault (length tasks.entry.items) (length reader_tasks.entry.items) (length unsent.left.worker_results.items) (length unsent.left.readers.items)) }
     // No thread at the latch was told to go where a fault is told, and none to leave where there is none.
@@ -219,6 +219,7 @@ fn end_binds<N: BookName, W: Write, G: Gate, K: Clock, P: Pause, R: Wait>(
 )
     requires driver_seats { map (λ s. s.seat.window) driver_seats.old.items ≡ map (λ b. b.window) shared_binds.now }
     ensures driver_seats { map (λ s. s.seat.window) driver_seats.new.items ≡ map (λ s. s.seat.window) driver_seats.old.items }
+    ensures asked { AsksEach driver_seats.old.items driver_seats.new.items }
     ensures tried { AllByRecursion HasTried driver_seats.new.items }
 {
     match word {
@@ -259,8 +260,8 @@ pub fn work_all<
     requires seated { AreSeated context.now.rules.now tasks.items reader_tasks.items driver_seats.items shared_binds.now }
     requires yet { start.old.begun ≡ NotYet }
     ensures latch { start.new.latch ≡ start.old.latch }
-    ensures returned { IfOk result (HaveReturned context.now.rules.now Rd.remaining tasks.entry.items reader_tasks.entry.items shared_binds.now) }
-    ensures left { IfErr result (λ unsent. HaveLeft tasks.entry.items reader_tasks.entry.items shared_binds.now unsent.left) }
+    ensures returned { IfOk result (HaveReturned context.now.rules.now Rd.remaining tasks.entry.items reader_tasks.entry.items driver_seats.items shared_binds.now) }
+    ensures left { IfErr result (λ unsent. HaveLeft tasks.entry.items reader_tasks.entry.items driver_seats.items shared_binds.now unsent.left) }
     ensures refused { IfErr result (λ unsent. IsOfStart unsent.fault) }
     ensures stopped { IfErr result (λ unsent. StopsAt unsent.fault (length tasks.entry.items) (length reader_tasks.entry.items) (length unsent.left.worker_results.items) (length unsent.left.readers.items)) }
     // All were told to go, or to leave where a fault is told.
@@ -274,8 +275,8 @@ pub fn work_all<
         move |scope| -> Told<Result<Returned<N>, Unsent<N>>>
             requires seated { AreSeated context.now.rules.now tasks.items reader_tasks.items driver_seats.items shared_binds.now }
             requires leave { unsaid.latch.value ≡ latch.now }
-            ensures returned { IfOk result.back (HaveReturned context.entry.now.rules.now Rd.remaining tasks.entry.items reader_tasks.entry.items shared_binds.entry.now) }
-            ensures left { IfErr result.back (λ unsent. HaveLeft tasks.entry.items reader_tasks.entry.items shared_binds.entry.now unsent.left) }
+            ensures returned { IfOk result.back (HaveReturned context.entry.now.rules.now Rd.remaining tasks.entry.items reader_tasks.entry.items driver_seats.items shared_binds.entry.now) }
+            ensures left { IfErr result.back (λ unsent. HaveLeft tasks.entry.items reader_tasks.entry.items driver_seats.items shared_binds.entry.now unsent.left) }
             ensures refused { IfErr result.back (λ unsent. IsOfStart unsent.fault) }
             ensures stopped { IfErr result.back (λ unsent. StopsAt unsent.fault (length tasks.entry.items) (length reader_tasks.entry.items) (length unsent.left.worker_results.items) (length unsent.left.readers.items)) }
             ensures at { IsSaidAt latch.entry.now result.said }

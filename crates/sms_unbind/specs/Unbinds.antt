@@ -1,5 +1,5 @@
 -- What becomes of a bind's unbind (SMPP 3.4 4.2.1), and why none is written.
-use Rattle.std.specs.Prelude.{◌≡◌, ◌+◌, ◌<◌, ◌≤◌, ℕ, Bool, true, List, [], ◌∷◌}
+use Rattle.std.specs.Prelude.{◌≡◌, ◌≢◌, ◌+◌, ◌<◌, ◌≤◌, ℕ, Bool, true, List, [], ◌∷◌, length, Some, slice_get}
 use Rattle.sms_core.specs.Limits.{top_number}
 use Rattle.sms_pdu.specs.Grammar.{Spells}
 use Rattle.sms_pdu.specs.declared.body.Body.TheVariants.{Unbind}
@@ -12,6 +12,7 @@ use Rattle.sms_window.specs.Drawing.{HasDrawn}
 use Rattle.sms_window.specs.Seats.{used_up}
 use Rattle.sms_worker.specs.Limits.{most_draws}
 use Rattle.sms_unbind.specs.declared.binds.DriverSeat.{DriverSeat}
+use Rattle.sms_unbind.specs.declared.binds.SharedBind.{SharedBind}
 use Rattle.sms_unbind.specs.declared.unasked.Unasked.{Unasked as Why}
 use Rattle.sms_unbind.specs.declared.unasked.Unasked.TheVariants.{Down, UsedUp, Contended, OutOfMemory, Broken}
 use Rattle.sms_unbind.specs.declared.unasked.WasDown.{WasDown}
@@ -50,6 +51,22 @@ HasAsked before (Unasked why) after = IsWhy before why after
 abbrev pub HasTried : DriverSeat → Type 0
 HasTried s = (before : View) × HasAsked before s.unbinding s.seat.view
 
+-- one was asked for once, from the seat as it was
+abbrev pub Asks : DriverSeat → DriverSeat → Type 0
+Asks old new = HasAsked old.seat.view new.unbinding new.seat.view
+
+-- so from the seat at this place, and the others are as they were
+abbrev pub AsksAt : ℕ → List DriverSeat → List DriverSeat → Type 0
+AsksAt bind old new = (place : ℕ) (s t : DriverSeat) → slice_get old place ≡ Some s → slice_get new place ≡ Some t → (place ≡ bind → Asks s t) × (place ≢ bind → t ≡ s)
+
+-- so from each seat before this place, and the others are as they were
+abbrev pub AsksBefore : ℕ → List DriverSeat → List DriverSeat → Type 0
+AsksBefore n old new = (place : ℕ) (s t : DriverSeat) → slice_get old place ≡ Some s → slice_get new place ≡ Some t → (place < n → Asks s t) × (n ≤ place → t ≡ s)
+
+-- so from each seat
+abbrev pub AsksEach : List DriverSeat → List DriverSeat → Type 0
+AsksEach old new = AsksBefore (length old) old new
+
 -- a frame was handed to a wire, which was broken just where it took none
 abbrev pub IsHandedOver : Bool → ℕ → List ℕ → Unbinding → Type 0
 IsHandedOver broken number frame NotYet = ⊥
@@ -69,3 +86,22 @@ IsUnbound (Unasked (UsedUp all)) closed = closed.next ≡ used_up
 IsUnbound (Unasked (Contended none)) closed = most_draws ≤ closed.next
 IsUnbound (Unasked (OutOfMemory unmade)) closed = unmade.number < closed.next
 IsUnbound (Unasked (Broken untaken)) closed = untaken.number < closed.next
+
+-- it was handed to the wire
+abbrev pub IsSent : Unbinding → Type 0
+IsSent (Sent receipt) = Unit {0}
+IsSent NotYet = ⊥
+IsSent (Failed receipt) = ⊥
+IsSent (Unasked why) = ⊥
+
+-- so of one of the binds
+abbrev pub IsOneSent : List DriverSeat → Type 0
+IsOneSent seats = (place : ℕ) × (s : DriverSeat) × (slice_get seats place ≡ Some s) × IsSent s.unbinding
+
+-- no answer is awaited: the bind's unbind wasn't handed to the wire, or it was seen that its line is down
+abbrev pub IsDone : {W : Type 0} → SharedBind W → DriverSeat → Type 0
+IsDone shared s = IsSent s.unbinding → (seen : Seen) × IsDownAt shared.line.down seen
+
+-- so of each bind before this place
+abbrev pub AreDone : {W : Type 0} → ℕ → List (SharedBind W) → List DriverSeat → Type 0
+AreDone {W} n binds seats = (place : ℕ) (shared : SharedBind W) (s : DriverSeat) → place < n → slice_get binds place ≡ Some shared → slice_get seats place ≡ Some s → IsDone shared s

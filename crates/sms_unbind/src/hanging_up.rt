@@ -1,8 +1,9 @@
 //! How binds are ended (SMPP 3.4 4.2).
 
-ghost use Rattle.std.specs.Prelude.{◌≡◌, ◌+◌, ◌<◌, Err, IfErr, IfOk, IsOk, OnOk, map, length, take};
+ghost use Rattle.std.specs.Prelude.{◌≡◌, ◌<◌, Err, IfErr, IfOk, IsOk, OnOk, map, length};
+ghost use Rattle.std.specs.Bool.{OnFalse, OnTrue};
 ghost use Rattle.std.specs.List.{AllByRecursion};
-ghost use Rattle.sms_unbind.specs.Unbinds.{HasAsked, HasTried, IsOfMark};
+ghost use Rattle.sms_unbind.specs.Unbinds.{AreDone, Asks, AsksAt, AsksEach, HasAsked, HasTried, IsDone, IsOfMark, IsOneSent, IsSent};
 
 use crate::binds::{Binds, DriverSeat, SharedBind};
 use crate::unasked::{Unasked, down_now, hand_over, number_for, unbind_frame};
@@ -49,13 +50,12 @@ fn unbind<W: Write, R: Wait>(
 )
     requires own { driver_seat.old.seat.window ≡ shared.now.window }
     ensures window { driver_seat.new.seat.window ≡ driver_seat.old.seat.window }
-    ensures tried { HasTried driver_seat.new }
+    ensures asked { Asks driver_seat.old driver_seat.new }
 {
     driver_seat.unbinding = ask(rt, alloc, shared, &mut driver_seat.seat);
 }
 
-/// Writes an unbind to the bind at a place, and keeps what came of it: then one was tried at each bind up to it, if at
-/// each before it.
+/// Writes an unbind to the bind at a place, and keeps what came of it.
 fn unbind_at<W: Write, R: Wait>(
     rt: &R,
     alloc: Global,
@@ -66,7 +66,7 @@ fn unbind_at<W: Write, R: Wait>(
     requires there { bind < length shared_binds.now }
     requires driver_seats { map (λ s. s.seat.window) driver_seats.old.items ≡ map (λ b. b.window) shared_binds.now }
     ensures driver_seats { map (λ s. s.seat.window) driver_seats.new.items ≡ map (λ s. s.seat.window) driver_seats.old.items }
-    ensures tried { AllByRecursion HasTried (take bind driver_seats.old.items) → AllByRecursion HasTried (take (bind + 1) driver_seats.new.items) }
+    ensures asked { AsksAt bind driver_seats.old.items driver_seats.new.items }
 {
     let driver_seat = &mut driver_seats[bind];
     unbind(rt, alloc, &shared_binds[bind], driver_seat);
@@ -81,6 +81,8 @@ pub fn unbind_all<W: Write, R: Wait>(
 )
     requires driver_seats { map (λ s. s.seat.window) driver_seats.old.items ≡ map (λ b. b.window) shared_binds.now }
     ensures driver_seats { map (λ s. s.seat.window) driver_seats.new.items ≡ map (λ s. s.seat.window) driver_seats.old.items }
+    // Once to each.
+    ensures asked { AsksEach driver_seats.old.items driver_seats.new.items }
     ensures tried { AllByRecursion HasTried driver_seats.new.items }
 {
     for bind in 0..shared_binds.len() {
@@ -116,19 +118,27 @@ pub fn unless_failed<Rd: Drop, W: Write + Drop, F: Drop, R: Wait>(
 }
 
 /// Whether an answer to the unbind may come yet: it was handed to the wire, and the line isn't down.
-fn is_awaited<W>(shared: &SharedBind<W>, driver_seat: Option<&DriverSeat>) -> bool {
-    match driver_seat {
-        Some(driver_seat) => match driver_seat.unbinding {
-            Unbinding::Sent(_) => shared.line.down.look().is_none(),
-            Unbinding::NotYet | Unbinding::Failed(_) | Unbinding::Unasked(_) => false,
+fn is_awaited<W>(shared: &SharedBind<W>, driver_seat: &DriverSeat) -> bool
+    ensures sent { OnTrue result (IsSent driver_seat.now.unbinding) }
+    ensures none { OnFalse result (IsDone shared.now driver_seat.now) }
+{
+    match driver_seat.unbinding {
+        Unbinding::Sent(_) => match shared.line.down.look() {
+            Some(_down) => false,
+            None => true,
         },
-        None => false,
+        Unbinding::NotYet | Unbinding::Failed(_) | Unbinding::Unasked(_) => false,
     }
 }
 
-fn is_one_awaited<W>(shared_binds: &[SharedBind<W>], driver_seats: &[DriverSeat]) -> bool {
+/// Whether an answer to one of the unbinds may come yet.
+fn is_one_awaited<W>(shared_binds: &[SharedBind<W>], driver_seats: &[DriverSeat]) -> bool
+    requires long { length driver_seats.now ≡ length shared_binds.now }
+    ensures sent { OnTrue result (IsOneSent driver_seats.now) }
+    ensures none { OnFalse result (AreDone (length shared_binds.now) shared_binds.now driver_seats.now) }
+{
     for place in 0..shared_binds.len() {
-        if is_awaited(&shared_binds[place], driver_seats.get(place)) {
+        if is_awaited(&shared_binds[place], &driver_seats[place]) {
             return true;
         }
     }
@@ -145,6 +155,7 @@ fn wait_until_down<W, K: Clock, P: Pause>(
 )
     // It begins once an unbind was tried at each bind.
     requires tried { AllByRecursion HasTried driver_seats.now }
+    requires long { length driver_seats.now ≡ length shared_binds.now }
 {
     let begun = clock.now_ms();
     for _turn in 0..rules.turns {
@@ -177,6 +188,7 @@ pub fn hang_up_all<W: Write, K: Clock, P: Pause, R: Wait>(
 )
     requires driver_seats { map (λ s. s.seat.window) driver_seats.old.items ≡ map (λ b. b.window) shared_binds.now }
     ensures driver_seats { map (λ s. s.seat.window) driver_seats.new.items ≡ map (λ s. s.seat.window) driver_seats.old.items }
+    ensures asked { AsksEach driver_seats.old.items driver_seats.new.items }
     ensures tried { AllByRecursion HasTried driver_seats.new.items }
 {
     unbind_all(rt, alloc, shared_binds, driver_seats);

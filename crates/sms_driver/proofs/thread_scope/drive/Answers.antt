@@ -60,6 +60,7 @@ returns-in-Ok-clause-returned g c =
           subst (λ l. AllZip (HasRead rules.turns remaining) l ends) (map_map listener_of (λ l. l.1) c.args.reader_tasks.items)
           (zip_given (λ l. l.1) (λ l d. (d.seat.window ≡ l.0.window) × HasRead rules.turns remaining l.1 d) (HasRead rules.turns remaining) (λ l d k. k.1) (map listener_of c.args.reader_tasks.items) ends heard);
       driver = c.end_binds.ensures.driver_seats ∙ c.requires.seated.driver;
+      asked = c.end_binds.ensures.asked;
       tried = c.end_binds.ensures.tried;
     }
 
@@ -88,6 +89,7 @@ returns-in-Err-clause-left g c =
           (λ p r f b. subst (λ x. IsUnread p.seat.value p.producers.value.items x) b.is (b.keeps.left (b.word_is ∙ word)))
           readers ends crew.latches c.join_told.ensures.each);
       driver = c.end_binds.ensures.driver_seats ∙ c.requires.seated.driver;
+      asked = c.end_binds.ensures.asked;
       tried = c.end_binds.ensures.tried;
     }
 
