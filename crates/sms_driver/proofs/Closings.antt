@@ -4,8 +4,8 @@ use Rattle.std.specs.Prelude.{take, drop, slice_get, IsSome}
 use Rattle.std.specs.List.{AllByRecursion, AllZip}
 use Rattle.sms_worker.specs.declared.closure.ClosedBy.{ClosedBy}
 use Rattle.sms_worker.specs.declared.closure.ClosedBy.TheVariants.{Down, Turns}
-use Rattle.sms_worker.specs.declared.ends.MessageEnd.{MessageEnd}
-use Rattle.sms_worker.specs.declared.rules.Rules.{Rules}
+use Rattle.sms_worker.specs.Types.{MessageEnd}
+use Rattle.sms_message.specs.declared.rules.Rules.{Rules}
 use Rattle.sms_worker.specs.declared.work.WorkerEnd.{WorkerEnd}
 use Rattle.sms_worker.specs.ReadyState.{ReadyState}
 use Rattle.sms_driver.specs.declared.bind_end.BindEnd.{BindEnd}

@@ -11,10 +11,10 @@ use Rattle.sms_book.specs.Portions.{no_amounts, row_at}
 use Rattle.sms_book.specs.Shares.{Share, blank_share, opening_shares, AreAll}
 use Rattle.sms_book.proofs.OpeningShares.{opening_shares_all}
 use Rattle.sms_book.specs.Sums.{over_shares, IsSumOf}
-use Rattle.sms_worker.specs.declared.message.Message.{Message}
-use Rattle.sms_worker.specs.declared.rules.Rules.{Rules}
-use Rattle.sms_worker.specs.declared.ends.MessageEnd.{MessageEnd}
-use Rattle.sms_worker.specs.Ends.{credit, credits}
+use Rattle.sms_message.specs.declared.message.Message.{Message}
+use Rattle.sms_message.specs.declared.rules.Rules.{Rules}
+use Rattle.sms_worker.specs.Types.{MessageEnd}
+use Rattle.sms_message.specs.Ends.{credit, credits}
 use Rattle.sms_deal.specs.Deals.{dealt}
 use Rattle.sms_driver.specs.Settled.{totals}
 use Rattle.sms_driver.specs.Worked.{Worked}

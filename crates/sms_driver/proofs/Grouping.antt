@@ -10,7 +10,7 @@ use Rattle.rtrb.specs.Ring.{IsPair, SameProducer, SameConsumer, sent, received}
 use Rattle.sms_pdu.specs.declared.command.Mode.{Mode}
 use Rattle.sms_pdu.specs.declared.reply.Reply.{Reply}
 use Rattle.sms_bind.specs.declared.ending.ReaderEnd.{ReaderEnd}
-use Rattle.sms_worker.specs.declared.ends.MessageEnd.{MessageEnd}
+use Rattle.sms_worker.specs.Types.{MessageEnd}
 use Rattle.sms_unbind.specs.declared.binds.SharedBind.{SharedBind}
 use Rattle.sms_unbind.specs.declared.binds.BindParts.{BindParts}
 use Rattle.sms_driver.specs.Answered.{Hears, IsHeard, ends_at, AreHeard}

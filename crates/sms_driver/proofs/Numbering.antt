@@ -8,13 +8,11 @@ use Rattle.sms_core.specs.Numbers.{times, AllBelow}
 use Rattle.sms_window.specs.declared.view.View.{View}
 use Rattle.sms_window.specs.Rule.{numbers_of}
 use Rattle.sms_worker.specs.Apart.{IsAttempt, NumbersApart}
-use Rattle.sms_worker.specs.Ends.{segments_in, segment_at, total, total_in, uses}
+use Rattle.sms_message.specs.Ends.{segments_in, segment_at, total, total_in, uses}
 use Rattle.sms_worker.specs.Told.{Drew}
-use Rattle.sms_worker.specs.declared.ends.Attempt.{Attempt}
-use Rattle.sms_worker.specs.declared.ends.SegmentEnd.{SegmentEnd}
-use Rattle.sms_worker.specs.declared.ends.MessageEnd.{MessageEnd}
-use Rattle.sms_worker.specs.declared.message.Message.{Message}
-use Rattle.sms_worker.specs.declared.rules.Rules.{Rules}
+use Rattle.sms_worker.specs.Types.{Attempt, SegmentEnd, MessageEnd}
+use Rattle.sms_message.specs.declared.message.Message.{Message}
+use Rattle.sms_message.specs.declared.rules.Rules.{Rules}
 use Rattle.sms_worker.specs.declared.work.WorkerEnd.{WorkerEnd}
 use Rattle.sms_worker.specs.ReadyState.{ReadyState}
 use Rattle.sms_driver.specs.declared.bind_end.BindEnd.{BindEnd}

@@ -5,8 +5,7 @@ use Rattle.sms_pdu.specs.declared.reply.Reply.{Reply}
 use Rattle.sms_pdu.specs.Reply.{AnswersOf}
 use Rattle.sms_worker.specs.Apart.{IsAttempt, PlacesApart}
 use Rattle.sms_worker.specs.Told.{HeardSince}
-use Rattle.sms_worker.specs.declared.ends.Attempt.{Attempt}
-use Rattle.sms_worker.specs.declared.ends.MessageEnd.{MessageEnd}
+use Rattle.sms_worker.specs.Types.{Attempt, MessageEnd}
 use Rattle.sms_driver.specs.Seated.{of_bind}
 
 -- an attempt with a reply: of which worker, of which of its messages, of which part, and which of its attempts

@@ -5,7 +5,7 @@ use Rattle.sms_bind.specs.declared.down.DownCause.TheVariants as cause
 use Rattle.sms_worker.specs.Closing.{IsClosed, NoneIsClosed}
 use Rattle.sms_worker.specs.declared.closure.ClosedBy.{ClosedBy}
 use Rattle.sms_worker.specs.declared.closure.ClosedBy.TheVariants.{Down, Turns}
-use Rattle.sms_worker.specs.declared.ends.MessageEnd.{MessageEnd}
+use Rattle.sms_worker.specs.Types.{MessageEnd}
 use Rattle.sms_driver.specs.declared.bind_end.BindEnd.{BindEnd}
 use Rattle.sms_driver.specs.declared.bind_end.BindClosing.{BindClosing}
 use Rattle.sms_driver.specs.declared.bind_end.DownBy.{DownBy}

@@ -5,8 +5,7 @@ use Rattle.sms_window.specs.declared.outcome.Closed.{Closed}
 use Rattle.sms_window.specs.declared.view.View.{View}
 use Rattle.sms_window.specs.Rule.{numbers_of}
 use Rattle.sms_worker.specs.Apart.{IsAttempt, NumbersApart}
-use Rattle.sms_worker.specs.declared.ends.Attempt.{Attempt}
-use Rattle.sms_worker.specs.declared.ends.MessageEnd.{MessageEnd}
+use Rattle.sms_worker.specs.Types.{Attempt, MessageEnd}
 use Rattle.sms_driver.specs.declared.bind_end.BindEnd.{BindEnd}
 use Rattle.sms_driver.specs.Answered.{ends_at}
 use Rattle.sms_driver.specs.Seated.{of_bind}

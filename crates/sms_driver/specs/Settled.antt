@@ -4,11 +4,10 @@ use Rattle.std.specs.List.{AllZip}
 use Rattle.sms_core.specs.Rows.{reserved_of, charged_of, returned_of}
 use Rattle.sms_book.specs.Shares.{Share, AreAll}
 use Rattle.sms_book.specs.Sums.{over_shares}
-use Rattle.sms_worker.specs.declared.message.Message.{Message}
-use Rattle.sms_worker.specs.declared.rules.Rules.{Rules}
-use Rattle.sms_worker.specs.declared.ends.MessageEnd.{MessageEnd}
-use Rattle.sms_worker.specs.declared.ends.SegmentEnd.{SegmentEnd}
-use Rattle.sms_worker.specs.Ends.{credits, total}
+use Rattle.sms_message.specs.declared.message.Message.{Message}
+use Rattle.sms_message.specs.declared.rules.Rules.{Rules}
+use Rattle.sms_worker.specs.Types.{MessageEnd, SegmentEnd}
+use Rattle.sms_message.specs.Ends.{credits, total}
 use Rattle.sms_deal.specs.Deals.{dealt}
 use Rattle.sms_worker.specs.EndOf.{IsEndOf}
 

@@ -1,7 +1,7 @@
 -- What the threads of a sending are given, and what comes back of them.
 use Rattle.std.specs.Prelude.{◌≡◌, ◌≤◌, ℕ, List, [], length, map, take, Option, vec_capacity}
 use Rattle.std.specs.List.{AllByRecursion, AllZip}
-use Rattle.sms_worker.specs.declared.rules.Rules.{Rules}
+use Rattle.sms_message.specs.declared.rules.Rules.{Rules}
 use Rattle.sms_driver.specs.declared.latch.Latch.{Latch}
 use Rattle.sms_unbind.specs.declared.binds.DriverSeat.{DriverSeat}
 use Rattle.sms_unbind.specs.declared.binds.SharedBind.{SharedBind}

@@ -6,7 +6,7 @@ ghost use Rattle.rtrb.specs.Ring.{IsPair};
 ghost use Rattle.sms_book.specs.Portions.{row_at};
 ghost use Rattle.sms_book.specs.Shares.{AreAll};
 ghost use Rattle.sms_book.specs.Sums.{IsSumOf};
-ghost use Rattle.sms_worker.specs.declared.ends.MessageEnd.{MessageEnd};
+ghost use Rattle.sms_worker.specs.Types.{MessageEnd};
 ghost use Rattle.sms_driver.specs.BindEnds.{outcome_of, AreBinds};
 ghost use Rattle.sms_unbind.specs.Unbinds.{HasTried};
 ghost use Rattle.sms_driver.specs.Closings.{AreTold};

@@ -4,7 +4,7 @@ ghost use Rattle.std.specs.Prelude.{◌≡◌, ℕ, ◌+◌, ◌*◌, ◌<◌, �
 ghost use Rattle.std.specs.List.{AllByRecursion, AllZip};
 ghost use Rattle.sms_book.specs.Shares.{opening_shares};
 ghost use Rattle.sms_worker.specs.EndOf.{IsEndOf};
-ghost use Rattle.sms_worker.specs.declared.message.Message.{Message};
+ghost use Rattle.sms_message.specs.declared.message.Message.{Message};
 ghost use Rattle.rtrb.specs.Ring.{received, IsPair};
 ghost use Rattle.sms_driver.specs.Answered.{AreHeard, Hears};
 ghost use Rattle.sms_driver.specs.BindEnds.{AreBinds};

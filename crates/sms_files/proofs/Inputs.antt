@@ -1,7 +1,7 @@
 -- Files that were read as accounts or as messages have no fault.
 use Rattle.std.proofs.Common.{◌≡◌, List, [], ◌∷◌, Some, None, IfSome}
 use Rattle.sms_book.specs.declared.opening.Opening.{Opening}
-use Rattle.sms_worker.specs.declared.message.Message.{Message}
+use Rattle.sms_message.specs.declared.message.Message.{Message}
 use Rattle.sms_files.specs.Accounts.{AreAccounts, accounts_fault}
 use Rattle.sms_files.specs.Fields.{Field, Record, records_of}
 use Rattle.sms_files.specs.Inputs.{Told, HasAccounts, HasMessages}

@@ -1,7 +1,7 @@
 -- The rows of a messages file, and the messages that they are.
 use Rattle.std.specs.Prelude.{◌≡◌, ℕ, ◌+◌, suc, List, [], ◌∷◌, Option, Some, None, option_map, if◌then◌else◌, string_bytes}
 use Rattle.std.specs.Str.{bytes_eq}
-use Rattle.sms_worker.specs.declared.message.Message.{Message}
+use Rattle.sms_message.specs.declared.message.Message.{Message}
 use Rattle.sms_files.specs.Fields.{Field, Record}
 use Rattle.sms_files.specs.Messages.{messages_fault}
 use Rattle.sms_files.specs.declared.message_rows.MessageRow.{MessageRow}

@@ -9,7 +9,7 @@ use crate::fault::InputFault;
 use crate::message_rows::read_messages;
 use crate::rates::{read_tariff, tariff_of};
 use sms_book::{Opening, Tariff};
-use sms_worker::Message;
+use sms_message::Message;
 use std::alloc::Global;
 use std::io::Read;
 

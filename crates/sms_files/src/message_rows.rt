@@ -13,7 +13,7 @@ use crate::records::FromRecord;
 use crate::rows::{Headed, read_rows};
 use csv::ByteRecord;
 use sms_book::Opening;
-use sms_worker::Message;
+use sms_message::Message;
 use std::alloc::{AllocError, Global};
 use std::io::Read;
 

@@ -7,11 +7,10 @@ use Rattle.sms_core.specs.declared.request.Phase.{Phase}
 use Rattle.sms_core.specs.declared.row.Row.{Row}
 use Rattle.sms_core.specs.Rows.{IsBalanced, reserved_of, charged_of, returned_of}
 use Rattle.sms_book.specs.declared.opening.Opening.{Opening}
-use Rattle.sms_worker.specs.declared.message.Message.{Message}
-use Rattle.sms_worker.specs.Ends.{phase_of}
+use Rattle.sms_message.specs.declared.message.Message.{Message}
+use Rattle.sms_message.specs.Ends.{phase_of}
 use Rattle.sms_journal.specs.declared.rows.Sums.{Sums}
-use Rattle.sms_journal.specs.declared.told.PartTold.{PartTold}
-use Rattle.sms_journal.specs.declared.told.MessageTold.{MessageTold}
+use Rattle.sms_journal.specs.Types.{PartTold, MessageTold}
 use Rattle.sms_journal.specs.Sums.{AreCovered, AreFew, AreSums, AreSumsBefore, Fits, FitsAt, HasAdded, HasCredit, IsCovered, IsGrown, IsSmall, credit_told, credits_told, no_sums, over_parts, parts_in, row_told, row_with, sum_parts}
 
 -- ---- lists

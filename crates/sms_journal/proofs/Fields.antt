@@ -14,8 +14,8 @@ use Rattle.std.specs.Str.Parse.{digits_value}
 use Rattle.sms_core.specs.Decimal.{decimal_in}
 use Rattle.sms_pdu.specs.declared.reply.Reply.{Reply}
 use Rattle.sms_pdu.specs.Reply.{before, before_zero}
-use Rattle.sms_worker.specs.declared.ends.MessageRefusal.{MessageRefusal}
-use Rattle.sms_worker.specs.declared.ends.MessageRefusal.TheVariants.{NoAccount, NoCredit, TooLong, BadAddress, BindClosed, OutOfMemory}
+use Rattle.sms_message.specs.declared.ends.MessageRefusal.{MessageRefusal}
+use Rattle.sms_message.specs.declared.ends.MessageRefusal.TheVariants.{NoAccount, NoCredit, TooLong, BadAddress, BindClosed, OutOfMemory}
 use Rattle.sms_journal.specs.declared.note.Call.{Call}
 use Rattle.sms_journal.specs.declared.note.Note.{Note}
 use Rattle.sms_journal.specs.declared.note.Note.TheVariants.{Begun, Sent, Unsent, Heard, Refused, End}

@@ -6,16 +6,14 @@ use Rattle.std.proofs.lemmas.List.{take-append-le}
 use Rattle.std.proofs.lemmas.Option.{slice_get_within}
 use Rattle.sms_core.specs.Replies.{AreRetried}
 use Rattle.sms_pdu.specs.declared.reply.Reply.{Reply}
-use Rattle.sms_worker.specs.declared.message.Message.{Message}
-use Rattle.sms_worker.specs.declared.rules.Rules.{Rules}
-use Rattle.sms_worker.specs.declared.ends.MessageRefusal.{MessageRefusal}
+use Rattle.sms_message.specs.declared.message.Message.{Message}
+use Rattle.sms_message.specs.declared.rules.Rules.{Rules}
+use Rattle.sms_message.specs.declared.ends.MessageRefusal.{MessageRefusal}
 use Rattle.sms_journal.specs.declared.note.Call.{Call}
 use Rattle.sms_journal.specs.declared.note.Note.{Note}
 use Rattle.sms_journal.specs.declared.note.Note.TheVariants.{Begun, Sent, Unsent, Heard, Refused, End}
-use Rattle.sms_journal.specs.declared.told.PartTold.{PartTold}
-use Rattle.sms_journal.specs.declared.told.Tried.{Tried}
-use Rattle.sms_journal.specs.declared.told.ResultTold.{ResultTold}
-use Rattle.sms_journal.specs.declared.told.ResultTold.TheVariants as result
+use Rattle.sms_journal.specs.Types.{PartTold, Tried, ResultTold}
+use Rattle.sms_message.specs.declared.ends.MessageResult.TheVariants as result
 use Rattle.sms_journal.specs.Recovered.{ArePartsTold, IsRefusalTold, IsResultTold, answers_told, fate_in, fate_of, start_in, start_of, tried, tried_in, tries_of}
 use Rattle.sms_journal.specs.Sums.{parts_in}
 use Rattle.sms_journal.specs.Lawful.{IsJournal, IsOver, MayFollow}

@@ -1,17 +1,15 @@
 -- The notes tell one end of each message.
 use Rattle.std.proofs.Common.{◌≡◌, ℕ, suc, ◌+◌, List, [], ◌∷◌, length, Some, None, refl, sym, ap, ◌∙◌, subst, arith}
 use Rattle.std.specs.Prelude.{Option, slice_get}
-use Rattle.sms_worker.specs.declared.message.Message.{Message}
-use Rattle.sms_worker.specs.declared.rules.Rules.{Rules}
-use Rattle.sms_worker.specs.declared.ends.Outcome.{Outcome}
-use Rattle.sms_worker.specs.declared.ends.Outcome.TheVariants as outs
-use Rattle.sms_worker.specs.declared.ends.MessageRefusal.{MessageRefusal}
-use Rattle.sms_worker.specs.Ends.{phase_of}
+use Rattle.sms_message.specs.declared.message.Message.{Message}
+use Rattle.sms_message.specs.declared.rules.Rules.{Rules}
+use Rattle.sms_message.specs.declared.ends.Outcome.{Outcome}
+use Rattle.sms_message.specs.declared.ends.Outcome.TheVariants as outs
+use Rattle.sms_message.specs.declared.ends.MessageRefusal.{MessageRefusal}
+use Rattle.sms_message.specs.Ends.{phase_of}
 use Rattle.sms_journal.specs.declared.note.Note.{Note}
-use Rattle.sms_journal.specs.declared.told.PartTold.{PartTold}
-use Rattle.sms_journal.specs.declared.told.Tried.{Tried}
-use Rattle.sms_journal.specs.declared.told.ResultTold.{ResultTold}
-use Rattle.sms_journal.specs.declared.told.ResultTold.TheVariants.{Sent, Refused}
+use Rattle.sms_journal.specs.Types.{PartTold, Tried, ResultTold}
+use Rattle.sms_message.specs.declared.ends.MessageResult.TheVariants.{Sent, Refused}
 use Rattle.sms_journal.specs.Recovered.{IsPartTold, IsRefusalTold, IsResultTold, start_of, answers_told}
 use Rattle.sms_core.specs.Replies.{outcome_of}
 use Rattle.sms_journal.specs.Laws.{ToldOnce}
@@ -42,9 +40,9 @@ refusal_once rules m (Some (Some x)) r s h g = h ∙ sym g
 part_once : (rules : Rules) (notes : List Note) (m : Message) (p : ℕ) (s t : PartTold) → IsPartTold rules notes m p s → IsPartTold rules notes m p t → s ≡ t
 part_once rules notes m p s t h g =
     let cost : s.cost ≡ t.cost = h.cost ∙ sym g.cost in
-    let tries : s.tries ≡ t.tries = h.tries ∙ sym g.tries in
+    let tries : s.attempts ≡ t.attempts = h.tries ∙ sym g.tries in
     let outcome : s.outcome ≡ t.outcome = phase_once s.outcome t.outcome (sym h.outcome ∙ ap (λ (l : List Tried). outcome_of (answers_told l)) tries ∙ g.outcome) in
-    λ i. record { cost = cost i; tries = tries i; outcome = outcome i }
+    λ i. record { cost = cost i; attempts = tries i; outcome = outcome i }
 
 list_once : {X : Type 0} (P : ℕ → X → Type 0) → ((p : ℕ) (x y : X) → P p x → P p y → x ≡ y) → (xs ys : List X) → length xs ≡ length ys
     → ((p : ℕ) (x : X) → slice_get xs p ≡ Some x → P p x) → ((p : ℕ) (x : X) → slice_get ys p ≡ Some x → P p x) → xs ≡ ys

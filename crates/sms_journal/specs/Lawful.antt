@@ -2,10 +2,10 @@
 use Rattle.std.specs.Prelude.{◌≡◌, ℕ, ◌==◌, ◌&&◌, ◌<◌, ◌≤◌, List, length, Option, Some, None, IsSome, true, slice_get, take, if◌then◌else◌}
 use Rattle.sms_core.specs.Replies.{is_retry}
 use Rattle.sms_pdu.specs.declared.reply.Reply.{Reply}
-use Rattle.sms_worker.specs.declared.message.Message.{Message}
-use Rattle.sms_worker.specs.declared.rules.Rules.{Rules}
-use Rattle.sms_worker.specs.Submits.{message_parts}
-use Rattle.sms_worker.specs.Told.{IsKnown, IsShort}
+use Rattle.sms_message.specs.declared.message.Message.{Message}
+use Rattle.sms_message.specs.declared.rules.Rules.{Rules}
+use Rattle.sms_message.specs.Submits.{message_parts}
+use Rattle.sms_message.specs.Admission.{IsKnown, IsShort}
 use Rattle.sms_journal.specs.declared.note.Call.{Call}
 use Rattle.sms_journal.specs.declared.note.Note.{Note}
 use Rattle.sms_journal.specs.declared.note.Note.TheVariants.{Begun, Sent, Unsent, Heard, Refused, End}

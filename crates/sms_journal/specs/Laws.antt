@@ -4,14 +4,13 @@ use Rattle.std.specs.List.{AllByRecursion}
 use Rattle.sms_core.specs.Statuses.{no_error}
 use Rattle.sms_core.specs.Replies.{AreRetried}
 use Rattle.sms_pdu.specs.declared.reply.Reply.{Reply}
-use Rattle.sms_worker.specs.declared.ends.Outcome.TheVariants.{Charged}
-use Rattle.sms_worker.specs.declared.message.Message.{Message}
-use Rattle.sms_worker.specs.declared.rules.Rules.{Rules}
+use Rattle.sms_message.specs.declared.ends.Outcome.TheVariants.{Charged}
+use Rattle.sms_message.specs.declared.message.Message.{Message}
+use Rattle.sms_message.specs.declared.rules.Rules.{Rules}
 use Rattle.sms_journal.specs.declared.note.Call.{Call}
 use Rattle.sms_journal.specs.declared.note.Note.{Note}
 use Rattle.sms_journal.specs.declared.note.Note.TheVariants.{Sent, Heard}
-use Rattle.sms_journal.specs.declared.told.PartTold.{PartTold}
-use Rattle.sms_journal.specs.declared.told.MessageTold.{MessageTold}
+use Rattle.sms_journal.specs.Types.{PartTold, MessageTold}
 use Rattle.sms_journal.specs.Lawful.{IsJournal}
 use Rattle.sms_journal.specs.Recovered.{answers_told, IsPartTold, IsTold}
 use Rattle.sms_journal.specs.Lines.{AreNotes, IsNote, IsU64}
@@ -38,7 +37,7 @@ ChargesAreHeard = (rules : Rules) (notes : List Note) (m : Message) (p : ℕ) (s
 abbrev pub ChargesStay : Type 0
 ChargesStay =
     (rules : Rules) (notes later : List Note) (m : Message) (p : ℕ) (s t : PartTold) → IsPartTold rules notes m p s → IsPartTold rules (notes ++ later) m p t
-    → AreRetried (answers_told t.tries) → s.outcome ≡ Charged → t.outcome ≡ Charged
+    → AreRetried (answers_told t.attempts) → s.outcome ≡ Charged → t.outcome ≡ Charged
 
 -- what is told of a message is told by the notes alone
 abbrev pub ToldOnce : Type 0

@@ -5,21 +5,19 @@ use Rattle.sms_core.specs.Replies.{outcome_of}
 use Rattle.sms_core.specs.Replies as core
 use Rattle.sms_pdu.specs.declared.reply.Reply.{Reply}
 use Rattle.sms_book.specs.Tariffs.{cost_of}
-use Rattle.sms_worker.specs.declared.message.Message.{Message}
-use Rattle.sms_worker.specs.declared.rules.Rules.{Rules}
-use Rattle.sms_worker.specs.declared.ends.MessageRefusal.{MessageRefusal}
-use Rattle.sms_worker.specs.declared.ends.MessageRefusal.TheVariants.{BindClosed, TooLong}
-use Rattle.sms_worker.specs.Ends.{phase_of}
+use Rattle.sms_message.specs.declared.message.Message.{Message}
+use Rattle.sms_message.specs.declared.rules.Rules.{Rules}
+use Rattle.sms_message.specs.declared.ends.MessageRefusal.{MessageRefusal}
+use Rattle.sms_message.specs.declared.ends.MessageRefusal.TheVariants.{BindClosed, TooLong}
+use Rattle.sms_message.specs.Ends.{phase_of}
 use Rattle.sms_segment.specs.Message.{IsTooLong}
-use Rattle.sms_worker.specs.Submits.{coded_text, message_parts, reference_of}
-use Rattle.sms_worker.specs.Told.{IsShort, read_reply}
+use Rattle.sms_message.specs.Submits.{coded_text, message_parts, reference_of}
+use Rattle.sms_message.specs.Admission.{IsShort}
+use Rattle.sms_message.specs.Results.{read_reply}
 use Rattle.sms_journal.specs.declared.note.Note.{Note}
 use Rattle.sms_journal.specs.declared.note.Note.TheVariants.{Begun, Sent, Unsent, Heard, Refused, End}
-use Rattle.sms_journal.specs.declared.told.Tried.{Tried}
-use Rattle.sms_journal.specs.declared.told.PartTold.{PartTold}
-use Rattle.sms_journal.specs.declared.told.ResultTold.{ResultTold}
-use Rattle.sms_journal.specs.declared.told.ResultTold.TheVariants as result
-use Rattle.sms_journal.specs.declared.told.MessageTold.{MessageTold}
+use Rattle.sms_journal.specs.Types.{Tried, PartTold, ResultTold, MessageTold}
+use Rattle.sms_message.specs.declared.ends.MessageResult.TheVariants as result
 
 -- the first that f finds in a list
 abbrev pub or_else : {X : Type 0} → Option X → Option X → Option X
@@ -52,9 +50,9 @@ fate_of notes worker number = first_in (fate_in worker number) notes
 
 -- a request that the wire was handed, with its answer if there is one
 abbrev pub tried : ℕ → Option (Option Reply) → List Tried
-tried number None = record { number = number; reply = None } ∷ []
+tried number None = record { number = number; sent = tt; reply = None } ∷ []
 tried number (Some None) = []
-tried number (Some (Some reply)) = record { number = number; reply = Some reply } ∷ []
+tried number (Some (Some reply)) = record { number = number; sent = tt; reply = Some reply } ∷ []
 
 -- ---- a part
 
@@ -77,8 +75,8 @@ answers_told tries = map (λ t. read_reply t.reply) tries
 -- its cost, its requests, and what these come to
 pub record IsPartTold (rules : Rules) (notes : List Note) (m : Message) (p : ℕ) (s : PartTold) : Type 0 where
   pub cost : s.cost ≡ cost_of rules.tariff (string_bytes m.dest)
-  pub tries : s.tries ≡ tries_of notes m.index p
-  pub outcome : outcome_of (answers_told s.tries) ≡ phase_of s.outcome
+  pub tries : s.attempts ≡ tries_of notes m.index p
+  pub outcome : outcome_of (answers_told s.attempts) ≡ phase_of s.outcome
 
 -- ---- a message
 

@@ -1,7 +1,7 @@
 -- The text of a journal: a header, and a line for each note. Lines are records of CSV, of which no field wants quotes.
 use Rattle.std.specs.Prelude.{ℕ, ◌+◌, ◌/◌, ◌%◌, ◌==◌, ◌&&◌, not, nat_le, nat_lt, Bool, List, [], ◌∷◌, ◌++◌, Option, Some, None, if◌then◌else◌, codes, decimal, flat_map}
-use Rattle.sms_worker.specs.declared.ends.MessageRefusal.{MessageRefusal}
-use Rattle.sms_worker.specs.declared.ends.MessageRefusal.TheVariants.{NoAccount, NoCredit, TooLong, BadAddress, BindClosed, OutOfMemory}
+use Rattle.sms_message.specs.declared.ends.MessageRefusal.{MessageRefusal}
+use Rattle.sms_message.specs.declared.ends.MessageRefusal.TheVariants.{NoAccount, NoCredit, TooLong, BadAddress, BindClosed, OutOfMemory}
 use Rattle.sms_journal.specs.declared.header.Digests.{Digests}
 use Rattle.sms_journal.specs.declared.note.Note.{Note}
 use Rattle.sms_journal.specs.declared.note.Note.TheVariants.{Begun, Sent, Unsent, Heard, Refused, End}

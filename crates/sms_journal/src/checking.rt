@@ -2,9 +2,9 @@
 
 ghost use Rattle.std.specs.Prelude.{◌≡◌, ◌≢◌, ◌↔◌, ℕ, ◌+◌, ◌==◌, if◌then◌else◌, ◌∷◌, [], ◌++◌, List, Some, None, IfOk, IfSome, IsNone, IsSome, IsErrOf, IsTrue, OnOk, nat_eq};
 ghost use Rattle.std.specs.HashMap.{get};
-ghost use Rattle.sms_worker.specs.Told.{IsKnown};
-ghost use Rattle.sms_worker.specs.declared.message.Message.{Message as TheMessage};
-ghost use Rattle.sms_worker.specs.declared.rules.Rules.{Rules as TheRules};
+ghost use Rattle.sms_message.specs.Admission.{IsKnown};
+ghost use Rattle.sms_message.specs.declared.message.Message.{Message as TheMessage};
+ghost use Rattle.sms_message.specs.declared.rules.Rules.{Rules as TheRules};
 ghost use Rattle.sms_journal.specs.declared.note.Note.{Note as TheNote};
 ghost use Rattle.sms_journal.specs.Recovered.{or_else, start_of};
 ghost use Rattle.sms_journal.specs.Lawful.{HasParts, IsFirstFault, IsJournal, MayFollow, MaySend, message_of};
@@ -17,7 +17,7 @@ use crate::note::{Call, Note};
 use crate::parts::part_count;
 use crate::seen::{Seen, keep_count, keep_latest, keep_sent, keep_start, keep_try, part_key};
 use sms_core::is_retry;
-use sms_worker::{Message, Rules};
+use sms_message::{Message, Rules};
 use std::alloc::{AllocError, Global};
 use std::collections::HashMap;
 
@@ -80,8 +80,8 @@ fn parts_of(
 
 impl Seen {
     ghost use Rattle.std.specs.Prelude.{◌≡◌, ◌↔◌, ℕ, List, IsTrue, OnOk, ◌++◌, ◌∷◌, []};
-    ghost use Rattle.sms_worker.specs.declared.message.Message.{Message as TheMessage};
-    ghost use Rattle.sms_worker.specs.declared.rules.Rules.{Rules as TheRules};
+    ghost use Rattle.sms_message.specs.declared.message.Message.{Message as TheMessage};
+    ghost use Rattle.sms_message.specs.declared.rules.Rules.{Rules as TheRules};
     ghost use Rattle.sms_journal.specs.declared.note.Note.{Note as TheNote};
     ghost use Rattle.sms_journal.specs.Lawful.{IsAbove, IsOpen, IsOver, MayTry};
     ghost use Rattle.sms_journal.specs.Recovered.{fate_of};

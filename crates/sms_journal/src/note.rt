@@ -1,7 +1,7 @@
 //! What is noted.
 
+use sms_message::MessageRefusal;
 use sms_pdu::Reply;
-use sms_worker::MessageRefusal;
 
 /// One request of a run: the worker that sends it, and its sequence_number.
 #[derive(Clone, Copy, Debug, PartialEq, Eq)]

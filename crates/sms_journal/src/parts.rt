@@ -2,11 +2,11 @@
 
 ghost use Rattle.std.specs.Prelude.{◌≡◌, ◌≤◌, IfOk, IfSome, IsNone, length};
 ghost use Rattle.sms_segment.specs.Message.{IsTooLong};
-ghost use Rattle.sms_worker.specs.Submits.{coded_text, message_parts, reference_of};
+ghost use Rattle.sms_message.specs.Submits.{coded_text, message_parts, reference_of};
 
 use sms_alphabet::choose;
+use sms_message::{Message, Rules};
 use sms_segment::{CutError, Reference, cut};
-use sms_worker::{Message, Rules};
 use std::alloc::{AllocError, Global};
 
 /// The reference that a message's parts have in common.

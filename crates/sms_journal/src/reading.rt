@@ -6,8 +6,8 @@ ghost use Rattle.sms_journal.specs.declared.reading.Escape.TheVariants.{Plain};
 
 use crate::note::{Call, Note};
 use sms_core::decimal_of;
+use sms_message::MessageRefusal;
 use sms_pdu::{MessageId, Reply, reply_of};
-use sms_worker::MessageRefusal;
 use std::alloc::AllocError;
 
 /// Whether a field ends here.

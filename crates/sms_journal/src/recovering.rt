@@ -4,10 +4,10 @@ ghost use Rattle.std.specs.Prelude.{◌≡◌, ℕ, ◌+◌, ◌≤◌, None, So
 ghost use Rattle.std.specs.List.{AllZip};
 ghost use Rattle.sms_core.specs.Replies.{outcome_of};
 ghost use Rattle.sms_segment.specs.Message.{IsTooLong};
-ghost use Rattle.sms_worker.specs.Ends.{phase_of};
-ghost use Rattle.sms_worker.specs.Told.{IsShort};
-ghost use Rattle.sms_worker.specs.Submits.{coded_text, message_parts, reference_of};
-ghost use Rattle.sms_journal.specs.declared.told.PartTold.{PartTold};
+ghost use Rattle.sms_message.specs.Ends.{phase_of};
+ghost use Rattle.sms_message.specs.Admission.{IsShort};
+ghost use Rattle.sms_message.specs.Submits.{coded_text, message_parts, reference_of};
+ghost use Rattle.sms_journal.specs.Types.{PartTold};
 ghost use Rattle.sms_journal.specs.Index.{AreFates, own_of};
 ghost use Rattle.sms_journal.specs.Recovered.{start_in, start_of, listed, tried_in, tries_of, answers_told, IsPartTold, IsResultTold, IsTold};
 
@@ -17,8 +17,8 @@ use crate::note::Note;
 use crate::parts::part_count;
 use crate::told::{MessageTold, PartTold, Parts, ResultTold, Tried, Tries};
 use sms_core::is_charge;
+use sms_message::{Message, MessageRefusal, Outcome, Rules};
 use sms_pdu::Reply;
-use sms_worker::{Message, MessageRefusal, Outcome, Rules};
 use std::alloc::{AllocError, Global};
 use std::collections::HashMap;
 
@@ -85,11 +85,13 @@ fn told_try(
     match fate(notes, fates, call.worker, number) {
         None => Some(Tried {
             number,
+            sent: (),
             reply: None,
         }),
         Some(None) => None,
         Some(Some(reply)) => Some(Tried {
             number,
+            sent: (),
             reply: Some(reply),
         }),
     }
@@ -156,7 +158,7 @@ fn part_told(
     let tries = Tries::new(tries);
     Ok(PartTold {
         cost,
-        tries,
+        attempts: tries,
         outcome,
     })
 }

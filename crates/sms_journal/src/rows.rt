@@ -4,7 +4,7 @@ ghost use Rattle.std.specs.Prelude.{◌≡◌, ℕ, ◌+◌, ◌≤◌, ◌∷�
 ghost use Rattle.sms_core.specs.Rows.{IsBalanced, charged_of, reserved_of, returned_of};
 ghost use Rattle.sms_core.specs.declared.row.Row.{Row as TheRow};
 ghost use Rattle.sms_book.specs.declared.opening.Opening.{Opening as TheOpening};
-ghost use Rattle.sms_worker.specs.Ends.{phase_of};
+ghost use Rattle.sms_message.specs.Ends.{phase_of};
 ghost use Rattle.sms_journal.specs.declared.rows.Sums.{Sums as TheSums};
 ghost use Rattle.sms_journal.specs.Sums.{AreCovered, AreFew, AreSums, Fits, FitsAt, HasAdded, IsGrown, IsSmall, no_sums as nothing, parts_in, row_told, row_with};
 ghost use Rattle.sms_journal.specs.declared.error.JournalError.TheVariants.{Overdrawn};
@@ -13,7 +13,7 @@ use crate::error::JournalError;
 use crate::told::{MessageTold, PartTold, ResultTold};
 use sms_book::Opening;
 use sms_core::Row;
-use sms_worker::{Message, Outcome};
+use sms_message::{Message, Outcome};
 use std::alloc::{AllocError, Global};
 
 /// What the parts of an account's messages come to, in credits.

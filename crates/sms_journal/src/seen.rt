@@ -8,8 +8,8 @@ ghost use Rattle.sms_journal.specs.Seen.{count_in, latest_in, try_in};
 
 use crate::index::key;
 use crate::note::{Call, Note};
+use sms_message::MessageRefusal;
 use sms_pdu::Reply;
-use sms_worker::MessageRefusal;
 use std::alloc::{AllocError, Global};
 use std::collections::HashMap;
 

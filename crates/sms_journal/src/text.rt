@@ -6,8 +6,8 @@ ghost use Rattle.sms_journal.specs.Text.{flag as flag_of, id_octet, id_text, is_
 
 use crate::header::write_hex_octet;
 use crate::note::{Call, Note};
+use sms_message::MessageRefusal;
 use sms_pdu::{MessageId, Reply};
-use sms_worker::MessageRefusal;
 use std::alloc::AllocError;
 use std::fmt::Write;
 

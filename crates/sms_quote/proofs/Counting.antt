@@ -7,7 +7,7 @@ use Rattle.std.proofs.lemmas.List.{take_more, take-append-le}
 use Rattle.std.proofs.lemmas.Bool.{eqb-true, eqb-false, eq-eqb}
 use Rattle.sms_book.specs.declared.opening.Opening.{Opening}
 use Rattle.sms_book.specs.Tariffs.{Price}
-use Rattle.sms_worker.specs.declared.message.Message.{Message}
+use Rattle.sms_message.specs.declared.message.Message.{Message}
 use Rattle.sms_quote.specs.declared.quote.Quote.{Quote}
 use Rattle.sms_quote.specs.declared.quote.Verdict.{Verdict}
 use Rattle.sms_quote.specs.declared.quote.Verdict.TheVariants.{Passes, NoAccount, BadAddress, TooLong, NoCredit}

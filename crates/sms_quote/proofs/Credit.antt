@@ -10,22 +10,21 @@ use Rattle.sms_book.specs.Alone.{opening_at}
 use Rattle.sms_book.specs.Openings.{credits_of}
 use Rattle.sms_book.specs.Portions.{topped_at}
 use Rattle.sms_book.specs.Tariffs.{cost_of}
-use Rattle.sms_worker.specs.declared.message.Message.{Message}
-use Rattle.sms_worker.specs.declared.rules.Rules.{Rules}
-use Rattle.sms_worker.specs.declared.ends.MessageEnd.{MessageEnd}
-use Rattle.sms_worker.specs.declared.ends.MessageRefusal.{MessageRefusal}
-use Rattle.sms_worker.specs.declared.ends.MessageRefusal.TheVariants as refusal
-use Rattle.sms_worker.specs.declared.ends.MessageResult.{MessageResult}
-use Rattle.sms_worker.specs.declared.ends.MessageResult.TheVariants.{Refused, Sent}
-use Rattle.sms_worker.specs.declared.ends.Outcome.{Outcome}
-use Rattle.sms_worker.specs.declared.ends.Outcome.TheVariants as outcome
-use Rattle.sms_worker.specs.declared.ends.SegmentEnd.{SegmentEnd}
+use Rattle.sms_message.specs.declared.message.Message.{Message}
+use Rattle.sms_message.specs.declared.rules.Rules.{Rules}
+use Rattle.sms_worker.specs.Types.{MessageEnd, MessageResult, SegmentEnd}
+use Rattle.sms_message.specs.declared.ends.MessageRefusal.{MessageRefusal}
+use Rattle.sms_message.specs.declared.ends.MessageRefusal.TheVariants as refusal
+use Rattle.sms_message.specs.declared.ends.MessageResult.TheVariants.{Refused, Sent}
+use Rattle.sms_message.specs.declared.ends.Outcome.{Outcome}
+use Rattle.sms_message.specs.declared.ends.Outcome.TheVariants as outcome
 use Rattle.sms_worker.specs.Credit.{price_of}
 use Rattle.sms_worker.specs.EndOf.{IsEndOf}
-use Rattle.sms_worker.specs.Ends.{credit, credits, phase_of, segments_in, total_in}
-use Rattle.sms_worker.specs.Submits.{HasAddresses}
-use Rattle.sms_worker.specs.Told.{HasSegments, IsKnown, IsResultOf}
-use Rattle.sms_worker.specs.Told as told
+use Rattle.sms_message.specs.Ends.{credit, credits, phase_of, segments_in, total_in}
+use Rattle.sms_message.specs.Submits.{HasAddresses}
+use Rattle.sms_message.specs.Results.{HasSegments, IsResultOf}
+use Rattle.sms_message.specs.Admission.{IsKnown}
+use Rattle.sms_message.specs.Admission as told
 use Rattle.sms_quote.specs.declared.quote.Quote.{Quote}
 use Rattle.sms_quote.specs.declared.quote.Verdict.{Verdict}
 use Rattle.sms_quote.specs.declared.quote.Verdict.TheVariants.{Passes, NoAccount, BadAddress, TooLong, NoCredit}

@@ -2,15 +2,15 @@
 use Rattle.std.proofs.Common.{◌≡◌, ℕ, suc, ◌*◌, List, [], ◌∷◌, length, Some, refl, sym, ap, ◌∙◌, subst, inl, inr, arith, zero-mul, suc-mul}
 use Rattle.std.specs.Prelude.{slice_get, string_bytes}
 use Rattle.sms_book.specs.Tariffs.{cost_of}
-use Rattle.sms_worker.specs.declared.message.Message.{Message}
-use Rattle.sms_worker.specs.declared.rules.Rules.{Rules}
-use Rattle.sms_worker.specs.declared.ends.MessageRefusal.{MessageRefusal}
-use Rattle.sms_worker.specs.declared.ends.MessageRefusal.TheVariants as refusal
-use Rattle.sms_worker.specs.declared.ends.MessageResult.{MessageResult}
-use Rattle.sms_worker.specs.declared.ends.SegmentEnd.{SegmentEnd}
+use Rattle.sms_message.specs.declared.message.Message.{Message}
+use Rattle.sms_message.specs.declared.rules.Rules.{Rules}
+use Rattle.sms_message.specs.declared.ends.MessageRefusal.{MessageRefusal}
+use Rattle.sms_message.specs.declared.ends.MessageRefusal.TheVariants as refusal
+use Rattle.sms_worker.specs.Types.{MessageResult, SegmentEnd}
 use Rattle.sms_worker.specs.EndOf.{IsSegmentEnd}
-use Rattle.sms_worker.specs.Ends.{segments_in, total_in}
-use Rattle.sms_worker.specs.Told.{HasSegments, IsRefusalOf, IsResultOf}
+use Rattle.sms_message.specs.Ends.{segments_in, total_in}
+use Rattle.sms_message.specs.Results.{HasSegments, IsResultOf}
+use Rattle.sms_message.specs.Admission.{IsRefusalOf}
 use Rattle.sms_quote.specs.declared.quote.Quote.{Quote}
 use Rattle.sms_quote.specs.declared.quote.Verdict.{Verdict}
 use Rattle.sms_quote.specs.declared.quote.Verdict.TheVariants.{Passes, NoAccount, BadAddress, TooLong, NoCredit}

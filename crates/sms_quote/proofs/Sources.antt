@@ -1,9 +1,9 @@
 -- Which texts are a source.
 use Rattle.std.proofs.Common.{◌≡◌, ◌↔◌, IsTrue, ℕ, Bool, true, false, List, [], ◌∷◌, length, inl, inr, refl, sym, ◌∙◌, subst, rules, arith, true≢false}
 use Rattle.std.specs.Prelude.{◌==◌, string_bytes}
-use Rattle.sms_worker.specs.declared.message.Message.{Message}
-use Rattle.sms_worker.specs.Addresses.{Address, IsDestination, IsName, IsNumber, IsSource, as_name, as_number, no_address}
-use Rattle.sms_worker.specs.Submits.{HasAddresses}
+use Rattle.sms_message.specs.declared.message.Message.{Message}
+use Rattle.sms_message.specs.Addresses.{Address, IsDestination, IsName, IsNumber, IsSource, as_name, as_number, no_address}
+use Rattle.sms_message.specs.Submits.{HasAddresses}
 
 never : (b : Bool) → b ≡ false → IsTrue b → ⊥
 never true fails holds = true≢false fails

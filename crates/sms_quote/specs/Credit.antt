@@ -6,11 +6,11 @@ use Rattle.sms_book.specs.Name.{BookId}
 use Rattle.sms_book.specs.Openings.{credits_of}
 use Rattle.sms_book.specs.Portions.{amounts_at, no_amounts}
 use Rattle.sms_book.specs.Shares.{Share}
-use Rattle.sms_worker.specs.declared.message.Message.{Message}
-use Rattle.sms_worker.specs.declared.rules.Rules.{Rules}
-use Rattle.sms_worker.specs.declared.ends.MessageEnd.{MessageEnd}
-use Rattle.sms_worker.specs.declared.ends.MessageRefusal.TheVariants as refusal
-use Rattle.sms_worker.specs.declared.ends.MessageResult.TheVariants.{Refused}
+use Rattle.sms_message.specs.declared.message.Message.{Message}
+use Rattle.sms_message.specs.declared.rules.Rules.{Rules}
+use Rattle.sms_worker.specs.Types.{MessageEnd}
+use Rattle.sms_message.specs.declared.ends.MessageRefusal.TheVariants as refusal
+use Rattle.sms_message.specs.declared.ends.MessageResult.TheVariants.{Refused}
 use Rattle.sms_worker.specs.Credit.{LackCredit}
 use Rattle.sms_worker.specs.EndOf.{IsEndOf}
 use Rattle.sms_worker.specs.Told.{Grew}

@@ -4,7 +4,7 @@ use Rattle.std.specs.Option.{option_map_or}
 use Rattle.sms_book.specs.declared.opening.Opening.{Opening}
 use Rattle.sms_book.specs.Tariffs.{Price}
 use Rattle.sms_report.specs.Report.{field_text}
-use Rattle.sms_worker.specs.declared.message.Message.{Message}
+use Rattle.sms_message.specs.declared.message.Message.{Message}
 use Rattle.sms_quote.specs.declared.quote.Quote.{Quote}
 use Rattle.sms_quote.specs.declared.quote.Verdict.{Verdict}
 use Rattle.sms_quote.specs.declared.quote.Verdict.TheVariants.{Passes, NoAccount, BadAddress, TooLong, NoCredit}

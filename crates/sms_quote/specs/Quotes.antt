@@ -7,9 +7,9 @@ use Rattle.sms_segment.specs.declared.place.Reference.TheVariants.{Short, Long}
 use Rattle.sms_segment.specs.Message.{IsTooLong, parts_of}
 use Rattle.sms_book.specs.declared.opening.Opening.{Opening}
 use Rattle.sms_book.specs.Tariffs.{Price, cost_of}
-use Rattle.sms_worker.specs.declared.message.Message.{Message}
-use Rattle.sms_worker.specs.Submits.{HasAddresses, coded_text}
-use Rattle.sms_worker.specs.Told.{IsKnown}
+use Rattle.sms_message.specs.declared.message.Message.{Message}
+use Rattle.sms_message.specs.Submits.{HasAddresses, coded_text}
+use Rattle.sms_message.specs.Admission.{IsKnown}
 use Rattle.sms_quote.specs.declared.quote.Quote.{Quote}
 use Rattle.sms_quote.specs.declared.quote.Verdict.{Verdict}
 use Rattle.sms_quote.specs.declared.quote.Verdict.TheVariants.{Passes, NoAccount, BadAddress, TooLong, NoCredit}

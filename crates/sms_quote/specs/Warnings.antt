@@ -1,6 +1,6 @@
 -- What is told of texts that look as if a quote had been left open in the messages file.
 use Rattle.std.specs.Prelude.{ℕ, ◌+◌, ◌==◌, nat_le, if◌then◌else◌, Bool, List, [], ◌∷◌, ◌++◌, codes, decimal, string_bytes}
-use Rattle.sms_worker.specs.declared.message.Message.{Message}
+use Rattle.sms_message.specs.declared.message.Message.{Message}
 
 -- how many commas there are
 abbrev pub commas : List ℕ → ℕ

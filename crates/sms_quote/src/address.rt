@@ -1,11 +1,11 @@
 //! Whether a message's addresses are good.
 
 ghost use Rattle.std.specs.Prelude.{◌↔◌, ◌≡◌, false, IsTrue};
-ghost use Rattle.sms_worker.specs.Addresses.{Address, IsName, IsNumber, IsSource};
-ghost use Rattle.sms_worker.specs.Submits.{HasAddresses};
+ghost use Rattle.sms_message.specs.Addresses.{Address, IsName, IsNumber, IsSource};
+ghost use Rattle.sms_message.specs.Submits.{HasAddresses};
 
 use sms_book::without_plus;
-use sms_worker::Message;
+use sms_message::Message;
 
 /// Whether it is a number: 1 to 20 digits, and maybe a `+` before them.
 fn is_number(text: &[u8]) -> bool

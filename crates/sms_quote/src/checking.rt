@@ -1,15 +1,15 @@
 //! The checks of a message.
 
 ghost use Rattle.std.specs.Prelude.{◌≡◌, ◌↔◌, ◌≤◌, ◌*◌, IfOk, IsTrue};
-ghost use Rattle.sms_worker.specs.Told.{IsKnown};
+ghost use Rattle.sms_message.specs.Admission.{IsKnown};
 ghost use Rattle.sms_quote.specs.Quotes.{IsChecked, IsCounted, IsPartCount, IsQuoteOf, reference_for as its_reference};
 
 use crate::address::has_addresses;
 use crate::quote::{Quote, Verdict};
 use sms_alphabet::choose;
 use sms_book::Tariff;
+use sms_message::Message;
 use sms_segment::{Reference, parts_in};
-use sms_worker::Message;
 use std::alloc::{AllocError, Global};
 
 fn is_known(account: Option<usize>, accounts: usize) -> bool

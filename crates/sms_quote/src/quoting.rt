@@ -8,7 +8,7 @@ use crate::checking::quote_of;
 use crate::quote::Quote;
 use crate::total::{Total, count, left_of, no_totals};
 use sms_book::{Opening, Tariff};
-use sms_worker::Message;
+use sms_message::Message;
 use std::alloc::{AllocError, Global};
 
 /// The quotes of messages, in order, and what they take of each account.

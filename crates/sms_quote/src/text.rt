@@ -9,7 +9,7 @@ use crate::quoting::quoted;
 use crate::total::Total;
 use sms_book::{Opening, Tariff};
 use sms_files::Input;
-use sms_worker::Message;
+use sms_message::Message;
 use std::alloc::{AllocError, Global};
 use std::fmt::Write;
 

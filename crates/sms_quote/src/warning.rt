@@ -4,7 +4,7 @@ ghost use Rattle.std.specs.Prelude.{◌≡◌, ◌++◌, IfOk, OnOk, string_byte
 ghost use Rattle.sms_quote.specs.Warnings.{behind_line as what_is_behind, commas, looks_open as is_open, warning_line, warning_lines};
 
 use sms_files::Input;
-use sms_worker::Message;
+use sms_message::Message;
 use std::alloc::{AllocError, Global};
 use std::fmt::Write;
 

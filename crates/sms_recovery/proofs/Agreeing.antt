@@ -4,27 +4,26 @@ use Rattle.std.specs.Prelude.{slice_get, ◌||◌}
 use Rattle.std.specs.List.{AllZip}
 use Rattle.sms_core.specs.declared.row.Row.{Row}
 use Rattle.sms_book.specs.declared.opening.Opening.{Opening}
-use Rattle.sms_worker.specs.declared.ends.Attempt.{Attempt}
-use Rattle.sms_worker.specs.declared.ends.MessageEnd.{MessageEnd}
-use Rattle.sms_worker.specs.declared.ends.MessageResult.{MessageResult}
-use Rattle.sms_worker.specs.declared.ends.MessageResult.TheVariants as ends
-use Rattle.sms_worker.specs.declared.ends.SegmentEnd.{SegmentEnd}
-use Rattle.sms_worker.specs.declared.message.Message.{Message}
-use Rattle.sms_worker.specs.declared.rules.Rules.{Rules}
+use Rattle.sms_worker.specs.Types.{Attempt, MessageEnd, MessageResult, SegmentEnd}
+use Rattle.sms_message.specs.declared.ends.MessageResult.TheVariants as ends
+use Rattle.sms_message.specs.declared.message.Message.{Message}
+use Rattle.sms_message.specs.declared.rules.Rules.{Rules}
 use Rattle.sms_journal.specs.declared.note.Note.{Note}
-use Rattle.sms_journal.specs.declared.told.MessageTold.{MessageTold}
-use Rattle.sms_journal.specs.declared.told.Tried.{Tried}
+use Rattle.sms_journal.specs.Types.{MessageTold, Tried}
 use Rattle.sms_journal.specs.Recovered.{IsTold}
 use Rattle.sms_journal.specs.Sums.{part_of_end, result_of_end, told_of_end}
 use Rattle.sms_journal.proofs.Once.{told_once}
 use Rattle.sms_report.specs.Report as report
 use Rattle.sms_recovery.specs.Laws.{NoAccountIsOverdrawn, ReportsAgree, RunsAreRecovered, StatusesAgree}
 use Rattle.sms_recovery.specs.Recovering.{AreRowsTold}
-use Rattle.sms_recovery.specs.Reports.{has_unanswered, is_open_result, last_text, part_text, part_texts, result_text, some_unanswered, told_report_of, told_texts}
+use Rattle.sms_recovery.specs.Reports.{told_report_of}
 
 -- ---- lines
 
-last_same : (attempts : List Attempt) → last_text (map (λ a. record { number = a.number; reply = a.reply }) attempts) ≡ report.last_text attempts
+abbrev bare : Attempt → Tried
+bare a = record { number = a.number; sent = tt; reply = a.reply }
+
+last_same : (attempts : List Attempt) → report.last_text (map bare attempts) ≡ report.last_text attempts
 last_same [] = refl
 last_same (a ∷ []) = refl
 last_same (a ∷ (b ∷ attempts)) = last_same (b ∷ attempts)
@@ -33,18 +32,18 @@ length_same : {X Y : Type 0} (f : X → Y) (xs : List X) → length (map f xs) �
 length_same f [] = refl
 length_same f (x ∷ xs) = ap suc (length_same f xs)
 
-part_same : (index number : ℕ) (s : SegmentEnd) → part_text index number (part_of_end s) ≡ report.segment_text index number s
-part_same index number s = λ j. report.head_text index number (length_same {Y = Tried} (λ (a : Attempt). record { number = a.number; reply = a.reply }) s.attempts j) s.outcome ++ last_same s.attempts j
+part_same : (index number : ℕ) (s : SegmentEnd) → report.segment_text index number (part_of_end s) ≡ report.segment_text index number s
+part_same index number s = λ j. report.head_text index number (length_same {Y = Tried} bare s.attempts j) s.outcome ++ last_same s.attempts j
 
-parts_same : (index number : ℕ) (ss : List SegmentEnd) → part_texts index number (map part_of_end ss) ≡ report.segment_texts index number ss
+parts_same : (index number : ℕ) (ss : List SegmentEnd) → report.segment_texts index number (map part_of_end ss) ≡ report.segment_texts index number ss
 parts_same index number [] = refl
 parts_same index number (s ∷ ss) = λ j. part_same index number s j ++ parts_same index (number + 1) ss j
 
-result_same : (index : ℕ) (r : MessageResult) → result_text index (result_of_end r) ≡ report.result_text index r
+result_same : (index : ℕ) (r : MessageResult) → report.result_text index (result_of_end r) ≡ report.result_text index r
 result_same index (ends.Sent ss) = parts_same index 1 ss
 result_same index (ends.Refused refusal) = refl
 
-texts_same : (es : List MessageEnd) → told_texts (map told_of_end es) ≡ report.end_texts es
+texts_same : (es : List MessageEnd) → report.end_texts (map told_of_end es) ≡ report.end_texts es
 texts_same [] = refl
 texts_same (e ∷ es) = λ j. result_same e.index e.result j ++ texts_same es j
 
@@ -53,15 +52,15 @@ reports_agree os es rows = λ j. report.report_header ++ texts_same es j ++ repo
 
 -- ---- the exit status
 
-parts_open : (ss : List SegmentEnd) → has_unanswered (map part_of_end ss) ≡ report.has_unanswered ss
+parts_open : (ss : List SegmentEnd) → report.has_unanswered (map part_of_end ss) ≡ report.has_unanswered ss
 parts_open [] = refl
 parts_open (s ∷ ss) = ap (λ (b : Bool). report.is_unanswered s.outcome || b) (parts_open ss)
 
-result_open : (r : MessageResult) → is_open_result (result_of_end r) ≡ report.is_open_end r
+result_open : (r : MessageResult) → report.is_open_end (result_of_end r) ≡ report.is_open_end r
 result_open (ends.Sent ss) = parts_open ss
 result_open (ends.Refused refusal) = refl
 
-some_open : (es : List MessageEnd) → some_unanswered (map told_of_end es) ≡ report.some_unanswered es
+some_open : (es : List MessageEnd) → report.some_unanswered (map told_of_end es) ≡ report.some_unanswered es
 some_open [] = refl
 some_open (e ∷ es) = λ j. result_open e.result j || some_open es j
 

@@ -1,8 +1,8 @@
 -- What is recovered of an input and of a journal, from what is recovered of its notes.
 use Rattle.std.proofs.Common.{◌≡◌, inr, subst, ℕ, List, Option}
 use Rattle.sms_book.specs.declared.opening.Opening.{Opening}
-use Rattle.sms_worker.specs.declared.message.Message.{Message}
-use Rattle.sms_worker.specs.declared.rules.Rules.{Rules}
+use Rattle.sms_message.specs.declared.message.Message.{Message}
+use Rattle.sms_message.specs.declared.rules.Rules.{Rules}
 use Rattle.sms_files.specs.declared.input.Input.{Input}
 use Rattle.sms_journal.specs.declared.note.Note.{Note}
 use Rattle.sms_journal.specs.Digests.{digests_of}

@@ -1,7 +1,6 @@
 pub mod Agreeing
 pub mod Failing
 pub mod Journals
-pub mod LastTry
 pub mod Lefts
 pub mod Printings
 pub mod Recoveries

@@ -3,11 +3,11 @@ use Rattle.std.specs.Prelude.{◌≡◌, ◌+◌, ◌≤◌, ℕ, List, Some, ma
 use Rattle.std.specs.List.{AllZip}
 use Rattle.sms_core.specs.declared.row.Row.{Row}
 use Rattle.sms_book.specs.declared.opening.Opening.{Opening}
-use Rattle.sms_worker.specs.declared.ends.MessageEnd.{MessageEnd}
-use Rattle.sms_worker.specs.declared.message.Message.{Message}
-use Rattle.sms_worker.specs.declared.rules.Rules.{Rules}
+use Rattle.sms_worker.specs.Types.{MessageEnd}
+use Rattle.sms_message.specs.declared.message.Message.{Message}
+use Rattle.sms_message.specs.declared.rules.Rules.{Rules}
 use Rattle.sms_journal.specs.declared.note.Note.{Note}
-use Rattle.sms_journal.specs.declared.told.MessageTold.{MessageTold}
+use Rattle.sms_journal.specs.Types.{MessageTold}
 use Rattle.sms_journal.specs.Recovered.{IsTold}
 use Rattle.sms_journal.specs.Sums.{told_of_end}
 use Rattle.sms_report.specs.Report.{ends_status, report_of}

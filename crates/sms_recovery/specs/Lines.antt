@@ -3,10 +3,10 @@ use Rattle.std.specs.Prelude.{ℕ, ◌==◌, ◌&&◌, nat_le, Bool, true, false
 use Rattle.std.specs.Str.{bytes_eq}
 use Rattle.csv.specs.Records.{field_at}
 use Rattle.sms_core.specs.Decimal.{decimal_in}
-use Rattle.sms_worker.specs.declared.ends.MessageRefusal.{MessageRefusal}
-use Rattle.sms_worker.specs.declared.ends.MessageRefusal.TheVariants.{NoAccount, NoCredit, TooLong, BadAddress, BindClosed, OutOfMemory}
-use Rattle.sms_worker.specs.declared.ends.Outcome.{Outcome}
-use Rattle.sms_worker.specs.declared.ends.Outcome.TheVariants.{Charged, Refused, Unanswered, Unsent}
+use Rattle.sms_message.specs.declared.ends.MessageRefusal.{MessageRefusal}
+use Rattle.sms_message.specs.declared.ends.MessageRefusal.TheVariants.{NoAccount, NoCredit, TooLong, BadAddress, BindClosed, OutOfMemory}
+use Rattle.sms_message.specs.declared.ends.Outcome.{Outcome}
+use Rattle.sms_message.specs.declared.ends.Outcome.TheVariants.{Charged, Refused, Unanswered, Unsent}
 use Rattle.sms_files.specs.Fields.{Field, Record, number_at}
 use Rattle.sms_files.specs.Rows.{field_is}
 use Rattle.sms_recovery.specs.declared.line.Ending.{Ending}

@@ -5,12 +5,12 @@ use Rattle.std.specs.List.{AllZip}
 use Rattle.sms_core.specs.declared.row.Row.{Row}
 use Rattle.sms_core.specs.Rows.{IsBalanced}
 use Rattle.sms_book.specs.declared.opening.Opening.{Opening}
-use Rattle.sms_worker.specs.declared.message.Message.{Message}
-use Rattle.sms_worker.specs.declared.rules.Rules.{Rules}
+use Rattle.sms_message.specs.declared.message.Message.{Message}
+use Rattle.sms_message.specs.declared.rules.Rules.{Rules}
 use Rattle.sms_files.specs.declared.input.Input.{Input as TheInput}
 use Rattle.sms_journal.specs.declared.header.Digests.{Digests}
 use Rattle.sms_journal.specs.declared.note.Note.{Note}
-use Rattle.sms_journal.specs.declared.told.MessageTold.{MessageTold}
+use Rattle.sms_journal.specs.Types.{MessageTold}
 use Rattle.sms_journal.specs.Digests.{digests_of}
 use Rattle.sms_journal.specs.Lawful.{IsFirstFault, IsJournal}
 use Rattle.sms_journal.specs.Lines.{IsBadRecord, IsJournalText}

@@ -4,7 +4,7 @@ use Rattle.sms_book.specs.Tariffs.{Price}
 use Rattle.sms_files.specs.declared.config.Flags.{Flags}
 use Rattle.sms_files.specs.declared.config.Retry.{Retry}
 use Rattle.sms_files.specs.declared.limits.Limits.{Limits}
-use Rattle.sms_worker.specs.declared.rules.Rules.{Rules}
+use Rattle.sms_message.specs.declared.rules.Rules.{Rules}
 
 -- they say what the config and the tariff say
 pub record IsRulesOf (retry : Retry) (limits : Limits) (flags : Flags) (tariff : List Price) (rules : Rules) : Type 0 where

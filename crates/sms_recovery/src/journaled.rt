@@ -11,12 +11,11 @@ ghost use Rattle.sms_recovery.specs.Faults.{output_failed};
 ghost use Rattle.sms_recovery.specs.declared.fault.RecoveryFault.TheVariants.{Journal, OutOfMemory, Overdrawn};
 
 use crate::fault::RecoveryFault;
-use crate::reporting::{status_told, write_told_report};
 use sms_book::Opening;
 use sms_core::Row;
 use sms_journal::{JournalError, MessageTold, Note, check_notes, recover, rows_told};
-use sms_report::OutputFault;
-use sms_worker::{Message, Rules};
+use sms_message::{Message, Rules};
+use sms_report::{OutputFault, exit_status_of, write_rows_report};
 use std::alloc::Global;
 use std::io::Write;
 
@@ -77,8 +76,8 @@ fn print_told<W: Write>(
     ensures refused { IfErr result (IsCut (told_report_of openings.now told.now rows.now) (W.contents output.old) (W.contents output.new)) }
     ensures quiet { IfErr result (λ fault. fault ≢ output_failed → output.new ≡ output.old) }
 {
-    match write_told_report(alloc, openings, told, rows, output) {
-        Ok(()) => Ok(status_told(told)),
+    match write_rows_report(alloc, openings, told, rows, output) {
+        Ok(()) => Ok(exit_status_of(told)),
         Err(OutputFault::Output(unwritten)) => Err(RecoveryFault::Output(unwritten)),
         Err(OutputFault::OutOfMemory) => Err(RecoveryFault::OutOfMemory),
     }

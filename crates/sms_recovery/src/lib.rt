@@ -13,7 +13,6 @@ mod line;
 mod printing;
 mod records;
 mod recovering;
-mod reporting;
 mod rest;
 mod rules;
 mod stage;

@@ -7,7 +7,7 @@ ghost use Rattle.sms_recovery.specs.Lines.{account_in, amount_in, ending_in as e
 
 use csv::ByteRecord;
 use sms_core::decimal_of;
-use sms_worker::{MessageRefusal, Outcome};
+use sms_message::{MessageRefusal, Outcome};
 
 /// What a line says of a part, or of a message that was refused as a whole.
 #[derive(Clone, Copy, Debug, PartialEq, Eq)]

@@ -4,7 +4,7 @@ ghost use Rattle.sms_recovery.specs.Rules.{IsRulesOf};
 
 use sms_book::Tariff;
 use sms_files::{Flags, Limits, Retry};
-use sms_worker::Rules;
+use sms_message::Rules;
 
 /// The rules of the run's workers. None of them takes a turn here.
 pub fn rules_of(retry: Retry, limits: Limits, flags: Flags, tariff: Tariff) -> Rules

@@ -1,7 +1,7 @@
 -- How many messages tallies count.
 use Rattle.std.proofs.Common.{◌≡◌, ℕ, Bool, ◌+◌, ◌-◌, ◌≤◌, List, [], ◌∷◌, length, arith}
 use Rattle.std.proofs.lemmas.List.Sums.{sum_by-cons}
-use Rattle.sms_worker.specs.declared.ends.MessageEnd.{MessageEnd}
+use Rattle.sms_message.specs.declared.ends.MessageEnd.{MessageEnd}
 use Rattle.sms_report.specs.declared.tally.Standing.{Standing}
 use Rattle.sms_report.specs.declared.tally.Standing.TheVariants.{Waiting, Charged, Refused, Unanswered}
 use Rattle.sms_report.specs.Laws.{EachIsCountedOnce, TogetherCountNoMore}
@@ -15,10 +15,10 @@ counts_one Charged = omega arith
 counts_one Refused = omega arith
 counts_one Unanswered = omega arith
 
-more : (test : Standing → Bool) (end : MessageEnd) (ends : List MessageEnd) → count_of test (end ∷ ends) ≡ one_if (test (message_standing end)) + count_of test ends
+more : {S : Type 0} → (test : Standing → Bool) (end : MessageEnd S) (ends : List (MessageEnd S)) → count_of test (end ∷ ends) ≡ one_if (test (message_standing end)) + count_of test ends
 more test end ends = sum_by-cons (λ e. one_if (test (message_standing e))) end ends
 
-counts : (ends : List MessageEnd) → count_of is_charged ends + count_of is_refused ends + count_of is_unanswered ends ≤ length ends
+counts : {S : Type 0} → (ends : List (MessageEnd S)) → count_of is_charged ends + count_of is_refused ends + count_of is_unanswered ends ≤ length ends
 counts [] = omega arith
 counts (end ∷ ends) = omega (arith, counts ends, counts_one (message_standing end), more is_charged end ends, more is_refused end ends, more is_unanswered end ends)
 

@@ -2,8 +2,8 @@
 use Rattle.std.proofs.Common.{◌≡◌, ℕ, ◌+◌, ◌||◌, ◌<◌, Bool, true, false, List, length, take, get_or, ap, ◌∙◌, sym, refl, arith}
 use Rattle.std.specs.List.{list_any}
 use Rattle.std.proofs.lemmas.List.Folds.{list_any_more}
-use Rattle.sms_worker.specs.declared.ends.MessageEnd.{MessageEnd}
-use Rattle.sms_worker.specs.declared.ends.SegmentEnd.{SegmentEnd}
+use Rattle.sms_message.specs.declared.ends.MessageEnd.{MessageEnd}
+use Rattle.sms_message.specs.declared.ends.SegmentEnd.{SegmentEnd}
 use Rattle.sms_report.specs.declared.tally.Standing.{Standing}
 use Rattle.sms_report.specs.declared.tally.Standing.TheVariants.{Waiting, Charged, Refused, Unanswered}
 use Rattle.sms_report.specs.declared.tally.Tally.{Tally}
@@ -29,12 +29,12 @@ joined_is false false false Charged = refl
 joined_is false false false Refused = refl
 joined_is false false false Unanswered = refl
 
-any_more : (test : Standing → Bool) (segments : List SegmentEnd) (i : ℕ) (d : SegmentEnd) → i < length segments
+any_more : {S : Type 0} → (test : Standing → Bool) (segments : List (SegmentEnd S)) (i : ℕ) (d : SegmentEnd S) → i < length segments
     → list_any (λ s. test (segment_standing s)) (take (i + 1) segments) ≡ (list_any (λ s. test (segment_standing s)) (take i segments) || test (segment_standing (get_or segments i d)))
 any_more test segments i d low = list_any_more (λ s. test (segment_standing s)) segments i d low
 
 -- what the segments come to with one more
-pub segments_more : (segments : List SegmentEnd) (i : ℕ) (x d : SegmentEnd) (old one new : Standing) → i < length segments → x ≡ get_or segments i d
+pub segments_more : {S : Type 0} → (segments : List (SegmentEnd S)) (i : ℕ) (x d : SegmentEnd S) (old one new : Standing) → i < length segments → x ≡ get_or segments i d
     → old ≡ segments_standing (take i segments) → one ≡ segment_standing x → new ≡ joined old one → new ≡ segments_standing (take (i + 1) segments)
 segments_more segments i x d old one new low is before stands joins =
     let front = take i segments in
@@ -47,7 +47,7 @@ segments_more segments i x d old one new low is before stands joins =
     ∙ sym (λ j. standing_where (waiting j) (unanswered j) (refused j))
 
 -- the tally counts these messages
-pub record Counts (tally : Tally) (ends : List MessageEnd) : Type 0 where
+pub record Counts {S : Type 0} (tally : Tally) (ends : List (MessageEnd S)) : Type 0 where
   pub charged : tally.charged ≡ capped (count_of is_charged ends)
   pub refused : tally.refused ≡ capped (count_of is_refused ends)
   pub unanswered : tally.unanswered ≡ capped (count_of is_unanswered ends)
@@ -74,7 +74,7 @@ unanswered_after Refused old c h = stays old.unanswered c h
 unanswered_after Unanswered old c h = refl
 
 -- the tally with one message more
-pub counts_more : (ends : List MessageEnd) (i : ℕ) (x d : MessageEnd) (old new : Tally) (s : Standing) → i < length ends → x ≡ get_or ends i d
+pub counts_more : {S : Type 0} → (ends : List (MessageEnd S)) (i : ℕ) (x d : MessageEnd S) (old new : Tally) (s : Standing) → i < length ends → x ≡ get_or ends i d
     → Counts old (take i ends) → s ≡ message_standing x → new ≡ counted s old → Counts new (take (i + 1) ends)
 counts_more ends i x d old new s low is before stands adds =
     record {

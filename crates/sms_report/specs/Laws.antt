@@ -1,6 +1,6 @@
 -- What is true of the line on the way, whatever is sent.
 use Rattle.std.specs.Prelude.{ℕ, ◌+◌, ◌*◌, ◌<◌, ◌≤◌, List, length}
-use Rattle.sms_worker.specs.declared.ends.MessageEnd.{MessageEnd}
+use Rattle.sms_message.specs.declared.ends.MessageEnd.{MessageEnd}
 use Rattle.sms_files.specs.Messages.{most_messages}
 use Rattle.sms_report.specs.declared.tally.Tally.{Tally}
 use Rattle.sms_report.specs.declared.tally.WayLine.{WayLine}
@@ -12,7 +12,7 @@ counted_in tally = tally.charged + tally.refused + tally.unanswered
 
 -- of these messages each is counted once at most
 abbrev pub EachIsCountedOnce : Type 0
-EachIsCountedOnce = (ends : List MessageEnd) (waiting : ℕ) → counted_in (tally_of ends waiting) ≤ length ends
+EachIsCountedOnce = (ends : List (MessageEnd (List ℕ))) (waiting : ℕ) → counted_in (tally_of ends waiting) ≤ length ends
 
 -- two tallies together count no more than each for itself
 abbrev pub TogetherCountNoMore : Type 0

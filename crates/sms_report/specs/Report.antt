@@ -3,15 +3,15 @@ use Rattle.std.specs.Prelude.{ℕ, ◌+◌, ◌==◌, ◌&&◌, ◌||◌, nat_le
 use Rattle.sms_core.specs.declared.row.Row.{Row}
 use Rattle.sms_book.specs.declared.opening.Opening.{Opening}
 use Rattle.sms_pdu.specs.declared.reply.Reply.{Reply}
-use Rattle.sms_worker.specs.declared.ends.Attempt.{Attempt}
-use Rattle.sms_worker.specs.declared.ends.MessageEnd.{MessageEnd}
-use Rattle.sms_worker.specs.declared.ends.MessageRefusal.{MessageRefusal}
-use Rattle.sms_worker.specs.declared.ends.MessageRefusal.TheVariants.{NoAccount, NoCredit, TooLong, BadAddress, BindClosed, OutOfMemory}
-use Rattle.sms_worker.specs.declared.ends.MessageResult.{MessageResult}
-use Rattle.sms_worker.specs.declared.ends.MessageResult.TheVariants as result
-use Rattle.sms_worker.specs.declared.ends.Outcome.{Outcome}
-use Rattle.sms_worker.specs.declared.ends.Outcome.TheVariants.{Charged, Refused, Unanswered, Unsent}
-use Rattle.sms_worker.specs.declared.ends.SegmentEnd.{SegmentEnd}
+use Rattle.sms_message.specs.declared.ends.Attempt.{Attempt}
+use Rattle.sms_message.specs.declared.ends.MessageEnd.{MessageEnd}
+use Rattle.sms_message.specs.declared.ends.MessageResult.{MessageResult}
+use Rattle.sms_message.specs.declared.ends.SegmentEnd.{SegmentEnd}
+use Rattle.sms_message.specs.declared.ends.MessageRefusal.{MessageRefusal}
+use Rattle.sms_message.specs.declared.ends.MessageRefusal.TheVariants.{NoAccount, NoCredit, TooLong, BadAddress, BindClosed, OutOfMemory}
+use Rattle.sms_message.specs.declared.ends.MessageResult.TheVariants as result
+use Rattle.sms_message.specs.declared.ends.Outcome.{Outcome}
+use Rattle.sms_message.specs.declared.ends.Outcome.TheVariants.{Charged, Refused, Unanswered, Unsent}
 
 -- the names of what becomes of a segment, and of why a message isn't sent
 
@@ -57,7 +57,7 @@ answer_text None = codes ",\n"
 answer_text (Some reply) = decimal reply.status ++ codes "," ++ field_text (shown_id reply.id) ++ codes "\n"
 
 -- those of the last attempt
-abbrev pub last_text : List Attempt → List ℕ
+abbrev pub last_text : {S : Type 0} → List (Attempt S) → List ℕ
 last_text [] = codes ",\n"
 last_text (attempt ∷ []) = answer_text attempt.reply
 last_text (attempt ∷ (next ∷ attempts)) = last_text (next ∷ attempts)
@@ -67,11 +67,11 @@ abbrev pub head_text : ℕ → ℕ → ℕ → Outcome → List ℕ
 head_text index part tries outcome =
     decimal index ++ codes "," ++ decimal part ++ codes "," ++ decimal tries ++ codes "," ++ outcome_name outcome ++ codes ","
 
-abbrev pub segment_text : ℕ → ℕ → SegmentEnd → List ℕ
+abbrev pub segment_text : {S : Type 0} → ℕ → ℕ → SegmentEnd S → List ℕ
 segment_text index part s = head_text index part (length s.attempts) s.outcome ++ last_text s.attempts
 
 -- a line for each segment, counted on from a part
-abbrev pub segment_texts : ℕ → ℕ → List SegmentEnd → List ℕ
+abbrev pub segment_texts : {S : Type 0} → ℕ → ℕ → List (SegmentEnd S) → List ℕ
 segment_texts index part [] = []
 segment_texts index part (s ∷ ss) = segment_text index part s ++ segment_texts index (part + 1) ss
 
@@ -80,14 +80,14 @@ abbrev pub refused_text : ℕ → MessageRefusal → List ℕ
 refused_text index refusal = decimal index ++ codes ",0,0," ++ refusal_name refusal ++ codes ",,\n"
 
 -- the lines of a message: its segments', or that of its refusal
-abbrev pub result_text : ℕ → MessageResult → List ℕ
+abbrev pub result_text : {S : Type 0} → ℕ → MessageResult S → List ℕ
 result_text index (result.Sent segments) = segment_texts index 1 segments
 result_text index (result.Refused refusal) = refused_text index refusal
 
-abbrev pub end_text : MessageEnd → List ℕ
+abbrev pub end_text : {S : Type 0} → MessageEnd S → List ℕ
 end_text e = result_text e.index e.result
 
-abbrev pub end_texts : List MessageEnd → List ℕ
+abbrev pub end_texts : {S : Type 0} → List (MessageEnd S) → List ℕ
 end_texts ends = flat_map end_text ends
 
 -- the amounts of a row, a comma before each
@@ -116,7 +116,7 @@ abbrev pub statement_header : List ℕ
 statement_header = codes "account,topped,free,reserved,charged,returned\n"
 
 -- the report and the statement
-abbrev pub report_of : List Opening → List MessageEnd → List Row → List ℕ
+abbrev pub report_of : {S : Type 0} → List Opening → List (MessageEnd S) → List Row → List ℕ
 report_of openings ends rows = report_header ++ end_texts ends ++ statement_header ++ row_texts openings rows
 
 -- a segment of the message is unanswered
@@ -124,18 +124,18 @@ abbrev pub is_unanswered : Outcome → Bool
 is_unanswered Unanswered = true
 is_unanswered _ = false
 
-abbrev pub has_unanswered : List SegmentEnd → Bool
+abbrev pub has_unanswered : {S : Type 0} → List (SegmentEnd S) → Bool
 has_unanswered [] = false
 has_unanswered (s ∷ ss) = is_unanswered s.outcome || has_unanswered ss
 
-abbrev pub is_open_end : MessageResult → Bool
+abbrev pub is_open_end : {S : Type 0} → MessageResult S → Bool
 is_open_end (result.Sent segments) = has_unanswered segments
 is_open_end (result.Refused refusal) = false
 
-abbrev pub some_unanswered : List MessageEnd → Bool
+abbrev pub some_unanswered : {S : Type 0} → List (MessageEnd S) → Bool
 some_unanswered [] = false
 some_unanswered (e ∷ es) = is_open_end e.result || some_unanswered es
 
 -- the exit status of the sender: 4 where a segment is unanswered, else 0
-abbrev pub ends_status : List MessageEnd → ℕ
+abbrev pub ends_status : {S : Type 0} → List (MessageEnd S) → ℕ
 ends_status ends = if some_unanswered ends then 4 else 0

@@ -1,9 +1,9 @@
 -- What is told at the end of a sending: how many messages and segments there were, and where the credits stand.
 use Rattle.std.specs.Prelude.{ℕ, ◌-◌, ◌/◌, ◌%◌, ◌^◌, List, ◌++◌, length, min, sum_by, codes, decimal}
 use Rattle.sms_core.specs.declared.row.Row.{Row}
-use Rattle.sms_worker.specs.declared.ends.MessageEnd.{MessageEnd}
-use Rattle.sms_worker.specs.declared.ends.MessageResult.{MessageResult}
-use Rattle.sms_worker.specs.declared.ends.MessageResult.TheVariants.{Sent, Refused}
+use Rattle.sms_message.specs.declared.ends.MessageEnd.{MessageEnd}
+use Rattle.sms_message.specs.declared.ends.MessageResult.{MessageResult}
+use Rattle.sms_message.specs.declared.ends.MessageResult.TheVariants.{Sent, Refused}
 use Rattle.sms_report.specs.declared.summary.Credits.{Credits}
 use Rattle.sms_report.specs.declared.summary.EndLine.{EndLine}
 use Rattle.sms_report.specs.declared.summary.Summary.{Summary}
@@ -13,11 +13,11 @@ abbrev pub capped : ℕ → ℕ
 capped n = min n (2 ^ 64 - 1)
 
 -- how many segments a message was sent as
-abbrev pub segments_of : MessageResult → ℕ
+abbrev pub segments_of : {S : Type 0} → MessageResult S → ℕ
 segments_of (Sent segments) = length segments
 segments_of (Refused refusal) = 0
 
-abbrev pub segments_in : MessageEnd → ℕ
+abbrev pub segments_in : {S : Type 0} → MessageEnd S → ℕ
 segments_in end = segments_of end.result
 
 -- the sums of the statement's columns
@@ -29,7 +29,7 @@ credits_of rows = record {
 }
 
 -- the messages and segments of the report, and these sums
-abbrev pub summary_of : List MessageEnd → List Row → Summary
+abbrev pub summary_of : {S : Type 0} → List (MessageEnd S) → List Row → Summary
 summary_of ends rows = record { messages = length ends; segments = capped (sum_by segments_in ends); credits = credits_of rows }
 
 -- the line that ends a sending: seconds with a tenth, cut off

@@ -1,13 +1,13 @@
 -- How far the messages of a sending are, and the line that tells it.
 use Rattle.std.specs.Prelude.{ℕ, ◌+◌, ◌-◌, ◌*◌, ◌/◌, ◌==◌, Bool, true, false, List, ◌++◌, length, Option, Some, None, if◌then◌else◌, codes, decimal, slice_get, sum_by}
 use Rattle.std.specs.List.{list_any}
-use Rattle.sms_worker.specs.declared.ends.Attempt.{Attempt}
-use Rattle.sms_worker.specs.declared.ends.MessageEnd.{MessageEnd}
-use Rattle.sms_worker.specs.declared.ends.MessageResult.{MessageResult}
-use Rattle.sms_worker.specs.declared.ends.MessageResult.TheVariants as result
-use Rattle.sms_worker.specs.declared.ends.Outcome.{Outcome}
-use Rattle.sms_worker.specs.declared.ends.Outcome.TheVariants as outcome
-use Rattle.sms_worker.specs.declared.ends.SegmentEnd.{SegmentEnd}
+use Rattle.sms_message.specs.declared.ends.Attempt.{Attempt}
+use Rattle.sms_message.specs.declared.ends.MessageEnd.{MessageEnd}
+use Rattle.sms_message.specs.declared.ends.MessageResult.{MessageResult}
+use Rattle.sms_message.specs.declared.ends.SegmentEnd.{SegmentEnd}
+use Rattle.sms_message.specs.declared.ends.MessageResult.TheVariants as result
+use Rattle.sms_message.specs.declared.ends.Outcome.{Outcome}
+use Rattle.sms_message.specs.declared.ends.Outcome.TheVariants as outcome
 use Rattle.sms_pdu.specs.declared.reply.Reply.{Reply}
 use Rattle.sms_report.specs.declared.tally.Pace.{Pace}
 use Rattle.sms_report.specs.declared.tally.Standing.{Standing}
@@ -23,17 +23,17 @@ abbrev pub open_standing : Option Reply → Standing
 open_standing None = Unanswered
 open_standing (Some reply) = Waiting
 
-abbrev pub last_standing : Option Attempt → Standing
+abbrev pub last_standing : {S : Type 0} → Option (Attempt S) → Standing
 last_standing None = Waiting
 last_standing (Some attempt) = open_standing attempt.reply
 
-abbrev pub standing_of : Outcome → List Attempt → Standing
+abbrev pub standing_of : {S : Type 0} → Outcome → List (Attempt S) → Standing
 standing_of outcome.Charged attempts = Charged
 standing_of outcome.Refused attempts = Refused
 standing_of outcome.Unsent attempts = Refused
 standing_of outcome.Unanswered attempts = last_standing (slice_get attempts (length attempts - 1))
 
-abbrev pub segment_standing : SegmentEnd → Standing
+abbrev pub segment_standing : {S : Type 0} → SegmentEnd S → Standing
 segment_standing segment = standing_of segment.outcome segment.attempts
 
 -- ---- a message
@@ -58,14 +58,14 @@ is_unanswered _ = false
 abbrev pub standing_where : Bool → Bool → Bool → Standing
 standing_where waiting unanswered refused = if waiting then Waiting else (if unanswered then Unanswered else (if refused then Refused else Charged))
 
-abbrev pub segments_standing : List SegmentEnd → Standing
+abbrev pub segments_standing : {S : Type 0} → List (SegmentEnd S) → Standing
 segments_standing segments = standing_where (list_any (λ s. is_waiting (segment_standing s)) segments) (list_any (λ s. is_unanswered (segment_standing s)) segments) (list_any (λ s. is_refused (segment_standing s)) segments)
 
-abbrev pub result_standing : MessageResult → Standing
+abbrev pub result_standing : {S : Type 0} → MessageResult S → Standing
 result_standing (result.Sent segments) = segments_standing segments
 result_standing (result.Refused refusal) = Refused
 
-abbrev pub message_standing : MessageEnd → Standing
+abbrev pub message_standing : {S : Type 0} → MessageEnd S → Standing
 message_standing end = result_standing end.result
 
 -- ---- all messages
@@ -75,11 +75,11 @@ one_if true = 1
 one_if false = 0
 
 -- how many messages have such a standing
-abbrev pub count_of : (Standing → Bool) → List MessageEnd → ℕ
+abbrev pub count_of : {S : Type 0} → (Standing → Bool) → List (MessageEnd S) → ℕ
 count_of test ends = sum_by (λ end. one_if (test (message_standing end))) ends
 
 -- how many have ended, and how: so many unanswered segments still wait for an answer
-abbrev pub tally_of : List MessageEnd → ℕ → Tally
+abbrev pub tally_of : {S : Type 0} → List (MessageEnd S) → ℕ → Tally
 tally_of ends waiting = record {
   charged = capped (count_of is_charged ends);
   refused = capped (count_of is_refused ends);

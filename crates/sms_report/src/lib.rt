@@ -22,7 +22,7 @@ pub use plan::plan_text;
 pub use replay::replay_text;
 pub use report::{
     begin_report, needs_quotes, report_text, write_answer, write_head, write_refused,
-    write_report_of, write_statement,
+    write_report_of, write_rows_report, write_statement,
 };
 pub use status::exit_status_of;
 pub use summary::{Credits, EndLine, Summary, summary_of};

@@ -10,8 +10,8 @@ use crate::fault::OutputFault;
 use crate::output::write_out;
 use sms_book::{Opening, Statement};
 use sms_core::Row;
+use sms_message::{Attempt, MessageEnd, MessageRefusal, MessageResult, Outcome, SegmentEnd};
 use sms_pdu::{MessageId, Reply};
-use sms_worker::{Attempt, MessageEnd, MessageRefusal, MessageResult, Outcome, SegmentEnd};
 use std::alloc::{AllocError, Global};
 use std::fmt::Write;
 use std::io;
@@ -105,7 +105,11 @@ fn write_id(alloc: Global, text: &mut String, id: &MessageId) -> Result<(), Allo
 }
 
 /// The status and the message_id of the last attempt's reply; both empty where it has none.
-fn write_last(alloc: Global, text: &mut String, attempts: &[Attempt]) -> Result<(), AllocError>
+fn write_last<S>(
+    alloc: Global,
+    text: &mut String,
+    attempts: &[Attempt<S>],
+) -> Result<(), AllocError>
     ensures { OnOk result (string_bytes text.new ≡ string_bytes text.old ++ last_text attempts.now) }
 {
     match attempts.last() {
@@ -148,12 +152,12 @@ pub fn write_head(
 }
 
 /// The line of the segment of a message with this number, from 1.
-fn write_segment(
+fn write_segment<S>(
     alloc: Global,
     text: &mut String,
     index: u64,
     part: usize,
-    segment: &SegmentEnd,
+    segment: &SegmentEnd<S>,
 ) -> Result<(), AllocError>
     ensures { OnOk result (string_bytes text.new ≡ string_bytes text.old ++ segment_text index part segment.now) }
 {
@@ -163,11 +167,11 @@ fn write_segment(
 }
 
 /// A line for each segment.
-fn write_segments(
+fn write_segments<S>(
     alloc: Global,
     text: &mut String,
     index: u64,
-    segments: &[SegmentEnd],
+    segments: &[SegmentEnd<S>],
 ) -> Result<(), AllocError>
     ensures { OnOk result (string_bytes text.new ≡ string_bytes text.old ++ segment_texts index 1 segments.now) }
 {
@@ -190,7 +194,7 @@ pub fn write_refused(
 }
 
 /// The lines of a message.
-fn write_end(alloc: Global, text: &mut String, end: &MessageEnd) -> Result<(), AllocError>
+fn write_end<S>(alloc: Global, text: &mut String, end: &MessageEnd<S>) -> Result<(), AllocError>
     ensures { OnOk result (string_bytes text.new ≡ string_bytes text.old ++ end_text end.now) }
 {
     match &end.result {
@@ -202,7 +206,7 @@ fn write_end(alloc: Global, text: &mut String, end: &MessageEnd) -> Result<(), A
 }
 
 /// The lines of all messages.
-fn write_ends(alloc: Global, text: &mut String, ends: &[MessageEnd]) -> Result<(), AllocError>
+fn write_ends<S>(alloc: Global, text: &mut String, ends: &[MessageEnd<S>]) -> Result<(), AllocError>
     ensures { OnOk result (string_bytes text.new ≡ string_bytes text.old ++ end_texts ends.now) }
 {
     for end in ends {
@@ -268,36 +272,52 @@ pub fn write_statement(
 }
 
 /// What is printed of what became of the messages, and of the accounts.
-pub fn report_text(
+pub fn report_text<S>(
     alloc: Global,
     openings: &[Opening],
-    ends: &[MessageEnd],
-    statement: &Statement,
+    ends: &[MessageEnd<S>],
+    rows: &[Row],
 ) -> Result<String, AllocError>
-    ensures { IfOk result (λ text. string_bytes text ≡ report_of openings.now ends.now statement.now) }
+    ensures { IfOk result (λ text. string_bytes text ≡ report_of openings.now ends.now rows.now) }
 {
     let mut text = begin_report(alloc)?;
     write_ends(alloc, &mut text, ends)?;
-    write_statement(&mut text, openings, statement.rows())?;
+    write_statement(&mut text, openings, rows)?;
     Ok(text)
 }
 
 /// Prints what became of the messages, and of the accounts. The text is formed whole before its
 /// first octet is written, so nothing is written where memory is refused.
-pub fn write_report_of<W: io::Write>(
+pub fn write_rows_report<S, W: io::Write>(
     alloc: Global,
     openings: &[Opening],
-    ends: &[MessageEnd],
+    ends: &[MessageEnd<S>],
+    rows: &[Row],
+    output: &mut W,
+) -> Result<(), OutputFault>
+    ensures written { OnOk result (Appends (W.contents output.old) (W.contents output.new) (report_of openings.now ends.now rows.now)) }
+    ensures failed { IfErr result (λ fault. (fault ≡ output_failed) ⊎ (fault ≡ OutOfMemory)) }
+
+    // Where the output failed, a front of the text was written, and else nothing.
+    ensures front { IfErr result (λ fault. fault ≡ output_failed → WritesFront (W.contents output.old) (W.contents output.new) (report_of openings.now ends.now rows.now)) }
+    ensures quiet { IfErr result (λ fault. fault ≡ OutOfMemory → output.new ≡ output.old) }
+{
+    let text = report_text(alloc, openings, ends, rows)?;
+    write_out(output, text.as_bytes())
+}
+
+/// The same of a statement.
+pub fn write_report_of<S, W: io::Write>(
+    alloc: Global,
+    openings: &[Opening],
+    ends: &[MessageEnd<S>],
     statement: &Statement,
     output: &mut W,
 ) -> Result<(), OutputFault>
     ensures written { OnOk result (Appends (W.contents output.old) (W.contents output.new) (report_of openings.now ends.now statement.now)) }
     ensures failed { IfErr result (λ fault. (fault ≡ output_failed) ⊎ (fault ≡ OutOfMemory)) }
-
-    // Where the output failed, a front of the text was written, and else nothing.
     ensures front { IfErr result (λ fault. fault ≡ output_failed → WritesFront (W.contents output.old) (W.contents output.new) (report_of openings.now ends.now statement.now)) }
     ensures quiet { IfErr result (λ fault. fault ≡ OutOfMemory → output.new ≡ output.old) }
 {
-    let text = report_text(alloc, openings, ends, statement)?;
-    write_out(output, text.as_bytes())
+    write_rows_report(alloc, openings, ends, statement.rows(), output)
 }

@@ -3,7 +3,7 @@
 ghost use Rattle.std.specs.Prelude.{◌≡◌};
 ghost use Rattle.sms_report.specs.Report.{ends_status, has_unanswered, is_open_end, is_unanswered as is_silence, some_unanswered};
 
-use sms_worker::{MessageEnd, MessageResult, Outcome, SegmentEnd};
+use sms_message::{MessageEnd, MessageResult, Outcome, SegmentEnd};
 
 /// The exit status where a segment is unanswered.
 const UNANSWERED: u8 = 4;
@@ -19,7 +19,7 @@ fn is_unanswered(outcome: Outcome) -> bool
 }
 
 /// Whether one of the segments is unanswered.
-fn is_some_unanswered(segments: &[SegmentEnd]) -> bool
+fn is_some_unanswered<S>(segments: &[SegmentEnd<S>]) -> bool
     ensures { result ≡ has_unanswered segments.now }
 {
     for segment in segments {
@@ -31,7 +31,7 @@ fn is_some_unanswered(segments: &[SegmentEnd]) -> bool
 }
 
 /// Whether a segment of the message is unanswered.
-fn is_open(end: &MessageEnd) -> bool
+fn is_open<S>(end: &MessageEnd<S>) -> bool
     ensures { result ≡ is_open_end end.now.result }
 {
     match &end.result {
@@ -41,7 +41,7 @@ fn is_open(end: &MessageEnd) -> bool
 }
 
 /// Whether a segment of one of the messages is unanswered.
-fn is_some_open(ends: &[MessageEnd]) -> bool
+fn is_some_open<S>(ends: &[MessageEnd<S>]) -> bool
     ensures { result ≡ some_unanswered ends.now }
 {
     for end in ends {
@@ -54,7 +54,7 @@ fn is_some_open(ends: &[MessageEnd]) -> bool
 
 /// The program's exit status where all was sent and printed: 4 where a segment is unanswered, so that
 /// credits stay reserved, else 0.
-pub fn exit_status_of(ends: &[MessageEnd]) -> u8
+pub fn exit_status_of<S>(ends: &[MessageEnd<S>]) -> u8
     ensures { result ≡ ends_status ends.now }
 {
     if is_some_open(ends) { UNANSWERED } else { 0 }

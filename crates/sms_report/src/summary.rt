@@ -5,7 +5,7 @@ ghost use Rattle.sms_report.specs.Summary.{capped, credits_of as credits_in, seg
 
 use sms_book::Statement;
 use sms_core::Row;
-use sms_worker::{MessageEnd, MessageResult};
+use sms_message::{MessageEnd, MessageResult};
 use std::fmt;
 
 /// Where the credits of all accounts stand. A sum past 64 bits is the greatest number.
@@ -73,7 +73,7 @@ impl Credits {
 }
 
 /// How many segments the message was sent as.
-fn segments_of(end: &MessageEnd) -> usize
+fn segments_of<S>(end: &MessageEnd<S>) -> usize
     ensures { result ≡ segments_in end.now }
 {
     match &end.result {
@@ -83,7 +83,7 @@ fn segments_of(end: &MessageEnd) -> usize
 }
 
 /// How many segments all messages were sent as.
-fn all_segments(ends: &[MessageEnd]) -> u64
+fn all_segments<S>(ends: &[MessageEnd<S>]) -> u64
     ensures { result ≡ capped (sum_by segments_in ends.now) }
 {
     let mut total = 0u64;
@@ -109,7 +109,7 @@ fn credits_of(rows: &[Row]) -> Credits
 }
 
 /// What the report and the statement come to.
-pub fn summary_of(ends: &[MessageEnd], statement: &Statement) -> Summary
+pub fn summary_of<S>(ends: &[MessageEnd<S>], statement: &Statement) -> Summary
     ensures { result ≡ summary_in ends.now statement.now }
 {
     Summary {

@@ -3,7 +3,7 @@
 ghost use Rattle.std.specs.Prelude.{◌≡◌, ◌||◌};
 ghost use Rattle.sms_report.specs.Tally.{both, counted, ended_in, is_refused, is_unanswered, is_waiting, left_of, message_standing as standing_of_message, rate_of, segment_standing as standing_of_segment, standing_where, tally_of as tally_in};
 
-use sms_worker::{MessageEnd, MessageResult, Outcome, SegmentEnd};
+use sms_message::{MessageEnd, MessageResult, Outcome, SegmentEnd};
 use std::fmt;
 
 /// How many messages have ended, and how. One whose segments ended differently is unanswered where
@@ -77,7 +77,7 @@ impl Tally {
 }
 
 /// How far a segment is. While it isn't settled its outcome is `Unanswered`.
-fn segment_standing(segment: &SegmentEnd) -> Standing
+fn segment_standing<S>(segment: &SegmentEnd<S>) -> Standing
     ensures { result ≡ standing_of_segment segment.now }
 {
     match segment.outcome {
@@ -103,7 +103,7 @@ fn joined(one: Standing, other: Standing) -> Standing
 }
 
 /// How far a message is.
-fn message_standing(end: &MessageEnd) -> Standing
+fn message_standing<S>(end: &MessageEnd<S>) -> Standing
     ensures { result ≡ standing_of_message end.now }
 {
     let MessageResult::Sent(segments) = &end.result else {
@@ -118,7 +118,7 @@ fn message_standing(end: &MessageEnd) -> Standing
 
 /// What has become of these messages, so many segments of which still wait for an answer. Such a
 /// segment looks like one that had none.
-pub fn tally_of(ends: &[MessageEnd], open: usize) -> Tally
+pub fn tally_of<S>(ends: &[MessageEnd<S>], open: usize) -> Tally
     ensures { result ≡ tally_in ends.now «open» }
 {
     let mut tally = Tally::none();

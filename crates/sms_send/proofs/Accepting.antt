@@ -8,15 +8,13 @@ use Rattle.sms_core.specs.declared.request.Phase.TheVariants as phases
 use Rattle.sms_core.specs.Statuses.{no_error}
 use Rattle.sms_core.specs.Replies.{outcome_of, outcome_of_last, is_charge}
 use Rattle.sms_pdu.specs.declared.reply.Reply.{Reply}
-use Rattle.sms_worker.specs.declared.message.Message.{Message}
-use Rattle.sms_worker.specs.declared.rules.Rules.{Rules}
-use Rattle.sms_worker.specs.declared.ends.Attempt.{Attempt}
-use Rattle.sms_worker.specs.declared.ends.MessageEnd.{MessageEnd}
-use Rattle.sms_worker.specs.declared.ends.SegmentEnd.{SegmentEnd}
+use Rattle.sms_message.specs.declared.message.Message.{Message}
+use Rattle.sms_message.specs.declared.rules.Rules.{Rules}
+use Rattle.sms_worker.specs.Types.{Attempt, MessageEnd, SegmentEnd}
 use Rattle.sms_worker.specs.EndOf.{IsEndOf}
-use Rattle.sms_worker.specs.Ends.{phase_of, segment_at, segments_in}
+use Rattle.sms_message.specs.Ends.{phase_of, segment_at, segments_in}
 use Rattle.sms_worker.specs.Rests.{Charge}
-use Rattle.sms_worker.specs.Told.{answers, read_reply}
+use Rattle.sms_message.specs.Results.{answers, read_reply}
 use Rattle.sms_driver.specs.Answered.{Answered, RestOn, ends_at}
 use Rattle.sms_deal.specs.Deals.{cons_at, dealt, next}
 use Rattle.sms_send.specs.Laws.{AcceptsLast}

@@ -4,10 +4,9 @@ use Rattle.std.specs.List.{AllZip}
 use native.Mathlib.Bridge.{le_prop}
 use Rattle.sms_worker.specs.EndOf.{IsEndOf}
 use Rattle.sms_worker.specs.Rests.{Charge}
-use Rattle.sms_worker.specs.declared.message.Message.{Message}
-use Rattle.sms_worker.specs.declared.rules.Rules.{Rules}
-use Rattle.sms_worker.specs.declared.ends.MessageEnd.{MessageEnd}
-use Rattle.sms_worker.specs.declared.ends.SegmentEnd.{SegmentEnd}
+use Rattle.sms_message.specs.declared.message.Message.{Message}
+use Rattle.sms_message.specs.declared.rules.Rules.{Rules}
+use Rattle.sms_worker.specs.Types.{MessageEnd, SegmentEnd}
 use Rattle.sms_driver.specs.Answered.{AreHeard, ends_at}
 use Rattle.sms_deal.specs.Deals.{dealt}
 use Rattle.sms_send.proofs.Accepting.{accepted, answered, apart}

@@ -4,9 +4,8 @@ use Rattle.std.proofs.lemmas.Bool.Decides.{eqb_tells}
 use Rattle.std.proofs.lemmas.List.{length-drop}
 use Rattle.std.proofs.Math.Nat.{suc-mul}
 use Rattle.std.specs.Prelude.{◌⊎◌, drop, take, slice_get}
-use Rattle.sms_worker.specs.declared.ends.MessageEnd.{MessageEnd}
-use Rattle.sms_worker.specs.declared.ends.SegmentEnd.{SegmentEnd}
-use Rattle.sms_worker.specs.Ends.{segment_at, segments_in}
+use Rattle.sms_worker.specs.Types.{MessageEnd, SegmentEnd}
+use Rattle.sms_message.specs.Ends.{segment_at, segments_in}
 use Rattle.sms_worker.specs.Rests.{Charge}
 use Rattle.sms_driver.specs.Answered.{ends_at}
 use Rattle.sms_deal.specs.Deals.{cons_at, dealt, next}

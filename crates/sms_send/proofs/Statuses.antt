@@ -4,7 +4,7 @@ use Rattle.std.specs.Prelude.{◌==◌, ◌&&◌, if◌then◌else◌}
 use Rattle.sms_report.specs.Report.{ends_status, some_unanswered}
 use Rattle.sms_send.specs.Jobs.{IsStatusBy}
 use Rattle.sms_send.specs.Statuses.{some_kept_back, status_by}
-use Rattle.sms_worker.specs.declared.ends.MessageEnd.{MessageEnd}
+use Rattle.sms_worker.specs.Types.{MessageEnd}
 
 by_segments : (strict b : Bool) (status : ℕ) → status ≡ (if b then 4 else 0) → IsStatusBy strict status
 by_segments strict true status is = inl (inr is)

@@ -4,12 +4,10 @@ use Rattle.std.specs.Io.KnownBytes.{Consumes}
 use Rattle.sms_core.specs.Statuses.{no_error}
 use Rattle.sms_pdu.specs.Reply.{AnswersOf}
 use Rattle.sms_pdu.specs.declared.reply.Reply.{Reply}
-use Rattle.sms_worker.specs.Ends.{segment_at}
+use Rattle.sms_message.specs.Ends.{segment_at}
 use Rattle.sms_worker.specs.Rests.{Charge}
-use Rattle.sms_worker.specs.declared.ends.Attempt.{Attempt}
-use Rattle.sms_worker.specs.declared.ends.MessageEnd.{MessageEnd}
-use Rattle.sms_worker.specs.declared.ends.Outcome.TheVariants.{Charged}
-use Rattle.sms_worker.specs.declared.ends.SegmentEnd.{SegmentEnd}
+use Rattle.sms_worker.specs.Types.{Attempt, MessageEnd, SegmentEnd}
+use Rattle.sms_message.specs.declared.ends.Outcome.TheVariants.{Charged}
 use Rattle.sms_driver.specs.Answered.{ends_at}
 use Rattle.sms_deal.specs.Deals.{dealt}
 use Rattle.sms_files.specs.Inputs.{Told}

@@ -4,8 +4,8 @@ use Rattle.std.specs.Io.KnownBytes.{Appends}
 use Rattle.std.specs.List.{AllZip}
 use Rattle.sms_book.specs.Openings.{credits_of}
 use Rattle.sms_worker.specs.EndOf.{IsEndOf}
-use Rattle.sms_worker.specs.Limits.{most_turns}
-use Rattle.sms_worker.specs.declared.rules.Rules.{Rules}
+use Rattle.sms_message.specs.Limits.{most_turns}
+use Rattle.sms_message.specs.declared.rules.Rules.{Rules}
 use Rattle.sms_driver.specs.Answered.{AreHeard}
 use Rattle.sms_driver.specs.BindEnds.{AreBinds}
 use Rattle.sms_deal.specs.Deals.{dealt}

@@ -1,11 +1,10 @@
 -- The exit status of a sending, with `--strict` or without.
 use Rattle.std.specs.Prelude.{ℕ, ◌==◌, ◌&&◌, ◌||◌, if◌then◌else◌, Bool, true, false, List, [], ◌∷◌}
 use Rattle.sms_report.specs.Report.{ends_status}
-use Rattle.sms_worker.specs.declared.ends.MessageEnd.{MessageEnd}
-use Rattle.sms_worker.specs.declared.ends.MessageRefusal.{MessageRefusal}
-use Rattle.sms_worker.specs.declared.ends.MessageRefusal.TheVariants.{BadAddress, BindClosed, NoAccount, NoCredit, OutOfMemory, TooLong}
-use Rattle.sms_worker.specs.declared.ends.MessageResult.{MessageResult}
-use Rattle.sms_worker.specs.declared.ends.MessageResult.TheVariants.{Refused, Sent}
+use Rattle.sms_worker.specs.Types.{MessageEnd, MessageResult}
+use Rattle.sms_message.specs.declared.ends.MessageRefusal.{MessageRefusal}
+use Rattle.sms_message.specs.declared.ends.MessageRefusal.TheVariants.{BadAddress, BindClosed, NoAccount, NoCredit, OutOfMemory, TooLong}
+use Rattle.sms_message.specs.declared.ends.MessageResult.TheVariants.{Refused, Sent}
 
 -- a message is refused so though nothing is wrong with it: its bind was lost, or memory was refused
 abbrev pub keeps_back : MessageRefusal → Bool

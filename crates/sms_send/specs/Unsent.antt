@@ -7,11 +7,10 @@ use Rattle.sms_diagnostics.specs.declared.unsent.Closing.TheVariants as closing
 use Rattle.sms_driver.specs.declared.bind_end.BindEnd.{BindEnd}
 use Rattle.sms_driver.specs.declared.bind_end.DownBy.{DownBy}
 use Rattle.sms_driver.specs.declared.bind_end.DownBy.TheVariants.{Reader, Write}
-use Rattle.sms_worker.specs.declared.ends.MessageEnd.{MessageEnd}
-use Rattle.sms_worker.specs.declared.ends.MessageRefusal.{MessageRefusal}
-use Rattle.sms_worker.specs.declared.ends.MessageRefusal.TheVariants.{BindClosed, OutOfMemory}
-use Rattle.sms_worker.specs.declared.ends.MessageResult.{MessageResult}
-use Rattle.sms_worker.specs.declared.ends.MessageResult.TheVariants.{Refused, Sent}
+use Rattle.sms_worker.specs.Types.{MessageEnd, MessageResult}
+use Rattle.sms_message.specs.declared.ends.MessageRefusal.{MessageRefusal}
+use Rattle.sms_message.specs.declared.ends.MessageRefusal.TheVariants.{BindClosed, OutOfMemory}
+use Rattle.sms_message.specs.declared.ends.MessageResult.TheVariants.{Refused, Sent}
 
 -- a connection ended so; where binds are given up for want of answers it may be for that
 abbrev pub unless_given_up : Bool → Closing → Closing

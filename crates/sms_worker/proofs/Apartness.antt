@@ -7,15 +7,12 @@ use Rattle.sms_core.specs.Numbers.{times}
 use Rattle.sms_pdu.specs.declared.reply.Reply.{Reply}
 use Rattle.sms_window.specs.declared.view.View.{View}
 use Rattle.sms_window.proofs.Drawing.{draws_each_once}
-use Rattle.sms_worker.specs.declared.message.Message.{Message}
-use Rattle.sms_worker.specs.declared.rules.Rules.{Rules}
-use Rattle.sms_worker.specs.declared.ends.Attempt.{Attempt}
-use Rattle.sms_worker.specs.declared.ends.SegmentEnd.{SegmentEnd}
-use Rattle.sms_worker.specs.declared.ends.MessageEnd.{MessageEnd}
-use Rattle.sms_worker.specs.declared.ends.MessageResult.{MessageResult}
-use Rattle.sms_worker.specs.declared.ends.MessageResult.TheVariants.{Sent, Refused as NotSent}
+use Rattle.sms_message.specs.declared.message.Message.{Message}
+use Rattle.sms_message.specs.declared.rules.Rules.{Rules}
+use Rattle.sms_worker.specs.Types.{Attempt, SegmentEnd, MessageEnd, MessageResult}
+use Rattle.sms_message.specs.declared.ends.MessageResult.TheVariants.{Sent, Refused as NotSent}
 use Rattle.sms_worker.specs.Apart.{IsAttempt, NumbersApart, PlacesApart}
-use Rattle.sms_worker.specs.Ends.{segments_in, segment_at, put_in, put, total, uses}
+use Rattle.sms_message.specs.Ends.{segments_in, segment_at, put_in, put, total, uses}
 use Rattle.sms_worker.specs.Told.{IsAnswered, AllTold, Drew}
 use Rattle.sms_worker.proofs.Tries.{all_at}
 use Rattle.sms_worker.proofs.EndLemmas.{total_put, part_at_most, get_there, get_low, end_at}

@@ -11,20 +11,21 @@ use Rattle.sms_book.specs.declared.amounts.Amounts.{Amounts}
 use Rattle.sms_book.specs.Money.{reserved_more}
 use Rattle.sms_book.specs.Portions.{amounts_at}
 use Rattle.sms_book.specs.Shares.{Share, changed}
-use Rattle.sms_worker.specs.declared.message.Message.{Message}
+use Rattle.sms_message.specs.declared.message.Message.{Message}
 use Rattle.sms_worker.specs.declared.open.Open.{Open}
-use Rattle.sms_worker.specs.declared.ends.SegmentEnd.{SegmentEnd}
-use Rattle.sms_worker.specs.declared.ends.MessageEnd.{MessageEnd}
+use Rattle.sms_worker.specs.Types.{SegmentEnd, MessageEnd}
 use Rattle.sms_worker.specs.Begins.{fresh, ready, Begins}
-use Rattle.sms_worker.specs.Ends.{total_in, credit, uses}
+use Rattle.sms_message.specs.Ends.{total_in, credit, uses}
 use Rattle.sms_worker.specs.Start.{Start}
-use Rattle.sms_worker.specs.Submits.{HasAddresses}
-use Rattle.sms_worker.specs.declared.rules.Rules.{Rules}
-use Rattle.sms_worker.specs.declared.ends.MessageRefusal.{MessageRefusal}
-use Rattle.sms_worker.specs.declared.ends.MessageRefusal.TheVariants.{NoAccount, NoCredit, TooLong, BadAddress, BindClosed, OutOfMemory}
-use Rattle.sms_worker.specs.declared.user_data.UserData.{UserData}
-use Rattle.sms_worker.specs.Told.{IsTold, IsResultOf, IsRefusalOf, IsNotCut, IsKnown}
-use Rattle.sms_worker.specs.UserData.{message_data}
+use Rattle.sms_message.specs.Submits.{HasAddresses}
+use Rattle.sms_message.specs.declared.rules.Rules.{Rules}
+use Rattle.sms_message.specs.declared.ends.MessageRefusal.{MessageRefusal}
+use Rattle.sms_message.specs.declared.ends.MessageRefusal.TheVariants.{NoAccount, NoCredit, TooLong, BadAddress, BindClosed, OutOfMemory}
+use Rattle.sms_message.specs.declared.user_data.UserData.{UserData}
+use Rattle.sms_worker.specs.Told.{IsTold}
+use Rattle.sms_message.specs.Results.{IsResultOf}
+use Rattle.sms_message.specs.Admission.{IsRefusalOf, IsNotCut, IsKnown}
+use Rattle.sms_message.specs.UserData.{message_data}
 use Rattle.sms_worker.specs.Keeps.{Keeps}
 use Rattle.sms_worker.proofs.EndLemmas.{total_append, got_of_more, got_of_append}
 use Rattle.sms_worker.proofs.Changes.{amounts_there, amounts_other}

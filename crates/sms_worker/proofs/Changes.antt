@@ -16,17 +16,16 @@ use Rattle.sms_book.specs.Portions.{amounts_at, no_amounts}
 use Rattle.sms_book.specs.Shares.{Share}
 use Rattle.sms_book.specs.Money.{charged_more, returned_more}
 use Rattle.sms_book.specs.declared.money.Move.{Move}
-use Rattle.sms_worker.specs.declared.message.Message.{Message}
-use Rattle.sms_worker.specs.declared.rules.Rules.{Rules}
-use Rattle.sms_worker.specs.declared.ends.Outcome.{Outcome}
-use Rattle.sms_worker.specs.declared.ends.Outcome.TheVariants.{Charged, Refused, Unanswered, Unsent}
-use Rattle.sms_worker.specs.declared.ends.Attempt.{Attempt}
-use Rattle.sms_worker.specs.declared.ends.SegmentEnd.{SegmentEnd}
-use Rattle.sms_worker.specs.declared.ends.MessageEnd.{MessageEnd}
-use Rattle.sms_worker.specs.declared.ends.MessageResult.{MessageResult}
-use Rattle.sms_worker.specs.declared.ends.MessageResult.TheVariants.{Sent, Refused as NotSent}
-use Rattle.sms_worker.specs.Ends.{segments_in, segment_at, put_in, put, total, credit, uses, phase_of}
-use Rattle.sms_worker.specs.Told.{IsTold, AllTold, IsKnown, IsResultOf, AreEnds, Drew, Grew}
+use Rattle.sms_message.specs.declared.message.Message.{Message}
+use Rattle.sms_message.specs.declared.rules.Rules.{Rules}
+use Rattle.sms_message.specs.declared.ends.Outcome.{Outcome}
+use Rattle.sms_message.specs.declared.ends.Outcome.TheVariants.{Charged, Refused, Unanswered, Unsent}
+use Rattle.sms_worker.specs.Types.{Attempt, SegmentEnd, MessageEnd, MessageResult}
+use Rattle.sms_message.specs.declared.ends.MessageResult.TheVariants.{Sent, Refused as NotSent}
+use Rattle.sms_message.specs.Ends.{segments_in, segment_at, put_in, put, total, credit, uses, phase_of}
+use Rattle.sms_worker.specs.Told.{IsTold, AllTold, Drew, Grew}
+use Rattle.sms_message.specs.Admission.{IsKnown}
+use Rattle.sms_message.specs.Results.{IsResultOf, AreEnds}
 use Rattle.sms_worker.specs.declared.open.Open.{Open}
 use Rattle.sms_worker.specs.Keeps.{slots_of}
 use Rattle.sms_worker.specs.Steps.{move_of, moved_to, settled_to}

@@ -7,10 +7,11 @@ use Rattle.sms_core.specs.declared.request.Phase.TheVariants as phases
 use Rattle.sms_core.specs.Statuses.{no_error}
 use Rattle.sms_core.specs.Replies.{outcome_of, outcome_of_last, is_charge}
 use Rattle.sms_pdu.specs.declared.reply.Reply.{Reply}
-use Rattle.sms_worker.specs.declared.ends.Attempt.{Attempt}
-use Rattle.sms_worker.specs.Ends.{phase_of}
+use Rattle.sms_worker.specs.Types.{Attempt}
+use Rattle.sms_message.specs.Ends.{phase_of}
 use Rattle.sms_worker.specs.Laws.{ChargesAreAnswered}
-use Rattle.sms_worker.specs.Told.{IsAnswered, answers, read_reply}
+use Rattle.sms_worker.specs.Told.{IsAnswered}
+use Rattle.sms_message.specs.Results.{answers, read_reply}
 use Rattle.sms_worker.proofs.Tries.{all_at}
 
 is_charge_of : (status : ℕ) (nack : Bool) → is_charge status nack ≡ true → (status ≡ no_error) × (nack ≡ false)

@@ -1,12 +1,10 @@
 -- Where the bind closed, as a run goes on.
 use Rattle.std.proofs.Common.{◌≡◌, ℕ, zero, suc, Bool, true, false, List, [], ◌∷◌, ◌++◌, Some, inl, inr, refl, sym, subst, arith}
 use Rattle.std.specs.Prelude.{slice_get}
-use Rattle.sms_worker.specs.declared.ends.SegmentEnd.{SegmentEnd}
-use Rattle.sms_worker.specs.declared.ends.MessageEnd.{MessageEnd}
-use Rattle.sms_worker.specs.declared.ends.MessageRefusal.TheVariants.{BindClosed}
-use Rattle.sms_worker.specs.declared.ends.MessageResult.{MessageResult}
-use Rattle.sms_worker.specs.declared.ends.MessageResult.TheVariants.{Sent, Refused as NotSent}
-use Rattle.sms_worker.specs.Ends.{put_in, with_part, put}
+use Rattle.sms_worker.specs.Types.{SegmentEnd, MessageEnd, MessageResult}
+use Rattle.sms_message.specs.declared.ends.MessageRefusal.TheVariants.{BindClosed}
+use Rattle.sms_message.specs.declared.ends.MessageResult.TheVariants.{Sent, Refused as NotSent}
+use Rattle.sms_message.specs.Ends.{put_in, with_part, put}
 use Rattle.sms_worker.specs.Closing.{IsClosed, StaysClosed, Closes}
 use Rattle.sms_worker.proofs.EndLemmas.{got_of_append, get_low}
 

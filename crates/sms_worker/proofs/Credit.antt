@@ -14,18 +14,16 @@ use Rattle.sms_book.specs.Money.{moved_amounts}
 use Rattle.sms_book.specs.Name.{BookId}
 use Rattle.sms_book.specs.Portions.{amounts_at}
 use Rattle.sms_book.specs.Shares.{Share}
-use Rattle.sms_worker.specs.declared.message.Message.{Message}
-use Rattle.sms_worker.specs.declared.rules.Rules.{Rules}
-use Rattle.sms_worker.specs.declared.ends.Outcome.{Outcome}
-use Rattle.sms_worker.specs.declared.ends.SegmentEnd.{SegmentEnd}
-use Rattle.sms_worker.specs.declared.ends.MessageEnd.{MessageEnd}
-use Rattle.sms_worker.specs.declared.ends.MessageRefusal.TheVariants.{NoCredit}
-use Rattle.sms_worker.specs.declared.ends.MessageResult.{MessageResult}
-use Rattle.sms_worker.specs.declared.ends.MessageResult.TheVariants.{Sent, Refused}
-use Rattle.sms_worker.specs.declared.user_data.UserData.{UserData}
+use Rattle.sms_message.specs.declared.message.Message.{Message}
+use Rattle.sms_message.specs.declared.rules.Rules.{Rules}
+use Rattle.sms_message.specs.declared.ends.Outcome.{Outcome}
+use Rattle.sms_worker.specs.Types.{SegmentEnd, MessageEnd, MessageResult}
+use Rattle.sms_message.specs.declared.ends.MessageRefusal.TheVariants.{NoCredit}
+use Rattle.sms_message.specs.declared.ends.MessageResult.TheVariants.{Sent, Refused}
+use Rattle.sms_message.specs.declared.user_data.UserData.{UserData}
 use Rattle.sms_worker.specs.Begins.{Begins}
 use Rattle.sms_worker.specs.Credit.{Lacks, LacksFor, LackCredit, ever, price_of}
-use Rattle.sms_worker.specs.Ends.{put_in, with_part, put}
+use Rattle.sms_message.specs.Ends.{put_in, with_part, put}
 use Rattle.sms_worker.specs.Steps.{move_of, moved_to, settled_to}
 use Rattle.sms_worker.proofs.EndLemmas.{got_of_append}
 

@@ -1,12 +1,10 @@
 -- One segment end changed, and one message end more.
 use Rattle.std.proofs.Common.{◌≡◌, ℕ, zero, suc, ◌+◌, ◌<◌, ◌≤◌, List, [], ◌∷◌, ◌++◌, length, Some, None, inl, inr, refl, sym, ap, ◌∙◌, arith}
 use Rattle.std.specs.Prelude.{◌⊎◌, Option, slice_get, slice_set, IfSome, IfNone}
-use Rattle.sms_worker.specs.declared.message.Message.{Message}
-use Rattle.sms_worker.specs.declared.ends.SegmentEnd.{SegmentEnd}
-use Rattle.sms_worker.specs.declared.ends.MessageEnd.{MessageEnd}
-use Rattle.sms_worker.specs.declared.ends.MessageResult.{MessageResult}
-use Rattle.sms_worker.specs.declared.ends.MessageResult.TheVariants.{Sent, Refused as NotSent}
-use Rattle.sms_worker.specs.Ends.{segments_in, segment_at, put_in, with_part, put, total_in, total}
+use Rattle.sms_message.specs.declared.message.Message.{Message}
+use Rattle.sms_worker.specs.Types.{SegmentEnd, MessageEnd, MessageResult}
+use Rattle.sms_message.specs.declared.ends.MessageResult.TheVariants.{Sent, Refused as NotSent}
+use Rattle.sms_message.specs.Ends.{segments_in, segment_at, put_in, with_part, put, total_in, total}
 use Rattle.sms_worker.specs.Steps.{Takes}
 
 module _ {X : Type 0} where

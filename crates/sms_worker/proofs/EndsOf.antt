@@ -2,13 +2,14 @@
 use Rattle.std.proofs.Common.{◌≡◌, ℕ, suc, List, [], ◌∷◌, length, refl, arith}
 use Rattle.std.specs.List.{AllByRecursion, AllZip}
 use Rattle.sms_pdu.specs.declared.reply.Reply.{Reply}
-use Rattle.sms_worker.specs.declared.message.Message.{Message}
-use Rattle.sms_worker.specs.declared.rules.Rules.{Rules}
-use Rattle.sms_worker.specs.declared.ends.Attempt.{Attempt}
-use Rattle.sms_worker.specs.declared.ends.MessageEnd.{MessageEnd}
-use Rattle.sms_worker.specs.Told.{AllTold, AreEnds, IsAnswered}
+use Rattle.sms_message.specs.declared.message.Message.{Message}
+use Rattle.sms_message.specs.declared.rules.Rules.{Rules}
+use Rattle.sms_worker.specs.Types.{Attempt, MessageEnd}
+use Rattle.sms_worker.specs.Told.{AllTold, IsAnswered}
+use Rattle.sms_message.specs.Results.{AreEnds}
 use Rattle.sms_worker.specs.Sweeps.{AllSettled}
-use Rattle.sms_worker.specs.EndOf.{HasItsNumber, IsEndOf}
+use Rattle.sms_message.specs.EndOf.{HasItsNumber}
+use Rattle.sms_worker.specs.EndOf.{IsEndOf}
 
 own_numbers : (before : ℕ) (received : List Reply) (attempts : List Attempt) → AllByRecursion (IsAnswered before received) attempts → AllByRecursion HasItsNumber attempts
 own_numbers before received [] all = tt

@@ -30,9 +30,8 @@ use Rattle.sms_slot.specs.declared.slot.Slot.{Slot}
 use Rattle.sms_slot.specs.declared.slot.Slot.TheVariants.{Answered}
 use Rattle.sms_book.specs.Portions.{of_worker, of_row}
 use Rattle.sms_book.specs.Sums.{MovesBy}
-use Rattle.sms_worker.specs.declared.ends.Outcome.{Outcome}
-use Rattle.sms_worker.specs.declared.ends.Attempt.{Attempt}
-use Rattle.sms_worker.specs.declared.ends.SegmentEnd.{SegmentEnd}
+use Rattle.sms_message.specs.declared.ends.Outcome.{Outcome}
+use Rattle.sms_worker.specs.Types.{Attempt, SegmentEnd}
 use Rattle.sms_worker.specs.Events.{Parts, HasMark, HasPhase, row_settled, IsEvent, ClaimIsEvent, SendingIsEvent, AnswerIsEvent, DecisionIsEvent, ExpiryIsEvent, GivingUpIsEvent, ReleaseIsEvent}
 use Rattle.sms_worker.specs.Steps.{outcome_after, with_outcome}
 use Rattle.sms_worker.proofs.Tries.{length-snoc, sent_state}

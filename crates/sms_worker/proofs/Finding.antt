@@ -1,15 +1,14 @@
 -- What a run finds to send.
 use Rattle.std.proofs.Common.{◌≡◌, ◌≢◌, ℕ, ◌<◌, ◌≤◌, List, length, Some, None, inl, inr, refl, sym, ap, ◌∙◌, subst, arith}
 use Rattle.std.specs.Prelude.{◌-◌, ◌⊎◌, ◌↔◌, IfSome, Option, slice_get}
-use Rattle.sms_worker.specs.declared.ends.MessageEnd.{MessageEnd}
-use Rattle.sms_worker.specs.declared.ends.SegmentEnd.{SegmentEnd}
+use Rattle.sms_worker.specs.Types.{MessageEnd, SegmentEnd}
 use Rattle.sms_session.specs.declared.policy.Decision.{Decision}
 use Rattle.sms_session.specs.declared.policy.Decision.TheVariants.{Charge, Refuse, RetryAfter}
-use Rattle.sms_worker.specs.declared.ends.Outcome.TheVariants.{Charged, Refused, Unanswered}
+use Rattle.sms_message.specs.declared.ends.Outcome.TheVariants.{Charged, Refused, Unanswered}
 use Rattle.sms_worker.specs.declared.open.SegmentPlace.{SegmentPlace}
 use Rattle.sms_worker.specs.declared.starting.Source.{Source}
 use Rattle.sms_worker.specs.declared.starting.Source.TheVariants.{Queue, Next}
-use Rattle.sms_worker.specs.Ends.{segment_at, segments_in}
+use Rattle.sms_message.specs.Ends.{segment_at, segments_in}
 use Rattle.sms_worker.specs.Queues.{last_in}
 use Rattle.sms_worker.specs.Rising.{HasNext}
 use Rattle.sms_worker.specs.RunState.{NewlyWait, RunState}

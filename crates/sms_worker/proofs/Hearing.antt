@@ -6,8 +6,7 @@ use Rattle.sms_session.specs.declared.policy.Decision.{Decision}
 use Rattle.sms_session.specs.declared.policy.Decision.TheVariants.{Charge, Refuse, RetryAfter}
 use Rattle.sms_session.specs.Decisions.{decided}
 use Rattle.sms_worker.specs.declared.hear.Brought.{Brought}
-use Rattle.sms_worker.specs.declared.ends.MessageEnd.{MessageEnd}
-use Rattle.sms_worker.specs.declared.ends.SegmentEnd.{SegmentEnd}
+use Rattle.sms_worker.specs.Types.{MessageEnd, SegmentEnd}
 use Rattle.sms_worker.specs.declared.hear.Brought.TheVariants as brought
 use Rattle.sms_worker.specs.declared.hear.Brought.TheVariants.{Settled, Retried}
 use Rattle.sms_worker.specs.declared.hear.Dropped.{Dropped}
@@ -17,8 +16,8 @@ use Rattle.sms_worker.specs.declared.hear.Dropped.TheVariants as why
 use Rattle.sms_worker.specs.declared.open.Open.{Open}
 use Rattle.sms_worker.specs.declared.open.SegmentPlace.{SegmentPlace}
 use Rattle.sms_worker.specs.declared.reading.Reading.{Reading}
-use Rattle.sms_worker.specs.declared.rules.Rules.{Rules}
-use Rattle.sms_worker.specs.Ends.{segment_at}
+use Rattle.sms_message.specs.declared.rules.Rules.{Rules}
+use Rattle.sms_message.specs.Ends.{segment_at}
 use Rattle.sms_worker.specs.Expiry.{without_open}
 use Rattle.sms_worker.specs.Hearing.{AreBrought, Brings, IsBrought, IsDropped}
 use Rattle.sms_worker.specs.Queues.{WaitsLast, due_after}

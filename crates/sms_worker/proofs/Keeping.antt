@@ -5,8 +5,8 @@ use Rattle.std.specs.List.{AllByRecursion}
 use Rattle.sms_pdu.specs.declared.reply.Reply.{Reply}
 use Rattle.sms_segment.specs.declared.part.Part.{Part}
 use Rattle.std.proofs.lemmas.Option.{slice_get-map}
-use Rattle.sms_worker.specs.declared.user_data.UserData.{UserData}
-use Rattle.sms_worker.specs.UserData.{user_data}
+use Rattle.sms_message.specs.declared.user_data.UserData.{UserData}
+use Rattle.sms_message.specs.UserData.{user_data}
 use Rattle.sms_session.specs.declared.policy.Decision.{Decision}
 use Rattle.sms_window.specs.SeatState.{SeatState}
 use Rattle.sms_window.specs.declared.view.View.{View}
@@ -16,19 +16,18 @@ use Rattle.sms_window.proofs.OpenSlots.{one_less_at, none_more}
 use Rattle.sms_window.proofs.Drawing.{draws_none, releases_draw_none}
 use Rattle.sms_book.specs.Shares.{Share}
 use Rattle.sms_book.specs.Portions.{amounts_at}
-use Rattle.sms_worker.specs.declared.message.Message.{Message}
-use Rattle.sms_worker.specs.declared.rules.Rules.{Rules}
+use Rattle.sms_message.specs.declared.message.Message.{Message}
+use Rattle.sms_message.specs.declared.rules.Rules.{Rules}
 use Rattle.sms_worker.specs.declared.open.Open.{Open}
-use Rattle.sms_worker.specs.declared.ends.Outcome.{Outcome}
-use Rattle.sms_worker.specs.declared.ends.Outcome.TheVariants.{Unanswered}
-use Rattle.sms_worker.specs.declared.ends.Attempt.{Attempt}
-use Rattle.sms_worker.specs.declared.ends.SegmentEnd.{SegmentEnd}
-use Rattle.sms_worker.specs.declared.ends.MessageEnd.{MessageEnd}
+use Rattle.sms_message.specs.declared.ends.Outcome.{Outcome}
+use Rattle.sms_message.specs.declared.ends.Outcome.TheVariants.{Unanswered}
+use Rattle.sms_worker.specs.Types.{Attempt, SegmentEnd, MessageEnd}
 use Rattle.sms_core.specs.Rows.{reserved_of, charged_of, returned_of}
-use Rattle.sms_worker.specs.Ends.{segment_at, put, credit, uses}
+use Rattle.sms_message.specs.Ends.{segment_at, put, credit, uses}
 use Rattle.sms_worker.specs.Start.{Start}
-use Rattle.sms_worker.specs.Submits.{SpellsSubmit, message_parts}
-use Rattle.sms_worker.specs.Told.{IsSubmit, IsAnswered, HeardSince, IsTold, IsSettled, IsWaiting, AreEnds, AreTexts, Drew, Grew}
+use Rattle.sms_message.specs.Submits.{SpellsSubmit, message_parts}
+use Rattle.sms_worker.specs.Told.{IsSubmit, IsAnswered, HeardSince, IsTold, AreTexts, Drew, Grew}
+use Rattle.sms_message.specs.Results.{IsSettled, IsWaiting, AreEnds}
 use Rattle.sms_worker.specs.Keeps.{Keeps, slots_of}
 use Rattle.sms_worker.specs.Steps.{GivesUp, Answers, with_outcome, outcome_after, number_unsent, settled_to, Tries}
 use Rattle.sms_worker.specs.declared.attempt.Tried.{Tried}

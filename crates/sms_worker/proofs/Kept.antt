@@ -9,14 +9,14 @@ use Rattle.sms_segment.specs.declared.part.Part.{Part}
 use Rattle.sms_segment.specs.declared.place.Reference.{Reference}
 use Rattle.sms_segment.specs.Laws.{PartsTellTooLong}
 use Rattle.sms_segment.specs.Message.{IsTooLong, parts_of, whole}
-use Rattle.sms_worker.specs.declared.message.Message.{Message}
-use Rattle.sms_worker.specs.declared.rules.Rules.{Rules}
+use Rattle.sms_message.specs.declared.message.Message.{Message}
+use Rattle.sms_message.specs.declared.rules.Rules.{Rules}
 use Rattle.sms_worker.specs.declared.open.SegmentPlace.{SegmentPlace}
 use Rattle.sms_worker.specs.declared.texts.Kept.{Kept}
 use Rattle.sms_worker.specs.declared.texts.Link.{Link}
 use Rattle.sms_worker.specs.TextsState.{AreUnlinked, TextsState, carried, changed, kept_at, no_texts, relinked, settled_one, texts_of, with_link}
 use Rattle.sms_worker.specs.Told.{AreTexts}
-use Rattle.sms_worker.specs.UserData.{message_data, user_data}
+use Rattle.sms_message.specs.UserData.{message_data, user_data}
 
 module _ {X : Type 0} (f : X → X) where
   pub set_changed : (xs : List X) (n : ℕ) (x y : X) → slice_get xs n ≡ Some x → y ≡ f x → slice_set xs n y ≡ changed f xs n

@@ -22,10 +22,10 @@ use Rattle.sms_core.proofs.Sound.{sound}
 use Rattle.sms_pdu.specs.declared.reply.Reply.{Reply}
 use Rattle.sms_slot.specs.declared.slot.Slot.{Slot}
 use Rattle.sms_slot.specs.declared.slot.Slot.TheVariants.{Answered}
-use Rattle.sms_worker.specs.declared.ends.Outcome.TheVariants.{Charged, Refused, Unanswered}
-use Rattle.sms_worker.specs.declared.ends.SegmentEnd.{SegmentEnd}
+use Rattle.sms_message.specs.declared.ends.Outcome.TheVariants.{Charged, Refused, Unanswered}
+use Rattle.sms_worker.specs.Types.{SegmentEnd}
 use Rattle.sms_worker.specs.Events.{Parts, HasMark, HasPhase, LeavingIsNoEvent}
-use Rattle.sms_worker.specs.Told.{IsSettled}
+use Rattle.sms_message.specs.Results.{IsSettled}
 use Rattle.sms_worker.proofs.Standing.{empty_has, request_in, some_same, not_sent}
 
 replied_mark : (request : ℕ) (slot : Slot) (answer : Option Reply) (mark : Mark) (worker number : ℕ) → slot ≡ Answered worker number → HasMark request slot answer mark

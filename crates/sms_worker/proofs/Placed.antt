@@ -4,21 +4,19 @@ use Rattle.std.specs.Prelude.{slice_get}
 use Rattle.sms_pdu.specs.declared.reply.Reply.{Reply}
 use Rattle.sms_book.specs.Shares.{Share}
 use Rattle.sms_window.specs.SeatState.{SeatState}
-use Rattle.sms_worker.specs.declared.ends.MessageEnd.{MessageEnd}
-use Rattle.sms_worker.specs.declared.ends.MessageResult.{MessageResult}
-use Rattle.sms_worker.specs.declared.ends.MessageResult.TheVariants.{Sent, Refused as NotSent}
-use Rattle.sms_worker.specs.declared.ends.SegmentEnd.{SegmentEnd}
-use Rattle.sms_worker.specs.declared.message.Message.{Message}
+use Rattle.sms_worker.specs.Types.{MessageEnd, MessageResult, SegmentEnd}
+use Rattle.sms_message.specs.declared.ends.MessageResult.TheVariants.{Sent, Refused as NotSent}
+use Rattle.sms_message.specs.declared.message.Message.{Message}
 use Rattle.sms_worker.specs.declared.open.Open.{Open}
 use Rattle.sms_worker.specs.declared.open.SegmentPlace.{SegmentPlace}
-use Rattle.sms_worker.specs.declared.user_data.UserData.{UserData}
-use Rattle.sms_worker.specs.declared.rules.Rules.{Rules}
-use Rattle.sms_worker.specs.Ends.{segment_at, segments_in}
+use Rattle.sms_message.specs.declared.user_data.UserData.{UserData}
+use Rattle.sms_message.specs.declared.rules.Rules.{Rules}
+use Rattle.sms_message.specs.Ends.{segment_at, segments_in}
 use Rattle.sms_worker.specs.Keeps.{Keeps}
 use Rattle.sms_worker.specs.Rising.{HasTurn, WasSent}
 use Rattle.sms_worker.specs.Start.{Start}
-use Rattle.sms_worker.specs.Submits.{HasAddresses}
-use Rattle.sms_worker.specs.Told.{AreEnds, IsResultOf}
+use Rattle.sms_message.specs.Submits.{HasAddresses}
+use Rattle.sms_message.specs.Results.{AreEnds, IsResultOf}
 use Rattle.sms_worker.proofs.EndLemmas.{end_at, get_low}
 
 sent_low : (es : List MessageEnd) (place : SegmentPlace) → WasSent es place → place.message < length es

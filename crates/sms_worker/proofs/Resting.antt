@@ -18,14 +18,13 @@ use Rattle.sms_pdu.specs.Reply.{answers, id_text, reply_by, reply_in, reply_with
 use Rattle.sms_slot.specs.Rings.{went_to}
 use Rattle.sms_slot.proofs.Rings.{handed-at}
 use Rattle.sms_bind.specs.Deeds.{log}
-use Rattle.sms_worker.specs.declared.message.Message.{Message}
-use Rattle.sms_worker.specs.declared.rules.Rules.{Rules}
-use Rattle.sms_worker.specs.declared.ends.MessageEnd.{MessageEnd}
-use Rattle.sms_worker.specs.declared.ends.Outcome.TheVariants.{Charged}
-use Rattle.sms_worker.specs.declared.ends.SegmentEnd.{SegmentEnd}
+use Rattle.sms_message.specs.declared.message.Message.{Message}
+use Rattle.sms_message.specs.declared.rules.Rules.{Rules}
+use Rattle.sms_worker.specs.Types.{MessageEnd, SegmentEnd}
+use Rattle.sms_message.specs.declared.ends.Outcome.TheVariants.{Charged}
 use Rattle.sms_worker.specs.Apart.{IsAttempt, PlacesApart}
 use Rattle.sms_worker.specs.EndOf.{IsEndOf}
-use Rattle.sms_worker.specs.Ends.{segment_at}
+use Rattle.sms_message.specs.Ends.{segment_at}
 use Rattle.sms_worker.specs.Laws.{HasCharge}
 use Rattle.sms_worker.specs.Rests.{Accepts, Charge, ChargesRestOnFrames, HasReceived, RestOn}
 use Rattle.sms_worker.specs.Told.{AllTold}

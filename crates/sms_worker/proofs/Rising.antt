@@ -12,21 +12,19 @@ use Rattle.sms_segment.specs.declared.part.Part.{Part}
 use Rattle.sms_session.specs.declared.policy.Decision.{Decision}
 use Rattle.sms_worker.specs.declared.attempt.Tried.{Tried}
 use Rattle.sms_worker.specs.declared.attempt.Tried.TheVariants.{Sent, Later, Never}
-use Rattle.sms_worker.specs.declared.ends.Attempt.{Attempt}
-use Rattle.sms_worker.specs.declared.ends.SegmentEnd.{SegmentEnd}
-use Rattle.sms_worker.specs.declared.ends.MessageEnd.{MessageEnd}
-use Rattle.sms_worker.specs.declared.message.Message.{Message}
+use Rattle.sms_worker.specs.Types.{Attempt, SegmentEnd, MessageEnd}
+use Rattle.sms_message.specs.declared.message.Message.{Message}
 use Rattle.sms_worker.specs.declared.open.Open.{Open}
 use Rattle.sms_worker.specs.declared.open.SegmentPlace.{SegmentPlace}
 use Rattle.sms_worker.specs.declared.queue.Queue.{Queue}
-use Rattle.sms_worker.specs.declared.rules.Rules.{Rules}
+use Rattle.sms_message.specs.declared.rules.Rules.{Rules}
 use Rattle.sms_worker.specs.declared.starting.Source.{Source}
 use Rattle.sms_worker.specs.declared.starting.Source.TheVariants as sources
 use Rattle.sms_worker.specs.declared.texts.Kept.{Kept}
 use Rattle.sms_worker.specs.declared.texts.Link.{Link}
 use Rattle.sms_worker.specs.Apart.{IsAttempt}
 use Rattle.sms_worker.specs.Begins.{ready}
-use Rattle.sms_worker.specs.Ends.{segment_at, segments_in, put, uses}
+use Rattle.sms_message.specs.Ends.{segment_at, segments_in, put, uses}
 use Rattle.sms_worker.specs.Queues.{first_in}
 use Rattle.sms_worker.specs.Rising.{AreSent, HasTurn, InOrder, IsNext, LeadsToSent, WasSent}
 use Rattle.sms_worker.specs.Steps.{Answers, Opens, Tries}

@@ -23,14 +23,13 @@ use Rattle.sms_slot.specs.declared.slot.Slot.{Slot}
 use Rattle.sms_slot.specs.declared.slot.Slot.TheVariants.{Empty}
 use Rattle.sms_book.specs.Portions.{of_worker, of_row}
 use Rattle.sms_book.specs.Sums.{MovesBy}
-use Rattle.sms_worker.specs.declared.ends.Outcome.{Outcome}
-use Rattle.sms_worker.specs.declared.ends.Outcome.TheVariants.{Charged, Refused, Unanswered, Unsent}
-use Rattle.sms_worker.specs.declared.ends.Attempt.{Attempt}
-use Rattle.sms_worker.specs.declared.ends.SegmentEnd.{SegmentEnd}
-use Rattle.sms_worker.specs.Ends.{phase_of}
+use Rattle.sms_message.specs.declared.ends.Outcome.{Outcome}
+use Rattle.sms_message.specs.declared.ends.Outcome.TheVariants.{Charged, Refused, Unanswered, Unsent}
+use Rattle.sms_worker.specs.Types.{Attempt, SegmentEnd}
+use Rattle.sms_message.specs.Ends.{phase_of}
 use Rattle.sms_worker.specs.Events.{Parts, HasMark, HasPhase, AreReserved, row_settled, amounts_settled}
 use Rattle.sms_worker.specs.Steps.{outcome_after, with_outcome, given_outcome}
-use Rattle.sms_worker.specs.Told.{IsSettled, IsWaiting, answers, read_reply}
+use Rattle.sms_message.specs.Results.{IsSettled, IsWaiting, answers, read_reply}
 use Rattle.sms_worker.proofs.Tries.{answers_snoc, outcome_snoc, answered_phase, given_state}
 
 -- checks

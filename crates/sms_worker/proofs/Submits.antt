@@ -3,11 +3,11 @@ use Rattle.std.proofs.Common.{◌≡◌, ℕ, []}
 use Rattle.sms_pdu.specs.declared.body.Pdu.{Pdu}
 use Rattle.sms_pdu.specs.declared.body.Body.TheVariants.{Submit}
 use Rattle.sms_segment.specs.declared.part.Part.{Part}
-use Rattle.sms_worker.specs.declared.rules.Rules.{Rules}
-use Rattle.sms_worker.specs.declared.user_data.UserData.{UserData}
-use Rattle.sms_worker.specs.Addresses.{Address}
-use Rattle.sms_worker.specs.Submits.{registered, submit_sm}
-use Rattle.sms_worker.specs.UserData.{user_data}
+use Rattle.sms_message.specs.declared.rules.Rules.{Rules}
+use Rattle.sms_message.specs.declared.user_data.UserData.{UserData}
+use Rattle.sms_message.specs.Addresses.{Address}
+use Rattle.sms_message.specs.Submits.{registered, submit_sm}
+use Rattle.sms_message.specs.UserData.{user_data}
 
 -- with this user data
 abbrev pub filled : Address → Address → ℕ → UserData → ℕ → Pdu

@@ -2,10 +2,9 @@
 use Rattle.std.proofs.Common.{◌≡◌, ◌≢◌, ℕ, ◌+◌, ◌<◌, List, length, Some, None, inl, inr, sym, ap, ◌∙◌, subst, arith}
 use mathlib.Core.Logic.{dite}
 use native.Mathlib.Decide.{ℕ_discrete, dec_lt}
-use Rattle.sms_worker.specs.declared.ends.SegmentEnd.{SegmentEnd}
-use Rattle.sms_worker.specs.declared.ends.MessageEnd.{MessageEnd}
-use Rattle.sms_worker.specs.Ends.{segment_at, put}
-use Rattle.sms_worker.specs.Told.{IsSettled}
+use Rattle.sms_worker.specs.Types.{SegmentEnd, MessageEnd}
+use Rattle.sms_message.specs.Ends.{segment_at, put}
+use Rattle.sms_message.specs.Results.{IsSettled}
 use Rattle.sms_worker.specs.Sweeps.{SettledTo, AllSettled, SweptAt, InPlace}
 use Rattle.sms_worker.proofs.EndLemmas.{got_of_put, put_there, no_segment}
 

@@ -12,12 +12,11 @@ use Rattle.sms_pdu.specs.declared.reply.Reply.{Reply}
 use Rattle.sms_session.specs.declared.policy.Decision.{Decision}
 use Rattle.sms_session.specs.declared.policy.Decision.TheVariants.{Charge, RetryAfter, Refuse}
 use Rattle.sms_session.specs.Decisions.{decided, delay}
-use Rattle.sms_worker.specs.declared.ends.Outcome.{Outcome}
-use Rattle.sms_worker.specs.declared.ends.Outcome.TheVariants.{Charged, Refused, Unanswered, Unsent}
-use Rattle.sms_worker.specs.declared.ends.Attempt.{Attempt}
-use Rattle.sms_worker.specs.declared.ends.SegmentEnd.{SegmentEnd}
-use Rattle.sms_worker.specs.Ends.{phase_of}
-use Rattle.sms_worker.specs.Told.{read_reply, answers, IsSettled, IsWaiting}
+use Rattle.sms_message.specs.declared.ends.Outcome.{Outcome}
+use Rattle.sms_message.specs.declared.ends.Outcome.TheVariants.{Charged, Refused, Unanswered, Unsent}
+use Rattle.sms_worker.specs.Types.{Attempt, SegmentEnd}
+use Rattle.sms_message.specs.Ends.{phase_of}
+use Rattle.sms_message.specs.Results.{read_reply, answers, IsSettled, IsWaiting}
 use Rattle.sms_worker.specs.Steps.{outcome_after, with_outcome, given_outcome}
 
 last_at : (xs : List Attempt) (n : ℕ) (a : Attempt) → slice_get xs n ≡ Some a → length xs ≡ suc n → (front : List Attempt) × (xs ≡ front ++ a ∷ [])

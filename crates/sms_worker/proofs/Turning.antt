@@ -10,21 +10,20 @@ use Rattle.sms_worker.specs.declared.attempt.Tried.{Tried}
 use Rattle.sms_worker.specs.declared.attempt.Tried.TheVariants.{Sent, Later, Never}
 use Rattle.sms_worker.specs.declared.denied.Denied.{Denied}
 use Rattle.sms_worker.specs.declared.denied.Denied.TheVariants.{Over, Numbers, Memory, Gate, Line}
-use Rattle.sms_worker.specs.declared.ends.MessageEnd.{MessageEnd}
-use Rattle.sms_worker.specs.declared.ends.SegmentEnd.{SegmentEnd}
+use Rattle.sms_worker.specs.Types.{MessageEnd, SegmentEnd}
 use Rattle.sms_worker.specs.declared.held.Held.{Held}
-use Rattle.sms_worker.specs.declared.message.Message.{Message}
+use Rattle.sms_message.specs.declared.message.Message.{Message}
 use Rattle.sms_worker.specs.declared.open.Open.{Open}
 use Rattle.sms_worker.specs.declared.open.SegmentPlace.{SegmentPlace}
 use Rattle.sms_worker.specs.declared.queue.Queue.{Queue as QueueIn}
-use Rattle.sms_worker.specs.declared.rules.Rules.{Rules}
+use Rattle.sms_message.specs.declared.rules.Rules.{Rules}
 use Rattle.sms_worker.specs.declared.starting.Idle.{Idle}
 use Rattle.sms_worker.specs.declared.starting.Idle.TheVariants.{Closed, AllBegun, Waits}
 use Rattle.sms_worker.specs.declared.starting.Source.{Source}
 use Rattle.sms_worker.specs.declared.starting.Source.TheVariants.{Queue, Next}
 use Rattle.sms_worker.specs.declared.starting.Started.{Started}
 use Rattle.sms_worker.specs.declared.starting.Started.TheVariants.{One, Nothing}
-use Rattle.sms_worker.specs.Ends.{put, segment_at}
+use Rattle.sms_message.specs.Ends.{put, segment_at}
 use Rattle.sms_worker.specs.Queues.{IsFirstDue, IsTaken, NoneIsDue, WaitsLast}
 use Rattle.sms_worker.specs.Rising.{HasNext, IsNext, IsThere}
 use Rattle.sms_worker.specs.RunState.{RunState}

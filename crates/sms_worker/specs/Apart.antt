@@ -1,10 +1,8 @@
 -- Attempts at different places of the ends.
 use Rattle.std.specs.Prelude.{◌≡◌, ℕ, List, Some, slice_get}
 use Rattle.sms_pdu.specs.declared.reply.Reply.{Reply}
-use Rattle.sms_worker.specs.declared.ends.Attempt.{Attempt}
-use Rattle.sms_worker.specs.declared.ends.SegmentEnd.{SegmentEnd}
-use Rattle.sms_worker.specs.declared.ends.MessageEnd.{MessageEnd}
-use Rattle.sms_worker.specs.Ends.{segment_at}
+use Rattle.sms_worker.specs.Types.{Attempt, SegmentEnd, MessageEnd}
+use Rattle.sms_message.specs.Ends.{segment_at}
 
 -- attempt i of part p of message k
 pub record IsAttempt (es : List MessageEnd) (k p i : ℕ) (a : Attempt) : Type 0 where

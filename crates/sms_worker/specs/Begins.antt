@@ -4,15 +4,14 @@ use Rattle.sms_core.specs.Rows.{reserved_of}
 use Rattle.sms_book.specs.Portions.{amounts_at}
 use Rattle.sms_book.specs.Shares.{Share}
 use Rattle.sms_book.specs.Tariffs.{cost_of}
-use Rattle.sms_worker.specs.declared.message.Message.{Message}
-use Rattle.sms_worker.specs.declared.rules.Rules.{Rules}
-use Rattle.sms_worker.specs.declared.ends.MessageEnd.{MessageEnd}
-use Rattle.sms_worker.specs.Ends.{segments_in, total_in, credit}
-use Rattle.sms_worker.specs.declared.user_data.UserData.{UserData}
-use Rattle.sms_worker.specs.Told.{IsResultOf}
-use Rattle.sms_worker.specs.UserData.{message_data}
-use Rattle.sms_worker.specs.declared.ends.Outcome.TheVariants.{Unanswered}
-use Rattle.sms_worker.specs.declared.ends.SegmentEnd.{SegmentEnd}
+use Rattle.sms_message.specs.declared.message.Message.{Message}
+use Rattle.sms_message.specs.declared.rules.Rules.{Rules}
+use Rattle.sms_worker.specs.Types.{MessageEnd, SegmentEnd}
+use Rattle.sms_message.specs.Ends.{segments_in, total_in, credit}
+use Rattle.sms_message.specs.declared.user_data.UserData.{UserData}
+use Rattle.sms_message.specs.Results.{IsResultOf}
+use Rattle.sms_message.specs.UserData.{message_data}
+use Rattle.sms_message.specs.declared.ends.Outcome.TheVariants.{Unanswered}
 
 -- a segment that waits for its first attempt
 abbrev pub fresh : ℕ → SegmentEnd

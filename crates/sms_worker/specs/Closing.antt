@@ -7,9 +7,9 @@ use Rattle.sms_worker.specs.declared.closure.ClosedBy.{ClosedBy}
 use Rattle.sms_worker.specs.declared.closure.ClosedBy.TheVariants as by
 use Rattle.sms_worker.specs.declared.closure.Closure.{Closure}
 use Rattle.sms_worker.specs.declared.closure.Closure.TheVariants.{Down, Turns}
-use Rattle.sms_worker.specs.declared.ends.MessageEnd.{MessageEnd}
-use Rattle.sms_worker.specs.declared.ends.MessageRefusal.TheVariants.{BindClosed}
-use Rattle.sms_worker.specs.declared.ends.MessageResult.TheVariants.{Refused}
+use Rattle.sms_worker.specs.Types.{MessageEnd}
+use Rattle.sms_message.specs.declared.ends.MessageRefusal.TheVariants.{BindClosed}
+use Rattle.sms_message.specs.declared.ends.MessageResult.TheVariants.{Refused}
 
 -- the bind was closed when the message was begun
 abbrev pub IsClosed : MessageEnd → Type 0

@@ -8,12 +8,12 @@ use Rattle.sms_book.specs.Name.{BookId}
 use Rattle.sms_book.specs.Portions.{amounts_at}
 use Rattle.sms_book.specs.Shares.{Share}
 use Rattle.sms_book.specs.Tariffs.{cost_of}
-use Rattle.sms_worker.specs.declared.message.Message.{Message}
-use Rattle.sms_worker.specs.declared.rules.Rules.{Rules}
-use Rattle.sms_worker.specs.declared.ends.MessageEnd.{MessageEnd}
-use Rattle.sms_worker.specs.declared.ends.MessageRefusal.TheVariants.{NoCredit}
-use Rattle.sms_worker.specs.declared.ends.MessageResult.TheVariants.{Refused}
-use Rattle.sms_worker.specs.Submits.{message_parts}
+use Rattle.sms_message.specs.declared.message.Message.{Message}
+use Rattle.sms_message.specs.declared.rules.Rules.{Rules}
+use Rattle.sms_worker.specs.Types.{MessageEnd}
+use Rattle.sms_message.specs.declared.ends.MessageRefusal.TheVariants.{NoCredit}
+use Rattle.sms_message.specs.declared.ends.MessageResult.TheVariants.{Refused}
+use Rattle.sms_message.specs.Submits.{message_parts}
 
 -- what all parts of a message cost
 abbrev pub price_of : Rules → Message → ℕ

@@ -1,28 +1,13 @@
--- A message and its end, for the whole of a call. It says nothing of other messages, so that it holds of lists that are dealt out and put together again.
-use Rattle.std.specs.Prelude.{◌≡◌, ℕ, Some, slice_get, string_bytes}
-use Rattle.std.specs.List.{AllByRecursion}
-use Rattle.sms_book.specs.Tariffs.{cost_of}
-use Rattle.sms_pdu.specs.declared.reply.Reply.{Reply}
-use Rattle.sms_worker.specs.declared.message.Message.{Message}
-use Rattle.sms_worker.specs.declared.rules.Rules.{Rules}
-use Rattle.sms_worker.specs.declared.ends.Attempt.{Attempt}
-use Rattle.sms_worker.specs.declared.ends.SegmentEnd.{SegmentEnd}
-use Rattle.sms_worker.specs.declared.ends.MessageEnd.{MessageEnd}
-use Rattle.sms_worker.specs.Ends.{segments_in}
-use Rattle.sms_worker.specs.Told.{IsSubmit, IsResultOf, IsSettled}
+-- A message and its end, for the whole of a call, where receipts are the evidence.
+use Rattle.std.specs.Prelude.{ℕ}
+use Rattle.sms_message.specs.declared.message.Message.{Message}
+use Rattle.sms_message.specs.declared.rules.Rules.{Rules}
+use Rattle.sms_message.specs.Submits.{SpellsSubmit}
+use Rattle.sms_message.specs.EndOf.{IsSegmentEnd as IsSegmentEndBy, IsEndOf as IsEndOfBy}
+use Rattle.sms_worker.specs.Types.{SegmentEnd, MessageEnd}
 
--- an answer has its attempt's number
-abbrev pub HasItsNumber : Attempt → Type 0
-HasItsNumber a = (r : Reply) → a.reply ≡ Some r → r.number ≡ a.number
+abbrev pub IsSegmentEnd : Rules → Message → ℕ → SegmentEnd → Type 0
+IsSegmentEnd rules m p s = IsSegmentEndBy SpellsSubmit rules m p s
 
--- the end of part p: its cost, its receipts, its answers, and its outcome
-pub record IsSegmentEnd (rules : Rules) (m : Message) (p : ℕ) (s : SegmentEnd) : Type 0 where
-  pub cost : s.cost ≡ cost_of rules.tariff (string_bytes m.dest)
-  pub sent : AllByRecursion (IsSubmit rules m p) s.attempts
-  pub answered : AllByRecursion HasItsNumber s.attempts
-  pub settled : IsSettled rules.policy.attempts s
-
-pub record IsEndOf (rules : Rules) (accounts : ℕ) (m : Message) (e : MessageEnd) : Type 0 where
-  pub index : e.index ≡ m.index
-  pub result : IsResultOf rules accounts m e.result
-  pub segments : (p : ℕ) (s : SegmentEnd) → slice_get (segments_in e.result) p ≡ Some s → IsSegmentEnd rules m p s
+abbrev pub IsEndOf : Rules → ℕ → Message → MessageEnd → Type 0
+IsEndOf rules accounts m e = IsEndOfBy SpellsSubmit rules accounts m e

@@ -32,11 +32,11 @@ use Rattle.sms_book.specs.declared.money.Move.{Move}
 use Rattle.sms_book.specs.Money.{moved_row, moved_amounts}
 use Rattle.sms_book.specs.Portions.{of_worker, of_row}
 use Rattle.sms_book.specs.Sums.{MovesBy}
-use Rattle.sms_worker.specs.declared.ends.Outcome.{Outcome}
-use Rattle.sms_worker.specs.declared.ends.Outcome.TheVariants.{Charged, Refused, Unanswered, Unsent}
-use Rattle.sms_worker.specs.declared.ends.SegmentEnd.{SegmentEnd}
+use Rattle.sms_message.specs.declared.ends.Outcome.{Outcome}
+use Rattle.sms_message.specs.declared.ends.Outcome.TheVariants.{Charged, Refused, Unanswered, Unsent}
+use Rattle.sms_worker.specs.Types.{SegmentEnd}
 use Rattle.sms_worker.specs.Steps.{Answers, GivesUp, move_of, outcome_after, with_outcome}
-use Rattle.sms_worker.specs.Told.{IsSettled, IsWaiting}
+use Rattle.sms_message.specs.Results.{IsSettled, IsWaiting}
 
 -- which request a segment is, and who sends it
 pub record Sender : Type 0 where

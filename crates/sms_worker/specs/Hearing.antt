@@ -11,7 +11,7 @@ use Rattle.sms_worker.specs.declared.hear.Brought.TheVariants.{Settled, Retried}
 use Rattle.sms_worker.specs.declared.hear.Dropped.{Dropped}
 use Rattle.sms_worker.specs.declared.hear.Dropped.TheVariants.{NoneOpen, NotAnswered, NotAwaited}
 use Rattle.sms_worker.specs.declared.open.Open.{Open}
-use Rattle.sms_worker.specs.declared.rules.Rules.{Rules}
+use Rattle.sms_message.specs.declared.rules.Rules.{Rules}
 use Rattle.sms_worker.specs.Expiry.{without_open}
 use Rattle.sms_worker.specs.Queues.{WaitsLast, due_after}
 use Rattle.sms_worker.specs.RunState.{RunState}

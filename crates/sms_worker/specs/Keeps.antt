@@ -4,12 +4,13 @@ use Rattle.sms_pdu.specs.declared.reply.Reply.{Reply}
 use Rattle.sms_window.specs.OpenSlots.{IsOpen}
 use Rattle.sms_window.specs.SeatState.{SeatState}
 use Rattle.sms_book.specs.Shares.{Share}
-use Rattle.sms_worker.specs.declared.message.Message.{Message}
-use Rattle.sms_worker.specs.declared.ends.MessageEnd.{MessageEnd}
+use Rattle.sms_message.specs.declared.message.Message.{Message}
+use Rattle.sms_worker.specs.Types.{MessageEnd}
 use Rattle.sms_worker.specs.declared.open.Open.{Open}
-use Rattle.sms_worker.specs.declared.user_data.UserData.{UserData}
+use Rattle.sms_message.specs.declared.user_data.UserData.{UserData}
 use Rattle.sms_worker.specs.Start.{Start}
-use Rattle.sms_worker.specs.Told.{AllTold, AreEnds, AreTexts, Drew, Grew}
+use Rattle.sms_worker.specs.Told.{AllTold, AreTexts, Drew, Grew}
+use Rattle.sms_message.specs.Results.{AreEnds}
 
 -- the slots of the open requests
 abbrev pub slots_of : List Open → List ℕ

@@ -2,12 +2,12 @@
 use Rattle.std.specs.Prelude.{◌≡◌, ℕ, suc, false, List, Some, length, slice_get}
 use Rattle.sms_core.specs.Statuses.{no_error}
 use Rattle.sms_pdu.specs.declared.reply.Reply.{Reply}
-use Rattle.sms_worker.specs.declared.message.Message.{Message}
-use Rattle.sms_worker.specs.declared.rules.Rules.{Rules}
-use Rattle.sms_worker.specs.declared.ends.Outcome.TheVariants.{Charged}
-use Rattle.sms_worker.specs.declared.ends.Attempt.{Attempt}
-use Rattle.sms_worker.specs.declared.ends.SegmentEnd.{SegmentEnd}
-use Rattle.sms_worker.specs.Told.{HeardSince, IsSettled, IsTold}
+use Rattle.sms_message.specs.declared.message.Message.{Message}
+use Rattle.sms_message.specs.declared.rules.Rules.{Rules}
+use Rattle.sms_message.specs.declared.ends.Outcome.TheVariants.{Charged}
+use Rattle.sms_worker.specs.Types.{Attempt, SegmentEnd}
+use Rattle.sms_worker.specs.Told.{HeardSince, IsTold}
+use Rattle.sms_message.specs.Results.{IsSettled}
 
 -- its last attempt was answered by a submit_sm_resp with ESME_ROK and the attempt's number, which came in this call
 pub record HasCharge (before : ℕ) (received : List Reply) (s : SegmentEnd) : Type 0 where

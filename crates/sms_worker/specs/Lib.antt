@@ -1,10 +1,8 @@
-pub mod Addresses
 pub mod Apart
 pub mod Begins
 pub mod Closing
 pub mod Credit
 pub mod EndOf
-pub mod Ends
 pub mod Events
 pub mod Expiry
 pub mod Hearing
@@ -18,11 +16,10 @@ pub mod Rising
 pub mod RunState
 pub mod Start
 pub mod Steps
-pub mod Submits
 pub mod Sweeps
 pub mod TextsState
 pub mod Told
 pub mod Turn
 pub mod Turns
-pub mod UserData
+pub mod Types
 pub mod Waits

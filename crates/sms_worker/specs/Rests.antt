@@ -18,15 +18,13 @@ use Rattle.sms_session.specs.declared.session.State.{State}
 use Rattle.sms_bind.specs.declared.ending.ReaderEnd.{ReaderEnd}
 use Rattle.sms_bind.specs.Ends.{HandsOn}
 use Rattle.sms_bind.specs.Held.{Held}
-use Rattle.sms_worker.specs.declared.message.Message.{Message}
-use Rattle.sms_worker.specs.declared.rules.Rules.{Rules}
-use Rattle.sms_worker.specs.declared.ends.Attempt.{Attempt}
-use Rattle.sms_worker.specs.declared.ends.MessageEnd.{MessageEnd}
-use Rattle.sms_worker.specs.declared.ends.Outcome.TheVariants.{Charged}
-use Rattle.sms_worker.specs.declared.ends.SegmentEnd.{SegmentEnd}
+use Rattle.sms_message.specs.declared.message.Message.{Message}
+use Rattle.sms_message.specs.declared.rules.Rules.{Rules}
+use Rattle.sms_worker.specs.Types.{Attempt, MessageEnd, SegmentEnd}
+use Rattle.sms_message.specs.declared.ends.Outcome.TheVariants.{Charged}
 use Rattle.sms_worker.specs.Apart.{PlacesApart}
 use Rattle.sms_worker.specs.EndOf.{IsEndOf}
-use Rattle.sms_worker.specs.Ends.{segment_at}
+use Rattle.sms_message.specs.Ends.{segment_at}
 use Rattle.sms_worker.specs.Told.{AllTold}
 
 -- a submit_sm_resp with ESME_ROK and this sequence_number (SMPP 3.4 3.2, 4.4.2); a generic_nack has another command_id

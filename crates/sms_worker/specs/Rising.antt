@@ -1,13 +1,11 @@
 -- In which order the segments of a call are sent for the first time.
 use Rattle.std.specs.Prelude.{◌≡◌, ℕ, ◌+◌, ◌<◌, ◌≤◌, ◌⊎◌, List, length, Some, slice_get}
-use Rattle.sms_worker.specs.declared.ends.Attempt.{Attempt}
-use Rattle.sms_worker.specs.declared.ends.MessageEnd.{MessageEnd}
-use Rattle.sms_worker.specs.declared.ends.SegmentEnd.{SegmentEnd}
+use Rattle.sms_worker.specs.Types.{Attempt, MessageEnd, SegmentEnd}
 use Rattle.sms_worker.specs.declared.open.Open.{Open}
 use Rattle.sms_worker.specs.declared.open.SegmentPlace.{SegmentPlace}
 use Rattle.sms_worker.specs.declared.queue.Queue.{Queue}
 use Rattle.sms_worker.specs.Apart.{IsAttempt}
-use Rattle.sms_worker.specs.Ends.{segment_at}
+use Rattle.sms_message.specs.Ends.{segment_at}
 use Rattle.sms_worker.specs.Queues.{first_in}
 use Rattle.sms_worker.specs.TextsState.{TextsState, kept_at, link_of}
 

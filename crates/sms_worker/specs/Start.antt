@@ -7,8 +7,8 @@ use Rattle.sms_book.specs.Shares.{Share}
 use Rattle.sms_pdu.specs.declared.reply.Reply.{Reply}
 use Rattle.sms_window.specs.SeatState.{SeatState}
 use Rattle.sms_window.specs.Seats.{nobody}
-use Rattle.sms_worker.specs.declared.message.Message.{Message}
-use Rattle.sms_worker.specs.declared.rules.Rules.{Rules}
+use Rattle.sms_message.specs.declared.message.Message.{Message}
+use Rattle.sms_message.specs.declared.rules.Rules.{Rules}
 
 pub record Start : Type 0 where
   pub rules : Rules

@@ -11,12 +11,11 @@ use Rattle.sms_book.specs.Shares.{Share, changed}
 use Rattle.sms_book.specs.Money.{moved_amounts}
 use Rattle.sms_book.specs.declared.money.Move.{Move}
 use Rattle.sms_book.specs.declared.money.Move.TheVariants as moves
-use Rattle.sms_worker.specs.declared.message.Message.{Message}
-use Rattle.sms_worker.specs.declared.rules.Rules.{Rules}
-use Rattle.sms_worker.specs.declared.ends.Outcome.{Outcome}
-use Rattle.sms_worker.specs.declared.ends.Outcome.TheVariants.{Charged, Refused, Unanswered, Unsent}
-use Rattle.sms_worker.specs.declared.ends.Attempt.{Attempt}
-use Rattle.sms_worker.specs.declared.ends.SegmentEnd.{SegmentEnd}
+use Rattle.sms_message.specs.declared.message.Message.{Message}
+use Rattle.sms_message.specs.declared.rules.Rules.{Rules}
+use Rattle.sms_message.specs.declared.ends.Outcome.{Outcome}
+use Rattle.sms_message.specs.declared.ends.Outcome.TheVariants.{Charged, Refused, Unanswered, Unsent}
+use Rattle.sms_worker.specs.Types.{Attempt, SegmentEnd, MessageEnd}
 use Rattle.sms_worker.specs.declared.attempt.Tried.{Tried}
 use Rattle.sms_worker.specs.declared.attempt.Tried.TheVariants.{Sent, Later, Never}
 use Rattle.sms_worker.specs.declared.attempt.Number.{Number}
@@ -33,10 +32,9 @@ use Rattle.sms_worker.specs.declared.held.Held.TheVariants.{Gate, Window, Number
 use Rattle.sms_worker.specs.declared.open.Open.{Open}
 use Rattle.sms_worker.specs.declared.open.SegmentPlace.{SegmentPlace}
 use Rattle.sms_worker.specs.Limits.{most_draws}
-use Rattle.sms_worker.specs.Submits.{SpellsSubmit}
-use Rattle.sms_worker.specs.declared.ends.MessageEnd.{MessageEnd}
-use Rattle.sms_worker.specs.Ends.{segment_at, put}
-use Rattle.sms_worker.specs.Told.{IsSettled, IsWaiting}
+use Rattle.sms_message.specs.Submits.{SpellsSubmit}
+use Rattle.sms_message.specs.Ends.{segment_at, put}
+use Rattle.sms_message.specs.Results.{IsSettled, IsWaiting}
 
 -- the last attempt had no answer and gets this one
 pub record Hears (old : SegmentEnd) (reply : Reply) (new : SegmentEnd) : Type 0 where

@@ -4,8 +4,8 @@ use Rattle.sms_segment.specs.declared.part.Part.{Part}
 use Rattle.sms_worker.specs.declared.open.SegmentPlace.{SegmentPlace}
 use Rattle.sms_worker.specs.declared.texts.Kept.{Kept}
 use Rattle.sms_worker.specs.declared.texts.Link.{Link}
-use Rattle.sms_worker.specs.declared.user_data.UserData.{UserData}
-use Rattle.sms_worker.specs.UserData.{user_data}
+use Rattle.sms_message.specs.declared.user_data.UserData.{UserData}
+use Rattle.sms_message.specs.UserData.{user_data}
 
 -- its parts, each with its link, and how many segments aren't settled
 pub record TextsState : Type 0 where

@@ -4,22 +4,21 @@ use Rattle.sms_worker.specs.declared.attempt.Tried.{Tried}
 use Rattle.sms_worker.specs.declared.attempt.Tried.TheVariants.{Sent, Later, Never}
 use Rattle.sms_worker.specs.declared.denied.Denied.{Denied}
 use Rattle.sms_worker.specs.declared.denied.Denied.TheVariants.{Over, Numbers, Memory, Gate, Line}
-use Rattle.sms_worker.specs.declared.ends.MessageEnd.{MessageEnd}
-use Rattle.sms_worker.specs.declared.ends.SegmentEnd.{SegmentEnd}
+use Rattle.sms_worker.specs.Types.{MessageEnd, SegmentEnd}
 use Rattle.sms_worker.specs.declared.open.Open.{Open}
 use Rattle.sms_worker.specs.declared.open.SegmentPlace.{SegmentPlace}
 use Rattle.sms_worker.specs.declared.starting.Idle.{Idle}
 use Rattle.sms_worker.specs.declared.starting.Idle.TheVariants.{Closed, AllBegun, Waits}
 use Rattle.sms_worker.specs.declared.starting.Started.{Started}
 use Rattle.sms_worker.specs.declared.starting.Started.TheVariants.{One, Nothing}
-use Rattle.sms_worker.specs.Ends.{segment_at, put}
+use Rattle.sms_message.specs.Ends.{segment_at, put}
 use Rattle.sms_worker.specs.Queues.{IsFirstDue, IsTaken, NoneIsDue}
 use Rattle.sms_worker.specs.Rising.{HasNext, IsNext, IsThere}
 use Rattle.sms_worker.specs.RunState.{RunState}
 use Rattle.sms_worker.specs.Start.{Start}
 use Rattle.sms_worker.specs.Sweeps.{SweptAt}
 use Rattle.sms_worker.specs.TextsState.{LeavesTexts, carried_at}
-use Rattle.sms_worker.specs.Told.{IsSettled}
+use Rattle.sms_message.specs.Results.{IsSettled}
 
 -- the segment at the place was sent with this number, and nothing else changed
 pub record SentAt (n : ℕ) (place : SegmentPlace) (old new : List MessageEnd) : Type 0 where

@@ -1,10 +1,10 @@
 -- For how long nothing is to be done by the clock alone.
 use Rattle.std.specs.Prelude.{◌≡◌, ◌-◌, ◌^◌, ◌<◌, ◌≤◌, ◌⊎◌, ℕ, Bool, true, false, List, [], ◌∷◌, length, min, Some}
-use Rattle.sms_worker.specs.declared.message.Message.{Message}
+use Rattle.sms_message.specs.declared.message.Message.{Message}
 use Rattle.sms_worker.specs.declared.open.Open.{Open}
 use Rattle.sms_worker.specs.declared.open.SegmentPlace.{SegmentPlace}
 use Rattle.sms_worker.specs.declared.queue.Queue.{Queue}
-use Rattle.sms_worker.specs.declared.rules.Rules.{Rules}
+use Rattle.sms_message.specs.declared.rules.Rules.{Rules}
 use Rattle.sms_worker.specs.Queues.{due_at, first_in}
 use Rattle.sms_worker.specs.RunState.{HasMore, RunState}
 use Rattle.sms_worker.specs.TextsState.{TextsState}

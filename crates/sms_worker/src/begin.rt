@@ -13,24 +13,20 @@ ghost use Rattle.sms_book.specs.Tariffs.{cost_of};
 ghost use Rattle.sms_segment.specs.declared.place.Reference.{Reference as TheReference};
 ghost use Rattle.sms_segment.specs.Message.{IsTooLong, parts_of};
 ghost use Rattle.sms_segment.specs.Part.{HasSeptets};
-ghost use Rattle.sms_worker.specs.Submits.{HasAddresses, coded_text, message_parts, reference_of};
-ghost use Rattle.sms_worker.specs.Told.{IsKnown, IsNotCut, IsRefusalOf, IsResultOf, IsShort};
+ghost use Rattle.sms_message.specs.Submits.{HasAddresses, coded_text, message_parts, reference_of};
+ghost use Rattle.sms_message.specs.Admission.{IsKnown, IsNotCut, IsRefusalOf, IsShort};
+ghost use Rattle.sms_message.specs.Results.{IsResultOf};
 ghost use Rattle.sms_worker.specs.TextsState.{AreUnlinked, carried, texts_of};
-ghost use Rattle.sms_worker.specs.UserData.{message_data};
+ghost use Rattle.sms_message.specs.UserData.{message_data};
 ghost use Rattle.std.specs.Prelude.{string_bytes};
-ghost use Rattle.sms_worker.specs.declared.ends.MessageRefusal.TheVariants.{BindClosed, NoCredit};
-ghost use Rattle.sms_worker.specs.declared.ends.MessageResult.TheVariants.{Refused};
+ghost use Rattle.sms_message.specs.declared.ends.MessageRefusal.TheVariants.{BindClosed, NoCredit};
+ghost use Rattle.sms_message.specs.declared.ends.MessageResult.TheVariants.{Refused};
 
-use crate::address::{destination, source};
-use crate::ends::{
-    Attempts, MessageEnd, MessageRefusal, MessageResult, Outcome, SegmentEnd, Segments,
-};
-use crate::message::Message;
-use crate::rules::Rules;
+use crate::ends::{Attempts, MessageEnd, MessageResult, SegmentEnd, Segments};
 use crate::texts::Texts;
-use crate::user_data::UserData;
 use sms_alphabet::choose;
 use sms_book::{Book, BookName, Shares};
+use sms_message::{Message, MessageRefusal, Outcome, Rules, UserData, destination, source};
 use sms_segment::laws::{the_parts_have_septets, the_parts_tell_what_is_too_long};
 use sms_segment::{CutError, Part, Reference, cut, short_message_of};
 use std::alloc::{AllocError, Global};

@@ -1,8 +1,8 @@
 //! What a worker works with and does not own.
 
-use crate::rules::Rules;
 use sms_bind::Line;
 use sms_book::{Book, BookName};
+use sms_message::Rules;
 use sms_window::Window;
 use std::alloc::Global;
 use std::sync::Mutex;

@@ -1,6 +1,7 @@
 //! What a worker asks of the world around it, and tells it: leave to send, the time, and waiting.
 
-use crate::ends::{MessageEnd, MessageRefusal};
+use crate::ends::MessageEnd;
+use sms_message::MessageRefusal;
 use sms_pdu::Reply;
 
 /// Lets requests pass before they are written, and may note what becomes of them. A message is named

@@ -3,7 +3,6 @@
 
 #![tactic(auto)]
 
-mod address;
 mod answered;
 mod attempt;
 mod begin;
@@ -17,30 +16,24 @@ mod expiry;
 mod hear;
 mod held;
 pub mod laws;
-mod message;
 mod open;
 mod places;
 mod queue;
 mod reading;
 mod ready;
-mod rules;
 mod run;
 mod segment;
 mod settling;
 mod starting;
 mod texts;
 mod turns;
-mod user_data;
 mod waits;
 mod work;
 
 pub use attempt::{Number, draw};
 pub use closure::ClosedBy;
 pub use devices::{Clock, Gate, Pause};
-pub use ends::{
-    Attempt, Attempts, MessageEnd, MessageRefusal, MessageResult, Outcome, SegmentEnd, Segments,
-};
-pub use message::Message;
+pub use ends::{Attempt, Attempts, MessageEnd, MessageResult, SegmentEnd, Segments};
 pub use ready::ReadyWorker;
-pub use rules::Rules;
+pub use sms_message::{Message, MessageRefusal, Outcome, Rules};
 pub use work::{Worker, WorkerEnd, run_worker};

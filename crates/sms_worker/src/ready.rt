@@ -3,12 +3,11 @@
 ghost use Rattle.std.specs.Prelude.{◌≡◌, ◌≤◌, [], IfOk, IfErr, vec_capacity};
 
 use crate::ends::MessageEnd;
-use crate::message::Message;
 use crate::open::Open;
-use crate::rules::Rules;
 use crate::texts::Texts;
 use crate::work::Worker;
 use sms_book::BookName;
+use sms_message::{Message, Rules};
 use std::alloc::{AllocError, Global};
 use std::marker::Model;
 

@@ -3,12 +3,12 @@
 use crate::call::Call;
 use crate::closure::Closing;
 use crate::ends::MessageEnd;
-use crate::message::Message;
 use crate::open::Open;
 use crate::queue::Queues;
 use crate::texts::Texts;
 use rtrb::Consumer;
 use sms_book::{BookName, Shares};
+use sms_message::Message;
 use sms_pdu::Reply;
 use sms_window::WindowSeat;
 use std::marker::{Model, PhantomData};

@@ -5,7 +5,7 @@ ghost use Rattle.sms_segment.specs.Part.{HasSeptets};
 ghost use Rattle.sms_worker.specs.TextsState.{carried, changed, link_of, no_texts, settled_one, texts_of, texts_of_one, with_link};
 
 use crate::open::SegmentPlace;
-use crate::user_data::UserData;
+use sms_message::UserData;
 use sms_segment::Part;
 use std::alloc::{AllocError, Global};
 use std::marker::Model;

@@ -2,8 +2,8 @@
 
 ghost use Rattle.std.specs.Prelude.{◌≡◌, ℕ, ◌+◌, ◌<◌, ◌⊎◌, ◌↔◌, None, IfSome, IsTrue, true, false, length, slice_get};
 ghost use Rattle.rtrb.specs.Ring.{received, SameConsumer};
-ghost use Rattle.sms_worker.specs.declared.ends.SegmentEnd.{SegmentEnd};
-ghost use Rattle.sms_worker.specs.Ends.{segment_at, segments_in};
+ghost use Rattle.sms_worker.specs.Types.{SegmentEnd};
+ghost use Rattle.sms_message.specs.Ends.{segment_at, segments_in};
 ghost use Rattle.sms_worker.specs.RunState.{HasMore, HasNothingToSend};
 ghost use Rattle.sms_worker.specs.Sweeps.{SettledTo};
 ghost use Rattle.sms_worker.specs.Turn.{TakesTurn, TakesTurns};

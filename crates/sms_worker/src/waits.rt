@@ -7,9 +7,9 @@ use crate::call::Call;
 use crate::context::WorkerContext;
 use crate::devices::Clock;
 use crate::open::Open;
-use crate::rules::Rules;
 use crate::run::Run;
 use sms_book::BookName;
+use sms_message::Rules;
 
 /// Whether what is open since then has waited so long, or longer.
 pub(crate) fn is_overdue(since_ms: u64, now_ms: u64, limit_ms: u64) -> bool

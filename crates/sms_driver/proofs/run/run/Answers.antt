@@ -4,8 +4,8 @@ use Rattle.sms_book.specs.Name.{BookId}
 use Rattle.sms_book.specs.Portions.{row_at}
 use Rattle.sms_book.specs.Shares.{opening_shares}
 use Rattle.sms_book.specs.Sums.{IsSumOf}
-use Rattle.sms_worker.specs.declared.rules.Rules.{Rules}
-use Rattle.sms_worker.specs.declared.ends.MessageEnd.{MessageEnd}
+use Rattle.sms_message.specs.declared.rules.Rules.{Rules}
+use Rattle.sms_worker.specs.Types.{MessageEnd}
 use Rattle.sms_worker.specs.declared.work.WorkerEnd.{WorkerEnd}
 use Rattle.sms_deal.specs.Deals.{dealt}
 use Rattle.sms_driver.specs.BindEnds.{AreBinds}

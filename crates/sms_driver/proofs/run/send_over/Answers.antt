@@ -2,7 +2,7 @@ use Rattle.std.proofs.Common.{◌≡◌, length, map, sym, ap, ◌∙◌, subst,
 use Rattle.std.specs.List.{AllZip}
 use Rattle.atomic_table.specs.Seated.{TableId}
 use Rattle.sms_driver.proofs.Sums.{length-opening}
-use Rattle.sms_worker.specs.declared.rules.Rules.{Rules}
+use Rattle.sms_message.specs.declared.rules.Rules.{Rules}
 use Rattle.sms_worker.specs.declared.work.WorkerEnd.{WorkerEnd}
 use Rattle.sms_worker.specs.ReadyState.{ReadyState}
 use Rattle.sms_driver.specs.declared.task.WorkerTask.{WorkerTask}

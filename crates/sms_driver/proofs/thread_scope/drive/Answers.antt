@@ -1,6 +1,6 @@
 use Rattle.std.proofs.Common.{◌≡◌, ℕ, length, map, take, refl, sym, ap, ◌∙◌, subst}
 use Rattle.std.specs.List.{AllZip}
-use Rattle.sms_worker.specs.declared.rules.Rules.{Rules}
+use Rattle.sms_message.specs.declared.rules.Rules.{Rules}
 use Rattle.sms_driver.specs.declared.latch.Latch.{Latch}
 use Rattle.sms_driver.specs.declared.latch.Word.TheVariants.{Go, Leave}
 use Rattle.sms_driver.specs.Latches.{IsSaidAt, word_of}

@@ -1,8 +1,8 @@
 use Rattle.std.proofs.Common.{rules, ◌≡◌, Some, nat_eq, subst, sym, ◌∙◌}
 use Rattle.std.specs.Prelude.{IsNone}
 use Rattle.std.specs.HashMap.{get}
-use Rattle.sms_worker.specs.declared.message.Message.{Message}
-use Rattle.sms_worker.specs.Told.{IsShort}
+use Rattle.sms_message.specs.declared.message.Message.{Message}
+use Rattle.sms_message.specs.Admission.{IsShort}
 use Rattle.sms_journal.proofs.Admitting.{at_place}
 use Rattle.sms_journal.proofs.checking.parts_of.Goals as goal
 

@@ -1,5 +1,5 @@
 use Rattle.std.proofs.Common.{ℕ, ◌+◌, rules}
-use Rattle.sms_journal.specs.declared.told.PartTold.{PartTold}
+use Rattle.sms_journal.specs.Types.{PartTold}
 use Rattle.sms_journal.specs.Recovered.{IsPartTold}
 use Rattle.sms_journal.proofs.Lists.{each_more}
 use Rattle.sms_journal.proofs.recovering.parts_told.Goals as goal

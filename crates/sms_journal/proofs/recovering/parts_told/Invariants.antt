@@ -1,6 +1,6 @@
 use Rattle.std.proofs.Common.{◌≡◌, ℕ, ◌+◌, length, Some}
 use Rattle.std.specs.Prelude.{slice_get}
-use Rattle.sms_journal.specs.declared.told.PartTold.{PartTold}
+use Rattle.sms_journal.specs.Types.{PartTold}
 use Rattle.sms_journal.specs.Recovered.{IsPartTold}
 use Rattle.sms_journal.proofs.recovering.parts_told.Given as goal
 

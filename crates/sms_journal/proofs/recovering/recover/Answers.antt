@@ -1,6 +1,6 @@
 use Rattle.std.proofs.Common.{◌≡◌, ◌++◌, ◌∷◌, [], List, sym, subst, take, ◌+◌, arith, rules}
 use Rattle.std.specs.List.{AllZip}
-use Rattle.sms_journal.specs.declared.told.MessageTold.{MessageTold}
+use Rattle.sms_journal.specs.Types.{MessageTold}
 use Rattle.sms_journal.specs.Recovered.{IsTold}
 use Rattle.sms_journal.proofs.Lists.{zip_more}
 use Rattle.sms_journal.proofs.recovering.recover.Goals as goal

@@ -2,8 +2,8 @@ use Rattle.std.proofs.Common.{◌≡◌, ◌∙◌, ◌<◌, ◌↔◌, ℕ, Boo
 use Rattle.sms_alphabet.specs.declared.coded.Coded.{Coded}
 use Rattle.sms_segment.specs.Message.{IsTooLong, parts_of}
 use Rattle.sms_segment.specs.declared.place.Reference.{Reference}
-use Rattle.sms_worker.specs.declared.message.Message.{Message}
-use Rattle.sms_worker.specs.Submits.{coded_text}
+use Rattle.sms_message.specs.declared.message.Message.{Message}
+use Rattle.sms_message.specs.Submits.{coded_text}
 use Rattle.sms_quote.specs.Quotes.{IsPartCount, reference_for}
 use Rattle.sms_quote.proofs.checking.parts_for.Goals as goal
 

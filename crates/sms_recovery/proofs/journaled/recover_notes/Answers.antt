@@ -3,7 +3,7 @@ use Rattle.std.specs.Io.KnownBytes.{Appends}
 use Rattle.std.specs.List.{AllZip}
 use Rattle.std.proofs.lemmas.Result.{IfOk-weaker}
 use Rattle.sms_core.specs.declared.row.Row.{Row}
-use Rattle.sms_journal.specs.declared.told.MessageTold.{MessageTold}
+use Rattle.sms_journal.specs.Types.{MessageTold}
 use Rattle.sms_journal.specs.Lawful.{IsJournal}
 use Rattle.sms_journal.specs.Recovered.{IsTold}
 use Rattle.sms_recovery.specs.Recovering.{AreRowsTold, IsRecovered, Recovers}

@@ -2,7 +2,7 @@ use Rattle.std.proofs.Common.{◌≡◌, ◌∙◌, ap, subst, List, Vec, Global
 use Rattle.std.proofs.lemmas.Result.{IfErr-weaker, IfOk-weaker}
 use Rattle.sms_book.specs.Tariffs.{Price}
 use Rattle.sms_book.specs.declared.opening.Opening.{Opening}
-use Rattle.sms_worker.specs.declared.message.Message.{Message}
+use Rattle.sms_message.specs.declared.message.Message.{Message}
 use Rattle.sms_files.specs.declared.config.Config.{Config}
 use Rattle.sms_recovery.specs.Recovering.{Recovers, RecoversInput, TellsInputsRecovery, TellsRecovery}
 use Rattle.sms_recovery.specs.Rules.{IsRulesOf}

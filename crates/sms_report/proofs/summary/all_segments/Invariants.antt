@@ -3,4 +3,4 @@ use Rattle.sms_report.specs.Summary.{capped, segments_in}
 use Rattle.sms_report.proofs.summary.all_segments.Given as goal
 
 abbrev pub invariant-loop-end : goal.invariant-loop-end
-invariant-loop-end l = l.total ≡ capped (sum_by segments_in (take l.end-index l.ends))
+invariant-loop-end g l = l.total ≡ capped (sum_by segments_in (take l.end-index l.ends))

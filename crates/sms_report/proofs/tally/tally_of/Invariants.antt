@@ -3,4 +3,4 @@ use Rattle.sms_report.proofs.Tallies.{Counts}
 use Rattle.sms_report.proofs.tally.tally_of.Given as goal
 
 abbrev pub invariant-loop-end : goal.invariant-loop-end
-invariant-loop-end l = Counts l.tally (take l.end-index l.ends)
+invariant-loop-end g l = Counts l.tally (take l.end-index l.ends)

@@ -4,7 +4,7 @@ use Rattle.sms_book.specs.Openings.{credits_of}
 use Rattle.sms_book.specs.Tariffs.{Price}
 use Rattle.sms_book.specs.declared.opening.Opening.{Opening}
 use Rattle.sms_worker.specs.EndOf.{IsEndOf}
-use Rattle.sms_worker.specs.declared.message.Message.{Message}
+use Rattle.sms_message.specs.declared.message.Message.{Message}
 use Rattle.sms_pdu.specs.declared.command.Mode.{Mode}
 use Rattle.sms_bind.specs.declared.settings.Settings.{Settings}
 use Rattle.sms_driver.specs.Answered.{AreHeard}

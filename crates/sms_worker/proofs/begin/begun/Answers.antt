@@ -4,12 +4,12 @@ use Rattle.sms_core.specs.Rows.{reserved_of}
 use Rattle.sms_book.specs.Shares.{Share, changed}
 use Rattle.sms_book.specs.Portions.{amounts_at}
 use Rattle.sms_book.specs.Money.{reserved_more}
-use Rattle.sms_worker.specs.declared.ends.SegmentEnd.{SegmentEnd}
+use Rattle.sms_worker.specs.Types.{SegmentEnd}
 use Rattle.sms_worker.specs.Begins.{ready}
 use Rattle.sms_book.specs.Tariffs.{cost_of}
-use Rattle.sms_worker.specs.Ends.{total_in, credit}
-use Rattle.sms_worker.specs.Submits.{message_parts}
-use Rattle.sms_worker.specs.Told.{IsKnown}
+use Rattle.sms_message.specs.Ends.{total_in, credit}
+use Rattle.sms_message.specs.Submits.{message_parts}
+use Rattle.sms_message.specs.Admission.{IsKnown}
 use Rattle.sms_worker.proofs.Beginnings.{length-ready, reserved_ready, other_ready}
 use Rattle.sms_worker.proofs.Credit.{lacks_for}
 use Rattle.sms_worker.proofs.begin.begun.Goals as goal

@@ -1,5 +1,5 @@
 use Rattle.std.proofs.Common.{IsTrue, false, sym, subst, rules}
-use Rattle.sms_worker.specs.Addresses.{IsSource}
+use Rattle.sms_message.specs.Addresses.{IsSource}
 use Rattle.sms_worker.proofs.begin.has_addresses.Goals as goal
 
 never : IsTrue false → ⊥

@@ -3,7 +3,7 @@ use Rattle.sms_alphabet.specs.declared.coded.Coded.{Coded}
 use Rattle.sms_segment.specs.Message.{IsTooLong, parts_of}
 use Rattle.sms_segment.specs.declared.place.Reference.{Reference}
 use Rattle.sms_segment.specs.declared.cutting.CutError.TheVariants.{TooLong}
-use Rattle.sms_worker.specs.Submits.{coded_text}
+use Rattle.sms_message.specs.Submits.{coded_text}
 use Rattle.sms_worker.proofs.begin.parts_for.Goals as goal
 
 pub returns-in-Err-TooLong-clause-refused : goal.returns-in-Err-TooLong-clause-refused

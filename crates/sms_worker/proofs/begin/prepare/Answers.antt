@@ -1,7 +1,7 @@
 use Rattle.std.proofs.Common.{◌∙◌, sym, ap, subst, rules}
-use Rattle.sms_worker.specs.declared.ends.MessageRefusal.{MessageRefusal}
-use Rattle.sms_worker.specs.Submits.{message_parts}
-use Rattle.sms_worker.specs.Told.{IsNotCut}
+use Rattle.sms_message.specs.declared.ends.MessageRefusal.{MessageRefusal}
+use Rattle.sms_message.specs.Submits.{message_parts}
+use Rattle.sms_message.specs.Admission.{IsNotCut}
 use Rattle.sms_worker.specs.TextsState.{AreUnlinked, carried}
 use Rattle.sms_worker.proofs.Beginnings.{not_cut}
 use Rattle.sms_worker.proofs.Kept.{carried_of, unlinked_of}

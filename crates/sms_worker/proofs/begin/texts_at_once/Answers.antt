@@ -2,7 +2,7 @@ use Rattle.std.proofs.Common.{◌≡◌, ◌∷◌, [], List, ℕ, IfSome, chars
 use Rattle.sms_alphabet.specs.Spelling.{chosen}
 use Rattle.sms_segment.specs.declared.place.Reference.{Reference}
 use Rattle.sms_segment.specs.Message.{parts_of, whole}
-use Rattle.sms_worker.specs.Submits.{coded_text}
+use Rattle.sms_message.specs.Submits.{coded_text}
 use Rattle.sms_worker.proofs.Kept.{one_is_short}
 use Rattle.sms_worker.proofs.begin.texts_at_once.Goals as goal
 

@@ -1,8 +1,8 @@
 use Rattle.std.proofs.Common.{◌≡◌, ◌<◌, length, Some, None, refl, sym, ap, ◌∙◌, rules}
 use Rattle.std.specs.Prelude.{slice_get, slice_set}
 use Rattle.std.proofs.lemmas.Option.{slice_get-get_or}
-use Rattle.sms_worker.specs.declared.ends.SegmentEnd.{SegmentEnd}
-use Rattle.sms_worker.specs.Ends.{segment_at}
+use Rattle.sms_worker.specs.Types.{SegmentEnd}
+use Rattle.sms_message.specs.Ends.{segment_at}
 use Rattle.sms_worker.specs.Steps.{Takes}
 use Rattle.sms_worker.proofs.EndLemmas.{if_some, if_none, no_segment, segment_in, set_is_put, set_same}
 use Rattle.sms_worker.proofs.places.take.Goals as goal

@@ -4,8 +4,8 @@ use Rattle.sms_book.specs.Shares.{Share, changed}
 use Rattle.sms_book.specs.Money.{moved_amounts}
 use Rattle.sms_book.specs.declared.money.Move.{Move}
 use Rattle.sms_book.specs.declared.money.Move.TheVariants as moves
-use Rattle.sms_worker.specs.declared.ends.Outcome.{Outcome}
-use Rattle.sms_worker.specs.declared.ends.Outcome.TheVariants.{Charged, Refused, Unsent}
+use Rattle.sms_message.specs.declared.ends.Outcome.{Outcome}
+use Rattle.sms_message.specs.declared.ends.Outcome.TheVariants.{Charged, Refused, Unsent}
 use Rattle.sms_worker.specs.Steps.{move_of, moved_to, settled_to}
 use Rattle.sms_worker.proofs.settling.settle.Goals as goal
 

@@ -2,8 +2,7 @@ use Rattle.std.proofs.Common.{◌≡◌, ◌<◌, List, length, Some, inr, sym, 
 use Rattle.std.specs.Prelude.{map, option_map, slice_get}
 use Rattle.std.proofs.lemmas.List.{length-map}
 use Rattle.std.proofs.lemmas.Option.{slice_get-get_or, slice_get-map}
-use Rattle.sms_worker.specs.declared.ends.Attempt.{Attempt}
-use Rattle.sms_worker.specs.declared.ends.SegmentEnd.{SegmentEnd}
+use Rattle.sms_worker.specs.Types.{Attempt, SegmentEnd}
 use Rattle.sms_worker.specs.Steps.{Tries}
 use Rattle.sms_worker.specs.TextsState.{carried}
 use Rattle.sms_worker.specs.Turns.{IsOver}

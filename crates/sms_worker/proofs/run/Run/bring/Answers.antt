@@ -2,7 +2,7 @@ use Rattle.std.proofs.Common.{◌≡◌, ◌<◌, List, length, Some, sym, ap, �
 use Rattle.std.specs.Prelude.{◌==◌, position, slice_get}
 use Rattle.std.proofs.lemmas.Option.{slice_get-get_or}
 use Rattle.sms_window.proofs.OpenSlots.{one_less_at}
-use Rattle.sms_worker.specs.declared.ends.MessageEnd.{MessageEnd}
+use Rattle.sms_worker.specs.Types.{MessageEnd}
 use Rattle.sms_worker.specs.declared.open.Open.{Open}
 use Rattle.sms_worker.specs.Rising.{WasSent}
 use Rattle.sms_worker.specs.RunState.{RunState}

@@ -1,9 +1,9 @@
 use Rattle.std.proofs.Common.{◌<◌, ◌≤◌, length, Some, sym, ap, ◌∙◌, rules, arith}
 use Rattle.std.specs.Prelude.{slice_get}
 use Rattle.std.proofs.lemmas.Option.{slice_get-get_or}
-use Rattle.sms_worker.specs.declared.ends.MessageResult.{MessageResult}
+use Rattle.sms_worker.specs.Types.{MessageResult}
 use Rattle.sms_worker.specs.RunState.{RunState}
-use Rattle.sms_worker.specs.Ends.{segments_in, segment_at}
+use Rattle.sms_message.specs.Ends.{segments_in, segment_at}
 use Rattle.sms_worker.proofs.EndLemmas.{no_segment, segment_in, get_low}
 use Rattle.sms_worker.proofs.run.Run.count.Goals as goal
 

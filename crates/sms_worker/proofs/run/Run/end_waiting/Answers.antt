@@ -4,7 +4,7 @@ use Rattle.std.proofs.lemmas.Option.{slice_get-get_or}
 use Rattle.sms_worker.specs.Steps.{settled_to}
 use Rattle.sms_worker.specs.Rising.{InOrder}
 use Rattle.sms_worker.specs.RunState.{RunState}
-use Rattle.sms_worker.specs.Ends.{put}
+use Rattle.sms_message.specs.Ends.{put}
 use Rattle.sms_worker.specs.Sweeps.{SweptAt, InPlace}
 use Rattle.sms_worker.proofs.Sweeping.{swept_none, swept_settled, swept_put, in_place_same, in_place_put}
 use Rattle.sms_worker.proofs.EndLemmas.{back_there, given_same, given_other, no_segment}

@@ -1,13 +1,14 @@
 use Rattle.std.proofs.Common.{◌≡◌, ◌<◌, ◌⊎◌, length, Some, refl, sym, ap, ◌∙◌, subst, rules, arith}
 use Rattle.std.specs.Prelude.{slice_get}
 use Rattle.std.proofs.lemmas.Option.{slice_get-get_or}
-use Rattle.sms_worker.specs.declared.rules.Rules.{Rules}
-use Rattle.sms_worker.specs.declared.ends.SegmentEnd.{SegmentEnd}
+use Rattle.sms_message.specs.declared.rules.Rules.{Rules}
+use Rattle.sms_worker.specs.Types.{SegmentEnd}
 use Rattle.sms_worker.specs.Steps.{settled_to, outcome_after, Answers}
-use Rattle.sms_worker.specs.Told.{IsSettled, IsWaiting, HeardSince}
+use Rattle.sms_message.specs.Results.{IsSettled, IsWaiting}
+use Rattle.sms_worker.specs.Told.{HeardSince}
 use Rattle.sms_worker.specs.Rising.{InOrder, WasSent}
 use Rattle.sms_worker.specs.RunState.{RunState}
-use Rattle.sms_worker.specs.Ends.{put, segment_at}
+use Rattle.sms_message.specs.Ends.{put, segment_at}
 use Rattle.sms_worker.proofs.EndLemmas.{back_there, given_same, given_other}
 use Rattle.sms_worker.proofs.Keeping.{keeps_same, keeps_answered, told_there, fits_there}
 use Rattle.sms_worker.specs.Closing.{Closes}

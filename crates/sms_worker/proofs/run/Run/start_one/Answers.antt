@@ -1,5 +1,5 @@
 use Rattle.std.proofs.Common.{List, Some, inl, refl, sym, ap, subst, rules, ◌∙◌}
-use Rattle.sms_worker.specs.declared.ends.MessageEnd.{MessageEnd}
+use Rattle.sms_worker.specs.Types.{MessageEnd}
 use Rattle.sms_worker.specs.declared.starting.Source.{Source}
 use Rattle.sms_worker.specs.Sweeps.{SweptAt}
 use Rattle.sms_worker.specs.declared.starting.Idle.TheVariants.{AllBegun, Closed, Waits}

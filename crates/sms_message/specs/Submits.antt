@@ -1,0 +1,74 @@
+-- The parts of a message, and the submit_sm of each (SMPP 3.4 4.4.1).
+use Rattle.std.specs.Prelude.{◌≡◌, ℕ, ◌%◌, Bool, List, [], string_bytes, if◌then◌else◌}
+use Rattle.std.specs.Str.{chars}
+use Rattle.sms_pdu.specs.declared.body.Pdu.{Pdu}
+use Rattle.sms_pdu.specs.declared.body.Sm.{Sm}
+use Rattle.sms_pdu.specs.declared.body.Body.TheVariants.{Submit}
+use Rattle.sms_pdu.specs.Grammar.{Spells}
+use Rattle.sms_alphabet.specs.declared.coded.Coded.{Coded}
+use Rattle.sms_alphabet.specs.Spelling.{chosen}
+use Rattle.sms_segment.specs.declared.part.Part.{Part}
+use Rattle.sms_segment.specs.declared.place.Reference.{Reference}
+use Rattle.sms_segment.specs.declared.place.Reference.TheVariants.{Short, Long}
+use Rattle.sms_segment.specs.Part.{short_message, esm_class, data_coding}
+use Rattle.sms_segment.specs.Message.{parts_of}
+use Rattle.sms_message.specs.declared.message.Message.{Message}
+use Rattle.sms_message.specs.declared.rules.Rules.{Rules}
+use Rattle.sms_message.specs.Addresses.{Address, IsSource, IsDestination}
+
+-- both addresses are good
+abbrev pub HasAddresses : Message → Type 0
+HasAddresses m = ((source : Address) × IsSource (string_bytes m.source) source) × ((dest : Address) × IsDestination (string_bytes m.dest) dest)
+
+abbrev pub coded_text : Message → Coded
+coded_text m = chosen (chars (string_bytes m.text))
+
+-- the message's index counts its references, of either kind
+abbrev pub reference_of : Rules → Message → Reference
+reference_of rules m = if rules.long_reference then Long (m.index % 65536) else Short (m.index % 256)
+
+-- the parts that the message is sent as
+abbrev pub message_parts : Rules → Message → List Part
+message_parts rules m = parts_of (coded_text m) (reference_of rules m)
+
+-- a receipt of the delivery is asked for (5.2.17)
+abbrev pub registered : Bool → ℕ
+registered receipts = if receipts then 1 else 0
+
+-- its fields; those that aren't told are empty or 0
+abbrev pub submitted : Rules → Address → Address → Part → Sm
+submitted rules source dest part = record {
+  service_type = [];
+  source_ton = source.ton;
+  source_npi = source.npi;
+  source_addr = source.octets;
+  dest_ton = dest.ton;
+  dest_npi = dest.npi;
+  dest_addr = dest.octets;
+  esm_class = esm_class part.place;
+  protocol_id = 0;
+  priority = 0;
+  schedule = [];
+  validity = [];
+  registered = registered rules.receipts;
+  replace = 0;
+  data_coding = data_coding part.coding;
+  default_msg = 0;
+  short_message = short_message part;
+  params = [];
+}
+
+abbrev pub submit_sm : Rules → Address → Address → Part → ℕ → Pdu
+submit_sm rules source dest part number = record { status = 0; number = number; body = Submit (submitted rules source dest part) }
+
+-- the PDU is the submit_sm of this part of the message, with this number
+pub record IsSubmitSm (rules : Rules) (m : Message) (part : Part) (number : ℕ) (pdu : Pdu) : Type 0 where
+  pub source : Address
+  pub dest : Address
+  pub from : IsSource (string_bytes m.source) source
+  pub to : IsDestination (string_bytes m.dest) dest
+  pub is : pdu ≡ submit_sm rules source dest part number
+
+-- the octets spell that
+abbrev pub SpellsSubmit : Rules → Message → Part → ℕ → List ℕ → Type 0
+SpellsSubmit rules m part number octets = (pdu : Pdu) × IsSubmitSm rules m part number pdu × Spells pdu octets
