@@ -44,7 +44,7 @@ pub behind_is : (f : List ℕ) (c : ℕ) (rest : List ℕ) → HasNoEnd f → is
 unfolding behind_field
 behind_is f c rest h e = ap (λ (n : ℕ). drop (n + 1) (f ++ c ∷ rest)) (end_behind f c rest h e) ∙ drop-append-add f (c ∷ rest) 1
 
-no_end_append : (a b : List ℕ) → HasNoEnd a → HasNoEnd b → HasNoEnd (a ++ b)
+pub no_end_append : (a b : List ℕ) → HasNoEnd a → HasNoEnd b → HasNoEnd (a ++ b)
 no_end_append [] b ha hb = hb
 no_end_append (x ∷ a) b ha hb = (ha.0, no_end_append a b ha.1 hb)
 
@@ -116,13 +116,13 @@ no_end_refusal OutOfMemory = search rules
 
 -- ---- message_ids
 
-digit_back : (n : ℕ) → n < 16 → digit_in (hex_digit n) ≡ n
+pub digit_back : (n : ℕ) → n < 16 → digit_in (hex_digit n) ≡ n
 digit_back n low = elim (cases_Bool (nat_lt n 10)) [
   | inl e ↦ let small : n < 10 = ltb-true n 10 e in grind (arith, nat_tests)
   | inr e ↦ let great : 10 ≤ n = ltb-false n 10 e in grind (arith, nat_tests)
 ]
 
-no_end_hex : (n : ℕ) → n < 16 → is_end (hex_digit n) ≡ false
+pub no_end_hex : (n : ℕ) → n < 16 → is_end (hex_digit n) ≡ false
 no_end_hex n low = grind (arith, nat_tests)
 
 no_end_octet : (c : ℕ) → c < 256 → HasNoEnd (id_octet c)
@@ -178,10 +178,10 @@ id_found id h =
 
 -- ---- notes
 
-comma : is_end 44 ≡ true
+pub comma : is_end 44 ≡ true
 comma = refl
 
-feed : is_end 10 ≡ true
+pub feed : is_end 10 ≡ true
 feed = refl
 
 head_is : (word : List ℕ) (time : ℕ) (X : List ℕ) → HasNoEnd word → IsU64 time → note_in (word ++ 44 ∷ (decimal time ++ 44 ∷ X)) ≡ kind_in word X

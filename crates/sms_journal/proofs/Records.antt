@@ -1,12 +1,14 @@
 -- Lines that are read one after another.
-use Rattle.std.proofs.Common.{◌≡◌, ℕ, List, [], ◌∷◌, ◌++◌, length, take, Some, None, refl, sym, ap, ◌∙◌, append-nil}
+use Rattle.std.proofs.Common.{◌≡◌, ℕ, false, List, [], ◌∷◌, ◌++◌, length, take, Some, None, refl, sym, ap, ◌∙◌, append-nil}
 use Rattle.std.specs.Prelude.{flat_map}
 use Rattle.std.proofs.Math.Seq.{take-append_seam}
 use Rattle.std.proofs.lemmas.Grind.{flat_map-append}
 use Rattle.std.proofs.lemmas.List.{map-append}
 use Rattle.sms_journal.specs.declared.note.Note.{Note}
-use Rattle.sms_journal.specs.Text.{note_text}
-use Rattle.sms_journal.specs.Lines.{AreLines, AreU64, IsLineOf, IsNote, IsU64, timed_text}
+use Rattle.sms_journal.specs.declared.header.Digests.{Digests}
+use Rattle.sms_journal.specs.declared.header.JournalKind.TheVariants.{Run, Trial}
+use Rattle.sms_journal.specs.Text.{header_text, note_text}
+use Rattle.sms_journal.specs.Lines.{AreLines, AreU64, IsLineOf, IsNote, IsTruncated, IsU64, IsUnbegun, TruncatesHeader, timed_text}
 use Rattle.sms_journal.specs.Reading.{note_in, time_in}
 use Rattle.sms_journal.proofs.Fields.{note_found, time_found}
 
@@ -55,3 +57,9 @@ lines_more lines line notes note so here =
       are = map-append (λ (x : ℕ × Note). x.1) so.timed (e ∷ []) ∙ ap (λ (l : List Note). l ++ note ∷ []) so.are;
       is = ap (λ (l : List ℕ). l ++ line) so.is ∙ ap (λ (l : List ℕ). flat_map timed_text so.timed ++ l) (here.2 ∙ sym (append-nil (note_text here.0 note))) ∙ sym (flat_map-append timed_text so.timed (e ∷ []));
     }
+
+-- ---- headers
+
+-- a text without an octet is that of a run
+pub unbegun_trial : (digests : Digests) (text : List ℕ) → IsTruncated Run digests text false → TruncatesHeader Trial digests text → IsUnbegun Trial digests text
+unbegun_trial digests text other is = record { truncated = is; empty = λ none. absurd (other (header_text Run digests, ap (λ (l : List ℕ). l ++ header_text Run digests) (sym none))) }

@@ -15,7 +15,10 @@ use Rattle.sms_journal.specs.Lawful.{IsJournal}
 use Rattle.sms_journal.specs.Recovered.{answers_told, IsPartTold, IsTold}
 use Rattle.sms_journal.specs.Lines.{AreNotes, IsNote, IsU64}
 use Rattle.sms_journal.specs.Sums.{parts_in}
-use Rattle.sms_journal.specs.Text.{note_text}
+use Rattle.sms_journal.specs.Digests.{AreDigests}
+use Rattle.sms_journal.specs.Text.{header_text, note_text}
+use Rattle.sms_journal.specs.declared.header.Digests.{Digests}
+use Rattle.sms_journal.specs.declared.header.JournalKind.{JournalKind}
 
 -- a request for the part was noted, and a submit_sm_resp with its number and ESME_ROK, which its worker was brought
 pub record HasCharge (notes : List Note) (m p : ℕ) : Type 0 where
@@ -64,6 +67,12 @@ LinesAreOfOneNote =
 -- a text is the lines of one list of notes
 abbrev pub TextsTellOnce : Type 0
 TextsTellOnce = (text : List ℕ) (notes others : List Note) → AllByRecursion IsNote notes → AllByRecursion IsNote others → AreNotes text notes → AreNotes text others → notes ≡ others
+
+-- no text begins with two headers
+abbrev pub HeadersAreOfOneJournal : Type 0
+HeadersAreOfOneJournal =
+    (text : List ℕ) (kind other : JournalKind) (digests others : Digests) (behind rest : List ℕ) → AreDigests digests → AreDigests others → text ≡ header_text kind digests ++ behind → text ≡ header_text other others ++ rest
+    → (other ≡ kind) × (others ≡ digests)
 
 -- each front of a lawful journal is a lawful journal
 abbrev pub FrontsAreLawful : Type 0

@@ -1,8 +1,12 @@
 -- The text of a journal and the notes that it tells: one relation.
-use Rattle.std.specs.Prelude.{◌≡◌, ◌≢◌, ℕ, ◌+◌, ◌<◌, ◌≤◌, ◌==◌, ◌⊎◌, ⊤, List, [], ◌∷◌, ◌++◌, length, map, flat_map, position, Option, Some, None}
+use Rattle.std.specs.Prelude.{◌≡◌, ◌≢◌, ℕ, ◌+◌, ◌<◌, ◌≤◌, ◌==◌, ◌⊎◌, ⊤, Bool, true, false, List, [], ◌∷◌, ◌++◌, length, map, flat_map, position, Option, Some, None}
 use Rattle.sms_journal.specs.declared.error.JournalError.{JournalError}
-use Rattle.sms_journal.specs.declared.error.JournalError.TheVariants.{BadRecord, BadNote, Overdrawn, OutOfMemory}
+use Rattle.sms_journal.specs.declared.error.JournalError.TheVariants.{BadRecord, OtherFiles, BadNote, Overdrawn, OutOfMemory}
+use Rattle.sms_journal.specs.declared.digests.RunFile.{RunFile}
 use Rattle.sms_journal.specs.declared.header.Digests.{Digests}
+use Rattle.sms_journal.specs.declared.header.JournalKind.{JournalKind}
+use Rattle.sms_journal.specs.declared.header.JournalKind.TheVariants.{Run}
+use Rattle.sms_journal.specs.Digests.{AreDigests, DiffersFirst}
 use Rattle.sms_journal.specs.declared.note.Note.{Note}
 use Rattle.sms_journal.specs.declared.note.Note.TheVariants.{Begun, Sent, Unsent, Heard, Refused, End}
 use Rattle.sms_journal.specs.Text.{header_text, note_text}
@@ -95,37 +99,56 @@ pub record IsBadLine (place : ℕ) (text : List ℕ) : Type 0 where
 
 -- ---- journals
 
--- the text begins with the header
-pub record IsBegun (digests : Digests) (text behind : List ℕ) : Type 0 where
-  pub is : text ≡ header_text digests ++ behind
+-- the text begins with the header of a journal of this kind, of files with these digests
+pub record IsBegun (kind : JournalKind) (digests : Digests) (text behind : List ℕ) : Type 0 where
+  pub is : text ≡ header_text kind digests ++ behind
 
--- the text is a front of the header: the run ended before it had noted anything
-pub record IsUnbegun (digests : Digests) (text : List ℕ) : Type 0 where
-  pub rest : List ℕ
-  pub is : header_text digests ≡ text ++ rest
+-- the text is a truncated header
+abbrev pub TruncatesHeader : JournalKind → Digests → List ℕ → Type 0
+TruncatesHeader kind digests text = (rest : List ℕ) × (header_text kind digests ≡ text ++ rest)
 
--- the text is a journal of these files that tells these notes
-abbrev pub IsJournalText : Digests → List ℕ → List Note → Type 0
-IsJournalText digests text notes = ((behind : List ℕ) × IsBegun digests text behind × AreNotes behind notes) ⊎ (IsUnbegun digests text × (notes ≡ []))
+abbrev pub IsTruncated : JournalKind → Digests → List ℕ → Bool → Type 0
+IsTruncated kind digests text true = TruncatesHeader kind digests text
+IsTruncated kind digests text false = ¬ TruncatesHeader kind digests text
 
--- its first record isn't the header
+-- so nothing was noted; where there is no octet the journal is of a run
+pub record IsUnbegun (kind : JournalKind) (digests : Digests) (text : List ℕ) : Type 0 where
+  pub truncated : TruncatesHeader kind digests text
+  pub empty : text ≡ [] → kind ≡ Run
+
+-- the text is a journal of this kind, of these files, that has these notes
+abbrev pub IsJournalText : Digests → List ℕ → JournalKind → List Note → Type 0
+IsJournalText digests text kind notes = ((behind : List ℕ) × IsBegun kind digests text behind × AreNotes behind notes) ⊎ (IsUnbegun kind digests text × (notes ≡ []))
+
+-- the text begins with the header of a journal of other files, of which this is the first that differs
+pub record IsOfOthers (digests : Digests) (text : List ℕ) (file : RunFile) : Type 0 where
+  pub kind : JournalKind
+  pub others : Digests
+  pub behind : List ℕ
+  pub are : AreDigests others
+  pub begun : IsBegun kind others text behind
+  pub differs : DiffersFirst others digests file
+
+-- its first record is no header, of whatever files, and the text isn't a truncated header of these files
 pub record HasNoHeader (digests : Digests) (text : List ℕ) : Type 0 where
-  pub begun : (behind : List ℕ) → text ≢ header_text digests ++ behind
-  pub unbegun : (rest : List ℕ) → header_text digests ≢ text ++ rest
+  pub begun : (kind : JournalKind) (others : Digests) (behind : List ℕ) → AreDigests others → text ≢ header_text kind others ++ behind
+  pub unbegun : (kind : JournalKind) → IsTruncated kind digests text false
 
 -- the first faulty record of the text is the one at this place
 abbrev pub IsBadRecord : Digests → List ℕ → ℕ → Type 0
-IsBadRecord digests text place = ((place ≡ 1) × HasNoHeader digests text) ⊎ ((behind : List ℕ) × IsBegun digests text behind × IsBadLine place behind)
+IsBadRecord digests text place = ((place ≡ 1) × HasNoHeader digests text) ⊎ ((kind : JournalKind) × (behind : List ℕ) × IsBegun kind digests text behind × IsBadLine place behind)
 
 -- what is wrong with it
 abbrev pub IsFaultyText : Digests → List ℕ → JournalError → Type 0
 IsFaultyText digests text (BadRecord place) = IsBadRecord digests text place
+IsFaultyText digests text (OtherFiles file) = IsOfOthers digests text file
 IsFaultyText digests text (BadNote place) = ⊥
 IsFaultyText digests text Overdrawn = ⊥
 IsFaultyText digests text OutOfMemory = ⊤
 
 abbrev pub AreFaultyLines : List ℕ → JournalError → Type 0
 AreFaultyLines text (BadRecord place) = IsBadLine place text
+AreFaultyLines text (OtherFiles file) = ⊥
 AreFaultyLines text (BadNote place) = ⊥
 AreFaultyLines text Overdrawn = ⊥
 AreFaultyLines text OutOfMemory = ⊤

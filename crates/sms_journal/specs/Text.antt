@@ -3,6 +3,8 @@ use Rattle.std.specs.Prelude.{ℕ, ◌+◌, ◌/◌, ◌%◌, ◌==◌, ◌&&◌
 use Rattle.sms_message.specs.declared.ends.MessageRefusal.{MessageRefusal}
 use Rattle.sms_message.specs.declared.ends.MessageRefusal.TheVariants.{NoAccount, NoCredit, TooLong, BadAddress, BindClosed, OutOfMemory}
 use Rattle.sms_journal.specs.declared.header.Digests.{Digests}
+use Rattle.sms_journal.specs.declared.header.JournalKind.{JournalKind}
+use Rattle.sms_journal.specs.declared.header.JournalKind.TheVariants.{Run, Trial}
 use Rattle.sms_journal.specs.declared.note.Note.{Note}
 use Rattle.sms_journal.specs.declared.note.Note.TheVariants.{Begun, Sent, Unsent, Heard, Refused, End}
 
@@ -64,6 +66,10 @@ abbrev pub tariff_field : Option (List ℕ) → List ℕ
 tariff_field None = codes ","
 tariff_field (Some digest) = digest_field digest
 
--- the first line, of the run's files
-abbrev pub header_text : Digests → List ℕ
-header_text d = codes "journal,1" ++ digest_field d.config ++ digest_field d.accounts ++ digest_field d.messages ++ tariff_field d.tariff ++ codes "\n"
+abbrev pub kind_word : JournalKind → List ℕ
+kind_word Run = codes "journal"
+kind_word Trial = codes "trial"
+
+-- the first line: of what the journal is, and of which files
+abbrev pub header_text : JournalKind → Digests → List ℕ
+header_text kind d = kind_word kind ++ codes ",1" ++ digest_field d.config ++ digest_field d.accounts ++ digest_field d.messages ++ tariff_field d.tariff ++ codes "\n"

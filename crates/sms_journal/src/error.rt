@@ -1,15 +1,18 @@
 //! What can be wrong with a journal.
 
+use crate::digests::RunFile;
 use std::alloc::{AllocError, AllocFailed};
 use thiserror::Error;
 
 /// Why a journal can't be used.
 #[derive(Clone, Copy, Debug, PartialEq, Eq, Error)]
 pub enum JournalError {
-    /// The record at this place, from 1, isn't one that a run of these files writes. The first record is
-    /// the header.
+    /// The record at this place, from 1, isn't one that a run writes. The first record is the header.
     #[error("record {0} is faulty")]
     BadRecord(usize),
+    /// The first record is the header of a journal of other files, of which this is the first that differs.
+    #[error("the journal is of other files")]
+    OtherFiles(RunFile),
     /// The note at this place, from 0, can't have been written behind those before it.
     #[error("note {0} doesn't follow")]
     BadNote(usize),

@@ -1,7 +1,7 @@
-//! The first line of a journal: of which files it is.
+//! The first line of a journal: of what it is, and of which files.
 
 ghost use Rattle.std.specs.Prelude.{◌≡◌, ◌++◌, ◌<◌, OnOk, string_bytes};
-ghost use Rattle.sms_journal.specs.Text.{digest_field, header_text, hex_digit as digit_of, hex_octet, hex_text, tariff_field};
+ghost use Rattle.sms_journal.specs.Text.{digest_field, header_text, hex_digit as digit_of, hex_octet, hex_text, kind_word as word_of_kind, tariff_field};
 
 use std::alloc::AllocError;
 
@@ -13,6 +13,25 @@ pub struct Digests {
     pub messages: [u8; 32],
     /// That of the tariff, where there is one.
     pub tariff: Option<[u8; 32]>,
+}
+
+/// What a journal is of.
+#[derive(Clone, Copy, Debug, PartialEq, Eq)]
+pub enum JournalKind {
+    /// A run: its requests were sent to message centres.
+    Run,
+    /// A trial: no message centre received anything.
+    Trial,
+}
+
+/// The word that a journal begins with.
+fn kind_word(kind: JournalKind) -> &'static str
+    ensures { result.now ≡ word_of_kind kind }
+{
+    match kind {
+        JournalKind::Run => "journal",
+        JournalKind::Trial => "trial",
+    }
 }
 
 /// A hexadecimal digit.
@@ -60,11 +79,16 @@ fn write_tariff(text: &mut String, digest: &Option<[u8; 32]>) -> Result<(), Allo
     }
 }
 
-/// Writes the first line of a run's journal.
-pub fn write_header(text: &mut String, digests: &Digests) -> Result<(), AllocError>
-    ensures { OnOk result (string_bytes text.new ≡ string_bytes text.old ++ header_text digests.now) }
+/// Writes the first line of a journal of this kind.
+pub fn write_header(
+    text: &mut String,
+    kind: JournalKind,
+    digests: &Digests,
+) -> Result<(), AllocError>
+    ensures { OnOk result (string_bytes text.new ≡ string_bytes text.old ++ header_text kind digests.now) }
 {
-    text.push_str("journal,1")?;
+    text.push_str(kind_word(kind))?;
+    text.push_str(",1")?;
     write_digest(text, &digests.config)?;
     write_digest(text, &digests.accounts)?;
     write_digest(text, &digests.messages)?;

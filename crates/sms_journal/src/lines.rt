@@ -1,10 +1,13 @@
 //! A journal read: its header, and the notes of its lines.
 
-ghost use Rattle.std.specs.Prelude.{◌≡◌, ◌≢◌, ◌<◌, ◌++◌, ℕ, List, IfErr, IfOk, IfSome, MatchOption, length};
-ghost use Rattle.sms_journal.specs.Lines.{AreFaultyLines, AreNotes, IsFaultyText, IsJournalText, IsRead, feed_at as first_feed};
+ghost use Rattle.std.specs.Prelude.{◌≡◌, ◌<◌, IfErr, IfOk, IfSome, MatchOption, false, length};
+ghost use Rattle.sms_journal.specs.Lines.{AreFaultyLines, AreNotes, IsFaultyText, IsJournalText, IsRead, IsTruncated, IsUnbegun, feed_at as first_feed};
+ghost use Rattle.sms_journal.specs.declared.header.JournalKind.{JournalKind as TheKind};
 
+use crate::digests::first_difference;
 use crate::error::JournalError;
-use crate::header::{Digests, write_header};
+use crate::head::{behind, read_head};
+use crate::header::{Digests, JournalKind, write_header};
 use crate::note::Note;
 use crate::reading::{note_in, time_in};
 use crate::text::write_note;
@@ -16,17 +19,6 @@ fn feed_at(text: &[u8]) -> Option<usize>
     ensures within { IfSome result (λ at. at < length text.now) }
 {
     text.iter().position(|octet| *octet == b'\n')
-}
-
-/// What stands behind a front, where the text has it.
-fn behind<'a>(text: &'a [u8], front: &[u8]) -> Option<&'a [u8]>
-    ensures { MatchOption result ((rest : List ℕ) → text.now ≢ front.now ++ rest) (λ rest. text.now ≡ front.now ++ rest.now) }
-{
-    if text.len() < front.len() {
-        return None;
-    }
-    let (start, rest) = text.split_at(front.len());
-    if start == front { Some(rest) } else { None }
 }
 
 /// The note that a line is written of, if it is one's: what was read is written again and compared.
@@ -72,21 +64,78 @@ fn read_lines(alloc: Global, text: &[u8]) -> Result<Vec<Note>, JournalError>
     Ok(notes)
 }
 
-/// The notes of a journal of the files that have these digests, in order. What stands behind the last
-/// line feed is a line that was cut, and doesn't count. A text that is only a front of the header has no notes:
-/// its run ended before it noted anything. `BadRecord` tells the first record that isn't as
+/// A journal read.
+#[derive(Drop)]
+pub struct JournalNotes {
+    pub kind: JournalKind,
+    pub notes: Vec<Note>,
+}
+
+/// The notes after a header of this kind.
+fn notes_after(alloc: Global, kind: JournalKind, text: &[u8]) -> Result<JournalNotes, JournalError>
+    ensures notes { IfOk result (λ read. (read.kind ≡ kind) × AreNotes text.now read.notes.items) }
+    ensures faulty { IfErr result (AreFaultyLines text.now) }
+{
+    let notes = read_lines(alloc, text)?;
+    Ok(JournalNotes { kind, notes })
+}
+
+/// Whether the text is a truncated header of this kind.
+fn is_truncated(
+    header: &mut String,
+    kind: JournalKind,
+    digests: &Digests,
+    text: &[u8],
+) -> Result<bool, AllocError>
+    ensures { IfOk result (IsTruncated kind digests.now text.now) }
+{
+    header.clear();
+    write_header(header, kind, digests)?;
+    Ok(behind(header.as_bytes(), text).is_some())
+}
+
+/// Of what a journal is that has no whole header.
+fn truncated_kind(
+    header: &mut String,
+    digests: &Digests,
+    text: &[u8],
+) -> Result<Option<JournalKind>, AllocError>
+    ensures { IfOk result (λ read. MatchOption read ((kind : TheKind) → IsTruncated kind digests.now text.now false) (λ kind. IsUnbegun kind digests.now text.now)) }
+{
+    if is_truncated(header, JournalKind::Run, digests, text)? {
+        return Ok(Some(JournalKind::Run));
+    }
+    if is_truncated(header, JournalKind::Trial, digests, text)? {
+        return Ok(Some(JournalKind::Trial));
+    }
+    Ok(None)
+}
+
+/// The notes of a journal of the files that have these digests, in order. What stands after the last
+/// line feed is a truncated line, and doesn't count. A text that is a truncated header has no notes: its
+/// run ended before it noted anything, and where there is no octet at all it is a run's. `OtherFiles` is of a
+/// text that begins with the header of other files, and `BadRecord` of the first record that isn't as
 /// `write_header` or `write_note` writes it.
-pub fn read_notes(alloc: Global, text: &[u8], digests: &Digests) -> Result<Vec<Note>, JournalError>
-    ensures notes { IfOk result (λ notes. IsJournalText digests.now text.now notes.items) }
+pub fn read_notes(
+    alloc: Global,
+    text: &[u8],
+    digests: &Digests,
+) -> Result<JournalNotes, JournalError>
+    ensures notes { IfOk result (λ read. IsJournalText digests.now text.now read.kind read.notes.items) }
     ensures faulty { IfErr result (IsFaultyText digests.now text.now) }
 {
     let mut header = String::new(alloc);
-    write_header(&mut header, digests)?;
-    if let Some(left) = behind(text, header.as_bytes()) {
-        return read_lines(alloc, left);
+    if let Some(head) = read_head(&mut header, text)? {
+        return match first_difference(&head.digests, digests) {
+            Some(file) => Err(JournalError::OtherFiles(file)),
+            None => notes_after(alloc, head.kind, head.rest),
+        };
     }
-    match behind(header.as_bytes(), text) {
-        Some(_rest) => Ok(Vec::new(alloc)),
+    match truncated_kind(&mut header, digests, text)? {
+        Some(kind) => Ok(JournalNotes {
+            kind,
+            notes: Vec::new(alloc),
+        }),
         None => Err(JournalError::BadRecord(1)),
     }
 }

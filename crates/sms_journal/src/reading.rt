@@ -31,7 +31,7 @@ fn end_at(text: &[u8]) -> usize
 
 /// The first field, and what stands behind its end.
 #[tactic(auto, unfolding(crate::specs::Reading::field_in, crate::specs::Reading::behind_field))]
-fn cut(text: &[u8]) -> (&[u8], &[u8])
+pub(crate) fn cut(text: &[u8]) -> (&[u8], &[u8])
     ensures field { result.0.now ≡ field_in text.now }
     ensures behind { result.1.now ≡ behind_field text.now }
 {
@@ -111,7 +111,7 @@ pub(crate) enum Escape {
 }
 
 /// A hexadecimal digit's value. (Another octet's is never used.)
-fn digit_in(octet: u8) -> u8
+pub(crate) fn digit_in(octet: u8) -> u8
     ensures value { result ≡ digit_said octet }
     ensures small { result ≤ 15 }
 {

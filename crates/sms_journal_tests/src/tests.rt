@@ -244,7 +244,7 @@ fn shown_result(told: &ResultTold) -> Shown {
     match told {
         ResultTold::Refused(refusal) => Shown::Refused(*refusal),
         ResultTold::Sent(parts) => match parts.as_slice() {
-            [part] => Shown::Part(part.outcome, part.tries.as_slice().len()),
+            [part] => Shown::Part(part.outcome, part.attempts.as_slice().len()),
             _ => Shown::Other,
         },
     }

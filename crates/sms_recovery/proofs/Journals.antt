@@ -1,14 +1,15 @@
 -- What is recovered of an input and of a journal, from what is recovered of its notes.
-use Rattle.std.proofs.Common.{◌≡◌, inr, subst, ℕ, List, Option}
+use Rattle.std.proofs.Common.{◌≡◌, inr, subst, ℕ, Bool, List, Option}
 use Rattle.sms_book.specs.declared.opening.Opening.{Opening}
 use Rattle.sms_message.specs.declared.message.Message.{Message}
 use Rattle.sms_message.specs.declared.rules.Rules.{Rules}
 use Rattle.sms_files.specs.declared.input.Input.{Input}
+use Rattle.sms_journal.specs.declared.header.JournalKind.{JournalKind}
 use Rattle.sms_journal.specs.declared.note.Note.{Note}
 use Rattle.sms_journal.specs.Digests.{digests_of}
 use Rattle.sms_journal.specs.Lines.{IsJournalText}
 use Rattle.sms_recovery.specs.Files.{Reads}
-use Rattle.sms_recovery.specs.Recovering.{Recovers, RecoversInput, RecoversJournal, TellsInputsRecovery, TellsJournal, TellsRecovery}
+use Rattle.sms_recovery.specs.Recovering.{IsTaken, Recovers, RecoversInput, RecoversJournal, TellsInputsRecovery, TellsJournal, TellsRecovery}
 use Rattle.sms_recovery.specs.Rules.{IsRulesOf}
 use Rattle.sms_recovery.specs.declared.fault.RecoveryFault.{RecoveryFault}
 
@@ -28,10 +29,11 @@ module _ (input : Input) (notes : List Note) (old new : Option (List ℕ)) (rule
     tells = subst (λ (o : List Opening). TellsRecovery rules o input.messages.items notes old new fault) os_are (subst (λ (m : List Message). TellsRecovery rules os m notes old new fault) ms_are h);
   }
 
-module _ (config accounts messages : List ℕ) (tariff : Option (List ℕ)) (journal : List ℕ) (old new : Option (List ℕ)) (input : Input) (notes slice : List Note)
-    (read : Reads config accounts messages tariff input) (text : IsJournalText (digests_of config accounts messages tariff) journal notes) (is : slice ≡ notes) where
-  pub recovers_journal : (status : ℕ) → RecoversInput input slice old new status → RecoversJournal config accounts messages tariff journal old new status
-  recovers_journal status h = record { input = input; read = read; notes = notes; text = text; recovers = subst (λ (n : List Note). RecoversInput input n old new status) is h }
+module _ (config accounts messages : List ℕ) (tariff : Option (List ℕ)) (journal : List ℕ) (trial : Bool) (old new : Option (List ℕ)) (input : Input) (kind : JournalKind) (notes slice : List Note)
+    (read : Reads config accounts messages tariff input) (text : IsJournalText (digests_of config accounts messages tariff) journal kind notes) (taken : IsTaken trial kind) (is : slice ≡ notes) where
+  pub recovers_journal : (status : ℕ) → RecoversInput input slice old new status → RecoversJournal config accounts messages tariff journal trial old new (record { status = status; kind = kind })
+  recovers_journal status h =
+      record { input = input; read = read; notes = notes; text = text; taken = taken; recovers = subst (λ (n : List Note). RecoversInput input n old new status) is h }
 
-  pub tells_journal : (fault : RecoveryFault) → TellsInputsRecovery input slice old new fault → TellsJournal config accounts messages tariff journal old new fault
-  tells_journal fault h = inr (inr (input, read, notes, text, subst (λ (n : List Note). TellsInputsRecovery input n old new fault) is h))
+  pub tells_journal : (fault : RecoveryFault) → TellsInputsRecovery input slice old new fault → TellsJournal config accounts messages tariff journal trial old new fault
+  tells_journal fault h = inr (inr (input, read, kind, taken, notes, text, subst (λ (n : List Note). TellsInputsRecovery input n old new fault) is h))

@@ -2,6 +2,7 @@ pub mod Agreeing
 pub mod Failing
 pub mod Journals
 pub mod Lefts
+pub mod Plans
 pub mod Printings
 pub mod Recoveries
 pub mod Stages

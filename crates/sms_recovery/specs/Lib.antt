@@ -2,6 +2,7 @@ pub mod Faults
 pub mod Files
 pub mod Laws
 pub mod Lines
+pub mod Plans
 pub mod Recovering
 pub mod Reports
 pub mod Rest

@@ -1,5 +1,5 @@
 -- The records of a report: its two headers, the lines of messages, and those of accounts.
-use Rattle.std.specs.Prelude.{ℕ, ◌==◌, ◌&&◌, nat_le, Bool, true, false, [], ◌∷◌, length, Option, Some, None, is_some, option_and_then, option_map, if◌then◌else◌, codes}
+use Rattle.std.specs.Prelude.{ℕ, ◌+◌, ◌==◌, ◌&&◌, nat_le, Bool, true, false, [], ◌∷◌, length, Option, Some, None, is_some, option_and_then, option_map, if◌then◌else◌, codes}
 use Rattle.std.specs.Str.{bytes_eq}
 use Rattle.csv.specs.Records.{field_at}
 use Rattle.sms_core.specs.Decimal.{decimal_in}
@@ -102,8 +102,19 @@ is_statement_header r =
     length r == 6
     && (field_is r 0 (codes "account") && (field_is r 1 (codes "topped") && (field_is r 2 (codes "free") && (field_is r 3 (codes "reserved") && (field_is r 4 (codes "charged") && field_is r 5 (codes "returned"))))))
 
--- five amounts behind the account's name
-abbrev pub account_in : Field → Record → Bool
-account_in name r =
-    length r == 6
-    && (field_is r 0 name && (is_some (amount_in r 1) && (is_some (amount_in r 2) && (is_some (amount_in r 3) && (is_some (amount_in r 4) && is_some (amount_in r 5))))))
+-- an amount that is there
+abbrev pub is_amount : Option ℕ → ℕ → Bool
+is_amount None credits = false
+is_amount (Some amount) credits = amount == credits
+
+-- what an account was topped up with is free, reserved or charged
+abbrev pub balances : ℕ → Option ℕ → Option ℕ → Option ℕ → Bool
+balances topped None reserved charged = false
+balances topped (Some free) None charged = false
+balances topped (Some free) (Some reserved) None = false
+balances topped (Some free) (Some reserved) (Some charged) = (free + reserved + charged) == topped
+
+-- the row of an account that opened with these credits: its name, these credits, what they became, and the returned ones
+abbrev pub account_in : Field → ℕ → Record → Bool
+account_in name credits r =
+    length r == 6 && (field_is r 0 name && (is_amount (amount_in r 1) credits && (balances credits (amount_in r 2) (amount_in r 3) (amount_in r 4) && is_some (amount_in r 5))))

@@ -1,5 +1,5 @@
 -- What is recovered from a run's journal.
-use Rattle.std.specs.Prelude.{◌≡◌, ◌⊎◌, ℕ, ◌+◌, List, Option, Some, length, slice_get}
+use Rattle.std.specs.Prelude.{◌≡◌, ◌⊎◌, ℕ, ◌+◌, Bool, true, false, List, Option, Some, length, slice_get}
 use Rattle.std.specs.Io.KnownBytes.{Appends}
 use Rattle.std.specs.List.{AllZip}
 use Rattle.sms_core.specs.declared.row.Row.{Row}
@@ -8,12 +8,15 @@ use Rattle.sms_book.specs.declared.opening.Opening.{Opening}
 use Rattle.sms_message.specs.declared.message.Message.{Message}
 use Rattle.sms_message.specs.declared.rules.Rules.{Rules}
 use Rattle.sms_files.specs.declared.input.Input.{Input as TheInput}
+use Rattle.sms_journal.specs.declared.digests.RunFile.{RunFile}
 use Rattle.sms_journal.specs.declared.header.Digests.{Digests}
+use Rattle.sms_journal.specs.declared.header.JournalKind.{JournalKind}
+use Rattle.sms_journal.specs.declared.header.JournalKind.TheVariants.{Trial}
 use Rattle.sms_journal.specs.declared.note.Note.{Note}
 use Rattle.sms_journal.specs.Types.{MessageTold}
 use Rattle.sms_journal.specs.Digests.{digests_of}
 use Rattle.sms_journal.specs.Lawful.{IsFirstFault, IsJournal}
-use Rattle.sms_journal.specs.Lines.{IsBadRecord, IsJournalText}
+use Rattle.sms_journal.specs.Lines.{IsBadRecord, IsJournalText, IsOfOthers}
 use Rattle.sms_journal.specs.Recovered.{IsTold}
 use Rattle.sms_journal.specs.Sums.{AreCovered, row_told}
 use Rattle.sms_report.specs.Output.{WritesFront}
@@ -22,7 +25,9 @@ use Rattle.sms_recovery.specs.Reports.{told_report_of, told_status}
 use Rattle.sms_recovery.specs.Rules.{IsRulesOf}
 use Rattle.sms_recovery.specs.declared.fault.RecoveryFault.{RecoveryFault}
 use Rattle.sms_recovery.specs.Faults.{output_failed}
-use Rattle.sms_recovery.specs.declared.fault.RecoveryFault.TheVariants.{Journal, Overdrawn, OutOfMemory}
+use Rattle.sms_recovery.specs.declared.fault.RecoveryFault.TheVariants as variants
+use Rattle.sms_recovery.specs.declared.fault.RecoveryFault.TheVariants.{Journal, OtherFiles, Overdrawn, OutOfMemory}
+use Rattle.sms_recovery.specs.declared.recovering.Recovered.{Recovered}
 
 -- a row for each account, of what is told of the messages, and it balances
 pub record AreRowsTold (openings : List Opening) (ms : List Message) (told : List MessageTold) (rows : List Row) : Type 0 where
@@ -84,21 +89,30 @@ pub record TellsInputsRecovery (input : TheInput) (notes : List Note) (old new :
 
 -- ---- of a journal
 
--- the first faulty record of the journal's text is this
-abbrev pub TellsText : Digests → List ℕ → RecoveryFault → Type 0
-TellsText digests journal fault = (fault ≡ OutOfMemory) ⊎ ((k : ℕ) × (fault ≡ Journal k) × IsBadRecord digests journal k)
+-- a journal of this kind is taken: that of a trial only where it is asked for
+abbrev pub IsTaken : Bool → JournalKind → Type 0
+IsTaken trial kind = kind ≡ Trial → trial ≡ true
 
--- the input was read, and the journal of a run of files with these digests, and what it tells was written
-pub record RecoversJournal (config accounts messages : List ℕ) (tariff : Option (List ℕ)) (journal : List ℕ) (old new : Option (List ℕ)) (status : ℕ) : Type 0 where
+-- why the journal's text is refused: its first faulty record is this, or it is of other files, or it is the journal of a trial, which wasn't asked for
+abbrev pub TellsText : Digests → Bool → List ℕ → RecoveryFault → Type 0
+TellsText digests trial journal fault =
+    (fault ≡ OutOfMemory)
+    ⊎ ((k : ℕ) × (fault ≡ Journal k) × IsBadRecord digests journal k)
+    ⊎ ((file : RunFile) × (fault ≡ OtherFiles file) × IsOfOthers digests journal file)
+    ⊎ ((fault ≡ variants.Trial) × (trial ≡ false) × (notes : List Note) × IsJournalText digests journal Trial notes)
+
+-- the input was read, and the journal of a run of files with these digests, or of a trial, and what it tells was written
+pub record RecoversJournal (config accounts messages : List ℕ) (tariff : Option (List ℕ)) (journal : List ℕ) (trial : Bool) (old new : Option (List ℕ)) (recovered : Recovered) : Type 0 where
   pub input : TheInput
   pub read : Reads config accounts messages tariff input
   pub notes : List Note
-  pub text : IsJournalText (digests_of config accounts messages tariff) journal notes
-  pub recovers : RecoversInput input notes old new status
+  pub text : IsJournalText (digests_of config accounts messages tariff) journal recovered.kind notes
+  pub taken : IsTaken trial recovered.kind
+  pub recovers : RecoversInput input notes old new recovered.status
 
 -- what a fault says: it is of the input, of the journal's text, or of its notes
-abbrev pub TellsJournal : List ℕ → List ℕ → List ℕ → Option (List ℕ) → List ℕ → Option (List ℕ) → Option (List ℕ) → RecoveryFault → Type 0
-TellsJournal config accounts messages tariff journal old new fault =
+abbrev pub TellsJournal : List ℕ → List ℕ → List ℕ → Option (List ℕ) → List ℕ → Bool → Option (List ℕ) → Option (List ℕ) → RecoveryFault → Type 0
+TellsJournal config accounts messages tariff journal trial old new fault =
     TellsFiles config accounts messages tariff fault
-    ⊎ ((input : TheInput) × Reads config accounts messages tariff input × TellsText (digests_of config accounts messages tariff) journal fault)
-    ⊎ ((input : TheInput) × Reads config accounts messages tariff input × (notes : List Note) × IsJournalText (digests_of config accounts messages tariff) journal notes × TellsInputsRecovery input notes old new fault)
+    ⊎ ((input : TheInput) × Reads config accounts messages tariff input × TellsText (digests_of config accounts messages tariff) trial journal fault)
+    ⊎ ((input : TheInput) × Reads config accounts messages tariff input × (kind : JournalKind) × IsTaken trial kind × (notes : List Note) × IsJournalText (digests_of config accounts messages tariff) journal kind notes × TellsInputsRecovery input notes old new fault)

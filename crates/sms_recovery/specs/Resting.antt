@@ -1,10 +1,10 @@
 -- What is printed of a report of a run, and what a fault says.
-use Rattle.std.specs.Prelude.{◌≡◌, ◌⊎◌, ℕ, List, Option, length}
+use Rattle.std.specs.Prelude.{◌≡◌, ◌⊎◌, ℕ, List, Option}
 use Rattle.std.specs.Io.KnownBytes.{Appends}
-use Rattle.sms_book.specs.Openings.{names_of}
 use Rattle.sms_files.specs.Fields.{records_of}
 use Rattle.sms_files.specs.declared.input.Input.{Input as TheInput}
 use Rattle.sms_recovery.specs.Files.{IsCut, Reads, TellsFiles}
+use Rattle.sms_recovery.specs.Plans.{plans_of}
 use Rattle.sms_recovery.specs.Rest.{rest_accounts_of, rest_of}
 use Rattle.sms_recovery.specs.Stages.{IsFirstFaulty, IsReport}
 use Rattle.sms_recovery.specs.declared.fault.RecoveryFault.{RecoveryFault}
@@ -12,12 +12,12 @@ use Rattle.sms_recovery.specs.declared.fault.RecoveryFault.TheVariants.{OutOfMem
 
 -- the octets are a report of this input's messages and accounts
 abbrev pub IsReportOf : TheInput → List ℕ → Type 0
-IsReportOf input report = IsReport (length input.messages.items) (names_of input.openings.items) (records_of report)
+IsReportOf input report = IsReport (plans_of input) input.openings.items (records_of report)
 
 -- they aren't: this record is the first that is faulty or missing
 abbrev pub TellsReport : TheInput → List ℕ → RecoveryFault → Type 0
 TellsReport input report fault =
-    (fault ≡ OutOfMemory) ⊎ ((k : ℕ) × (fault ≡ Report k) × IsFirstFaulty (length input.messages.items) (names_of input.openings.items) (records_of report) k)
+    (fault ≡ OutOfMemory) ⊎ ((k : ℕ) × (fault ≡ Report k) × IsFirstFaulty (plans_of input) input.openings.items (records_of report) k)
 
 -- the files were read
 abbrev pub TellsReported : List ℕ → List ℕ → List ℕ → Option (List ℕ) → List ℕ → RecoveryFault → Type 0

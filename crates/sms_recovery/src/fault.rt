@@ -1,6 +1,7 @@
 //! Why nothing is recovered.
 
 use sms_files::InputFault;
+use sms_journal::RunFile;
 use sms_report::{OutputFault, Unwritten};
 use std::alloc::AllocError;
 
@@ -13,6 +14,12 @@ pub enum RecoveryFault {
     /// The journal's record, counted from 1, isn't one that the run can have written there.
     #[error("journal record {0}")]
     Journal(usize),
+    /// The journal is of other files, of which this is the first that differs.
+    #[error("journal record 1")]
+    OtherFiles(RunFile),
+    /// The journal is of a trial.
+    #[error("journal of a trial")]
+    Trial,
     /// By the journal more is reserved and charged than an account had.
     #[error("journal")]
     Overdrawn,

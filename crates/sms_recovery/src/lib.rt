@@ -10,6 +10,7 @@ mod journaled;
 pub mod laws;
 mod left;
 mod line;
+mod plan;
 mod printing;
 mod records;
 mod recovering;
@@ -18,5 +19,5 @@ mod rules;
 mod stage;
 
 pub use fault::RecoveryFault;
-pub use recovering::run_recover;
+pub use recovering::{Recovered, run_recover};
 pub use rest::{run_rest, run_rest_accounts};

@@ -1,11 +1,12 @@
 //! The lines of a report: what they say of messages and of accounts.
 
-ghost use Rattle.std.specs.Prelude.{◌≡◌};
+ghost use Rattle.std.specs.Prelude.{◌≡◌, ◌↔◌, ◌+◌, IsTrue, string_bytes};
 ghost use Rattle.csv.specs.Records.{fields_of};
 ghost use Rattle.sms_files.specs.Rows.{field_is};
-ghost use Rattle.sms_recovery.specs.Lines.{account_in, amount_in, ending_in as ending_said, fits as they_fit, is_header, is_left as stays, is_statement_header, line_in, number_in, outcome_in as outcome_said, refusal_in as refusal_said, status_in};
+ghost use Rattle.sms_recovery.specs.Lines.{account_in, amount_in, balances as it_balances, ending_in as ending_said, fits as they_fit, is_amount as amount_is, is_header, is_left as stays, is_statement_header, line_in, number_in, outcome_in as outcome_said, refusal_in as refusal_said, status_in};
 
 use csv::ByteRecord;
+use sms_book::Opening;
 use sms_core::decimal_of;
 use sms_message::{MessageRefusal, Outcome};
 
@@ -189,16 +190,50 @@ pub(crate) fn is_accounts_header(record: &ByteRecord) -> bool
         && is_field(record, 5, b"returned")
 }
 
-/// Whether the record is the row of an account with this name.
-pub(crate) fn is_account(record: &ByteRecord, name: &[u8]) -> bool
-    ensures { result ≡ account_in name.now (fields_of «record».now) }
+/// Whether the record's field at a place is this amount.
+fn is_amount(record: &ByteRecord, place: usize, credits: u64) -> bool
+    ensures { result ≡ amount_is (amount_in (fields_of «record».now) place) credits }
+{
+    match amount_at(record, place) {
+        Some(amount) => amount == credits,
+        None => false,
+    }
+}
+
+/// Whether the amounts are together what an account was topped up with.
+fn are_together(free: u64, reserved: u64, charged: u64, topped: u64) -> bool
+    ensures { IsTrue result ↔ (free + reserved + charged ≡ topped) }
+{
+    match free.checked_add(reserved) {
+        Some(held) => held.checked_add(charged) == Some(topped),
+        None => false,
+    }
+}
+
+/// Whether what an account was topped up with is free, reserved or charged by its row.
+fn balances(record: &ByteRecord, topped: u64) -> bool
+    ensures { result ≡ it_balances topped (amount_in (fields_of «record».now) 2) (amount_in (fields_of «record».now) 3) (amount_in (fields_of «record».now) 4) }
+{
+    let Some(free) = amount_at(record, 2) else {
+        return false;
+    };
+    let Some(reserved) = amount_at(record, 3) else {
+        return false;
+    };
+    let Some(charged) = amount_at(record, 4) else {
+        return false;
+    };
+    are_together(free, reserved, charged, topped)
+}
+
+/// Whether the record is the row of this account.
+pub(crate) fn is_account(record: &ByteRecord, opening: &Opening) -> bool
+    ensures { result ≡ account_in (string_bytes opening.now.name) opening.now.credits (fields_of «record».now) }
 {
     record.len() == 6
-        && is_field(record, 0, name)
-        && amount_at(record, 1).is_some()
-        && amount_at(record, 2).is_some()
-        && amount_at(record, 3).is_some()
-        && amount_at(record, 4).is_some()
+        && is_field(record, 0, opening.name.as_bytes())
+        && is_amount(record, 1, opening.credits)
+        && balances(record, opening.credits)
         && amount_at(record, 5).is_some()
 }
 

@@ -3,7 +3,7 @@
 ghost use Rattle.std.specs.Prelude.{◌≡◌, ◌≢◌, IfErr, IfOk, option_copied};
 ghost use Rattle.sms_journal.specs.Digests.{digests_of as of_files};
 ghost use Rattle.sms_journal.specs.Lines.{IsJournalText};
-ghost use Rattle.sms_recovery.specs.Recovering.{RecoversInput, RecoversJournal, TellsInputsRecovery, TellsJournal, TellsText};
+ghost use Rattle.sms_recovery.specs.Recovering.{IsTaken, RecoversInput, RecoversJournal, TellsInputsRecovery, TellsJournal, TellsText};
 ghost use Rattle.sms_recovery.specs.Faults.{output_failed};
 
 use crate::fault::RecoveryFault;
@@ -11,11 +11,19 @@ use crate::files::input_of;
 use crate::journaled::recover_notes;
 use crate::rules::rules_of;
 use sms_files::{Config, Input};
-use sms_journal::{JournalError, Note, digests_of, read_notes};
+use sms_journal::{JournalError, JournalKind, JournalNotes, Note, digests_of, read_notes};
 use std::alloc::Global;
 use std::io::Write;
 
-/// The notes of a run of these files.
+/// What was recovered.
+#[derive(Clone, Copy, Debug, PartialEq, Eq)]
+pub struct Recovered {
+    /// The exit status that the run would have had.
+    pub status: u8,
+    pub kind: JournalKind,
+}
+
+/// The journal of a run of these files, or of a trial where one may be.
 fn notes_in(
     alloc: Global,
     config: &[u8],
@@ -23,14 +31,21 @@ fn notes_in(
     messages: &[u8],
     tariff: Option<&[u8]>,
     journal: &[u8],
-) -> Result<Vec<Note>, RecoveryFault>
-    ensures notes { IfOk result (λ notes. IsJournalText (of_files config.now accounts.now messages.now (option_copied tariff.entry)) journal.now notes.items) }
-    ensures refused { IfErr result (TellsText (of_files config.now accounts.now messages.now (option_copied tariff.entry)) journal.now) }
+    trial: bool,
+) -> Result<JournalNotes, RecoveryFault>
+    ensures notes { IfOk result (λ read. IsJournalText (of_files config.now accounts.now messages.now (option_copied tariff.entry)) journal.now read.kind read.notes.items × IsTaken trial read.kind) }
+    ensures refused { IfErr result (TellsText (of_files config.now accounts.now messages.now (option_copied tariff.entry)) trial journal.now) }
 {
     let digests = digests_of(config, accounts, messages, tariff);
     match read_notes(alloc, journal, &digests) {
-        Ok(notes) => Ok(notes),
+        Ok(read) => {
+            if read.kind == JournalKind::Trial && !trial {
+                return Err(RecoveryFault::Trial);
+            }
+            Ok(read)
+        }
         Err(JournalError::BadRecord(record)) => Err(RecoveryFault::Journal(record)),
+        Err(JournalError::OtherFiles(file)) => Err(RecoveryFault::OtherFiles(file)),
         Err(_) => Err(RecoveryFault::OutOfMemory),
     }
 }
@@ -65,9 +80,10 @@ fn recover_input<W: Write>(
     )
 }
 
-/// Prints the report that the run of these files would have printed if all its lines had gone down
-/// behind the last whole record of its journal, and gives the exit status that it would have had: 4
-/// where a part is unanswered, else 0. The report is formed whole before its first octet is written.
+/// Prints the report that the run of these files would have printed if all its connections had gone down
+/// after the last whole record of its journal, and gives the exit status that it would have had: 4
+/// where a part is unanswered, else 0. The report is formed whole before its first octet is written. The
+/// journal of a trial is refused unless `trial` says that it may be one.
 pub fn run_recover<W: Write>(
     alloc: Global,
     config: &[u8],
@@ -75,22 +91,29 @@ pub fn run_recover<W: Write>(
     messages: &[u8],
     tariff: Option<&[u8]>,
     journal: &[u8],
+    trial: bool,
     output: &mut W,
-) -> Result<u8, RecoveryFault>
-    ensures recovered { IfOk result (RecoversJournal config.now accounts.now messages.now (option_copied tariff.entry) journal.now (W.contents output.old) (W.contents output.new)) }
-    ensures refused { IfErr result (TellsJournal config.now accounts.now messages.now (option_copied tariff.entry) journal.now (W.contents output.old) (W.contents output.new)) }
+) -> Result<Recovered, RecoveryFault>
+    ensures recovered { IfOk result (RecoversJournal config.now accounts.now messages.now (option_copied tariff.entry) journal.now trial (W.contents output.old) (W.contents output.new)) }
+    ensures refused { IfErr result (TellsJournal config.now accounts.now messages.now (option_copied tariff.entry) journal.now trial (W.contents output.old) (W.contents output.new)) }
     ensures quiet { IfErr result (λ fault. fault ≢ output_failed → output.new ≡ output.old) }
 {
     let input = match input_of(alloc, config, accounts, messages, tariff) {
         Ok(input) => input,
         Err(fault) => return Err(fault),
     };
-    let notes = match notes_in(alloc, config, accounts, messages, tariff, journal) {
-        Ok(notes) => notes,
+    let read = match notes_in(alloc, config, accounts, messages, tariff, journal, trial) {
+        Ok(read) => read,
         Err(fault) => {
             drop(input);
             return Err(fault);
         }
     };
-    recover_input(alloc, input, notes.as_slice(), output)
+    match recover_input(alloc, input, read.notes.as_slice(), output) {
+        Ok(status) => Ok(Recovered {
+            status,
+            kind: read.kind,
+        }),
+        Err(fault) => Err(fault),
+    }
 }

@@ -11,6 +11,7 @@ ghost use Rattle.sms_recovery.specs.Faults.{output_failed};
 
 use crate::fault::RecoveryFault;
 use crate::files::input_of;
+use crate::plan::part_counts;
 use crate::printing::{accounts_text, rest_text};
 use crate::records::records_in;
 use crate::stage::check_report;
@@ -35,7 +36,9 @@ fn report_of(alloc: Global, input: &Input, report: &[u8]) -> Result<Vec<ByteReco
     ensures refused { IfErr result (TellsReport input.now report.now) }
 {
     let records = records_in(alloc, report)?;
-    check_report(input.messages().len(), input.openings(), records.as_slice())?;
+    let long = input.config().flags.long_reference;
+    let counts = part_counts(alloc, long, input.messages())?;
+    check_report(counts.as_slice(), input.openings(), records.as_slice())?;
     Ok(records)
 }
 

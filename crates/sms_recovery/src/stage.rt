@@ -2,8 +2,7 @@
 
 ghost use Rattle.std.specs.Prelude.{◌≡◌, ◌⊎◌, ℕ, ◌+◌, ◌↔◌, IfErr, IsTrue, OnOk, length, map, slice_get};
 ghost use Rattle.csv.specs.Records.{fields_of};
-ghost use Rattle.sms_book.specs.Openings.{names_of};
-ghost use Rattle.sms_recovery.specs.Stages.{IsFirstFaulty, IsReport, begins as may_begin, goes_on as may_go_on, step, with_line, with_row};
+ghost use Rattle.sms_recovery.specs.Stages.{IsFirstFaulty, IsReport, begins as may_begin, count_at as parts_at, goes_on as may_go_on, is_whole as are_whole, step, with_line, with_row};
 ghost use Rattle.sms_recovery.specs.Lines.{line_in};
 ghost use Rattle.sms_recovery.specs.declared.fault.RecoveryFault.TheVariants.{OutOfMemory, Report};
 ghost use Rattle.sms_recovery.specs.declared.stage.Stage.TheVariants.{Rows};
@@ -24,31 +23,53 @@ pub(crate) enum Stage {
     Rows(usize),
 }
 
-/// Whether the line is the first of the next message.
-fn begins(count: usize, begun: u64, line: &Line) -> bool
-    ensures { result ≡ may_begin count begun line.now }
+/// In how many parts the message at a place is sent.
+fn count_at(counts: &[u8], place: u64) -> u32
+    ensures { result ≡ parts_at counts.now place }
 {
-    u64::from(line.message) == begun && begun < count as u64 && line.part <= 1
+    match counts.get(place as usize) {
+        Some(count) => u32::from(*count),
+        None => 0,
+    }
+}
+
+/// Whether the last message that has lines was refused as a whole, or has one for each of its parts.
+fn is_whole(counts: &[u8], begun: u64, parts: u32) -> bool
+    ensures { result ≡ are_whole counts.now begun parts }
+{
+    parts == 0 || parts == count_at(counts, begun.saturating_sub(1))
+}
+
+/// Whether the line is the first of the next message.
+fn begins(counts: &[u8], begun: u64, parts: u32, line: &Line) -> bool
+    ensures { result ≡ may_begin counts.now begun parts line.now }
+{
+    is_whole(counts, begun, parts)
+        && u64::from(line.message) == begun
+        && begun < counts.len() as u64
+        && line.part <= 1
+        && line.part <= count_at(counts, begun)
 }
 
 /// Whether the line is of the next part.
-fn goes_on(begun: u64, parts: u32, line: &Line) -> bool
-    ensures { result ≡ may_go_on begun parts line.now }
+fn goes_on(counts: &[u8], begun: u64, parts: u32, line: &Line) -> bool
+    ensures { result ≡ may_go_on counts.now begun parts line.now }
 {
     u64::from(line.message) + 1 == begun
         && parts >= 1
         && u64::from(line.part) == u64::from(parts) + 1
+        && line.part <= count_at(counts, u64::from(line.message))
 }
 
 /// How far they are with a line.
-fn after_line(count: usize, begun: u64, parts: u32, record: &ByteRecord) -> Option<Stage>
-    ensures { result ≡ with_line count begun parts (line_in (fields_of «record».now)) }
+fn after_line(counts: &[u8], begun: u64, parts: u32, record: &ByteRecord) -> Option<Stage>
+    ensures { result ≡ with_line counts.now begun parts (line_in (fields_of «record».now)) }
 {
     let line = match line_of(record) {
         Some(line) => line,
         None => return None,
     };
-    if begins(count, begun, &line) || goes_on(begun, parts, &line) {
+    if begins(counts, begun, parts, &line) || goes_on(counts, begun, parts, &line) {
         Some(Stage::Lines(u64::from(line.message) + 1, line.part))
     } else {
         None
@@ -57,11 +78,11 @@ fn after_line(count: usize, begun: u64, parts: u32, record: &ByteRecord) -> Opti
 
 /// How far they are with the row of an account.
 fn after_row(openings: &[Opening], done: usize, record: &ByteRecord) -> Option<Stage>
-    ensures { result ≡ with_row done (slice_get (names_of openings.now) done) (fields_of «record».now) }
+    ensures { result ≡ with_row done (slice_get openings.now done) (fields_of «record».now) }
 {
     match openings.get(done) {
         Some(opening) => {
-            if is_account(record, opening.name.as_bytes()) {
+            if is_account(record, opening) {
                 Some(Stage::Rows(done + 1))
             } else {
                 None
@@ -73,12 +94,12 @@ fn after_row(openings: &[Opening], done: usize, record: &ByteRecord) -> Option<S
 
 /// How far they are with one record more, where it may stand there.
 fn next_stage(
-    count: usize,
+    counts: &[u8],
     openings: &[Opening],
     stage: Stage,
     record: &ByteRecord,
 ) -> Option<Stage>
-    ensures { result ≡ step count (names_of openings.now) (fields_of «record».now) stage }
+    ensures { result ≡ step counts.now openings.now (fields_of «record».now) stage }
 {
     match stage {
         Stage::Start => {
@@ -89,10 +110,13 @@ fn next_stage(
             }
         }
         Stage::Lines(begun, parts) => {
-            if begun == count as u64 && is_accounts_header(record) {
+            if begun == counts.len() as u64
+                && is_whole(counts, begun, parts)
+                && is_accounts_header(record)
+            {
                 Some(Stage::Rows(0))
             } else {
-                after_line(count, begun, parts, record)
+                after_line(counts, begun, parts, record)
             }
         }
         Stage::Rows(done) => after_row(openings, done, record),
@@ -111,7 +135,7 @@ fn fault_behind(before: usize) -> RecoveryFault
 
 /// Whether all rows are there.
 fn is_end(stage: Stage, openings: &[Opening]) -> bool
-    ensures { IsTrue result ↔ (stage ≡ Rows (length (names_of openings.now))) }
+    ensures { IsTrue result ↔ (stage ≡ Rows (length openings.now)) }
 {
     match stage {
         Stage::Rows(done) => done == openings.len(),
@@ -119,19 +143,19 @@ fn is_end(stage: Stage, openings: &[Opening]) -> bool
     }
 }
 
-/// That the records are a report of so many messages and of these accounts. The first faulty record
-/// is told, or the one that is missing at the end.
+/// That the records are a report of messages that are sent in so many parts each, and of these accounts.
+/// The fault is the first faulty record, or the one that is missing at the end.
 pub(crate) fn check_report(
-    count: usize,
+    counts: &[u8],
     openings: &[Opening],
     records: &[ByteRecord],
 ) -> Result<(), RecoveryFault>
-    ensures report { OnOk result (IsReport count (names_of openings.now) (map fields_of records.now)) }
-    ensures faulty { IfErr result (λ fault. (fault ≡ OutOfMemory) ⊎ ((k : ℕ) × (fault ≡ Report k) × IsFirstFaulty count (names_of openings.now) (map fields_of records.now) k)) }
+    ensures report { OnOk result (IsReport counts.now openings.now (map fields_of records.now)) }
+    ensures faulty { IfErr result (λ fault. (fault ≡ OutOfMemory) ⊎ ((k : ℕ) × (fault ≡ Report k) × IsFirstFaulty counts.now openings.now (map fields_of records.now) k)) }
 {
     let mut stage = Stage::Start;
     for place in 0..records.len() {
-        match next_stage(count, openings, stage, &records[place]) {
+        match next_stage(counts, openings, stage, &records[place]) {
             Some(next) => stage = next,
             None => return Err(fault_behind(place)),
         }

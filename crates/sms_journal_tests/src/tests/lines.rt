@@ -1,7 +1,7 @@
 //! The lines of notes, and the header.
 
 use super::{Row, THROTTLED, note_of, same};
-use sms_journal::{Digests, Note, write_header, write_note};
+use sms_journal::{Digests, JournalKind, Note, write_header, write_note};
 use sms_pdu::reply_of;
 use std::alloc::{AllocError, Global};
 use std::process::Abort;
@@ -59,30 +59,32 @@ fn message_ids_stand_on_one_line(rt: HostRuntime) -> Result<(), Fail> {
     Ok(())
 }
 
-fn header_of(alloc: Global, tariff: Option<[u8; 32]>) -> Result<String, AllocError> {
+fn header_of(alloc: Global, kind: JournalKind) -> Result<String, AllocError> {
     let digests = Digests {
         config: [0; 32],
         accounts: [1; 32],
         messages: [0xAB; 32],
-        tariff,
+        tariff: None,
     };
     let mut text = String::new(alloc);
-    write_header(&mut text, &digests)?;
+    write_header(&mut text, kind, &digests)?;
     Ok(text)
 }
 
+/// The digests in the headers of those files.
+const FIELDS: &str = concat!(
+    "0000000000000000000000000000000000000000000000000000000000000000,",
+    "0101010101010101010101010101010101010101010101010101010101010101,",
+    "abababababababababababababababababababababababababababababababab,\n"
+);
+
 #[test]
-fn the_header_has_the_digests(rt: HostRuntime) -> Result<(), Fail> {
+fn the_header_has_the_kind_and_the_digests(rt: HostRuntime) -> Result<(), Fail> {
     let alloc = rt.alloc();
-    let without = header_of(alloc, None)?;
-    same(
-        &rt,
-        without.as_str(),
-        concat!(
-            "journal,1,0000000000000000000000000000000000000000000000000000000000000000,",
-            "0101010101010101010101010101010101010101010101010101010101010101,",
-            "abababababababababababababababababababababababababababababababab,\n"
-        ),
-    );
+    for (kind, word) in [(JournalKind::Run, "journal"), (JournalKind::Trial, "trial")] {
+        let got = header_of(alloc, kind)?;
+        let wanted = format!(in alloc; "{word},1,{FIELDS}")?;
+        same(&rt, got.as_str(), wanted.as_str());
+    }
     Ok(())
 }

@@ -2,7 +2,8 @@
 
 use super::same;
 use sms_journal::{
-    Call, Digests, JournalError, Note, digests_of, read_notes, write_header, write_note,
+    Call, Digests, JournalError, JournalKind, Note, RunFile, digests_of, read_notes, write_header,
+    write_note,
 };
 use sms_pdu::reply_of;
 use sms_worker::MessageRefusal;
@@ -176,7 +177,7 @@ fn text_of(alloc: Global, front: &str, behind: &str) -> Result<String, AllocErro
 /// How many notes are read, or which record is faulty.
 fn count_of(alloc: Global, text: &str) -> Result<Result<usize, usize>, JournalError> {
     match read_notes(alloc, text.as_bytes(), &DIGESTS) {
-        Ok(notes) => Ok(Ok(notes.len())),
+        Ok(read) => Ok(Ok(read.notes.len())),
         Err(JournalError::BadRecord(place)) => Ok(Err(place)),
         Err(other) => Err(other),
     }
@@ -197,12 +198,17 @@ fn journals_are_read(rt: HostRuntime) -> Result<(), Fail> {
 }
 
 /// Texts, from their first octet on.
-const WHOLE: [(&str, Result<usize, usize>); 6] = [
+const WHOLE: [(&str, Result<usize, usize>); 11] = [
     // The run ended before it had noted anything.
     ("", Ok(0)),
     ("journal,1,10", Ok(0)),
-    // No journal, and one of other files.
+    ("trial,1,1010", Ok(0)),
+    // No journal, and truncated headers of other files.
     ("journal,2,10", Err(1)),
+    ("trials,1,10", Err(1)),
+    ("journal,1,11", Err(1)),
+    ("trial,1,\n", Err(1)),
+    ("trial,1,,,,\n", Err(1)),
     ("message,part\n", Err(1)),
     ("\n", Err(1)),
     ("begun,1,0\n", Err(1)),
@@ -222,9 +228,9 @@ fn headers_are_of_the_files(rt: HostRuntime) -> Result<(), Fail> {
 /// A submit_sm_resp with status 0, the number 1 and a message_id.
 const ANSWER: &[u8] = b"\0\0\0\x19\x80\0\0\x04\0\0\0\0\0\0\0\x01a7,%\"~\xE9 \0";
 
-fn written(alloc: Global, notes: &[Note]) -> Result<String, AllocError> {
+fn written(alloc: Global, kind: JournalKind, notes: &[Note]) -> Result<String, AllocError> {
     let mut text = String::new(alloc);
-    write_header(&mut text, &DIGESTS)?;
+    write_header(&mut text, kind, &DIGESTS)?;
     for note in notes {
         write_note(&mut text, 1_700_000_000_123, note)?;
     }
@@ -249,9 +255,121 @@ fn what_was_written_is_read(rt: HostRuntime) -> Result<(), Fail> {
         Note::Refused(9, MessageRefusal::NoCredit),
         Note::End(4),
     ];
-    let text = written(alloc, notes.as_slice())?;
-    let read = read_notes(alloc, text.as_bytes(), &DIGESTS)?;
-    same(&rt, read.as_slice(), notes.as_slice());
+    for kind in [JournalKind::Run, JournalKind::Trial] {
+        let text = written(alloc, kind, notes.as_slice())?;
+        let read = read_notes(alloc, text.as_bytes(), &DIGESTS)?;
+        same(&rt, read.kind, kind);
+        same(&rt, read.notes.as_slice(), notes.as_slice());
+    }
+    Ok(())
+}
+
+fn front_of(text: &[u8], octets: usize) -> &[u8] {
+    if octets < text.len() {
+        &text[..octets]
+    } else {
+        text
+    }
+}
+
+/// The kind of a journal of which only so many octets were written.
+fn kind_of(
+    alloc: Global,
+    kind: JournalKind,
+    octets: usize,
+) -> Result<Result<JournalKind, JournalError>, AllocError> {
+    let text = written(alloc, kind, &[])?;
+    match read_notes(alloc, front_of(text.as_bytes(), octets), &DIGESTS) {
+        Ok(read) => Ok(Ok(read.kind)),
+        Err(JournalError::OutOfMemory) => Err(AllocError),
+        Err(fault) => Ok(Err(fault)),
+    }
+}
+
+#[test]
+fn truncated_headers_are_of_their_kind(rt: HostRuntime) -> Result<(), Fail> {
+    let alloc = rt.alloc();
+    same(
+        &rt,
+        kind_of(alloc, JournalKind::Trial, 0)?,
+        Ok(JournalKind::Run),
+    );
+    for octets in [1, 5, 9, 40, 204] {
+        same(
+            &rt,
+            kind_of(alloc, JournalKind::Run, octets)?,
+            Ok(JournalKind::Run),
+        );
+        same(
+            &rt,
+            kind_of(alloc, JournalKind::Trial, octets)?,
+            Ok(JournalKind::Trial),
+        );
+    }
+    Ok(())
+}
+
+/// Of a journal of the files with [`DIGESTS`], read as that of others, the file that differs.
+fn other_file(
+    alloc: Global,
+    kind: JournalKind,
+    others: &Digests,
+) -> Result<Option<RunFile>, AllocError> {
+    let notes = [Note::Begun(3)];
+    let text = written(alloc, kind, notes.as_slice())?;
+    match read_notes(alloc, text.as_bytes(), others) {
+        Ok(_) => Ok(None),
+        Err(JournalError::OtherFiles(file)) => Ok(Some(file)),
+        Err(_) => Err(AllocError),
+    }
+}
+
+fn with_config(digests: Digests) -> Digests {
+    Digests {
+        config: [0xFF; 32],
+        ..digests
+    }
+}
+
+fn with_accounts(digests: Digests) -> Digests {
+    Digests {
+        accounts: [0x10; 32],
+        ..digests
+    }
+}
+
+fn with_messages(digests: Digests) -> Digests {
+    Digests {
+        messages: [0x2A; 32],
+        ..digests
+    }
+}
+
+fn with_tariff(digests: Digests) -> Digests {
+    Digests {
+        tariff: Some([0xFF; 32]),
+        ..digests
+    }
+}
+
+#[test]
+fn the_first_file_that_differs_is_named(rt: HostRuntime) -> Result<(), Fail> {
+    let alloc = rt.alloc();
+    let tariff = with_tariff(DIGESTS);
+    let messages = with_messages(tariff);
+    let accounts = with_accounts(messages);
+    let cases = [
+        (DIGESTS, None),
+        (tariff, Some(RunFile::Tariff)),
+        (messages, Some(RunFile::Messages)),
+        (accounts, Some(RunFile::Accounts)),
+        (with_config(accounts), Some(RunFile::Config)),
+    ];
+    for (others, wanted) in &cases {
+        for kind in [JournalKind::Run, JournalKind::Trial] {
+            same(&rt, other_file(alloc, kind, others)?, *wanted);
+        }
+    }
     Ok(())
 }
 

@@ -2,8 +2,8 @@
 
 use super::same::same;
 use super::told::told_of;
-use sms_journal::{digests_of, write_header};
-use sms_recovery::run_recover;
+use sms_journal::{JournalKind, digests_of, write_header};
+use sms_recovery::{Recovered, run_recover};
 use std::alloc::{AllocError, Global};
 use std::fmt::Write;
 use std::test::Fail;
@@ -89,23 +89,52 @@ const FAULTY: [(&str, &str, &str); 7] = [
 
 /// The journal of a run of these files.
 fn journal_of(alloc: Global, accounts: &[u8], records: &str) -> Result<String, AllocError> {
+    journal_as(alloc, JournalKind::Run, accounts, records)
+}
+
+fn journal_as(
+    alloc: Global,
+    kind: JournalKind,
+    accounts: &[u8],
+    records: &str,
+) -> Result<String, AllocError> {
     let mut text = String::new(alloc);
-    write_header(&mut text, &digests_of(CONFIG, accounts, MESSAGES, None))?;
+    write_header(
+        &mut text,
+        kind,
+        &digests_of(CONFIG, accounts, MESSAGES, None),
+    )?;
     text.push_str(records)?;
     Ok(text)
 }
 
 /// What is printed and the status, or the fault.
 fn recovered(alloc: Global, accounts: &[u8], journal: &[u8]) -> Result<String, Fail> {
+    recovered_as(alloc, accounts, journal, false)
+}
+
+/// The same, where the journal may be one of a trial, which is printed behind the status.
+fn recovered_as(
+    alloc: Global,
+    accounts: &[u8],
+    journal: &[u8],
+    trial: bool,
+) -> Result<String, Fail> {
     let mut out = Vec::new(alloc);
-    match run_recover(alloc, CONFIG, accounts, MESSAGES, None, journal, &mut out) {
-        Ok(status) => {
+    let recovered = run_recover(
+        alloc, CONFIG, accounts, MESSAGES, None, journal, trial, &mut out,
+    );
+    match recovered {
+        Ok(Recovered { status, kind }) => {
             let mut text = String::new(alloc);
             match std::str::from_utf8(out.as_slice()) {
                 Ok(printed) => text.push_str(printed)?,
                 Err(_) => text.push_str("no text")?,
             }
             write!(text, "{status}")?;
+            if kind == JournalKind::Trial {
+                text.push_str(" trial")?;
+            }
             Ok(text)
         }
         Err(fault) => told_of(alloc, fault),
@@ -146,6 +175,25 @@ fn tells_what_is_no_journal_of_a_run(rt: HostRuntime) -> Result<(), Fail> {
     Ok(())
 }
 
+#[test]
+fn recovers_a_trial_only_where_one_may_be(rt: HostRuntime) -> Result<(), Fail> {
+    let alloc = rt.alloc();
+    let accounts = accounts_with(alloc, "3")?;
+    let records = "begun,5,0\nsent,6,0,1,0,1\nheard,7,0,1,0,0,m1\n";
+    let report = "0,1,1,charged,0,m1\n1,0,0,bind-closed,,\n";
+    let of_trial = journal_as(alloc, JournalKind::Trial, accounts.as_bytes(), records)?;
+    let refused = recovered(alloc, accounts.as_bytes(), of_trial.as_bytes())?;
+    same(&rt, refused.as_str(), "journal of a trial");
+    let taken = recovered_as(alloc, accounts.as_bytes(), of_trial.as_bytes(), true)?;
+    let wanted = format!(in alloc; "{HEAD}{report}{STATEMENT}2,0,1,0\n0 trial")?;
+    same(&rt, taken.as_str(), wanted.as_str());
+    let of_run = journal_of(alloc, accounts.as_bytes(), records)?;
+    let taken = recovered_as(alloc, accounts.as_bytes(), of_run.as_bytes(), true)?;
+    let wanted = format!(in alloc; "{HEAD}{report}{STATEMENT}2,0,1,0\n0")?;
+    same(&rt, taken.as_str(), wanted.as_str());
+    Ok(())
+}
+
 /// Each front of a journal tells a report whose account has all its credits.
 #[test]
 fn tells_a_report_of_each_front_of_a_journal(rt: HostRuntime) -> Result<(), Fail> {
@@ -164,6 +212,7 @@ fn tells_a_report_of_each_front_of_a_journal(rt: HostRuntime) -> Result<(), Fail
             MESSAGES,
             None,
             front,
+            false,
             &mut out,
         ) {
             Ok(_) => assert!(rt; balances(out.as_slice())),

@@ -3,7 +3,7 @@ use Rattle.std.proofs.lemmas.Slice.Eq.{slice_eq-Decides}
 use Rattle.std.proofs.lemmas.Bool.Decides.{Decides-eqb}
 use Rattle.std.proofs.lemmas.Bool.{both_ways}
 use Rattle.sms_journal.proofs.Records.{no_front}
-use Rattle.sms_journal.proofs.lines.behind.Goals as goal
+use Rattle.sms_journal.proofs.head.behind.Goals as goal
 
 pub returns-else-eq : goal.returns-else-eq
 returns-else-eq c = λ rest is.
