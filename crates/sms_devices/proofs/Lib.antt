@@ -2,3 +2,5 @@ pub mod Words
 pub mod Passing
 pub mod Looking
 pub mod Woken
+pub mod Buckets
+pub mod Stops

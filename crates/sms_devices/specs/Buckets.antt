@@ -1,7 +1,67 @@
--- What has come by a steady rate and isn't used yet, in thousandths of a request; times in milliseconds.
-use Rattle.std.specs.Prelude.{ℕ, ◌+◌, ◌*◌, ◌-◌, min}
+-- How many requests may be sent, where at most so many are sent in any second. A level counts 1,010ths of a request; times are in milliseconds.
+use Rattle.std.specs.Prelude.{ℕ, Bool, List, [], ◌∷◌, ◌+◌, ◌*◌, ◌-◌, ◌/◌, max, min, nat_lt, if◌then◌else◌}
 use Rattle.sms_devices.specs.declared.bucket.Bucket.{Bucket}
+
+-- of so many requests in a second, how many there is room for: those of a fiftieth of a second, and one at least
+abbrev pub room_for : ℕ → ℕ
+room_for most = max (most / 50) 1
+
+-- a full bucket, for at most so many requests in a second: what there is room for, and what comes in 1,010 ms, are together one more
+abbrev pub new_bucket : ℕ → ℕ → Bucket
+new_bucket most now = record {
+  rate = most - room_for most + 1;
+  depth = room_for most;
+  level = room_for most * 1010;
+  at_ms = now;
+  lent = 0;
+}
 
 -- what is there at a time: what was there, and what came since by the rate, as far as there is room
 abbrev pub level_at : Bucket → ℕ → ℕ
-level_at b now = min (b.depth * 1000) (b.level + (now - b.at_ms) * b.rate)
+level_at b now = min (b.depth * 1010) (b.level + (now - b.at_ms) * b.rate)
+
+-- there is a request's worth for which nobody has leave
+abbrev pub can_lend : Bucket → ℕ → Bool
+can_lend b now = nat_lt b.lent (level_at b now / 1010)
+
+-- leave for one more request is given, where there is one
+abbrev pub lent_at : Bucket → ℕ → Bucket
+lent_at b now =
+    if can_lend b now
+    then record b { level = level_at b now; at_ms = max b.at_ms now; lent = b.lent + 1 }
+    else b
+
+-- a request that has leave is sent
+abbrev pub sent_at : Bucket → ℕ → Bucket
+sent_at b now = record b { level = level_at b now - 1010; at_ms = max b.at_ms now; lent = b.lent - 1 }
+
+-- a leave is given back
+abbrev pub given_back : Bucket → Bucket
+given_back b = record b { lent = b.lent - 1 }
+
+-- what is asked of a bucket: leave at a time; that a request is sent at a time, where one has leave; that a leave isn't used
+pub data Asked : Type 0 where
+  Lend : (now : ℕ) → Asked
+  Send : (now : ℕ) → Asked
+  GiveBack : Asked
+
+-- the bucket after it
+abbrev pub after : Bucket → Asked → Bucket
+after b (Lend now) = lent_at b now
+after b (Send now) = if nat_lt 0 b.lent then sent_at b now else b
+after b GiveBack = given_back b
+
+-- how many requests it sends
+abbrev pub sends_at : Bucket → Asked → ℕ
+sends_at b (Lend now) = 0
+sends_at b (Send now) = if nat_lt 0 b.lent then 1 else 0
+sends_at b GiveBack = 0
+
+-- the bucket after all of these, in order, and how many requests they send
+abbrev pub after_all : List Asked → Bucket → Bucket
+after_all [] b = b
+after_all (asked ∷ more) b = after_all more (after b asked)
+
+abbrev pub sends : List Asked → Bucket → ℕ
+sends [] b = 0
+sends (asked ∷ more) b = sends_at b asked + sends more (after b asked)

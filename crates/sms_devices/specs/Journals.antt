@@ -2,11 +2,15 @@
 use Rattle.std.specs.Prelude.{◌≤◌, ◌+◌, ◌++◌, ℕ, List, Option}
 use Rattle.std.specs.Io.KnownBytes.{Appends}
 use Rattle.std.specs.String.{string_bytes}
+use Rattle.std.specs.declared.io.ErrorKind.{ErrorKind}
+use Rattle.std.specs.declared.io.ErrorKind.TheVariants as kind
 use Rattle.sms_journal.specs.declared.note.Note.{Note}
 use Rattle.sms_journal.specs.declared.note.Note.TheVariants.{End, Sent}
 use Rattle.sms_journal.specs.Lines.{IsU64}
 use Rattle.sms_journal.specs.Text.{note_text}
 use Rattle.sms_devices.specs.declared.journal.Pages.{Pages}
+use Rattle.sms_devices.specs.declared.journal_failure.JournalFailure.{JournalFailure}
+use Rattle.sms_devices.specs.declared.journal_failure.JournalFailure.TheVariants as why
 
 -- what was noted and isn't written yet
 abbrev pub waiting_lines : {F : Type 0} → Pages F → List ℕ
@@ -27,3 +31,12 @@ request_note worker number message place = Sent (record { worker = worker; numbe
 -- a note has room for the numbers of a worker and of a part
 abbrev pub HasRoom : ℕ → ℕ → Type 0
 HasRoom worker place = (worker ≤ 4294967295) × (place + 1 ≤ 255)
+
+-- why a file fails with an error of a kind
+abbrev pub failure_of : ErrorKind → JournalFailure
+failure_of kind.OutOfMemory = why.OutOfMemory
+failure_of kind.StorageFull = why.StorageFull
+failure_of kind.QuotaExceeded = why.QuotaExceeded
+failure_of kind.FileTooLarge = why.FileTooLarge
+failure_of kind.ReadOnlyFilesystem = why.ReadOnly
+failure_of _ = why.Other

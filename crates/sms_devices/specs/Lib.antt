@@ -10,3 +10,4 @@ pub mod Wakes
 pub mod Rests
 pub mod Connecting
 pub mod Incomings
+pub mod Steady

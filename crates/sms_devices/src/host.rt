@@ -1,7 +1,7 @@
 //! What the program asks of the process that it runs in.
 
 use crate::connects::Connects;
-use crate::journal::JournalFiles;
+use crate::journal_files::JournalFiles;
 use crate::screen::Screen;
 use std::io::Eprint;
 use std::rt::Files;

@@ -18,6 +18,10 @@ use std::net::{TcpListener, TcpStream};
 use std::sync::Wait;
 use std::time::Clock;
 
+/// How many milliseconds the answer to a bind may take to come, where nobody says so: it ends the wait for one
+/// of which some octets come now and then.
+const MOST_ANSWER_MS: u32 = 60_000;
+
 /// Until when a bind that is dialled now has to be answered, if it has to; the clock may be unreadable.
 fn deadline_of<R: Clock>(rt: &R, connect_ms: Option<u32>) -> Result<Option<Deadline>, Unconnected> {
     match connect_ms {
@@ -29,9 +33,17 @@ fn deadline_of<R: Clock>(rt: &R, connect_ms: Option<u32>) -> Result<Option<Deadl
     }
 }
 
+/// Until when the answer to a bind has to be whole: by the deadline, where there is one.
+fn answered_by<R: Clock>(rt: &R, deadline: Option<Deadline>) -> Option<Deadline> {
+    match deadline {
+        Some(deadline) => Some(deadline),
+        None => Deadline::new(rt, MOST_ANSWER_MS),
+    }
+}
+
 /// Reader and writer of the connection that was reached, or why there is none. What is written waits in the
 /// outbox.
-fn ends_of<'r, 'j, S: Drop, R: Wait, F: Write + OpenFile>(
+fn ends_of<'r, 'j, S: Drop, R: Wait + Clock, F: Write + OpenFile>(
     rt: &'j R,
     alloc: Global,
     outboxes: &'r Outboxes<'j, R, F>,
@@ -42,8 +54,10 @@ fn ends_of<'r, 'j, S: Drop, R: Wait, F: Write + OpenFile>(
 ) -> Result<(Ringing<'r, 'j, S, R, F>, Posting<'r, 'j, R, F>), Unconnected>
     ensures { IfOk result (λ ends. IsOkAnd reached.entry (λ both. ends.0.inner ≡ both.0)) }
 {
+    let clock = outboxes.clock();
+    clock.go_on();
     let (inner, connection) = reached?;
-    let Some(incoming) = Incoming::new(alloc, deadline) else {
+    let Some(incoming) = Incoming::new(alloc, answered_by(rt, deadline)) else {
         return Err(Unconnected::Other);
     };
     if outbox.open(alloc, connection).is_none() {
@@ -59,6 +73,7 @@ fn ends_of<'r, 'j, S: Drop, R: Wait, F: Write + OpenFile>(
         bells,
         bind,
         outbox,
+        clock,
         incoming,
     };
     let writer = Posting {
@@ -77,7 +92,8 @@ pub struct TcpDial<'r, 'j, R: Wait, F: Write + OpenFile> {
     pub rt: &'j R,
     pub alloc: Global,
     pub outboxes: &'r Outboxes<'j, R, F>,
-    /// How many milliseconds it may take to connect and to bind; None is without an end.
+    /// How many milliseconds it may take to connect and to bind; None is without an end, but for the answer to
+    /// the bind, which may take a minute once there is a connection.
     pub connect_ms: Option<u32>,
     pub host: &'r str,
     pub port: u16,
@@ -122,7 +138,8 @@ pub struct LoopDial<'r, 'j, R: Wait, F: Write + OpenFile> {
     pub rt: &'j R,
     pub alloc: Global,
     pub outboxes: &'r Outboxes<'j, R, F>,
-    /// How many milliseconds it may take to connect and to bind; None is without an end.
+    /// How many milliseconds it may take to connect and to bind; None is without an end, but for the answer to
+    /// the bind, which may take a minute once there is a connection.
     pub connect_ms: Option<u32>,
     pub listener: TcpListener,
     /// What the centres' script says.

@@ -10,7 +10,9 @@ ghost use Rattle.sms_devices.specs.Outboxes.{has_journal, outbox_of, put_in, wai
 
 use crate::bell::Bells;
 use crate::connecting::{Reason, Unconnected};
+use crate::devices::Ticks;
 use crate::journal::{Journal, let_out_of};
+use crate::requests::Requests;
 use std::alloc::Global;
 use std::fs::OpenFile;
 use std::io;
@@ -18,7 +20,7 @@ use std::io::{BufWriter, Error, ErrorKind, Write};
 use std::net::{Shutdown, TcpStream};
 use std::sync::atomic::{AtomicU32, Ordering};
 use std::sync::{Mutex, Wait};
-use std::time::Duration;
+use std::time::{Clock, Duration};
 
 /// How many octets wait at most: some fifty requests. Fewer cost a call of the system more often, and
 /// of more the answers to the requests of a turn come in bursts, between which the connection idles.
@@ -179,6 +181,11 @@ impl<W: Write + Shut + Drop> Held<W> {
         }
     }
 
+    /// How many octets wait.
+    fn waiting(&self) -> usize {
+        self.writer.buffer().len()
+    }
+
     /// Lets nothing more be written, or neither written nor read. The connection's other end is told so,
     /// and nobody waits for it again, not even for what still waits when the outbox is dropped.
     fn give_up(&mut self, how: Shutdown)
@@ -194,6 +201,7 @@ impl<W: Write + Shut + Drop> Held<W> {
 #[derive(Drop)]
 pub struct Outbox<'j, R: Wait, F: Write + OpenFile> {
     held: Mutex<Option<Held<Guarded<'j, TcpStream, R, F>>>>,
+    requests: Requests,
     /// Why there is no connection, once one was dialled in vain.
     unconnected: Mutex<Unconnected>,
 }
@@ -203,6 +211,7 @@ impl<'j, R: Wait, F: Write + OpenFile> Outbox<'j, R, F> {
     fn new() -> Outbox<'j, R, F> {
         Outbox {
             held: Mutex::new(None),
+            requests: Requests::new(),
             unconnected: Mutex::new(Unconnected::Other),
         }
     }
@@ -234,14 +243,34 @@ impl<'j, R: Wait, F: Write + OpenFile> Outbox<'j, R, F> {
         }
     }
 
-    /// Keeps octets to be written to the connection.
+    /// Keeps octets to be written to the connection: a frame, as all that write to it put them.
     pub(crate) fn put(&self, rt: &R, octets: &[u8]) -> io::Result<usize>
         ensures bound { WritesAtMost result octets.now }
     {
         let mut held = self.held.lock(rt);
         match held.as_mut() {
-            Some(open) => open.put(octets),
+            Some(open) => {
+                let before = open.waiting();
+                let put = open.put(octets);
+                match &put {
+                    Ok(_count) => self.requests.put(octets, before, open.waiting()),
+                    Err(_broken) => self.requests.flush(before, open.waiting()),
+                }
+                put
+            }
             None => Err(Error::from(ErrorKind::NotConnected)),
+        }
+    }
+
+    /// Gives the connection up once each request is answered that may have gone out. It is for a connection to
+    /// which nothing is written any more; where someone uses the outbox now that is left to the next call.
+    pub(crate) fn give_up_answered(&self) {
+        if let Some(mut held) = self.held.try_lock() {
+            if let Some(open) = held.as_mut() {
+                if self.requests.are_answered() {
+                    open.give_up(Shutdown::Both);
+                }
+            }
         }
     }
 
@@ -266,7 +295,9 @@ impl<'j, R: Wait, F: Write + OpenFile> Outbox<'j, R, F> {
     pub fn flush(&self) {
         if let Some(mut held) = self.held.try_lock() {
             if let Some(open) = held.as_mut() {
+                let before = open.waiting();
                 open.flush();
+                self.requests.flush(before, open.waiting());
             }
         }
     }
@@ -278,6 +309,7 @@ pub struct Outboxes<'j, R: Wait, F: Write + OpenFile> {
     rt: &'j R,
     journal: Option<&'j Journal<F>>,
     bells: Bells,
+    clock: Ticks<'j, R>,
     first: Outbox<'j, R, F>,
     second: Outbox<'j, R, F>,
     third: Outbox<'j, R, F>,
@@ -286,7 +318,7 @@ pub struct Outboxes<'j, R: Wait, F: Write + OpenFile> {
     patience_ms: AtomicU32,
 }
 
-impl<'j, R: Wait, F: Write + OpenFile> Outboxes<'j, R, F> {
+impl<'j, R: Wait + Clock, F: Write + OpenFile> Outboxes<'j, R, F> {
     /// Outboxes of no connection, in a run that may have a journal.
     pub fn new(rt: &'j R, journal: Option<&'j Journal<F>>) -> Outboxes<'j, R, F>
         ensures { has_journal result ≡ is_some journal.entry }
@@ -295,6 +327,7 @@ impl<'j, R: Wait, F: Write + OpenFile> Outboxes<'j, R, F> {
             rt,
             journal,
             bells: Bells::new(),
+            clock: Ticks::new(rt),
             first: Outbox::new(),
             second: Outbox::new(),
             third: Outbox::new(),
@@ -303,6 +336,19 @@ impl<'j, R: Wait, F: Write + OpenFile> Outboxes<'j, R, F> {
         }
     }
 
+    /// The clock of the sending, which begins.
+    pub fn start_clock(&self) -> &Ticks<'j, R> {
+        self.clock.go_on();
+        &self.clock
+    }
+
+    /// The clock of the sending.
+    pub(crate) fn clock(&self) -> &Ticks<'j, R> {
+        &self.clock
+    }
+}
+
+impl<'j, R: Wait, F: Write + OpenFile> Outboxes<'j, R, F> {
     /// The outbox of a bind, of which there are four.
     pub fn get(&self, bind: u32) -> Option<&Outbox<'j, R, F>>
         ensures { option_copied result ≡ outbox_of self.now bind }
@@ -331,6 +377,13 @@ impl<'j, R: Wait, F: Write + OpenFile> Outboxes<'j, R, F> {
     pub fn give_up(&self, bind: u32) {
         if let Some(outbox) = self.get(bind) {
             outbox.give_up(self.rt);
+        }
+    }
+
+    /// A request of a bind was answered.
+    pub(crate) fn answer(&self, bind: usize) {
+        if let Some(outbox) = self.at(bind) {
+            outbox.requests.answer();
         }
     }
 
@@ -367,22 +420,26 @@ impl<'j, R: Wait, F: Write + OpenFile> Outboxes<'j, R, F> {
         }
     }
 
+    /// The outbox of the bind with this place.
+    fn at(&self, bind: usize) -> Option<&Outbox<'j, R, F>> {
+        match u32::try_from(bind) {
+            Ok(bind) => self.get(bind),
+            Err(_) => None,
+        }
+    }
+
     /// Writes what waits for the connection of this bind, and then what is left to be noted.
     pub fn flush_bind(&self, bind: usize) {
-        if let Ok(bind) = u32::try_from(bind) {
-            if let Some(outbox) = self.get(bind) {
-                outbox.flush();
-            }
+        if let Some(outbox) = self.at(bind) {
+            outbox.flush();
         }
         let _let_out = let_out_of(self.rt, self.journal);
     }
 
-    /// What is put for the connection of this bind from now on comes behind a wait, a long one or not.
+    /// What is put for the connection of this bind from now on comes after a wait, a long one or not.
     pub fn begin(&self, bind: usize, waited_long: bool) {
-        if let Ok(bind) = u32::try_from(bind) {
-            if let Some(outbox) = self.get(bind) {
-                outbox.begin(waited_long);
-            }
+        if let Some(outbox) = self.at(bind) {
+            outbox.begin(waited_long);
         }
     }
 

@@ -146,21 +146,25 @@ pub struct Progress<'r, S, N, K> {
     telling: Telling,
     /// How many messages there are.
     all: u64,
+    /// Whether a test centre of the program's own takes them.
+    trial: bool,
     begun_ms: u64,
     board: ProgressBoard,
 }
 
 impl<'r, S: Eprint, N: TakesNotices, K: Clock> Progress<'r, S, N, K> {
-    /// So many messages are sent from now on. Notices are for a terminal alone.
+    /// So many messages are sent from now on, in a trial or not. Notices are for a terminal alone.
     pub fn new(
         screen: &'r S,
         notices: N,
         clock: &'r K,
         telling: Telling,
         messages: usize,
+        trial: bool,
     ) -> Progress<'r, S, N, K>
         ensures telling { result.telling ≡ telling }
         ensures all { result.all ≡ messages }
+        ensures trial { result.trial ≡ trial }
     {
         let begun_ms = clock.now_ms();
         Progress {
@@ -169,6 +173,7 @@ impl<'r, S: Eprint, N: TakesNotices, K: Clock> Progress<'r, S, N, K> {
             clock,
             telling,
             all: messages as u64,
+            trial,
             begun_ms,
             board: ProgressBoard::new(begun_ms),
         }
@@ -198,10 +203,12 @@ impl<'r, S: Eprint, N: TakesNotices, K: Clock> Progress<'r, S, N, K> {
     fn end_line(&self, ends: &[MessageEnd], statement: &Statement, now_ms: u64) -> EndLine
         ensures summary { result.summary ≡ summary_in ends.now statement.now }
         ensures ms { result.ms ≡ now_ms - self.now.begun_ms }
+        ensures trial { result.trial ≡ self.now.trial }
     {
         EndLine {
             summary: summary_of(ends, statement),
             ms: self.passed_ms(now_ms),
+            trial: self.trial,
         }
     }
 

@@ -1,6 +1,6 @@
-//! A gate that lets at most so many requests of a bind pass in a second.
+//! A gate that lets at most so many requests of a bind pass in any second.
 
-ghost use Rattle.std.specs.Prelude.{◌≡◌, ◌≤◌, ◌/◌, max, min};
+ghost use Rattle.std.specs.Prelude.{◌≡◌, ◌/◌, max};
 
 use crate::bucket::Bucket;
 use sms_pdu::Reply;
@@ -21,14 +21,6 @@ pub(crate) fn bind_of(worker: usize, workers: usize) -> usize
     worker / workers.max(1)
 }
 
-/// How many requests may go out at once after a while without any: those of a tenth of a second, at
-/// least one, and no more than a worker has open.
-fn room_of(rate: u32, depth: u32) -> u32
-    ensures { result ≡ max (min (rate / 10) depth) 1 }
-{
-    (rate / 10).min(depth).max(1)
-}
-
 /// What came by the rate at each bind, and which workers have leave to send a request.
 #[derive(Drop)]
 struct Rates {
@@ -46,33 +38,48 @@ impl Rates {
         }
     }
 
-    /// Whether the worker has leave to send a request, also one that it didn't use yet.
-    fn gives_leave<R: Wait>(&self, rt: &R, worker: usize, now_ms: u64) -> bool {
+    /// What came by the rate at the worker's bind, and whether it has leave. None for a worker of no bind.
+    fn of_worker(&self, worker: usize) -> Option<(&Mutex<Bucket>, &AtomicBool)> {
         let bind = bind_of(worker, self.workers);
         if bind >= MOST_BINDS || worker >= MOST_WORKERS {
-            return false;
+            return None;
         }
-        let has_leave = &self.have_leave[worker];
+        Some((&self.buckets[bind], &self.have_leave[worker]))
+    }
+
+    /// Whether the worker has leave to send a request, also one that it didn't use yet.
+    fn gives_leave<R: Wait>(&self, rt: &R, worker: usize, now_ms: u64) -> bool {
+        let Some((bucket, has_leave)) = self.of_worker(worker) else {
+            return false;
+        };
         if has_leave.load(Ordering::SeqCst) {
             return true;
         }
-        let bucket = &self.buckets[bind];
-        let taken = bucket.lock(rt).take(now_ms);
-        has_leave.store(taken, Ordering::SeqCst);
-        taken
+        let is_lent = bucket.lock(rt).lend(now_ms);
+        has_leave.store(is_lent, Ordering::SeqCst);
+        is_lent
     }
 
-    /// The worker used its leave.
-    fn use_leave(&self, worker: usize) {
-        if worker < MOST_WORKERS {
-            let has_leave = &self.have_leave[worker];
+    /// The worker uses its leave.
+    fn use_leave<R: Wait>(&self, rt: &R, worker: usize, now_ms: u64) {
+        if let Some((bucket, has_leave)) = self.of_worker(worker) {
             has_leave.store(false, Ordering::SeqCst);
+            bucket.lock(rt).send(now_ms);
+        }
+    }
+
+    /// The worker gives a leave back that it didn't use: others of its bind may wait for it.
+    fn take_back<R: Wait>(&self, rt: &R, worker: usize) {
+        if let Some((bucket, has_leave)) = self.of_worker(worker) {
+            if has_leave.swap(false, Ordering::SeqCst) {
+                bucket.lock(rt).take_back();
+            }
         }
     }
 }
 
-/// A gate that asks another, and lets at most so many requests of each bind pass in a second, where it
-/// is told how many.
+/// A gate that asks another, and lets at most so many requests of each bind pass in any second, where a
+/// number is given. A worker has leave for a request from when it is ready, to the end of its turn at most.
 #[derive(Drop)]
 pub struct Rated<'r, G, K, R> {
     rt: &'r R,
@@ -82,19 +89,17 @@ pub struct Rated<'r, G, K, R> {
 }
 
 impl<'r, G: Gate, K: Clock, R: Wait> Rated<'r, G, K, R> {
-    /// A gate for so many workers a bind, of which each has at most `depth` requests open; `rate` is
-    /// None where their number in a second doesn't matter.
+    /// A gate for so many workers a bind; `rate` is None where the number of requests in a second doesn't matter.
     pub fn new(
         rt: &'r R,
         gate: &'r G,
         clock: &'r K,
         workers: u32,
-        depth: u32,
         rate: Option<u32>,
     ) -> Rated<'r, G, K, R> {
         let rates = match rate {
             Some(rate) => {
-                let full = Bucket::full(rate, room_of(rate, depth), clock.now_ms());
+                let full = Bucket::new(rate, clock.now_ms());
                 Some(Rates::new(workers as usize, full))
             }
             None => None,
@@ -128,7 +133,7 @@ impl<'r, G: Gate, K: Clock, R: Wait> Gate for Rated<'r, G, K, R> {
             return false;
         }
         if let Some(rates) = &self.rates {
-            rates.use_leave(worker);
+            rates.use_leave(self.rt, worker, self.clock.now_ms());
         }
         true
     }
@@ -151,9 +156,15 @@ impl<'r, G: Gate, K: Clock, R: Wait> Gate for Rated<'r, G, K, R> {
 
     fn see(&self, worker: usize, ends: &[MessageEnd], open: usize) {
         self.gate.see(worker, ends, open);
+        if let Some(rates) = &self.rates {
+            rates.take_back(self.rt, worker);
+        }
     }
 
     fn see_last(&self, worker: usize, ends: &[MessageEnd]) {
         self.gate.see_last(worker, ends);
+        if let Some(rates) = &self.rates {
+            rates.take_back(self.rt, worker);
+        }
     }
 }

@@ -9,17 +9,18 @@ ghost use Rattle.sms_devices.specs.Incomings.{Heard, rung};
 ghost use Rattle.sms_devices.specs.Wakes.{nobody};
 
 use crate::bell::Bells;
+use crate::devices::Ticks;
 use crate::headers::Headers;
-use crate::journal::Journal;
+use crate::journal::{Journal, has_failed};
 use crate::opening::{Deadline, Opening};
 use crate::outbox::Outbox;
 use crate::wakes::{Owners, Wakes};
+use sms_worker::Clock;
 use std::alloc::Global;
 use std::fs::OpenFile;
-use std::io;
 use std::io::{Error, ErrorKind, Read, Write};
 use std::sync::Wait;
-use std::time::Clock;
+use std::{io, time};
 
 /// What has come in on a connection, as far as it matters to the device.
 #[derive(Drop)]
@@ -58,7 +59,8 @@ impl Incoming {
 /// A reader that rings bells when it is asked for octets: a bind's reader has then handed on all
 /// answers that came before, so the workers whose answers ended in what it read are woken. It wakes all
 /// of the bind when it is dropped: the line is down then. A read fails where the bind has to be
-/// answered in time and isn't.
+/// answered in time and isn't. Once the journal has failed nothing goes out, so that the connection is given
+/// up as soon as no answer is to come.
 pub struct Ringing<'r, 'j, S, R: Wait, F: Write + OpenFile> {
     pub inner: S,
     pub rt: &'j R,
@@ -67,6 +69,8 @@ pub struct Ringing<'r, 'j, S, R: Wait, F: Write + OpenFile> {
     pub bells: &'r Bells,
     pub bind: usize,
     pub outbox: &'r Outbox<'j, R, F>,
+    /// The clock of the sending, which is read with each read, so that it sees the stops of the process.
+    pub clock: &'r Ticks<'j, R>,
     pub incoming: Incoming,
 }
 
@@ -79,6 +83,7 @@ impl<'r, 'j, S: Drop, R: Wait, F: Write + OpenFile> Drop for Ringing<'r, 'j, S, 
             bells,
             bind,
             outbox: _,
+            clock: _,
             incoming: _,
         } = self;
         drop(inner);
@@ -86,7 +91,8 @@ impl<'r, 'j, S: Drop, R: Wait, F: Write + OpenFile> Drop for Ringing<'r, 'j, S, 
     }
 }
 
-impl<'r, 'j, S: Read, R: Wait + Clock, F: Write + OpenFile> Read for Ringing<'r, 'j, S, R, F> {
+impl<'r, 'j, S: Read, R: Wait + time::Clock, F: Write + OpenFile> Read
+    for Ringing<'r, 'j, S, R, F> {
     ghost remaining = { λ r. S.remaining r.inner };
 
     fn read(&mut self, buf: &mut [u8]) -> io::Result<usize>
@@ -95,7 +101,11 @@ impl<'r, 'j, S: Read, R: Wait + Clock, F: Write + OpenFile> Read for Ringing<'r,
         // Whoever was to be woken was, and is to be again only by the octets of this read.
         ensures seen { MatchResult result (λ count. Heard (nat_lt self.old.bind 4) (take count buf.new) (rung self.old.incoming) self.new.incoming) (λ _. self.new.incoming ≡ rung self.old.incoming) }
     {
+        let _now_ms = self.clock.now_ms();
         self.outbox.flush();
+        if has_failed(self.journal) {
+            self.outbox.give_up_answered();
+        }
         self.incoming.wakes.ring(self.rt, self.bells, self.bind);
         if self.incoming.opening.is_late(self.rt) {
             return Err(Error::from(ErrorKind::ConnectionAborted));

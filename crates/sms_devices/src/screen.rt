@@ -5,6 +5,7 @@ ghost use Rattle.std.specs.Prelude.{◌≡◌, IfSome};
 
 use sms_report::{EndLine, WayLine};
 use std::alloc::Global;
+use std::env::Env;
 use std::fmt::Display;
 use std::io::{Eprint, IsTerminal, Stderr};
 use std::sync::Arc;
@@ -20,11 +21,17 @@ const PATIENCE_MS: u32 = 1_000;
 pub trait Screen {
     ghost use Rattle.std.specs.Prelude.{Bool, ⊤};
 
-    // Whether a person may see it.
+    // Whether a person may see it, and whether details are wanted on it.
     ghost shows: { Self → Bool → Type 0 } = { λ _ _. ⊤ };
+
+    ghost details: { Self → Bool → Type 0 } = { λ _ _. ⊤ };
 
     fn is_terminal(&self) -> bool
         ensures { shows self.now result };
+
+    /// Whether details of faults are wanted on it: on a terminal, or by the environment.
+    fn has_details(&self) -> bool
+        ensures { details self.now result };
 
     fn pen(&self) -> Stderr;
 }
@@ -34,8 +41,21 @@ impl Screen for HostRuntime {
         self.stderr().is_terminal()
     }
 
+    fn has_details(&self) -> bool {
+        self.is_terminal() || is_verbose(self)
+    }
+
     fn pen(&self) -> Stderr {
         self.stderr()
+    }
+}
+
+/// Whether the environment asks for details: `SMS_SEND_VERBOSE` is 1.
+pub fn is_verbose<R: Env>(rt: &R) -> bool {
+    let mut value = [0u8; 1];
+    match rt.var("SMS_SEND_VERBOSE", &mut value) {
+        Ok(length) => length == 1 && value == *b"1",
+        Err(_) => false,
     }
 }
 

@@ -58,7 +58,7 @@ impl Silences {
 }
 
 /// A gate that asks another, and gives a bind's connection up once so many requests went out without an
-/// answer, where it is told how many. The bind's line goes down then.
+/// answer, where a number is given. The bind's line goes down then. The outboxes count the answers.
 #[derive(Drop)]
 pub struct Stopping<'r, 'j, G, K, R: Wait, F: Write + OpenFile> {
     rt: &'j R,
@@ -133,6 +133,8 @@ impl<'r, 'j, G: Gate, K: Clock, R: Wait, F: Write + OpenFile> Gate
 
     fn heard(&self, worker: usize, reply: &Reply) {
         self.gate.heard(worker, reply);
+        let outboxes = self.outboxes;
+        outboxes.answer(outboxes.bells().bind_of(worker));
         if let Some(silences) = &self.silences {
             silences.hear(self.rt, worker);
         }

@@ -2,7 +2,9 @@
 
 mod bells;
 mod connecting;
+mod ending;
 mod journal;
+mod journal_files;
 mod network;
 mod paper;
 mod progress;
@@ -11,3 +13,4 @@ mod same;
 mod screen;
 mod standard;
 mod stopping;
+mod ticks;

@@ -4,13 +4,14 @@
 use super::network::{accepted, listening, no_journal, put, want_nothing};
 use super::paper::OpenGate;
 use super::same::same;
-use sms_devices::{Outboxes, Owning, Rest, TcpDial, Ticks};
+use sms_devices::{Outboxes, Owning, Rest, TcpDial};
 use sms_driver::Dial;
-use sms_worker::{Clock, Gate, Pause};
+use sms_worker::{Gate, Pause};
 use std::io::{Read, Write};
 use std::net::TcpStream;
 use std::process::Abort;
 use std::time;
+use std::time::Instant;
 
 /// The octets of a submit_sm_resp for the request 7 (SMPP 3.4 4.4.2).
 const ANSWER: [u8; 18] = [0, 0, 0, 18, 0x80, 0, 0, 4, 0, 0, 0, 0, 0, 0, 0, 7, b'm', 0];
@@ -26,9 +27,14 @@ const BAD: [u8; 16] = [0, 0, 0, 15, 0x80, 0, 0, 4, 0, 0, 0, 0, 0, 0, 0, 7];
 
 // How long a worker waited that asked for so many milliseconds.
 fn waited<R: time::Clock, P: Pause>(rt: &R, rest: &P, worker: usize, ms: u32) -> u64 {
-    let clock = Ticks::new(rt);
+    let Ok(begun) = Instant::now(rt) else {
+        return 0;
+    };
     rest.wait(worker, ms, 0);
-    clock.now_ms()
+    match begun.elapsed(rt) {
+        Ok(passed) => u64::try_from(passed.as_millis()).unwrap_or(u64::MAX),
+        Err(_) => 0,
+    }
 }
 
 // These of the workers 0, 1 and 2 were woken since they waited last, and the others not.

@@ -2,18 +2,18 @@
 
 use super::paper::{Line, OpenGate, PaperFile, STILL_MS, Sheet, Still};
 use super::same::same;
-use sms_devices::{Guarded, Journal, JournalFiles, Noting};
-use sms_journal::Digests;
+use sms_devices::{Guarded, Journal, Noting};
+use sms_journal::{Digests, JournalKind};
 use sms_pdu::{MessageId, Reply};
 use sms_worker::{Gate, MessageRefusal};
 use std::alloc::{AllocError, Global};
 use std::fs::OpenFile;
-use std::io::{BufWriter, Write};
+use std::io::{BufWriter, ErrorKind, Write};
 use std::process::Abort;
+use std::str;
 use std::sync::Wait;
 use std::test::Fail;
 use std::time::Clock;
-use std::{fs, str};
 
 /// Room for all that the tests note.
 const ALL: usize = 1 << 20;
@@ -28,6 +28,10 @@ const DIGESTS: Digests = Digests {
 /// The first line of their journal.
 const HEADER: &str =
     "journal,1,0101010101010101010101010101010101010101010101010101010101010101,0202020202020202020202020202020202020202020202020202020202020202,abababababababababababababababababababababababababababababababab,\n";
+
+/// The first line of the journal of a trial.
+const TRIAL_HEADER: &str =
+    "trial,1,0101010101010101010101010101010101010101010101010101010101010101,0202020202020202020202020202020202020202020202020202020202020202,abababababababababababababababababababababababababababababababab,\n";
 
 /// What is noted of `told`.
 const LINES: &str =
@@ -89,7 +93,7 @@ fn lets_a_request_out<'j, R: Wait + Clock, F: Write + OpenFile>(
 
 // Whether a journal's file has the note of an end with this status.
 fn closes<R: Clock, F: Write + OpenFile + Drop>(rt: &R, journal: Journal<F>, status: u8) -> bool {
-    journal.close(rt, status).is_some()
+    journal.close(rt, status).is_ok()
 }
 
 // The sheet has this text, and nothing was written since the last look at it.
@@ -110,24 +114,28 @@ fn writes_what_was_noted(rt: HostRuntime) {
         rt: &rt,
         can_be_read: true,
     };
-    for (is_synced, syncs) in [(false, 0u32), (true, 3)] {
+    for (is_synced, syncs, kind, header) in [
+        (false, 0u32, JournalKind::Run, HEADER),
+        (true, 3, JournalKind::Trial, TRIAL_HEADER),
+    ] {
         let sheet = Sheet::blank(alloc);
         let file = PaperFile {
             rt: &rt,
             sheet: &sheet,
             room: ALL,
             syncs: is_synced,
+            kind: ErrorKind::Other,
         };
         let journal = Journal::new(alloc, file, is_synced);
-        journal.begin(&rt, &DIGESTS);
+        journal.begin(&rt, kind, &DIGESTS);
         assert!(rt; journal.let_out(&rt));
-        want(&rt, alloc, &sheet, HEADER);
+        want(&rt, alloc, &sheet, header);
         tell_journal(&rt, &still, &journal);
         want(&rt, alloc, &sheet, "");
         assert!(rt; journal.let_out(&rt));
         want(&rt, alloc, &sheet, LINES);
         assert!(rt; journal.let_out(&rt));
-        assert!(rt; !journal.has_failed(&rt));
+        assert!(rt; !journal.has_failed());
         assert!(rt; closes(&still, journal, 4));
         want(&rt, alloc, &sheet, END);
         same(&rt, sheet.syncs(), syncs);
@@ -148,6 +156,7 @@ fn notes_without_a_clock(rt: HostRuntime) {
         sheet: &sheet,
         room: ALL,
         syncs: false,
+        kind: ErrorKind::Other,
     };
     let journal = Journal::new(alloc, file, false);
     let noting = Noting {
@@ -171,12 +180,13 @@ fn fails_where_it_is_not_durable(rt: HostRuntime) {
         sheet: &sheet,
         room: ALL,
         syncs: false,
+        kind: ErrorKind::Other,
     };
     let journal = Journal::new(alloc, file, true);
-    journal.begin(&rt, &DIGESTS);
+    journal.begin(&rt, JournalKind::Run, &DIGESTS);
     assert!(rt; !journal.let_out(&rt));
     want(&rt, alloc, &sheet, HEADER);
-    assert!(rt; journal.has_failed(&rt));
+    assert!(rt; journal.has_failed());
     assert!(rt; !lets_a_request_out(&rt, &journal));
     assert!(rt; !journal.let_out(&rt));
     assert!(rt; !closes(&rt, journal, 0));
@@ -251,12 +261,13 @@ fn send_behind<'r, R: Wait + Clock + Abort>(
         sheet,
         room,
         syncs: true,
+        kind: ErrorKind::Other,
     };
     let journal = Journal::new(alloc, file, room % 2 == 0);
-    journal.begin(rt, &DIGESTS);
+    journal.begin(rt, JournalKind::Run, &DIGESTS);
     let sent = send_over(&still, alloc, &journal)?;
     let is_whole = journal.let_out(rt);
-    assert!(rt; is_whole != journal.has_failed(rt));
+    assert!(rt; is_whole != journal.has_failed());
     Ok(sent)
 }
 
@@ -310,17 +321,4 @@ fn passes_all_without_a_journal(rt: HostRuntime) {
     };
     tell(&rt, &noting);
     assert!(rt; noting.sending(0, 1, 3, 255));
-}
-
-/// A journal's file is a new one.
-#[test]
-fn makes_a_new_file(rt: HostRuntime) {
-    const NAME: &str = "journal-of-a-test.csv";
-    let _removed = fs::remove_file(&rt, NAME);
-    let Ok(file) = rt.create_journal(NAME) else {
-        panic!(rt; "no file")
-    };
-    assert!(rt; rt.create_journal(NAME).is_err());
-    assert!(rt; file.sync_data().is_ok());
-    assert!(rt; fs::remove_file(&rt, NAME).is_ok());
 }

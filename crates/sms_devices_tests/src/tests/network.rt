@@ -2,15 +2,15 @@
 //! someone waits, and who is served.
 
 use super::same::same;
-use sms_devices::{Connects, Journal, LoopDial, Outboxes, Rest, TcpDial, Ticks};
+use sms_devices::{Connects, Journal, LoopDial, Outboxes, Rest, TcpDial};
 use sms_driver::Dial;
-use sms_worker::{Clock, Pause};
+use sms_worker::Pause;
 use std::fs::File;
 use std::io::{Read, Write};
 use std::net::{IpAddr, Ipv4Addr, TcpListener, TcpStream};
 use std::process::Abort;
 use std::thread;
-use std::time::Duration;
+use std::time::{Duration, Instant};
 
 /// A listener, which this machine alone reaches, and its port.
 pub fn listening(rt: &(impl Connects + Abort)) -> (TcpListener, u16) {
@@ -212,9 +212,14 @@ fn rings_at_its_end(rt: HostRuntime) {
         rt: &rt,
         outboxes: &outboxes,
     };
-    let clock = Ticks::new(&rt);
+    let Ok(begun) = Instant::now(&rt) else {
+        panic!(rt; "no clock")
+    };
     rest.pause(20_000);
-    assert!(rt; clock.now_ms() < 10_000);
+    match begun.elapsed(&rt) {
+        Ok(passed) => assert!(rt; passed < Duration::from_secs(10)),
+        Err(_) => panic!(rt; "no clock"),
+    }
 }
 
 /// Octets of an enquire_link, and of its answer (SMPP 3.4 4.11).

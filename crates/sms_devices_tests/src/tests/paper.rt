@@ -3,6 +3,7 @@
 
 use sms_worker::Gate;
 use std::alloc::Global;
+use std::env::{Env, FillError};
 use std::fs::{Metadata, OpenFile};
 use std::io::{Error, ErrorKind, Write};
 use std::sync::atomic::{AtomicU32, AtomicU64, Ordering};
@@ -33,6 +34,25 @@ impl<'r, R> Clock for Still<'r, R> {
         } else {
             Err(Error::from(ErrorKind::Unsupported))
         }
+    }
+}
+
+/// The system's clock, which is set by hand.
+#[derive(Drop)]
+pub struct SetClock<'r, R> {
+    pub rt: &'r R,
+    pub ms: AtomicU64,
+}
+
+impl<R: Wait> Wait for SetClock<'_, R> {}
+
+impl<R> Clock for SetClock<'_, R> {
+    fn monotonic(&self) -> io::Result<Duration> {
+        Ok(Duration::from_millis(self.ms.load(Ordering::SeqCst)))
+    }
+
+    fn since_1970(&self) -> io::Result<Duration> {
+        self.monotonic()
     }
 }
 
@@ -69,13 +89,15 @@ pub struct PaperFile<'r, R> {
     pub sheet: &'r Sheet,
     pub room: usize,
     pub syncs: bool,
+    /// With what kind of error it fails.
+    pub kind: ErrorKind,
 }
 
 impl<'r, R: Wait> Write for PaperFile<'r, R> {
     fn write(&mut self, buf: &[u8]) -> io::Result<usize> {
         let taken = buf.len().min(self.room);
         if taken == 0 {
-            return Err(Error::from(ErrorKind::StorageFull));
+            return Err(Error::from(self.kind));
         }
         let mut octets = self.sheet.octets.lock(self.rt);
         octets.extend_from_slice(&buf[..taken])?;
@@ -106,8 +128,37 @@ impl<'r, R> OpenFile for PaperFile<'r, R> {
         if self.syncs {
             Ok(())
         } else {
-            Err(Error::from(ErrorKind::Other))
+            Err(Error::from(self.kind))
         }
+    }
+}
+
+/// An environment with one variable.
+#[derive(Drop)]
+pub struct PaperEnv<'v> {
+    pub name: &'v str,
+    pub value: &'v str,
+}
+
+impl Env for PaperEnv<'_> {
+    fn arg(&self, _place: usize, _buf: &mut [u8]) -> Result<usize, FillError> {
+        Err(FillError::NotPresent)
+    }
+
+    fn var(&self, name: &str, buf: &mut [u8]) -> Result<usize, FillError> {
+        if name != self.name {
+            return Err(FillError::NotPresent);
+        }
+        let value = self.value.as_bytes();
+        if value.len() > buf.len() {
+            return Err(FillError::TooLong);
+        }
+        buf[..value.len()].copy_from_slice(value);
+        Ok(value.len())
+    }
+
+    fn var_at(&self, _place: usize, _buf: &mut [u8]) -> Result<usize, FillError> {
+        Err(FillError::NotPresent)
     }
 }
 

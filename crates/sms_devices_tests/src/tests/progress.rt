@@ -90,7 +90,7 @@ fn renews_the_line_in_turns(rt: HostRuntime) -> Result<(), Fail> {
     let alloc = rt.alloc();
     let paper = Paper::blank(&rt, alloc);
     let clock = ManualClock::new(1000);
-    let progress = Progress::new(&paper, &paper, &clock, Telling::Way, 10);
+    let progress = Progress::new(&paper, &paper, &clock, Telling::Way, 10, false);
     let ends = ends_in_turn(alloc)?;
     // When a worker is at which place, and what is written then.
     let steps: [(u64, usize, usize, usize, &str); 7] = [
@@ -134,7 +134,7 @@ fn is_quiet_in_a_pipe(rt: HostRuntime) -> Result<(), Fail> {
     let clock = ManualClock::new(0);
     let ends = ends_in_turn(alloc)?;
     for telling in [Telling::Nothing, Telling::End] {
-        let progress = Progress::new(&paper, &paper, &clock, telling, 10);
+        let progress = Progress::new(&paper, &paper, &clock, telling, 10, true);
         clock.set(5000);
         assert!(rt; progress.pass(0, 1));
         progress.see(0, ends.as_slice(), 0);

@@ -19,49 +19,86 @@ fn sends<G: Gate>(gate: &G, worker: usize) -> u32 {
     count
 }
 
-/// Of each bind at most so many requests pass in a second, whichever of its workers sends them, and no
-/// more at once than those of a tenth of a second, or the depth.
+/// Of each bind at most so many requests pass in any second, whichever of its workers sends them, and no
+/// more at once than those of a fiftieth of a second.
 #[test]
 fn passes_so_many_in_a_second(rt: HostRuntime) {
     let clock = ManualClock::new(5_000);
-    let gate = Rated::new(&rt, &OpenGate, &clock, 2, 64, Some(100));
-    // At which time which worker is ready for how many requests.
+    let gate = Rated::new(&rt, &OpenGate, &clock, 2, Some(200));
+    // At which time which worker is ready for how many requests: four at once, and 197 in 1,010 ms.
     let steps: [(u64, usize, u32); 10] = [
-        (5_000, 0, 10),
+        (5_000, 0, 4),
         (5_000, 1, 0),
-        (5_000, 2, 10),
-        (5_009, 1, 0),
-        (5_010, 1, 1),
-        (5_010, 0, 0),
-        (5_045, 0, 3),
-        (5_050, 1, 1),
-        (9_000, 1, 10),
-        (9_000, 3, 10),
+        (5_000, 2, 4),
+        (5_005, 1, 0),
+        (5_006, 1, 1),
+        (5_006, 0, 0),
+        (5_022, 0, 3),
+        (5_026, 1, 1),
+        (9_000, 1, 4),
+        (9_000, 3, 4),
     ];
     for (ms, worker, wanted) in steps {
         clock.set(ms);
         same(&rt, sends(&gate, worker), wanted);
     }
-    let few = Rated::new(&rt, &OpenGate, &clock, 1, 3, Some(100_000));
-    same(&rt, sends(&few, 0), 3);
-    let slow = Rated::new(&rt, &OpenGate, &clock, 1, 64, Some(1));
-    same(&rt, sends(&slow, 0), 1);
-    clock.set(9_999);
-    same(&rt, sends(&slow, 0), 0);
-    clock.set(10_000);
-    same(&rt, sends(&slow, 0), 1);
+    let slow = Rated::new(&rt, &OpenGate, &clock, 1, Some(1));
+    for (ms, wanted) in [(9_000, 1), (9_999, 0), (10_009, 0), (10_010, 1)] {
+        clock.set(ms);
+        same(&rt, sends(&slow, 0), wanted);
+    }
 }
 
-/// A worker that was ready and sent nothing is ready still, and nothing is lost by that.
+// How many requests two workers of a bind send in so many milliseconds that pass one by one.
+fn sends_in<G: Gate>(clock: &ManualClock, gate: &G, from: u64, ms: u64) -> u32 {
+    let mut count = 0u32;
+    for now in from..from.saturating_add(ms) {
+        clock.set(now);
+        count = count.saturating_add(sends(gate, (now % 2) as usize));
+    }
+    count
+}
+
+/// In a second after a while without any at most so many requests pass, and in each that follows nearly as many.
 #[test]
-fn keeps_leave_that_is_not_used(rt: HostRuntime) {
+fn passes_no_more_in_any_second(rt: HostRuntime) {
+    for (rate, least) in [
+        (1, 0),
+        (2, 1),
+        (20, 19),
+        (100, 97),
+        (1_000, 970),
+        (25_000, 24_250),
+    ] {
+        let clock = ManualClock::new(7_000);
+        let gate = Rated::new(&rt, &OpenGate, &clock, 2, Some(rate));
+        for second in [7_000, 8_001, 9_002] {
+            let count = sends_in(&clock, &gate, second, 1_001);
+            assert!(rt; count <= rate);
+            assert!(rt; count >= least);
+        }
+    }
+}
+
+/// A worker that was ready and sent nothing is ready still in its turn. At its end the leave is given back, and
+/// others have it; one that is used late lets no more requests through.
+#[test]
+fn gives_leave_back_that_is_not_used(rt: HostRuntime) {
     let clock = ManualClock::new(0);
-    let gate = Rated::new(&rt, &OpenGate, &clock, 2, 64, Some(20));
+    let gate = Rated::new(&rt, &OpenGate, &clock, 2, Some(100));
     for _turn in 0..5 {
         assert!(rt; gate.ready(0));
     }
     same(&rt, sends(&gate, 1), 1);
-    same(&rt, sends(&gate, 0), 1);
+    gate.see(0, &[], 0);
+    same(&rt, sends(&gate, 1), 1);
+    same(&rt, sends(&gate, 0), 0);
+    clock.set(1_000);
+    assert!(rt; gate.ready(0));
+    assert!(rt; gate.ready(1));
+    clock.set(2_000);
+    assert!(rt; gate.sending(0, 1, 0, 0));
+    assert!(rt; gate.sending(1, 1, 0, 0));
     same(&rt, sends(&gate, 0), 0);
 }
 
@@ -69,6 +106,6 @@ fn keeps_leave_that_is_not_used(rt: HostRuntime) {
 #[test]
 fn passes_all_without_a_rate(rt: HostRuntime) {
     let clock = ManualClock::new(0);
-    let gate = Rated::new(&rt, &OpenGate, &clock, 1, 1, None);
+    let gate = Rated::new(&rt, &OpenGate, &clock, 1, None);
     same(&rt, sends(&gate, 0), 1_000);
 }

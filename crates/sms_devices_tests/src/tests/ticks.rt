@@ -1,0 +1,51 @@
+//! What the clock of a sending shows, beside a clock of the system that is set by hand.
+
+use super::network::no_journal;
+use super::paper::{SetClock, Still};
+use super::same::same;
+use sms_devices::Outboxes;
+use sms_worker::Clock;
+use std::sync::atomic::{AtomicU64, Ordering};
+
+/// Time passes in a process that runs. More than a second between two readings is a stop: it doesn't count, nor
+/// do 300 ms behind it.
+#[test]
+fn stands_still_over_a_stop(rt: HostRuntime) {
+    let system = SetClock {
+        rt: &rt,
+        ms: AtomicU64::new(50_000),
+    };
+    let outboxes = Outboxes::new(&system, no_journal());
+    let clock = outboxes.start_clock();
+    let steps: [(u64, u64); 12] = [
+        (50_000, 0),
+        (50_400, 400),
+        (51_400, 1_400),
+        (51_400, 1_400),
+        (52_401, 1_400),
+        (52_700, 1_400),
+        (52_701, 1_400),
+        (52_801, 1_500),
+        (90_000, 1_500),
+        (89_000, 1_500),
+        (90_300, 1_500),
+        (91_000, 2_200),
+    ];
+    for (ms, wanted) in steps {
+        system.ms.store(ms, Ordering::SeqCst);
+        same(&rt, clock.now_ms(), wanted);
+    }
+    system.ms.store(99_000, Ordering::SeqCst);
+    same(&rt, outboxes.start_clock().now_ms(), 10_200);
+}
+
+/// By a clock of the system that can't be read no time passes.
+#[test]
+fn stands_without_a_clock(rt: HostRuntime) {
+    let still = Still {
+        rt: &rt,
+        can_be_read: false,
+    };
+    let outboxes = Outboxes::new(&still, no_journal());
+    same(&rt, outboxes.start_clock().now_ms(), 0);
+}
