@@ -1,5 +1,6 @@
--- What is told of a fault behind its line: lines of their own, each two columns in.
+-- The lines of a fault after its first, each two columns in.
 use Rattle.std.specs.Prelude.{ℕ, List, [], ◌++◌, codes, decimal, length, ◌==◌, if◌then◌else◌}
+use Rattle.sms_diagnostics.specs.Journals.{about_line, making_text, noting_text, two_lines}
 use Rattle.sms_diagnostics.specs.Keys.{range_of}
 use Rattle.sms_diagnostics.specs.Records.{record_of}
 use Rattle.sms_diagnostics.specs.Shown.{indented, shown}
@@ -47,7 +48,7 @@ abbrev pub file_text : FileTrouble → List ℕ
 file_text Missing = codes "there is no such file"
 file_text Forbidden = codes "this user may not read it"
 file_text Folder = codes "it is no file, but a folder"
-file_text There = codes "it is there, and a journal is made new; else it can't be read to its end"
+file_text There = codes "it can't be read to its end"
 file_text Other = codes "it can't be opened, or not be read to its end"
 
 -- why a bind failed
@@ -72,7 +73,12 @@ cause_text (cause.Key key holding) = key_lines key.now (range_of key.now) (holdi
 cause_text (cause.Refused status) = status_line status (status_name status)
 cause_text (cause.Failed why) = line (bind_text why)
 cause_text (cause.FailedAt host port why) = centre_line host.now port (bind_text why)
-cause_text cause.Unnoted = line (codes "what was not noted was not sent; a printed report is right")
+cause_text (cause.Unmade why) = line (making_text why)
+cause_text cause.Held = line (codes "its run is still going on")
+cause_text (cause.Unbegun why) = two_lines (noting_text why) (codes "nothing was sent")
+cause_text (cause.Unnoted why) = two_lines (noting_text why) (codes "what was not noted was not sent; the report is right, and rest prints what is left of it")
+cause_text cause.Trial = line (codes "--trial prints its report")
+cause_text (cause.OtherFile name) = about_line name.now (codes "is not the file that this run was begun with")
 cause_text cause.Overdrawn = line (codes "it takes more of an account than that has")
 cause_text cause.OutputOfSent = line (codes "messages were sent: don't send them again before you know which")
 cause_text cause.OutputInDoubt = line (codes "messages may have been sent: don't send them again before you know which")

@@ -1,5 +1,6 @@
 pub mod Causes
 pub mod FilesRead
+pub mod Journals
 pub mod Keys
 pub mod Modes
 pub mod Records

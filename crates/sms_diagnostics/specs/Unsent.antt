@@ -1,4 +1,4 @@
--- What is told of messages that were not sent.
+-- The lines of messages that were not sent.
 use Rattle.std.specs.Prelude.{ℕ, List, ◌++◌, codes, decimal}
 use Rattle.sms_diagnostics.specs.declared.unsent.Closing.{Closing}
 use Rattle.sms_diagnostics.specs.declared.unsent.Closing.TheVariants as closing
@@ -14,9 +14,10 @@ closing_text closing.Unbound = codes "was unbound by the centre"
 closing_text closing.BadLength = codes "was lost to a bad command_length"
 closing_text closing.Unread = codes "could not be read"
 closing_text closing.Unwritten = codes "could not be written"
+closing_text closing.Unnoted = codes "could not be written, since the journal failed"
 closing_text closing.Stopped = codes "was stopped"
 closing_text closing.Turns = codes "took too many turns"
-closing_text closing.OutOfMemory = codes "ended for want of memory"
+closing_text closing.OutOfMemory = codes "ran out of memory"
 
 -- a line: how many, and why
 abbrev pub bind_line : ℕ → ℕ → List ℕ → List ℕ

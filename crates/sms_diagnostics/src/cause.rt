@@ -1,10 +1,13 @@
-//! Why the program ends before its work is done, and what is told of that behind its line.
+//! Why the program ends before its work is done, and the lines of it after the first.
 
 ghost use Rattle.std.specs.Fmt.{WritesOnOk};
 ghost use Rattle.std.specs.Prelude.{◌≡◌};
 ghost use Rattle.sms_diagnostics.specs.Troubles.{holding_text};
 ghost use Rattle.sms_diagnostics.specs.Causes.{bind_text, centre_line, file_text, key_lines, reason_end, range_end, record_lines, status_line, words_lines};
 
+use crate::journal::{
+    MakingTrouble, NotingTrouble, making_text, noting_text, write_about, write_two,
+};
 use crate::key::range_of;
 use crate::record::{RecordOf, record_of};
 use crate::shown::{write_indented, write_shown};
@@ -44,7 +47,7 @@ pub enum FileTrouble {
     Forbidden,
     /// It is no file that can be read, but a folder.
     Folder,
-    /// It can be opened: a journal has to be new.
+    /// It can be opened.
     There,
     /// Something else.
     Other,
@@ -69,8 +72,18 @@ pub enum Cause<'a> {
     Failed(BindTrouble),
     /// So did one to the message centre of this name and port.
     FailedAt(&'a str, u32, BindTrouble),
-    /// The journal can't be written.
-    Unnoted,
+    /// The journal can't be made.
+    Unmade(MakingTrouble),
+    /// A process holds the journal.
+    Held,
+    /// The first line of the journal can't be written, before anything was sent.
+    Unbegun(NotingTrouble),
+    /// The journal can't be written on, once messages were sent.
+    Unnoted(NotingTrouble),
+    /// The journal is of a trial.
+    Trial,
+    /// The file of this name isn't the one that the journal is of.
+    OtherFile(&'a str),
     /// By the journal an account is overdrawn.
     Overdrawn,
     /// What is to be printed can't be written, once messages were sent.
@@ -105,11 +118,19 @@ impl<'a> fmt::Display for Cause<'a> {
             Cause::Refused(status) => write_status(f, *status, status_name(*status)),
             Cause::Failed(why) => write_line(f, bind_text(*why)),
             Cause::FailedAt(host, port, why) => write_centre(f, host, *port, bind_text(*why)),
-            Cause::Unnoted => {
-                write_line(
+            Cause::Unmade(why) => write_line(f, making_text(*why)),
+            Cause::Held => write_line(f, "its run is still going on"),
+            Cause::Unbegun(why) => write_two(f, noting_text(*why), "nothing was sent"),
+            Cause::Unnoted(why) => {
+                write_two(
                     f,
-                    "what was not noted was not sent; a printed report is right",
+                    noting_text(*why),
+                    "what was not noted was not sent; the report is right, and rest prints what is left of it",
                 )
+            }
+            Cause::Trial => write_line(f, "--trial prints its report"),
+            Cause::OtherFile(name) => {
+                write_about(f, name, "is not the file that this run was begun with")
             }
             Cause::Overdrawn => write_line(f, "it takes more of an account than that has"),
             Cause::OutputOfSent => {
@@ -229,8 +250,7 @@ fn file_text(why: FileTrouble) -> &'static str
         FileTrouble::Missing => "there is no such file",
         FileTrouble::Forbidden => "this user may not read it",
         FileTrouble::Folder => "it is no file, but a folder",
-        FileTrouble::There =>
-            "it is there, and a journal is made new; else it can't be read to its end",
+        FileTrouble::There => "it can't be read to its end",
         FileTrouble::Other => "it can't be opened, or not be read to its end",
     }
 }

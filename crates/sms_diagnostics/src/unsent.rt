@@ -1,4 +1,4 @@
-//! What is told of messages that were not sent.
+//! The lines of messages that were not sent.
 
 ghost use Rattle.std.specs.Fmt.{WritesOnOk};
 ghost use Rattle.std.specs.Prelude.{◌≡◌};
@@ -11,7 +11,7 @@ use std::fmt;
 pub enum Closing {
     /// The message centre closed the connection.
     Closed,
-    /// The message centre did, or it was given up for want of answers.
+    /// The message centre did, or it was given up since answers didn't come.
     ClosedOrGivenUp,
     /// It unbound.
     Unbound,
@@ -21,6 +21,8 @@ pub enum Closing {
     Unread,
     /// A write failed, or waited too long.
     Unwritten,
+    /// The journal failed, so that nothing could be written.
+    Unnoted,
     /// It was stopped.
     Stopped,
     /// Its turns were used up.
@@ -38,7 +40,7 @@ pub enum Hindrance {
     OutOfMemory,
 }
 
-/// A line that tells how many messages were not sent, and why.
+/// A line that says how many messages were not sent, and why.
 #[derive(Clone, Copy, Debug, PartialEq, Eq, Drop)]
 pub struct UnsentLine {
     pub count: usize,
@@ -71,14 +73,14 @@ fn write_bind<W: fmt::Write>(
     write!(f, "not sent {count}: bind {bind} {why}\n")
 }
 
-/// Writes how many want of memory kept back.
+/// Writes how many were not sent since memory was refused.
 fn write_memory<W: fmt::Write>(f: &mut fmt::Formatter<W>, count: usize) -> fmt::Result
     ensures { WritesOnOk W.write_str_gives f.old result (memory_line count) f.new }
 {
     write!(f, "not sent {count}: memory was refused\n")
 }
 
-/// What is told of a closed bind.
+/// What is printed of a closed bind.
 fn closing_text(why: Closing) -> &'static str
     ensures { result.now ≡ closing_text why }
 {
@@ -89,8 +91,9 @@ fn closing_text(why: Closing) -> &'static str
         Closing::BadLength => "was lost to a bad command_length",
         Closing::Unread => "could not be read",
         Closing::Unwritten => "could not be written",
+        Closing::Unnoted => "could not be written, since the journal failed",
         Closing::Stopped => "was stopped",
         Closing::Turns => "took too many turns",
-        Closing::OutOfMemory => "ended for want of memory",
+        Closing::OutOfMemory => "ran out of memory",
     }
 }

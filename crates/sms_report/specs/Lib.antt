@@ -6,3 +6,4 @@ pub mod Report
 pub mod Summary
 pub mod Tally
 pub mod ReplayText
+pub mod Whole

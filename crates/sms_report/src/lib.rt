@@ -1,5 +1,5 @@
 //! What the program prints: the report of a sending with its statement, the plan of a messages file,
-//! the replay of a schedule, and the lines that tell a person how far a sending is and what it came
+//! the replay of a schedule, and the lines for a person: how far a sending is, and what it came
 //! to. The first three are formed whole before `write_out` lets them go out. With the report goes the
 //! exit status.
 
@@ -15,6 +15,7 @@ mod status;
 mod summary;
 mod tally;
 mod unwritten;
+mod whole;
 
 pub use fault::OutputFault;
 pub use output::write_out;
@@ -28,3 +29,4 @@ pub use status::exit_status_of;
 pub use summary::{Credits, EndLine, Summary, summary_of};
 pub use tally::{Tally, WayLine, tally_of};
 pub use unwritten::Unwritten;
+pub use whole::are_whole;

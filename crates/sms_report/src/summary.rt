@@ -1,8 +1,9 @@
-//! What a person is told at the end of a sending.
+//! The line at the end of a sending, and what it counts.
 
 ghost use Rattle.std.specs.Prelude.{◌≡◌, ◌+◌, ◌-◌, ◌^◌, length, min, sum_by};
-ghost use Rattle.sms_report.specs.Summary.{capped, credits_of as credits_in, segments_in, summary_of as summary_in};
+ghost use Rattle.sms_report.specs.Summary.{capped, credits_of as credits_in, segments_in, summary_of as summary_in, trial_text};
 
+use crate::whole::count_whole;
 use sms_book::Statement;
 use sms_core::Row;
 use sms_message::{MessageEnd, MessageResult};
@@ -24,6 +25,8 @@ pub struct Credits {
 pub struct Summary {
     /// How many messages there were, sent or refused.
     pub messages: usize,
+    /// How many of them were sent whole: they have segments, and each was charged.
+    pub whole: usize,
     /// How many segments they were sent as; past 64 bits the greatest number.
     pub segments: u64,
     /// Where the credits of all accounts stand.
@@ -52,8 +55,32 @@ impl fmt::Display for Summary {
     ghost output = { λ summary. Some (summary_text summary) };
 
     fn fmt<W: fmt::Write>(&self, f: &mut fmt::Formatter<W>) -> fmt::Result {
-        let (messages, segments, credits) = (self.messages, self.segments, self.credits);
-        write!(f, "messages {messages}, segments {segments}, {credits}")
+        let (segments, credits) = (self.segments, self.credits);
+        let count = MessageCount {
+            messages: self.messages,
+            whole: self.whole,
+        };
+        write!(f, "messages {count}, segments {segments}, {credits}")
+    }
+}
+
+/// How many messages there were, and how many of them were sent whole.
+#[derive(Clone, Copy)]
+struct MessageCount {
+    messages: usize,
+    whole: usize,
+}
+
+impl fmt::Display for MessageCount {
+    ghost use Rattle.std.specs.Prelude.{Some};
+    ghost use Rattle.sms_report.specs.Summary.{count_text};
+
+    ghost output = { λ count. Some (count_text count.messages count.whole) };
+
+    fn fmt<W: fmt::Write>(&self, f: &mut fmt::Formatter<W>) -> fmt::Result {
+        let (messages, whole) = (self.messages, self.whole);
+        let others = messages.saturating_sub(whole);
+        write!(f, "{messages} ({whole} sent whole, {others} not)")
     }
 }
 
@@ -114,6 +141,7 @@ pub fn summary_of<S>(ends: &[MessageEnd<S>], statement: &Statement) -> Summary
 {
     Summary {
         messages: ends.len(),
+        whole: count_whole(ends),
         segments: all_segments(ends),
         credits: credits_of(statement.rows()),
     }
@@ -126,6 +154,36 @@ pub struct EndLine {
     pub summary: Summary,
     /// How long it took, in milliseconds.
     pub ms: u64,
+    /// Whether it was a trial, through a test centre.
+    pub trial: bool,
+}
+
+/// Seconds with a tenth, rounded down.
+#[derive(Clone, Copy)]
+struct Seconds {
+    ms: u64,
+}
+
+impl fmt::Display for Seconds {
+    ghost use Rattle.std.specs.Prelude.{Some};
+    ghost use Rattle.sms_report.specs.Summary.{seconds_text};
+
+    ghost output = { λ seconds. Some (seconds_text seconds.ms) };
+
+    fn fmt<W: fmt::Write>(&self, f: &mut fmt::Formatter<W>) -> fmt::Result {
+        let (seconds, tenths) = (self.ms / 1000, self.ms % 1000 / 100);
+        write!(f, "{seconds}.{tenths}")
+    }
+}
+
+/// What the line says at its end of a trial.
+fn trial_suffix(trial: bool) -> &'static str
+    ensures { result.now ≡ trial_text trial }
+{
+    match trial {
+        true => "; a trial: no message centre saw any of it",
+        false => "",
+    }
 }
 
 impl fmt::Display for EndLine {
@@ -135,7 +193,8 @@ impl fmt::Display for EndLine {
     ghost output = { λ line. Some (done_text line) };
 
     fn fmt<W: fmt::Write>(&self, f: &mut fmt::Formatter<W>) -> fmt::Result {
-        let (summary, seconds, tenths) = (self.summary, self.ms / 1000, self.ms % 1000 / 100);
-        write!(f, "done: {summary}, seconds {seconds}.{tenths}")
+        let (summary, seconds) = (self.summary, Seconds { ms: self.ms });
+        let suffix = trial_suffix(self.trial);
+        write!(f, "done: {summary}, seconds {seconds}{suffix}")
     }
 }

@@ -15,4 +15,5 @@ pub mod Starts
 pub mod Statuses
 pub mod Telling
 pub mod Reasons
+pub mod Recovering
 pub mod Reaching

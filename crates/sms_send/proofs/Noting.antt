@@ -7,12 +7,11 @@ use Rattle.sms_files.specs.Inputs.{Told}
 use Rattle.sms_files.specs.Setups.{names_in, setup_in}
 use Rattle.sms_files.specs.declared.config.Config.{Config}
 use Rattle.sms_files.specs.declared.setup.Setup.{Setup}
-use Rattle.sms_send.specs.Faults.{TellsRead, output_failed}
+use Rattle.sms_send.specs.Faults.{HasLostJournal, TellsRead, output_failed}
 use Rattle.sms_send.specs.Noted.{SendsBy, SendsNoted, SendsPlain, SendsThem, TellsBy, TellsNoted, TellsOrder, TellsPlain, TellsThem}
 use Rattle.sms_send.specs.Opened.{OfFile}
 use Rattle.sms_send.specs.Reached.{centre_at}
 use Rattle.sms_send.specs.declared.fault.Fault.{Fault}
-use Rattle.sms_send.specs.declared.fault.Fault.TheVariants.{Journal}
 use Rattle.sms_send.specs.declared.order.JournalFile.{JournalFile}
 use Rattle.sms_send.specs.declared.order.Order.{Order}
 use Rattle.sms_send.specs.declared.send_job.Centre.{Centre}
@@ -20,7 +19,7 @@ use Rattle.sms_send.proofs.Sendings.{beside, of_config}
 
 -- the same, or a fault of the journal behind a status
 abbrev pub Ends : Result ℕ Fault → Fault → Type 0
-Ends x f = (x ≡ Err f) ⊎ ((f ≡ Journal) × (s : ℕ) × (x ≡ Ok s))
+Ends x f = (x ≡ Err f) ⊎ (HasLostJournal f × (s : ℕ) × (x ≡ Ok s))
 
 pub ended_ok : (r x : Result ℕ Fault) (P : ℕ → Type 0) → IfOk r (λ s. x ≡ Ok s) → IfOk x P → IfOk r P
 ended_ok (Ok s) x P same holds = rw same at holds
@@ -32,15 +31,25 @@ three_of (inl a) = inl a
 three_of (inr b) = inr (inl b)
 
 pub ended_err : (r x : Result ℕ Fault) (A B : Fault → Type 0) (P : ℕ → Type 0) → IfErr r (Ends x) → IfErr x (λ f. A f ⊎ B f) → IfOk x P
-    → IfErr r (λ f. A f ⊎ (B f ⊎ ((f ≡ Journal) × (s : ℕ) × P s)))
+    → IfErr r (λ f. A f ⊎ (B f ⊎ (HasLostJournal f × (s : ℕ) × P s)))
 ended_err (Ok s) x A B P told bad good = tt
 ended_err (Err f) x A B P (inl same) bad good = three_of (rw same at bad)
 ended_err (Err f) x A B P (inr told) bad good = inr (inr (told.0, told.1, rw told.2 at good))
 
-pub ended_quiet : (r x : Result ℕ Fault) (A : Type 0) → IfErr r (Ends x) → IfErr x (λ f. f ≢ output_failed → A) → IfErr r (λ f. f ≢ output_failed → f ≢ Journal → A)
+pub ended_quiet : (r x : Result ℕ Fault) (A : Type 0) → IfErr r (Ends x) → IfErr x (λ f. f ≢ output_failed → A) → IfErr r (λ f. f ≢ output_failed → ¬ HasLostJournal f → A)
 ended_quiet (Ok s) x A told quiet = tt
 ended_quiet (Err f) x A (inl same) quiet = λ other _. (rw same at quiet) other
 ended_quiet (Err f) x A (inr told) quiet = λ other not. absurd (not told.0)
+
+-- nothing was written but where the output failed, and so where no journal did either
+pub quiet_too : {T : Type 0} (r : Result T Fault) (A : Type 0) → IfErr r (λ f. f ≢ output_failed → A) → IfErr r (λ f. f ≢ output_failed → ¬ HasLostJournal f → A)
+quiet_too (Ok x) A quiet = tt
+quiet_too (Err f) A quiet = λ other _. quiet other
+
+-- so of two outputs
+pub both_quiet : {T : Type 0} (r : Result T Fault) (A B : Type 0) → IfErr r (λ f. f ≢ output_failed → A × B) → IfErr r (λ f. f ≢ output_failed → ¬ HasLostJournal f → A)
+both_quiet (Ok x) A B quiet = tt
+both_quiet (Err f) A B quiet = λ other _. (quiet other).0
 
 -- a fault of the config's octets
 pub tells_setup : (begins : JournalFile → Fault → Type 0) (tells : CentreAt → Bool → ℕ → Told) (finds : List ℕ → Option Told → Type 0) (centre : Centre) (order : Order) (old new : Option (List ℕ)) (fault : Fault) (items octets : List ℕ)

@@ -13,11 +13,12 @@ use Rattle.sms_files.specs.declared.fault.InputFault.TheVariants as input
 use Rattle.sms_files.specs.declared.fault.Source.{Source}
 use Rattle.sms_files.specs.declared.input.Input.{Input}
 use Rattle.sms_send.specs.Faults.{IsToldAt, TellsRead, told_input, with_reason, output_failed}
-use Rattle.sms_send.specs.Noted.{IsToldNoted, SendsInput, TellsInputOf}
+use Rattle.sms_send.specs.Noted.{IsToldNoted, SendsInput, TellsBegin, TellsInputOf}
 use Rattle.sms_send.specs.Opened.{TellsMissing, TellsUnreadFile}
 use Rattle.sms_send.specs.Runs.{TellsNamedFiles, TellsOpened, TellsUnread}
 use Rattle.sms_send.specs.declared.fault.Fault.{Fault}
-use Rattle.sms_send.specs.declared.fault.Fault.TheVariants.{BindFailed, File, Journal, OutOfMemory, Unreported}
+use Rattle.sms_send.specs.declared.fault.Fault.TheVariants.{BindFailed, File, Journal, JournalHeld, OutOfMemory, Unbegun, Unmade, Unreported}
+use Rattle.sms_send.specs.declared.order.JournalFile.{JournalFile}
 use Rattle.sms_send.specs.declared.run_files.NamedFiles.{NamedFiles}
 use Rattle.sms_send.proofs.Noting.{Ends}
 use Rattle.sms_send.proofs.Reasons.{IsOf}
@@ -90,18 +91,22 @@ reasoned_at (Err e) x b (f, is, why, same) so = subst (IsToldAt b) (sym same) (r
 
 -- a fault is told as of a sending without one
 pub noted_at : (tells : CentreAt → Bool → ℕ → Told) (strict : Bool) (b : Begun) (old new : Option (List ℕ)) (f : Fault) → IsToldAt b f → IsToldNoted tells strict b old new f
-noted_at tells strict b old new Journal so = absurd so
+noted_at tells strict b old new JournalHeld so = absurd so
+noted_at tells strict b old new (Unmade name kind) so = absurd so
+noted_at tells strict b old new (Unbegun why) so = absurd so
+noted_at tells strict b old new (Journal why) so = absurd so
 noted_at tells strict b old new f so = so
 
--- its file can't be made, or what was made doesn't take the first line
-pub begun_at : {A C : Type 0} (tells : CentreAt → Bool → ℕ → Told) (strict : Bool) (b : Begun) (old new : Option (List ℕ)) (name : String Global) (fault : Fault) → b ≡ NotYet → new ≡ old
-    → ((fault ≡ File name) × A) ⊎ ((fault ≡ Journal) × C) → IsToldNoted tells strict b old new fault
-begun_at tells strict b old new name fault yet same (inl (is, made)) = subst (IsToldNoted tells strict b old new) (sym is) yet
-begun_at tells strict b old new name fault yet same (inr (is, made)) = subst (IsToldNoted tells strict b old new) (sym is) (inl (yet, same))
+-- its file is held or can't be made, or what was made doesn't take the first line
+pub begun_at : {F : Type 0} (tells : CentreAt → Bool → ℕ → Told) (makes : List ℕ → F → Type 0) (refuses holds : List ℕ → Type 0) (strict : Bool) (b : Begun) (old new : Option (List ℕ)) (journal : JournalFile) (fault : Fault)
+    → b ≡ NotYet → new ≡ old → TellsBegin makes refuses holds journal fault → IsToldNoted tells strict b old new fault
+begun_at tells makes refuses holds strict b old new journal fault yet same (inl (is, held)) = subst (IsToldNoted tells strict b old new) (sym is) yet
+begun_at tells makes refuses holds strict b old new journal fault yet same (inr (inl (kind, is, refused))) = subst (IsToldNoted tells strict b old new) (sym is) yet
+begun_at tells makes refuses holds strict b old new journal fault yet same (inr (inr (why, is, made))) = subst (IsToldNoted tells strict b old new) (sym is) (yet, same)
 
 -- it has ended behind the report, or the fault is that of the sending
 pub ended_at : (r x : Result ℕ Fault) (tells : CentreAt → Bool → ℕ → Told) (centre : CentreAt) (strict : Bool) (b : Begun) (sent : Input) (old new : Option (List ℕ))
     → IfErr r (Ends x) → IfErr x (IsToldAt b) → OnOk x (b ≡ Heard Go) → IfOk x (SendsInput (tells centre true) strict sent old new) → IfErr r (IsToldNoted tells strict b old new)
 ended_at (Ok s) x tells centre strict b sent old new told bad went good = tt
 ended_at (Err f) x tells centre strict b sent old new (inl same) bad went good = noted_at tells strict b old new f (rw same at bad)
-ended_at (Err f) x tells centre strict b sent old new (inr (is, s, ok)) bad went good = subst (IsToldNoted tells strict b old new) (sym is) (inr (rw ok at went, centre, sent, s, rw ok at good))
+ended_at (Err f) x tells centre strict b sent old new (inr ((why, is), s, ok)) bad went good = subst (IsToldNoted tells strict b old new) (sym is) (rw ok at went, centre, sent, s, rw ok at good)

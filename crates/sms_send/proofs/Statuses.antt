@@ -1,9 +1,10 @@
 -- Which exit status a sending may have.
 use Rattle.std.proofs.Common.{◌≡◌, inl, inr, refl, ℕ, Bool, true, false, List}
-use Rattle.std.specs.Prelude.{◌==◌, ◌&&◌, if◌then◌else◌}
+use Rattle.std.specs.Prelude.{◌==◌, ◌&&◌, not, if◌then◌else◌}
 use Rattle.sms_report.specs.Report.{ends_status, some_unanswered}
 use Rattle.sms_send.specs.Jobs.{IsStatusBy}
-use Rattle.sms_send.specs.Statuses.{some_kept_back, status_by}
+use Rattle.sms_report.specs.Whole.{are_whole}
+use Rattle.sms_send.specs.Statuses.{status_by}
 use Rattle.sms_worker.specs.Types.{MessageEnd}
 
 by_segments : (strict b : Bool) (status : ℕ) → status ≡ (if b then 4 else 0) → IsStatusBy strict status
@@ -16,4 +17,4 @@ of_parts true false ends status is = by_segments true (some_unanswered ends) sta
 of_parts false b ends status is = by_segments false (some_unanswered ends) status is
 
 pub is_status : (strict : Bool) (ends : List MessageEnd) (status : ℕ) → status ≡ status_by strict ends → IsStatusBy strict status
-is_status strict ends status is = of_parts strict (ends_status ends == 0 && some_kept_back ends) ends status is
+is_status strict ends status is = of_parts strict (ends_status ends == 0 && not (are_whole ends)) ends status is

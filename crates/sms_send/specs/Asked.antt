@@ -1,6 +1,6 @@
 -- The words that the program was started with, what it does by them, and what it tells of a fault. Which words may stand after the
--- program's name is a relation of the world that it runs in: none where one of them is not UTF-8. So is whether a person may see
--- standard error.
+-- program's name is a relation of the world that it runs in: none where one of them is not UTF-8. So is whether details are wanted
+-- on standard error.
 use Rattle.std.specs.Prelude.{◌≡◌, ◌⊎◌, ◌||◌, ℕ, Bool, List, Option, Some, None, IfSome, is_some, string_bytes}
 use Rattle.std.specs.Io.KnownBytes.{Appends}
 use Rattle.std.specs.declared.io.Error.{Error as IoError}
@@ -35,35 +35,35 @@ abbrev pub OfAsked : (Option (List Text) → Type 0) → (Job → Type 0) → Ty
 OfAsked has P = (words : List Text) × has (Some words) × OfJob words P
 
 -- what a fault of the program says: its words can't be had, or what it says of them
-abbrev pub TellsAsAsked : {S : Type 0} → (Option (List Text) → Type 0) → (JournalFile → Fault → Type 0) → (S → Told) → (List ℕ → Option Told → Type 0) → (CentreAt → Bool → ℕ → Told) → Option (List ℕ) → Option (List ℕ) → Fault → Type 0
-TellsAsAsked has begins standard finds tells old new fault =
-    LacksWords has fault ⊎ ((words : List Text) × has (Some words) × TellsRun begins standard finds tells words old new fault)
+abbrev pub TellsAsAsked : {S : Type 0} → (Option (List Text) → Type 0) → (JournalFile → Fault → Type 0) → (List ℕ → Type 0) → (S → Told) → (List ℕ → Option Told → Type 0) → (CentreAt → Bool → ℕ → Told) → Option (List ℕ) → Option (List ℕ) → Fault → Type 0
+TellsAsAsked has begins holds standard finds tells old new fault =
+    LacksWords has fault ⊎ ((words : List Text) × has (Some words) × TellsRun begins holds standard finds tells words old new fault)
 
 -- these are the words, or they can't be had
 abbrev pub AreWords : (Option (List Text) → Type 0) → Option (List Text) → Type 0
 AreWords has words = IfSome words (λ those. has (Some those))
 
--- whether more is told of a fault: on a terminal, and where the words ask for it
+-- whether more is told of a fault: where details are wanted of each, and where the words ask for them
 abbrev pub is_more_told : Bool → Option (List Text) → Bool
-is_more_told terminal None = terminal
-is_more_told terminal (Some words) = terminal || asks_for_more words
+is_more_told details None = details
+is_more_told details (Some words) = details || asks_for_more words
 
 -- what is known of a run by these words that has this fault, where more is told of it
-pub record IsKnownAt (holds : Text → List ℕ → Type 0) (says : Text → FileTrouble → Type 0) (words : Option (List Text)) (terminal : Bool) (fault : Fault) (known : Option Known) : Type 0 where
-  pub asked : is_some known ≡ is_more_told terminal words
+pub record IsKnownAt (holds : Text → List ℕ → Type 0) (says : Text → FileTrouble → Type 0) (words : Option (List Text)) (details : Bool) (fault : Fault) (known : Option Known) : Type 0 where
+  pub asked : is_some known ≡ is_more_told details words
   pub is_known : IfSome known (IsKnown holds says words fault)
 
 -- and of a run in this world
-pub record IsKnownHere (has : Option (List Text) → Type 0) (shows : Bool → Type 0) (holds : Text → List ℕ → Type 0) (says : Text → FileTrouble → Type 0) (fault : Fault) (known : Option Known) : Type 0 where
+pub record IsKnownHere (has : Option (List Text) → Type 0) (wants : Bool → Type 0) (holds : Text → List ℕ → Type 0) (says : Text → FileTrouble → Type 0) (fault : Fault) (known : Option Known) : Type 0 where
   pub words : Option (List Text)
-  pub terminal : Bool
+  pub details : Bool
   pub are_words : AreWords has words
-  pub is_shown : shows terminal
-  pub at_length : IsKnownAt holds says words terminal fault known
+  pub are_wanted : wants details
+  pub at_length : IsKnownAt holds says words details fault known
 
 -- a fault was told of a run in this world, by its line and what follows it, and nothing else was
 abbrev pub TellsLines : (Option (List Text) → Type 0) → (Bool → Type 0) → (Text → List ℕ → Type 0) → (Text → FileTrouble → Type 0) → Fault → Option (List ℕ) → Option (List ℕ) → Type 0
-TellsLines has shows holds says fault old new = (known : Option Known) × IsKnownHere has shows holds says fault known × Appends old new (told_with known fault)
+TellsLines has wants holds says fault old new = (known : Option Known) × IsKnownHere has wants holds says fault known × Appends old new (told_with known fault)
 
 -- what is printed in place of a fault: help and the version
 abbrev pub printed_of : Fault → Option (List ℕ)

@@ -69,9 +69,9 @@ sender_line name = with_rules
     (with_rules (new_app name) (file_rule (codes "config") ∷ flag_rule (codes "quiet") ∷ value_rule (codes "journal") ∷ flag_rule (codes "sync") ∷ flag_rule (codes "strict") ∷ verbose_rule ∷ []))
     pace_rules
 
--- `recover --config FILE --journal FILE`, and `rest --config FILE --report FILE`, with `--accounts` or without
+-- `recover --config FILE --journal FILE`, with `--trial` or without, and `rest --config FILE --report FILE`, with `--accounts` or without
 abbrev pub recover_line : App
-recover_line = with_rules (new_app (codes "recover")) (file_rule (codes "config") ∷ file_rule (codes "journal") ∷ verbose_rule ∷ [])
+recover_line = with_rules (new_app (codes "recover")) (file_rule (codes "config") ∷ file_rule (codes "journal") ∷ flag_rule (codes "trial") ∷ verbose_rule ∷ [])
 
 abbrev pub rest_line : App
 rest_line = with_rules (new_app (codes "rest")) (file_rule (codes "config") ∷ file_rule (codes "report") ∷ flag_rule (codes "accounts") ∷ verbose_rule ∷ [])
@@ -164,7 +164,7 @@ AsksFor sub.Plan rows (Plan messages long) = (first_of (codes "messages") rows �
 AsksFor sub.Quote rows (Quote config verbose) = (first_of (codes "config") rows ≡ Some (string_bytes config)) × (is_set (first_of (codes "verbose") rows) ≡ verbose)
 AsksFor sub.Loop rows (Loop order) = AsksToSend rows order
 AsksFor sub.Send rows (Send order) = AsksToSend rows order
-AsksFor sub.Recover rows (Recover order) = HasNames (codes "journal") rows order.config order.journal
+AsksFor sub.Recover rows (Recover order) = HasNames (codes "journal") rows order.config order.journal × (is_set (first_of (codes "trial") rows) ≡ order.trial)
 AsksFor sub.Rest rows (Rest order) = HasNames (codes "report") rows order.config order.report × (is_set (first_of (codes "accounts") rows) ≡ order.accounts)
 AsksFor _ rows _ = ⊥
 

@@ -1,8 +1,13 @@
--- Which lines follow a fault's own.
+-- The lines of a fault after its first.
 use Rattle.std.specs.Prelude.{◌≡◌, ◌⊎◌, ◌↔◌, ℕ, Bool, true, false, IsTrue, List, [], ◌++◌, Option, None, Some, codes, string_bytes}
+use Rattle.std.specs.declared.io.ErrorKind.{ErrorKind}
+use Rattle.std.specs.declared.io.ErrorKind.TheVariants as kind
 use Rattle.sms_devices.specs.declared.connecting.Unconnected.{Unconnected as Why}
 use Rattle.sms_devices.specs.declared.connecting.Unconnected.TheVariants as why
+use Rattle.sms_devices.specs.declared.journal_failure.JournalFailure.{JournalFailure}
+use Rattle.sms_devices.specs.declared.journal_failure.JournalFailure.TheVariants as failure
 use Rattle.sms_diagnostics.specs.Causes.{bind_text, cause_text, centre_line, file_text, key_lines, record_lines, status_line, words_lines}
+use Rattle.sms_diagnostics.specs.Journals.{about_line, making_text, noting_text, two_lines}
 use Rattle.sms_diagnostics.specs.Keys.{range_of}
 use Rattle.sms_diagnostics.specs.Records.{record_of}
 use Rattle.sms_diagnostics.specs.Statuses.{status_name}
@@ -10,6 +15,10 @@ use Rattle.sms_diagnostics.specs.Troubles.{bad_text_line, flag_text, hidden_text
 use Rattle.sms_diagnostics.specs.declared.cause.BindTrouble.{BindTrouble}
 use Rattle.sms_diagnostics.specs.declared.cause.BindTrouble.TheVariants as trouble
 use Rattle.sms_diagnostics.specs.declared.cause.FileTrouble.TheVariants.{Other}
+use Rattle.sms_diagnostics.specs.declared.journal.MakingTrouble.{MakingTrouble}
+use Rattle.sms_diagnostics.specs.declared.journal.MakingTrouble.TheVariants as making
+use Rattle.sms_diagnostics.specs.declared.journal.NotingTrouble.{NotingTrouble}
+use Rattle.sms_diagnostics.specs.declared.journal.NotingTrouble.TheVariants as noting
 use Rattle.sms_diagnostics.specs.declared.record.RecordOf.{RecordOf}
 use Rattle.sms_diagnostics.specs.declared.record.RecordOf.TheVariants as record-of
 use Rattle.sms_diagnostics.specs.declared.trouble.RecordTrouble.{RecordTrouble}
@@ -29,11 +38,11 @@ use Rattle.sms_files.specs.declared.held.Held.TheVariants as held
 use Rattle.sms_send.specs.Faults.{fault_text}
 use Rattle.sms_send.specs.declared.explained.Address.{Address}
 use Rattle.sms_send.specs.declared.explained.Doing.{Doing}
-use Rattle.sms_send.specs.declared.explained.Doing.TheVariants.{Sending, Recovering, Else, Unknown}
+use Rattle.sms_send.specs.declared.explained.Doing.TheVariants.{Sending, Else, Unknown}
 use Rattle.sms_send.specs.declared.explained.Known.{Known}
 use Rattle.sms_send.specs.declared.explained.Told.{Told}
 use Rattle.sms_send.specs.declared.fault.Fault.{Fault}
-use Rattle.sms_send.specs.declared.fault.Fault.TheVariants.{Words, Help, Version, File, UnreadFile, Unreadable, BadRecord, NotToml, BadKey, BindRefused, BindFailed, Unconnected, BadNote, BadReport, Journal, Output, OutOfMemory, Unreported}
+use Rattle.sms_send.specs.declared.fault.Fault.TheVariants.{Words, Help, Version, File, UnreadFile, Unreadable, BadRecord, NotToml, BadKey, BindRefused, BindFailed, Unconnected, BadNote, BadReport, Unmade, JournalHeld, Unbegun, Journal, Overdrawn, Trial, OtherFile, Output, OutOfMemory, Unreported}
 
 -- the files of records
 abbrev pub file_in : Source → RecordOf
@@ -63,16 +72,31 @@ abbrev pub lines_of_bind : Option Address → BindTrouble → List ℕ
 lines_of_bind None trouble = line (bind_text trouble)
 lines_of_bind (Some centre) trouble = centre_line (string_bytes centre.host) centre.port (bind_text trouble)
 
--- of a journal and of the output by what the job does; where that isn't known, messages may have been sent
-abbrev pub lines_of_journal : Doing → List ℕ
-lines_of_journal Recovering = line (codes "it takes more of an account than that has")
-lines_of_journal Sending = line (codes "what was not noted was not sent; a printed report is right")
-lines_of_journal Else = line (codes "what was not noted was not sent; a printed report is right")
-lines_of_journal Unknown = []
+-- why a journal can't be made, by the system's error
+abbrev pub making_by : ErrorKind → MakingTrouble
+making_by kind.NotFound = making.NoFolder
+making_by kind.NotADirectory = making.NotFolder
+making_by kind.PermissionDenied = making.Forbidden
+making_by kind.AlreadyExists = making.Taken
+making_by kind.InvalidFilename = making.BadName
+making_by kind.ReadOnlyFilesystem = making.ReadOnly
+making_by kind.StorageFull = making.StorageFull
+making_by kind.QuotaExceeded = making.QuotaExceeded
+making_by kind.ResourceBusy = making.Busy
+making_by _ = making.Other
 
+-- why a journal can't be written
+abbrev pub noting_by : JournalFailure → NotingTrouble
+noting_by failure.OutOfMemory = noting.OutOfMemory
+noting_by failure.StorageFull = noting.StorageFull
+noting_by failure.QuotaExceeded = noting.QuotaExceeded
+noting_by failure.FileTooLarge = noting.FileTooLarge
+noting_by failure.ReadOnly = noting.ReadOnly
+noting_by failure.Other = noting.Other
+
+-- of the output by what the job does; where that isn't known, messages may have been sent
 abbrev pub lines_of_output : Doing → List ℕ
 lines_of_output Sending = line (codes "messages were sent: don't send them again before you know which")
-lines_of_output Recovering = line (codes "nothing was sent")
 lines_of_output Else = line (codes "nothing was sent")
 lines_of_output Unknown = line (codes "messages may have been sent: don't send them again before you know which")
 
@@ -133,7 +157,13 @@ lines_of known (BindFailed bind failure) = lines_of_bind known.centre (trouble_i
 lines_of known (Unconnected reason) = lines_of_bind known.centre (trouble_to reason.why)
 lines_of known (BadNote place) = record_lines (record_of record-of.Journal place) record-trouble.Unknown
 lines_of known (BadReport place) = record_lines (record_of record-of.Report place) record-trouble.Unknown
-lines_of known Journal = lines_of_journal known.doing
+lines_of known (Unmade name kind) = line (making_text (making_by kind))
+lines_of known JournalHeld = line (codes "its run is still going on")
+lines_of known (Unbegun why) = two_lines (noting_text (noting_by why)) (codes "nothing was sent")
+lines_of known (Journal why) = two_lines (noting_text (noting_by why)) (codes "what was not noted was not sent; the report is right, and rest prints what is left of it")
+lines_of known Overdrawn = line (codes "it takes more of an account than that has")
+lines_of known Trial = line (codes "--trial prints its report")
+lines_of known (OtherFile name) = about_line (string_bytes name) (codes "is not the file that this run was begun with")
 lines_of known (Output unwritten) = lines_of_output known.doing
 lines_of known OutOfMemory = line (codes "memory or a thread was refused; nothing was sent")
 lines_of known Unreported = line (codes "memory or a thread was refused; messages may have been sent")

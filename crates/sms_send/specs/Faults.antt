@@ -1,9 +1,11 @@
--- The line that tells a fault, the exit status that it ends the program with, and what the faults of the crates below are told as.
-use Rattle.std.specs.Prelude.{◌≡◌, ◌⊎◌, ℕ, List, ◌++◌, codes, decimal, string_bytes}
+-- The first line of a fault, the exit status that it ends the program with, and the faults that those of the crates below become.
+use Rattle.std.specs.Prelude.{◌≡◌, ◌⊎◌, ℕ, String, List, ◌++◌, codes, decimal, string_bytes}
+use Rattle.std.specs.declared.alloc.Global.{Global}
 use Rattle.sms_diagnostics.specs.Shown.{shown}
 use Rattle.sms_send.specs.declared.fault.Fault.{Fault}
-use Rattle.sms_send.specs.declared.fault.Fault.TheVariants.{Words, Help, Version, File, UnreadFile, Unreadable, BadRecord, NotToml, BadKey, BindRefused, BindFailed, Unconnected, BadNote, BadReport, Journal, Output, OutOfMemory, Unreported}
+use Rattle.sms_send.specs.declared.fault.Fault.TheVariants.{Words, Help, Version, File, UnreadFile, Unreadable, BadRecord, NotToml, BadKey, BindRefused, BindFailed, Unconnected, BadNote, BadReport, Unmade, JournalHeld, Unbegun, Journal, Overdrawn, Trial, OtherFile, Output, OutOfMemory, Unreported}
 use Rattle.sms_devices.specs.declared.connecting.Unconnected.{Unconnected as Why}
+use Rattle.sms_devices.specs.declared.journal_failure.JournalFailure.{JournalFailure}
 use Rattle.sms_driver.specs.declared.fault.BindFailure.TheVariants as failure
 use Rattle.sms_driver.specs.declared.fault.SendFault.{SendFault}
 use Rattle.sms_driver.specs.declared.fault.SendFault.TheVariants as send
@@ -13,6 +15,7 @@ use Rattle.sms_driver.specs.declared.start.Begun.TheVariants.{NotYet, Heard}
 use Rattle.sms_files.specs.Faults.{source_name, unread_source}
 use Rattle.sms_files.specs.declared.fault.InputFault.{InputFault}
 use Rattle.sms_files.specs.declared.fault.InputFault.TheVariants as input
+use Rattle.sms_journal.specs.declared.digests.RunFile.{RunFile}
 use Rattle.sms_recovery.specs.declared.fault.RecoveryFault.{RecoveryFault}
 use Rattle.sms_recovery.specs.declared.fault.RecoveryFault.TheVariants as recovery
 use Rattle.sms_report.specs.declared.fault.OutputFault.{OutputFault}
@@ -21,6 +24,10 @@ use Rattle.sms_report.specs.declared.fault.OutputFault.TheVariants as output
 -- the fault of an output that failed; a body has an `Unwritten` to tell only of an output that answered an error
 abbrev pub output_failed : Fault
 output_failed = Output tt
+
+-- the journal failed once messages were sent, for whatever reason
+abbrev pub HasLostJournal : Fault → Type 0
+HasLostJournal fault = (why : JournalFailure) × (fault ≡ Journal why)
 
 -- help and the version are the parser's own texts
 abbrev pub fault_text : Fault → List ℕ
@@ -38,7 +45,13 @@ fault_text (BindFailed bind why) = codes "fault: bind " ++ decimal bind ++ codes
 fault_text (Unconnected reason) = codes "fault: bind " ++ decimal reason.bind ++ codes " failed"
 fault_text (BadNote place) = codes "fault: journal record " ++ decimal place
 fault_text (BadReport place) = codes "fault: report record " ++ decimal place
-fault_text Journal = codes "fault: journal"
+fault_text (Unmade name kind) = codes "fault: file " ++ shown (string_bytes name)
+fault_text JournalHeld = codes "fault: journal"
+fault_text (Unbegun why) = codes "fault: journal"
+fault_text (Journal why) = codes "fault: journal"
+fault_text Overdrawn = codes "fault: journal"
+fault_text Trial = codes "fault: journal of a trial: no message centre saw any of it"
+fault_text (OtherFile name) = codes "fault: journal record 1"
 fault_text (Output unwritten) = codes "fault: output"
 fault_text OutOfMemory = codes "fault: out of memory"
 fault_text Unreported = codes "fault: out of memory"
@@ -99,10 +112,16 @@ IsTold P fault = (f : Fault) × P f × (why : Why) × (fault ≡ with_reason why
 abbrev pub told_recovery : RecoveryFault → Fault
 told_recovery (recovery.Input fault) = told_input fault
 told_recovery (recovery.Journal place) = BadNote place
-told_recovery recovery.Overdrawn = Journal
+told_recovery (recovery.OtherFiles file) = BadNote 1
+told_recovery recovery.Trial = Trial
+told_recovery recovery.Overdrawn = Overdrawn
 told_recovery (recovery.Report place) = BadReport place
 told_recovery (recovery.Output unwritten) = Output unwritten
 told_recovery recovery.OutOfMemory = OutOfMemory
+
+-- and so it is told, or by the name of the file of which the journal isn't
+abbrev pub IsToldOfFiles : RecoveryFault → Fault → Type 0
+IsToldOfFiles f fault = (fault ≡ told_recovery f) ⊎ ((file : RunFile) × (f ≡ recovery.OtherFiles file) × (name : String Global) × (fault ≡ OtherFile name))
 
 -- why a text isn't written
 abbrev pub told_output : OutputFault → Fault

@@ -9,9 +9,10 @@ use Rattle.sms_files.specs.Inputs.{Told}
 use Rattle.sms_files.specs.Messages.{messages_fault}
 use Rattle.sms_report.specs.PlanText.{kind_of, plan_of}
 use Rattle.sms_send.specs.Opened.{OfFile, OfInput, TellsLost}
-use Rattle.sms_send.specs.Plans.{TellsPlan}
+use Rattle.sms_send.specs.Plans.{TellsPlan, Warns, WarnsFront}
 use Rattle.sms_send.specs.Quoted.{QuotesAsAsked, QuotesFiles, TellsFrontAsAsked, TellsQuoteJob}
-use Rattle.sms_send.specs.Recovered.{PrintsLeft, RecoversRun, TellsRecoverJob, TellsRestJob}
+use Rattle.sms_report.specs.Output.{WritesFront}
+use Rattle.sms_send.specs.Recovered.{PrintsLeft, RecoversAndTells, RecoversOrder, TellsRecoverJob, TellsRestJob, trial_line}
 use Rattle.sms_send.specs.Replays.{Replays, TellsReplay}
 use Rattle.sms_send.specs.Runs.{IsRun}
 use Rattle.sms_send.specs.Noted.{IsToldNoted, SendsBy, TellsOrder}
@@ -29,7 +30,7 @@ use Rattle.sms_send.specs.declared.send_job.Centre.TheVariants.{Named, Own}
 abbrev pub Plans : Bool → List ℕ → Option (List ℕ) → Option (List ℕ) → Type 0
 Plans long bytes old new = (messages_fault (records_of bytes) ≡ None) × Appends old new (plan_of (kind_of long) (records_of bytes))
 
--- the exit status of a job that was done: 0, of the sender and of what a journal tells also 4, and of the sender with `--strict` also 5
+-- the exit status of a job that was done: 0, of the sender and of a recovery also 4, and of the sender with `--strict` also 5
 abbrev pub IsStatus : ℕ → Type 0
 IsStatus status = (status ≡ 0) ⊎ (status ≡ 4)
 
@@ -53,30 +54,35 @@ Does standard finds tells (Plan name long) old new status = OfFile finds (string
 Does standard finds tells (Quote config verbose) old new status = OfFile finds (string_bytes config) (λ octets. QuotesFiles finds octets old new)
 Does standard finds tells (Loop order) old new status = OfFile finds (string_bytes order.config) (λ octets. SendsBy tells Own order.strict finds order.journal octets old new status)
 Does standard finds tells (Send order) old new status = OfFile finds (string_bytes order.config) (λ octets. SendsBy tells Named order.strict finds order.journal octets old new status)
-Does standard finds tells (Recover order) old new status = (run : RunFiles) × IsRun finds (string_bytes order.config) (string_bytes order.journal) run × RecoversRun run old new status
+Does standard finds tells (Recover order) old new status = RecoversOrder finds order old new status
 Does standard finds tells (Rest order) old new status = (run : RunFiles) × IsRun finds (string_bytes order.config) (string_bytes order.report) run × PrintsLeft order.accounts run old new
 
--- what standard error was told by a job that was done: by a quote what there is to warn of and, at length, its files' full names; by any other nothing (how a
--- sending goes is told there by threads of its own)
+-- what standard error was told by a job that was done: by a plan whether a quote is open, by a quote what there is to warn of and, at length, its files' full
+-- names, by a recovery whether it is of a trial; by any other nothing (how a sending goes is told there by threads of its own)
 abbrev pub TellsBeside : (List ℕ → Option Told → Type 0) → (List ℕ → List ℕ → Type 0) → (Bool → Type 0) → Job → Option (List ℕ) → Option (List ℕ) → Option (List ℕ) → Option (List ℕ) → Type 0
-TellsBeside finds is_full shows (Quote config verbose) old new told_old told_new = QuotesAsAsked finds is_full shows config verbose old new told_old told_new
-TellsBeside finds is_full shows _ old new told_old told_new = told_new ≡ told_old
+TellsBeside finds is_full details (Plan name long) old new told_old told_new = OfFile finds (string_bytes name) (λ bytes. Warns bytes told_old told_new)
+TellsBeside finds is_full details (Quote config verbose) old new told_old told_new = QuotesAsAsked finds is_full details config verbose old new told_old told_new
+TellsBeside finds is_full details (Recover order) old new told_old told_new = RecoversAndTells finds order old new told_old told_new
+TellsBeside finds is_full details _ old new told_old told_new = told_new ≡ told_old
 
 -- and by one of which the output failed: a front of that
 abbrev pub TellsBesideFront : (List ℕ → Option Told → Type 0) → (List ℕ → List ℕ → Type 0) → (Bool → Type 0) → Job → Option (List ℕ) → Option (List ℕ) → Type 0
-TellsBesideFront finds is_full shows (Quote config verbose) told_old told_new = TellsFrontAsAsked finds is_full shows config verbose told_old told_new
-TellsBesideFront finds is_full shows _ told_old told_new = told_new ≡ told_old
+TellsBesideFront finds is_full details (Plan name long) told_old told_new = OfFile finds (string_bytes name) (λ bytes. WarnsFront bytes told_old told_new)
+TellsBesideFront finds is_full details (Quote config verbose) told_old told_new = TellsFrontAsAsked finds is_full details config verbose told_old told_new
+TellsBesideFront finds is_full details (Recover order) told_old told_new = WritesFront told_old told_new trial_line
+TellsBesideFront finds is_full details _ told_old told_new = told_new ≡ told_old
 
--- what a fault of a job says, of a world where a journal's beginning tells such: its file can't be opened, or what the fault says of the input
-abbrev pub TellsJob : {S : Type 0} → (JournalFile → Fault → Type 0) → (S → Told) → (List ℕ → Option Told → Type 0) → (CentreAt → Bool → ℕ → Told) → Job → Option (List ℕ) → Option (List ℕ) → Fault → Type 0
-TellsJob begins standard finds tells (Replay None) old new fault = OfInput standard (λ bytes. TellsReplay (records_of bytes) fault)
-TellsJob begins standard finds tells (Replay (Some name)) old new fault = TellsLost finds name fault ⊎ OfFile finds (string_bytes name) (λ bytes. TellsReplay (records_of bytes) fault)
-TellsJob begins standard finds tells (Plan name long) old new fault = TellsLost finds name fault ⊎ OfFile finds (string_bytes name) (λ bytes. TellsPlan (records_of bytes) fault)
-TellsJob begins standard finds tells (Quote config verbose) old new fault = TellsQuoteJob finds config old new fault
-TellsJob begins standard finds tells (Loop order) old new fault = TellsOrder begins tells finds Own order old new fault
-TellsJob begins standard finds tells (Send order) old new fault = TellsOrder begins tells finds Named order old new fault
-TellsJob begins standard finds tells (Recover order) old new fault = TellsRecoverJob finds order old new fault
-TellsJob begins standard finds tells (Rest order) old new fault = TellsRestJob finds order old new fault
+-- what a fault of a job says, of a world where a journal's beginning tells such, and which holds journals of these names: its file can't be opened, or what the
+-- fault says of the input
+abbrev pub TellsJob : {S : Type 0} → (JournalFile → Fault → Type 0) → (List ℕ → Type 0) → (S → Told) → (List ℕ → Option Told → Type 0) → (CentreAt → Bool → ℕ → Told) → Job → Option (List ℕ) → Option (List ℕ) → Fault → Type 0
+TellsJob begins holds standard finds tells (Replay None) old new fault = OfInput standard (λ bytes. TellsReplay (records_of bytes) fault)
+TellsJob begins holds standard finds tells (Replay (Some name)) old new fault = TellsLost finds name fault ⊎ OfFile finds (string_bytes name) (λ bytes. TellsReplay (records_of bytes) fault)
+TellsJob begins holds standard finds tells (Plan name long) old new fault = TellsLost finds name fault ⊎ OfFile finds (string_bytes name) (λ bytes. TellsPlan (records_of bytes) fault)
+TellsJob begins holds standard finds tells (Quote config verbose) old new fault = TellsQuoteJob finds config old new fault
+TellsJob begins holds standard finds tells (Loop order) old new fault = TellsOrder begins tells finds Own order old new fault
+TellsJob begins holds standard finds tells (Send order) old new fault = TellsOrder begins tells finds Named order old new fault
+TellsJob begins holds standard finds tells (Recover order) old new fault = TellsRecoverJob holds finds order old new fault
+TellsJob begins holds standard finds tells (Rest order) old new fault = TellsRestJob finds order old new fault
 
 -- how far its sending came once a job was done: all workers were told to go, of one that sends
 abbrev pub HasBegun : Job → Begun → Type 0
@@ -99,8 +105,8 @@ abbrev pub Works : {S : Type 0} → (S → Told) → (List ℕ → Option Told �
 Works standard finds tells words status old new = (job : Job) × IsJob (subcommand_in words) job × IsStatusOf job status × Does standard finds tells job old new status
 
 -- what a fault says of the words: they are refused, or what it says of the job that they ask for
-abbrev pub TellsRun : {S : Type 0} → (JournalFile → Fault → Type 0) → (S → Told) → (List ℕ → Option Told → Type 0) → (CentreAt → Bool → ℕ → Told) → List Text → Option (List ℕ) → Option (List ℕ) → Fault → Type 0
-TellsRun begins standard finds tells words old new fault = TellsWords words fault ⊎ ((job : Job) × IsJob (subcommand_in words) job × TellsJob begins standard finds tells job old new fault)
+abbrev pub TellsRun : {S : Type 0} → (JournalFile → Fault → Type 0) → (List ℕ → Type 0) → (S → Told) → (List ℕ → Option Told → Type 0) → (CentreAt → Bool → ℕ → Told) → List Text → Option (List ℕ) → Option (List ℕ) → Fault → Type 0
+TellsRun begins holds standard finds tells words old new fault = TellsWords words fault ⊎ ((job : Job) × IsJob (subcommand_in words) job × TellsJob begins holds standard finds tells job old new fault)
 
 -- how far the sending came that these words ask for, once what they ask for was done, and where this fault is told
 abbrev pub WentSo : List Text → Begun → Type 0

@@ -21,7 +21,7 @@ use Rattle.sms_send.specs.CommandLine.{IsJob, TellsWords, bytes_of, refusals_of,
 use Rattle.sms_send.specs.Explained.{IsHeldOf, IsTroubleOf}
 use Rattle.sms_send.specs.declared.explained.Address.{Address}
 use Rattle.sms_send.specs.declared.explained.Doing.{Doing}
-use Rattle.sms_send.specs.declared.explained.Doing.TheVariants.{Sending, Recovering, Else, Unknown}
+use Rattle.sms_send.specs.declared.explained.Doing.TheVariants.{Sending, Else, Unknown}
 use Rattle.sms_send.specs.declared.explained.Known.{Known}
 use Rattle.sms_send.specs.declared.fault.Fault.{Fault}
 use Rattle.sms_send.specs.declared.fault.Fault.TheVariants.{Words, File, UnreadFile, BadRecord, BadKey, BindFailed, Unconnected, OutOfMemory}
@@ -38,14 +38,14 @@ file_trouble kind.NotFound = Missing
 file_trouble kind.PermissionDenied = Forbidden
 file_trouble _ = Other
 
--- what a job does: `loop` and `send` send, and `recover` looks into a journal
+-- what a job does: `loop` and `send` send
 abbrev pub doing_in : Job → Doing
 doing_in (Replay file) = Else
 doing_in (Plan name long) = Else
 doing_in (Quote config verbose) = Else
 doing_in (Loop order) = Sending
 doing_in (Send order) = Sending
-doing_in (Recover order) = Recovering
+doing_in (Recover order) = Else
 doing_in (Rest order) = Else
 
 -- the name of a job's config; and that of the file of records which the words name themselves

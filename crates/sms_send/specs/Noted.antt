@@ -1,10 +1,14 @@
 -- What a sending with a journal or without promises, from the input on, and what it makes of its files.
 -- What connections to a centre will give, written to behind a journal or not, is told of the world that the program runs in: `tells`.
 use Rattle.std.specs.Prelude.{◌≡◌, ◌⊎◌, ◌+◌, ℕ, Bool, true, false, List, Option, Some, None, length}
+use Rattle.std.specs.declared.io.ErrorKind.{ErrorKind}
 use Rattle.std.specs.Io.KnownBytes.{Appends}
 use Rattle.std.specs.String.{string_bytes}
 use Rattle.sms_devices.specs.Centres.{CentreAt}
 use Rattle.sms_devices.specs.Journals.{HasEnded}
+use Rattle.sms_devices.specs.declared.journal_failure.JournalFailure.{JournalFailure}
+use Rattle.sms_journal.specs.declared.header.JournalKind.{JournalKind}
+use Rattle.sms_journal.specs.declared.header.JournalKind.TheVariants.{Run, Trial}
 use Rattle.sms_files.specs.ConfigFaults.{IsConfig, TellsConfig}
 use Rattle.sms_files.specs.Inputs.{Told, TellsInput}
 use Rattle.sms_files.specs.Quoting.{EndsQuoted}
@@ -15,7 +19,7 @@ use Rattle.sms_files.specs.declared.fault.InputFault.TheVariants.{BadRecord}
 use Rattle.sms_files.specs.declared.fault.Source.TheVariants.{Messages}
 use Rattle.sms_files.specs.declared.input.Input.{Input}
 use Rattle.sms_recovery.specs.Files.{Reads, told_of}
-use Rattle.sms_send.specs.Faults.{IsTold, IsToldAt, TellsRead}
+use Rattle.sms_send.specs.Faults.{HasLostJournal, IsTold, IsToldAt, TellsRead}
 use Rattle.sms_send.specs.Opened.{OfFile, TellsUnreadFile}
 use Rattle.sms_send.specs.Reached.{centre_in}
 use Rattle.sms_send.specs.Runs.{AreNamed, TellsNamedFiles, tariff_in}
@@ -26,12 +30,12 @@ use Rattle.sms_driver.specs.declared.latch.Word.TheVariants.{Go}
 use Rattle.sms_driver.specs.declared.start.Begun.{Begun}
 use Rattle.sms_driver.specs.declared.start.Begun.TheVariants.{NotYet, Heard}
 use Rattle.sms_send.specs.declared.fault.Fault.{Fault}
-use Rattle.sms_send.specs.declared.fault.Fault.TheVariants.{BindFailed, File, Journal, OutOfMemory}
+use Rattle.sms_send.specs.declared.fault.Fault.TheVariants.{BindFailed, Journal, JournalHeld, OutOfMemory, Unbegun, Unmade}
 use Rattle.sms_send.specs.declared.order.JournalFile.{JournalFile}
 use Rattle.sms_send.specs.declared.order.Order.{Order}
 use Rattle.sms_send.specs.declared.run_files.NamedFiles.{NamedFiles}
 use Rattle.sms_send.specs.declared.send_job.Centre.{Centre}
-use Rattle.sms_send.specs.declared.send_job.Centre.TheVariants.{Own}
+use Rattle.sms_send.specs.declared.send_job.Centre.TheVariants.{Named, Own}
 use Rattle.sms_send.specs.declared.sender.Ended.{Ended}
 use Rattle.sms_send.specs.declared.sending.Wanted.{Wanted}
 use Rattle.sms_send.specs.declared.sending.Wanted.TheVariants.{Files, Read}
@@ -118,9 +122,27 @@ TellsPlain told false finds centre names octets old new fault = TellsOver told c
 abbrev pub IsMade : {F : Type 0} → (List ℕ → F → Type 0) → JournalFile → Type 0
 IsMade {F} makes journal = (file : F) × makes (string_bytes journal.name) file
 
--- what a fault says where a journal is begun: none could be made, or what was made didn't take the first line
-abbrev pub TellsBegin : {F : Type 0} → (List ℕ → F → Type 0) → (List ℕ → Type 0) → JournalFile → Fault → Type 0
-TellsBegin makes refuses journal fault = ((fault ≡ File journal.name) × refuses (string_bytes journal.name)) ⊎ ((fault ≡ Journal) × IsMade makes journal)
+-- what a journal is of: of a trial where the messages go to a centre of the program's own
+abbrev pub kind_of : Centre → JournalKind
+kind_of Own = Trial
+kind_of Named = Run
+
+-- a process holds the journal of this name, as the system says
+abbrev pub TellsHeld : (List ℕ → Type 0) → List ℕ → Fault → Type 0
+TellsHeld holds name fault = (fault ≡ JournalHeld) × holds name
+
+-- none could be made, for this reason
+abbrev pub TellsUnmade : (List ℕ → Type 0) → JournalFile → Fault → Type 0
+TellsUnmade refuses journal fault = (kind : ErrorKind) × (fault ≡ Unmade journal.name kind) × refuses (string_bytes journal.name)
+
+-- what was made didn't take the first line, for this reason
+abbrev pub TellsUnbegun : {F : Type 0} → (List ℕ → F → Type 0) → JournalFile → Fault → Type 0
+TellsUnbegun makes journal fault = (why : JournalFailure) × (fault ≡ Unbegun why) × IsMade makes journal
+
+-- what a fault says where a journal is begun: one of its name is held, none could be made, or what was made didn't take the first line
+abbrev pub TellsBegin : {F : Type 0} → (List ℕ → F → Type 0) → (List ℕ → Type 0) → (List ℕ → Type 0) → JournalFile → Fault → Type 0
+TellsBegin makes refuses holds journal fault =
+    TellsHeld holds (string_bytes journal.name) fault ⊎ TellsUnmade refuses journal fault ⊎ TellsUnbegun makes journal fault
 
 -- a file ends with the note that a run has ended with this status
 abbrev pub IsNoted : {F : Type 0} → (F → Option (List ℕ)) → ℕ → Type 0
@@ -133,17 +155,20 @@ TellsReadFiles begins told strict centre journal named octets old new fault =
     TellsInputOf strict octets named fault
     ⊎ (begins journal fault × (new ≡ old))
     ⊎ ((input : Input) × IsInputOf octets named input
-    × (IsDeaf centre fault ⊎ IsTold (TellsSending unknown told input old new) fault ⊎ ((fault ≡ Journal) × (status : ℕ) × SendsInput told strict input old new status)))
+    × (IsDeaf centre fault ⊎ IsTold (TellsSending unknown told input old new) fault ⊎ (HasLostJournal fault × (status : ℕ) × SendsInput told strict input old new status)))
 
 abbrev pub TellsNoted : (JournalFile → Fault → Type 0) → (ℕ → Told) → Bool → (List ℕ → Option Told → Type 0) → Centre → JournalFile → FileNames → List ℕ → Option (List ℕ) → Option (List ℕ) → Fault → Type 0
 TellsNoted begins told strict finds centre journal names octets old new fault =
     TellsNamedFiles finds names fault ⊎ ((named : NamedFiles) × AreNamed finds names named × TellsReadFiles begins told strict centre journal named octets old new fault)
 
--- how far a sending with a journal came of which this fault is told: the journal failed before a word was said, and then nothing was written, or behind the
--- whole report; else the fault says so as of one without
+-- how far a sending with a journal came of which this fault is told: before a word was said no journal could be made or begun, or it was held; all was sent
+-- and the whole report was written before a journal failed; else the fault says so as of one without
 abbrev pub IsToldNoted : (CentreAt → Bool → ℕ → Told) → Bool → Begun → Option (List ℕ) → Option (List ℕ) → Fault → Type 0
-IsToldNoted tells strict begun old new Journal =
-    ((begun ≡ NotYet) × (new ≡ old)) ⊎ ((begun ≡ Heard Go) × (centre : CentreAt) × (input : Input) × (status : ℕ) × SendsInput (tells centre true) strict input old new status)
+IsToldNoted tells strict begun old new JournalHeld = begun ≡ NotYet
+IsToldNoted tells strict begun old new (Unmade name kind) = begun ≡ NotYet
+IsToldNoted tells strict begun old new (Unbegun why) = (begun ≡ NotYet) × (new ≡ old)
+IsToldNoted tells strict begun old new (Journal why) =
+    (begun ≡ Heard Go) × (centre : CentreAt) × (input : Input) × (status : ℕ) × SendsInput (tells centre true) strict input old new status
 IsToldNoted tells strict begun old new fault = IsToldAt begun fault
 
 -- ---- the job

@@ -1,11 +1,30 @@
--- What a fault of a plan says of the messages file.
-use Rattle.sms_files.specs.Fields.{Record}
+-- What a plan warns of, and what a fault of it says of the messages file.
+use Rattle.std.specs.Prelude.{◌≡◌, ◌⊎◌, ◌++◌, ℕ, List, [], Option, codes, decimal, length}
+use Rattle.std.specs.Io.KnownBytes.{Appends}
+use Rattle.sms_files.specs.Fields.{Record, records_of}
 use Rattle.sms_files.specs.Messages.{messages_fault}
+use Rattle.sms_files.specs.Quoting.{EndsQuoted}
 use Rattle.sms_files.specs.declared.fault.Source.TheVariants.{Messages}
+use Rattle.sms_report.specs.Output.{WritesFront}
 use Rattle.sms_send.specs.Opened.{TellsFile}
 use Rattle.sms_send.specs.declared.fault.Fault.{Fault}
-use Rattle.std.specs.Prelude.{List}
 
 -- the record that a fault names is the first faulty one; where the output failed, none was
 abbrev pub TellsPlan : List Record → Fault → Type 0
 TellsPlan rs = TellsFile Messages (messages_fault rs)
+
+-- the quote of a record is open: all that stands behind it is read as that record
+abbrev pub quote_line : ℕ → List ℕ
+quote_line place = codes "warning: messages record " ++ decimal place ++ codes ": its quote is open, it goes on to the end of the file\n"
+
+-- what there is to warn of: where the file ends within a quote, of its last record; else nothing
+abbrev pub IsWarning : List ℕ → List ℕ → Type 0
+IsWarning bytes text = (EndsQuoted bytes × (text ≡ quote_line (length (records_of bytes)))) ⊎ ((¬ EndsQuoted bytes) × (text ≡ []))
+
+-- it was warned of that, and nothing else was told
+abbrev pub Warns : List ℕ → Option (List ℕ) → Option (List ℕ) → Type 0
+Warns bytes told_old told_new = (text : List ℕ) × IsWarning bytes text × Appends told_old told_new text
+
+-- a front of that was told
+abbrev pub WarnsFront : List ℕ → Option (List ℕ) → Option (List ℕ) → Type 0
+WarnsFront bytes told_old told_new = (text : List ℕ) × IsWarning bytes text × WritesFront told_old told_new text

@@ -139,13 +139,13 @@ TellsFront finds is_full at_length name octets told_old told_new =
     (config : Config) × IsConfig octets config × (lines : List ℕ) × TellsNames is_full at_length name config.files lines
     × TellsFrontNamed finds config.files octets lines told_old told_new
 
--- so by the config of a name: at length on a terminal, and where more is to be told
+-- so by the config of a name: at length where details are wanted, and where more is to be told
 abbrev pub QuotesAsAsked : (List ℕ → Option Told → Type 0) → (List ℕ → List ℕ → Type 0) → (Bool → Type 0) → String Global → Bool → Option (List ℕ) → Option (List ℕ) → Option (List ℕ) → Option (List ℕ) → Type 0
-QuotesAsAsked finds is_full shows name verbose old new told_old told_new =
-    (terminal : Bool) × shows terminal
-    × OfFile finds (string_bytes name) (λ octets. QuotesAndTells finds is_full (terminal || verbose) (string_bytes name) octets old new told_old told_new)
+QuotesAsAsked finds is_full wants name verbose old new told_old told_new =
+    (details : Bool) × wants details
+    × OfFile finds (string_bytes name) (λ octets. QuotesAndTells finds is_full (details || verbose) (string_bytes name) octets old new told_old told_new)
 
 -- a front of what is told so was told
 abbrev pub TellsFrontAsAsked : (List ℕ → Option Told → Type 0) → (List ℕ → List ℕ → Type 0) → (Bool → Type 0) → String Global → Bool → Option (List ℕ) → Option (List ℕ) → Type 0
-TellsFrontAsAsked finds is_full shows name verbose told_old told_new =
-    (terminal : Bool) × shows terminal × OfFile finds (string_bytes name) (λ octets. TellsFront finds is_full (terminal || verbose) (string_bytes name) octets told_old told_new)
+TellsFrontAsAsked finds is_full wants name verbose told_old told_new =
+    (details : Bool) × wants details × OfFile finds (string_bytes name) (λ octets. TellsFront finds is_full (details || verbose) (string_bytes name) octets told_old told_new)

@@ -1,8 +1,8 @@
--- What a person is told of a sending beside its fault.
+-- What standard error has of a sending beside its fault.
 use Rattle.std.specs.Prelude.{Bool, ◌&&◌, ◌||◌, not}
 use Rattle.sms_devices.specs.Telling.{telling_of}
 use Rattle.sms_send.specs.declared.remarks.Remarks.{Remarks}
 
--- nothing by someone who is quiet; at length to a terminal, and where that is asked for
-abbrev pub remarks_by : Bool → Bool → Bool → Remarks
-remarks_by quiet verbose terminal = record { telling = telling_of quiet terminal; at_length = not quiet && (terminal || verbose) }
+-- nothing where that is asked for; at length where details are wanted of each sending, or of this one
+abbrev pub remarks_by : Bool → Bool → Bool → Bool → Bool → Remarks
+remarks_by quiet verbose terminal details trial = record { telling = telling_of quiet terminal; at_length = not quiet && (details || verbose); trial = trial }

@@ -1,4 +1,4 @@
-//! What the parser is told of the command line.
+//! The command line, as the parser knows it.
 
 ghost use Rattle.std.specs.Prelude.{◌≡◌, false, IfOk, IsOkAnd};
 ghost use Rattle.clap.specs.Words.{AddsSubcommand, App, Rule, app_of, new_app, rule_of, with_rule};
@@ -62,7 +62,7 @@ fn program_command<'a>(alloc: Global) -> Result<Command<'a>, AllocError>
 {
     Command::new(alloc, NAME)
         .about(
-            "Sends prepaid short messages over SMPP 3.4; with no words it replays the schedule on standard input",
+            "Sends prepaid short messages over SMPP 3.4; without arguments it replays the schedule on standard input",
         )
         .version(VERSION)
         .no_binary_name(true)
@@ -74,7 +74,11 @@ fn verbose_flag<'a>(alloc: Global) -> Arg<'a>
     ensures rule { rule_of result ≡ verbose_rule }
     ensures local { result.global ≡ false }
 {
-    flag(alloc, "verbose", "Tells more of a fault on standard error")
+    flag(
+        alloc,
+        "verbose",
+        "Prints details of a fault on standard error",
+    )
 }
 
 /// What the parser is told of `replay`.
@@ -84,7 +88,7 @@ fn replay_command<'a>(alloc: Global) -> Result<Command<'a>, AllocError>
     let begun = subcommand(
         alloc,
         "replay",
-        "Replays a schedule of events and prints what became of each",
+        "Replays a schedule of events and prints the result of each",
     );
     let named = with_argument(
         Ok(begun),
@@ -101,12 +105,12 @@ fn plan_command<'a>(alloc: Global) -> Result<Command<'a>, AllocError>
     let long = flag(
         alloc,
         "long",
-        "Cuts for references of 16 bits, and not of 8",
+        "Splits long texts with references of 16 bits in place of 8",
     );
     let begun = subcommand(
         alloc,
         "plan",
-        "Prints how the text of each message is coded and cut into parts",
+        "Prints how the text of each message is encoded and split into parts",
     );
     let filed = with_argument(Ok(begun), messages);
     let longer = with_argument(filed, long);
@@ -133,14 +137,20 @@ fn recover_command<'a>(alloc: Global) -> Result<Command<'a>, AllocError>
 {
     let config = file_option(alloc, "config", "The config of the run");
     let journal = file_option(alloc, "journal", "The journal of the run");
+    let trial = flag(
+        alloc,
+        "trial",
+        "Prints the report of a trial, a journal of loop, too",
+    );
     let begun = subcommand(
         alloc,
         "recover",
-        "Prints the report of a run that was cut off, by its journal",
+        "Prints the report of a run that was interrupted, from its journal",
     );
     let configured = with_argument(Ok(begun), config);
     let noted = with_argument(configured, journal);
-    with_argument(noted, verbose_flag(alloc))
+    let tried = with_argument(noted, trial);
+    with_argument(tried, verbose_flag(alloc))
 }
 
 /// What the parser is told of `rest`.
@@ -152,12 +162,12 @@ fn rest_command<'a>(alloc: Global) -> Result<Command<'a>, AllocError>
     let accounts = flag(
         alloc,
         "accounts",
-        "Prints the accounts with what they have left, and not the messages",
+        "Prints the accounts with the credits that they have left, instead of the messages",
     );
     let begun = subcommand(
         alloc,
         "rest",
-        "Prints the messages that a run did not send at all, by its report",
+        "Prints the messages of which a run sent nothing, from its report",
     );
     let configured = with_argument(Ok(begun), config);
     let reported = with_argument(configured, report);
@@ -174,22 +184,26 @@ fn sender_command<'a>(
     ensures { IfOk result (IsLine (sender_line name.now)) }
 {
     let config = file_option(alloc, "config", "The config, which names the other files");
-    let quiet = flag(alloc, "quiet", "Tells nothing but faults on standard error");
+    let quiet = flag(
+        alloc,
+        "quiet",
+        "Prints nothing but faults on standard error",
+    );
     let journal = value_option(
         alloc,
         "journal",
         "FILE",
-        "Notes what is sent and heard in this file, which must not be there yet",
+        "Writes a journal of what is sent and received to this new file",
     );
     let sync = flag(
         alloc,
         "sync",
-        "Sends nothing that the disk doesn't have in the journal",
+        "Sends nothing that is not on the disk in the journal",
     );
     let strict = flag(
         alloc,
         "strict",
-        "Ends with 5 where a lost bind or want of memory kept a message back",
+        "Ends with status 5 if a message was not sent whole and no part is unanswered",
     );
     let begun = with_argument(Ok(subcommand(alloc, name, about)), config);
     let quieted = with_argument(begun, quiet);
@@ -211,19 +225,19 @@ fn with_pace<'a>(
         alloc,
         "connect-ms",
         "N",
-        "How many milliseconds it may take to connect and to bind, 1 to 600000",
+        "The most milliseconds to connect and to bind, 1 to 600000",
     );
     let rate = value_option(
         alloc,
         "rate",
         "N",
-        "How many requests a bind sends in a second at the most, 1 to 100000",
+        "The most requests that a bind sends in any second, 1 to 100000",
     );
     let stop = value_option(
         alloc,
         "stop-after",
         "N",
-        "After how many unanswered requests in a row a bind goes down, 1 to 1000000",
+        "Gives a bind up after so many unanswered requests in a row, 1 to 1000000",
     );
     let connected = with_argument(command, connect);
     let rated = with_argument(connected, rate);

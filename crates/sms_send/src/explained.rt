@@ -1,26 +1,27 @@
-//! What is told of a fault: its line and, at length, the lines behind it.
+//! The lines of a fault: its first and, at length, those after it.
 
 ghost use Rattle.std.specs.Prelude.{◌≡◌, ◌||◌, string_bytes};
 ghost use Rattle.sms_diagnostics.specs.Causes.{cause_text, record_lines};
 ghost use Rattle.sms_diagnostics.specs.Records.{record_of};
 ghost use Rattle.sms_diagnostics.specs.Troubles.{holding_text};
-ghost use Rattle.sms_send.specs.Explained.{file_in, lines_of, lines_of_bind, lines_of_held, lines_of_journal, lines_of_key, lines_of_output, told_text, told_with, trouble_in, trouble_to};
+ghost use Rattle.sms_send.specs.Explained.{file_in, lines_of, lines_of_bind, lines_of_held, lines_of_key, lines_of_output, making_by, noting_by, told_text, told_with, trouble_in, trouble_to};
 
 use crate::fault::Fault;
-use sms_devices::Unconnected;
-use sms_diagnostics::{BindTrouble, Cause, FileTrouble, Holding, RecordOf, RecordTrouble};
+use sms_devices::{JournalFailure, Unconnected};
+use sms_diagnostics::{
+    BindTrouble, Cause, FileTrouble, Holding, MakingTrouble, NotingTrouble, RecordOf, RecordTrouble,
+};
 use sms_driver::BindFailure;
 use sms_files::{Held, Source};
 use std::fmt;
+use std::io::ErrorKind;
 
 /// What a job does, for what is told of its fault.
 #[derive(Clone, Copy, Debug, PartialEq, Eq)]
 pub enum Doing {
     /// It sends messages.
     Sending,
-    /// It looks into the journal of a run.
-    Recovering,
-    /// It does neither, or there is none.
+    /// It doesn't, or there is none.
     Else,
     /// The words that ask for it couldn't be read once more.
     Unknown,
@@ -100,14 +101,35 @@ fn bind_cause<'a>(centre: &'a Option<Address>, trouble: BindTrouble) -> Cause<'a
     }
 }
 
-/// Why there is a fault of the journal.
-fn journal_cause<'a>(doing: Doing) -> Cause<'a>
-    ensures { cause_text result ≡ lines_of_journal doing }
+/// Why a journal can't be made, by the system's error.
+fn making_of(kind: ErrorKind) -> MakingTrouble
+    ensures { result ≡ making_by kind }
 {
-    match doing {
-        Doing::Recovering => Cause::Overdrawn,
-        Doing::Sending | Doing::Else => Cause::Unnoted,
-        Doing::Unknown => Cause::Nothing,
+    match kind {
+        ErrorKind::NotFound => MakingTrouble::NoFolder,
+        ErrorKind::NotADirectory => MakingTrouble::NotFolder,
+        ErrorKind::PermissionDenied => MakingTrouble::Forbidden,
+        ErrorKind::AlreadyExists => MakingTrouble::Taken,
+        ErrorKind::InvalidFilename => MakingTrouble::BadName,
+        ErrorKind::ReadOnlyFilesystem => MakingTrouble::ReadOnly,
+        ErrorKind::StorageFull => MakingTrouble::StorageFull,
+        ErrorKind::QuotaExceeded => MakingTrouble::QuotaExceeded,
+        ErrorKind::ResourceBusy => MakingTrouble::Busy,
+        _ => MakingTrouble::Other,
+    }
+}
+
+/// Why a journal can't be written.
+fn noting_of(why: JournalFailure) -> NotingTrouble
+    ensures { result ≡ noting_by why }
+{
+    match why {
+        JournalFailure::OutOfMemory => NotingTrouble::OutOfMemory,
+        JournalFailure::StorageFull => NotingTrouble::StorageFull,
+        JournalFailure::QuotaExceeded => NotingTrouble::QuotaExceeded,
+        JournalFailure::FileTooLarge => NotingTrouble::FileTooLarge,
+        JournalFailure::ReadOnly => NotingTrouble::ReadOnly,
+        JournalFailure::Other => NotingTrouble::Other,
     }
 }
 
@@ -117,7 +139,7 @@ fn output_cause<'a>(doing: Doing) -> Cause<'a>
 {
     match doing {
         Doing::Sending => Cause::OutputOfSent,
-        Doing::Recovering | Doing::Else => Cause::Output,
+        Doing::Else => Cause::Output,
         Doing::Unknown => Cause::OutputInDoubt,
     }
 }
@@ -170,14 +192,20 @@ fn cause_of<'a>(fault: &'a Fault, known: &'a Known) -> Cause<'a>
         Fault::Unconnected(reason) => bind_cause(&known.centre, trouble_to(reason.why)),
         Fault::BadNote(place) => record_cause(RecordOf::Journal, *place, RecordTrouble::Unknown),
         Fault::BadReport(place) => record_cause(RecordOf::Report, *place, RecordTrouble::Unknown),
-        Fault::Journal => journal_cause(known.doing),
+        Fault::Unmade(_, kind) => Cause::Unmade(making_of(*kind)),
+        Fault::JournalHeld => Cause::Held,
+        Fault::Unbegun(why) => Cause::Unbegun(noting_of(*why)),
+        Fault::Journal(why) => Cause::Unnoted(noting_of(*why)),
+        Fault::Overdrawn => Cause::Overdrawn,
+        Fault::Trial => Cause::Trial,
+        Fault::OtherFile(name) => Cause::OtherFile(name.as_str()),
         Fault::Output(_) => output_cause(known.doing),
         Fault::OutOfMemory => Cause::Unstarted,
         Fault::Unreported => Cause::OutOfMemory,
     }
 }
 
-/// A fault as it is told: in its line, and behind that in those of its cause.
+/// A fault as it is told: its first line, and after that those of its cause.
 #[derive(Clone, Copy, Debug)]
 pub struct Told<'a> {
     pub fault: &'a Fault,
@@ -196,7 +224,7 @@ impl<'a> fmt::Display for Told<'a> {
     }
 }
 
-/// A fault as it is told: at length where more is known of the run, and else in its line alone.
+/// A fault as it is told: at length where more is known of the run, and else in its first line alone.
 pub fn told_of<'a>(fault: &'a Fault, known: &'a Option<Known>) -> Told<'a>
     ensures { told_text result ≡ told_with known.now fault.now }
 {
@@ -212,9 +240,9 @@ pub fn told_of<'a>(fault: &'a Fault, known: &'a Option<Known>) -> Told<'a>
     }
 }
 
-/// Whether lines follow a fault: on a terminal, and where that is asked for.
-pub fn is_at_length(terminal: bool, verbose: bool) -> bool
-    ensures { result ≡ (terminal || verbose) }
+/// Whether lines follow a fault: where details are wanted of each, and where they are asked for.
+pub fn is_at_length(details: bool, verbose: bool) -> bool
+    ensures { result ≡ (details || verbose) }
 {
-    terminal || verbose
+    details || verbose
 }

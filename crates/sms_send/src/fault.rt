@@ -1,11 +1,11 @@
-//! The faults that end the program, each with its text and its exit status.
+//! The faults that end the program, each with its first line and its exit status.
 
 ghost use Rattle.std.specs.Fmt.{WritesOnOk};
 ghost use Rattle.std.specs.Prelude.{◌≡◌, ◌++◌, codes, decimal};
 ghost use Rattle.sms_diagnostics.specs.Shown.{shown};
 
 use crate::read_failure::ReadFailure;
-use sms_devices::Reason;
+use sms_devices::{JournalFailure, Reason};
 use sms_diagnostics::write_shown;
 use sms_driver::{BindFailure, SendFault};
 use sms_files::{InputFault, Source, Unread};
@@ -13,6 +13,7 @@ use sms_recovery::RecoveryFault;
 use sms_report::{OutputFault, Unwritten};
 use std::alloc::{AllocError, AllocFailed};
 use std::fmt;
+use std::io::ErrorKind;
 use thiserror::Error;
 
 /// Why the program ends before its work is done. Its text is the line that the program tells it
@@ -47,8 +48,20 @@ pub enum Fault {
     BadNote(usize),
     /// The record of a report, counted from 1, isn't one that may stand there.
     BadReport(usize),
-    /// The journal can't be written, or what it notes takes more of an account than that has.
-    Journal,
+    /// The journal of this name can't be made: the system refused it with an error of this kind.
+    Unmade(String, ErrorKind),
+    /// A process holds the journal: its run is still going on.
+    JournalHeld,
+    /// The first line of a new journal can't be written, and this is why. Nothing was sent.
+    Unbegun(JournalFailure),
+    /// The journal could not be written on, and this is why. All else was done.
+    Journal(JournalFailure),
+    /// What a journal notes takes more of an account than that has.
+    Overdrawn,
+    /// The journal is of a trial, which isn't asked for.
+    Trial,
+    /// The file of this name isn't the one that the journal is of.
+    OtherFile(String),
     /// What is to be printed can't be written.
     Output(Unwritten),
     /// Memory was refused, or a thread, and nothing was sent.
@@ -67,11 +80,9 @@ impl fmt::Display for Fault {
         match self {
             Fault::Words => f.write_str("fault: words"),
             Fault::Help(text) | Fault::Version(text) => f.write_str(text.as_str()),
-            Fault::File(name) | Fault::UnreadFile(name, _) => write_named(
-                f,
-                "fault: file ",
-                name.as_str(),
-            ),
+            Fault::File(name) | Fault::UnreadFile(name, _) | Fault::Unmade(name, _) => {
+                write_named(f, "fault: file ", name.as_str())
+            }
             Fault::Unreadable(unread) => write_source(f, unread.source().name()),
             Fault::BadRecord(source, place) => write_record(f, source.name(), *place),
             Fault::NotToml => f.write_str("fault: config"),
@@ -81,7 +92,13 @@ impl fmt::Display for Fault {
             Fault::Unconnected(reason) => write_failed(f, reason.bind),
             Fault::BadNote(place) => write_record(f, "journal", *place),
             Fault::BadReport(place) => write_record(f, "report", *place),
-            Fault::Journal => f.write_str("fault: journal"),
+            Fault::JournalHeld | Fault::Unbegun(_) | Fault::Journal(_) | Fault::Overdrawn => {
+                f.write_str("fault: journal")
+            }
+            Fault::Trial => {
+                f.write_str("fault: journal of a trial: no message centre saw any of it")
+            }
+            Fault::OtherFile(_) => f.write_str("fault: journal record 1"),
             Fault::Output(_) => f.write_str("fault: output"),
             Fault::OutOfMemory | Fault::Unreported => f.write_str("fault: out of memory"),
         }
@@ -213,7 +230,9 @@ impl From<RecoveryFault> for Fault {
         match fault {
             RecoveryFault::Input(fault) => Fault::from(fault),
             RecoveryFault::Journal(place) => Fault::BadNote(place),
-            RecoveryFault::Overdrawn => Fault::Journal,
+            RecoveryFault::OtherFiles(_) => Fault::BadNote(1),
+            RecoveryFault::Trial => Fault::Trial,
+            RecoveryFault::Overdrawn => Fault::Overdrawn,
             RecoveryFault::Report(place) => Fault::BadReport(place),
             RecoveryFault::Output(unwritten) => Fault::Output(unwritten),
             RecoveryFault::OutOfMemory => Fault::OutOfMemory,

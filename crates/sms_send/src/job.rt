@@ -138,7 +138,11 @@ fn job_asked(alloc: Global, subcommand: Subcommand, found: &ArgMatches<'_>) -> R
             Err(fault) => Err(fault),
         },
         Subcommand::Recover => match names_of(alloc, found, "journal") {
-            Ok((config, journal)) => Ok(Job::Recover(RecoverOrder { config, journal })),
+            Ok((config, journal)) => Ok(Job::Recover(RecoverOrder {
+                config,
+                journal,
+                trial: is_given(found, "trial"),
+            })),
             Err(fault) => Err(fault),
         },
         Subcommand::Rest => match names_of(alloc, found, "report") {

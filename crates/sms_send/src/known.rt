@@ -20,8 +20,8 @@ fn doing_of(job: &Job) -> Doing
 {
     match job {
         Job::Loop(_) | Job::Send(_) => Doing::Sending,
-        Job::Recover(_) => Doing::Recovering,
-        Job::Replay(_) | Job::Plan(_, _) | Job::Quote(_, _) | Job::Rest(_) => Doing::Else,
+        Job::Replay(_) | Job::Plan(_, _) | Job::Quote(_, _) | Job::Recover(_) | Job::Rest(_) =>
+            Doing::Else,
     }
 }
 

@@ -1,4 +1,4 @@
-//! What the program `sms-send` does: the jobs that its words ask for, over the files, the streams and the
+//! What the program `sms-send` does: the jobs that its arguments ask for, over the files, the streams and the
 //! connections of the system or of a test, with their faults and exit statuses.
 
 #![tactic(auto)]
@@ -19,6 +19,7 @@ mod opened;
 mod order;
 mod pacing;
 mod plan;
+mod plan_job;
 mod program;
 mod program_words;
 mod quote_job;
@@ -36,6 +37,7 @@ mod status;
 mod unconnected;
 mod unsent;
 mod words;
+mod written;
 
 pub use explained::{Address, Doing, Known, Told, told_of};
 pub use exposed::FileModes;

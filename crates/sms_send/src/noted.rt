@@ -1,15 +1,14 @@
 //! A sending that is noted in a journal.
 
-ghost use Rattle.std.specs.Prelude.{◌≡◌, ◌≢◌, ◌⊎◌, ℕ, Err, Ok, IfErr, IfOk, IsOk, OnOk, true};
+ghost use Rattle.std.specs.Prelude.{◌≡◌, ◌≢◌, ◌⊎◌, ℕ, Err, Ok, IfErr, IfOk, IsOk, OnOk, string_bytes, true};
 ghost use Rattle.sms_driver.specs.declared.latch.Word.TheVariants.{Go};
 ghost use Rattle.sms_driver.specs.declared.start.Begun.TheVariants.{NotYet, Heard};
 ghost use Rattle.sms_journal.specs.Digests.{digests_of as of_files};
 ghost use Rattle.sms_send.specs.Jobs.{IsStatusBy};
-ghost use Rattle.sms_send.specs.Noted.{IsMade, IsNoted, IsToldNoted, SendsNoted, TellsBegin, TellsNoted};
+ghost use Rattle.sms_send.specs.Noted.{IsMade, IsNoted, IsToldNoted, SendsNoted, TellsBegin, TellsHeld, TellsNoted, TellsUnmade, kind_of as kind_by};
 ghost use Rattle.sms_send.specs.Reached.{centre_of};
 ghost use Rattle.sms_send.specs.Runs.{tariff_in};
-ghost use Rattle.sms_send.specs.Faults.{output_failed};
-ghost use Rattle.sms_send.specs.declared.fault.Fault.TheVariants.{Journal as JournalFault};
+ghost use Rattle.sms_send.specs.Faults.{HasLostJournal, output_failed};
 
 use crate::checked::input_in;
 use crate::fault::Fault;
@@ -17,11 +16,12 @@ use crate::opened::InputFiles;
 use crate::order::{JournalFile, Pace};
 use crate::remarks::Remarks;
 use crate::run_files::{NamedFiles, read_named};
+use crate::send_job::Centre;
 use crate::sending::{Reach, Wanted, send_over};
-use sms_devices::{Host, Journal, JournalFiles};
+use sms_devices::{Host, Journal, JournalFailure, JournalFiles, Unmade};
 use sms_driver::Start;
 use sms_files::FileNames;
-use sms_journal::{Digests, digests_of};
+use sms_journal::{Digests, JournalKind, digests_of};
 use std::fs::OpenFile;
 use std::io::Write;
 use std::sync::Wait;
@@ -39,30 +39,63 @@ fn digests_in(config: &[u8], named: &NamedFiles) -> Digests
     )
 }
 
-/// A journal in a new file, which has its first line. The file is the fault where none can be made, and
-/// the journal where what was made doesn't take the line.
-fn begin_journal<R: AllocGlobal + JournalFiles + Wait>(
-    rt: &R,
-    wanted: JournalFile,
-    digests: &Digests,
-) -> Result<Journal<R::JournalFile>, Fault>
-    ensures made { IsOk result → IsMade (R.makes rt.now) wanted }
-    ensures refused { IfErr result (TellsBegin (R.makes rt.now) (R.refuses rt.now) wanted) }
+/// What a journal is of: of a trial where the messages go to a centre of the program's own.
+fn kind_of(centre: Centre) -> JournalKind
+    ensures { result ≡ kind_by centre }
 {
-    let JournalFile { name, sync } = wanted;
-    let Ok(file) = rt.create_journal(name.as_str()) else {
-        return Err(Fault::File(name));
-    };
-    let journal = Journal::new(rt.alloc(), file, sync);
-    journal.begin(rt, digests);
-    if journal.let_out(rt) {
-        Ok(journal)
-    } else {
-        Err(Fault::Journal)
+    match centre {
+        Centre::Own => JournalKind::Trial,
+        Centre::Named => JournalKind::Run,
     }
 }
 
-/// Notes that a sending has ended with its report. A journal that has failed is a fault behind that.
+/// A new file for a journal, which this process holds from here on. The name is the fault where none can be
+/// made, and the journal where a process holds one of this name.
+fn make_journal<R: JournalFiles>(rt: &R, wanted: JournalFile) -> Result<R::JournalFile, Fault>
+    ensures made { IsOk result → IsMade (R.makes rt.now) wanted }
+    ensures refused { IfErr result (λ fault. TellsHeld (R.holds rt.now) (string_bytes wanted.name) fault ⊎ TellsUnmade (R.refuses rt.now) wanted fault) }
+{
+    let JournalFile { name, sync } = wanted;
+    match rt.create_journal(name.as_str(), sync) {
+        Ok(file) => Ok(file),
+        Err(Unmade::Held) => Err(Fault::JournalHeld),
+        Err(Unmade::Failed(kind)) => Err(Fault::Unmade(name, kind)),
+    }
+}
+
+/// Why a journal failed.
+fn failure_of<R: Wait, F: Write + OpenFile>(rt: &R, journal: &Journal<F>) -> JournalFailure {
+    match journal.failure(rt) {
+        Some(why) => why,
+        None => JournalFailure::Other,
+    }
+}
+
+/// A journal of this kind in a new file, which has its first line.
+fn begin_journal<R: AllocGlobal + JournalFiles + Wait>(
+    rt: &R,
+    wanted: JournalFile,
+    kind: JournalKind,
+    digests: &Digests,
+) -> Result<Journal<R::JournalFile>, Fault>
+    ensures made { IsOk result → IsMade (R.makes rt.now) wanted }
+    ensures refused { IfErr result (TellsBegin (R.makes rt.now) (R.refuses rt.now) (R.holds rt.now) wanted) }
+{
+    let sync = wanted.sync;
+    let file = match make_journal(rt, wanted) {
+        Ok(file) => file,
+        Err(fault) => return Err(fault),
+    };
+    let journal = Journal::new(rt.alloc(), file, sync);
+    journal.begin(rt, kind, digests);
+    if journal.let_out(rt) {
+        Ok(journal)
+    } else {
+        Err(Fault::Unbegun(failure_of(rt, &journal)))
+    }
+}
+
+/// Notes that a sending has ended with its report. That the journal has failed is a fault after that.
 fn end_journal<R: Clock, F: Write + OpenFile + Drop>(
     rt: &R,
     journal: Journal<F>,
@@ -70,12 +103,12 @@ fn end_journal<R: Clock, F: Write + OpenFile + Drop>(
 ) -> Result<u8, Fault>
     ensures ended { IfOk result (λ status. sent ≡ Ok status) }
     ensures noted { IfOk result (IsNoted F.contents) }
-    ensures refused { IfErr result (λ fault. (sent ≡ Err fault) ⊎ ((fault ≡ JournalFault) × (status : ℕ) × (sent ≡ Ok status))) }
+    ensures refused { IfErr result (λ fault. (sent ≡ Err fault) ⊎ (HasLostJournal fault × (status : ℕ) × (sent ≡ Ok status))) }
 {
     match sent {
         Ok(status) => match journal.close(rt, status) {
-            Some(_file) => Ok(status),
-            None => Err(Fault::Journal),
+            Ok(_file) => Ok(status),
+            Err(why) => Err(Fault::Journal(why)),
         },
         Err(fault) => Err(fault),
     }
@@ -100,16 +133,16 @@ pub fn send_noted<R: Host + InputFiles, W: Write>(
     ensures sent { IfOk result (SendsNoted (R.tells rt.now (centre_of reach.now) true) strict (R.finds rt.now) files config.now (W.contents output.old) (W.contents output.new)) }
     ensures status { IfOk result (IsStatusBy strict) }
     ensures noted { IfOk result (IsNoted R.JournalFile.contents) }
-    ensures refused { IfErr result (TellsNoted (TellsBegin (R.makes rt.now) (R.refuses rt.now)) (R.tells rt.now (centre_of reach.now) true) strict (R.finds rt.now) reach.now.centre wanted files config.now (W.contents output.old) (W.contents output.new)) }
-    // A journal that failed is told before anything was sent or written, or behind the whole report.
+    ensures refused { IfErr result (TellsNoted (TellsBegin (R.makes rt.now) (R.refuses rt.now) (R.holds rt.now)) (R.tells rt.now (centre_of reach.now) true) strict (R.finds rt.now) reach.now.centre wanted files config.now (W.contents output.old) (W.contents output.new)) }
+    // A journal that can't be begun is a fault before anything was sent or written; one that failed later, after the whole report.
     ensures told { IfErr result (IsToldNoted (R.tells rt.now) strict start.new.begun (W.contents output.old) (W.contents output.new)) }
-    ensures unwritten { IfErr result (λ fault. fault ≢ output_failed → fault ≢ JournalFault → output.new ≡ output.old) }
+    ensures unwritten { IfErr result (λ fault. fault ≢ output_failed → ¬ HasLostJournal fault → output.new ≡ output.old) }
 {
     let named = read_named(rt, files)?;
     let input = input_in(rt.alloc(), config, &named, strict)?;
     let digests = digests_in(config, &named);
     drop(named);
-    let journal = begin_journal(rt, wanted, &digests)?;
+    let journal = begin_journal(rt, wanted, kind_of(reach.centre), &digests)?;
     let sent = send_over(
         rt,
         start,

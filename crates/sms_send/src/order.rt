@@ -1,19 +1,19 @@
-//! What the words of the subcommands that send, and that look at what was sent, ask for.
+//! What the arguments of the subcommands that send, and that look at what was sent, ask for.
 
 /// A sending as the command line asks for it.
 #[derive(Debug, Drop)]
 pub struct Order {
     /// The name of the config.
     pub config: String,
-    /// Whether nothing but a fault is told on standard error.
+    /// Whether nothing but a fault is printed on standard error.
     pub quiet: bool,
-    /// Whether more is told there of what needs an operator.
+    /// Whether details are printed there of what needs an operator.
     pub verbose: bool,
-    /// Where it is noted what is sent and what is heard; nowhere without the word.
+    /// Where it is noted what is sent and what is heard; nowhere without the option.
     pub journal: Option<JournalFile>,
     /// How long is waited for the binds, and how fast and how far is sent.
     pub pace: Pace,
-    /// Whether the exit status tells of messages that a lost bind or want of memory kept back.
+    /// Whether the exit status says that a message was not sent whole.
     pub strict: bool,
 }
 
@@ -33,6 +33,8 @@ pub struct RecoverOrder {
     pub config: String,
     /// The name of its journal.
     pub journal: String,
+    /// Whether the journal may be of a trial.
+    pub trial: bool,
 }
 
 /// What a run left as the command line asks for it.
@@ -46,7 +48,7 @@ pub struct RestOrder {
     pub accounts: bool,
 }
 
-/// What bounds a sending. Without its word nothing does.
+/// What bounds a sending. Without its option nothing does.
 #[derive(Clone, Copy, Debug, PartialEq, Eq)]
 pub struct Pace {
     /// How many milliseconds it may take to connect and to bind, 1 to 600,000.

@@ -127,6 +127,6 @@ fn send_rated<
     ensures told { IfErr result (IsToldAt start.new.begun) }
 {
     let limits = input.config().limits;
-    let rated = Rated::new(rt, gate, clock, limits.workers, limits.depth, rate);
+    let rated = Rated::new(rt, gate, clock, limits.workers, rate);
     send_all(rt, rt.alloc(), start, input, dial, &rated, clock, pause)
 }

@@ -1,13 +1,15 @@
 //! The plan of a messages file.
 
-ghost use Rattle.std.specs.Prelude.{◌≡◌, ◌≢◌, None, IfErr, IfOk, IfSome, OnOk};
+ghost use Rattle.std.specs.Prelude.{◌≡◌, ◌≢◌, None, IfErr, IfOk, IfSome, OnOk, length, string_bytes};
 ghost use Rattle.std.specs.Io.KnownBytes.{Appends};
 ghost use Rattle.sms_files.specs.Fields.{records_of};
 ghost use Rattle.sms_files.specs.Messages.{messages_fault};
+ghost use Rattle.sms_files.specs.Records.{TellsRecords};
+ghost use Rattle.sms_files.specs.declared.fault.Source.TheVariants.{Messages};
 ghost use Rattle.sms_report.specs.Output.{WritesFront};
 ghost use Rattle.sms_report.specs.PlanText.{kind_of, plan_of};
 ghost use Rattle.sms_send.specs.Plans.{TellsPlan};
-ghost use Rattle.sms_send.specs.Faults.{output_failed};
+ghost use Rattle.sms_send.specs.Faults.{TellsRead, output_failed};
 
 use crate::fault::Fault;
 use sms_files::read_texts;
@@ -40,10 +42,36 @@ pub fn run_plan<R: Read + Drop, W: Write>(
     // Nothing was written, save where writing itself failed.
     ensures quiet { IfErr result (λ fault. fault ≢ output_failed → output.new ≡ output.old) }
 {
+    let plan = form_plan(alloc, input, long)?;
+    write_out(output, plan.text.as_bytes())?;
+    Ok(0)
+}
+
+/// What is printed of a messages file.
+#[derive(Drop)]
+pub(crate) struct PlanText {
+    pub(crate) text: String,
+    /// How many records the file has; the header is one.
+    pub(crate) records: usize,
+}
+
+/// What is printed of a messages file. All of it is read and checked.
+pub(crate) fn form_plan<R: Read + Drop>(
+    alloc: Global,
+    input: R,
+    long: bool,
+) -> Result<PlanText, Fault>
+    ensures good { OnOk result (IfSome (R.remaining input) (λ bytes. messages_fault (records_of bytes) ≡ None)) }
+    ensures text { IfOk result (λ plan. IfSome (R.remaining input) (λ bytes. string_bytes plan.text ≡ plan_of (kind_of long) (records_of bytes))) }
+    ensures records { IfOk result (λ plan. IfSome (R.remaining input) (λ bytes. plan.records ≡ length (records_of bytes))) }
+    ensures faulty { IfErr result (λ fault. IfSome (R.remaining input) (λ bytes. TellsRead (TellsRecords Messages (messages_fault (records_of bytes))) fault)) }
+{
     let texts = read_texts(alloc, input)?;
     let text = plan_text(alloc, reference_of(long), &texts)?;
-    write_out(output, text.as_bytes())?;
-    Ok(0)
+    Ok(PlanText {
+        text,
+        records: texts.len() + 1,
+    })
 }
 
 /// A reference of the kind that the parts have; its number makes no difference to their sizes.

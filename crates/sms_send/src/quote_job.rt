@@ -13,6 +13,7 @@ use crate::fault::Fault;
 use crate::full_names::{FullNames, lines_at, name_at};
 use crate::opened::{InputFiles, octets_of, open, open_named};
 use crate::reading::{read_input, setup_of};
+use crate::written::write_both;
 use sms_devices::Screen;
 use sms_files::{FileNames, Input, Setup};
 use sms_quote::{quote_text, warnings_text};
@@ -29,30 +30,6 @@ fn texts_of(alloc: Global, input: &Input) -> Result<(String, String), AllocError
     let quote = quote_text(alloc, input)?;
     let warnings = warnings_text(alloc, input)?;
     Ok((quote, warnings))
-}
-
-/// Writes a quote, and then its warnings.
-fn write_both<W: Write, E: Write>(
-    output: &mut W,
-    error: &mut E,
-    quote: &[u8],
-    warnings: &[u8],
-) -> Result<u8, Fault>
-    ensures status { IfOk result (λ status. status ≡ 0) }
-    ensures written { OnOk result (Appends (W.contents output.old) (W.contents output.new) quote.now) }
-    ensures warned { OnOk result (Appends (E.contents error.old) (E.contents error.new) warnings.now) }
-    ensures front { WritesFront (W.contents output.old) (W.contents output.new) quote.now }
-    ensures told { WritesFront (E.contents error.old) (E.contents error.new) warnings.now }
-    ensures failed { IfErr result (λ fault. fault ≡ output_failed) }
-{
-    match write_out(output, quote) {
-        Ok(()) => {}
-        Err(fault) => return Err(Fault::from(fault)),
-    }
-    match write_out(error, warnings) {
-        Ok(()) => Ok(0),
-        Err(fault) => Err(Fault::from(fault)),
-    }
 }
 
 /// Prints the quote of an input, and tells its warnings.
@@ -192,8 +169,8 @@ fn quote_config<R: AllocGlobal + FullNames + InputFiles, W: Write, E: Write>(
 }
 
 /// Reads the config of this name and the files that it names, and prints what a sending of them would
-/// come to. On a terminal, and where more is to be told, the full names of the files follow on standard
-/// error.
+/// come to. Where details are wanted, of each run or of this one, the full names of the files follow on
+/// standard error.
 pub fn quote_job<R: AllocGlobal + FullNames + InputFiles + Screen, W: Write, E: Write>(
     rt: &R,
     config: String,
@@ -203,11 +180,11 @@ pub fn quote_job<R: AllocGlobal + FullNames + InputFiles + Screen, W: Write, E: 
 ) -> Result<u8, Fault>
     ensures status { IfOk result (λ status. status ≡ 0) }
     ensures quoted { OnOk result (OfFile (R.finds rt.now) (string_bytes config) (λ octets. QuotesFiles (R.finds rt.now) octets (W.contents output.old) (W.contents output.new))) }
-    ensures beside { OnOk result (QuotesAsAsked (R.finds rt.now) (R.is_full rt.now) (R.shows rt.now) config verbose (W.contents output.old) (W.contents output.new) (E.contents error.old) (E.contents error.new)) }
+    ensures beside { OnOk result (QuotesAsAsked (R.finds rt.now) (R.is_full rt.now) (R.details rt.now) config verbose (W.contents output.old) (W.contents output.new) (E.contents error.old) (E.contents error.new)) }
     ensures refused { IfErr result (TellsQuoteJob (R.finds rt.now) config (W.contents output.old) (W.contents output.new)) }
-    ensures told { IfErr result (λ fault. fault ≡ output_failed → TellsFrontAsAsked (R.finds rt.now) (R.is_full rt.now) (R.shows rt.now) config verbose (E.contents error.old) (E.contents error.new)) }
+    ensures told { IfErr result (λ fault. fault ≡ output_failed → TellsFrontAsAsked (R.finds rt.now) (R.is_full rt.now) (R.details rt.now) config verbose (E.contents error.old) (E.contents error.new)) }
     ensures unwritten { IfErr result (λ fault. fault ≢ output_failed → (output.new ≡ output.old) × (error.new ≡ error.old)) }
 {
-    let at_length = is_at_length(rt.is_terminal(), verbose);
+    let at_length = is_at_length(rt.has_details(), verbose);
     quote_config(rt, config, at_length, output, error)
 }

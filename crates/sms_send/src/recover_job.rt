@@ -1,8 +1,12 @@
 //! The jobs of `recover` and `rest`: what is left of a run, by its journal or its report.
 
-ghost use Rattle.std.specs.Prelude.{◌≡◌, ◌≢◌, IfErr, IfOk, false, string_bytes, true};
+ghost use Rattle.std.specs.Prelude.{◌≡◌, ◌≢◌, ◌⊎◌, IfErr, IfOk, OnOk, false, string_bytes, true};
+ghost use Rattle.sms_files.specs.Setups.{names_in};
+ghost use Rattle.sms_journal.specs.declared.header.JournalKind.TheVariants.{Trial};
+ghost use Rattle.sms_recovery.specs.declared.recovering.Recovered.{Recovered as IsDone};
+ghost use Rattle.sms_report.specs.Output.{WritesFront};
 ghost use Rattle.sms_send.specs.Jobs.{IsStatus};
-ghost use Rattle.sms_send.specs.Recovered.{PrintsLeft, RecoversRun, TellsLeft, TellsRecovered, TellsRecoverJob, TellsRestJob};
+ghost use Rattle.sms_send.specs.Recovered.{LosesTrial, PrintsLeft, RecoversAndTells, RecoversOrder, RecoversRun, TellsKind, TellsLeft, TellsOther, TellsRecovered, TellsRecoverFree, TellsRecoverJob, TellsRestJob, name_of, trial_line};
 ghost use Rattle.sms_send.specs.Runs.{IsRun};
 ghost use Rattle.sms_send.specs.Faults.{output_failed};
 ghost use Rattle.sms_send.specs.declared.run_files.RunFiles.{RunFiles as TheRunFiles};
@@ -10,34 +14,98 @@ ghost use Rattle.sms_send.specs.declared.run_files.RunFiles.{RunFiles as TheRunF
 use crate::fault::Fault;
 use crate::opened::InputFiles;
 use crate::order::{RecoverOrder, RestOrder};
+use crate::reading::setup_of;
 use crate::run_files::{RunFiles, read_run};
-use sms_recovery::{run_recover, run_rest, run_rest_accounts};
+use sms_devices::JournalFiles;
+use sms_files::Setup;
+use sms_journal::{JournalKind, RunFile};
+use sms_recovery::{Recovered, RecoveryFault, run_recover, run_rest, run_rest_accounts};
+use sms_report::write_out;
 use std::alloc::Global;
 use std::io::Write;
 
+/// The line of a trial.
+const TRIAL: &str = "trial: no message centre saw any of it\n";
+
 /// Prints what a run would have reported, by its journal, and gives the exit status that it would have
-/// had.
-pub fn recover_job<R: AllocGlobal + InputFiles, W: Write>(
+/// had. A journal that a process holds isn't read. Of a trial that is asked for standard error is told that no
+/// message centre saw any of it.
+pub fn recover_job<R: AllocGlobal + InputFiles + JournalFiles, W: Write, E: Write>(
     rt: &R,
     order: RecoverOrder,
     output: &mut W,
+    error: &mut E,
 ) -> Result<u8, Fault>
-    ensures recovered { IfOk result (λ status. (run : TheRunFiles) × IsRun (R.finds rt.now) (string_bytes order.config) (string_bytes order.journal) run × RecoversRun run (W.contents output.old) (W.contents output.new) status) }
+    ensures recovered { IfOk result (RecoversOrder (R.finds rt.now) order (W.contents output.old) (W.contents output.new)) }
     ensures status { IfOk result IsStatus }
-    ensures refused { IfErr result (TellsRecoverJob (R.finds rt.now) order (W.contents output.old) (W.contents output.new)) }
-    ensures unwritten { IfErr result (λ fault. fault ≢ output_failed → output.new ≡ output.old) }
+    ensures beside { OnOk result (RecoversAndTells (R.finds rt.now) order (W.contents output.old) (W.contents output.new) (E.contents error.old) (E.contents error.new)) }
+    ensures refused { IfErr result (TellsRecoverJob (R.holds rt.now) (R.finds rt.now) order (W.contents output.old) (W.contents output.new)) }
+    ensures told { WritesFront (E.contents error.old) (E.contents error.new) trial_line }
+    ensures unwritten { IfErr result (λ fault. fault ≢ output_failed → (output.new ≡ output.old) × (error.new ≡ error.old)) }
 {
+    if rt.is_held(order.journal.as_str()) {
+        return Err(Fault::JournalHeld);
+    }
+    recover_free(rt, order, output, error)
+}
+
+/// The same of a journal that no process holds.
+fn recover_free<R: AllocGlobal + InputFiles, W: Write, E: Write>(
+    rt: &R,
+    order: RecoverOrder,
+    output: &mut W,
+    error: &mut E,
+) -> Result<u8, Fault>
+    ensures recovered { IfOk result (RecoversOrder (R.finds rt.now) order (W.contents output.old) (W.contents output.new)) }
+    ensures status { IfOk result IsStatus }
+    ensures beside { OnOk result (RecoversAndTells (R.finds rt.now) order (W.contents output.old) (W.contents output.new) (E.contents error.old) (E.contents error.new)) }
+    ensures refused { IfErr result (TellsRecoverFree (R.finds rt.now) order (W.contents output.old) (W.contents output.new)) }
+    ensures told { WritesFront (E.contents error.old) (E.contents error.new) trial_line }
+    ensures unwritten { IfErr result (λ fault. fault ≢ output_failed → (output.new ≡ output.old) × (error.new ≡ error.old)) }
+{
+    let trial = order.trial;
+    let name = match String::from_str(rt.alloc(), order.config.as_str()) {
+        Ok(name) => name,
+        Err(_) => return Err(Fault::OutOfMemory),
+    };
     match read_run(rt, order.config, order.journal) {
-        Ok(run) => recovered(rt.alloc(), &run, output),
+        Ok(run) => recover_run(rt.alloc(), name.as_str(), &run, trial, output, error),
         Err(fault) => Err(fault),
     }
 }
 
-/// The same of files that were read.
-fn recovered<W: Write>(alloc: Global, run: &RunFiles, output: &mut W) -> Result<u8, Fault>
-    ensures recovered { IfOk result (RecoversRun run.now (W.contents output.old) (W.contents output.new)) }
+/// The same of files that were read, by a config of this name.
+fn recover_run<W: Write, E: Write>(
+    alloc: Global,
+    name: &str,
+    run: &RunFiles,
+    trial: bool,
+    output: &mut W,
+    error: &mut E,
+) -> Result<u8, Fault>
+    ensures recovered { IfOk result (λ status. (done : IsDone) × RecoversRun run.now trial (W.contents output.old) (W.contents output.new) done × TellsKind done.kind (E.contents error.old) (E.contents error.new) × (status ≡ done.status)) }
     ensures status { IfOk result IsStatus }
-    ensures refused { IfErr result (TellsRecovered run.now (W.contents output.old) (W.contents output.new)) }
+    ensures refused { IfErr result (λ fault. TellsRecovered run.now trial (W.contents output.old) (W.contents output.new) fault ⊎ LosesTrial run.now trial (W.contents output.old) (W.contents output.new) fault) }
+    ensures told { WritesFront (E.contents error.old) (E.contents error.new) trial_line }
+    ensures unwritten { IfErr result (λ fault. fault ≢ output_failed → (output.new ≡ output.old) × (error.new ≡ error.old)) }
+{
+    match recovered(alloc, name, run, trial, output) {
+        Ok(done) => tell_kind(error, done),
+        Err(fault) => Err(fault),
+    }
+}
+
+/// What was recovered of files that were read, by a config of this name.
+fn recovered<W: Write>(
+    alloc: Global,
+    name: &str,
+    run: &RunFiles,
+    trial: bool,
+    output: &mut W,
+) -> Result<Recovered, Fault>
+    ensures recovered { IfOk result (RecoversRun run.now trial (W.contents output.old) (W.contents output.new)) }
+    ensures status { IfOk result (λ done. IsStatus done.status) }
+    ensures refused { IfErr result (TellsRecovered run.now trial (W.contents output.old) (W.contents output.new)) }
     ensures unwritten { IfErr result (λ fault. fault ≢ output_failed → output.new ≡ output.old) }
 {
     let recovered = run_recover(
@@ -47,11 +115,61 @@ fn recovered<W: Write>(alloc: Global, run: &RunFiles, output: &mut W) -> Result<
         run.named.messages.as_slice(),
         run.named.tariff(),
         run.written.as_slice(),
+        trial,
         output,
     );
     match recovered {
-        Ok(status) => Ok(status),
+        Ok(done) => Ok(done),
+        Err(RecoveryFault::OtherFiles(file)) => Err(of_other_files(alloc, name, run, file)),
         Err(fault) => Err(Fault::from(fault)),
+    }
+}
+
+/// The fault of a journal of other files, of which this is the first that differs. It is told without a name
+/// where memory is refused for that.
+fn of_other_files(alloc: Global, name: &str, run: &RunFiles, file: RunFile) -> Fault
+    ensures { TellsOther result }
+{
+    match setup_of(alloc, run.config.as_slice()) {
+        Ok(setup) => of_other_file(alloc, name_in(name, &setup, file)),
+        Err(_unknown) => Fault::BadNote(1),
+    }
+}
+
+/// The name of a file of a run by its config, which has this name.
+fn name_in<'a>(config: &'a str, setup: &'a Setup, file: RunFile) -> &'a str
+    ensures { result.now ≡ name_of config.now (names_in setup.now) file }
+{
+    match file {
+        RunFile::Config => config,
+        RunFile::Accounts => setup.accounts.as_str(),
+        RunFile::Messages => setup.messages.as_str(),
+        RunFile::Tariff => setup.tariff.as_str(),
+    }
+}
+
+/// The fault of a journal that isn't of the file of this name.
+fn of_other_file(alloc: Global, name: &str) -> Fault
+    ensures { TellsOther result }
+{
+    match String::from_str(alloc, name) {
+        Ok(name) => Fault::OtherFile(name),
+        Err(_) => Fault::BadNote(1),
+    }
+}
+
+/// Tells of a trial that it is one, and gives the exit status of what was recovered.
+fn tell_kind<E: Write>(error: &mut E, done: Recovered) -> Result<u8, Fault>
+    ensures told { IfOk result (λ status. TellsKind done.kind (E.contents error.old) (E.contents error.new) × (status ≡ done.status)) }
+    ensures failed { IfErr result (λ fault. (fault ≡ output_failed) × (done.kind ≡ Trial)) }
+    ensures front { WritesFront (E.contents error.old) (E.contents error.new) trial_line }
+{
+    match done.kind {
+        JournalKind::Run => Ok(done.status),
+        JournalKind::Trial => match write_out(error, TRIAL.as_bytes()) {
+            Ok(()) => Ok(done.status),
+            Err(fault) => Err(Fault::from(fault)),
+        },
     }
 }
 

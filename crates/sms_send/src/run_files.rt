@@ -121,7 +121,7 @@ fn read_opened<F: Read + Drop>(
 }
 
 /// The octets of a file that was opened. That it can't be read is told by the errors that it answered.
-fn whole_of<F: Read + Drop>(alloc: Global, file: F, source: Source) -> Result<Vec<u8>, Fault>
+pub fn whole_of<F: Read + Drop>(alloc: Global, file: F, source: Source) -> Result<Vec<u8>, Fault>
     ensures octets { IfOk result (λ octets. IfSome (F.remaining file) (λ bytes. octets.items ≡ bytes)) }
     ensures refused { IfErr result (λ fault. (fault ≡ OutOfMemory) ⊎ TellsUnread source fault) }
 {

@@ -3,12 +3,11 @@
 ghost use Rattle.std.specs.Prelude.{◌≡◌, ◌≢◌, IfErr, IfOk, OnOk, option_map, string_bytes};
 ghost use Rattle.sms_driver.specs.declared.latch.Word.TheVariants.{Go};
 ghost use Rattle.sms_driver.specs.declared.start.Begun.TheVariants.{NotYet, Heard};
-ghost use Rattle.sms_send.specs.Faults.{IsToldAt, output_failed};
+ghost use Rattle.sms_send.specs.Faults.{HasLostJournal, IsToldAt, output_failed};
 ghost use Rattle.sms_send.specs.Opened.{OfFile};
 ghost use Rattle.sms_send.specs.Jobs.{IsStatusBy};
 ghost use Rattle.sms_send.specs.Noted.{IsToldNoted, SendsBy, TellsBegin, TellsOrder};
 ghost use Rattle.sms_send.specs.Sent.{RunsSender, TellsSender};
-ghost use Rattle.sms_send.specs.declared.fault.Fault.TheVariants.{Journal};
 
 use crate::checked::send_plain;
 use crate::exposed::{FileModes, config_of};
@@ -39,8 +38,8 @@ pub enum Centre {
 }
 
 /// Reads the config's octets and the files, sends all messages, and writes the report. Gives the
-/// exit status: 4 where a segment is unanswered; else, if it is to be strict, 5 where a message was kept
-/// back; else 0.
+/// exit status: 4 where a segment is unanswered; else, if it is to be strict, 5 where a message was not
+/// sent whole; else 0.
 pub fn run_sender<
     A: Read + Drop,
     M: Read + Drop,
@@ -96,9 +95,9 @@ pub fn send_job<R: FileModes + Host + InputFiles, W: Write>(
     ensures went { OnOk result (start.new.begun ≡ Heard Go) }
     ensures sent { IfOk result (λ status. OfFile (R.finds rt.now) (string_bytes order.config) (λ octets. SendsBy (R.tells rt.now) centre order.strict (R.finds rt.now) order.journal octets (W.contents output.old) (W.contents output.new) status)) }
     ensures status { IfOk result (IsStatusBy order.strict) }
-    ensures refused { IfErr result (TellsOrder (TellsBegin (R.makes rt.now) (R.refuses rt.now)) (R.tells rt.now) (R.finds rt.now) centre order (W.contents output.old) (W.contents output.new)) }
+    ensures refused { IfErr result (TellsOrder (TellsBegin (R.makes rt.now) (R.refuses rt.now) (R.holds rt.now)) (R.tells rt.now) (R.finds rt.now) centre order (W.contents output.old) (W.contents output.new)) }
     ensures told { IfErr result (IsToldNoted (R.tells rt.now) order.strict start.new.begun (W.contents output.old) (W.contents output.new)) }
-    ensures unwritten { IfErr result (λ fault. fault ≢ output_failed → fault ≢ Journal → output.new ≡ output.old) }
+    ensures unwritten { IfErr result (λ fault. fault ≢ output_failed → ¬ HasLostJournal fault → output.new ≡ output.old) }
 {
     let Order {
         config,
@@ -108,7 +107,8 @@ pub fn send_job<R: FileModes + Host + InputFiles, W: Write>(
         pace,
         strict,
     } = order;
-    let remarks = Remarks::new(quiet, verbose, rt.is_terminal());
+    let trial = centre == Centre::Own;
+    let remarks = Remarks::new(quiet, verbose, rt.is_terminal(), rt.has_details(), trial);
     let config = config_of(rt, config, remarks.at_length)?;
     let Setup {
         accounts,

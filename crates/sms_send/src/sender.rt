@@ -53,7 +53,7 @@ impl Ended {
     }
 
     /// The program's exit status: 4 where a segment is unanswered; else, if it is to be strict, 5 where a
-    /// message was kept back; else 0.
+    /// message was not sent whole; else 0.
     pub fn exit_status(&self, strict: bool) -> u8
         ensures { result ≡ status_by strict self.now.ends.items }
     {

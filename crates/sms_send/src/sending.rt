@@ -21,11 +21,12 @@ use crate::unconnected::reasoned;
 use crate::unsent::tell_unsent;
 use sms_devices::{
     Host, Journal, JournalFiles, LoopDial, Noting, Outboxes, Progress, Rest, Screen, TcpDial,
-    Terminal, Ticks,
+    Terminal,
 };
 use sms_driver::{BindFailure, Dial, Start};
 use sms_files::{FileNames, Input};
 use sms_worker::Pause;
+use std::fs::OpenFile;
 use std::io::{Eprint, Write};
 use std::sync::Wait;
 use std::thread::Threads;
@@ -207,6 +208,14 @@ fn send_files<
     )
 }
 
+/// Whether the journal of a run has failed, where it has one.
+fn has_failed<F: Write + OpenFile>(journal: Option<&Journal<F>>) -> bool {
+    match journal {
+        Some(journal) => journal.has_failed(),
+        None => false,
+    }
+}
+
 /// Sends what was read over the connections that the dial makes, and writes the report. What is noted
 /// of it is let out before the report is formed. A person is told how it goes, and what it came to also
 /// where the report couldn't be written.
@@ -238,23 +247,31 @@ fn send_input<
     ensures unwritten { IfErr result (λ fault. fault ≢ output_failed → output.new ≡ output.old) }
 {
     outboxes.set_patience(input.config().retry.answer_ms);
-    let clock = Ticks::new(rt);
+    let clock = outboxes.start_clock();
     let messages = input.messages().len();
-    let progress = Progress::new(rt, Terminal::new(rt), &clock, remarks.telling, messages);
+    let progress = Progress::new(
+        rt,
+        Terminal::new(rt),
+        clock,
+        remarks.telling,
+        messages,
+        remarks.trial,
+    );
     let noting = Noting {
         rt,
         gate: &progress,
         journal: outboxes.journal(),
     };
     let sent = send_paced(
-        rt, start, input, &*outboxes, dial, &noting, &clock, pause, pace,
+        rt, start, input, &*outboxes, dial, &noting, clock, pause, pace,
     );
     outboxes.flush();
     progress.clear();
     let ended = sent?;
     let written = write_report(rt.alloc(), &ended, output);
     progress.sum_up(ended.ends(), ended.statement());
-    tell_unsent(rt, &ended, remarks.at_length, pace);
+    let is_lost = has_failed(outboxes.journal());
+    tell_unsent(rt, &ended, remarks.at_length, pace, is_lost);
     written?;
     let status = ended.exit_status(strict);
     // The process ends next, which frees it at once.

@@ -1,7 +1,7 @@
-//! What is told of the messages that a sending didn't send.
+//! What is printed of the messages that a sending didn't send.
 
 ghost use Rattle.std.specs.Prelude.{◌≡◌};
-ghost use Rattle.sms_send.specs.Unsent.{closing_by, closing_in, is_bind_closed as is_closed, is_kept_by, is_of_bind as stands_in, kept_by_memory, unless_given_up, unsent_from, without_memory};
+ghost use Rattle.sms_send.specs.Unsent.{closing_by, closing_in, ender_by, is_bind_closed as is_closed, is_kept_by, is_of_bind as stands_in, kept_by_memory, unless_ended, unless_noted, unsent_from, without_memory};
 
 use crate::order::Pace;
 use crate::sender::Ended;
@@ -15,27 +15,61 @@ use std::io::Eprint;
 use std::thread::Threads;
 use std::time::Clock;
 
-/// Why a connection ended, where binds are given up for want of answers, or else for one reason.
-fn ended_by(gives_up: bool, else_by: Closing) -> Closing
-    ensures { result ≡ unless_given_up gives_up else_by }
+/// What may have ended a connection apart from the message centre and the network.
+#[derive(Clone, Copy, Debug, PartialEq, Eq)]
+enum Ender {
+    /// Nothing.
+    Nothing,
+    /// That answers didn't come.
+    Silence,
+    /// The journal failed.
+    Journal,
+}
+
+/// What may have ended connections, where a journal has failed, and where binds are given up without answers.
+fn ender_of(has_failed: bool, gives_up: bool) -> Ender
+    ensures { result ≡ ender_by has_failed gives_up }
 {
-    if gives_up {
-        Closing::ClosedOrGivenUp
+    if has_failed {
+        Ender::Journal
+    } else if gives_up {
+        Ender::Silence
     } else {
-        else_by
+        Ender::Nothing
+    }
+}
+
+/// Why a connection ended, which ended for one reason where nothing else may have ended it.
+fn ended_by(ender: Ender, else_by: Closing) -> Closing
+    ensures { result ≡ unless_ended ender else_by }
+{
+    match ender {
+        Ender::Nothing => else_by,
+        Ender::Silence => Closing::ClosedOrGivenUp,
+        Ender::Journal => Closing::Unnoted,
+    }
+}
+
+/// Why a connection could not be written.
+fn unwritten_by(ender: Ender) -> Closing
+    ensures { result ≡ unless_noted ender }
+{
+    match ender {
+        Ender::Nothing | Ender::Silence => Closing::Unwritten,
+        Ender::Journal => Closing::Unnoted,
     }
 }
 
 /// Why a bind was closed, whose reader had ended so.
-fn closing_of_reader(cause: ReaderCause, gives_up: bool) -> Closing
-    ensures { result ≡ closing_by gives_up cause }
+fn closing_of_reader(cause: ReaderCause, ender: Ender) -> Closing
+    ensures { result ≡ closing_by ender cause }
 {
     match cause {
-        ReaderCause::Ended => ended_by(gives_up, Closing::Closed),
+        ReaderCause::Ended => ended_by(ender, Closing::Closed),
         ReaderCause::Unbound => Closing::Unbound,
         ReaderCause::Lost => Closing::BadLength,
         ReaderCause::ReadFault => Closing::Unread,
-        ReaderCause::WriteFault => Closing::Unwritten,
+        ReaderCause::WriteFault => unwritten_by(ender),
         ReaderCause::Stopped => Closing::Stopped,
         ReaderCause::Turns => Closing::Turns,
         ReaderCause::OutOfMemory => Closing::OutOfMemory,
@@ -43,12 +77,12 @@ fn closing_of_reader(cause: ReaderCause, gives_up: bool) -> Closing
 }
 
 /// Why a bind was closed to its workers.
-fn closing_of(end: &BindEnd, gives_up: bool) -> Closing
-    ensures { result ≡ closing_in gives_up end.now }
+fn closing_of(end: &BindEnd, ender: Ender) -> Closing
+    ensures { result ≡ closing_in ender end.now }
 {
     match end.closing().down {
-        Some(DownBy::Reader) => closing_of_reader(end.reader().cause, gives_up),
-        Some(DownBy::Write) => ended_by(gives_up, Closing::Unwritten),
+        Some(DownBy::Reader) => closing_of_reader(end.reader().cause, ender),
+        Some(DownBy::Write) => ended_by(ender, Closing::Unwritten),
         None => Closing::Turns,
     }
 }
@@ -63,7 +97,7 @@ fn is_bind_closed(end: &MessageEnd) -> bool
     }
 }
 
-/// Whether a message was refused for want of memory.
+/// Whether a message was refused since memory was.
 fn is_without_memory(end: &MessageEnd) -> bool
     ensures { result ≡ kept_by_memory end.now.result }
 {
@@ -107,7 +141,7 @@ fn unsent_of(ends: &[MessageEnd], workers: usize, binds: usize, bind: usize) -> 
     count
 }
 
-/// How many messages were refused for want of memory.
+/// How many messages were refused since memory was.
 fn unsent_for_memory(ends: &[MessageEnd]) -> usize
     ensures { result ≡ without_memory ends.now }
 {
@@ -120,31 +154,32 @@ fn unsent_for_memory(ends: &[MessageEnd]) -> usize
     count
 }
 
-/// Tells the line, where there are some.
+/// Prints the line, where there are some.
 fn tell_line<R: AllocGlobal + Threads + Clock + Eprint + Screen>(rt: &R, line: UnsentLine) {
     if line.count > 0 {
         tell_beside(rt, &line);
     }
 }
 
-/// At length, tells of each bind how many of its messages were not sent since it was closed, and why it
-/// was; and how many were not sent for want of memory.
+/// At length, prints of each bind how many of its messages were not sent since it was closed, and why it
+/// was; and how many were not sent since memory was refused. The journal may have failed.
 pub fn tell_unsent<R: AllocGlobal + Threads + Clock + Eprint + Screen>(
     rt: &R,
     ended: &Ended,
     at_length: bool,
     pace: Pace,
+    has_failed: bool,
 ) {
     if !at_length {
         return;
     }
-    let gives_up = pace.stop_after.is_some();
+    let ender = ender_of(has_failed, pace.stop_after.is_some());
     let (ends, binds) = (ended.ends(), ended.binds());
     for bind in 0..binds.len() {
         let end = &binds[bind];
         let line = UnsentLine {
             count: unsent_of(ends, end.workers(), binds.len(), bind),
-            why: Hindrance::Bind(bind, closing_of(end, gives_up)),
+            why: Hindrance::Bind(bind, closing_of(end, ender)),
         };
         tell_line(rt, line);
     }

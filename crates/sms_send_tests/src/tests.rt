@@ -5,6 +5,7 @@ mod broken;
 mod explained;
 mod frames;
 mod full_names;
+mod held;
 mod jobs;
 mod journal;
 mod plan;

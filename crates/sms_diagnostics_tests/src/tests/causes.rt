@@ -1,13 +1,14 @@
-//! The lines behind a fault, those of files that were read, and who may read a file.
+//! The lines after a fault's first, those of files that were read, and who may read a file.
 
 use super::same::same;
 use sms_diagnostics::{
-    BindTrouble, Cause, FileTrouble, FilesRead, Holding, RecordOf, RecordTrouble, is_open_to_others,
+    BindTrouble, Cause, Closing, FileTrouble, FilesRead, Hindrance, Holding, MakingTrouble,
+    NotingTrouble, RecordOf, RecordTrouble, UnsentLine, is_open_to_others,
 };
 use std::test::Fail;
 
 /// Causes, and what is told of them.
-const TOLD: [(Cause<'static>, &str); 28] = [
+const TOLD: [(Cause<'static>, &str); 34] = [
     (
         Cause::Words("error: no such word '\x1b[2Jx'\n\nfault: words"),
         "  error: no such word '\\x1b[2Jx'\n  \n  fault: words\n",
@@ -95,6 +96,24 @@ const TOLD: [(Cause<'static>, &str); 28] = [
         "  smsc\\n1:2775: what came is no SMPP, or no answer to a bind\n",
     ),
     (
+        Cause::Unmade(MakingTrouble::NoFolder),
+        "  its folder doesn't exist\n",
+    ),
+    (Cause::Held, "  its run is still going on\n"),
+    (
+        Cause::Unbegun(NotingTrouble::StorageFull),
+        "  no space left on the device\n  nothing was sent\n",
+    ),
+    (
+        Cause::Unnoted(NotingTrouble::FileTooLarge),
+        "  the file has reached the largest size that is permitted\n  what was not noted was not sent; the report is right, and rest prints what is left of it\n",
+    ),
+    (Cause::Trial, "  --trial prints its report\n"),
+    (
+        Cause::OtherFile("a\nb.csv"),
+        "  a\\nb.csv is not the file that this run was begun with\n",
+    ),
+    (
         Cause::OutputOfSent,
         "  messages were sent: don't send them again before you know which\n",
     ),
@@ -116,6 +135,20 @@ fn tells_what_an_operator_needs(rt: HostRuntime) -> Result<(), Fail> {
         let told = cause.to_string(rt.alloc())?;
         same(&rt, told.as_str(), *wanted);
     }
+    Ok(())
+}
+
+#[test]
+fn says_that_the_journal_failed_and_not_the_centre(rt: HostRuntime) -> Result<(), Fail> {
+    let line = UnsentLine {
+        count: 3,
+        why: Hindrance::Bind(1, Closing::Unnoted),
+    };
+    same(
+        &rt,
+        line.to_string(rt.alloc())?.as_str(),
+        "not sent 3: bind 1 could not be written, since the journal failed\n",
+    );
     Ok(())
 }
 

@@ -1,12 +1,13 @@
-//! What a person is told of a sending, worked out by hand.
+//! The lines on the way and at the end of a sending, worked out by hand.
 
 use super::report::{reply, row, segment};
 use super::same::same;
 use sms_book::Statement;
 use sms_pdu::Reply;
-use sms_report::{EndLine, Tally, WayLine, summary_of, tally_of};
+use sms_report::{EndLine, Tally, WayLine, are_whole, summary_of, tally_of};
 use sms_worker::{MessageEnd, MessageRefusal, MessageResult, Outcome, Segments};
 use std::alloc::Global;
+use std::process::Abort;
 use std::test::Fail;
 
 /// What became of a segment, and its replies.
@@ -50,17 +51,19 @@ fn sums_up_a_sending(rt: HostRuntime) -> Result<(), Fail> {
     rows.push(row(9, 4, 3, 2, 1))?;
     rows.push(row(20, 5, 4, 11, 6))?;
     let summary = summary_of(ends.as_slice(), &Statement::new(rows));
-    for (ms, wanted) in [
+    for (ms, trial, wanted) in [
         (
             59,
-            "done: messages 3, segments 3, credits charged 13, returned 7, still reserved 7, seconds 0.0",
+            false,
+            "done: messages 3 (0 sent whole, 3 not), segments 3, credits charged 13, returned 7, still reserved 7, seconds 0.0",
         ),
         (
             12_399,
-            "done: messages 3, segments 3, credits charged 13, returned 7, still reserved 7, seconds 12.3",
+            true,
+            "done: messages 3 (0 sent whole, 3 not), segments 3, credits charged 13, returned 7, still reserved 7, seconds 12.3; a trial: no message centre saw any of it",
         ),
     ] {
-        let line = EndLine { summary, ms };
+        let line = EndLine { summary, ms, trial };
         same(&rt, line.to_string(alloc)?.as_str(), wanted);
     }
     Ok(())
@@ -73,12 +76,17 @@ fn sums_up_to_the_greatest_number(rt: HostRuntime) -> Result<(), Fail> {
     rows.push(row(0, 0, 1, u64::MAX - 1, 0))?;
     rows.push(row(0, 0, 2, 3, 0))?;
     rows.push(row(0, 0, 4, 5, 0))?;
-    let summary = summary_of(&[], &Statement::new(rows));
-    let line = EndLine { summary, ms: 1000 };
+    let none: Vec<MessageEnd> = Vec::new(alloc);
+    let summary = summary_of(none.as_slice(), &Statement::new(rows));
+    let line = EndLine {
+        summary,
+        ms: 1000,
+        trial: false,
+    };
     same(
         &rt,
         line.to_string(alloc)?.as_str(),
-        "done: messages 0, segments 0, credits charged 18446744073709551615, returned 0, still reserved 7, seconds 1.0",
+        "done: messages 0 (0 sent whole, 0 not), segments 0, credits charged 18446744073709551615, returned 0, still reserved 7, seconds 1.0",
     );
     Ok(())
 }
@@ -128,7 +136,8 @@ fn tells_how_far_messages_are(rt: HostRuntime) -> Result<(), Fail> {
         };
         same(&rt, tally_of(ends.as_slice(), open), wanted);
     }
-    same(&rt, tally_of(&[], 0), Tally::none());
+    let none: Vec<MessageEnd> = Vec::new(rt.alloc());
+    same(&rt, tally_of(none.as_slice(), 0), Tally::none());
     Ok(())
 }
 
@@ -198,5 +207,44 @@ fn tells_the_rate_and_the_time_left(rt: HostRuntime) -> Result<(), Fail> {
         same(&rt, text.as_str(), wanted);
         same(&rt, text.len() < 80, true);
     }
+    Ok(())
+}
+
+// Ends of one message with these segments, and whether it was sent whole.
+fn compare_whole(
+    rt: &(impl AllocGlobal + Abort),
+    told: &[Told<'_>],
+    whole: bool,
+) -> Result<(), Fail> {
+    let alloc = rt.alloc();
+    let mut ends = Vec::new(alloc);
+    push_sent(alloc, &mut ends, told)?;
+    same(rt, are_whole(ends.as_slice()), whole);
+    let summary = summary_of(ends.as_slice(), &Statement::new(Vec::new(alloc)));
+    same(rt, summary.whole, whole as usize);
+    Ok(())
+}
+
+#[test]
+fn counts_what_was_sent_whole(rt: HostRuntime) -> Result<(), Fail> {
+    let taken = [reply(0, b"m1")];
+    let charged = (Outcome::Charged, taken.as_slice());
+    compare_whole(&rt, &[charged], true)?;
+    compare_whole(&rt, &[charged, charged], true)?;
+    compare_whole(&rt, &[], false)?;
+    compare_whole(&rt, &[charged, (Outcome::Refused, &[])], false)?;
+    compare_whole(&rt, &[(Outcome::Unsent, &[]), charged], false)?;
+    compare_whole(&rt, &[(Outcome::Unanswered, &[None])], false)
+}
+
+#[test]
+fn counts_whole_messages_of_all_kinds(rt: HostRuntime) -> Result<(), Fail> {
+    let alloc = rt.alloc();
+    let ends = all_kinds(alloc)?;
+    let summary = summary_of(ends.as_slice(), &Statement::new(Vec::new(alloc)));
+    same(&rt, (summary.messages, summary.whole), (8, 1));
+    same(&rt, are_whole(ends.as_slice()), false);
+    let none: Vec<MessageEnd> = Vec::new(alloc);
+    same(&rt, are_whole(none.as_slice()), true);
     Ok(())
 }

@@ -111,7 +111,7 @@ fn text_of_ends(alloc: Global, ends: &[MessageEnd]) -> Result<String, Fail> {
         rows.push(row(9, 4, 3, 2, 1))?;
     }
     let statement = Statement::new(rows);
-    Ok(report_text(alloc, openings.as_slice(), ends, &statement)?)
+    Ok(report_text(alloc, openings.as_slice(), ends, statement.rows())?)
 }
 
 #[test]
@@ -205,7 +205,12 @@ fn prints_the_last_reply_of_each_segment(rt: HostRuntime) -> Result<(), Fail> {
         segments.push(segment(alloc, outcome, replies)?)?;
         let ends = sent(alloc, segments)?;
         let (openings, statement) = account(alloc, row)?;
-        let text = report_text(alloc, openings.as_slice(), ends.as_slice(), &statement)?;
+        let text = report_text(
+            alloc,
+            openings.as_slice(),
+            ends.as_slice(),
+            statement.rows(),
+        )?;
         let wanted = format!(in alloc; "{MESSAGES}{line}{ACCOUNTS}{amounts}")?;
         same(&rt, text.as_str(), wanted.as_str());
     }

@@ -1,13 +1,15 @@
-//! What is told of a fault at length, and in a pipe.
+//! The lines of a fault at length, and in a pipe.
 
 use super::broken::FailingOutput;
 use super::jobs::{SCHEDULE, replay_fault};
 use super::same::same;
+use sms_devices::JournalFailure;
 use sms_diagnostics::{FileTrouble, RecordTrouble};
 use sms_driver::{BindFailure, SendFault};
 use sms_files::{Held, Source};
 use sms_send::{Address, Doing, Fault, Known, told_of};
 use std::alloc::{AllocError, Global};
+use std::io::ErrorKind;
 use std::process::Abort;
 use std::test::Fail;
 
@@ -137,6 +139,59 @@ fn tells_no_more_than_is_known(rt: HostRuntime) -> Result<(), Fail> {
         &known,
         "fault: output\n",
         "  messages may have been sent: don't send them again before you know which\n",
+    )
+}
+
+/// The system's reason travels with a fault of the journal.
+#[test]
+fn tells_why_a_journal_failed(rt: HostRuntime) -> Result<(), Fail> {
+    let name = String::from_str(rt.alloc(), "j.csv")?;
+    want_told(
+        &rt,
+        &Fault::Unmade(name, ErrorKind::NotFound),
+        "fault: file j.csv\n",
+        "  its folder doesn't exist\n",
     )?;
-    want_text(&rt, &Fault::Journal, &known, "fault: journal\n", "")
+    want_told(
+        &rt,
+        &Fault::JournalHeld,
+        "fault: journal\n",
+        "  its run is still going on\n",
+    )?;
+    want_told(
+        &rt,
+        &Fault::Unbegun(JournalFailure::StorageFull),
+        "fault: journal\n",
+        "  no space left on the device\n  nothing was sent\n",
+    )?;
+    want_told(
+        &rt,
+        &Fault::Journal(JournalFailure::ReadOnly),
+        "fault: journal\n",
+        "  its file system is read-only\n  what was not noted was not sent; the report is right, and rest prints what is left of it\n",
+    )
+}
+
+#[test]
+fn tells_why_a_journal_is_not_recovered(rt: HostRuntime) -> Result<(), Fail> {
+    want_told(
+        &rt,
+        &Fault::Overdrawn,
+        "fault: journal\n",
+        "  it takes more of an account than that has\n",
+    )?;
+    want_told(
+        &rt,
+        &Fault::Trial,
+        "fault: journal of a trial: no message centre saw any of it\n",
+        "  --trial prints its report\n",
+    )?;
+    same(&rt, Fault::Trial.exit_status(), 1);
+    let name = String::from_str(rt.alloc(), "m.csv")?;
+    want_told(
+        &rt,
+        &Fault::OtherFile(name),
+        "fault: journal record 1\n",
+        "  m.csv is not the file that this run was begun with\n",
+    )
 }

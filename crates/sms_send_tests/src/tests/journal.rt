@@ -26,6 +26,8 @@ const FILES: [(&str, &str); 3] = [
 
 const JOURNAL: &str = "noted-journal.csv";
 
+const TRIAL: &str = "trial: no message centre saw any of it\n";
+
 // The job to send them.
 fn noted_job(alloc: Global) -> Result<Job, AllocError> {
     let journal = JournalFile {
@@ -46,11 +48,12 @@ fn noted_job(alloc: Global) -> Result<Job, AllocError> {
     }))
 }
 
-// The job to recover the report from the journal.
-fn recover_job(alloc: Global) -> Result<Job, AllocError> {
+// The job to recover the report from the journal, which may be of a trial.
+fn recover_job(alloc: Global, trial: bool) -> Result<Job, AllocError> {
     Ok(Job::Recover(RecoverOrder {
         config: String::from_str(alloc, FILES[0].0)?,
         journal: String::from_str(alloc, JOURNAL)?,
+        trial,
     }))
 }
 
@@ -106,11 +109,28 @@ fn ends_a_journal_behind_its_report(rt: HostRuntime) -> Result<(), Fail> {
     let told = do_job(
         &rt,
         &mut Start::new(&latch, unsaid),
-        recover_job(alloc)?,
+        recover_job(alloc, true)?,
         &mut recovered,
         &mut told_beside,
     );
     assert!(rt; told.is_ok());
+    same(&rt, recovered.as_slice(), printed.as_slice());
+    same(&rt, told_beside.as_slice(), TRIAL.as_bytes());
+    told_beside.clear();
+    let (latch, unsaid) = Latch::new();
+    let refused = do_job(
+        &rt,
+        &mut Start::new(&latch, unsaid),
+        recover_job(alloc, false)?,
+        &mut recovered,
+        &mut told_beside,
+    );
+    want_fault(
+        &rt,
+        alloc,
+        refused,
+        "fault: journal of a trial: no message centre saw any of it",
+    )?;
     same(&rt, recovered.as_slice(), printed.as_slice());
     let (latch, unsaid) = Latch::new();
     let again = do_job(

@@ -1,4 +1,4 @@
-//! The exit statuses of sendings, strict and not, by what became of each message.
+//! The exit statuses of sendings, strict and not, by the result of each message.
 
 use super::same::same;
 use sms_send::status_of;
@@ -9,14 +9,23 @@ use std::alloc::{AllocError, Global};
 use std::process::Abort;
 use std::test::Fail;
 
-/// What became of messages, a letter each: charged, refused by the centre, unanswered, or refused for
+/// The results of messages, a letter each: charged, refused by the centre, unanswered, not sent, or refused for
 /// no Account, no credit (p), a bad Destination, a Too long text, a lost Bind or want of Memory. And the
 /// status of such a sending, and with `--strict`.
-const STATUSES: [(&str, u8, u8); 13] = [
+const STATUSES: [(&str, u8, u8); 22] = [
     ("", 0, 0),
     ("c", 0, 0),
-    ("cr", 0, 0),
-    ("capdt", 0, 0),
+    ("cr", 0, 5),
+    ("r", 0, 5),
+    ("n", 0, 5),
+    ("ca", 0, 5),
+    ("pc", 0, 5),
+    ("d", 0, 5),
+    ("t", 0, 5),
+    ("capdt", 0, 5),
+    ("ccc", 0, 0),
+    ("du", 4, 4),
+    ("ru", 4, 4),
     ("b", 0, 5),
     ("m", 0, 5),
     ("cb", 0, 5),
@@ -57,6 +66,7 @@ fn result_of(alloc: Global, letter: char) -> Result<MessageResult, AllocError> {
         'c' => sent(alloc, Outcome::Charged),
         'r' => sent(alloc, Outcome::Refused),
         'u' => sent(alloc, Outcome::Unanswered),
+        'n' => sent(alloc, Outcome::Unsent),
         _ => Ok(MessageResult::Refused(refusal_of(letter))),
     }
 }
@@ -78,7 +88,7 @@ fn want_statuses(rt: &impl Abort, letters: &str, ends: &[MessageEnd], wanted: (u
 }
 
 #[test]
-fn tells_what_was_kept_back(rt: HostRuntime) -> Result<(), Fail> {
+fn tells_what_was_not_sent_whole(rt: HostRuntime) -> Result<(), Fail> {
     for (letters, plain, strict) in &STATUSES {
         let ends = ends_of(rt.alloc(), letters)?;
         want_statuses(&rt, letters, ends.as_slice(), (*plain, *strict));

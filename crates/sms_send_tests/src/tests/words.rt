@@ -7,7 +7,7 @@ use std::process::Abort;
 use std::test::Fail;
 
 /// Words, and the file of the job, or the text of the fault.
-const READ: [(&str, &str); 78] = [
+const READ: [(&str, &str); 80] = [
     ("", "standard input"),
     ("replay -", "standard input"),
     ("replay events.csv", "events.csv"),
@@ -83,6 +83,8 @@ const READ: [(&str, &str); 78] = [
     ("send --strict", "fault: words"),
     ("send --config c --strict --strict", "fault: words"),
     ("recover --config c --journal j --strict", "fault: words"),
+    ("recover --config c --journal j --trial", "trial of j"),
+    ("send --config c --trial", "fault: words"),
     ("replay --verbose x", "x"),
     ("plan --messages x --verbose", "plan of x"),
     ("quote --verbose --config c", "verbose quote of c"),
@@ -123,6 +125,7 @@ fn called(job: &Job) -> &str {
         Job::Loop(_) => "loop of ",
         Job::Send(order) if order.quiet => "quiet send of ",
         Job::Send(_) => "send of ",
+        Job::Recover(order) if order.trial => "trial of ",
         Job::Recover(_) => "recovery of ",
         Job::Rest(order) if order.accounts => "accounts left of ",
         Job::Rest(_) => "rest of ",

@@ -57,7 +57,7 @@ pub returns-in_err-input-clause-told : goal.returns-in_err-input-clause-told
 returns-in_err-input-clause-told g c = told_so c.from_residual-in_err-input.result _ _ c.from_residual-in_err-input.ensures.1 (noted_at (g.R.Connects.tells c.args.rt.now) _ _ _ _ _ (checked_at _ _ _ c.in_ok-named.named _ c.requires.yet c.in_err-input.ensures.refused))
 
 pub returns-in_err-journal-clause-told : goal.returns-in_err-journal-clause-told
-returns-in_err-journal-clause-told g c = told_so c.from_residual-in_err-journal.result _ _ c.from_residual-in_err-journal.ensures.1 (begun_at (g.R.Connects.tells c.args.rt.now) _ _ _ _ _ _ c.requires.yet refl c.in_err-journal.ensures.refused)
+returns-in_err-journal-clause-told g c = told_so c.from_residual-in_err-journal.result _ _ c.from_residual-in_err-journal.ensures.1 (begun_at (g.R.Connects.tells c.args.rt.now) (g.R.JournalFiles.makes c.args.rt.now) (g.R.JournalFiles.refuses c.args.rt.now) (g.R.JournalFiles.holds c.args.rt.now) _ _ _ _ c.args.wanted _ c.requires.yet refl c.in_err-journal.ensures.refused)
 
 pub returns-in_err-named-clause-refused : goal.returns-in_err-named-clause-refused
 returns-in_err-named-clause-refused g c = told_so c.from_residual.result _ _ c.from_residual.ensures.1 (inl c.in_err-named.ensures.refused)

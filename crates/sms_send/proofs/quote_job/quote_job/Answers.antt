@@ -14,15 +14,15 @@ returns-clause-quoted g c =
 pub returns-clause-beside : goal.returns-clause-beside
 returns-clause-beside g c =
     on_ok_weaker c.quote_config.result
-    (quotes_asked (g.R.InputFiles.finds c.args.rt.now) (g.R.FullNames.is_full c.args.rt.now) (g.R.Screen.shows c.args.rt.now) c.args.config c.args.verbose c.is_terminal.result c.is_at_length-at_length.result _ _ _ _
-    c.is_terminal.ensures c.is_at_length-at_length.ensures)
+    (quotes_asked (g.R.InputFiles.finds c.args.rt.now) (g.R.FullNames.is_full c.args.rt.now) (g.R.Screen.details c.args.rt.now) c.args.config c.args.verbose c.has_details.result c.is_at_length-at_length.result _ _ _ _
+    c.has_details.ensures c.is_at_length-at_length.ensures)
     c.quote_config.ensures.quoted
 
 pub returns-clause-told : goal.returns-clause-told
 returns-clause-told g c =
     IfErr-weaker c.quote_config.result _ _
-    (λ fault front failed. front_asked (g.R.InputFiles.finds c.args.rt.now) (g.R.FullNames.is_full c.args.rt.now) (g.R.Screen.shows c.args.rt.now) c.args.config c.args.verbose c.is_terminal.result c.is_at_length-at_length.result _ _
-    c.is_terminal.ensures c.is_at_length-at_length.ensures (front failed))
+    (λ fault front failed. front_asked (g.R.InputFiles.finds c.args.rt.now) (g.R.FullNames.is_full c.args.rt.now) (g.R.Screen.details c.args.rt.now) c.args.config c.args.verbose c.has_details.result c.is_at_length-at_length.result _ _
+    c.has_details.ensures c.is_at_length-at_length.ensures (front failed))
     c.quote_config.ensures.told
 
 pub returns-clause-refused : goal.returns-clause-refused

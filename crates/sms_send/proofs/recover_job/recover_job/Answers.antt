@@ -1,9 +1,6 @@
 use Rattle.std.proofs.Common.{inr}
-use Rattle.std.proofs.lemmas.Result.{IfErr-weaker, IfOk-weaker}
+use Rattle.std.proofs.lemmas.Result.{IfErr-weaker}
 use Rattle.sms_send.proofs.recover_job.recover_job.Goals as goal
 
-pub returns-in-Ok-clause-recovered : goal.returns-in-Ok-clause-recovered
-returns-in-Ok-clause-recovered g c = IfOk-weaker c.recovered.result _ _ (λ status is. (c.in-Ok.run', c.in-Ok.ensures.read, is)) c.recovered.ensures.recovered
-
-pub returns-in-Ok-clause-refused : goal.returns-in-Ok-clause-refused
-returns-in-Ok-clause-refused g c = IfErr-weaker c.recovered.result _ _ (λ fault tells. inr (c.in-Ok.run', c.in-Ok.ensures.read, tells)) c.recovered.ensures.refused
+pub returns-clause-refused : goal.returns-clause-refused
+returns-clause-refused g c = IfErr-weaker c.recover_free.result _ _ (λ fault tells. inr tells) c.recover_free.ensures.refused

@@ -1,7 +1,7 @@
 use Rattle.std.proofs.Common.{refl}
 use Rattle.std.proofs.lemmas.Result.{IfErr-weaker, IfOk-weaker}
 use Rattle.sms_send.specs.Noted.{TellsBegin}
-use Rattle.sms_send.proofs.Noting.{noted_sends, noted_tells, plain_sends, plain_tells, tells_setup}
+use Rattle.sms_send.proofs.Noting.{noted_sends, noted_tells, plain_sends, plain_tells, quiet_too, tells_setup}
 use Rattle.sms_send.proofs.Sendings.{of_two}
 use Rattle.sms_send.proofs.Telling.{told_so}
 use Rattle.sms_send.proofs.Starts.{noted_at, octets_at, read_at}
@@ -17,7 +17,7 @@ returns-in-None-clause-sent g c =
 pub returns-in-None-clause-refused : goal.returns-in-None-clause-refused
 returns-in-None-clause-refused g c =
     IfErr-weaker c.send_plain.result _ _
-    (λ fault tells. plain_tells (TellsBegin (g.R.JournalFiles.makes c.args.rt.now) (g.R.JournalFiles.refuses c.args.rt.now)) (g.R.Connects.tells c.args.rt.now) _ (g.R.InputFiles.finds c.args.rt.now) _ _ _ c.in_ok-accounts.field-0 c.args.centre c.args.order _ _ fault c.in-None.is refl
+    (λ fault tells. plain_tells (TellsBegin (g.R.JournalFiles.makes c.args.rt.now) (g.R.JournalFiles.refuses c.args.rt.now) (g.R.JournalFiles.holds c.args.rt.now)) (g.R.Connects.tells c.args.rt.now) _ (g.R.InputFiles.finds c.args.rt.now) _ _ _ c.in_ok-accounts.field-0 c.args.centre c.args.order _ _ fault c.in-None.is refl
     (record { input = c.in_ok-config.ensures.octets; one = c.as_slice.ensures.value; two = c.as_slice-in-None.ensures.value; says = c.in_ok-accounts.ensures.setup }) tells)
     c.send_plain.ensures.refused
 
@@ -31,7 +31,7 @@ returns-clause-sent g c =
 pub returns-clause-refused : goal.returns-clause-refused
 returns-clause-refused g c =
     IfErr-weaker c.send_noted.result _ _
-    (λ fault tells. noted_tells (TellsBegin (g.R.JournalFiles.makes c.args.rt.now) (g.R.JournalFiles.refuses c.args.rt.now)) (g.R.Connects.tells c.args.rt.now) _ (g.R.InputFiles.finds c.args.rt.now) _ _ _ c.in_ok-accounts.field-0 c.args.centre c.args.order _ _ _ fault c.in-Some.is refl
+    (λ fault tells. noted_tells (TellsBegin (g.R.JournalFiles.makes c.args.rt.now) (g.R.JournalFiles.refuses c.args.rt.now) (g.R.JournalFiles.holds c.args.rt.now)) (g.R.Connects.tells c.args.rt.now) _ (g.R.InputFiles.finds c.args.rt.now) _ _ _ c.in_ok-accounts.field-0 c.args.centre c.args.order _ _ _ fault c.in-Some.is refl
     (record { input = c.in_ok-config.ensures.octets; one = c.as_slice.ensures.value; two = c.as_slice-in-Some.ensures.value; says = c.in_ok-accounts.ensures.setup }) tells)
     c.send_noted.ensures.refused
 
@@ -49,7 +49,7 @@ returns-in_err-config-clause-refused g c =
 pub returns-in_err-accounts-clause-refused : goal.returns-in_err-accounts-clause-refused
 returns-in_err-accounts-clause-refused g c =
     told_so c.from_residual-in_err-accounts.result _ _ c.from_residual-in_err-accounts.ensures.1
-    (tells_setup (TellsBegin (g.R.JournalFiles.makes c.args.rt.now) (g.R.JournalFiles.refuses c.args.rt.now)) (g.R.Connects.tells c.args.rt.now) (g.R.InputFiles.finds c.args.rt.now) c.args.centre c.args.order _ _ _ _ _
+    (tells_setup (TellsBegin (g.R.JournalFiles.makes c.args.rt.now) (g.R.JournalFiles.refuses c.args.rt.now) (g.R.JournalFiles.holds c.args.rt.now)) (g.R.Connects.tells c.args.rt.now) (g.R.InputFiles.finds c.args.rt.now) c.args.centre c.args.order _ _ _ _ _
     c.in_ok-config.ensures.octets c.as_slice.ensures.value c.in_err-accounts.ensures.refused)
 
 pub returns-in_err-config-clause-unwritten : goal.returns-in_err-config-clause-unwritten
@@ -78,3 +78,6 @@ returns-in_err-config-clause-told g c = told_so c.from_residual.result _ _ c.fro
 
 pub returns-in_err-accounts-clause-told : goal.returns-in_err-accounts-clause-told
 returns-in_err-accounts-clause-told g c = told_so c.from_residual-in_err-accounts.result _ _ c.from_residual-in_err-accounts.ensures.1 (noted_at (g.R.Connects.tells c.args.rt.now) _ _ _ _ _ (read_at _ _ _ c.requires.yet c.in_err-accounts.ensures.refused))
+
+pub returns-in-None-clause-unwritten : goal.returns-in-None-clause-unwritten
+returns-in-None-clause-unwritten g c = quiet_too c.send_plain.result _ c.send_plain.ensures.unwritten

@@ -1,0 +1,22 @@
+use Rattle.std.proofs.Common.{◌≡◌, IfErr, subst, sym}
+use Rattle.sms_send.specs.Faults.{output_failed}
+use Rattle.sms_send.specs.Jobs.{TellsBesideFront}
+use Rattle.sms_send.specs.declared.job.Job.{Job}
+use Rattle.sms_send.proofs.Noting.{both_quiet, quiet_too}
+use Rattle.sms_send.proofs.Telling.{where-output}
+use Rattle.sms_send.proofs.program.do_job.Goals as goal
+
+pub returns-in-Recover-clause-front : goal.returns-in-Recover-clause-front
+returns-in-Recover-clause-front g c =
+    subst (λ (job : Job). IfErr c.recover_job.result (λ fault. fault ≡ output_failed → TellsBesideFront (g.R.InputFiles.finds c.args.rt.now) (g.R.FullNames.is_full c.args.rt.now) (g.R.Screen.details c.args.rt.now) job
+    (g.E.Write.contents c.args.error.now) (g.E.Write.contents c.recover_job.new.error))) (sym c.in-Recover.is)
+    (where-output c.recover_job.result _ c.recover_job.ensures.told)
+
+pub returns-in_ok-open-in-Replay-Some-clause-unwritten : goal.returns-in_ok-open-in-Replay-Some-clause-unwritten
+returns-in_ok-open-in-Replay-Some-clause-unwritten g c = quiet_too c.run_replay-in-Replay-Some.result _ c.run_replay-in-Replay-Some.ensures.unwritten
+
+pub returns-in-Recover-clause-unwritten : goal.returns-in-Recover-clause-unwritten
+returns-in-Recover-clause-unwritten g c = both_quiet c.recover_job.result _ _ c.recover_job.ensures.unwritten
+
+pub returns-in-Rest-clause-unwritten : goal.returns-in-Rest-clause-unwritten
+returns-in-Rest-clause-unwritten g c = quiet_too c.rest_job.result _ c.rest_job.ensures.unwritten
