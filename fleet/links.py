@@ -1,6 +1,7 @@
 """What stands of a run, by its files, and what comes next. A run is noted in `journal` while it is sent, and has ended where its
 `report.csv` is there: that is put there whole."""
 import enum
+import fcntl
 import functools
 import os
 import re
@@ -11,8 +12,8 @@ from reports import NOT_SENT, Report, is_unsent
 from tables import Fault, put_lines, put_octets, records, rename, table
 
 BEGUN, JOURNAL, REPORT_NAME = "begun", "journal", "report.csv"
-# The front of a journal that noted nothing: its head, and a line that was cut. Whatever else there is counts as a note.
-NOTHING_NOTED = re.compile(rb"(journal,1,[0-9a-f,]{0,300}\n)?[ -~]{0,400}")
+# A journal that noted nothing: its head, and a line that was truncated. Whatever else there is counts as a note.
+NOTHING_NOTED = re.compile(rb"((journal|trial),1,[0-9a-f,]{0,300}\n)?[ -~]{0,400}")
 
 
 class State(enum.Enum):
@@ -39,6 +40,18 @@ def noted(folder):
         return False
     with open(f"{folder}/{JOURNAL}", "rb") as file:
         return not NOTHING_NOTED.fullmatch(file.read(1000))
+
+
+def is_held(folder):
+    """Whether a process holds the lock of a run's journal: a sending has it until it ends, however that is."""
+    try:
+        with open(f"{folder}/{JOURNAL}", "rb") as file:
+            fcntl.flock(file, fcntl.LOCK_SH | fcntl.LOCK_NB)
+    except FileNotFoundError:
+        return False
+    except BlockingIOError:
+        return True
+    return False
 
 
 def read_text(name):

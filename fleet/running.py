@@ -2,15 +2,20 @@
 import fcntl
 import os
 import subprocess
+import sys
 
 from jobs import CONFIG, runs_of_part
-from links import BEGUN, JOURNAL, REPORT_NAME, State, beginning, next_run, put_accounts, write_rest
+from links import BEGUN, JOURNAL, REPORT_NAME, State, beginning, is_held, next_run, put_accounts, write_rest
 from reports import Report
 from tables import Fault, put_octets, put_text, sync_folder
 
 
 class Stopped(Exception):
-    """Why a part isn't done."""
+    """Why a part isn't done. `report` is what a sending printed whose journal could not be written on: that is whole, and right."""
+
+    def __init__(self, why, report=b""):
+        super().__init__(why)
+        self.report = report
 
 
 class Part:
@@ -21,27 +26,32 @@ class Part:
         self.folder, self.program, self.is_synced, self.words, self.lock = folder, program, is_synced, words, None
 
     def ask(self, run, *words):
-        """What the program prints of a run; its status has to be 0 or 4. The program has the part's lock too, so that nobody takes
-        a run for cut while it is still sent, though what started it was killed."""
-        more = {"cwd": run, "stdin": subprocess.DEVNULL, "stdout": subprocess.PIPE, "pass_fds": [self.lock.fileno()]}
-        ended = subprocess.run([self.program, *words], check=False, **more)
-        if ended.returncode not in (0, 4):
+        """What the program prints of a run; its status has to be 0 or 4, or 5 with --strict. The program has the part's lock too, so that nobody takes
+        a run for cut while it is still sent, though what started it was killed: its journal's own lock begins a moment later."""
+        more = {"cwd": run, "stdin": subprocess.DEVNULL, "capture_output": True, "pass_fds": [self.lock.fileno()]}
+        ended = subprocess.run([self.program, *words], check=False, env={**os.environ, "SMS_SEND_VERBOSE": "1"}, **more)
+        sys.stderr.buffer.write(ended.stderr)
+        sys.stderr.flush()
+        if ended.returncode not in (0, 4, 5):
             how = f"ended with {ended.returncode}" if ended.returncode > 0 else f"was killed by signal {-ended.returncode}"
-            raise Stopped(f"{run}: `{self.program} {words[0]}` {how}")
+            is_whole = ended.returncode == 1 and b"fault: journal" in ended.stderr.splitlines()
+            raise Stopped(f"{run}: `{self.program} {words[0]}` {how}", ended.stdout if is_whole else b"")
         return ended.stdout
 
     def rest(self, run, *more):
         return self.ask(run, "rest", "--config", CONFIG, "--report", REPORT_NAME, *more)
 
     def send(self, run):
-        """Sends a run that was not begun. Its report is put in place when the program is done with it."""
+        """Sends a run that was not begun. Its report is put in place when the program is done with it, also where its journal failed."""
         if os.path.exists(f"{run}/{JOURNAL}"):
             os.remove(f"{run}/{JOURNAL}")
         put_text(beginning(self.is_synced), f"{run}/{BEGUN}")
         sync = ["--sync"] if self.is_synced else []
         try:
             report = self.ask(run, *self.words, "--quiet", "--config", CONFIG, "--journal", JOURNAL, *sync)
-        except (Stopped, OSError):
+        except (Stopped, OSError) as why:
+            if isinstance(why, Stopped) and why.report:
+                put_octets(why.report, f"{run}/{REPORT_NAME}")
             self.ended(run)
             raise
         put_octets(report, f"{run}/{REPORT_NAME}")
@@ -57,7 +67,8 @@ class Part:
 
     def recover(self, run):
         """Computes the report of a run that was cut from what it noted."""
-        put_octets(self.ask(run, "recover", "--config", CONFIG, "--journal", JOURNAL), f"{run}/{REPORT_NAME}")
+        trial = ["--trial"] if self.words[0] == "loop" else []
+        put_octets(self.ask(run, "recover", "--config", CONFIG, "--journal", JOURNAL, *trial), f"{run}/{REPORT_NAME}")
 
     def give_accounts(self, run):
         """Gives a run the credits that the one before it left free."""
@@ -68,6 +79,8 @@ class Part:
     def step(self, run, state, sent):
         """One step of a run; gives whether it was sent. A run that was sent here and left messages is not gone on with at once,
         since a centre that lost it may lose the next one too."""
+        if state is not State.ENDED and is_held(run):
+            raise Stopped(f"{run}: its run is still going on")
         if state is State.READY:
             self.send(run)
             return True

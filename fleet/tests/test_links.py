@@ -25,9 +25,10 @@ class Links(Case):
 
     def test_a_journal_that_noted_nothing(self):
         head = b"journal,1," + b",".join([b"ab" * 32] * 3) + b",\n"
-        for nothing in (b"", b"jour", head[:-1], head, head + b"begun,1", head + b"begun,1,0"):
+        trial = head.replace(b"journal", b"trial")
+        for nothing in (b"", b"jour", head[:-1], head, head + b"begun,1", head + b"begun,1,0", trial, trial + b"begun,1,0"):
             self.assertTrue(NOTHING_NOTED.fullmatch(nothing), nothing)
-        lost = [b"\n", b"\0", b"\0" * 4096, head + b"\0\0", head + b"begun,1,0\n", head + b"begun,1,0\nsent,1,0", b"begun,1,0\n", head * 2]
+        lost = [b"\n", b"\0", b"\0" * 4096, head + b"\0\0", head + b"begun,1,0\n", head + b"begun,1,0\nsent,1,0", b"begun,1,0\n", head * 2, trial + head]
         for text in lost + [head + b"x" * 500, b"journal,2,,,,\n"]:
             self.assertFalse(NOTHING_NOTED.fullmatch(text), text)
 

@@ -114,6 +114,57 @@ class Running(Case):
         self.run_part()
         self.once(self.merge())
 
+    def test_a_journal_that_failed(self):
+        """The report that the program printed is kept, and what it left goes on by the next call."""
+        self.job({"a": 5, "b": 5})
+        split(self.folder, 1)
+        self.does("01/1", "journal 4")
+        said = self.run_part(1)
+        self.assertIn("fault: journal\n  no space left on the device\n", said)
+        self.assertIn("`send` ended with 1".replace("`send", f"`{PROGRAM} send"), said)
+        outcomes = [it[0][2] for it in Report(f"{self.folder}/parts/01/1/report.csv").ends]
+        self.assertEqual(outcomes, ["charged"] * 4 + ["bind-closed"] * 6)
+        self.run_part()
+        self.once(self.merge())
+
+    def test_a_strict_sending_that_left_messages(self):
+        self.job({"a": 5, "b": 5})
+        split(self.folder, 1)
+        self.does("01/1", "lose 3")
+        self.assertIn("run it again to go on", self.run_part(1, "--with=--strict"))
+        self.assertIs(state_of_folder(f"{self.folder}/parts/01/1"), State.ENDED)
+        self.run_part(0, "--with=--strict")
+        self.once(self.merge())
+
+    def test_a_run_that_is_still_going_on(self):
+        """Whatever its journal has, nobody recovers it, removes it or sends it again as long as a process holds it."""
+        for text in ("", "journal,1,,,,\n", "journal,1,,,,\nbegun,0,0\nsent,0,0,1,0,1\n"):
+            with self.subTest(text):
+                self.setUp()
+                self.job({"a": 5})
+                split(self.folder, 1)
+                journal = f"{self.folder}/parts/01/1/journal"
+                put_text(text, journal)
+                with open(journal, "rb") as held:
+                    fcntl.flock(held, fcntl.LOCK_EX)
+                    self.assertIn("its run is still going on", self.run_part(1))
+                with open(journal) as file:
+                    self.assertEqual(file.read(), text)
+                self.assertFalse(os.path.exists(f"{self.folder}/submits"))
+                self.run_part()
+                self.assertEqual(len(self.submits()), 4 if "sent" in text else 5)
+
+    def test_a_trial_that_was_killed(self):
+        self.job({"a": 5})
+        split(self.folder, 1)
+        self.does("01/1", "kill 2")
+        self.run_part(1, "--loop")
+        said = self.run_part(1)
+        self.assertIn("fault: journal of a trial: no message centre saw any of it\n", said)
+        self.assertIs(state_of_folder(f"{self.folder}/parts/01/1"), State.CUT)
+        self.run_part(0, "--loop")
+        self.once(self.merge(4), unanswered=1)
+
     def test_a_run_goes_on_alone_where_what_started_it_was_killed(self):
         self.job({"a": 5})
         split(self.folder, 1)
@@ -252,7 +303,7 @@ class Running(Case):
         self.job({"a": 5})
         split(self.folder, 1)
         asked = f"{self.folder}/asked"
-        put_text(f'#!/bin/sh\necho "$@" >> {asked}\nexec {PROGRAM} "$@"\n', f"{self.folder}/program")
+        put_text(f'#!/bin/sh\necho "$SMS_SEND_VERBOSE $@" >> {asked}\nexec {PROGRAM} "$@"\n', f"{self.folder}/program")
         os.chmod(f"{self.folder}/program", 0o755)
         self.does("01/1", "kill 2")
         words = ["--program", f"{self.folder}/program", "--with=--rate 50 --stop-after 3"]
@@ -260,6 +311,8 @@ class Running(Case):
         self.run_job(0, *words, "--no-sync", "--loop")
         with open(asked) as file:
             said = file.read().splitlines()
+        self.assertTrue(all(it.startswith("1 ") for it in said), said)
+        said = [it.removeprefix("1 ") for it in said]
         self.assertEqual(said[0], "send --rate 50 --stop-after 3 --quiet --config send.toml --journal journal --sync")
         self.assertEqual(said[-1], "loop --rate 50 --stop-after 3 --quiet --config send.toml --journal journal")
         self.assertEqual([it.split()[0] for it in said], ["send", "recover", "rest", "rest", "loop"])
