@@ -86,12 +86,18 @@ class Plots(unittest.TestCase):
         text = journal(20)
         self.assertEqual(len(plot.requests(self.written(text + "sent,1,2"))), len(plot.requests(self.written(text, "other"))))
 
+    def test_a_journal_of_a_trial(self):
+        text = journal(20)
+        trial = text.replace("journal", "trial", 1)
+        self.assertEqual(plot.requests(self.written(trial)), plot.requests(self.written(text, "other")))
+
     def test_faults_have_name_and_line(self):
         cases = {
             "sent,1,0,1,0,1\n": ":1: no note",
             HEAD + "sent,1,0,1\n": ":2: no note",
             HEAD + "what,1\n": ":2: no note",
             HEAD + HEAD: ":2: no note",
+            HEAD + HEAD.replace("journal", "trial"): ":2: no note",
             HEAD.replace(",1,", ",2,", 1): ":1: a journal of the kind 2",
             HEAD + "begun,x,1\n": ":2: 'x' is no time",
             HEAD + "heard,1,0,1,0,0,\n": "heard of a request that was not sent: worker 0, number 1",

@@ -1,0 +1,53 @@
+"""The bash completion in packaging/. Run by `python3 -m unittest discover tools/tests`."""
+import os
+import subprocess
+import tempfile
+import unittest
+
+HOME = os.path.dirname(os.path.dirname(os.path.dirname(os.path.realpath(__file__))))
+ASK = """. "$1"; shift
+COMP_WORDS=("$@"); COMP_CWORD=$(($# - 1))
+_sms_send
+printf '%s\\n' "${COMPREPLY[@]}"
+"""
+
+
+class Completion(unittest.TestCase):
+    def offered(self, *words):
+        """What is offered where the last of the words is completed."""
+        asked = ["bash", "-c", ASK, "bash", f"{HOME}/packaging/sms-send.bash-completion", "sms-send", *words]
+        ended = subprocess.run(asked, cwd=self.folder, capture_output=True, text=True, check=True)
+        self.assertEqual(ended.stderr, "")
+        return sorted(filter(None, ended.stdout.splitlines()))
+
+    def setUp(self):
+        room = tempfile.TemporaryDirectory()
+        self.addCleanup(room.cleanup)
+        self.folder = room.name
+        for it in ("a.toml", "a b.toml", "a.csv", "accounts"):
+            with open(f"{self.folder}/{it}", "w", encoding="ascii"):
+                pass
+        os.makedirs(f"{self.folder}/app.toml")
+        os.makedirs(f"{self.folder}/archive")
+
+    def test_a_config_is_a_toml_file_or_in_a_folder(self):
+        wanted = ["a b.toml", "a.toml", "app.toml", "archive"]
+        self.assertEqual(self.offered("send", "--config", "a"), wanted)
+        self.assertEqual(self.offered("send", "--config", "=", "a"), wanted)
+        self.assertEqual(self.offered("send", "--config", "="), wanted)
+
+    def test_other_options_take_each_file(self):
+        for option in ("--journal", "--report", "--messages"):
+            self.assertEqual(self.offered("recover", option, "a"), ["a b.toml", "a.csv", "a.toml", "accounts", "app.toml", "archive"])
+
+    def test_a_number_has_no_offers(self):
+        self.assertEqual(self.offered("send", "--rate", ""), [])
+
+    def test_options(self):
+        self.assertEqual(self.offered("recover", "--t"), ["--trial"])
+        self.assertEqual(self.offered("loop", "--s"), ["--stop-after", "--strict", "--sync"])
+        self.assertEqual(self.offered("re"), ["recover", "replay", "rest"])
+
+
+if __name__ == "__main__":
+    unittest.main()
