@@ -11,6 +11,8 @@ mod coded;
 pub mod laws;
 mod reading;
 mod spelling;
+#[cfg(test)]
+mod tests;
 mod units;
 
 pub use alphabet::ESCAPE;

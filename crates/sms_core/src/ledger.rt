@@ -43,7 +43,7 @@ impl Ledger {
 
     pub(crate) fn accounts(&self) -> usize
         ensures all { result ≡ length self.now.topped }
-        ensures few { result ≤ most_accounts }
+        ensures bound { result ≤ most_accounts }
     {
         self.rows.len()
     }
@@ -75,10 +75,10 @@ impl Ledger {
 
     /// The request of this name where it may be sent, and its place.
     pub(crate) fn ready(&self, id: u32) -> Option<(usize, Request)>
-        ensures there { is_some result ≡ is_ready_state (find_request id self.now.requests) }
+        ensures exists { is_some result ≡ is_ready_state (find_request id self.now.requests) }
         ensures found { IfSome result (λ p. IsFound self.now.requests id p.0 p.1 Phase.Ready) }
         ensures left { IfSome result (λ p. p.1.state.attempts < self.now.attempts) }
-        ensures few { IfSome result (λ p. p.1.state.attempts < most_attempts) }
+        ensures bound { IfSome result (λ p. p.1.state.attempts < most_attempts) }
     {
         let (place, request) = self.requests.find(id)?;
         if request.state.phase == Phase::Ready {
@@ -92,7 +92,7 @@ impl Ledger {
     pub(crate) fn waiting(&self, id: u32) -> (usize, Request)
         requires { 0 < sum_by (is_open_named id) self.now.requests }
         ensures found { IsFound self.now.requests id result.0 result.1 Phase.Open }
-        ensures few { result.1.state.attempts ≤ self.now.attempts }
+        ensures bound { result.1.state.attempts ≤ self.now.attempts }
     {
         match self.requests.find(id) {
             Some(found) => found,
@@ -164,7 +164,7 @@ impl Ledger {
 
     /// Where a request of this name goes, if there is none.
     pub(crate) fn gap(&self, id: u32) -> Option<Gap>
-        ensures there { is_some result ≡ not (is_some (find_request id self.now.requests)) }
+        ensures exists { is_some result ≡ not (is_some (find_request id self.now.requests)) }
         ensures gap { IfSome result (λ gap. IsGap self.now.requests self.now.links gap) }
         ensures named { IfSome result (λ gap. gap.id ≡ id) }
     {
@@ -189,7 +189,7 @@ impl Ledger {
     /// A ledger of accounts without credits.
     pub(crate) fn new(alloc: Global, accounts: u32, attempts: u32) -> Result<Ledger, AllocError>
         requires some { 1 ≤ attempts }
-        requires few { attempts ≤ most_attempts }
+        requires bound { attempts ≤ most_attempts }
         requires accounts { accounts ≤ most_accounts }
         ensures { IfOk result (λ l. (l.attempts ≡ attempts) × (l.topped ≡ replicate accounts 0) × (l.requests ≡ [])) }
     {

@@ -19,6 +19,8 @@ mod row;
 mod slots;
 mod status;
 mod tables;
+#[cfg(test)]
+mod tests;
 mod world;
 
 pub use decimal::decimal_of;

@@ -102,7 +102,7 @@ impl Requests {
 
     /// Where a request of this name goes, if there is none.
     pub(crate) fn gap(&self, id: u32) -> Option<Gap>
-        ensures there { is_some result ≡ not (is_some (find_request id self.now.list)) }
+        ensures exists { is_some result ≡ not (is_some (find_request id self.now.list)) }
         ensures gap { IfSome result (λ gap. IsGap self.now.list self.now.links gap) }
         ensures named { IfSome result (λ gap. gap.id ≡ id) }
     {

@@ -85,7 +85,7 @@ impl Slots {
     fn slot(&self, slot: u32) -> Slot
         ensures holder { worker_in result ≡ find_holder slot self.now.holds }
         ensures held { is_some (worker_in result) ≡ nat_lt 0 (holders_of slot self.now.holds) }
-        ensures own { (worker : ℕ) → not (times_held worker slot self.now.holds == 0) ≡ is_of worker result }
+        ensures worker { (worker : ℕ) → not (times_held worker slot self.now.holds == 0) ≡ is_of worker result }
         ensures mark { mark_in result ≡ slice_index_or self.now.marks slot Mark.Empty }
     {
         if slot < MOST_SLOTS {
@@ -160,7 +160,7 @@ impl Slots {
 
     /// The first slot that waits for the number, and its request.
     fn waiting(&self, number: u32) -> Option<(u32, u32)>
-        ensures there { is_some result ≡ some_waits_for number self.now.marks }
+        ensures exists { is_some result ≡ some_waits_for number self.now.marks }
         ensures open { IfSome result (λ p. slice_get self.now.marks p.0 ≡ Some (Mark.Open p.1 number)) }
         ensures held { IfSome result (λ p. holders_of p.0 self.now.holds ≢ 0) }
     {

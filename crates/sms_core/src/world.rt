@@ -107,7 +107,7 @@ impl World {
     /// How many accounts there are.
     pub fn accounts(&self) -> usize
         ensures all { result ≡ length self.now.topped }
-        ensures few { result ≤ MOST_ACCOUNTS }
+        ensures bound { result ≤ MOST_ACCOUNTS }
     {
         self.tables.ledger.accounts()
     }

@@ -14,6 +14,8 @@ pub mod laws;
 mod limits;
 mod part;
 mod place;
+#[cfg(test)]
+mod tests;
 
 pub use at_once::{ShortMessage, short_message_of};
 pub use cutting::{CutError, cut, parts_in};

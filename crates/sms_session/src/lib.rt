@@ -5,6 +5,8 @@
 
 mod policy;
 mod session;
+#[cfg(test)]
+mod tests;
 
 pub use policy::{Decision, Policy, PolicyError, decide};
 pub use session::{Action, OpenFault, Opened, Response, Session, State};

@@ -5,6 +5,8 @@
 
 mod row;
 mod slot;
+#[cfg(test)]
+mod tests;
 
 pub use row::{NotAnswered, Search, SlotRow};
 pub use slot::{Answer, Expired, NoAnswer, Slot, SlotError, Taken};

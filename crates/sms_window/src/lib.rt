@@ -8,6 +8,8 @@ pub mod laws;
 pub mod outcome;
 pub mod rule;
 pub mod seat;
+#[cfg(test)]
+mod tests;
 pub mod view;
 pub mod window;
 

@@ -87,7 +87,7 @@ impl Window {
 
     /// Makes a new seat, which has one name: the greatest of the seat's family but for its own.
     pub fn split(&self, seat: &mut WindowSeat) -> WindowSeat
-        requires own { seat.old.window ≡ self.now }
+        requires same_window { seat.old.window ≡ self.now }
         requires names { CanSplit seat.old.view }
         ensures window { (seat.new.window ≡ seat.old.window) × (result.window ≡ seat.old.window) }
         ensures giver { seat.new.view ≡ met_with (giver seat.old.view) seat.new.view.met }
@@ -112,7 +112,7 @@ impl Window {
 
     /// Takes another seat in: its slots, its numbers and its names.
     pub fn join(&self, seat: &mut WindowSeat, other: WindowSeat)
-        requires own { (seat.old.window ≡ self.now) × (other.window ≡ self.now) }
+        requires same_window { (seat.old.window ≡ self.now) × (other.window ≡ self.now) }
         ensures window { seat.new.window ≡ seat.old.window }
         ensures joined { seat.new.view ≡ met_with (joined seat.old.view other.view) seat.new.view.met }
         ensures met { HasMet seat.new.view }
@@ -134,7 +134,7 @@ impl Window {
 
     /// Tries to claim the least slot that is clear in the word that it loads.
     pub fn try_claim(&self, seat: &mut WindowSeat) -> Claim
-        requires own { seat.old.window ≡ self.now }
+        requires same_window { seat.old.window ≡ self.now }
         ensures window { seat.new.window ≡ seat.old.window }
         ensures claimed { Claimed seat.old.view result seat.new.view }
     {
@@ -158,7 +158,7 @@ impl Window {
 
     /// Releases a slot that the seat holds. It is one step, which can't fail.
     pub fn release(&self, seat: &mut WindowSeat, slot: u32)
-        requires own { seat.old.window ≡ self.now }
+        requires same_window { seat.old.window ≡ self.now }
         requires held { Holds seat.old.view slot }
         ensures window { seat.new.window ≡ seat.old.window }
         ensures freed { FreedSlot seat.old.view slot seat.new.view }
@@ -173,7 +173,7 @@ impl Window {
     /// Tries to draw the next sequence number. Where another seat drew between the two steps that it takes,
     /// the number word is greater than what the seat had seen of it.
     pub fn try_draw(&self, seat: &mut WindowSeat) -> Draw
-        requires own { seat.old.window ≡ self.now }
+        requires same_window { seat.old.window ≡ self.now }
         ensures window { seat.new.window ≡ seat.old.window }
         ensures drawn { Drawn seat.old.view result seat.new.view }
     {
@@ -196,7 +196,7 @@ impl Window {
     /// names accounts for both words alone. No number is twice among those of a seat, so seats that
     /// were joined never drew the same.
     pub fn close(self, seat: WindowSeat) -> Closed
-        requires own { seat.window ≡ self }
+        requires same_window { seat.window ≡ self }
         ensures end { IsEnd seat.view result.held result.next }
         ensures once { (n : ℕ) → times n seat.view.numbers ≤ 1 }
     {

@@ -14,8 +14,8 @@ returns-then-eq-clause-left c =
     let ready : one_if_ready r.state.phase ≡ 1 = ap one_if_ready is in
     omega (arith, e)
 
-pub returns-then-eq-clause-few : goal.returns-then-eq-clause-few
-returns-then-eq-clause-few c =
+pub returns-then-eq-clause-bound : goal.returns-then-eq-clause-bound
+returns-then-eq-clause-bound c =
     let l = c.self.inside in let r = c.in_ok-place.request in let place = c.in_ok-place.place in
     let at = get_or-at l.requests.list place r r c.in_ok-place.ensures.at.1 in
     let e = within l.attempts (length l.rows.items) l.requests.list place r c.self.invariant.requests_are at.0 at.1 in

@@ -21,8 +21,8 @@ returns-clause-found c =
       in_phase = open_found c.args.id rs place r (c.self.invariant.requests_are.distinct c.args.id) some placed c.in-Some.ensures.at.1;
     }
 
-pub returns-clause-few : goal.returns-clause-few
-returns-clause-few c =
+pub returns-clause-bound : goal.returns-clause-bound
+returns-clause-bound c =
     let l = c.self.inside in let r = c.in-Some.found.1 in let place = c.in-Some.found.0 in
     let at = get_or-at l.requests.list place r r c.in-Some.ensures.at.1 in
     let e = within l.attempts (length l.rows.items) l.requests.list place r c.self.invariant.requests_are at.0 at.1 in

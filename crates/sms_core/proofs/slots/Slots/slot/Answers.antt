@@ -17,8 +17,8 @@ pub returns-then-slot-lt-MOST_SLOTS-clause-held : goal.returns-then-slot-lt-MOST
 returns-then-slot-lt-MOST_SLOTS-clause-held c =
     is_held-slots c.self.inside.slots c.args.slot ∙ ap (λ (t : Table). nat_lt 0 (holders_of c.args.slot t.holds)) c.self.view_is
 
-pub returns-then-slot-lt-MOST_SLOTS-clause-own : goal.returns-then-slot-lt-MOST_SLOTS-clause-own
-returns-then-slot-lt-MOST_SLOTS-clause-own c = λ worker.
+pub returns-then-slot-lt-MOST_SLOTS-clause-worker : goal.returns-then-slot-lt-MOST_SLOTS-clause-worker
+returns-then-slot-lt-MOST_SLOTS-clause-worker c = λ worker.
     ap (λ (t : Table). not (times_held worker c.args.slot t.holds == 0)) (sym c.self.view_is) ∙ is_of-slots c.self.inside.slots worker c.args.slot
 
 pub returns-then-slot-lt-MOST_SLOTS-clause-mark : goal.returns-then-slot-lt-MOST_SLOTS-clause-mark
@@ -36,8 +36,8 @@ returns-else-slot-lt-MOST_SLOTS-clause-held c =
     sym (ap (λ (s : Slot). is_some (worker_in s)) past) ∙ is_held-slots c.self.inside.slots c.args.slot
     ∙ ap (λ (t : Table). nat_lt 0 (holders_of c.args.slot t.holds)) c.self.view_is
 
-pub returns-else-slot-lt-MOST_SLOTS-clause-own : goal.returns-else-slot-lt-MOST_SLOTS-clause-own
-returns-else-slot-lt-MOST_SLOTS-clause-own c = λ worker.
+pub returns-else-slot-lt-MOST_SLOTS-clause-worker : goal.returns-else-slot-lt-MOST_SLOTS-clause-worker
+returns-else-slot-lt-MOST_SLOTS-clause-worker c = λ worker.
     let past : get_or c.self.inside.slots c.args.slot Free ≡ Free = get_or_past c.self.inside.slots c.args.slot Free (omega (arith, c.self.invariant)) in
     ap (λ (t : Table). not (times_held worker c.args.slot t.holds == 0)) (sym c.self.view_is) ∙ is_of-slots c.self.inside.slots worker c.args.slot ∙ ap (is_of worker) past
 

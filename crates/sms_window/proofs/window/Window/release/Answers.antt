@@ -12,7 +12,7 @@ pub fetch_and-seat-inside-requires : goal.fetch_and-seat-inside-requires
 fetch_and-seat-inside-requires c =
     let i = c.seat.invariant in
     let held : Holds c.seat.inside.seat.me.0 c.args.slot = subst (λ (p : SeatState). Holds p.view c.args.slot) (sym c.seat.view_is) c.requires.held in (
-      ap (λ (p : SeatState). p.window) c.seat.view_is ∙ c.requires.own ∙ sym c.self.view_is,
+      ap (λ (p : SeatState). p.window) c.seat.view_is ∙ c.requires.same_window ∙ sym c.self.view_is,
       (let w = c.self.invariant in omega arith),
       fetch_release_allows _ _ _ _ _ c.args.slot held (mask_is c.args.slot held.0) (live c.seat.inside.seat.me.0.family c.seat.inside.name (ap (λ (w : ℕ). bit_at w c.seat.inside.name) (sym i.family) ∙ i.has_own)),
     )

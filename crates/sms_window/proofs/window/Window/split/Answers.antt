@@ -10,7 +10,7 @@ use Rattle.sms_window.proofs.Calls.{live}
 use Rattle.sms_window.proofs.window.Window.split.Goals as goal
 
 pub load-seat-inside-requires : goal.load-seat-inside-requires
-load-seat-inside-requires c = (ap (λ (p : SeatState). p.window) c.seat.view_is ∙ c.requires.own ∙ sym c.self.view_is, (let i = c.self.invariant in omega arith), load_window_allows _ _ _ _)
+load-seat-inside-requires c = (ap (λ (p : SeatState). p.window) c.seat.view_is ∙ c.requires.same_window ∙ sym c.self.view_is, (let i = c.self.invariant in omega arith), load_window_allows _ _ _ _)
 
 pub split_seat-new-requires : goal.split_seat-new-requires
 split_seat-new-requires c =
@@ -18,7 +18,7 @@ split_seat-new-requires c =
     let (same_table, same_id, (looked, carried)) = c.load-seat-inside.ensures in
     let family = ap (λ (v : View). v.family) looked.after ∙ sym i.family in
     let can = subst (λ (p : SeatState). CanSplit p.view) (sym c.seat.view_is) c.requires.names in (
-      same_table ∙ ap (λ (p : SeatState). p.window) c.seat.view_is ∙ c.requires.own ∙ sym c.self.view_is,
+      same_table ∙ ap (λ (p : SeatState). p.window) c.seat.view_is ∙ c.requires.same_window ∙ sym c.self.view_is,
       (let w = c.self.invariant in omega arith),
       splits_keeps _ _ _ (live _ c.seat.inside.name (ap (λ (w : ℕ). bit_at w c.seat.inside.name) family ∙ i.has_own)) (subst (λ (v : View). CanSplit v) (sym looked.after) can),
     )

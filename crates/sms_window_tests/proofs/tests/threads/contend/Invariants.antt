@@ -1,5 +1,0 @@
-use Rattle.std.proofs.Common.{◌≡◌}
-use Rattle.sms_window_tests.proofs.tests.threads.contend.Given as goal
-
-abbrev pub invariant-loop : goal.invariant-loop
-invariant-loop l = record { own : l.seat.window ≡ l.initial.seat.window }
