@@ -13,4 +13,5 @@ pub mod Laws
 pub mod Streams
 pub mod Turn
 pub mod Faults
+pub mod DeviceErrors
 pub mod Devices

@@ -222,7 +222,7 @@ fn bare(body: Body, octets: &[u8]) -> Result<Body, PduError>
 #[inline(always)]
 fn known_header(octets: &[u8]) -> Result<(Command, Header), PduError>
     ensures told { result ≡ header_told octets.now }
-    ensures long { IfOk result (λ x. 16 ≤ length octets.now) }
+    ensures length { IfOk result (λ x. 16 ≤ length octets.now) }
 {
     let Some(header) = header_of(octets) else {
         return Err(PduError::Short);

@@ -1,9 +1,16 @@
 //! Frames, and what a piece of a stream gives.
 
-ghost use Rattle.std.specs.Prelude.{◌≡◌, ◌↔◌, List, [], ◌∷◌, length, IfSome, IfNone, IsTrue};
+ghost use Rattle.std.specs.Prelude.{◌≡◌, ◌↔◌, List, [], ◌∷◌, length, IfOk, IfSome, IfNone, IsTrue};
+ghost use Rattle.sms_pdu.specs.Borrowed.{owned_pdu};
 ghost use Rattle.sms_pdu.specs.Frame.{IsFrame};
+ghost use Rattle.sms_pdu.specs.Grammar.{Spells};
 ghost use Rattle.sms_pdu.specs.Header.{header_at_front};
+ghost use Rattle.sms_pdu.specs.Reading.{Gives};
+ghost use Rattle.sms_pdu.specs.Size.{size_of};
 
+use crate::borrowed::PduRef;
+use crate::encoding::encode_into;
+use crate::error::PduError;
 use crate::header::{Header, frame_header};
 use std::alloc::Global;
 use std::marker::Model;
@@ -35,6 +42,18 @@ impl Frame {
         Frame { octets }
     }
 
+    /// The frame of a PDU. A PDU that has none is refused as [`crate::encode`] refuses it.
+    pub fn encode(alloc: Global, pdu: &PduRef<'_>) -> Result<Frame, PduError>
+        ensures spelled { IfOk result (Spells (owned_pdu pdu.now)) }
+        ensures exact { Gives length result (size_of (owned_pdu pdu.now)) }
+    {
+        let mut octets = Vec::new(alloc);
+        match encode_into(&mut octets, pdu) {
+            Ok(_size) => Ok(Frame::new(octets)),
+            Err(fault) => Err(fault),
+        }
+    }
+
     /// Its header.
     pub fn header(&self) -> Header
         ensures { result ≡ header_at_front self.now }
@@ -44,7 +63,7 @@ impl Frame {
 
     /// Its octets.
     pub fn as_slice(&self) -> &[u8]
-        ensures same { result.now ≡ self.now }
+        ensures unchanged { result.now ≡ self.now }
         ensures whole { IsFrame result.now }
     {
         self.octets.as_slice()
@@ -52,7 +71,7 @@ impl Frame {
 
     /// Its octets, as the caller's own. Takes no memory.
     pub fn into_vec(self) -> Vec<u8>
-        ensures same { result.items ≡ self }
+        ensures unchanged { result.items ≡ self }
         ensures whole { IsFrame result.items }
     {
         self.octets

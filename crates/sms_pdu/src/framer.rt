@@ -43,7 +43,7 @@ impl Framer {
 
     /// What has come since the last whole frame.
     pub fn rest(&self) -> &[u8]
-        ensures same { result.now ≡ self.now }
+        ensures unchanged { result.now ≡ self.now }
         ensures ended { IsRest result.now }
     {
         self.rest.as_slice()
@@ -51,7 +51,7 @@ impl Framer {
 
     /// What has come since the last whole frame, as the caller's own. Takes no memory.
     pub fn into_rest(self) -> Vec<u8>
-        ensures same { result.items ≡ self }
+        ensures unchanged { result.items ≡ self }
         ensures ended { IsRest result.items }
     {
         self.rest

@@ -78,7 +78,7 @@ pub fn spelling_is_frame()
 /// What was encoded is decoded again as it was; a PDU that has no spelling is refused as `encode`
 /// refuses it, and nothing but want of memory stops any other.
 pub fn decode_of_encode(alloc: Global, pdu: &Pdu) -> Result<Pdu, PduError>
-    ensures same { IfOk result (λ p. p ≡ pdu.now) }
+    ensures unchanged { IfOk result (λ p. p ≡ pdu.now) }
     ensures memory { IsLawful pdu.now → IfErr result (λ e. e ≡ OutOfMemory) }
     ensures refused { (e : PduError) → size_of pdu.now ≡ Err e → result ≡ Err e }
 {
@@ -89,7 +89,7 @@ pub fn decode_of_encode(alloc: Global, pdu: &Pdu) -> Result<Pdu, PduError>
 /// What was decoded is encoded again as it was; octets that spell no PDU are refused as `decode`
 /// refuses them, and nothing but want of memory stops any other.
 pub fn encode_of_decode(alloc: Global, octets: &[u8]) -> Result<Vec<u8>, PduError>
-    ensures same { IfOk result (λ v. v.items ≡ octets.now) }
+    ensures unchanged { IfOk result (λ v. v.items ≡ octets.now) }
     ensures memory { (p : Pdu) → Spells p octets.now → IfErr result (λ e. e ≡ OutOfMemory) }
     ensures refused { (e : PduError) → reading octets.now ≡ Err e → result ≡ Err e }
 {

@@ -7,6 +7,7 @@ mod body;
 mod borrowed;
 mod command;
 mod decoding;
+mod device_error;
 mod encoding;
 mod error;
 mod field;
@@ -35,6 +36,7 @@ pub use command::{
     FIRST_RESPONSE, GENERIC_NACK, Mode, SUBMIT_SM, SUBMIT_SM_RESP, UNBIND, UNBIND_RESP,
 };
 pub use decoding::decode;
+pub use device_error::DeviceError;
 pub use encoding::{encode, encode_into};
 pub use error::PduError;
 pub use field::Field;

@@ -61,8 +61,8 @@ impl MessageId {
 
     /// Its octets.
     pub fn as_slice(&self) -> &[u8]
-        ensures same { result.now ≡ self.now }
-        ensures few { length result.now ≤ longest_id }
+        ensures unchanged { result.now ≡ self.now }
+        ensures bound { length result.now ≤ longest_id }
     {
         &self.octets[..usize::from(self.len)]
     }

@@ -29,7 +29,7 @@ impl Octets {
     /// A copy of these octets, in one allocation, or in none where there are no octets.
     #[inline(always)]
     pub fn copy(alloc: Global, octets: &[u8]) -> Result<Octets, AllocError>
-        ensures same { IfOk result (λ copy. copy ≡ octets.now) }
+        ensures unchanged { IfOk result (λ copy. copy ≡ octets.now) }
         ensures none { octets.now ≡ [] → IsOk result }
     {
         // (Many strings of a message are empty.)
@@ -46,7 +46,7 @@ impl Octets {
     /// `memory` is false, none is asked for, and there are no octets.
     #[inline(always)]
     pub(crate) fn copy_while(alloc: Global, octets: &[u8], memory: &mut bool) -> Octets
-        ensures same { memory.new ≡ true → (memory.old ≡ true) × (result ≡ octets.now) }
+        ensures unchanged { memory.new ≡ true → (memory.old ≡ true) × (result ≡ octets.now) }
         ensures without { memory.new ≡ false → result ≡ [] }
         ensures none { memory.old ≡ true → octets.now ≡ [] → memory.new ≡ true }
     {

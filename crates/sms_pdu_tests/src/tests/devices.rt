@@ -1,7 +1,7 @@
 //! Devices whose errors are counted.
 
 use super::same;
-use sms_pdu::Tap;
+use sms_pdu::{DeviceError, Tap};
 use std::io;
 use std::io::{Error, ErrorKind, Read, Write};
 use std::process::Abort;
@@ -71,4 +71,17 @@ fn a_write_that_takes_nothing_is_counted(rt: HostRuntime) {
     want_counted(&rt, &device, (1, 1));
     assert!(rt; device.put(&[1]).is_err());
     want_counted(&rt, &device, (2, 2));
+}
+
+#[test]
+fn a_device_without_an_error_has_not_failed(rt: HostRuntime) {
+    let mut device = Tap::new(Failing {
+        kinds: &[ErrorKind::WouldBlock],
+    });
+    assert!(rt; DeviceError::of(&device).is_none());
+    assert!(rt; device.read(&mut [0]).is_err());
+    let failed = DeviceError::of(&device);
+    assert!(rt; failed.is_some());
+    assert!(rt; device.read(&mut [0]).is_ok());
+    same(&rt, DeviceError::of(&device), failed);
 }

@@ -67,6 +67,8 @@ fn is_written(rt: &impl Abort, alloc: Global, pdu: &Pdu, octets: &[u8]) {
     same(rt, (pdu.status, pdu.number), (0, 1));
     let again = encoded(rt, alloc, pdu);
     want_octets(rt, again.as_slice(), octets);
+    let frame = had(rt, Frame::encode(alloc, &pdu.as_ref()));
+    want_octets(rt, frame.as_slice(), octets);
 }
 
 // The parameter at this place: its tag and its value.

@@ -2,8 +2,8 @@ use Rattle.std.proofs.Common.{sym, ◌∙◌}
 use Rattle.sms_pdu.proofs.Told.{only_memory, no_value, same_fault, fault_is}
 use Rattle.sms_pdu.proofs.laws.encode_of_decode.Goals as goal
 
-pub returns-in_err-pdu-clause-same : goal.returns-in_err-pdu-clause-same
-returns-in_err-pdu-clause-same c = no_value _ _ c.from_residual.result c.from_residual.ensures.1
+pub returns-in_err-pdu-clause-unchanged : goal.returns-in_err-pdu-clause-unchanged
+returns-in_err-pdu-clause-unchanged c = no_value _ _ c.from_residual.result c.from_residual.ensures.1
 
 pub returns-in_err-pdu-clause-memory : goal.returns-in_err-pdu-clause-memory
 returns-in_err-pdu-clause-memory c = λ p spelled. same_fault c.from_residual.result _ _ c.from_residual.ensures.1 (c.in_err-pdu.ensures.only p spelled).0

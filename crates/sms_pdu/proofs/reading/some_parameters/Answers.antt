@@ -26,7 +26,7 @@ loop-rest-preserved c =
     let shorter = parameter-shorter c.loop-rest.rest.now first c.in_ok-tag.after.now some c.in_ok-tag.ensures in
     let len : length (list ++ first ∷ []) ≡ length list + 1 = length-append list (first ∷ []) in
     let on = goes_on list (length c.args.octets.now) c.loop-rest.rest.now first c.in_ok-tag.after.now (parameters_at c.args.octets.now) some c.loop-rest.invariant.room c.in_ok-tag.ensures c.loop-rest.invariant.so_far in
-    rw (c.in_ok-push.ensures.items, c.in_ok-value.ensures.same) (record { room = rw len (omega (arith, c.loop-rest.invariant.room)); so_far = rw len on })
+    rw (c.in_ok-push.ensures.items, c.in_ok-value.ensures.unchanged) (record { room = rw len (omega (arith, c.loop-rest.invariant.room)); so_far = rw len on })
 
 pub returns : goal.returns
 returns c =
