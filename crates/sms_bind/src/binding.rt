@@ -153,7 +153,7 @@ fn read_first<R: Read>(
     reader: &mut Tap<R>,
 ) -> Result<(Frame, Framer, Frames), BindFault>
     ensures answer { (got : List ℕ) × Consumes (R.remaining (device reader.old)) (R.remaining (device reader.new)) got × IfOk result (λ r. Division got (r.0 ∷ r.2) r.1) × IfErr result (FoundNone got) }
-    ensures few { IfOk result (λ r. length r.2 < 2 ^ 63) }
+    ensures small { IfOk result (λ r. length r.2 < 2 ^ 63) }
     ensures end { result ≡ Err Closed → IsAtEnd (R.remaining (device reader.new)) }
     ensures most { GaveAtMost most_answer (R.remaining (device reader.old)) (R.remaining (device reader.new)) }
     ensures tries { faults_of reader.new ≤ faults_of reader.old + most_tries }

@@ -81,7 +81,7 @@ impl Follower {
     /// Takes note of an answer that was handed on: one that tells of throttling makes the seat try
     /// for a slot, and so many good ones in a row make it give one back.
     pub fn note(&mut self, window: &Window, reply: &Reply)
-        requires own { self.old.now.window ≡ window.now }
+        requires same_window { self.old.now.window ≡ window.now }
         ensures follows { Follows self.old self.new }
         ensures good { self.new.good ≡ good_after reply.now self.old.good }
         ensures takes { is_throttled reply.now ≡ true → Takes self.old self.new }
@@ -105,7 +105,7 @@ impl Follower {
 
     /// Tries once to claim a slot, where fewer than the most are held back.
     fn hold_back(&mut self, window: &Window)
-        requires own { self.old.now.window ≡ window.now }
+        requires same_window { self.old.now.window ≡ window.now }
         ensures follows { Follows self.old self.new }
         ensures takes { Takes self.old self.new }
         ensures good { self.new.good ≡ self.old.good }
@@ -122,7 +122,7 @@ impl Follower {
 
     /// Releases the slot that was claimed last, if one is held back.
     fn give_back(&mut self, window: &Window)
-        requires own { self.old.now.window ≡ window.now }
+        requires same_window { self.old.now.window ≡ window.now }
         ensures follows { Follows self.old self.new }
         ensures gives { Gives self.old self.new }
         ensures good { self.new.good ≡ self.old.good }

@@ -47,7 +47,7 @@ pub fn read_loop<'l, R: Read, W: Write, S: Wait>(
     turns: u64,
 ) -> (ReaderEnd, Result<Down<'l>, DownBefore<'l>>)
     requires turns { turns ≤ 2 ^ 40 }
-    requires own { seat.window ≡ window.now }
+    requires same_window { seat.window ≡ window.now }
     requires limit { IfSome follow (λ limit. (1 ≤ limit) × (limit ≤ most_slots)) }
     ensures answers { HandsOn bound.session (concat bound.frames ++ bound.framer) (R.remaining (device reader.old)) (R.remaining (device reader.new)) (map sent producers.items) (map sent result.0.producers.items) (held_none seat (most_held follow)) result.0 }
     ensures room { LeavesRoom (map sent producers.items) (map sent result.0.producers.items) (map known_free producers.items) (map known_free result.0.producers.items) result.0 }
@@ -87,7 +87,7 @@ fn read_all<R: Read, W: Write, S: Wait>(
     turns: u64,
 ) -> ReaderEnd
     requires turns { turns ≤ 2 ^ 40 }
-    requires own { seat.window ≡ window.now }
+    requires same_window { seat.window ≡ window.now }
     requires limit { IfSome follow (λ limit. (1 ≤ limit) × (limit ≤ most_slots)) }
     ensures answers { HandsOn bound.session (concat bound.frames ++ bound.framer) (R.remaining (device reader.old)) (R.remaining (device reader.new)) (map sent producers.items) (map sent result.producers.items) (held_none seat (most_held follow)) result }
     ensures room { LeavesRoom (map sent producers.items) (map sent result.producers.items) (map known_free producers.items) (map known_free result.producers.items) result }

@@ -44,7 +44,7 @@ impl ReaderState {
         frame: &[u8],
     ) -> Option<ReaderCause>
         requires bound { IsBound self.old.session }
-        requires own { self.old.follower.now.window ≡ context.now.window.now }
+        requires same_window { self.old.follower.now.window ≡ context.now.window.now }
         requires frame { IsFrame frame.now }
         requires within { IsWithin self.old.counts }
         requires room { self.old.counts.frames + 1 < 2 ^ 64 }
@@ -53,7 +53,7 @@ impl ReaderState {
         ensures within { IsWithin self.new.counts }
         ensures frames { self.new.counts.frames ≡ self.old.counts.frames + 1 }
         ensures going { result ≡ None → self.new.session ≡ self.old.session }
-        ensures early { IfSome result (λ c. stretch_of (Some c) ≡ early) }
+        ensures stretch { IfSome result (λ c. stretch_of (Some c) ≡ early) }
         ensures full { result ≢ Some OutOfMemory }
     {
         let deed = self.work(context, frame);
@@ -64,7 +64,7 @@ impl ReaderState {
     /// Does what the session's table asks for.
     fn work<W: Write, S: Wait>(&mut self, context: &ReaderContext<W, S>, frame: &[u8]) -> Deed
         requires bound { IsBound self.old.session }
-        requires own { self.old.follower.now.window ≡ context.now.window.now }
+        requires same_window { self.old.follower.now.window ≡ context.now.window.now }
         requires frame { IsFrame frame.now }
         ensures follows { Follows self.old.follower self.new.follower }
         ensures follow { Follow result self.old.follower self.new.follower }
@@ -95,13 +95,13 @@ impl ReaderState {
 
     /// Brings an answer to the slot that waits for it, and takes note of it where it was handed on.
     fn bring<W, S: Wait>(&mut self, context: &ReaderContext<W, S>, reply: &Reply) -> Search
-        requires own { self.old.follower.now.window ≡ context.now.window.now }
+        requires same_window { self.old.follower.now.window ≡ context.now.window.now }
         ensures follows { Follows self.old.follower self.new.follower }
         ensures follow { Follow (Brought reply.now result) self.old.follower self.new.follower }
         ensures rings { AllZip SameProducer self.old.producers.items self.new.producers.items }
         ensures sends { map sent self.new.producers.items ≡ handed (map sent self.old.producers.items) (entry (Brought reply.now result)) }
         ensures room { TakesRoom (Brought reply.now result) (map known_free self.old.producers.items) (map known_free self.new.producers.items) }
-        ensures same { (self.new.session ≡ self.old.session) × (self.new.counts ≡ self.old.counts) }
+        ensures unchanged { (self.new.session ≡ self.old.session) × (self.new.counts ≡ self.old.counts) }
     {
         let rings = self.producers.as_mut_slice();
         let search = context.line.slots.answer(context.rt, *reply, rings);

@@ -26,15 +26,15 @@ impl ReaderState {
         frames: &[Frame],
     ) -> Option<ReaderCause>
         requires bound { IsBound self.old.session }
-        requires own { self.old.follower.now.window ≡ context.now.window.now }
+        requires same_window { self.old.follower.now.window ≡ context.now.window.now }
         requires within { IsWithin self.old.counts }
         requires room { self.old.counts.frames + length frames.now < 2 ^ 64 }
         ensures follows { Follows self.old.follower self.new.follower }
-        ensures went { (left : List ℕ) × Went (Worked self.old.session result self.old self.new) (concat frames.now) left × (result ≡ None → left ≡ []) }
+        ensures handled { (left : List ℕ) × Went (Worked self.old.session result self.old self.new) (concat frames.now) left × (result ≡ None → left ≡ []) }
         ensures within { IsWithin self.new.counts }
         ensures room { self.new.counts.frames ≤ self.old.counts.frames + length frames.now }
         ensures going { result ≡ None → self.new.session ≡ self.old.session }
-        ensures early { IfSome result (λ c. stretch_of (Some c) ≡ early) }
+        ensures stretch { IfSome result (λ c. stretch_of (Some c) ≡ early) }
         ensures full { result ≢ Some OutOfMemory }
     {
         for frame in frames {
@@ -52,11 +52,11 @@ impl ReaderState {
         held: &mut Vec<u8>,
     ) -> Option<ReaderCause>
         requires bound { IsBound self.old.session }
-        requires own { self.old.follower.now.window ≡ context.now.window.now }
+        requires same_window { self.old.follower.now.window ≡ context.now.window.now }
         requires within { IsWithin self.old.counts }
         requires room { self.old.counts.frames + length held.old.items < 2 ^ 64 }
         ensures follows { Follows self.old.follower self.new.follower }
-        ensures went { Went (Worked self.old.session result self.old self.new) held.old.items held.new.items }
+        ensures handled { Went (Worked self.old.session result self.old self.new) held.old.items held.new.items }
         ensures leaves { Leaves (stretch_of result) held.new.items held.new.items }
         ensures within { IsWithin self.new.counts }
         ensures room { self.new.counts.frames + length held.new.items ≤ self.old.counts.frames + length held.old.items }
@@ -84,17 +84,17 @@ impl ReaderState {
         stream: &[u8],
     ) -> (usize, Option<ReaderCause>)
         requires bound { IsBound self.old.session }
-        requires own { self.old.follower.now.window ≡ context.now.window.now }
+        requires same_window { self.old.follower.now.window ≡ context.now.window.now }
         requires within { IsWithin self.old.counts }
         requires room { self.old.counts.frames + length stream.now < 2 ^ 64 }
         ensures follows { Follows self.old.follower self.new.follower }
         ensures used { result.0 ≤ length stream.now }
-        ensures went { Went (Worked self.old.session result.1 self.old self.new) stream.now (drop result.0 stream.now) }
+        ensures handled { Went (Worked self.old.session result.1 self.old self.new) stream.now (drop result.0 stream.now) }
         ensures within { IsWithin self.new.counts }
         ensures room { self.new.counts.frames ≤ self.old.counts.frames + result.0 }
         ensures rest { result.1 ≡ None → IsRest (drop result.0 stream.now) }
         ensures going { result.1 ≡ None → self.new.session ≡ self.old.session }
-        ensures early { IfSome result.1 (λ c. stretch_of (Some c) ≡ early) }
+        ensures stretch { IfSome result.1 (λ c. stretch_of (Some c) ≡ early) }
         ensures full { result.1 ≢ Some OutOfMemory }
     {
         let mut left = stream;

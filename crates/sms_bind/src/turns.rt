@@ -36,8 +36,8 @@ impl ReaderState {
     ) -> ReaderCause
         requires turns { turns ≤ 2 ^ 40 }
         requires bound { IsBound self.old.session }
-        requires own { self.old.follower.now.window ≡ context.now.window.now }
-        requires few { length frames.now < 2 ^ 63 }
+        requires same_window { self.old.follower.now.window ≡ context.now.window.now }
+        requires small { length frames.now < 2 ^ 63 }
         requires rest { IsRest rest.items }
         requires within { IsWithin self.old.counts }
         requires fresh { self.old.counts.frames ≡ 0 }
@@ -72,7 +72,7 @@ impl ReaderState {
     ) -> ReaderCause
         requires turns { turns ≤ 2 ^ 40 }
         requires bound { IsBound self.old.session }
-        requires own { self.old.follower.now.window ≡ context.now.window.now }
+        requires same_window { self.old.follower.now.window ≡ context.now.window.now }
         requires rest { IsRest held.items }
         requires good { ¬ IsBad held.items }
         requires within { IsWithin self.old.counts }
@@ -111,7 +111,7 @@ impl ReaderState {
         held: &mut Vec<u8>,
     ) -> Option<ReaderCause>
         requires bound { IsBound self.old.session }
-        requires own { self.old.follower.now.window ≡ context.now.window.now }
+        requires same_window { self.old.follower.now.window ≡ context.now.window.now }
         requires within { IsWithin self.old.counts }
         requires piece { length piece.old.items ≡ 65536 }
         requires rest { IsRest held.old.items }

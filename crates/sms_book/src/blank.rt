@@ -52,7 +52,7 @@ pub(crate) fn make_blank(
     workers: usize,
 ) -> Result<Blank, AllocError>
     requires small { AllSmall credits.items }
-    requires few { workers ≤ most_workers }
+    requires bound { workers ≤ most_workers }
     ensures { IfOk result (λ b. (b.credits ≡ credits.items) × (b.book.accounts ≡ length credits.items) × (b.book.workers ≡ workers) × (b.book.opening ≡ credits.items)) }
 {
     let opened = Opened { credits, workers };

@@ -20,7 +20,7 @@ use crate::money::{Move, amounts_after, row_after};
 use crate::name::BookName;
 use crate::rule::{BookRule, Opened, View};
 use crate::share::Shares;
-use crate::steps::{meet, part};
+use crate::steps::{check_in, check_out};
 use crate::till::Till;
 use atomic_table::{Badge, Table};
 use sms_core::{MOST_TOPPED, Row};
@@ -59,7 +59,7 @@ impl<N: BookName> Book<N> {
         ensures book { OnOk result (self.new ≡ slice_set self.old account (row_topped_up n (row_at self.old account))) }
         ensures till { OnOk result (till.new ≡ slice_set till.old account (topped_at till.old account + n)) }
         ensures refused { OnErr result ((self.new ≡ self.old) × (till.new ≡ till.old)) }
-        ensures there { length till.old ≡ length self.old }
+        ensures exists { length till.old ≡ length self.old }
     {
         let accounts = self.accounts();
         prove!(till.accounts() == accounts);
@@ -69,7 +69,7 @@ impl<N: BookName> Book<N> {
         if n > MOST_TOPPED - self.row(account).topped {
             return Err(BookError::AmountTooLarge);
         }
-        self.put_in(till, account, n);
+        self.add_top_up(till, account, n);
         Ok(())
     }
 
@@ -94,8 +94,8 @@ impl<N: BookName> Book<N> {
     /// Tops an account up, in its row and in the till.
     // The till's number comes into the book first: that tells that the till's top-ups are its entry,
     // and so no more than the row's, and nothing wraps. It goes out again with the new top-ups.
-    fn put_in(&mut self, till: &mut Till<N>, account: usize, n: u64)
-        requires there { account < length self.old }
+    fn add_top_up(&mut self, till: &mut Till<N>, account: usize, n: u64)
+        requires exists { account < length self.old }
         requires small { (row_at self.old account).topped + n ≤ most_topped }
         ensures book { self.new ≡ slice_set self.old account (row_topped_up n (row_at self.old account)) }
         ensures till { till.new ≡ slice_set till.old account (topped_at till.old account + n) }
@@ -112,7 +112,7 @@ impl<N: BookName> Book<N> {
             ..
         } = till;
         let table = &table.shared;
-        meet(table, seat, theirs);
+        check_in(table, seat, theirs);
         let row = rows[account];
         let had = topped[account];
         rows[account] = Row {
@@ -121,7 +121,7 @@ impl<N: BookName> Book<N> {
             ..row
         };
         topped[account] = had + n;
-        *theirs = part::<u64, Brand>(table, seat, rows.as_slice(), topped.as_slice());
+        *theirs = check_out::<u64, Brand>(table, seat, rows.as_slice(), topped.as_slice());
     }
 
     /// Reserves so many free credits of an account for the share. `NoAccount` where there is no such
@@ -142,7 +142,7 @@ impl<N: BookName> Book<N> {
         ensures share { OnOk result (share.new ≡ changed share.old account (reserved_more n)) }
         ensures refused { OnErr result ((self.new ≡ self.old) × (share.new ≡ share.old)) }
         ensures alone { OnErr result (N.book.workers ≡ 1 → account < length self.old → IsOfOne (opening_at N.book account) (amounts_at share.old.amounts account) (row_at self.old account)) }
-        ensures there { length share.old.amounts ≡ length self.old }
+        ensures exists { length share.old.amounts ≡ length self.old }
     {
         let accounts = self.accounts();
         prove!(share.accounts() == accounts);
@@ -151,17 +151,17 @@ impl<N: BookName> Book<N> {
         }
         let row = self.row(account);
         if row.free < n {
-            self.seen(share, account);
+            self.row_of(share, account);
             return Err(BookError::NoCredit {
                 free: row.free,
                 needed: n,
             });
         }
         if n > MOST_RETURNED || row.returned + row.reserved > MOST_RETURNED - n {
-            self.seen(share, account);
+            self.row_of(share, account);
             return Err(BookError::AmountTooLarge);
         }
-        self.turn(share, account, Move::Reserve, n);
+        self.move_credits(share, account, Move::Reserve, n);
         Ok(())
     }
 
@@ -170,9 +170,9 @@ impl<N: BookName> Book<N> {
         requires { (0 < n) × (n ≤ (amounts_at share.old.amounts account).reserved) }
         ensures book { self.new ≡ slice_set self.old account (row_charged n (row_at self.old account)) }
         ensures share { share.new ≡ changed share.old account (charged_more n) }
-        ensures there { (account < length self.old) × (length share.old.amounts ≡ length self.old) }
+        ensures exists { (account < length self.old) × (length share.old.amounts ≡ length self.old) }
     {
-        self.turn(share, account, Move::Charge, n);
+        self.move_credits(share, account, Move::Charge, n);
     }
 
     /// Gives so many of the credits that the share holds reserved for the account back to its free
@@ -181,21 +181,21 @@ impl<N: BookName> Book<N> {
         requires { (0 < n) × (n ≤ (amounts_at share.old.amounts account).reserved) }
         ensures book { self.new ≡ slice_set self.old account (row_given_back n (row_at self.old account)) }
         ensures share { share.new ≡ changed share.old account (returned_more n) }
-        ensures there { (account < length self.old) × (length share.old.amounts ≡ length self.old) }
+        ensures exists { (account < length self.old) × (length share.old.amounts ≡ length self.old) }
     {
-        self.turn(share, account, Move::GiveBack, n);
+        self.move_credits(share, account, Move::GiveBack, n);
     }
 
     /// Moves credits of an account, in its row and in the share.
     // The share's number comes into the book first: that tells that what the share has is its entry,
     // and so no more than the row has, and nothing wraps. It goes out again with the new amounts,
     // and the totals move as the row does.
-    fn turn(&mut self, share: &mut Shares<N>, account: usize, what: Move, n: u64)
+    fn move_credits(&mut self, share: &mut Shares<N>, account: usize, what: Move, n: u64)
         requires row { what ≡ Reserve → (account < length self.old) × CanMove what n (row_at self.old account) }
         requires share { what ≢ Reserve → (0 < n) × (n ≤ (amounts_at share.old.amounts account).reserved) }
         ensures book { self.new ≡ slice_set self.old account (moved_row what n (row_at self.old account)) }
         ensures share { share.new ≡ changed share.old account (moved_amounts what n) }
-        ensures there { (account < length self.old) × (length share.old.amounts ≡ length self.old) }
+        ensures exists { (account < length self.old) × (length share.old.amounts ≡ length self.old) }
     {
         let Book {
             rows,
@@ -209,38 +209,38 @@ impl<N: BookName> Book<N> {
             ..
         } = share;
         let table = &table.shared;
-        meet(table, seat, theirs);
+        check_in(table, seat, theirs);
         let row = rows[account];
         let had = amounts[account];
         rows[account] = row_after(row, what, n);
         amounts[account] = amounts_after(had, what, n);
-        *theirs = part::<Amounts, Brand>(table, seat, rows.as_slice(), amounts.as_slice());
+        *theirs = check_out::<Amounts, Brand>(table, seat, rows.as_slice(), amounts.as_slice());
     }
 
     /// The account's row, where there is such an account. What the share has of it is part of the
     /// row, and all of it where the book has one share.
     pub fn look(&mut self, share: &mut Shares<N>, account: usize) -> Option<Row>
-        ensures there { IsSome result ↔ (account < length self.old) }
+        ensures exists { IsSome result ↔ (account < length self.old) }
         ensures row { IfSome result (λ r. (r ≡ row_at self.old account) × IsBalanced r) }
         ensures least { IfSome result (λ r. let a = amounts_at share.old.amounts account in (a.reserved ≤ r.reserved) × (a.charged ≤ r.charged) × (a.returned ≤ r.returned)) }
         ensures alone { N.book.workers ≡ 1 → IfSome result (λ r. IsOfOne (opening_at N.book account) (amounts_at share.old.amounts account) r) }
-        ensures same { (self.new ≡ self.old) × (share.new ≡ share.old) }
+        ensures unchanged { (self.new ≡ self.old) × (share.new ≡ share.old) }
     {
         if account >= self.rows.len() {
             return None;
         }
-        Some(self.seen(share, account))
+        Some(self.row_of(share, account))
     }
 
     /// The account's row.
     // Nothing changes, and yet the share's number comes into the book and goes out again: only a
     // look at the table tells that what the share has is part of the row, or of one share all of it.
-    fn seen(&mut self, share: &mut Shares<N>, account: usize) -> Row
+    fn row_of(&mut self, share: &mut Shares<N>, account: usize) -> Row
         requires { account < length self.old }
         ensures row { (result ≡ row_at self.old account) × IsBalanced result }
         ensures least { let a = amounts_at share.old.amounts account in (a.reserved ≤ result.reserved) × (a.charged ≤ result.charged) × (a.returned ≤ result.returned) }
         ensures alone { N.book.workers ≡ 1 → IsOfOne (opening_at N.book account) (amounts_at share.old.amounts account) result }
-        ensures same { (self.new ≡ self.old) × (share.new ≡ share.old) }
+        ensures unchanged { (self.new ≡ self.old) × (share.new ≡ share.old) }
     {
         let Book {
             rows,
@@ -254,8 +254,8 @@ impl<N: BookName> Book<N> {
             ..
         } = share;
         let table = &table.shared;
-        meet(table, seat, theirs);
-        *theirs = part::<Amounts, Brand>(table, seat, rows.as_slice(), amounts.as_slice());
+        check_in(table, seat, theirs);
+        *theirs = check_out::<Amounts, Brand>(table, seat, rows.as_slice(), amounts.as_slice());
         rows[account]
     }
 }

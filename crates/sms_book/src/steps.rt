@@ -39,7 +39,7 @@ fn take_in(table: &BookTable, book: &mut Badge<View>, holder: &mut Badge<View>) 
 
 /// Takes a holder's number into the book, which tells that what the holder had is its entry, and
 /// that each total is the sum over the entries.
-pub fn meet(table: &BookTable, book: &mut Badge<View>, holder: &mut Badge<View>)
+pub fn check_in(table: &BookTable, book: &mut Badge<View>, holder: &mut Badge<View>)
     requires table { (book.old.table_id ≡ table.now.table_id) × (holder.old.table_id ≡ table.now.table_id) }
     requires words { 0 < table.now.table_id.words }
     requires book { (es : List Entry) × (ts : List Portion) × (book.old.views ≡ Book es ts ∷ []) }
@@ -86,7 +86,7 @@ fn split_off<S: Split<View>>(table: &BookTable, book: &mut Badge<View>) -> Badge
 
 /// Gives the number that was taken in back to its holder, with what it has then, where the book has
 /// these rows.
-pub fn part<H: Holding, C: Change>(
+pub fn check_out<H: Holding, C: Change>(
     table: &BookTable,
     book: &mut Badge<View>,
     rows: &[Row],

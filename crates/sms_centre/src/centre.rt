@@ -59,7 +59,7 @@ impl Centre {
     /// What the centre says to a frame: the octets of each piece. A piece is a whole PDU unless the
     /// script says `cut` or `huge`. An `Err` changes nothing.
     pub fn answer(&mut self, alloc: Global, frame: &Frame) -> Result<Vec<Octets>, AllocError>
-        ensures said { IfOk result (λ v. AllZip IsSaid (said_to self.old (header_at_front frame.now)) v.items) }
+        ensures answers { IfOk result (λ v. AllZip IsSaid (said_to self.old (header_at_front frame.now)) v.items) }
         ensures after { OnOk result (self.new ≡ after_frame self.old (header_at_front frame.now)) }
         ensures err { OnErr result (self.new ≡ self.old) }
     {
@@ -86,7 +86,7 @@ impl Centre {
         said: &mut Vec<Said>,
         out: &mut Vec<u8>,
     ) -> Result<(), AllocError>
-        ensures said { OnOk result (PutsAll (said_to self.old header.now) out.old.items out.new.items) }
+        ensures answers { OnOk result (PutsAll (said_to self.old header.now) out.old.items out.new.items) }
         ensures after { OnOk result (self.new ≡ after_frame self.old header.now) }
         ensures err { OnErr result ((self.new ≡ self.old) × (out.new.items ≡ out.old.items)) }
     {

@@ -31,7 +31,7 @@ impl Held {
         ensures fit { IfSome result (λ n. n ≡ min (length self.old.ring.octets) (length buf.old)) }
         ensures taken { IfSome result (λ n. (take n buf.new ≡ take n self.old.ring.octets) × (self.new.ring ≡ holds_less self.old.ring n)) }
         ensures none { (result ≡ None) ↔ ((self.old.ring.octets ≡ []) × (self.old.closed ≡ false)) }
-        ensures same { result ≡ None → self.new ≡ self.old }
+        ensures unchanged { result ≡ None → self.new ≡ self.old }
         ensures closed { self.new.closed ≡ self.old.closed }
         ensures bound { IfSome result (λ n. n ≤ length buf.new) }
     {

@@ -71,7 +71,7 @@ const DELIVER_NUMBER: u32 = 2;
 
 /// Writes a piece behind what is there. An `Err` changes nothing.
 pub(crate) fn put(alloc: Global, said: &Said, out: &mut Vec<u8>) -> Result<(), AllocError>
-    ensures said { OnOk result (Puts said.now out.old.items out.new.items) }
+    ensures answers { OnOk result (Puts said.now out.old.items out.new.items) }
     ensures err { OnErr result (out.new.items ≡ out.old.items) }
 {
     match *said {
@@ -107,7 +107,7 @@ pub(crate) fn put(alloc: Global, said: &Said, out: &mut Vec<u8>) -> Result<(), A
 
 /// Writes a PDU behind what is there. An `Err` changes nothing.
 fn put_pdu(status: u32, number: u32, body: BodyRef<'_>, out: &mut Vec<u8>) -> Result<(), AllocError>
-    ensures said { OnOk result (Adds (owned_pdu (record { status = status; number = number; body = body.entry })) out.old.items out.new.items) }
+    ensures answers { OnOk result (Adds (owned_pdu (record { status = status; number = number; body = body.entry })) out.old.items out.new.items) }
     ensures err { OnErr result (out.new.items ≡ out.old.items) }
 {
     let pdu = PduRef {
@@ -149,7 +149,7 @@ fn empty_message() -> SmRef<'static>
 
 /// Writes the answer to a bind.
 fn put_bind_resp(mode: Mode, status: u32, number: u32, out: &mut Vec<u8>) -> Result<(), AllocError>
-    ensures said { OnOk result (Puts (BindResp mode status number) out.old.items out.new.items) }
+    ensures answers { OnOk result (Puts (BindResp mode status number) out.old.items out.new.items) }
     ensures err { OnErr result (out.new.items ≡ out.old.items) }
 {
     let system_id = if status == ESME_ROK {
@@ -173,7 +173,7 @@ fn put_answer(
     number: u32,
     out: &mut Vec<u8>,
 ) -> Result<(), AllocError>
-    ensures said { OnOk result (Adds (answer_to submit status number) out.old.items out.new.items) }
+    ensures answers { OnOk result (Adds (answer_to submit status number) out.old.items out.new.items) }
     ensures err { OnErr result (out.new.items ≡ out.old.items) }
 {
     if status != ESME_ROK {
@@ -195,7 +195,7 @@ fn put_answer(
 
 /// Writes the front of the answer with status 0 to submit_sm k.
 fn put_cut(alloc: Global, submit: u64, number: u32, out: &mut Vec<u8>) -> Result<(), AllocError>
-    ensures said { OnOk result (Puts (CutResp submit number) out.old.items out.new.items) }
+    ensures answers { OnOk result (Puts (CutResp submit number) out.old.items out.new.items) }
     ensures err { OnErr result (out.new.items ≡ out.old.items) }
 {
     let before = out.len();

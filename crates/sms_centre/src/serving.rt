@@ -220,7 +220,7 @@ impl Centre {
         writer: &mut Tap<W>,
         buffers: &mut Buffers,
     ) -> Option<Stop>
-        ensures went { (left : List ℕ) × Went (Written self.old self.new result (W.contents (device writer.old)) (W.contents (device writer.new))) buffers.old.held.items left × Leaves (stretch_of result) left buffers.new.held.items }
+        ensures handled { (left : List ℕ) × Went (Written self.old self.new result (W.contents (device writer.old)) (W.contents (device writer.new))) buffers.old.held.items left × Leaves (stretch_of result) left buffers.new.held.items }
         ensures good { result ≡ None → ¬ IsBad buffers.new.held.items }
         ensures piece { buffers.new.piece.items ≡ buffers.old.piece.items }
         ensures cause { (result ≢ Some Ended) × (result ≢ Some ReadFault) × (result ≢ Some Turns) }
@@ -257,9 +257,9 @@ impl Centre {
         out: &mut Vec<u8>,
     ) -> (usize, Option<Stop>)
         ensures used { result.0 ≤ length stream.now }
-        ensures went { Went (Answered self.old self.new result.1 out.old.items out.new.items) stream.now (drop result.0 stream.now) }
+        ensures handled { Went (Answered self.old self.new result.1 out.old.items out.new.items) stream.now (drop result.0 stream.now) }
         ensures rest { result.1 ≡ None → IsRest (drop result.0 stream.now) }
-        ensures early { IfSome result.1 (λ s. stretch_of (Some s) ≡ early) }
+        ensures stretch { IfSome result.1 (λ s. stretch_of (Some s) ≡ early) }
         ensures uncut { result.1 ≢ Some WriteFault }
     {
         let mut left = stream;
@@ -284,9 +284,9 @@ impl Centre {
     ) -> Result<Option<Stop>, AllocError>
         requires frame { IsFrame frame.now }
         ensures answered { IfOk result (λ end. Answered self.old self.new end out.old.items out.new.items (frame.now ∷ [])) }
-        ensures early { IfOk result (λ end. IfSome end (λ s. stretch_of (Some s) ≡ early)) }
+        ensures stretch { IfOk result (λ end. IfSome end (λ s. stretch_of (Some s) ≡ early)) }
         ensures uncut { IfOk result (λ end. end ≢ Some WriteFault) }
-        ensures same { OnErr result ((self.new ≡ self.old) × (out.new.items ≡ out.old.items)) }
+        ensures unchanged { OnErr result ((self.new ≡ self.old) × (out.new.items ≡ out.old.items)) }
     {
         let header = frame_header(frame);
         let end = self.end_at(&header);
@@ -299,7 +299,7 @@ impl Centre {
     /// Why the connection ends after a frame with this header, if it does.
     fn end_at(&self, header: &Header) -> Option<Stop>
         ensures at { brought result ≡ brought_by self.now header.now }
-        ensures early { IfSome result (λ s. stretch_of (Some s) ≡ early) }
+        ensures stretch { IfSome result (λ s. stretch_of (Some s) ≡ early) }
         ensures uncut { result ≢ Some WriteFault }
     {
         match header.command {
@@ -313,7 +313,7 @@ impl Centre {
 /// Whether a treatment ends the connection.
 fn hangs_up(treatment: Treatment) -> Option<Stop>
     ensures up { brought result ≡ hung_up_by treatment }
-    ensures early { IfSome result (λ s. stretch_of (Some s) ≡ early) }
+    ensures stretch { IfSome result (λ s. stretch_of (Some s) ≡ early) }
     ensures uncut { result ≢ Some WriteFault }
 {
     match treatment {

@@ -67,16 +67,16 @@ fn throttling_is_followed(rt: HostRuntime) -> Result<(), Fail> {
 
 // The seat gets this slot.
 fn claim(rt: &impl Abort, window: &Window, seat: &mut WindowSeat, slot: u32)
-    requires own { seat.old.window ≡ window.now }
-    ensures own { seat.new.window ≡ seat.old.window }
+    requires same_window { seat.old.window ≡ window.now }
+    ensures same_window { seat.new.window ≡ seat.old.window }
 {
     same(rt, window.try_claim(seat), Claim::Got(slot));
 }
 
 // The seat holds this slot, and releases it.
 fn release(rt: &impl Abort, window: &Window, seat: &mut WindowSeat, slot: u32)
-    requires own { seat.old.window ≡ window.now }
-    ensures own { seat.new.window ≡ seat.old.window }
+    requires same_window { seat.old.window ≡ window.now }
+    ensures same_window { seat.new.window ≡ seat.old.window }
 {
     assert!(rt; seat.holds(slot));
     window.release(seat, slot);

@@ -45,7 +45,7 @@ returns-clause-answers g c =
     let s = c.args.bound.session in
     let rings = map sent c.args.producers.items in
     let begun : concat c.as_slice.result.now ++ c.into_rest-rest.result.items ≡ concat c.args.bound.frames ++ c.args.bound.framer =
-    ap (λ fs. concat fs ++ c.into_rest-rest.result.items) c.as_slice.ensures ∙ ap (λ (l : List ℕ). concat c.args.bound.frames ++ l) c.into_rest-rest.ensures.same in
+    ap (λ fs. concat fs ++ c.into_rest-rest.result.items) c.as_slice.ensures ∙ ap (λ (l : List ℕ). concat c.args.bound.frames ++ l) c.into_rest-rest.ensures.unchanged in
     let a : ReaderState = record { session = s; producers = c.args.producers; counts = c.new-2.result; follower = c.in-Ok.follower } in
     let held : Held = held_none c.args.seat (most_held c.args.follow) in
     let first : c.in-Ok.follower ≡ held = c.in-Ok.ensures.ok ∙ ap (λ (n : ℕ). held_none c.args.seat n) c.most_of.ensures in

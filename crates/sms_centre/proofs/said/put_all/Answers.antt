@@ -9,4 +9,4 @@ loop-said-preserved c =
     let i = c.loop-said.said-index in
     let ss = c.args.saids.now in
     let low : i < length ss = search rules in
-    put_next ss i (BindResp Transmitter 0 0) c.args.out.now.items c.loop-said.out.items c.put.new.out.items low c.loop-said.invariant c.in_ok-put.ensures.said
+    put_next ss i (BindResp Transmitter 0 0) c.args.out.now.items c.loop-said.out.items c.put.new.out.items low c.loop-said.invariant c.in_ok-put.ensures.answers

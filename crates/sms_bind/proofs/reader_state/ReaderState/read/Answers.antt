@@ -15,14 +15,14 @@ use Rattle.sms_bind.proofs.reader_state.ReaderState.read.Goals as goal
 
 pub returns-in-Some-clause-reads : goal.returns-in-Some-clause-reads
 returns-in-Some-clause-reads g c =
-    let (left, went, whole) = c.in-Some.ensures.went in
+    let (left, went, whole) = c.in-Some.ensures.handled in
     let a = c.args.self.now in
     let end : Option ReaderCause = Some c.in-Some.cause in
-    reads_early (Worked a.session end a c.work_all.new.self) (concat c.args.frames.now) left c.args.rest.items [] (g.R.Read.remaining (device c.args.reader.now)) (stretch_of end) went c.in-Some.ensures.early
+    reads_early (Worked a.session end a c.work_all.new.self) (concat c.args.frames.now) left c.args.rest.items [] (g.R.Read.remaining (device c.args.reader.now)) (stretch_of end) went c.in-Some.ensures.stretch
 
 pub returns-then-is_bad-clause-reads : goal.returns-then-is_bad-clause-reads
 returns-then-is_bad-clause-reads g c =
-    let (left, went, whole) = c.in_default.ensures.went in
+    let (left, went, whole) = c.in_default.ensures.handled in
     let a = c.args.self.now in
     let b = c.work_all.new.self in
     let s = a.session in
@@ -34,7 +34,7 @@ returns-then-is_bad-clause-reads g c =
 
 pub returns-clause-reads : goal.returns-clause-reads
 returns-clause-reads g c =
-    let (left, went, whole) = c.in_default.ensures.went in
+    let (left, went, whole) = c.in_default.ensures.handled in
     let a = c.args.self.now in
     let b = c.work_all.new.self in
     let d = c.read_turns.new.self in
@@ -49,16 +49,16 @@ returns-clause-reads g c =
 
 pub returns-in-Some-clause-turned : goal.returns-in-Some-clause-turned
 returns-in-Some-clause-turned g c =
-    turned_none _ _ _ _ (not_early c.in-Some.cause Turns c.in-Some.ensures.early refl)
+    turned_none _ _ _ _ (not_early c.in-Some.cause Turns c.in-Some.ensures.stretch refl)
 
 pub returns-then-is_bad-clause-turned : goal.returns-then-is_bad-clause-turned
 returns-then-is_bad-clause-turned g c = turned_none _ _ _ _ (λ e. absurd cc)
 
 pub returns-in-Some-clause-stopped : goal.returns-in-Some-clause-stopped
-returns-in-Some-clause-stopped g c = λ e. absurd (not_early c.in-Some.cause Stopped c.in-Some.ensures.early refl e)
+returns-in-Some-clause-stopped g c = λ e. absurd (not_early c.in-Some.cause Stopped c.in-Some.ensures.stretch refl e)
 
 pub returns-in-Some-clause-full : goal.returns-in-Some-clause-full
 returns-in-Some-clause-full g c = λ bad e. c.in-Some.ensures.full (ap (λ x. Some x) e)
 
 pub returns-in-Some-clause-took : goal.returns-in-Some-clause-took
-returns-in-Some-clause-took g c = λ room e. absurd (not_early c.in-Some.cause Turns c.in-Some.ensures.early refl e)
+returns-in-Some-clause-took g c = λ room e. absurd (not_early c.in-Some.cause Turns c.in-Some.ensures.stretch refl e)

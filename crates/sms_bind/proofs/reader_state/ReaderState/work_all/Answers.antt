@@ -15,8 +15,8 @@ loop-frame-init g c = record {
   room = omega arith;
 }
 
-pub returns-in-Some-clause-went : goal.returns-in-Some-clause-went
-returns-in-Some-clause-went g c =
+pub returns-in-Some-clause-handled : goal.returns-in-Some-clause-handled
+returns-in-Some-clause-handled g c =
     let i = c.loop-frame.frame-index in
     let f = c.as_slice.result.now in
     let fs = c.args.frames.now in
@@ -26,7 +26,7 @@ returns-in-Some-clause-went g c =
     let s = a.session in
     let end : Option ReaderCause = Some c.in-Some.cause in
     let after = concat (drop (i + 1) fs) in
-    let more = frames_from fs i c.frame-item.result (search rules) c.frame-item.is ∙ ap (λ (l : List ℕ). l ++ after) (sym c.as_slice.ensures.same) in
+    let more = frames_from fs i c.frame-item.result (search rules) c.frame-item.is ∙ ap (λ (l : List ℕ). l ++ after) (sym c.as_slice.ensures.unchanged) in
     let one : Worked s end b d (f ∷ []) = subst (λ x. Worked x end b d (f ∷ [])) c.loop-frame.invariant.same c.in-Some.ensures.worked in (
       after,
       went_frame (Worked s None a b) (Worked s end a d) (concat fs) (concat (drop i fs)) f after c.loop-frame.invariant.went more c.as_slice.ensures.whole (λ hs w. worked_more s c.requires.bound end a b d hs (f ∷ []) w one),
@@ -43,7 +43,7 @@ loop-frame-preserved g c =
     let d = c.go.new.self in
     let s = a.session in
     let after = concat (drop (i + 1) fs) in
-    let more = frames_from fs i c.frame-item.result (search rules) c.frame-item.is ∙ ap (λ (l : List ℕ). l ++ after) (sym c.as_slice.ensures.same) in
+    let more = frames_from fs i c.frame-item.result (search rules) c.frame-item.is ∙ ap (λ (l : List ℕ). l ++ after) (sym c.as_slice.ensures.unchanged) in
     let one : Worked s None b d (f ∷ []) = subst (λ x. Worked x None b d (f ∷ [])) c.loop-frame.invariant.same c.in_default.ensures.worked in
     record {
       follows = follows_on a.follower b.follower d.follower c.loop-frame.invariant.follows c.go.ensures.follows;

@@ -15,8 +15,8 @@ loop-length-init g c = record {
   room = omega arith;
 }
 
-pub returns-in-Some-go-clause-went : goal.returns-in-Some-go-clause-went
-returns-in-Some-go-clause-went g c =
+pub returns-in-Some-go-clause-handled : goal.returns-in-Some-go-clause-handled
+returns-in-Some-go-clause-handled g c =
     let a = c.args.self.now in
     let b = c.loop-length.self in
     let d = c.go.new.self in

@@ -9,8 +9,8 @@ use Rattle.sms_centre.specs.Stops.{Answered, Written, stretch_of}
 use Rattle.sms_centre.proofs.Talks.{written_all, uncut}
 use Rattle.sms_centre.proofs.centre.Centre.answer_held.Goals as goal
 
-pub returns-in-Some-clause-went : goal.returns-in-Some-clause-went
-returns-in-Some-clause-went g c =
+pub returns-in-Some-clause-handled : goal.returns-in-Some-clause-handled
+returns-in-Some-clause-handled g c =
     let p = c.args.self.now in
     let q = c.answer_stream-used.new.self in
     let why : Option Stop = Some c.in-Some.stop in

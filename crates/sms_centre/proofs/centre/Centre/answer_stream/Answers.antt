@@ -32,8 +32,8 @@ loop-length-preserved c =
       fits = (let k = c.loop-length.invariant.fits in omega (arith, k, long));
     }
 
-pub returns-in-Ok-clause-went : goal.returns-in-Ok-clause-went
-returns-in-Ok-clause-went c =
+pub returns-in-Ok-clause-handled : goal.returns-in-Ok-clause-handled
+returns-in-Ok-clause-handled c =
     let p = c.args.self.now in
     let q = c.loop-length.self in
     let z = c.answer_frame.new.self in

@@ -5,7 +5,7 @@ use Rattle.sms_book.specs.declared.rule.View.TheVariants.{Book, Lent, Holder}
 use Rattle.sms_book.specs.Rule.{away}
 use Rattle.sms_book.specs.Sums.{MoveBy}
 use Rattle.sms_book.proofs.Moves.{splits}
-use Rattle.sms_book.proofs.steps.part.Goals as goal
+use Rattle.sms_book.proofs.steps.check_out.Goals as goal
 
 pub split_off-requires-clause-allowed : goal.split_off-requires-clause-allowed
 split_off-requires-clause-allowed g c =

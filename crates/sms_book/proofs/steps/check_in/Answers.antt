@@ -1,6 +1,6 @@
 use Rattle.std.proofs.Common.{[], ◌∷◌, ◌∙◌, ap, rules}
 use Rattle.sms_book.proofs.Moves.{tells_as}
-use Rattle.sms_book.proofs.steps.meet.Goals as goal
+use Rattle.sms_book.proofs.steps.check_in.Goals as goal
 
 pub load-requires : goal.load-requires
 load-requires c =

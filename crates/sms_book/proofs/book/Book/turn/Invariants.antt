@@ -1,6 +1,0 @@
-use Rattle.std.specs.Prelude.{map}
-use Rattle.sms_book.specs.Portions.{of_worker, of_row}
-use Rattle.sms_book.proofs.book.Book.turn.Given as goal
-
-abbrev pub ghosts-part : goal.ghosts-part
-ghosts-part g a = record { portions = map of_worker a.new.now; totals = map of_row a.rows.now }
