@@ -13,7 +13,7 @@ use Rattle.sms_message.specs.declared.ends.SegmentEnd.{SegmentEnd}
 use Rattle.sms_message.specs.declared.ends.MessageEnd.{MessageEnd}
 use Rattle.sms_message.specs.declared.ends.MessageResult.{MessageResult}
 use Rattle.sms_message.specs.declared.ends.MessageResult.TheVariants.{Sent, Refused}
-use Rattle.sms_message.specs.Ends.{credits, phase_of}
+use Rattle.sms_message.specs.Ends.{phase_of}
 use Rattle.sms_message.specs.Submits.{HasAddresses, message_parts}
 use Rattle.sms_message.specs.Admission.{IsKnown, IsShort, IsRefusalOf}
 

@@ -23,13 +23,19 @@ HasAddresses m = ((source : Address) × IsSource (string_bytes m.source) source)
 abbrev pub coded_text : Message → Coded
 coded_text m = chosen (chars (string_bytes m.text))
 
--- the message's index counts its references, of either kind
-abbrev pub reference_of : Rules → Message → Reference
-reference_of rules m = if rules.long_reference then Long (m.index % 65536) else Short (m.index % 256)
+-- the reference that a message's parts have in common, of 16 bits where it is long, else of 8: its index counts them
+abbrev pub reference_for : Bool → Message → Reference
+reference_for long m = if long then Long (m.index % 65536) else Short (m.index % 256)
 
--- the parts that the message is sent as
+abbrev pub reference_of : Rules → Message → Reference
+reference_of rules m = reference_for rules.long_reference m
+
+-- the parts that the message is sent as, with a reference of that kind
+abbrev pub parts_for : Bool → Message → List Part
+parts_for long m = parts_of (coded_text m) (reference_for long m)
+
 abbrev pub message_parts : Rules → Message → List Part
-message_parts rules m = parts_of (coded_text m) (reference_of rules m)
+message_parts rules m = parts_for rules.long_reference m
 
 -- a receipt of the delivery is asked for (5.2.17)
 abbrev pub registered : Bool → ℕ

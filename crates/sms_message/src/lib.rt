@@ -1,14 +1,16 @@
-//! Messages, the rules that they are sent by, and what became of them.
+//! Messages, the rules that they are sent by, the checks that admit them, and what became of them.
 
 #![tactic(auto)]
 
 mod address;
+mod admission;
 mod ends;
 mod message;
 mod rules;
 mod user_data;
 
 pub use address::{AddressRef, destination, good_destination, good_source, source};
+pub use admission::{cut_message, has_addresses, is_known, part_cost, part_count, reference_for};
 pub use ends::{
     Attempt, Attempts, MessageEnd, MessageRefusal, MessageResult, Outcome, SegmentEnd, Segments,
 };
