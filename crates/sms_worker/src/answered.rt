@@ -32,7 +32,7 @@ impl Answered {
     /// Expires the slot of an open request. False where it is answered: that counts.
     pub fn expire<R: Wait>(&mut self, slots: &SlotRow, rt: &R, request: Open) -> bool
         requires slot { request.slot < most_slots }
-        requires few { self.old.count < 64 }
+        requires bound { self.old.count < 64 }
         ensures expired { result ≡ true → self.new.count ≡ self.old.count }
         ensures answered { result ≡ false → self.new.count ≡ self.old.count + 1 }
     {

@@ -63,7 +63,7 @@ pub(crate) const DRAWS: u32 = 1000;
 
 /// Draws a sequence_number of the seat's window, in at most 1,000 tries.
 pub fn draw(window: &Window, seat: &mut WindowSeat) -> Number
-    requires own { seat.old.window ≡ window.now }
+    requires same_window { seat.old.window ≡ window.now }
     ensures window { seat.new.window ≡ seat.old.window }
     ensures slots { seat.new.view.slots ≡ seat.old.view.slots }
     ensures drawn { Draws seat.old.view result seat.new.view }
@@ -195,7 +195,7 @@ fn try_send<N: BookName, W: Write, G: Gate, K: Clock, R: Wait>(
     carried: &UserData,
     attempts: &mut Vec<Attempt>,
 ) -> Tried
-    requires own { seat.old.window ≡ context.now.window.now }
+    requires same_window { seat.old.window ≡ context.now.window.now }
     requires slot { slot < most_slots }
     requires addresses { HasAddresses message.now }
     ensures window { seat.new.window ≡ seat.old.window }
@@ -249,7 +249,7 @@ pub(crate) fn start<N: BookName, W: Write, G: Gate, K: Clock, R: Wait>(
     carried: &UserData,
     attempts: &mut Vec<Attempt>,
 ) -> Tried
-    requires own { seat.old.window ≡ context.now.window.now }
+    requires same_window { seat.old.window ≡ context.now.window.now }
     requires room { vec_len opened.old < vec_capacity opened.old }
     requires addresses { HasAddresses message.now }
     ensures window { seat.new.window ≡ seat.old.window }

@@ -79,10 +79,10 @@ pub fn frame_of(alloc: Global, pdu: &PduRef<'_>) -> Result<Frame, NoMemory>
 
 /// Makes room in a list for the attempt with this number, and for no other: most segments are sent once.
 pub fn make_room(attempts: &mut Vec<Attempt>, number: u32) -> Result<(), NoMemory>
-    ensures same { attempts.new.items ≡ attempts.old.items }
+    ensures unchanged { attempts.new.items ≡ attempts.old.items }
     ensures room { OnOk result (vec_len attempts.new < vec_capacity attempts.new) }
     ensures no_more { vec_capacity attempts.new ≤ max (vec_capacity attempts.old) (vec_len attempts.old + 1) }
-    ensures there { vec_len attempts.old < vec_capacity attempts.old → IsOk result }
+    ensures exists { vec_len attempts.old < vec_capacity attempts.old → IsOk result }
     ensures number { IfErr result (λ no. no.number ≡ number) }
 {
     match attempts.reserve_exact(1) {

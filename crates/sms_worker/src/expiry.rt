@@ -55,7 +55,7 @@ impl<N: BookName, C: Call> Run<'_, N, C> {
     ) -> bool
         requires window { context.now.window.now ≡ C.start.seat.window }
         requires waits { answered.old.count < length self.old.opened }
-        requires few { answered.old.count < 64 }
+        requires bound { answered.old.count < 64 }
         ensures heard { self.new.heard ≡ self.old.heard }
         ensures expired { result ≡ true → ExpiresAt answered.old.count self.old self.new × (answered.new.count ≡ answered.old.count) }
         ensures left { result ≡ false → (self.new ≡ self.old) × (answered.new.count ≡ answered.old.count + 1) }

@@ -74,7 +74,7 @@ pub fn not_ready<G: Gate>(gate: &G, worker: usize) -> Option<NotReady>
 
 /// Claims a slot of the seat's window, in one try.
 pub fn claim(window: &Window, seat: &mut WindowSeat) -> Result<u32, NoSlot>
-    requires own { seat.old.window ≡ window.now }
+    requires same_window { seat.old.window ≡ window.now }
     ensures window { seat.new.window ≡ seat.old.window }
     ensures got { IfOk result (λ slot. GotSlot seat.old.view slot seat.new.view) }
     ensures found { IfErr result (λ r. seat.new.view ≡ met_with seat.old.view r.found) }
@@ -88,7 +88,7 @@ pub fn claim(window: &Window, seat: &mut WindowSeat) -> Result<u32, NoSlot>
 
 /// Draws a sequence_number of the seat's window.
 pub fn draw_one(window: &Window, seat: &mut WindowSeat) -> Drawing
-    requires own { seat.old.window ≡ window.now }
+    requires same_window { seat.old.window ≡ window.now }
     ensures window { seat.new.window ≡ seat.old.window }
     ensures slots { seat.new.view.slots ≡ seat.old.view.slots }
     ensures drawn { Draws seat.old.view (number_of result) seat.new.view }

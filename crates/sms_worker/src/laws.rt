@@ -31,7 +31,7 @@ pub fn charges_are_answered()
 pub fn received_is_prefix(producer: &mut Producer<Reply>, consumer: &mut Consumer<Reply>)
     requires { IsPair producer.old consumer.old }
     ensures prefix { IsPrefix (received consumer.new) (sent producer.new) }
-    ensures same { (received consumer.new ≡ received consumer.old) × (sent producer.new ≡ sent producer.old) }
+    ensures unchanged { (received consumer.new ≡ received consumer.old) × (sent producer.new ≡ sent producer.old) }
     ensures pair { IsPair producer.new consumer.new }
 {
     let _seen = consumer.slots_beside(producer);

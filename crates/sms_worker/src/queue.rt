@@ -150,7 +150,7 @@ impl Queues {
     )
         ensures waits { 1 ≤ attempts → attempts ≤ 10 → (ws : List Waiting) → SpellsAt texts.old.items self.old.all (attempts - 1) ws → IsKept texts.old.items place → IsOutside place ws → SpellsAt texts.new.items self.new.all (attempts - 1) (ws ++ record { place = place; due_ms = due_ms } ∷ []) }
         ensures apart { (k : ℕ) (ws : List Waiting) → k + 1 ≢ attempts → SpellsAt texts.old.items self.old.all k ws → IsOutside place ws → IsAway (last_in self.old.all (attempts - 1)) ws → SpellsAt texts.new.items self.new.all k ws }
-        ensures same { map carried texts.new.items ≡ map carried texts.old.items }
+        ensures unchanged { map carried texts.new.items ≡ map carried texts.old.items }
         ensures room { (vec_len texts.new ≡ vec_len texts.old) × (vec_capacity texts.new ≡ vec_capacity texts.old) }
         ensures last { 1 ≤ attempts → attempts ≤ 10 → last_in self.new.all (attempts - 1) ≡ Some place }
         ensures others { (k : ℕ) → k + 1 ≢ attempts → slice_get self.new.all k ≡ slice_get self.old.all k }

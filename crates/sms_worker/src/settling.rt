@@ -93,7 +93,7 @@ impl<N: BookName, C: Call> Run<'_, N, C> {
         ensures heard { self.new.heard ≡ self.old.heard }
         ensures swept { SweptAt C.start.rules.policy.attempts place.message place.part self.old.ends self.new.ends }
         ensures in_place { InPlace self.old.ends self.new.ends }
-        ensures long { length self.new.ends ≡ length self.old.ends }
+        ensures length { length self.new.ends ≡ length self.old.ends }
         ensures left { (self.new.queues ≡ self.old.queues) × (self.new.next ≡ self.old.next) }
         ensures texts { LeavesTexts place.message self.old.texts self.new.texts }
     {
@@ -120,7 +120,7 @@ impl<N: BookName, C: Call> Run<'_, N, C> {
         decision: Decision,
     ) -> Option<Reading>
         requires sent { WasSent self.old.ends place }
-        ensures same { (self.new.heard ≡ self.old.heard) × (self.new.ends ≡ self.old.ends) }
+        ensures unchanged { (self.new.heard ≡ self.old.heard) × (self.new.ends ≡ self.old.ends) }
         ensures waits { (ms : ℕ) → decision ≡ RetryAfter ms → 1 ≤ attempts → attempts ≤ 10 → last_in self.new.queues (attempts - 1) ≡ Some place }
         ensures opened { self.new.opened ≡ self.old.opened }
         ensures due { IfSome result (λ at. (ms : ℕ) × (decision ≡ RetryAfter ms) × (1 ≤ attempts → attempts ≤ 10 → WaitsLast self.old.texts self.old.queues (attempts - 1) (record { place = place; due_ms = due_after at.at_ms ms }) self.new.texts self.new.queues)) }
@@ -156,7 +156,7 @@ impl<N: BookName, C: Call> Run<'_, N, C> {
         ensures heard { self.new.heard ≡ self.old.heard }
         ensures swept { SweptAt C.start.rules.policy.attempts place.message place.part self.old.ends self.new.ends }
         ensures in_place { InPlace self.old.ends self.new.ends }
-        ensures long { length self.new.ends ≡ length self.old.ends }
+        ensures length { length self.new.ends ≡ length self.old.ends }
         ensures left { (self.new.queues ≡ self.old.queues) × (self.new.next ≡ self.old.next) }
         ensures texts { self.new.texts ≡ self.old.texts }
     {
@@ -246,7 +246,7 @@ impl<N: BookName, C: Call> Run<'_, N, C> {
         requires window { context.now.window.now ≡ C.start.seat.window }
         requires rules { context.now.rules.now ≡ C.start.rules }
         requires turn { HasTurn self.old.ends self.old.next place }
-        requires few { length self.old.opened < C.start.rules.depth }
+        requires bound { length self.old.opened < C.start.rules.depth }
         ensures heard { self.new.heard ≡ self.old.heard }
         ensures tried { IsTry C.start.rules.policy.attempts result place self.old self.new }
     {

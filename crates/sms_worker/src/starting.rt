@@ -73,7 +73,7 @@ impl<N: BookName, C: Call> Run<'_, N, C> {
     // The segment of the last message that is to be sent next.
     pub(crate) fn next_part(&self) -> Option<SegmentPlace>
         ensures next { IfSome result (IsNext self.now.ends self.now.next) }
-        ensures there { IfSome result (IsThere self.now.ends) }
+        ensures exists { IfSome result (IsThere self.now.ends) }
         ensures none { result ≡ None → ¬ HasNext self.now.ends self.now.next }
     {
         let begun = self.ends.len();
@@ -109,7 +109,7 @@ impl<N: BookName, C: Call> Run<'_, N, C> {
 
     // The segment that was found there was tried: another is the first of its queue, or the next.
     fn advance(&mut self, source: Source)
-        ensures same { (self.new.heard ≡ self.old.heard) × (self.new.ends ≡ self.old.ends) × (self.new.texts ≡ self.old.texts) }
+        ensures unchanged { (self.new.heard ≡ self.old.heard) × (self.new.ends ≡ self.old.ends) × (self.new.texts ≡ self.old.texts) }
         ensures next { source ≡ Next → (self.new.next ≡ min (self.old.next + 1) (2 ^ 64 - 1)) × (self.new.queues ≡ self.old.queues) }
         ensures taken { (k : ℕ) → source ≡ Queue k → (self.new.next ≡ self.old.next) × IsTaken self.old.texts k self.old.queues self.new.queues }
     {
@@ -128,7 +128,7 @@ impl<N: BookName, C: Call> Run<'_, N, C> {
     ) -> Started
         requires window { context.now.window.now ≡ C.start.seat.window }
         requires rules { context.now.rules.now ≡ C.start.rules }
-        requires few { length self.old.opened < C.start.rules.depth }
+        requires bound { length self.old.opened < C.start.rules.depth }
         ensures heard { self.new.heard ≡ self.old.heard }
         ensures step { IsStep C.start now.at_ms result self.old self.new }
     {

@@ -101,7 +101,7 @@ impl Texts {
 
     /// The user data of a part, if it is there still.
     pub fn part(&self, part: usize) -> Option<&UserData>
-        ensures there { IfSome result (λ there. slice_get (carried self.now) part ≡ Some there.now) }
+        ensures exists { IfSome result (λ there. slice_get (carried self.now) part ≡ Some there.now) }
         ensures gone { IfNone result (slice_get (carried self.now) part ≡ None) }
     {
         if part >= self.parts.len() {

@@ -50,7 +50,7 @@ impl<N: BookName, C: Call> Run<'_, N, C> {
     pub(crate) fn sees_closed(&mut self) -> bool
         ensures is { result ≡ self.new.closed }
         ensures stays { IsTrue self.old.closed → IsTrue self.new.closed }
-        ensures same { (self.new.heard ≡ self.old.heard) × (self.new.ends ≡ self.old.ends) }
+        ensures unchanged { (self.new.heard ≡ self.old.heard) × (self.new.ends ≡ self.old.ends) }
         ensures only { self.new ≡ record self.old { closed = self.new.closed } }
     {
         self.closed.look()
@@ -60,7 +60,7 @@ impl<N: BookName, C: Call> Run<'_, N, C> {
     fn close_line(&mut self, taken: u64)
         requires all { taken ≡ C.start.rules.turns }
         ensures closed { IsTrue self.new.closed }
-        ensures same { (self.new.heard ≡ self.old.heard) × (self.new.ends ≡ self.old.ends) }
+        ensures unchanged { (self.new.heard ≡ self.old.heard) × (self.new.ends ≡ self.old.ends) }
         ensures only { self.new ≡ record self.old { closed = true } }
     {
         self.closed.turns_are_over(taken);
@@ -165,7 +165,7 @@ impl<N: BookName, C: Call> Run<'_, N, C> {
     )
         requires before { SettledTo C.start.rules.policy.attempts message 0 self.old.ends }
         ensures heard { self.new.heard ≡ self.old.heard }
-        ensures long { length self.new.ends ≡ length self.old.ends }
+        ensures length { length self.new.ends ≡ length self.old.ends }
         ensures after { SettledTo C.start.rules.policy.attempts (message + 1) 0 self.new.ends }
     {
         let count = self.count(message);
@@ -205,7 +205,7 @@ impl<N: BookName, C: Call> Run<'_, N, C> {
 
     fn sweep<W, G, K, R: Wait>(&mut self, context: &WorkerContext<N, W, G, K, R>)
         ensures heard { self.new.heard ≡ self.old.heard }
-        ensures long { length self.new.ends ≡ length self.old.ends }
+        ensures length { length self.new.ends ≡ length self.old.ends }
         ensures settled { SettledTo C.start.rules.policy.attempts (length self.old.ends) 0 self.new.ends }
     {
         let begun = self.ends.len();

@@ -65,7 +65,7 @@ fn release_all<N: BookName, W, G, K, R: Wait>(
     seat: &mut WindowSeat,
     mut opened: Vec<Open>,
 )
-    requires own { seat.old.window ≡ context.now.window.now }
+    requires same_window { seat.old.window ≡ context.now.window.now }
     requires open { (base : ℕ) × IsOpen base (slots_of opened.items) seat.old.view.slots }
     ensures window { seat.new.window ≡ seat.old.window }
     ensures slots { (base : ℕ) → IsOpen base (slots_of opened.items) seat.old.view.slots → seat.new.view.slots ≡ base }
@@ -209,7 +209,7 @@ impl<N: BookName> ReadyWorker<N> {
         clock: &K,
         pause: &P,
     ) -> (WorkerEnd<N>, Option<Down<'l>>)
-        requires own { self.worker.seat.window ≡ window.now }
+        requires same_window { self.worker.seat.window ≡ window.now }
         requires room { rules.now.depth ≤ self.room }
         // Each message has its end, in order: its result, and of each of its parts the cost, the receipts and the outcome.
         ensures each { AllZip (IsEndOf rules.now (length self.worker.shares.amounts)) self.messages result.0.ends.items }
@@ -272,7 +272,7 @@ pub fn run_worker<'l, N: BookName, W: Write, G: Gate, K: Clock, P: Pause, R: Wai
     clock: &K,
     pause: &P,
 ) -> Result<(WorkerEnd<N>, Option<Down<'l>>), (AllocError, Worker<N>, Vec<Message>)>
-    requires own { worker.seat.window ≡ window.now }
+    requires same_window { worker.seat.window ≡ window.now }
     // Each message has its end, in order: its result, and of each of its parts the cost, the receipts and the outcome.
     ensures each { IfOk result (λ d. AllZip (IsEndOf rules.now (length worker.shares.amounts)) messages.items d.0.ends.items) }
     // Once the bind was closed for a message, it was closed for all behind it.

@@ -199,7 +199,7 @@ pub fn reads<S: Wait>(
     seat: WindowSeat,
     leave: ReaderLeave,
 ) -> Option<ReaderEnd>
-    requires own { seat.window ≡ window.now }
+    requires same_window { seat.window ≡ window.now }
 {
     let bound = bound(alloc)?;
     let mut reader = Tap::new(centre);

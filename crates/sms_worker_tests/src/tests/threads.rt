@@ -73,7 +73,7 @@ fn one_works<N: BookName>(
     rules: &Rules,
     beside: &Together,
 ) -> Option<WorkerEnd<N>>
-    requires own { worker.seat.window ≡ window.now }
+    requires same_window { worker.seat.window ≡ window.now }
 {
     match run_worker(
         rt, alloc, worker, messages, line, window, book, rules, beside, beside, beside,

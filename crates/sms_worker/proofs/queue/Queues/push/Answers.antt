@@ -22,8 +22,8 @@ returns-clause-apart c k ws other at out away =
     let apart : k ≢ c.args.attempts - 1 = λ e. other (omega (arith, c.if-attempts-lt1.false)) in
     pushed_there c.args.texts.now.items c.link_behind.new.texts.items c.args.self.now.all (c.args.attempts - 1) none c.with.result w k ws c.link_behind.ensures.linked low apart at out away
 
-pub returns-clause-same : goal.returns-clause-same
-returns-clause-same c = ap (map carried) c.link_behind.ensures.linked ∙ carried_appended c.args.texts.now.items _ c.args.place c.args.due_ms
+pub returns-clause-unchanged : goal.returns-clause-unchanged
+returns-clause-unchanged c = ap (map carried) c.link_behind.ensures.linked ∙ carried_appended c.args.texts.now.items _ c.args.place c.args.due_ms
 
 pub returns-clause-last : goal.returns-clause-last
 returns-clause-last c some few =

@@ -30,7 +30,7 @@ index-requires g c =
     omega arith
 
 pub give-requires : goal.give-requires
-give-requires g c = record { there = back_there c.self.inside.ends.items c.take.new.ends.items c.args.place.message c.args.place.part c.in-Some-take.segment c.in-Some-take.ensures.out }
+give-requires g c = record { exists = back_there c.self.inside.ends.items c.take.new.ends.items c.args.place.message c.args.place.part c.in-Some-take.segment c.in-Some-take.ensures.out }
 
 pub invariant_of-self-then-not-is_waiting : goal.invariant_of-self-then-not-is_waiting
 invariant_of-self-then-not-is_waiting g c =
@@ -49,7 +49,7 @@ invariant_of-self-then-not-is_waiting g c =
     }
 
 pub give-requires-2 : goal.give-requires-2
-give-requires-2 g c = record { there = back_there c.self.inside.ends.items c.take.new.ends.items c.args.place.message c.args.place.part c.in-Some-take.segment c.in-Some-take.ensures.out }
+give-requires-2 g c = record { exists = back_there c.self.inside.ends.items c.take.new.ends.items c.args.place.message c.args.place.part c.in-Some-take.segment c.in-Some-take.ensures.out }
 
 pub invariant_of-self-2 : goal.invariant_of-self-2
 invariant_of-self-2 g c =
@@ -65,7 +65,7 @@ invariant_of-self-2 g c =
     let p = c.args.place.part in
     let texts_low : k < length c.self.inside.texts.items = subst (λ n. k < n) (length-map c.self.inside.texts.items carried) (turn_kept _ _ _ _ _ _ _ _ c.args.place i.keeps _ turn) in
     let kept : slice_get (map carried c.self.inside.texts.items) k ≡ Some (carried c.index.result.now) = slice_get-map carried c.self.inside.texts.items k ∙ ap (option_map carried) (slice_get-get_or c.self.inside.texts.items k c.index.result.now texts_low ∙ ap Some (sym c.index.ensures)) in
-    let got = c.in-Some.ensures.there in
+    let got = c.in-Some.ensures.exists in
     let part = part_there g.C.Call.start.rules g.C.Call.start.messages (map carried c.self.inside.texts.items) k p c.index-message.result.now (carried c.index.result.now) c.in-Some.carried.now i.keeps.texts_kept (ap (λ l. slice_get l k) (sym i.keeps.messages) ∙ there) kept got in
     let s' : SegmentEnd = record { cost = s.cost; attempts = c.new.result; outcome = s.outcome } in
     let is = given_other c.self.inside.ends.items c.take.new.ends.items c.give-2.new.ends.items k p s s' c.in-Some-take.ensures.out c.give-2.ensures.now in
@@ -115,7 +115,7 @@ returns g c =
     let p = c.args.place.part in
     let texts_low : k < length c.self.inside.texts.items = subst (λ n. k < n) (length-map c.self.inside.texts.items carried) (turn_kept _ _ _ _ _ _ _ _ c.args.place i.keeps _ turn) in
     let kept : slice_get (map carried c.self.inside.texts.items) k ≡ Some (carried c.index.result.now) = slice_get-map carried c.self.inside.texts.items k ∙ ap (option_map carried) (slice_get-get_or c.self.inside.texts.items k c.index.result.now texts_low ∙ ap Some (sym c.index.ensures)) in
-    let got = c.in-Some.ensures.there in
+    let got = c.in-Some.ensures.exists in
     let part = part_there g.C.Call.start.rules g.C.Call.start.messages (map carried c.self.inside.texts.items) k p c.index-message.result.now (carried c.index.result.now) c.in-Some.carried.now i.keeps.texts_kept (ap (λ l. slice_get l k) (sym i.keeps.messages) ∙ there) kept got in
     let s' : SegmentEnd = record { cost = s.cost; attempts = c.new.result; outcome = s.outcome } in
     let is = given_other c.self.inside.ends.items c.take.new.ends.items c.give-2.new.ends.items k p s s' c.in-Some-take.ensures.out c.give-2.ensures.now in
@@ -129,8 +129,8 @@ returns g c =
       tried = tried_so c.args.context.now.rules.now c.index-message.result.now part.part c.self.inside.seat.view c.start-tried.new.seat.view _ _ c.self.view_is c.give-2.new.ends.items c.start-tried.new.opened.items c.args.place s s' at is refl refl g.C.Call.start.rules.policy.attempts c.start-tried.result tried c.start-tried.ensures.opened;
     }
 
-pub start-tried-requires-clause-own : goal.start-tried-requires-clause-own
-start-tried-requires-clause-own g c = c.self.invariant.keeps.window ∙ sym c.requires.window
+pub start-tried-requires-clause-same_window : goal.start-tried-requires-clause-same_window
+start-tried-requires-clause-same_window g c = c.self.invariant.keeps.window ∙ sym c.requires.window
 
 pub start-tried-requires-clause-addresses : goal.start-tried-requires-clause-addresses
 start-tried-requires-clause-addresses g c =

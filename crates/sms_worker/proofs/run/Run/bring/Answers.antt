@@ -37,7 +37,7 @@ settle_answer-requires g c =
 
 pub returns-in-Some-follow-clause-waits : goal.returns-in-Some-follow-clause-waits
 returns-in-Some-follow-clause-waits g c =
-    newly_waits _ c.close.new.self.ends c.settle_answer.new.self.ends c.follow.new.self c.index-open.result.now.place _ _ c.in-Some-settle_answer.ensures.settled c.close.ensures.ends c.follow.ensures.same.1 c.follow.ensures.waits
+    newly_waits _ c.close.new.self.ends c.settle_answer.new.self.ends c.follow.new.self c.index-open.result.now.place _ _ c.in-Some-settle_answer.ensures.settled c.close.ensures.ends c.follow.ensures.unchanged.1 c.follow.ensures.waits
 
 pub returns-in-Some-follow-clause-brought : goal.returns-in-Some-follow-clause-brought
 returns-in-Some-follow-clause-brought g c =
@@ -47,11 +47,11 @@ returns-in-Some-follow-clause-brought g c =
     let there = subst (λ (x : RunState). slice_get x.opened c.in-Some.i ≡ Some c.index-open.result.now) c.self.view_is at in
     let found : position (λ o. o.number == c.args.reply.number) opened ≡ Some c.in-Some.i = search rules in
     retried g.C.Call.start.rules c.args.reply c.args.self.now c.close.new.self c.settle_answer.new.self c.in-Some.i c.close.ensures.only c.settle_answer.ensures.only c.follow.new.self c.index-open.result.now _ _
-    (subst (λ (x : RunState). position (λ o. o.number == c.args.reply.number) x.opened ≡ Some c.in-Some.i) c.self.view_is found) there c.in-Some-settle_answer.ensures.settled c.in-Some-settle_answer.ensures.decided c.follow.ensures.same.1 c.follow.ensures.opened c.in-Some-follow.now c.in-Some-follow.ensures.due
+    (subst (λ (x : RunState). position (λ o. o.number == c.args.reply.number) x.opened ≡ Some c.in-Some.i) c.self.view_is found) there c.in-Some-settle_answer.ensures.settled c.in-Some-settle_answer.ensures.decided c.follow.ensures.unchanged.1 c.follow.ensures.opened c.in-Some-follow.now c.in-Some-follow.ensures.due
 
 pub returns-in-None-follow-clause-waits : goal.returns-in-None-follow-clause-waits
 returns-in-None-follow-clause-waits g c =
-    newly_waits _ c.close.new.self.ends c.settle_answer.new.self.ends c.follow.new.self c.index-open.result.now.place _ _ c.in-Some-settle_answer.ensures.settled c.close.ensures.ends c.follow.ensures.same.1 c.follow.ensures.waits
+    newly_waits _ c.close.new.self.ends c.settle_answer.new.self.ends c.follow.new.self c.index-open.result.now.place _ _ c.in-Some-settle_answer.ensures.settled c.close.ensures.ends c.follow.ensures.unchanged.1 c.follow.ensures.waits
 
 pub returns-in-None-follow-clause-brought : goal.returns-in-None-follow-clause-brought
 returns-in-None-follow-clause-brought g c =
@@ -62,7 +62,7 @@ returns-in-None-follow-clause-brought g c =
     let found : position (λ o. o.number == c.args.reply.number) opened ≡ Some c.in-Some.i = search rules in
     let over = c.follow.ensures.over (search rules) in
     settled g.C.Call.start.rules c.args.reply c.args.self.now c.close.new.self c.settle_answer.new.self c.in-Some.i c.close.ensures.only c.settle_answer.ensures.only c.follow.new.self c.index-open.result.now _ _
-    (subst (λ (x : RunState). position (λ o. o.number == c.args.reply.number) x.opened ≡ Some c.in-Some.i) c.self.view_is found) there c.in-Some-settle_answer.ensures.settled c.in-Some-settle_answer.ensures.decided c.follow.ensures.same.1 c.follow.ensures.opened over (c.follow.ensures.settled over)
+    (subst (λ (x : RunState). position (λ o. o.number == c.args.reply.number) x.opened ≡ Some c.in-Some.i) c.self.view_is found) there c.in-Some-settle_answer.ensures.settled c.in-Some-settle_answer.ensures.decided c.follow.ensures.unchanged.1 c.follow.ensures.opened over (c.follow.ensures.settled over)
 
 pub returns-in-Err-clause-brought : goal.returns-in-Err-clause-brought
 returns-in-Err-clause-brought g c =

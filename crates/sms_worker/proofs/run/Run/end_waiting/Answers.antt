@@ -16,7 +16,7 @@ use Rattle.sms_worker.proofs.Rising.{order_kept}
 use Rattle.sms_worker.proofs.run.Run.end_waiting.Goals as goal
 
 pub give-requires : goal.give-requires
-give-requires g c = record { there = back_there c.self.inside.ends.items c.take.new.ends.items c.args.place.message c.args.place.part c.in-Some.segment c.in-Some.ensures.out }
+give-requires g c = record { exists = back_there c.self.inside.ends.items c.take.new.ends.items c.args.place.message c.args.place.part c.in-Some.segment c.in-Some.ensures.out }
 
 pub invariant_of-self-then-not-is_waiting : goal.invariant_of-self-then-not-is_waiting
 invariant_of-self-then-not-is_waiting g c =
@@ -50,7 +50,7 @@ settle-requires g c a acc =
     (omega arith, omega arith)
 
 pub give-requires-2 : goal.give-requires-2
-give-requires-2 g c = record { there = back_there c.self.inside.ends.items c.take.new.ends.items c.args.place.message c.args.place.part c.in-Some.segment c.in-Some.ensures.out }
+give-requires-2 g c = record { exists = back_there c.self.inside.ends.items c.take.new.ends.items c.args.place.message c.args.place.part c.in-Some.segment c.in-Some.ensures.out }
 
 pub invariant_of-self-2 : goal.invariant_of-self-2
 invariant_of-self-2 g c =

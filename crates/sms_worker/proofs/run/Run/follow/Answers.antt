@@ -13,7 +13,7 @@ invariant_of-self g c =
     let room = c.push.ensures.room in
     let sent = subst (λ (x : RunState). WasSent x.ends c.args.place) (sym c.self.view_is) c.requires.sent in
     record {
-      keeps = rw c.push.ensures.same i.keeps;
+      keeps = rw c.push.ensures.unchanged i.keeps;
       closing = i.closing;
       credit = i.credit;
       order = order_pushed c.self.inside.ends.items c.self.inside.next _ _ _ _ _ c.args.place sent c.push.ensures.heads c.push.ensures.links i.order;

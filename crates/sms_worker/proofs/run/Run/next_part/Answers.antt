@@ -4,8 +4,8 @@ use Rattle.sms_worker.specs.RunState.{RunState}
 use Rattle.sms_worker.proofs.Finding.{counted_there}
 use Rattle.sms_worker.proofs.run.Run.next_part.Goals as goal
 
-pub returns-clause-there : goal.returns-clause-there
-returns-clause-there g c =
+pub returns-clause-exists : goal.returns-clause-exists
+returns-clause-exists g c =
     let same = ap (λ (x : RunState). length x.ends) c.self.view_is in
     let n = c.len-begun.ensures in
     let some : 0 < c.len-begun.result = search rules in

@@ -13,6 +13,6 @@ returns g c =
     record {
       turn = first_turn _ _ c.due_retry.result c.next_part.result c.first_of.result c.due_retry.ensures.sent c.next_part.ensures.next f.retry f.next f.none;
       retry = found_retry c.due_retry.result c.next_part.result c.first_of.result f.retry f.next f.none (λ place k. IsFirstDue run.texts run.queues at place k) c.due_retry.ensures.due;
-      fresh = found_fresh c.due_retry.result c.next_part.result c.first_of.result f.retry f.next f.none (NoneIsDue run.texts run.queues at) (λ p. IsNext run.ends run.next p × IsThere run.ends p) c.due_retry.ensures.none (both (IsNext run.ends run.next) (IsThere run.ends) c.next_part.result c.next_part.ensures.next c.next_part.ensures.there);
+      fresh = found_fresh c.due_retry.result c.next_part.result c.first_of.result f.retry f.next f.none (NoneIsDue run.texts run.queues at) (λ p. IsNext run.ends run.next p × IsThere run.ends p) c.due_retry.ensures.none (both (IsNext run.ends run.next) (IsThere run.ends) c.next_part.result c.next_part.ensures.next c.next_part.ensures.exists);
       none = found_none c.due_retry.result c.next_part.result c.first_of.result f.retry f.next f.none (NoneIsDue run.texts run.queues at) (HasNext run.ends run.next → ⊥) c.due_retry.ensures.none c.next_part.ensures.none;
     }

@@ -34,7 +34,7 @@ answer-segment-requires g c =
     record { state = subst (λ (x : Rules). IsSettled x.policy.attempts c.in-Some.segment ⊎ IsWaiting x.policy.attempts c.in-Some.segment) (sym c.requires.rules) told.state }
 
 pub give-requires : goal.give-requires
-give-requires g c = record { there = back_there c.self.inside.ends.items c.take.new.ends.items c.args.place.message c.args.place.part c.in-Some.segment c.in-Some.ensures.out }
+give-requires g c = record { exists = back_there c.self.inside.ends.items c.take.new.ends.items c.args.place.message c.args.place.part c.in-Some.segment c.in-Some.ensures.out }
 
 pub invariant_of-self : goal.invariant_of-self
 invariant_of-self g c =
@@ -70,7 +70,7 @@ settle-requires g c a acc =
     (omega arith, omega arith)
 
 pub give-requires-2 : goal.give-requires-2
-give-requires-2 g c = record { there = back_there c.self.inside.ends.items c.take.new.ends.items c.args.place.message c.args.place.part c.in-Some.segment c.in-Some.ensures.out }
+give-requires-2 g c = record { exists = back_there c.self.inside.ends.items c.take.new.ends.items c.args.place.message c.args.place.part c.in-Some.segment c.in-Some.ensures.out }
 
 pub invariant_of-self-2 : goal.invariant_of-self-2
 invariant_of-self-2 g c =

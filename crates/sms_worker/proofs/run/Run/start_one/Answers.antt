@@ -13,13 +13,13 @@ begin-requires g c = record { rules = c.requires.rules }
 
 pub returns-then-begin : goal.returns-then-begin
 returns-then-begin g c = record {
-  heard = c.begin.ensures.heard ∙ c.sees_closed-closed.ensures.same.0;
+  heard = c.begin.ensures.heard ∙ c.sees_closed-closed.ensures.unchanged.0;
   step = subst (λ t. IsStep g.C.Call.start t One c.args.self.now c.begin.new.self) c.ms-now_ms.ensures (begun_step g.C.Call.start c.ms-now_ms.result c.args.self.now c.sees_closed-closed.new.self c.begin.new.self c.sees_closed-closed.ensures.only (c.next_place.ensures.none (search rules)) (c.begin.ensures.next (search rules)) (c.begin.ensures.more (search rules)).0);
 }
 
 pub returns-in_default : goal.returns-in_default
 returns-in_default g c = record {
-  heard = c.begin.ensures.heard ∙ c.sees_closed-closed.ensures.same.0;
+  heard = c.begin.ensures.heard ∙ c.sees_closed-closed.ensures.unchanged.0;
   step = subst (λ t. IsStep g.C.Call.start t (Nothing AllBegun) c.args.self.now c.begin.new.self) c.ms-now_ms.ensures (none_begun g.C.Call.start c.ms-now_ms.result c.args.self.now c.sees_closed-closed.new.self c.begin.new.self c.sees_closed-closed.ensures.only (c.next_place.ensures.none (search rules)) (c.begin.ensures.none (search rules)) (c.begin.ensures.all (search rules)));
 }
 
@@ -28,7 +28,7 @@ returns-then-closed g c =
     let at = c.in-Some.place in
     let turn = turn_there c.ms-now_ms.result c.args.self.now c.sees_closed-closed.new.self at c.sees_closed-closed.ensures.only c.in-Some.source (λ k e. c.next_place.ensures.retry at k (c.in-Some.is ∙ ap (λ (x : Source). Some (at, x)) e)) (λ e. c.next_place.ensures.fresh at (c.in-Some.is ∙ ap (λ (x : Source). Some (at, x)) e)) in
     record {
-      heard = c.sees_closed-closed.ensures.same.0;
+      heard = c.sees_closed-closed.ensures.unchanged.0;
       step = subst (λ t. IsStep g.C.Call.start t (Nothing Closed) c.args.self.now c.sees_closed-closed.new.self) c.ms-now_ms.ensures (seen_closed g.C.Call.start c.ms-now_ms.result c.args.self.now c.sees_closed-closed.new.self at c.sees_closed-closed.ensures.only (search rules) turn);
     }
 
@@ -43,10 +43,10 @@ returns-in-Sent g c =
     let at = c.in-Some.place in
     let tried = sent_so g.C.Call.start.rules.policy.attempts c.in-Sent.field-0 c.attempt.result at c.sees_closed-closed.new.self c.attempt.new.self c.attempt.ensures.tried c.in-Sent.is in
     record {
-      heard = c.advance.ensures.same.0 ∙ c.attempt.ensures.heard ∙ c.sees_closed-closed.ensures.same.0;
+      heard = c.advance.ensures.unchanged.0 ∙ c.attempt.ensures.heard ∙ c.sees_closed-closed.ensures.unchanged.0;
       step = subst (λ t. IsStep g.C.Call.start t One c.args.self.now c.advance.new.self) c.ms-now_ms.ensures (stepped g.C.Call.start c.ms-now_ms.result c.args.self.now c.sees_closed-closed.new.self c.attempt.new.self c.advance.new.self c.advance.new.self at c.sees_closed-closed.ensures.only
-          (still_there g.C.Call.start.rules.policy.attempts c.attempt.result at c.sees_closed-closed.new.self c.attempt.new.self c.attempt.ensures.tried) c.advance.ensures.same.2 (refl, refl) (inl refl)
-          (subst (IsTried _ at c.sees_closed-closed.new.self.ends) (sym c.advance.ensures.same.1) tried)
+          (still_there g.C.Call.start.rules.policy.attempts c.attempt.result at c.sees_closed-closed.new.self c.attempt.new.self c.attempt.ensures.tried) c.advance.ensures.unchanged.2 (refl, refl) (inl refl)
+          (subst (IsTried _ at c.sees_closed-closed.new.self.ends) (sym c.advance.ensures.unchanged.1) tried)
           c.in-Some.source (λ k e. c.next_place.ensures.retry at k (c.in-Some.is ∙ ap (λ (x : Source). Some (at, x)) e)) (λ e. c.next_place.ensures.fresh at (c.in-Some.is ∙ ap (λ (x : Source). Some (at, x)) e))
           c.advance.ensures.taken c.advance.ensures.next);
     }
@@ -56,7 +56,7 @@ returns-in-Later g c =
     let at = c.in-Some.place in
     let turn = turn_there c.ms-now_ms.result c.args.self.now c.sees_closed-closed.new.self at c.sees_closed-closed.ensures.only c.in-Some.source (λ k e. c.next_place.ensures.retry at k (c.in-Some.is ∙ ap (λ (x : Source). Some (at, x)) e)) (λ e. c.next_place.ensures.fresh at (c.in-Some.is ∙ ap (λ (x : Source). Some (at, x)) e)) in
     record {
-      heard = c.attempt.ensures.heard ∙ c.sees_closed-closed.ensures.same.0;
+      heard = c.attempt.ensures.heard ∙ c.sees_closed-closed.ensures.unchanged.0;
       step = subst (λ t. IsStep g.C.Call.start t (Nothing (Waits c.in-Later.held)) c.args.self.now c.attempt.new.self) c.ms-now_ms.ensures (waits_step g.C.Call.start c.ms-now_ms.result c.args.self.now c.sees_closed-closed.new.self c.attempt.new.self at c.in-Later.held c.sees_closed-closed.ensures.only
           (not_sent g.C.Call.start.rules.policy.attempts c.attempt.result c.in-Later.held at c.sees_closed-closed.new.self c.attempt.new.self c.attempt.ensures.tried c.in-Later.is) turn);
     }
@@ -65,12 +65,12 @@ pub returns-in-Never : goal.returns-in-Never
 returns-in-Never g c =
     let at = c.in-Some.place in
     let most = g.C.Call.start.rules.policy.attempts in
-    let swept = subst (λ (l : List MessageEnd). SweptAt most at.message at.part l c.give_up.new.self.ends) c.advance-in-Never.ensures.same.1 c.give_up.ensures.swept in
+    let swept = subst (λ (l : List MessageEnd). SweptAt most at.message at.part l c.give_up.new.self.ends) c.advance-in-Never.ensures.unchanged.1 c.give_up.ensures.swept in
     let tried = given_so most c.attempt.result c.in-Never.field-0 at c.sees_closed-closed.new.self c.attempt.new.self c.give_up.new.self.ends c.attempt.ensures.tried c.in-Never.is swept in
     record {
-      heard = c.give_up.ensures.heard ∙ c.advance-in-Never.ensures.same.0 ∙ c.attempt.ensures.heard ∙ c.sees_closed-closed.ensures.same.0;
+      heard = c.give_up.ensures.heard ∙ c.advance-in-Never.ensures.unchanged.0 ∙ c.attempt.ensures.heard ∙ c.sees_closed-closed.ensures.unchanged.0;
       step = subst (λ t. IsStep g.C.Call.start t One c.args.self.now c.give_up.new.self) c.ms-now_ms.ensures (stepped g.C.Call.start c.ms-now_ms.result c.args.self.now c.sees_closed-closed.new.self c.attempt.new.self c.advance-in-Never.new.self c.give_up.new.self at c.sees_closed-closed.ensures.only
-          (still_there g.C.Call.start.rules.policy.attempts c.attempt.result at c.sees_closed-closed.new.self c.attempt.new.self c.attempt.ensures.tried) c.advance-in-Never.ensures.same.2 c.give_up.ensures.left c.give_up.ensures.texts tried
+          (still_there g.C.Call.start.rules.policy.attempts c.attempt.result at c.sees_closed-closed.new.self c.attempt.new.self c.attempt.ensures.tried) c.advance-in-Never.ensures.unchanged.2 c.give_up.ensures.left c.give_up.ensures.texts tried
           c.in-Some.source (λ k e. c.next_place.ensures.retry at k (c.in-Some.is ∙ ap (λ (x : Source). Some (at, x)) e)) (λ e. c.next_place.ensures.fresh at (c.in-Some.is ∙ ap (λ (x : Source). Some (at, x)) e))
           c.advance-in-Never.ensures.taken c.advance-in-Never.ensures.next);
     }

@@ -7,7 +7,7 @@ loop-part-preserved g c =
     let i = c.loop-part.invariant in
     record {
       heard = c.give_up.ensures.heard ∙ i.heard;
-      long = c.give_up.ensures.long ∙ i.long;
+      long = c.give_up.ensures.length ∙ i.long;
       settled = settled_next _ c.args.message c.loop-part.part c.loop-part.self.ends c.give_up.new.self.ends i.settled c.give_up.ensures.swept;
       inside = λ q s got. let old = c.give_up.ensures.in_place c.args.message q s got in i.inside q old.0 old.1;
     }

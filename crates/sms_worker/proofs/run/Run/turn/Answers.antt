@@ -24,19 +24,19 @@ pub returns-then-heard-clause-ring : goal.returns-then-heard-clause-ring
 returns-then-heard-clause-ring g c = c.hear-heard.ensures.ring
 
 pub returns-then-heard-clause-heard : goal.returns-then-heard-clause-heard
-returns-then-heard-clause-heard g c = c.start_or_sweep-started.ensures.heard ∙ c.expire-expired.ensures.heard ∙ c.sees_closed-down.ensures.same.0 ∙ c.hear-heard.ensures.heard
+returns-then-heard-clause-heard g c = c.start_or_sweep-started.ensures.heard ∙ c.expire-expired.ensures.heard ∙ c.sees_closed-down.ensures.unchanged.0 ∙ c.hear-heard.ensures.heard
 
 pub returns-then-is_done-clause-ring : goal.returns-then-is_done-clause-ring
 returns-then-is_done-clause-ring g c = c.hear-heard.ensures.ring
 
 pub returns-then-is_done-clause-heard : goal.returns-then-is_done-clause-heard
-returns-then-is_done-clause-heard g c = c.start_or_sweep-started.ensures.heard ∙ c.expire-expired.ensures.heard ∙ c.sees_closed-down.ensures.same.0 ∙ c.hear-heard.ensures.heard
+returns-then-is_done-clause-heard g c = c.start_or_sweep-started.ensures.heard ∙ c.expire-expired.ensures.heard ∙ c.sees_closed-down.ensures.unchanged.0 ∙ c.hear-heard.ensures.heard
 
 pub returns-clause-ring : goal.returns-clause-ring
 returns-clause-ring g c = c.hear-heard.ensures.ring
 
 pub returns-clause-heard : goal.returns-clause-heard
-returns-clause-heard g c = c.start_or_sweep-started.ensures.heard ∙ c.expire-expired.ensures.heard ∙ c.sees_closed-down.ensures.same.0 ∙ c.hear-heard.ensures.heard
+returns-clause-heard g c = c.start_or_sweep-started.ensures.heard ∙ c.expire-expired.ensures.heard ∙ c.sees_closed-down.ensures.unchanged.0 ∙ c.hear-heard.ensures.heard
 
 pub returns-then-heard-clause-turn : goal.returns-then-heard-clause-turn
 returns-then-heard-clause-turn g c =
