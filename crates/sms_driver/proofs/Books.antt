@@ -12,12 +12,12 @@ use Rattle.sms_pdu.specs.declared.command.Mode.{Mode}
 use Rattle.sms_bind.specs.declared.binding.BindFault.{BindFault}
 use Rattle.sms_bind.specs.declared.binding.BindFault.TheVariants as bind
 use Rattle.sms_driver.specs.SendFaults.{fault_of_book, IsFaultOfOne, IsFaultOfRun, RefusesBook, TellsBind}
-use Rattle.sms_driver.specs.declared.start.Begun.{Begun}
-use Rattle.sms_driver.specs.declared.start.Begun.TheVariants.{NotYet}
+use Rattle.sms_driver.specs.declared.start.StartPhase.{StartPhase}
+use Rattle.sms_driver.specs.declared.start.StartPhase.TheVariants.{Idle}
 use Rattle.sms_driver.specs.Starts.{TellsStart}
 
 -- a book is refused before a word
-pub tells_book : (b : Begun) (w : BookError) (f : SendFault) → b ≡ NotYet → f ≡ fault_of_book w → TellsStart b f
+pub tells_book : (b : StartPhase) (w : BookError) (f : SendFault) → b ≡ Idle → f ≡ fault_of_book w → TellsStart b f
 tells_book b BadCount f yet e = subst (TellsStart b) (sym e) yet
 tells_book b (Duplicate first second) f yet e = subst (TellsStart b) (sym e) yet
 tells_book b AmountTooLarge f yet e = subst (TellsStart b) (sym e) yet

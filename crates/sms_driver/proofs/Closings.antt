@@ -12,7 +12,7 @@ use Rattle.sms_driver.specs.declared.bind_end.BindEnd.{BindEnd}
 use Rattle.sms_driver.specs.declared.bind_end.BindClosing.{BindClosing}
 use Rattle.sms_driver.specs.declared.bind_end.DownBy.{DownBy}
 use Rattle.sms_driver.specs.Answered.{ends_at}
-use Rattle.sms_driver.specs.Closings.{first_of, no_closing, with_cause, with_all, closing_of, AreExplained, AreTold, HasCause, IsExplained, SaysWhy}
+use Rattle.sms_driver.specs.Closings.{first_of, no_closing, with_cause, with_all, closing_of, AreExplained, HaveClosings, HasCause, IsExplained, SaysWhy}
 use Rattle.sms_driver.specs.Seated.{of_bind}
 use Rattle.sms_driver.specs.Worked.{IsWorkOf}
 use Rattle.sms_driver.proofs.Numbering.{get_mapped, zip_of_bind}
@@ -36,18 +36,18 @@ no_cause {A} n m xs xs' none same = subst (λ (l : List A). (take n xs ≡ take 
 
 -- one bind more
 pub told_more : (workers : ℕ) (xs xs' : List (Option ClosedBy)) (made more rest : List BindClosing) (c : BindClosing) (All : List BindClosing → Type 0) → more ≡ made ++ c ∷ [] → xs' ≡ drop workers xs → c ≡ closing_of (take workers xs)
-    → AreTold workers xs' rest → (AreTold workers xs (c ∷ rest) → All (made ++ (c ∷ rest))) → All (more ++ rest)
+    → HaveClosings workers xs' rest → (HaveClosings workers xs (c ∷ rest) → All (made ++ (c ∷ rest))) → All (more ++ rest)
 told_more workers xs xs' made more rest c All adds left one h goes =
-    subst All (sym (ap (λ l. l ++ rest) adds ∙ append_assoc made (c ∷ []) rest)) (goes (one, subst (λ (l : List (Option ClosedBy)). AreTold workers l rest) left h))
+    subst All (sym (ap (λ l. l ++ rest) adds ∙ append_assoc made (c ∷ []) rest)) (goes (one, subst (λ (l : List (Option ClosedBy)). HaveClosings workers l rest) left h))
 
 -- before the first
-pub none_told : (workers : ℕ) (xs xs' : List (Option ClosedBy)) (made rest : List BindClosing) → xs' ≡ xs → made ≡ [] → AreTold workers xs' rest → AreTold workers xs (made ++ rest)
-none_told workers xs xs' made rest same none h = subst (λ (l : List BindClosing). AreTold workers xs (l ++ rest)) (sym none) (subst (λ (l : List (Option ClosedBy)). AreTold workers l rest) same h)
+pub none_told : (workers : ℕ) (xs xs' : List (Option ClosedBy)) (made rest : List BindClosing) → xs' ≡ xs → made ≡ [] → HaveClosings workers xs' rest → HaveClosings workers xs (made ++ rest)
+none_told workers xs xs' made rest same none h = subst (λ (l : List BindClosing). HaveClosings workers xs (l ++ rest)) (sym none) (subst (λ (l : List (Option ClosedBy)). HaveClosings workers l rest) same h)
 
-pub all_told : (workers : ℕ) (xs : List (Option ClosedBy)) (cs : List BindClosing) → AreTold workers xs (cs ++ []) → AreTold workers xs cs
-all_told workers xs cs h = subst (AreTold workers xs) (append-nil cs) h
+pub all_told : (workers : ℕ) (xs : List (Option ClosedBy)) (cs : List BindClosing) → HaveClosings workers xs (cs ++ []) → HaveClosings workers xs cs
+all_told workers xs cs h = subst (HaveClosings workers xs) (append-nil cs) h
 
-told_at : (workers : ℕ) (xs : List (Option ClosedBy)) (cs : List BindClosing) → AreTold workers xs cs → (bind : ℕ) (c : BindClosing) → slice_get cs bind ≡ Some c → c ≡ closing_of (of_bind workers bind xs)
+told_at : (workers : ℕ) (xs : List (Option ClosedBy)) (cs : List BindClosing) → HaveClosings workers xs cs → (bind : ℕ) (c : BindClosing) → slice_get cs bind ≡ Some c → c ≡ closing_of (of_bind workers bind xs)
 told_at workers xs [] h bind c at = absurd (cc)
 told_at workers xs (x ∷ cs) h zero c at = let same : x ≡ c = cc in sym same ∙ h.0
 told_at workers xs (x ∷ cs) h (suc bind) c at = told_at workers (drop workers xs) cs h.1 bind c at
@@ -84,7 +84,7 @@ explained c (Some y ∷ xs) (f ∷ ess) z zero k es e theirs at is = causes_stay
 explained c (x ∷ xs) (f ∷ ess) z (suc w) k es e theirs at is = explained (with_cause c x) xs ess z.1 w k es e theirs at is
 
 -- bind by bind
-pub are_explained : (workers : ℕ) (xs : List (Option ClosedBy)) (ess : List (List MessageEnd)) (bs : List BindEnd) → AllZip SaysWhy xs ess → AreTold workers xs (map (λ b. b.closing) bs) → AreExplained workers bs ess
+pub are_explained : (workers : ℕ) (xs : List (Option ClosedBy)) (ess : List (List MessageEnd)) (bs : List BindEnd) → AllZip SaysWhy xs ess → HaveClosings workers xs (map (λ b. b.closing) bs) → AreExplained workers bs ess
 are_explained workers xs ess bs z told bind b at =
     let closing : slice_get (map (λ (y : BindEnd). y.closing) bs) bind ≡ Some b.closing = get_mapped (λ (y : BindEnd). y.closing) bs bind b at in
     subst (λ (c : BindClosing). IsExplained c (ends_at workers bind ess)) (sym (told_at workers xs (map (λ (y : BindEnd). y.closing) bs) told bind b.closing closing))

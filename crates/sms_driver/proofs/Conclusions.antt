@@ -15,7 +15,7 @@ use Rattle.sms_message.specs.declared.message.Message.{Message}
 use Rattle.sms_message.specs.declared.rules.Rules.{Rules}
 use Rattle.sms_worker.specs.Types.{MessageEnd}
 use Rattle.sms_message.specs.Ends.{credit, credits}
-use Rattle.sms_deal.specs.Deals.{dealt}
+use Rattle.sms_driver.specs.Deals.{dealt}
 use Rattle.sms_driver.specs.Settled.{totals}
 use Rattle.sms_driver.specs.Worked.{Worked}
 use Rattle.sms_worker.specs.EndOf.{IsEndOf}

@@ -6,7 +6,7 @@ use Rattle.sms_bind.specs.declared.ending.ReaderEnd.{ReaderEnd}
 use Rattle.sms_pdu.specs.Devices.{device}
 use Rattle.sms_driver.specs.declared.bind_end.BindEnd.{BindEnd}
 use Rattle.sms_driver.specs.declared.bind_end.ReaderOutcome.{ReaderOutcome}
-use Rattle.sms_unbind.specs.declared.binds.BindParts.{BindParts}
+use Rattle.sms_driver.specs.declared.binding.binds.BindParts.{BindParts}
 use Rattle.sms_driver.specs.declared.binding.BindSettings.{BindSettings}
 use Rattle.sms_bind.specs.Follows.{most_held}
 use Rattle.sms_bind.specs.Turns.{TookTurns}

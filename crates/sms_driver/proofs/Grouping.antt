@@ -11,8 +11,8 @@ use Rattle.sms_pdu.specs.declared.command.Mode.{Mode}
 use Rattle.sms_pdu.specs.declared.reply.Reply.{Reply}
 use Rattle.sms_bind.specs.declared.ending.ReaderEnd.{ReaderEnd}
 use Rattle.sms_worker.specs.Types.{MessageEnd}
-use Rattle.sms_unbind.specs.declared.binds.SharedBind.{SharedBind}
-use Rattle.sms_unbind.specs.declared.binds.BindParts.{BindParts}
+use Rattle.sms_driver.specs.declared.binding.binds.SharedBind.{SharedBind}
+use Rattle.sms_driver.specs.declared.binding.binds.BindParts.{BindParts}
 use Rattle.sms_driver.specs.Answered.{Hears, IsHeard, ends_at, AreHeard}
 use Rattle.sms_driver.specs.Reads.{HasRead, AreOpened, reading_in}
 use Rattle.sms_driver.specs.Rings.{flat, IsNewPair}

@@ -1,8 +1,8 @@
 -- The first of two lists that go together.
 use Rattle.std.proofs.Common.{◌≡◌, ℕ, zero, suc, ◌+◌, ◌<◌, List, [], ◌∷◌, length, drop, get_or, refl, sym, subst, arith, add-one, drop-cons}
 use Rattle.std.specs.List.{AllZip}
-use Rattle.sms_unbind.specs.declared.binds.SharedBind.{SharedBind}
-use Rattle.sms_unbind.specs.declared.binds.BindParts.{BindParts}
+use Rattle.sms_driver.specs.declared.binding.binds.SharedBind.{SharedBind}
+use Rattle.sms_driver.specs.declared.binding.binds.BindParts.{BindParts}
 use Rattle.sms_driver.specs.Seated.{IsSeated}
 
 module _ {W Rd : Type 0} (workers i : ℕ) (ps : List (SharedBind W)) where

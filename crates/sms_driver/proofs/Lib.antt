@@ -14,9 +14,12 @@ pub mod Numbering
 pub mod Openings
 pub mod Refusals
 pub mod Returning
-pub mod Sitting
+pub mod Placements
 pub mod Starts
 pub mod Sums
 pub mod Telling
 pub mod Unbindings
 pub mod Windows
+pub mod Dealt
+pub mod Takes
+pub mod Places

@@ -2,7 +2,7 @@
 use Rattle.std.proofs.Common.{◌≡◌, ◌+◌, ◌++◌, ℕ, List, [], ◌∷◌, length, Option, subst, arith}
 use Rattle.sms_pdu.specs.declared.command.Mode.{Mode}
 use Rattle.sms_pdu.specs.Devices.{device}
-use Rattle.sms_unbind.specs.declared.binds.BindParts.{BindParts}
+use Rattle.sms_driver.specs.declared.binding.binds.BindParts.{BindParts}
 use Rattle.sms_driver.specs.Reads.{IsOpened, AreOpened}
 
 module _ {Rd : Type 0} (remaining : Rd → Option (List ℕ)) (mode : Mode) (told : ℕ → Option (List ℕ)) where

@@ -1,10 +1,10 @@
 -- What is told of a bind's unbind, from the driver's seat as its window was closed with it.
 use Rattle.std.proofs.Common.{◌≡◌, ◌+◌, ◌++◌, ◌≤◌, ◌<◌, ℕ, List, [], ◌∷◌, ap, subst, arith}
 use Rattle.sms_core.specs.Numbers.{AllBelow}
-use Rattle.sms_unbind.specs.Unbinds.{HasAsked, IsUnbound}
-use Rattle.sms_unbind.specs.declared.unasked.Unasked.TheVariants.{Down, UsedUp, Contended, OutOfMemory, Broken}
-use Rattle.sms_unbind.specs.declared.unbinding.Unbinding.{Unbinding}
-use Rattle.sms_unbind.specs.declared.unbinding.Unbinding.TheVariants.{NotYet, Sent, Failed, Unasked}
+use Rattle.sms_driver.specs.Unbinds.{HasAsked, IsUnbound}
+use Rattle.sms_driver.specs.declared.ending.skipped.SkipReason.TheVariants.{Down, UsedUp, Contended, OutOfMemory, Broken}
+use Rattle.sms_driver.specs.declared.ending.unbind_result.UnbindResult.{UnbindResult}
+use Rattle.sms_driver.specs.declared.ending.unbind_result.UnbindResult.TheVariants.{Idle, Sent, Failed, Skipped}
 use Rattle.sms_window.specs.Drawing.{HasDrawn}
 use Rattle.sms_window.specs.Rule.{numbers_of}
 use Rattle.sms_window.specs.Seats.{used_up}
@@ -31,19 +31,19 @@ drawn_below n k before d others c drew closed =
 seen_first : (k d : View) (others : List View) (c : Closed) → IsClosed k (d ∷ others) c → d.seen ≤ c.next
 seen_first k d others c closed = let low = closed.joined.others_seen.0 in let end = closed.end.seen in omega arith
 
-pub is_unbound : (u : Unbinding) (k before d : View) (others : List View) (c : Closed) → HasAsked before u d → IsClosed k (d ∷ others) c → IsUnbound u c
-is_unbound NotYet k before d others c asked closed = absurd asked
+pub is_unbound : (u : UnbindResult) (k before d : View) (others : List View) (c : Closed) → HasAsked before u d → IsClosed k (d ∷ others) c → IsUnbound u c
+is_unbound Idle k before d others c asked closed = absurd asked
 is_unbound (Sent receipt) k before d others c asked closed = (asked.0, asked.1, drawn_below asked.0 k before d others c asked.2 closed)
 is_unbound (Failed receipt) k before d others c asked closed = (asked.0, asked.1, drawn_below asked.0 k before d others c asked.2 closed)
-is_unbound (Unasked (Down was)) k before d others c asked closed = tt
-is_unbound (Unasked (UsedUp all)) k before d others c asked closed =
+is_unbound (Skipped (Down was)) k before d others c asked closed = tt
+is_unbound (Skipped (UsedUp all)) k before d others c asked closed =
     let seen : d.seen ≡ used_up = asked.2 in
     let low : d.seen ≤ c.next = seen_first k d others c closed in
     let most : c.next ≤ used_up = closed.end.next.1 in
     omega arith
-is_unbound (Unasked (Contended none)) k before d others c asked closed =
+is_unbound (Skipped (Contended none)) k before d others c asked closed =
     let more : before.seen + most_draws ≤ d.seen = asked.1 in
     let low : d.seen ≤ c.next = seen_first k d others c closed in
     omega arith
-is_unbound (Unasked (OutOfMemory unmade)) k before d others c asked closed = drawn_below unmade.number k before d others c asked closed
-is_unbound (Unasked (Broken untaken)) k before d others c asked closed = drawn_below untaken.number k before d others c asked closed
+is_unbound (Skipped (OutOfMemory unmade)) k before d others c asked closed = drawn_below unmade.number k before d others c asked closed
+is_unbound (Skipped (Broken untaken)) k before d others c asked closed = drawn_below untaken.number k before d others c asked closed

@@ -16,7 +16,7 @@ abbrev pub down_by : DownCause → DownBy
 down_by (cause.Reader why) = Reader
 down_by cause.Write = Write
 
--- what was found first stands
+-- the cause that was found first stays
 abbrev pub first_of : Option DownBy → DownCause → Option DownBy
 first_of None why = Some (down_by why)
 first_of (Some found) why = Some found
@@ -24,7 +24,7 @@ first_of (Some found) why = Some found
 abbrev pub no_closing : BindClosing
 no_closing = record { down = None; turns_over = false }
 
--- with what one worker more says
+-- adds one more worker's cause
 abbrev pub with_cause : BindClosing → Option ClosedBy → BindClosing
 with_cause c None = c
 with_cause c (Some (Down why)) = record { down = first_of c.down why; turns_over = c.turns_over }
@@ -34,26 +34,26 @@ abbrev pub with_all : BindClosing → List (Option ClosedBy) → BindClosing
 with_all c [] = c
 with_all c (x ∷ xs) = with_all (with_cause c x) xs
 
--- as these workers say
+-- joins the workers' causes
 abbrev pub closing_of : List (Option ClosedBy) → BindClosing
 closing_of causes = with_all no_closing causes
 
--- so of each bind, as its workers say
-abbrev pub AreTold : ℕ → List (Option ClosedBy) → List BindClosing → Type 0
-AreTold workers causes [] = Unit {0}
-AreTold workers causes (c ∷ cs) = (c ≡ closing_of (take workers causes)) × AreTold workers (drop workers causes) cs
+-- the same of each bind and its workers
+abbrev pub HaveClosings : ℕ → List (Option ClosedBy) → List BindClosing → Type 0
+HaveClosings workers causes [] = Unit {0}
+HaveClosings workers causes (c ∷ cs) = (c ≡ closing_of (take workers causes)) × HaveClosings workers (drop workers causes) cs
 
--- a worker that says no cause refused no message as bind-closed
+-- a worker that gives no cause refused no message as bind-closed
 abbrev pub SaysWhy : Option ClosedBy → List MessageEnd → Type 0
 SaysWhy why es = why ≡ None → NoneIsClosed es
 
 abbrev pub HasCause : BindClosing → Type 0
 HasCause c = IsSome c.down ⊎ (c.turns_over ≡ true)
 
--- where one of these messages was refused as bind-closed, there is a cause
+-- if one of these messages was refused as bind-closed, there is a cause
 abbrev pub IsExplained : BindClosing → List (List MessageEnd) → Type 0
 IsExplained c ess = (w k : ℕ) (es : List MessageEnd) (e : MessageEnd) → slice_get ess w ≡ Some es → slice_get es k ≡ Some e → IsClosed e → HasCause c
 
--- so of each bind and the messages of its workers
+-- the same of each bind and the messages of its workers
 abbrev pub AreExplained : ℕ → List BindEnd → List (List MessageEnd) → Type 0
 AreExplained workers binds ess = (bind : ℕ) (b : BindEnd) → slice_get binds bind ≡ Some b → IsExplained b.closing (ends_at workers bind ess)

@@ -17,8 +17,8 @@ use Rattle.sms_driver.specs.declared.binding.BindSettings.{BindSettings}
 use Rattle.sms_driver.specs.BindEnds.{follow_of, outcome_of}
 use Rattle.sms_driver.specs.Reads.{IsOpened}
 
--- a bind was opened in the octets that were told, and what came behind that was worked by a reader, whose end says this: its cause
--- by the frames that were worked and the rest behind them, its counts by what was done with the frames
+-- a bind was opened by the first octets of those in `told`, and a reader worked the octets after them; its end says this: its cause agrees with
+-- the frames that were worked and the octets left after them, its counts with what was done with the frames
 pub record HasEnded (all : BindSettings) (turns : ℕ) (told : Option (List ℕ)) (outcome : ReaderOutcome) : Type 0 where
   pub bound : Bound
   pub between : Option (List ℕ)
@@ -30,17 +30,17 @@ pub record HasEnded (all : BindSettings) (turns : ℕ) (told : Option (List ℕ)
   pub end : ReaderEnd
   pub hands : HandsOn bound.session (concat bound.frames ++ bound.framer) between left old new held end
   pub is : outcome ≡ outcome_of end
-  -- it followed as it was to
+  -- it followed throttling as the settings say
   pub follows : held.most ≡ most_held (follow_of all)
-  -- it was read in so many turns at most, and where they are told as used up in just as many, each of which met one of the errors or gave some octets; the
-  -- input is told as ended where all of it was read, the reader as stopped where a turn was left, and a read as failed where the input answered an error.
-  -- (Nothing stands behind memory that is told as refused, but that no response was broken and the session is open: a refusal leaves nothing to read.)
+  -- it was read in at most this many turns; if the cause is that they were used up, in exactly as many, each of which met one of the errors or gave some
+  -- octets; the input ended only if all of it was read, the reader was stopped only if a turn was left, and a read failed only if the input answered an error.
+  -- (Refused memory leaves nothing to read; of it, it is known that no response was broken and that the session is open.)
   pub most : GaveAtMost (most_piece * turns) between left
   pub took : outcome.cause ≡ Turns → TookTurns turns outcome.errors between left
   pub ended : outcome.cause ≡ Ended → IsAtEnd left
   pub stopped : outcome.cause ≡ Stopped → Stops turns between left
   pub fault : outcome.cause ≡ ReadFault → 0 < outcome.errors
 
--- so of each bind
+-- the same of each bind
 abbrev pub HaveEnded : BindSettings → ℕ → (ℕ → Option (List ℕ)) → List BindEnd → Type 0
 HaveEnded all turns told ends = (bind : ℕ) (b : BindEnd) → slice_get ends bind ≡ Some b → HasEnded all turns (told bind) b.reader

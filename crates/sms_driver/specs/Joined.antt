@@ -22,7 +22,7 @@ pub record IsClosed (keeper : View) (others : List View) (closed : Closed) : Typ
   pub joined : HasJoined keeper others seat
   pub end : IsEnd seat closed.held closed.next
 
--- so of each bind's window: its keeper took in the driver's seat and those of its workers
+-- the same of each bind's window: its keeper took in the driver's seat and those of its workers
 abbrev pub AreClosed : ℕ → List View → List View → List View → List Closed → Type 0
 AreClosed workers keepers drivers others [] = Unit {0}
 AreClosed workers [] drivers others (c ∷ cs) = ⊥

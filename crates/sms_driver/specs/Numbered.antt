@@ -10,7 +10,7 @@ use Rattle.sms_driver.specs.declared.bind_end.BindEnd.{BindEnd}
 use Rattle.sms_driver.specs.Answered.{ends_at}
 use Rattle.sms_driver.specs.Seated.{of_bind}
 
--- an attempt: of which worker, of which of its messages, of which part, and which of its attempts
+-- an attempt: its worker, the message, the part, and the attempt's place among the part's attempts
 pub record AttemptIn (ess : List (List MessageEnd)) : Type 0 where
   pub worker : ℕ
   pub message : ℕ
@@ -21,15 +21,15 @@ pub record AttemptIn (ess : List (List MessageEnd)) : Type 0 where
   pub one : Attempt
   pub is : IsAttempt ends message part attempt one
 
--- attempts of a bind's workers that have one sequence_number are one
+-- no two attempts of a bind's workers have one sequence_number
 abbrev pub NumbersDiffer : List (List MessageEnd) → Type 0
 NumbersDiffer ess = (a b : AttemptIn ess) → a.one.number ≡ b.one.number → (a.worker ≡ b.worker) × (a.message ≡ b.message) × (a.part ≡ b.part) × (a.attempt ≡ b.attempt)
 
--- so of each bind
+-- the same of each bind
 abbrev pub AreNumbered : ℕ → ℕ → List (List MessageEnd) → Type 0
 AreNumbered binds workers ess = (bind : ℕ) → bind < binds → NumbersDiffer (ends_at workers bind ess)
 
--- what a worker's seat has beside its ends: no two attempts have one number, and the seat drew that of each
+-- a worker's seat and its ends: no two attempts have one number, and the seat drew the number of each
 pub record HasNumbers (v : View) (es : List MessageEnd) : Type 0 where
   pub apart : NumbersApart es
   pub drawn : (k p i : ℕ) (a : Attempt) → IsAttempt es k p i a → 1 ≤ times a.number v.numbers
@@ -38,7 +38,7 @@ pub record HasNumbers (v : View) (es : List MessageEnd) : Type 0 where
 abbrev pub DrewOnce : List View → Type 0
 DrewOnce views = (n : ℕ) → times n (numbers_of views) ≤ 1
 
--- nor by the seats of the workers of one of so many binds
+-- the same of the seats of the workers of each bind
 abbrev pub AllDrewOnce : ℕ → ℕ → List View → Type 0
 AllDrewOnce binds workers views = (bind : ℕ) → bind < binds → DrewOnce (of_bind workers bind views)
 
@@ -46,7 +46,7 @@ AllDrewOnce binds workers views = (bind : ℕ) → bind < binds → DrewOnce (of
 abbrev pub NumbersBelow : ℕ → List (List MessageEnd) → Type 0
 NumbersBelow next ess = (a : AttemptIn ess) → a.one.number < next
 
--- so of each bind, whose window would have given this number next
+-- the same of each bind and the number that its window would have given next
 abbrev pub AreBelow : ℕ → List BindEnd → List (List MessageEnd) → Type 0
 AreBelow workers binds ess = (bind : ℕ) (b : BindEnd) → slice_get binds bind ≡ Some b → NumbersBelow b.window.next (ends_at workers bind ess)
 

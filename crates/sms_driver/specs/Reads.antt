@@ -20,12 +20,12 @@ use Rattle.sms_bind.specs.Turns.{Stops, TookTurns}
 use Rattle.sms_bind.specs.Ends.{HandsOn}
 use Rattle.sms_bind.specs.Held.{Held}
 use Rattle.sms_window.specs.SeatState.{SeatState}
-use Rattle.sms_unbind.specs.declared.following.Following.{Following}
-use Rattle.sms_unbind.specs.declared.binds.BindParts.{BindParts}
+use Rattle.sms_driver.specs.declared.binding.following.Following.{Following}
+use Rattle.sms_driver.specs.declared.binding.binds.BindParts.{BindParts}
 use Rattle.sms_driver.specs.declared.threads.ReaderTask.{ReaderTask}
 use Rattle.sms_driver.specs.declared.threads.ReaderPromise.{ReaderPromise}
 
--- a bind's reader with what was read of it before, the rings of the bind's workers, and how it is to follow
+-- a bind's reader with what was read of it before, the rings of the bind's workers, and the limit that it follows
 pub record Reading (Rd : Type 0) : Type 0 where
   pub reader : Tap Rd
   pub bound : Bound
@@ -48,21 +48,21 @@ listener_of task = (task.seat, reading_of task)
 abbrev pub listener_promised : {Rd : Type 0} → ReaderPromise Rd → SeatState × Reading Rd
 listener_promised promise = (promise.seat.value, reading_promised promise)
 
--- it was stopped, and has its seat and its rings as they were
+-- the reader was stopped before its first read, and has its seat and its rings as they were
 pub record IsUnread (seat : SeatState) (rings : List (Producer Reply Global AnyItems)) (end : ReaderEnd) : Type 0 where
   pub same_seat : end.seat ≡ seat
   pub same_rings : end.producers.items ≡ rings
   pub stopped : end.cause ≡ Stopped
 
--- the answers of what was read went to the rings that were given, where `remaining` tells what there is to read; it was read in
--- so many turns at most, in just as many where the cause is that they were used up, to its end where that is the cause, and with
--- an error that it answered where a read is told to have failed
+-- the answers in what was read went to the rings that were given; `remaining` gives what there is to read. It was read in at most this many
+-- turns: in exactly as many if the cause is that they were used up, to its end if that is the cause, and with an error if the cause is that a
+-- read failed
 pub record HasRead {Rd : Type 0} (turns : ℕ) (remaining : Rd → Option (List ℕ)) (given : Reading Rd) (end : ReaderEnd) : Type 0 where
   pub same : AllZip SameProducer given.rings end.producers.items
   pub left : Option (List ℕ)
   pub held : Held
   pub hands : HandsOn given.bound.session (concat given.bound.frames ++ given.bound.framer) (remaining (device given.reader)) left (map sent given.rings) (map sent end.producers.items) held end
-  -- as many slots are held back as it is to follow by
+  -- it holds back slots as the limit says that it follows
   pub follows : held.most ≡ most_held given.follow.limit
   pub most : GaveAtMost (most_piece * turns) (remaining (device given.reader)) left
   pub took : end.cause ≡ Turns → TookTurns turns end.errors (remaining (device given.reader)) left
@@ -70,14 +70,14 @@ pub record HasRead {Rd : Type 0} (turns : ℕ) (remaining : Rd → Option (List 
   pub ended : end.cause ≡ Ended → IsAtEnd left
   pub fault : end.cause ≡ ReadFault → 0 < end.errors
 
--- what was read while it was bound: the octets were told, and what is left; the first frame bound the session, and the bound
--- session has what came behind it
+-- what was read until the bind was answered: the first octets of those in `told`, and what is left; the first frame bound the session, and the
+-- bound session has what came after it
 pub record IsOpened (mode : Mode) (told left : Option (List ℕ)) (bound : Bound) : Type 0 where
   pub octets : List ℕ
   pub read : Consumes told left octets
   pub bounds : Bounds mode octets bound.session bound.frames bound.framer
 
--- so of each bind's parts, of which the first have this place
+-- the same of each bind's parts, from this place on
 abbrev pub AreOpened : {Rd : Type 0} → (Rd → Option (List ℕ)) → Mode → (ℕ → Option (List ℕ)) → ℕ → List (BindParts Rd) → Type 0
 AreOpened remaining mode told bind [] = Unit {0}
 AreOpened remaining mode told bind (parts ∷ others) = IsOpened mode (told bind) (remaining (device parts.reader)) parts.bound × AreOpened remaining mode told (bind + 1) others

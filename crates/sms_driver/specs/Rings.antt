@@ -6,7 +6,7 @@ use Rattle.rtrb.specs.declared.producer.Producer.{Producer}
 use Rattle.rtrb.specs.declared.consumer.Consumer.{Consumer}
 
 module _ {T A P : Type 0} where
-  -- the two ends of one ring, into which nothing went yet; it has room for as many answers as a window has slots
+  -- the two ends of one empty ring, with room for as many answers as a window has slots
   abbrev pub IsNewPair : Producer T A P → Consumer T A P → Type 0
   IsNewPair p c = IsPair p c × (sent p ≡ []) × (received c ≡ []) × (known_free p ≡ most_slots)
 

@@ -8,7 +8,7 @@ use Rattle.sms_message.specs.declared.message.Message.{Message}
 use Rattle.sms_message.specs.declared.rules.Rules.{Rules}
 use Rattle.sms_worker.specs.Types.{MessageEnd, SegmentEnd}
 use Rattle.sms_message.specs.Ends.{credits, total}
-use Rattle.sms_deal.specs.Deals.{dealt}
+use Rattle.sms_driver.specs.Deals.{dealt}
 use Rattle.sms_worker.specs.EndOf.{IsEndOf}
 
 -- the sums over messages and their ends, list by list
@@ -23,7 +23,7 @@ pub record Summed (ms : List Message) (es : List MessageEnd) (shares : List Shar
   pub charged : (i : ℕ) → over_shares (λ a. a.charged) i shares ≡ credits charged_of i ms es
   pub returned : (i : ℕ) → over_shares (λ a. a.returned) i shares ≡ credits returned_of i ms es
 
--- the ends are those of all messages, dealt out as they were, and the shares are all of the book's and hold their sums
+-- the ends are those of all messages, dealt out as the messages were; the shares are all of the book's, and hold the sums over the ends
 pub record AreSettled (rules : Rules) (accounts count : ℕ) (ms : List Message) (shares : List Share) (ess : List (List MessageEnd)) : Type 0 where
   pub es : List MessageEnd
   pub long : length es ≡ length ms

@@ -1,36 +1,36 @@
--- How far a sending came, and what a fault says of that.
+-- How far a sending came, and which faults it can end with there.
 use Rattle.std.specs.Prelude.{◌≡◌, ◌⊎◌}
 use Rattle.sms_driver.specs.declared.fault.SendFault.{SendFault}
 use Rattle.sms_driver.specs.declared.fault.SendFault.TheVariants as fault
-use Rattle.sms_driver.specs.declared.latch.Latch.{Latch}
-use Rattle.sms_driver.specs.declared.latch.Word.TheVariants.{Leave}
-use Rattle.sms_driver.specs.declared.start.Begun.{Begun}
-use Rattle.sms_driver.specs.declared.start.Begun.TheVariants.{NotYet, Asked, Heard}
+use Rattle.sms_driver.specs.declared.start_gate.StartGate.{StartGate}
+use Rattle.sms_driver.specs.declared.start_gate.Command.TheVariants.{Leave}
+use Rattle.sms_driver.specs.declared.start.StartPhase.{StartPhase}
+use Rattle.sms_driver.specs.declared.start.StartPhase.TheVariants.{Idle, Starting, Released}
 use Rattle.sms_driver.specs.declared.start.Stage.{Stage}
 use Rattle.sms_driver.specs.declared.start.Stage.TheVariants as stage
-use Rattle.sms_driver.specs.Latches.{IsSaidAt, word_of}
+use Rattle.sms_driver.specs.StartGates.{IsFiredAt, command_of}
 
 -- what contracts see of a start
 pub record StartState : Type 0 where
-  pub latch : Latch
-  pub begun : Begun
+  pub latch : StartGate
+  pub begun : StartPhase
 
-abbrev pub begun_of : Stage → Begun
-begun_of (stage.Unsaid unsaid) = NotYet
-begun_of stage.Taken = Asked
-begun_of (stage.Said said) = Heard (word_of said)
+abbrev pub begun_of : Stage → StartPhase
+begun_of (stage.Trigger trigger) = Idle
+begun_of stage.Taken = Starting
+begun_of (stage.Started started) = Released (command_of started)
 
--- the leave is of this latch, or the word was said there
-abbrev pub IsStageAt : Latch → Stage → Type 0
-IsStageAt latch (stage.Unsaid unsaid) = unsaid.latch.value ≡ latch
+-- the permission is of this gate, or the command was given there
+abbrev pub IsStageAt : StartGate → Stage → Type 0
+IsStageAt latch (stage.Trigger trigger) = trigger.latch.value ≡ latch
 IsStageAt latch stage.Taken = Unit {0}
-IsStageAt latch (stage.Said said) = IsSaidAt latch said
+IsStageAt latch (stage.Started started) = IsFiredAt latch started
 
--- how far a sending came that ends with this fault, which never is where threads were told to go: a book is refused, and a bind fails, before a word is said, a
--- thread is refused where all were told to leave, and memory before a word or there
-abbrev pub TellsStart : Begun → SendFault → Type 0
-TellsStart begun (fault.BindRefused bind status) = begun ≡ NotYet
-TellsStart begun (fault.BindFailed bind why) = begun ≡ NotYet
-TellsStart begun (fault.BookRefused why) = begun ≡ NotYet
-TellsStart begun fault.ThreadRefused = begun ≡ Heard Leave
-TellsStart begun fault.OutOfMemory = (begun ≡ NotYet) ⊎ (begun ≡ Heard Leave)
+-- how far a sending came that ends with this fault; its threads were never let go: a book is refused, and a bind fails, before a command is given; if a thread
+-- is refused all were told to leave; and memory is refused before a command, or all were told to leave
+abbrev pub TellsStart : StartPhase → SendFault → Type 0
+TellsStart begun (fault.BindRefused bind status) = begun ≡ Idle
+TellsStart begun (fault.BindFailed bind why) = begun ≡ Idle
+TellsStart begun (fault.BookRefused why) = begun ≡ Idle
+TellsStart begun fault.ThreadRefused = begun ≡ Released Leave
+TellsStart begun fault.OutOfMemory = (begun ≡ Idle) ⊎ (begun ≡ Released Leave)

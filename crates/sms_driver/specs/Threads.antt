@@ -1,30 +1,30 @@
--- What the threads of a sending are given, and what comes back of them.
+-- What the threads of a sending are given, and what they give back.
 use Rattle.std.specs.Prelude.{◌≡◌, ◌≤◌, ℕ, List, [], length, map, take, Option, vec_capacity}
 use Rattle.std.specs.List.{AllByRecursion, AllZip}
 use Rattle.sms_message.specs.declared.rules.Rules.{Rules}
-use Rattle.sms_driver.specs.declared.latch.Latch.{Latch}
-use Rattle.sms_unbind.specs.declared.binds.DriverSeat.{DriverSeat}
-use Rattle.sms_unbind.specs.declared.binds.SharedBind.{SharedBind}
-use Rattle.sms_driver.specs.declared.task.WorkerTask.{WorkerTask}
+use Rattle.sms_driver.specs.declared.start_gate.StartGate.{StartGate}
+use Rattle.sms_driver.specs.declared.binding.binds.DriverSeat.{DriverSeat}
+use Rattle.sms_driver.specs.declared.binding.binds.SharedBind.{SharedBind}
+use Rattle.sms_driver.specs.declared.threads.task.WorkerTask.{WorkerTask}
 use Rattle.sms_driver.specs.declared.threads.ReaderTask.{ReaderTask}
-use Rattle.sms_driver.specs.declared.thread_scope.Crew.{Crew}
-use Rattle.sms_driver.specs.declared.thread_scope.Returned.{Returned}
-use Rattle.sms_unbind.specs.Unbinds.{AsksEach, HasTried}
+use Rattle.sms_driver.specs.declared.threads.scope.Crew.{Crew}
+use Rattle.sms_driver.specs.declared.threads.scope.Returned.{Returned}
+use Rattle.sms_driver.specs.Unbinds.{AsksEach, HasTried}
 use Rattle.sms_driver.specs.Reads.{listener_of, listener_promised, reading_of, HasRead, IsUnread}
 use Rattle.sms_driver.specs.Worked.{IsHandedBack, IsResultOf}
 
--- it works at its seat's window, and has room for as many open requests as the rules allow
+-- a worker's seat is of the window where it works, and the worker has room for as many open requests as the rules allow
 abbrev pub IsPrepared : {N W : Type 0} → Rules → WorkerTask N W → Type 0
 IsPrepared rules t = (t.assignment.worker.seat.window ≡ t.window.now) × (rules.depth ≤ t.assignment.room)
 
--- each worker is prepared, each worker's and each reader's seat is of the window that it works at, and the driver's seats are of the binds, in order
+-- each worker is prepared, each reader's seat is of its window, and in order the driver's seats are of the binds' windows
 pub record AreSeated {N Rd W : Type 0} (rules : Rules) (tasks : List (WorkerTask N W)) (reader_tasks : List (ReaderTask Rd W)) (driver_seats : List DriverSeat) (shared_binds : List (SharedBind W)) : Type 0 where
   pub workers : AllByRecursion (IsPrepared rules) tasks
   pub readers : AllByRecursion (λ t. t.seat.window ≡ t.window.now) reader_tasks
   pub driver : map (λ s. s.seat.window) driver_seats ≡ map (λ b. b.window) shared_binds
 
--- in order, a result of each assignment, each reader's seat with what it did with what it read, and the driver's seats; an unbind
--- was asked for once at each bind
+-- in order there is a result of each assignment, and each reader's end, which agrees with what it read; an unbind was tried once at
+-- each bind
 pub record HaveReturned {N Rd W : Type 0} (rules : Rules) (remaining : Rd → Option (List ℕ)) (tasks : List (WorkerTask N W)) (reader_tasks : List (ReaderTask Rd W)) (driver_seats : List DriverSeat) (shared_binds : List (SharedBind W)) (returned : Returned N) : Type 0 where
   pub results : AllZip (IsResultOf rules) (map (λ t. t.assignment) tasks) returned.worker_results.items
   pub readers : map (λ d. d.seat.window) returned.readers.items ≡ map (λ t. t.seat.window) reader_tasks
@@ -33,8 +33,9 @@ pub record HaveReturned {N Rd W : Type 0} (rules : Rules) (remaining : Rd → Op
   pub asked : AsksEach driver_seats returned.driver_seats.items
   pub tried : AllByRecursion HasTried returned.driver_seats.items
 
--- nothing was done: in order, the first of the workers and of the readers gave back what they were given; an unbind was asked for once at each bind
-pub record HaveLeft {N Rd W : Type 0} (tasks : List (WorkerTask N W)) (reader_tasks : List (ReaderTask Rd W)) (driver_seats : List DriverSeat) (shared_binds : List (SharedBind W)) (left : Returned N) : Type 0 where
+-- nothing was done: in order the first workers and readers, which were started, gave back what they were given; an unbind was tried once at each
+-- bind
+pub record WereHandedBack {N Rd W : Type 0} (tasks : List (WorkerTask N W)) (reader_tasks : List (ReaderTask Rd W)) (driver_seats : List DriverSeat) (shared_binds : List (SharedBind W)) (left : Returned N) : Type 0 where
   pub workers : AllZip IsHandedBack (take (length left.worker_results.items) (map (λ t. t.assignment) tasks)) left.worker_results.items
   pub readers : AllZip (λ given end. IsUnread given.0 given.1.rings end) (take (length left.readers.items) (map listener_of reader_tasks)) left.readers.items
   pub driver : map (λ s. s.seat.window) left.driver_seats.items ≡ map (λ b. b.window) shared_binds
@@ -49,15 +50,15 @@ module _ {N Rd : Type 0} where
     pub worker_results : crew.worker_results.items ≡ []
     pub reader_ends : crew.reader_ends.items ≡ []
 
-  -- for so many workers and readers
+  -- there is room for this many workers and readers
   pub record HasRoom (workers readers : ℕ) (crew : Crew N Rd) : Type 0 where
     pub workers_fit : workers ≤ vec_capacity crew.workers
     pub readers_fit : readers ≤ vec_capacity crew.readers
     pub results_fit : workers ≤ vec_capacity crew.worker_results
     pub ends_fit : readers ≤ vec_capacity crew.reader_ends
 
-  -- those that were started, which are the first ones, wait at the latch, and none gave anything back yet, for which there is room
-  pub record IsCrew {W : Type 0} (rules : Rules) (latch : Latch) (tasks : List (WorkerTask N W)) (reader_tasks : List (ReaderTask Rd W)) (crew : Crew N Rd) : Type 0 where
+  -- those that were started are the first ones; they wait at the gate, none gave anything back yet, and there is room for that
+  pub record IsCrew {W : Type 0} (rules : Rules) (latch : StartGate) (tasks : List (WorkerTask N W)) (reader_tasks : List (ReaderTask Rd W)) (crew : Crew N Rd) : Type 0 where
     pub workers : map (λ h. h.promise.assignment.value) crew.workers.items ≡ take (length crew.workers.items) (map (λ t. t.assignment) tasks)
     pub readers : map (λ h. listener_promised h.promise) crew.readers.items ≡ take (length crew.readers.items) (map listener_of reader_tasks)
     pub given : AllByRecursion (λ h. (h.promise.rules.value ≡ rules) × (h.promise.latch.value ≡ latch)) crew.workers.items
@@ -67,7 +68,7 @@ module _ {N Rd : Type 0} where
     pub results_fit : length crew.workers.items ≤ vec_capacity crew.worker_results
     pub ends_fit : length crew.readers.items ≤ vec_capacity crew.reader_ends
 
-  -- they are all
+  -- all were started
   pub record IsWhole {W : Type 0} (tasks : List (WorkerTask N W)) (reader_tasks : List (ReaderTask Rd W)) (crew : Crew N Rd) : Type 0 where
     pub all_workers : map (λ h. h.promise.assignment.value) crew.workers.items ≡ map (λ t. t.assignment) tasks
     pub all_readers : map (λ h. listener_promised h.promise) crew.readers.items ≡ map listener_of reader_tasks

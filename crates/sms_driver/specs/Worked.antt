@@ -16,7 +16,7 @@ use Rattle.sms_worker.specs.Told.{AllTold, Drew, Grew}
 use Rattle.sms_worker.specs.ReadyState.{ReadyState}
 use Rattle.sms_driver.specs.Closings.{SaysWhy}
 
--- its ends are its messages', and its share grew by them
+-- the ends are those of the messages, and the share grew by them
 pub record Worked (rules : Rules) (old new : List Amounts) (ms : List Message) (es : List MessageEnd) : Type 0 where
   pub ends : AllZip (IsEndOf rules (length old)) ms es
   pub credits : Grew old new ms es
@@ -35,13 +35,13 @@ pub record IsWorkOf {N : Type 0} (rules : Rules) (a : ReadyState N) (d : WorkerE
   -- the numbers were drawn by the seat, each for one attempt
   pub numbers : Drew a.worker.seat.view d.seat.view a.messages d.ends.items
   pub apart : NumbersApart d.ends.items
-  -- where it says no cause, it refused no message as bind-closed
+  -- if it gives no cause, it refused no message as bind-closed
   pub says_why : SaysWhy d.closed d.ends.items
 
--- what comes back of an assignment: its work
+-- the result of an assignment that was let go: its work
 abbrev pub IsResultOf : {N E M : Type 0} → Rules → ReadyState N → Result (WorkerEnd N) (E × Worker N × M) → Type 0
 IsResultOf rules a r = MatchResult r (IsWorkOf rules a) (λ e. ⊥)
 
--- nothing was done: the worker and its messages came back as they were given
+-- the result of an assignment that left: the worker and its messages, as they were given
 abbrev pub IsHandedBack : {N E : Type 0} → ReadyState N → Result (WorkerEnd N) (E × Worker N × Vec Message Global) → Type 0
 IsHandedBack a r = MatchResult r (λ d. ⊥) (λ e. (e.1 ≡ a.worker) × (e.2.items ≡ a.messages))

@@ -1,4 +1,9 @@
-//! How the binds are made, one after the other (SMPP 3.4 4.1).
+//! Makes the binds, one after the other (SMPP 3.4 4.1).
+
+pub mod binds;
+pub mod following;
+pub mod rings;
+pub mod seats;
 
 ghost use Rattle.std.specs.Prelude.{◌≡◌, ℕ, ◌<◌, ◌≤◌, [], ◌∷◌, length, map, vec_capacity, false, Err, IfErr, IfOk, IsOk, OnOk};
 ghost use Rattle.std.specs.List.{AllByRecursion, AllZip};
@@ -14,16 +19,17 @@ ghost use Rattle.sms_driver.specs.SendFaults.{HasFailed, IsFaultOf, IsFaultOfRun
 ghost use Rattle.sms_driver.specs.Starts.{TellsStart};
 ghost use Rattle.sms_driver.specs.declared.fault.BindFailure.TheVariants.{NoConnection};
 ghost use Rattle.sms_driver.specs.declared.fault.SendFault.TheVariants.{BindFailed};
-ghost use Rattle.sms_driver.specs.declared.start.Begun.TheVariants.{NotYet};
+ghost use Rattle.sms_driver.specs.declared.start.StartPhase.TheVariants.{Idle};
 
-use crate::failures::{ReadFailure, WriteFailure};
+use crate::binding::rings::Rings;
+use crate::binding::seats::{NewWindow, open_window, split_seats};
 use crate::fault::{BindFailure, SendFault};
-use crate::rings::Rings;
-use crate::seats::{NewWindow, open_window, split_seats};
+use crate::{
+    BindParts, Binds, DriverSeat, Following, SharedBind, UnbindResult, roll_back_if_failed,
+};
 use sms_bind::{BindFault, Bound, Line, Settings, Wire, bind};
-use sms_pdu::Tap;
+use sms_pdu::{DeviceError, Tap};
 use sms_slot::SlotRow;
-use sms_unbind::{BindParts, Binds, DriverSeat, Following, SharedBind, Unbinding, unless_failed};
 use std::alloc::Global;
 use std::io::{Read, Write};
 use std::snapshot::Snapshot;
@@ -33,17 +39,17 @@ use std::sync::Wait;
 pub trait Dial {
     ghost use Rattle.std.specs.Prelude.{◌≡◌, ℕ, List, Option, None, IfSome, ⊤};
 
-    // The octets that the reader for the bind with this place will give, where they are known.
+    // The octets that the reader of the bind at this place will give, if they are known.
     ghost told: { Self → ℕ → Option (List ℕ) } = { λ _ _. None };
 
-    // What is known of a bind for which there is no connection.
+    // What is known of a bind that gets no connection.
     ghost refuses: { Self → ℕ → Type 0 } = { λ _ _. ⊤ };
 
     type Reader: Read + Send + Drop;
 
     type Writer: Write + Send + Drop;
 
-    /// A connection for the bind with this place, counted from 0; none where there is no connection.
+    /// A connection for the bind at this place, counted from 0; none if there is no connection.
     fn dial(&self, bind: u32) -> Option<(Self::Reader, Self::Writer)>
         ensures told { IfSome result (λ ends. Self.Reader.remaining ends.0 ≡ told self.now bind) }
         ensures refused { result ≡ None → refuses self.now bind };
@@ -59,9 +65,9 @@ pub struct BindSettings {
     pub follow: bool,
 }
 
-/// A bind that was made; its wire as it was dialled, and once the bind was asked for.
+/// A new bind; and snapshots of its wire as it was dialled, and after the bind request.
 #[derive(Drop)]
-struct Made<Rd, W> {
+struct NewBind<Rd, W> {
     shared: SharedBind<W>,
     parts: BindParts<Rd>,
     driver_seat: DriverSeat,
@@ -69,7 +75,7 @@ struct Made<Rd, W> {
     asked: Snapshot<Wire<W>>,
 }
 
-/// A bind's fault, as the sending tells it, by what its reader and its writer answered.
+/// The sending's fault for a bind's fault. A failed read or write carries the error of the device.
 fn fault_of<Rd: Read, W: Write>(
     bind: u32,
     fault: BindFault,
@@ -84,11 +90,11 @@ fn fault_of<Rd: Read, W: Write>(
         BindFault::Refused(status) => SendFault::BindRefused(bind, status),
         BindFault::Closed => SendFault::BindFailed(bind, BindFailure::Closed),
         BindFault::NotSmpp => SendFault::BindFailed(bind, BindFailure::NotSmpp),
-        BindFault::Read => match ReadFailure::of(reader) {
+        BindFault::Read => match DeviceError::of(reader) {
             Some(failure) => SendFault::BindFailed(bind, BindFailure::Read(failure)),
             None => unreachable!(),
         },
-        BindFault::Write => match WriteFailure::of(writer) {
+        BindFault::Write => match DeviceError::of(writer) {
             Some(failure) => SendFault::BindFailed(bind, BindFailure::Write(failure)),
             None => unreachable!(),
         },
@@ -97,7 +103,7 @@ fn fault_of<Rd: Read, W: Write>(
 }
 
 /// The window's limit for a reader that follows.
-fn following(bind_settings: &BindSettings) -> Following
+fn follow_of(bind_settings: &BindSettings) -> Following
     requires limit { (1 ≤ bind_settings.now.limit) × (bind_settings.now.limit ≤ most_slots) }
     ensures { result.limit ≡ follow_of bind_settings.now }
 {
@@ -110,7 +116,7 @@ fn following(bind_settings: &BindSettings) -> Following
     }
 }
 
-/// Binds with a number.
+/// Binds with this sequence_number.
 fn bind_with<Rd: Read, W: Write>(
     alloc: Global,
     reader: &mut Tap<Rd>,
@@ -120,10 +126,10 @@ fn bind_with<Rd: Read, W: Write>(
 ) -> Result<Bound, BindFault>
     requires unused { (faults_of reader.old ≡ 0) × (write_faults wire.old ≡ 0) }
     ensures bound { OnOk result (HasBound settings.now number (W.contents (writer wire.old)) (W.contents (writer wire.new))) }
-    // What was read is the bind's answer and what came behind it.
+    // What was read is the bind's answer and what came after it.
     ensures opened { IfOk result (IsOpened settings.now.mode (Rd.remaining (device reader.old)) (Rd.remaining (device reader.new))) }
-    // What is told is what the octets say that were read then, or what the devices answered.
-    ensures told { IfErr result (HasFailed settings.now.mode (Rd.remaining (device reader.old)) (Rd.remaining (device reader.new))) }
+    // A fault agrees with the octets that were read, or with what the devices answered.
+    ensures failed { IfErr result (HasFailed settings.now.mode (Rd.remaining (device reader.old)) (Rd.remaining (device reader.new))) }
     ensures read { result ≡ Err ReadFault → 0 < faults_of reader.new }
     ensures write { result ≡ Err WriteFault → is_broken wire.old ≡ false → 0 < write_faults wire.new }
 {
@@ -153,7 +159,7 @@ struct Connected<Rd, W> {
     dialled: Snapshot<Wire<W>>,
 }
 
-/// Dials, and binds with a number.
+/// Dials, and binds with this sequence_number.
 fn dial_and_bind<D: Dial>(
     alloc: Global,
     dial: &D,
@@ -188,14 +194,14 @@ fn make_bind<D: Dial>(
     bind_place: u32,
     workers: usize,
     rings: Rings,
-) -> Result<Made<D::Reader, D::Writer>, SendFault>
+) -> Result<NewBind<D::Reader, D::Writer>, SendFault>
     requires rings { length rings.consumers.items ≡ workers }
     requires pairs { AllZip IsNewPair rings.producers.items rings.consumers.items }
-    requires few { workers < 62 }
+    requires bound { workers < 62 }
     ensures seated { IfOk result (λ m. IsSeated workers m.shared m.parts) }
     ensures opened { IfOk result (λ m. IsOpened bind_settings.now.settings.mode (D.told dial.now bind_place) (D.Reader.remaining (device m.parts.reader)) m.parts.bound) }
     ensures set { IfOk result (λ m. IsSetUp bind_settings.now m.parts) }
-    // The settings' bind went out, with the one number that was drawn of its window.
+    // The settings' bind was written, with the one number that was drawn from its window.
     ensures asked { IfOk result (λ m. (number : ℕ) × (m.parts.keeper.view.numbers ≡ number ∷ []) × HasBound bind_settings.now.settings number (D.Writer.contents (writer m.dialled.value)) (D.Writer.contents (writer m.asked.value))) }
     ensures driver_seat { IfOk result (λ m. m.driver_seat.seat.window ≡ m.shared.window) }
     ensures refused { IfErr result (IsFaultOf (D.refuses dial.now) (D.told dial.now) bind_settings.now.settings.mode bind_place) }
@@ -225,7 +231,7 @@ fn make_bind<D: Dial>(
     } = dial_and_bind(alloc, dial, settings, bind_place, number)?;
     let asked = Snapshot::of(&wire);
     let (line, leave) = Line::new(slots, wire);
-    Ok(Made {
+    Ok(NewBind {
         shared: SharedBind { line, window },
         parts: BindParts {
             keeper,
@@ -234,19 +240,19 @@ fn make_bind<D: Dial>(
             producers,
             reader,
             bound,
-            follow: following(bind_settings),
+            follow: follow_of(bind_settings),
             leave,
         },
         driver_seat: DriverSeat {
             seat,
-            unbinding: Unbinding::NotYet,
+            unbind_result: UnbindResult::Idle,
         },
         dialled,
         asked,
     })
 }
 
-/// Makes a bind for each set of rings, up to the first that fails. Gives those that were made.
+/// Makes a bind for each set of rings, up to the first that fails. Returns those that were made.
 fn bind_each<D: Dial>(
     alloc: Global,
     dial: &D,
@@ -257,7 +263,7 @@ fn bind_each<D: Dial>(
 ) -> (Binds<D::Reader, D::Writer>, Result<(), SendFault>)
     requires rings { AllByRecursion (λ r. length r.consumers.items ≡ workers) rings.items }
     requires pairs { AllByRecursion (λ r. AllZip IsNewPair r.producers.items r.consumers.items) rings.items }
-    requires few { workers < 62 }
+    requires bound { workers < 62 }
     requires binds { length rings.items ≤ 4 }
     requires none { (binds.shared_binds.items ≡ []) × (binds.bind_parts.items ≡ []) × (binds.driver_seats.items ≡ []) }
     requires room { (length rings.items ≤ vec_capacity binds.shared_binds) × (length rings.items ≤ vec_capacity binds.bind_parts) × (length rings.items ≤ vec_capacity binds.driver_seats) }
@@ -265,8 +271,8 @@ fn bind_each<D: Dial>(
     ensures opened { AreOpened D.Reader.remaining bind_settings.now.settings.mode (D.told dial.now) 0 result.0.bind_parts.items }
     ensures set { AllByRecursion (IsSetUp bind_settings.now) result.0.bind_parts.items }
     ensures seated { AllZip (IsSeated workers) result.0.shared_binds.items result.0.bind_parts.items }
-    ensures long { OnOk result.1 (length result.0.shared_binds.items ≡ length rings.items) }
-    // The first that failed is told.
+    ensures length { OnOk result.1 (length result.0.shared_binds.items ≡ length rings.items) }
+    // The fault is that of the first bind that failed.
     ensures refused { IfErr result.1 (λ fault. (length result.0.shared_binds.items < length rings.items) × IsFaultOf (D.refuses dial.now) (D.told dial.now) bind_settings.now.settings.mode (length result.0.shared_binds.items) fault) }
 {
     let Binds {
@@ -278,7 +284,7 @@ fn bind_each<D: Dial>(
     for theirs in rings {
         match make_bind(alloc, dial, bind_settings, place, workers, theirs) {
             Ok(made) => {
-                let Made {
+                let NewBind {
                     shared,
                     parts,
                     driver_seat,
@@ -312,7 +318,7 @@ fn bind_each<D: Dial>(
     )
 }
 
-/// Makes a bind for each set of rings. If one fails, those made are unbound.
+/// Makes a bind for each set of rings. If one fails, the others are unbound.
 pub(crate) fn make_binds<D: Dial, R: Wait>(
     rt: &R,
     alloc: Global,
@@ -323,16 +329,16 @@ pub(crate) fn make_binds<D: Dial, R: Wait>(
 ) -> Result<Binds<D::Reader, D::Writer>, SendFault>
     requires rings { AllByRecursion (λ r. length r.consumers.items ≡ workers) rings.items }
     requires pairs { AllByRecursion (λ r. AllZip IsNewPair r.producers.items r.consumers.items) rings.items }
-    requires few { workers < 62 }
+    requires bound { workers < 62 }
     requires binds { length rings.items ≤ 4 }
     ensures driver_seats { IfOk result (λ b. map (λ s. s.seat.window) b.driver_seats.items ≡ map (λ b. b.window) b.shared_binds.items) }
     ensures opened { IfOk result (λ b. AreOpened D.Reader.remaining bind_settings.now.settings.mode (D.told dial.now) 0 b.bind_parts.items) }
     ensures set { IfOk result (λ b. AllByRecursion (IsSetUp bind_settings.now) b.bind_parts.items) }
     ensures seated { IfOk result (λ b. AllZip (IsSeated workers) b.shared_binds.items b.bind_parts.items) }
-    ensures long { IfOk result (λ b. length b.shared_binds.items ≡ length rings.items) }
+    ensures length { IfOk result (λ b. length b.shared_binds.items ≡ length rings.items) }
     ensures refused { IfErr result (IsFaultOfRun (D.refuses dial.now) (D.told dial.now) bind_settings.now.settings.mode (length rings.items)) }
-    // No word was said yet.
-    ensures early { IfErr result (TellsStart NotYet) }
+    // No thread was started yet.
+    ensures phase { IfErr result (TellsStart Idle) }
 {
     let none = Binds {
         shared_binds: Vec::with_capacity(alloc, rings.len())?,
@@ -340,5 +346,5 @@ pub(crate) fn make_binds<D: Dial, R: Wait>(
         driver_seats: Vec::with_capacity(alloc, rings.len())?,
     };
     let (binds, made) = bind_each(alloc, dial, bind_settings, workers, rings, none);
-    unless_failed(rt, alloc, binds, made)
+    roll_back_if_failed(rt, alloc, binds, made)
 }

@@ -1,45 +1,51 @@
 //! What a run ends with.
 
+pub mod buffers;
+pub mod causes;
+pub mod closing;
+pub mod ring_ends;
+pub mod skipped;
+pub mod unbind;
+pub mod unbind_result;
+
 ghost use Rattle.std.specs.Prelude.{◌≡◌, ◌∷◌, ◌++◌, [], ℕ, ◌<◌, List, length, map, IsOk, Ok, vec_len, vec_capacity};
 ghost use Rattle.std.specs.List.{AllByRecursion, AllZip};
 ghost use Rattle.rtrb.specs.Ring.{IsPair};
 ghost use Rattle.sms_book.specs.Portions.{row_at};
 ghost use Rattle.sms_book.specs.Shares.{AreAll};
 ghost use Rattle.sms_book.specs.Sums.{IsSumOf};
-ghost use Rattle.sms_worker.specs.Types.{MessageEnd};
-ghost use Rattle.sms_driver.specs.BindEnds.{outcome_of, AreBinds};
-ghost use Rattle.sms_unbind.specs.Unbinds.{HasTried};
-ghost use Rattle.sms_driver.specs.Closings.{AreTold};
-ghost use Rattle.sms_deal.specs.Deals.{dealt};
-ghost use Rattle.sms_driver.specs.Numbered.{AllDrewOnce, DrewBelow};
-ghost use Rattle.sms_driver.specs.Rings.{flat};
-ghost use Rattle.sms_driver.specs.Rooms.{ArePartsFor, IsFree, IsRoomFor};
 ghost use Rattle.sms_worker.specs.Rests.{HasReceived};
-ghost use Rattle.sms_driver.specs.Seated.{windows};
+ghost use Rattle.sms_worker.specs.Types.{MessageEnd};
+ghost use Rattle.sms_driver.specs.BindEnds.{outcome_of};
+ghost use Rattle.sms_driver.specs.Buffers.{AreBuffersFor, ArePartsFor, IsFree};
+ghost use Rattle.sms_driver.specs.Deals.{dealt};
+ghost use Rattle.sms_driver.specs.Rings.{flat};
+ghost use Rattle.sms_driver.specs.Runs.{IsConcluded, IsOfBinds};
 
 use crate::bind_end::BindEnd;
-use crate::joining::{Taken, take_rings};
-use crate::leaving::{Left, close_all};
-use crate::room::{Parts, Room};
+use crate::ending::buffers::{Buffers, Parts};
+use crate::ending::closing::{BindRemains, close_all};
+use crate::ending::ring_ends::{RingEnds, take_rings};
 use crate::threads::WorkerResult;
+use crate::{DriverSeat, SharedBind, merged};
 use rtrb::Consumer;
+use sms_bind::ReaderEnd;
 use sms_book::{Book, BookName, Shares, Statement, Till, gather};
-use sms_deal::{keep_share, merged};
 use sms_pdu::Reply;
 use sms_worker::laws::received_are_prefixes;
 use sms_worker::{MessageEnd, WorkerEnd};
 use std::collections::VecDeque;
 
-/// What all workers give back, each of which did its work, in the room that was made for it.
+/// The ends of the workers, all of which did their work, in the buffer that was made for them.
 pub fn all_done<N: BookName>(
     worker_results: Vec<WorkerResult<N>>,
-    room: Vec<WorkerEnd<N>>,
+    buffer: Vec<WorkerEnd<N>>,
 ) -> Vec<WorkerEnd<N>>
     requires worked { AllByRecursion (λ r. IsOk r) worker_results.items }
-    requires room { IsFree (length worker_results.items) room }
+    requires room { IsFree (length worker_results.items) buffer }
     ensures { map (λ d. Ok d) result.items ≡ worker_results.items }
 {
-    let mut done = room;
+    let mut done = buffer;
     for worker_result in worker_results {
         let Ok(end) = worker_result else {
             unreachable!()
@@ -49,15 +55,16 @@ pub fn all_done<N: BookName>(
     done
 }
 
-fn take_apart<N: BookName>(done: Vec<WorkerEnd<N>>, room: Parts<N>) -> Parts<N>
-    requires room { ArePartsFor (length done.items) room }
+/// Takes the workers' ends apart, into the buffers that were made for the parts.
+fn take_apart<N: BookName>(done: Vec<WorkerEnd<N>>, parts: Parts<N>) -> Parts<N>
+    requires parts { ArePartsFor (length done.items) parts }
     ensures shares { result.shares.items ≡ map (λ d. d.shares) done.items }
     ensures ends { map (λ q. q.items) result.ends.items ≡ map (λ d. d.ends.items) done.items }
     ensures seats { map (λ s. s.window) result.seats.items ≡ map (λ d. d.seat.window) done.items }
     ensures views { map (λ s. s.view) result.seats.items ≡ map (λ d. d.seat.view) done.items }
     ensures consumers { result.consumers.items ≡ map (λ d. d.consumer) done.items }
     ensures causes { result.causes.items ≡ map (λ d. d.closed) done.items }
-    ensures long { length result.ends.items ≡ length done.items }
+    ensures length { length result.ends.items ≡ length done.items }
 {
     let Parts {
         mut shares,
@@ -65,7 +72,7 @@ fn take_apart<N: BookName>(done: Vec<WorkerEnd<N>>, room: Parts<N>) -> Parts<N>
         mut seats,
         mut consumers,
         mut causes,
-    } = room;
+    } = parts;
     for end in done {
         let WorkerEnd {
             shares: share,
@@ -74,7 +81,7 @@ fn take_apart<N: BookName>(done: Vec<WorkerEnd<N>>, room: Parts<N>) -> Parts<N>
             consumer,
             closed,
         } = end;
-        keep_share(&mut shares, share);
+        shares.push_reserved(share);
         ends.push_reserved(VecDeque::from(theirs));
         seats.push_reserved(seat);
         consumers.push_reserved(consumer);
@@ -89,8 +96,8 @@ fn take_apart<N: BookName>(done: Vec<WorkerEnd<N>>, room: Parts<N>) -> Parts<N>
     }
 }
 
-/// What a sending gives: an end for each message, in order, a row for each account, and what became
-/// of each bind.
+/// The result of a sending: an end for each message, in order, a row for each account, and the end of
+/// each bind.
 #[derive(Drop)]
 pub struct Sending {
     pub ends: Vec<MessageEnd>,
@@ -98,7 +105,7 @@ pub struct Sending {
     pub binds: Vec<BindEnd>,
 }
 
-/// The statement, once all of the book's shares are back.
+/// The statement of a book, all of whose shares are back.
 fn settle<N: BookName>(book: Book<N>, till: Till<N>, shares: Vec<Shares<N>>) -> Statement
     requires all { AreAll N.book.workers shares.items }
     ensures accounts { length result ≡ N.book.accounts }
@@ -110,27 +117,31 @@ fn settle<N: BookName>(book: Book<N>, till: Till<N>, shares: Vec<Shares<N>>) -> 
     }
 }
 
-/// Joins the ends of the rings, and gives what is left of the binds without them.
-fn join_ends<W: Drop>(left: Left<W>, consumers: Vec<Consumer<Reply>>, room: Taken) -> Left<W>
-    requires rings { AllZip IsPair (flat (map (λ d. d.producers.items) left.readers.items)) consumers.items }
-    requires producers { IsFree (length (flat (map (λ d. d.producers.items) left.readers.items))) room.producers }
-    requires bare { IsFree (length left.readers.items) room.readers }
-    ensures received { AllZip HasReceived (flat (map (λ d. d.producers.items) left.readers.items)) consumers.items }
-    ensures shared_binds { result.shared_binds ≡ left.shared_binds }
-    ensures readers { map (λ d. d.seat.window) result.readers.items ≡ map (λ d. d.seat.window) left.readers.items }
-    ensures outcomes { map outcome_of result.readers.items ≡ map outcome_of left.readers.items }
-    ensures driver_seats { result.driver_seats ≡ left.driver_seats }
-    ensures workers { result.workers ≡ left.workers }
+/// Joins the ends of the rings. What is left of the binds is given without them.
+fn join_ends<W: Drop>(
+    remains: BindRemains<W>,
+    consumers: Vec<Consumer<Reply>>,
+    buffers: RingEnds,
+) -> BindRemains<W>
+    requires rings { AllZip IsPair (flat (map (λ d. d.producers.items) remains.readers.items)) consumers.items }
+    requires producers { IsFree (length (flat (map (λ d. d.producers.items) remains.readers.items))) buffers.producers }
+    requires bare { IsFree (length remains.readers.items) buffers.readers }
+    ensures received { AllZip HasReceived (flat (map (λ d. d.producers.items) remains.readers.items)) consumers.items }
+    ensures shared_binds { result.shared_binds ≡ remains.shared_binds }
+    ensures readers { map (λ d. d.seat.window) result.readers.items ≡ map (λ d. d.seat.window) remains.readers.items }
+    ensures outcomes { map outcome_of result.readers.items ≡ map outcome_of remains.readers.items }
+    ensures driver_seats { result.driver_seats ≡ remains.driver_seats }
+    ensures workers { result.workers ≡ remains.workers }
 {
-    let Left {
+    let BindRemains {
         shared_binds,
         readers,
         driver_seats,
         workers,
-    } = left;
-    let Taken { producers, readers } = take_rings(readers, room);
+    } = remains;
+    let RingEnds { producers, readers } = take_rings(readers, buffers);
     received_are_prefixes(producers, consumers);
-    Left {
+    BindRemains {
         shared_binds,
         readers,
         driver_seats,
@@ -138,43 +149,45 @@ fn join_ends<W: Drop>(left: Left<W>, consumers: Vec<Consumer<Reply>>, room: Take
     }
 }
 
-/// Closes the binds' windows, and tells the ends in the order of the messages, and the statement.
-pub fn conclude<N: BookName, W: Drop>(
+/// What a run gives back: in order what each worker gave back, and bind by bind the readers' ends and
+/// the driver's seats.
+#[derive(Drop)]
+pub(crate) struct RunOutput<N: BookName> {
+    pub done: Vec<WorkerEnd<N>>,
+    pub readers: Vec<ReaderEnd>,
+    pub driver_seats: Vec<DriverSeat>,
+}
+
+/// Closes the binds' windows. Gives the messages' ends in the order of the messages, the statement, and
+/// the binds' ends.
+pub(crate) fn conclude<N: BookName, W: Drop>(
     book: Book<N>,
     till: Till<N>,
-    done: Vec<WorkerEnd<N>>,
     count: usize,
-    left: Left<W>,
-    room: Room<N>,
+    output: RunOutput<N>,
+    shared_binds: Vec<SharedBind<W>>,
+    workers: usize,
+    buffers: Buffers<N>,
 ) -> Sending
-    requires room { IsRoomFor count (length done.items) (length left.shared_binds.items) room }
-    requires some { 0 < length done.items }
-    requires dealt { (es : List MessageEnd) × (length es ≡ count) × (map (λ d. d.ends.items) done.items ≡ dealt (length done.items) 0 es) }
-    requires shares { AreAll N.book.workers (map (λ d. d.shares) done.items) }
-    requires readers { map (λ d. d.seat.window) left.readers.items ≡ map (λ b. b.window) left.shared_binds.items }
-    requires driver_seats { map (λ s. s.seat.window) left.driver_seats.items ≡ map (λ b. b.window) left.shared_binds.items }
-    requires tried { AllByRecursion HasTried left.driver_seats.items }
-    requires rings { AllZip IsPair (flat (map (λ d. d.producers.items) left.readers.items)) (map (λ d. d.consumer) done.items) }
-    requires seats { map (λ d. d.seat.window) done.items ≡ windows left.workers (map (λ b. b.window) left.shared_binds.items) }
-    ensures ends { (es : List MessageEnd) → length es ≡ count → map (λ d. d.ends.items) done.items ≡ dealt (length done.items) 0 es → result.ends.items ≡ es }
-    // What each worker received is a beginning of what its reader handed to its ring.
-    ensures received { AllZip HasReceived (flat (map (λ d. d.producers.items) left.readers.items)) (map (λ d. d.consumer) done.items) }
-    ensures accounts { length result.statement ≡ N.book.accounts }
-    ensures sums { (i : ℕ) → i < length result.statement → IsSumOf (row_at result.statement i) i till (map (λ d. d.shares) done.items) }
-    ensures binds { AreBinds (length left.shared_binds.items) left.workers result.binds.items }
-    ensures outcomes { map (λ b. b.reader) result.binds.items ≡ map outcome_of left.readers.items }
-    // Each bind was closed as its workers say.
-    ensures told { AreTold left.workers (map (λ d. d.closed) done.items) (map (λ b. b.closing) result.binds.items) }
-    // No two workers of a bind drew one number.
-    ensures once { AllDrewOnce (length left.shared_binds.items) left.workers (map (λ d. d.seat.view) done.items) }
-    ensures below { DrewBelow left.workers (map (λ d. d.seat.view) done.items) (map (λ b. b.window) result.binds.items) }
+    requires buffers { AreBuffersFor count (length output.done.items) (length shared_binds.items) buffers }
+    requires some { 0 < length output.done.items }
+    requires dealt { (es : List MessageEnd) × (length es ≡ count) × (map (λ d. d.ends.items) output.done.items ≡ dealt (length output.done.items) 0 es) }
+    requires shares { AreAll N.book.workers (map (λ d. d.shares) output.done.items) }
+    requires output { IsOfBinds shared_binds.items workers output }
+    ensures ends { (es : List MessageEnd) → length es ≡ count → map (λ d. d.ends.items) output.done.items ≡ dealt (length output.done.items) 0 es → result.ends.items ≡ es }
+    ensures concluded { IsConcluded N.book till (length shared_binds.items) workers output result }
 {
-    let Room {
+    let RunOutput {
+        done,
+        readers,
+        driver_seats,
+    } = output;
+    let Buffers {
         parts,
-        taken,
+        ring_ends,
         bind_ends,
         message_ends,
-    } = room;
+    } = buffers;
     let apart = take_apart(done, parts);
     let Parts {
         shares,
@@ -183,7 +196,13 @@ pub fn conclude<N: BookName, W: Drop>(
         consumers,
         causes,
     } = apart;
-    let joined = join_ends(left, consumers, taken);
+    let remains = BindRemains {
+        shared_binds,
+        readers,
+        driver_seats,
+        workers,
+    };
+    let joined = join_ends(remains, consumers, ring_ends);
     let binds = close_all(joined, seats, causes, bind_ends);
     let statement = settle(book, till, shares);
     Sending {

@@ -1,13 +1,13 @@
 //! Why a sending ends without a statement.
 
-use crate::failures::{ReadFailure, WriteFailure};
 use sms_book::BookError;
+use sms_pdu::DeviceError;
 use std::alloc::AllocError;
 
 /// Why a bind failed, where it wasn't refused.
 #[derive(Clone, Copy, Debug, PartialEq, Eq, thiserror::Error)]
 pub enum BindFailure {
-    /// The dial gave no connection.
+    /// There was no connection.
     #[error("there was no connection")]
     NoConnection,
     /// The input ended before an answer was whole.
@@ -18,13 +18,13 @@ pub enum BindFailure {
     NotSmpp,
     /// A read failed, or gave nothing too often.
     #[error("the answer could not be read")]
-    Read(ReadFailure),
+    Read(DeviceError),
     /// A write failed.
     #[error("the bind could not be written")]
-    Write(WriteFailure),
+    Write(DeviceError),
 }
 
-/// Why nothing is told of a sending. Binds are counted from 0. Nothing was sent.
+/// Why a sending has no result. Binds are counted from 0. Nothing was sent.
 #[derive(Clone, Copy, Debug, PartialEq, Eq, thiserror::Error)]
 pub enum SendFault {
     /// The bind was refused with this command_status; nothing was sent.

@@ -1,39 +1,37 @@
-//! The sender over all binds: messages are dealt out to workers, each in a thread of its own, and
-//! their ends come back in order, with the statement of one book.
+//! The sender over all binds. Messages are dealt out to workers, each in a thread of its own; their
+//! ends come back in order, with the statement of one book.
 //!
 //! `drive_all` dials and binds each bind, seats its workers and its reader, runs them, unbinds, and
-//! closes the windows. Where connections come from is a `Dial`'s matter.
+//! closes the windows. A `Dial` supplies the connections.
+//!
+//! `binding` makes the binds, `threads` starts and joins the threads, and `ending` unbinds, closes the
+//! windows and makes the result. `run` calls them in this order.
 
 #![tactic(auto)]
 
 mod bind_end;
 mod binding;
-mod causes;
+mod dealing;
 mod driver;
 mod ending;
-mod failures;
 mod fault;
-mod joining;
-mod latch;
-mod leaving;
-mod listening;
-mod rings;
-mod room;
 mod run;
-mod seating;
-mod seats;
+mod settings;
 mod start;
-mod task;
-mod thread_scope;
+mod start_gate;
 mod threads;
-mod working;
 
 pub use bind_end::{BindClosing, BindEnd, DownBy, ReaderOutcome};
+pub use binding::binds::{BindParts, Binds, DriverSeat, SharedBind};
+pub use binding::following::Following;
 pub use binding::{BindSettings, Dial};
+pub use dealing::{deal, merged};
 pub use driver::drive_all;
 pub use ending::Sending;
-pub use failures::{ReadFailure, WriteFailure};
+pub use ending::skipped::{AllDrawn, NoFrame, NoneDrawn, SkipReason, WasDown, WireBroken};
+pub use ending::unbind::{roll_back_if_failed, unbind_all, unbind_and_wait};
+pub use ending::unbind_result::UnbindResult;
 pub use fault::{BindFailure, SendFault};
-pub use latch::{Latch, Unsaid, Word};
-pub use sms_unbind::{AllDrawn, NoFrame, NoneDrawn, Unasked, Unbinding, WasDown, WireBroken};
-pub use start::{Begun, Start};
+pub use settings::{Devices, RunSettings};
+pub use start::{Start, StartPhase};
+pub use start_gate::{Command, StartGate, Trigger};

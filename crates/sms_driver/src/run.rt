@@ -1,52 +1,39 @@
 //! A sending, once its book is named.
 
-ghost use Rattle.std.specs.Prelude.{◌≡◌, ℕ, ◌+◌, ◌*◌, ◌<◌, ◌≤◌, List, length, map, IfErr, IfOk, OnOk};
+ghost use Rattle.std.specs.Prelude.{◌≡◌, ◌+◌, ◌*◌, ◌<◌, ◌≤◌, length, map, IfErr, IfOk, OnOk};
 ghost use Rattle.std.specs.List.{AllByRecursion, AllZip};
 ghost use Rattle.sms_book.specs.Shares.{opening_shares};
-ghost use Rattle.sms_worker.specs.EndOf.{IsEndOf};
-ghost use Rattle.sms_message.specs.declared.message.Message.{Message};
-ghost use Rattle.rtrb.specs.Ring.{received, IsPair};
-ghost use Rattle.sms_driver.specs.Answered.{AreHeard, Hears};
-ghost use Rattle.sms_driver.specs.BindEnds.{AreBinds};
-ghost use Rattle.sms_unbind.specs.Unbinds.{AsksEach, HasTried};
-ghost use Rattle.sms_driver.specs.Closings.{AreExplained, SaysWhy};
-ghost use Rattle.sms_deal.specs.Deals.{dealt};
-ghost use Rattle.sms_driver.specs.Ended.{HaveEnded};
-ghost use Rattle.sms_driver.specs.Numbered.{AreBelow, AreNumbered, HasNumbers};
-ghost use Rattle.sms_driver.specs.Reads.{reading_in, reading_of, HasRead};
-ghost use Rattle.sms_driver.specs.Rings.{flat};
-ghost use Rattle.sms_driver.specs.Rooms.{IsFree};
-ghost use Rattle.sms_driver.specs.Statements.{AreRows};
-ghost use Rattle.sms_driver.specs.Seated.{all_keep, all_sit, keeping_of, sitting_of, CountFrom, IsSeated, windows};
+ghost use Rattle.sms_driver.specs.Buffers.{AreBuffersFor};
+ghost use Rattle.sms_driver.specs.Deals.{dealt};
+ghost use Rattle.sms_driver.specs.Rings.{IsNewPair};
+ghost use Rattle.sms_driver.specs.Runs.{AreTasks, IsJob, IsOutput};
+ghost use Rattle.sms_driver.specs.Seated.{IsSeated};
 ghost use Rattle.sms_driver.specs.SendFaults.{IsFaultOfRun, IsOfStart};
-ghost use Rattle.sms_driver.specs.Settled.{AreSettled};
+ghost use Rattle.sms_driver.specs.Sendings.{Sent};
 ghost use Rattle.sms_driver.specs.Starts.{TellsStart};
-ghost use Rattle.sms_driver.specs.Threads.{IsPrepared};
-ghost use Rattle.sms_driver.specs.declared.latch.Word.TheVariants.{Go};
-ghost use Rattle.sms_driver.specs.declared.start.Begun.TheVariants.{NotYet, Heard};
+ghost use Rattle.sms_driver.specs.declared.start.StartPhase.TheVariants.{Idle, Released};
+ghost use Rattle.sms_driver.specs.declared.start_gate.Command.TheVariants.{Go};
 
-use crate::binding::{BindSettings, Dial, make_binds};
-use crate::ending::{Sending, all_done, conclude};
+use crate::binding::rings::{Rings, all_rings};
+use crate::binding::{Dial, make_binds};
+use crate::ending::buffers::Buffers;
+use crate::ending::{RunOutput, Sending, all_done, conclude};
 use crate::fault::SendFault;
-use crate::leaving::Left;
-use crate::rings::all_rings;
-use crate::room::Room;
-use crate::seating::{Seating, seat_all};
+use crate::settings::{Devices, RunSettings};
 use crate::start::Start;
-use crate::task::{WorkerTask, tasks};
-use crate::thread_scope::{Returned, work_all};
+use crate::threads::placement::{Placement, seat_all};
+use crate::threads::scope::{Returned, work_all};
+use crate::threads::task::{WorkerTask, tasks};
 use crate::threads::{ReaderTask, RunContext};
-use sms_bind::ReaderEnd;
-use sms_book::{Blank, Book, BookName, Shares};
-use sms_deal::deal;
-use sms_unbind::{BindParts, Binds, DriverSeat, SharedBind, unbind_all};
+use crate::{BindParts, Binds, DriverSeat, SharedBind, deal, unbind_all};
+use sms_book::{Blank, BookName, Shares};
 use sms_worker::{Clock, Gate, Message, Pause, Rules, WorkerEnd};
 use std::alloc::{AllocError, Global};
 use std::io::{Read, Write};
-use std::sync::{Mutex, Wait};
+use std::sync::Wait;
 use std::thread::Threads;
 
-/// Deals the messages out to as many workers as there are shares.
+/// Deals the messages out to one batch for each share.
 fn deal_out<N: BookName>(
     alloc: Global,
     messages: Vec<Message>,
@@ -55,65 +42,103 @@ fn deal_out<N: BookName>(
     requires some { 0 < N.book.workers }
     requires shares { length shares.now ≡ N.book.workers }
     ensures dealt { IfOk result (λ v. map (λ l. l.items) v.items ≡ dealt N.book.workers 0 messages.items) }
-    ensures long { IfOk result (λ v. length v.items ≡ N.book.workers) }
+    ensures length { IfOk result (λ v. length v.items ≡ N.book.workers) }
 {
     deal(alloc, messages, shares.len())
 }
 
-/// What the threads of a sending are given.
+/// What the workers of a run are given: in order a share and a batch of messages for each, and a buffer
+/// for their ends.
 #[derive(Drop)]
-struct Ready<'a, N: BookName, Rd, W> {
-    tasks: Vec<WorkerTask<'a, N, W>>,
-    reader_tasks: Vec<ReaderTask<'a, Rd, W>>,
+struct Job<N: BookName> {
+    shares: Vec<Shares<N>>,
+    batches: Vec<Vec<Message>>,
+    done_buffer: Vec<WorkerEnd<N>>,
 }
 
-/// Seats all workers and readers, and gives each worker its share, its messages and all memory that its
-/// call begins with.
-fn make_ready<'a, N: BookName, Rd: Drop, W: Drop>(
+/// What is made before the first bind.
+#[derive(Drop)]
+struct Prepared<N: BookName> {
+    job: Job<N>,
+    rings: Vec<Rings>,
+    buffers: Buffers<N>,
+}
+
+/// Makes all that can be made before the first bind: deals the messages out, makes the rings, and takes
+/// the memory for what the sending ends with.
+fn prepare<N: BookName>(
     alloc: Global,
+    messages: Vec<Message>,
+    shares: Vec<Shares<N>>,
+    binds: usize,
+    workers: usize,
+) -> Result<Prepared<N>, AllocError>
+    requires some { 0 < N.book.workers }
+    requires shares { shares.items ≡ opening_shares N.book.accounts N.book.workers }
+    ensures job { IfOk result (λ p. IsJob N.book p.job) }
+    ensures dealt { IfOk result (λ p. map (λ l. l.items) p.job.batches.items ≡ dealt N.book.workers 0 messages.items) }
+    ensures binds { IfOk result (λ p. length p.rings.items ≡ binds) }
+    ensures workers { IfOk result (λ p. AllByRecursion (λ r. length r.consumers.items ≡ workers) p.rings.items) }
+    ensures pairs { IfOk result (λ p. AllByRecursion (λ r. AllZip IsNewPair r.producers.items r.consumers.items) p.rings.items) }
+    ensures buffers { IfOk result (λ p. AreBuffersFor (length messages.items) N.book.workers binds p.buffers) }
+{
+    let count = messages.len();
+    let batches = deal_out(alloc, messages, shares.as_slice())?;
+    let rings = all_rings(alloc, binds, workers)?;
+    let done_buffer = Vec::with_capacity(alloc, shares.len())?;
+    let buffers = Buffers::new(alloc, count, shares.len(), binds)?;
+    Ok(Prepared {
+        job: Job {
+            shares,
+            batches,
+            done_buffer,
+        },
+        rings,
+        buffers,
+    })
+}
+
+/// What the threads of a run are given, and the buffer for the workers' ends.
+#[derive(Drop)]
+struct RunTasks<'a, N: BookName, Rd, W> {
+    tasks: Vec<WorkerTask<'a, N, W>>,
+    reader_tasks: Vec<ReaderTask<'a, Rd, W>>,
+    done_buffer: Vec<WorkerEnd<N>>,
+}
+
+/// Gives all workers and readers their places. Each worker gets its share, its messages and all memory
+/// that its call begins with.
+fn make_tasks<'a, N: BookName, Rd: Drop, W: Drop>(
+    alloc: Global,
+    job: Job<N>,
     shared_binds: &'a [SharedBind<W>],
     bind_parts: Vec<BindParts<Rd>>,
     workers: usize,
-    shares: Vec<Shares<N>>,
-    batches: Vec<Vec<Message>>,
     rules: &Rules,
-) -> Result<Ready<'a, N, Rd, W>, AllocError>
+) -> Result<RunTasks<'a, N, Rd, W>, AllocError>
     requires bind_parts { AllZip (IsSeated workers) shared_binds.now bind_parts.items }
-    requires shares { length shares.items ≡ length shared_binds.now * workers }
-    requires batches { length batches.items ≡ length shares.items }
-    ensures shares { IfOk result (λ r. map (λ t. t.assignment.worker.shares) r.tasks.items ≡ shares.items) }
-    ensures messages { IfOk result (λ r. map (λ t. t.assignment.messages) r.tasks.items ≡ map (λ l. l.items) batches.items) }
-    ensures windows { IfOk result (λ r. map (λ t. t.assignment.worker.seat.window) r.tasks.items ≡ windows workers (map (λ b. b.window) shared_binds.now)) }
-    ensures keepers { IfOk result (λ r. map (λ t. t.seat.window) r.reader_tasks.items ≡ map (λ b. b.window) shared_binds.now) }
-    ensures rings { IfOk result (λ r. map (λ t. t.assignment.worker.consumer) r.tasks.items ≡ flat (map (λ p. p.consumers.items) bind_parts.items)) }
-    ensures readings { IfOk result (λ r. map reading_of r.reader_tasks.items ≡ map reading_in bind_parts.items) }
-    ensures sitting { IfOk result (λ r. map sitting_of r.tasks.items ≡ all_sit shared_binds.now bind_parts.items) }
-    ensures keeping { IfOk result (λ r. map keeping_of r.reader_tasks.items ≡ all_keep shared_binds.now bind_parts.items) }
-    ensures indexes { IfOk result (λ r. CountFrom 0 (map (λ t. t.assignment.worker.index) r.tasks.items)) }
-    ensures own { IfOk result (λ r. AllByRecursion (IsPrepared rules.now) r.tasks.items) }
-    ensures reader_tasks { IfOk result (λ r. AllByRecursion (λ t. t.seat.window ≡ t.window.now) r.reader_tasks.items) }
+    requires shares { length job.shares.items ≡ length shared_binds.now * workers }
+    requires batches { length job.batches.items ≡ length job.shares.items }
+    ensures tasks { IfOk result (AreTasks rules.now workers job shared_binds.now bind_parts.items) }
 {
-    let Seating {
+    let Job {
+        shares,
+        batches,
+        done_buffer,
+    } = job;
+    let Placement {
         places,
         reader_tasks,
     } = seat_all(alloc, shared_binds, bind_parts, workers)?;
     let tasks = tasks(alloc, places, shares, batches, rules)?;
-    Ok(Ready {
+    Ok(RunTasks {
         tasks,
         reader_tasks,
+        done_buffer,
     })
 }
 
-/// What comes back of a sending: what each worker gave back, in order, and the readers' ends and the
-/// driver's seats, bind by bind.
-#[derive(Drop)]
-struct Over<N: BookName> {
-    done: Vec<WorkerEnd<N>>,
-    readers: Vec<ReaderEnd>,
-    driver_seats: Vec<DriverSeat>,
-}
-
-/// Sends all messages over the binds, dealt out to all workers. The binds are ended, whatever comes.
+/// Sends all messages of a job over the binds. The binds are unbound in any case.
 fn send_over<
     'x,
     'l: 'x,
@@ -125,79 +150,48 @@ fn send_over<
     P: Pause + Sync,
     R: Threads + Wait + Sync,
 >(
-    rt: &'x R,
-    alloc: Global,
+    context: &'x RunContext<'x, N, G, K, P, R>,
     start: &mut Start<'l>,
-    book: &'x Mutex<Book<N>>,
-    shares: Vec<Shares<N>>,
-    rules: &'x Rules,
-    batches: Vec<Vec<Message>>,
+    job: Job<N>,
     shared_binds: &'x [SharedBind<W>],
     bind_parts: Vec<BindParts<Rd>>,
     driver_seats: Vec<DriverSeat>,
     workers: usize,
-    gate: &'x G,
-    clock: &'x K,
-    pause: &'x P,
-    room: Vec<WorkerEnd<N>>,
-) -> Result<Over<N>, SendFault>
-    requires room { IsFree N.book.workers room }
-    requires shares { shares.items ≡ opening_shares N.book.accounts N.book.workers }
+) -> Result<RunOutput<N>, SendFault>
+    requires job { IsJob N.book job }
     requires bind_parts { AllZip (IsSeated workers) shared_binds.now bind_parts.items }
     requires driver_seats { map (λ s. s.seat.window) driver_seats.items ≡ map (λ b. b.window) shared_binds.now }
     requires some { 0 < N.book.workers }
     requires count { N.book.workers ≡ length shared_binds.now * workers }
-    requires batches { length batches.items ≡ N.book.workers }
-    requires yet { start.old.begun ≡ NotYet }
+    requires not_started { start.old.begun ≡ Idle }
     ensures latch { start.new.latch ≡ start.old.latch }
-    ensures went { OnOk result (start.new.begun ≡ Heard Go) }
-    ensures sent { IfErr result (TellsStart start.new.begun) }
-    ensures all { IfOk result (λ r. length r.done.items ≡ N.book.workers) }
-    ensures settled { (ms : List Message) → map (λ l. l.items) batches.items ≡ dealt N.book.workers 0 ms
-        → IfOk result (λ r. AreSettled rules.now N.book.accounts N.book.workers ms (map (λ d. d.shares) r.done.items) (map (λ d. d.ends.items) r.done.items)) }
-    ensures seats { IfOk result (λ r. map (λ d. d.seat.window) r.done.items ≡ windows workers (map (λ b. b.window) shared_binds.now)) }
-    ensures hears { IfOk result (λ r. AllByRecursion (λ d. Hears (received d.consumer) d.ends.items) r.done.items) }
-    ensures numbers { IfOk result (λ r. AllByRecursion (λ d. HasNumbers d.seat.view d.ends.items) r.done.items) }
-    ensures say { IfOk result (λ r. AllByRecursion (λ d. SaysWhy d.closed d.ends.items) r.done.items) }
-    ensures read { IfOk result (λ r. AllZip (HasRead rules.now.turns Rd.remaining) (map reading_in bind_parts.items) r.readers.items) }
-    ensures rings { IfOk result (λ r. AllZip IsPair (flat (map (λ d. d.producers.items) r.readers.items)) (map (λ d. d.consumer) r.done.items)) }
-    ensures readers { IfOk result (λ r. map (λ d. d.seat.window) r.readers.items ≡ map (λ b. b.window) shared_binds.now) }
-    ensures driver_seats { IfOk result (λ r. map (λ s. s.seat.window) r.driver_seats.items ≡ map (λ b. b.window) shared_binds.now) }
-    // An unbind was asked for once at each bind.
-    ensures asked { IfOk result (λ r. AsksEach driver_seats.items r.driver_seats.items) }
-    ensures tried { IfOk result (λ r. AllByRecursion HasTried r.driver_seats.items) }
+    ensures started { OnOk result (start.new.begun ≡ Released Go) }
+    ensures phase { IfErr result (TellsStart start.new.begun) }
+    ensures output { IfOk result (IsOutput context.now.rules.now N.book workers Rd.remaining (map (λ l. l.items) job.batches.items) shared_binds.now bind_parts.items driver_seats.items) }
     ensures refused { IfErr result IsOfStart }
 {
     let mut driver_seats = driver_seats;
-    let Ready {
-        tasks,
-        reader_tasks,
-    } = match make_ready(
-        alloc,
+    let made = make_tasks(
+        context.alloc,
+        job,
         shared_binds,
         bind_parts,
         workers,
-        shares,
-        batches,
-        rules,
-    ) {
-        Ok(ready) => ready,
+        context.rules,
+    );
+    let RunTasks {
+        tasks,
+        reader_tasks,
+        done_buffer,
+    } = match made {
+        Ok(made) => made,
         Err(_refused) => {
-            unbind_all(rt, alloc, shared_binds, &mut driver_seats);
+            unbind_all(context.rt, context.alloc, shared_binds, &mut driver_seats);
             return Err(SendFault::OutOfMemory);
         }
     };
-    let context = RunContext {
-        rt,
-        alloc,
-        book,
-        rules,
-        gate,
-        clock,
-        pause,
-    };
     let returned = work_all(
-        &context,
+        context,
         start,
         tasks,
         reader_tasks,
@@ -209,15 +203,15 @@ fn send_over<
         readers,
         driver_seats,
     } = returned;
-    let done = all_done(worker_results, room);
-    Ok(Over {
+    let done = all_done(worker_results, done_buffer);
+    Ok(RunOutput {
         done,
         readers,
         driver_seats,
     })
 }
 
-/// Sends all messages, and tells their ends, in order, and the statement. All that can be made
+/// Sends all messages, and gives their ends, in order, and the statement. Everything that can be made
 /// before the first bind is made before it.
 pub fn run<
     'l,
@@ -232,81 +226,65 @@ pub fn run<
     alloc: Global,
     start: &mut Start<'l>,
     blank: Blank,
-    rules: &Rules,
-    bind_settings: &BindSettings,
+    settings: &RunSettings,
     messages: Vec<Message>,
-    binds: usize,
-    workers: usize,
-    dial: &D,
-    gate: &G,
-    clock: &K,
-    pause: &P,
+    devices: &Devices<'_, D, G, K, P>,
 ) -> Result<Sending, SendFault>
     requires name { blank.book ≡ N.book }
-    requires count { (0 < blank.book.workers) × (blank.book.workers ≡ binds * workers) }
-    requires few { (binds ≤ 4) × (workers < 62) }
+    requires count { (0 < blank.book.workers) × (blank.book.workers ≡ settings.now.binds * settings.now.workers) }
+    requires bound { (settings.now.binds ≤ 4) × (settings.now.workers < 62) }
     requires accounts { length blank.credits ≡ blank.book.accounts }
-    requires yet { start.old.begun ≡ NotYet }
+    requires not_started { start.old.begun ≡ Idle }
     ensures latch { start.new.latch ≡ start.old.latch }
-    ensures went { OnOk result (start.new.begun ≡ Heard Go) }
-    ensures sent { IfErr result (TellsStart start.new.begun) }
-    ensures ends { IfOk result (λ r. AllZip (IsEndOf rules.now blank.book.accounts) messages.items r.ends.items) }
-    // Bind by bind, each answered attempt of its workers rests on an answer of its own that was read of it.
-    ensures heard { IfOk result (λ r. AreHeard (D.told dial.now) binds workers (dealt (binds * workers) 0 r.ends.items)) }
-    // The cause and the counts of each bind's reader are those of what was read of the bind.
-    ensures readers { IfOk result (λ r. HaveEnded bind_settings.now rules.now.turns (D.told dial.now) r.binds.items) }
-    // No two attempts of the workers of one bind have one sequence_number.
-    ensures numbers { IfOk result (λ r. AreNumbered binds workers (dealt (binds * workers) 0 r.ends.items)) }
-    // They are below the number that the bind's window would have given next.
-    ensures below { IfOk result (λ r. AreBelow workers r.binds.items (dealt (binds * workers) 0 r.ends.items)) }
-    // A message was refused as bind-closed only where its bind's end tells why.
-    ensures explained { IfOk result (λ r. AreExplained workers r.binds.items (dealt (binds * workers) 0 r.ends.items)) }
-    ensures rows { IfOk result (λ r. AreRows blank.credits messages.items r.ends.items r.statement) }
-    ensures binds { IfOk result (λ r. AreBinds binds workers r.binds.items) }
-    ensures refused { IfErr result (IsFaultOfRun (D.refuses dial.now) (D.told dial.now) bind_settings.now.settings.mode binds) }
+    ensures started { OnOk result (start.new.begun ≡ Released Go) }
+    ensures phase { IfErr result (TellsStart start.new.begun) }
+    ensures sent { IfOk result (Sent settings.now (D.told devices.now.dial.now) blank.book.accounts blank.credits messages.items) }
+    ensures refused { IfErr result (IsFaultOfRun (D.refuses devices.now.dial.now) (D.told devices.now.dial.now) settings.now.bind_settings.settings.mode settings.now.binds) }
 {
     let count = messages.len();
+    let workers = settings.workers;
     let Ok((book, till, shares)) = blank.open::<N>(alloc) else {
         return Err(SendFault::OutOfMemory);
     };
-    let batches = deal_out(alloc, messages, shares.as_slice())?;
-    let rings = all_rings(alloc, binds, workers)?;
-    let done_room = Vec::with_capacity(alloc, shares.len())?;
-    let room = Room::new(alloc, count, shares.len(), binds)?;
-    let made = make_binds(rt, alloc, dial, bind_settings, workers, rings)?;
+    let prepared = prepare(alloc, messages, shares, settings.binds, workers)?;
+    let Prepared {
+        job,
+        rings,
+        buffers,
+    } = prepared;
+    let bind_settings = &settings.bind_settings;
+    let made = make_binds(rt, alloc, devices.dial, bind_settings, workers, rings)?;
     let Binds {
         shared_binds,
         bind_parts,
         driver_seats,
     } = made;
-    let over = send_over(
+    let context = RunContext {
         rt,
         alloc,
+        book: &book,
+        rules: &settings.rules,
+        gate: devices.gate,
+        clock: devices.clock,
+        pause: devices.pause,
+    };
+    let output = send_over(
+        &context,
         start,
-        &book,
-        shares,
-        rules,
-        batches,
+        job,
         shared_binds.as_slice(),
         bind_parts,
         driver_seats,
         workers,
-        gate,
-        clock,
-        pause,
-        done_room,
     )?;
-    let Over {
-        done,
-        readers,
-        driver_seats,
-    } = over;
-    let left = Left {
+    let ended = conclude(
+        book.into_inner(),
+        till,
+        count,
+        output,
         shared_binds,
-        readers,
-        driver_seats,
         workers,
-    };
-    let ended = conclude(book.into_inner(), till, done, count, left, room);
+        buffers,
+    );
     Ok(ended)
 }

@@ -1,37 +1,37 @@
 //! Whether a sending has begun.
 
 ghost use Rattle.std.specs.Prelude.{◌≡◌};
-ghost use Rattle.sms_driver.specs.Latches.{IsSaidAt, word_of};
-ghost use Rattle.sms_driver.specs.declared.start.Begun.TheVariants.{NotYet, Asked, Heard};
+ghost use Rattle.sms_driver.specs.StartGates.{IsFiredAt, command_of};
+ghost use Rattle.sms_driver.specs.declared.start.StartPhase.TheVariants.{Idle, Starting, Released};
 
-use crate::latch::{Latch, Said, Unsaid, Word};
+use crate::start_gate::{Command, StartGate, Started, Trigger};
 use std::marker::Model;
 use std::mem;
 
 /// How far a sending came.
 #[derive(Clone, Copy, Debug, PartialEq, Eq)]
-pub enum Begun {
-    /// No word was said, so no thread has begun.
-    NotYet,
+pub enum StartPhase {
+    /// No command was given, so no thread has begun.
+    Idle,
     /// Its threads are being started.
-    Asked,
-    /// This word was said to all of them.
-    Heard(Word),
+    Starting,
+    /// All of them were given this command.
+    Released(Command),
 }
 
-/// The leave to say the word, or what was said.
+/// The permission to give the command, or the command that was given.
 #[derive(Drop)]
 pub(crate) enum Stage<'l> {
-    Unsaid(Unsaid),
+    Trigger(Trigger),
     Taken,
-    Said(Said<'l>),
+    Started(Started<'l>),
 }
 
-/// The start of one sending: the latch where its threads wait, and the leave to say its word, until it
-/// was said. Contracts see the latch, and how far the sending came.
+/// The start of one sending: the gate where its threads wait, and the permission to give its command, until
+/// it is given. Contracts see the gate, and how far the sending came.
 #[derive(Drop)]
 pub struct Start<'l> {
-    latch: &'l Latch,
+    latch: &'l StartGate,
     stage: Stage<'l>,
 }
 
@@ -46,56 +46,56 @@ impl<'l> Model for Start<'l> {
 }
 
 impl<'l> Start<'l> {
-    /// Of a sending whose threads will wait at this latch.
-    pub fn new(latch: &'l Latch, unsaid: Unsaid) -> Start<'l>
-        requires leave { unsaid.latch.value ≡ latch.now }
+    /// The start of a sending whose threads will wait at this gate.
+    pub fn new(latch: &'l StartGate, trigger: Trigger) -> Start<'l>
+        requires trigger { trigger.latch.value ≡ latch.now }
         ensures latch { result.latch ≡ latch.now }
-        ensures begun { result.begun ≡ NotYet }
+        ensures begun { result.begun ≡ Idle }
     {
         Start {
             latch,
-            stage: Stage::Unsaid(unsaid),
+            stage: Stage::Trigger(trigger),
         }
     }
 
     /// Where its threads wait.
-    pub(crate) fn latch(&self) -> &'l Latch
+    pub(crate) fn latch(&self) -> &'l StartGate
         ensures { result.now ≡ self.now.latch }
     {
         self.latch
     }
 
-    /// Takes the leave to say the word.
-    pub(crate) fn take(&mut self) -> Unsaid
-        requires yet { self.old.begun ≡ NotYet }
+    /// Takes the permission to give the command.
+    pub(crate) fn take_trigger(&mut self) -> Trigger
+        requires not_started { self.old.begun ≡ Idle }
         ensures latch { self.new.latch ≡ self.old.latch }
-        ensures begun { self.new.begun ≡ Asked }
-        ensures leave { result.latch.value ≡ self.old.latch }
+        ensures begun { self.new.begun ≡ Starting }
+        ensures trigger { result.latch.value ≡ self.old.latch }
     {
         let stage = mem::replace(&mut self.stage, Stage::Taken);
-        let Stage::Unsaid(unsaid) = stage else {
+        let Stage::Trigger(trigger) = stage else {
             unreachable!()
         };
-        unsaid
+        trigger
     }
 
-    /// The word was said at its latch.
-    pub(crate) fn tell(&mut self, said: Said<'l>)
-        requires at { IsSaidAt self.old.latch said }
+    /// The command was given at its gate.
+    pub(crate) fn set_started(&mut self, started: Started<'l>)
+        requires at { IsFiredAt self.old.latch started }
         ensures latch { self.new.latch ≡ self.old.latch }
-        ensures begun { self.new.begun ≡ Heard (word_of said.entry) }
+        ensures begun { self.new.begun ≡ Released (command_of started.entry) }
     {
-        self.stage = Stage::Said(said);
+        self.stage = Stage::Started(started);
     }
 
     /// How far it came.
-    pub fn begun(&self) -> Begun
+    pub fn begun(&self) -> StartPhase
         ensures { result ≡ self.now.begun }
     {
         match &self.stage {
-            Stage::Unsaid(_) => Begun::NotYet,
-            Stage::Taken => Begun::Asked,
-            Stage::Said(said) => Begun::Heard(self.latch.word(said)),
+            Stage::Trigger(_) => StartPhase::Idle,
+            Stage::Taken => StartPhase::Starting,
+            Stage::Started(started) => StartPhase::Released(self.latch.command(started)),
         }
     }
 }

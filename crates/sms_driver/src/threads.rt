@@ -1,15 +1,21 @@
-//! What the threads of a sending are given, and what they promise to give back.
+//! The threads of a sending: what they are given, and what they promise to give back.
+
+pub mod listening;
+pub mod placement;
+pub mod scope;
+pub mod task;
+pub mod working;
 
 ghost use Rattle.std.specs.Prelude.{◌≡◌, ◌≤◌, [], length, vec_capacity};
 ghost use Rattle.std.specs.List.{AllByRecursion, AllZip};
-ghost use Rattle.sms_driver.specs.Latches.{AreOfOneLatch, IsBackBy, word_of};
+ghost use Rattle.sms_driver.specs.StartGates.{AreOfOneLatch, IsValueBy, command_of};
 
-use crate::latch::{Latch, Said, Told};
+use crate::Following;
+use crate::start_gate::{StartGate, Started, ThreadResult};
 use rtrb::Producer;
 use sms_bind::{Bound, Line, ReaderEnd, ReaderLeave};
 use sms_book::{Book, BookName};
 use sms_pdu::{Reply, Tap};
-use sms_unbind::Following;
 use sms_window::{Window, WindowSeat};
 use sms_worker::{Message, ReadyWorker, Rules, Worker, WorkerEnd};
 use std::alloc::{AllocError, Global};
@@ -21,20 +27,20 @@ use std::thread::{Promise, PromisedHandle, Threads};
 /// What a worker's thread gives back.
 pub type WorkerResult<N> = Result<WorkerEnd<N>, (AllocError, Worker<N>, Vec<Message>)>;
 
-/// That a worker waited at this latch, and that what it gives back is of this assignment, by these
-/// rules; where it was told to leave, the assignment itself.
+/// A worker waits at this gate. If it is let go, its result is of this assignment, by these rules; if it
+/// leaves, it gives back the assignment itself.
 #[derive(Drop)]
 pub struct WorkerPromise<N: BookName> {
-    pub latch: Snapshot<Latch>,
+    pub latch: Snapshot<StartGate>,
     pub assignment: Snapshot<ReadyWorker<N>>,
     pub rules: Snapshot<Rules>,
 }
 
-impl<'s, N: BookName> Promise<Told<'s, WorkerResult<N>>> for WorkerPromise<N> {
-    ghost use Rattle.sms_driver.specs.Latches.{IsTold};
+impl<'s, N: BookName> Promise<ThreadResult<'s, WorkerResult<N>>> for WorkerPromise<N> {
+    ghost use Rattle.sms_driver.specs.StartGates.{IsReleased};
     ghost use Rattle.sms_driver.specs.Worked.{IsHandedBack, IsResultOf};
 
-    ghost kept_by = { λ p told. IsTold p.latch.value (IsResultOf p.rules.value p.assignment.value) (IsHandedBack p.assignment.value) told };
+    ghost kept_by = { λ p thread_result. IsReleased p.latch.value (IsResultOf p.rules.value p.assignment.value) (IsHandedBack p.assignment.value) thread_result };
 }
 
 /// What all workers of a run share.
@@ -62,12 +68,12 @@ pub struct ReaderTask<'a, Rd, W> {
     pub window: &'a Window,
 }
 
-/// That a reader waited at this latch, that what it gives back is the seat's window, and that it
-/// handed on what it read in so many turns to the rings that it was given; where it was told to leave, that it stopped
-/// with the seat and the rings as they were.
+/// A reader waits at this gate. If it is let go, it gives back a seat of the same window, and what it read in
+/// at most `turns` turns went to the rings that it was given. If it leaves, it gives back the seat and the
+/// rings as they were.
 #[derive(Drop)]
 pub struct ReaderPromise<Rd> {
-    pub latch: Snapshot<Latch>,
+    pub latch: Snapshot<StartGate>,
     pub seat: Snapshot<WindowSeat>,
     pub reader: Snapshot<Tap<Rd>>,
     pub bound: Snapshot<Bound>,
@@ -76,35 +82,38 @@ pub struct ReaderPromise<Rd> {
     pub turns: u64,
 }
 
-impl<'s, Rd: Read> Promise<Told<'s, ReaderEnd>> for ReaderPromise<Rd> {
+impl<'s, Rd: Read> Promise<ThreadResult<'s, ReaderEnd>> for ReaderPromise<Rd> {
     ghost use Rattle.std.specs.Prelude.{◌≡◌};
-    ghost use Rattle.sms_driver.specs.Latches.{IsTold};
+    ghost use Rattle.sms_driver.specs.StartGates.{IsReleased};
     ghost use Rattle.sms_driver.specs.Reads.{reading_promised, HasRead, IsUnread};
 
-    ghost kept_by = { λ p told. IsTold p.latch.value
+    ghost kept_by = { λ p thread_result. IsReleased p.latch.value
         (λ r. (r.seat.window ≡ p.seat.value.window) × HasRead p.turns Rd.remaining (reading_promised p) r)
-        (IsUnread p.seat.value p.producers.value.items) told };
+        (IsUnread p.seat.value p.producers.value.items) thread_result };
 }
 
-/// Joins each thread, once the word was said at the latch where they wait. What they give back is
-/// put into the room that was made for it.
-pub(crate) fn join_told<'s, T: Drop, P: Promise<Told<'s, T>>, R: Threads>(
+/// Joins each thread, after the command was given at the gate where they wait. Their values go into the
+/// buffer that was made for them.
+pub(crate) fn join_all<'s, T: Drop, P: Promise<ThreadResult<'s, T>>, R: Threads>(
     rt: &R,
-    said: &Said<'s>,
-    handles: Vec<PromisedHandle<Told<'s, T>, P>>,
-    backs: Vec<T>,
+    started: &Started<'s>,
+    handles: Vec<PromisedHandle<ThreadResult<'s, T>, P>>,
+    values: Vec<T>,
 ) -> Vec<T>
-    requires room { (backs.items ≡ []) × (length handles.items ≤ vec_capacity backs) }
-    requires latch { AreOfOneLatch P.kept_by said.now handles.items }
-    // In order, each kept its promise, and was told the word.
-    ensures each { AllZip (λ h r. IsBackBy P.kept_by (word_of said.now) h.promise r) handles.entry.items result.items }
+    requires room { (values.items ≡ []) × (length handles.items ≤ vec_capacity values) }
+    requires latch { AreOfOneLatch P.kept_by started.now handles.items }
+    // In order, each kept its promise, and was given the command.
+    ensures each { AllZip (λ h r. IsValueBy P.kept_by (command_of started.now) h.promise r) handles.entry.items result.items }
 {
-    let mut backs = backs;
+    let mut values = values;
     for handle in handles {
-        let told = handle.join(rt);
-        let Told { said: theirs, back } = told;
-        theirs.agrees(said);
-        backs.push_reserved(back);
+        let thread_result = handle.join(rt);
+        let ThreadResult {
+            started: theirs,
+            value,
+        } = thread_result;
+        theirs.agrees(started);
+        values.push_reserved(value);
     }
-    backs
+    values
 }

@@ -1,11 +1,16 @@
 //! What a sending tells of how a bind's reader ended, for each of the causes.
 
-use super::driving::{Beside, bind_settings, messages, rules};
+ghost use Rattle.std.specs.Prelude.{◌≡◌, IfOk};
+
+use super::driving::{Beside, messages, settings};
 use super::same::same;
 use sms_bind::{DownCause, ReaderCause};
 use sms_book::Opening;
-use sms_driver::{BindClosing, Dial, DownBy, Latch, Sending, Start, Unasked, Unbinding, drive_all};
-use sms_worker::{MessageRefusal, MessageResult, Rules};
+use sms_driver::{
+    BindClosing, Devices, Dial, DownBy, RunSettings, Sending, SkipReason, Start, StartGate,
+    UnbindResult, drive_all,
+};
+use sms_worker::{MessageRefusal, MessageResult};
 use std::alloc::{AllocError, Global};
 use std::test::Fail;
 use std::thread::Threads;
@@ -104,18 +109,20 @@ impl<'a, S: time::Clock + Sync> Dial for One<'a, S> {
     }
 }
 
-// The rules of all tests, but with so many turns and so long a wait.
-fn rules_with(alloc: Global, turns: u16, answer_ms: u32) -> Result<Rules, AllocError> {
-    let mut rules = rules(alloc)?;
-    rules.turns = u64::from(turns);
-    rules.answer_ms = answer_ms;
-    Ok(rules)
+// One bind with one worker, by the rules of all tests but for the turns and the wait.
+fn settings_with(alloc: Global, turns: u16, answer_ms: u32) -> Result<RunSettings, AllocError>
+    ensures { IfOk result (λ s. (s.binds ≡ 1) × (s.workers ≡ 1)) }
+{
+    let mut settings = settings(alloc, 1, 1)?;
+    settings.rules.turns = u64::from(turns);
+    settings.rules.answer_ms = answer_ms;
+    Ok(settings)
 }
 
 // How the reader of the one bind of a sending ended and how many errors it met, why the bind was closed to its
 // worker, how many messages were refused for that, and for which cause its line was down when it wasn't unbound.
 #[derive(Drop)]
-struct Told {
+struct Observed {
     cause: ReaderCause,
     errors: u64,
     closing: BindClosing,
@@ -123,14 +130,14 @@ struct Told {
     down: Option<DownCause>,
 }
 
-fn down_of(unbinding: &Unbinding) -> Option<DownCause> {
-    match unbinding {
-        Unbinding::Unasked(Unasked::Down(was)) => Some(was.cause()),
+fn down_of(unbind_result: &UnbindResult) -> Option<DownCause> {
+    match unbind_result {
+        UnbindResult::Skipped(SkipReason::Down(was)) => Some(was.cause()),
         _ => None,
     }
 }
 
-fn told_of(sending: &Sending) -> Result<Told, Fail> {
+fn told_of(sending: &Sending) -> Result<Observed, Fail> {
     let Some(bind) = sending.binds.first() else {
         return Err(Fail::new("no bind"));
     };
@@ -140,12 +147,12 @@ fn told_of(sending: &Sending) -> Result<Told, Fail> {
             refused = refused.saturating_add(1);
         }
     }
-    Ok(Told {
+    Ok(Observed {
         cause: bind.reader().cause,
         errors: bind.reader().errors,
         closing: bind.closing(),
         refused,
-        down: down_of(bind.unbinding()),
+        down: down_of(bind.unbind_result()),
     })
 }
 
@@ -155,30 +162,28 @@ fn bind_told<R: Threads + sync::Wait + time::Clock + Sync>(
     alloc: Global,
     ending: Ending<'_>,
     count: u64,
-) -> Result<Told, Fail> {
+) -> Result<Observed, Fail> {
     let mut openings = Vec::new(alloc);
     openings.push(Opening {
         name: String::from_str(alloc, "main")?,
         credits: 1,
     })?;
-    let bind_settings = bind_settings(alloc)?;
-    let rules = rules_with(alloc, ending.turns, ending.answer_ms)?;
+    let settings = settings_with(alloc, ending.turns, ending.answer_ms)?;
     let beside = Beside { rt };
-    let (latch, unsaid) = Latch::new();
+    let (latch, trigger) = StartGate::new();
     let driven = drive_all(
         rt,
         alloc,
-        &mut Start::new(&latch, unsaid),
-        1,
-        1,
-        &bind_settings,
-        &rules,
+        &mut Start::new(&latch, trigger),
+        &settings,
         openings.as_slice(),
         messages(alloc, count)?,
-        &One { rt, ending },
-        &beside,
-        &beside,
-        &beside,
+        &Devices {
+            dial: &One { rt, ending },
+            gate: &beside,
+            clock: &beside,
+            pause: &beside,
+        },
     );
     match driven {
         Ok(sending) => told_of(&sending),

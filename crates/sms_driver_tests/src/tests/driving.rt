@@ -1,12 +1,14 @@
 //! Whole sendings, over pipes in memory.
 
+ghost use Rattle.std.specs.Prelude.{◌≡◌, IfOk};
+
 use super::same::same;
 use sms_bind::Settings;
 use sms_book::{Opening, Statement, Tariff};
 use sms_centre::{Pipe, PipeEnd, Script, ServeCause, ServeEnd, serve};
 use sms_driver::{
-    Begun, BindClosing, BindEnd, BindFailure, BindSettings, Dial, Latch, SendFault, Sending, Start,
-    Unbinding, Word, drive_all,
+    BindClosing, BindEnd, BindFailure, BindSettings, Command, Devices, Dial, RunSettings,
+    SendFault, Sending, Start, StartGate, StartPhase, UnbindResult, drive_all,
 };
 use sms_pdu::{Mode, Octets, Tap};
 use sms_session::Policy;
@@ -86,7 +88,7 @@ pub(super) struct Done {
     pub first: ServeEnd,
     pub second: ServeEnd,
     pub ended: Result<Sending, SendFault>,
-    pub begun: Begun,
+    pub begun: StartPhase,
 }
 
 fn octets(alloc: Global, text: &[u8]) -> Result<Octets, AllocError> {
@@ -119,7 +121,7 @@ pub(super) fn openings(alloc: Global, credits: u64) -> Result<Vec<Opening>, Allo
     Ok(openings)
 }
 
-pub(super) fn bind_settings(alloc: Global) -> Result<BindSettings, AllocError> {
+fn bind_settings(alloc: Global) -> Result<BindSettings, AllocError> {
     match Settings::new(
         Mode::Transceiver,
         octets(alloc, b"me")?,
@@ -135,7 +137,7 @@ pub(super) fn bind_settings(alloc: Global) -> Result<BindSettings, AllocError> {
     }
 }
 
-pub(super) fn rules(alloc: Global) -> Result<Rules, AllocError> {
+fn rules(alloc: Global) -> Result<Rules, AllocError> {
     let (Ok(policy), Ok(tariff)) = (Policy::new(3, 100), Tariff::new(alloc, &[])) else {
         return Err(AllocError);
     };
@@ -147,6 +149,22 @@ pub(super) fn rules(alloc: Global) -> Result<Rules, AllocError> {
         receipts: false,
         tariff,
         long_reference: false,
+    })
+}
+
+// This many binds with this many workers each.
+pub(super) fn settings(
+    alloc: Global,
+    binds: usize,
+    workers: usize,
+) -> Result<RunSettings, AllocError>
+    ensures { IfOk result (λ s. (s.binds ≡ binds) × (s.workers ≡ workers)) }
+{
+    Ok(RunSettings {
+        binds,
+        workers,
+        bind_settings: bind_settings(alloc)?,
+        rules: rules(alloc)?,
     })
 }
 
@@ -174,6 +192,30 @@ fn serve_bind<R: Wait + time::Clock>(
     served
 }
 
+// Sends these messages over two binds of two workers each.
+fn drive<R: Threads + Wait + time::Clock + Sync>(
+    rt: &R,
+    alloc: Global,
+    dial: &Pipes<'_, R>,
+    openings: &[Opening],
+    given: Vec<Message>,
+) -> (Result<Sending, SendFault>, StartPhase) {
+    let (gate, trigger) = StartGate::new();
+    let mut start = Start::new(&gate, trigger);
+    let Ok(settings) = settings(alloc, 2, 2) else {
+        return (Err(SendFault::OutOfMemory), start.begun());
+    };
+    let beside = Beside { rt };
+    let devices = Devices {
+        dial,
+        gate: &beside,
+        clock: &beside,
+        pause: &beside,
+    };
+    let ended = drive_all(rt, alloc, &mut start, &settings, openings, given, &devices);
+    (ended, start.begun())
+}
+
 pub(super) fn sent<R: Threads + Wait + time::Clock + Sync>(
     rt: &R,
     alloc: Global,
@@ -182,7 +224,6 @@ pub(super) fn sent<R: Threads + Wait + time::Clock + Sync>(
     let there = [Pipe::new(alloc, 10_000)?, Pipe::new(alloc, 10_000)?];
     let back = [Pipe::new(alloc, 10_000)?, Pipe::new(alloc, 10_000)?];
     let openings = openings(alloc, case.credits)?;
-    let (bind_settings, rules) = (bind_settings(alloc)?, rules(alloc)?);
     let given = messages(alloc, case.count)?;
     let dial = Pipes {
         rt,
@@ -190,7 +231,6 @@ pub(super) fn sent<R: Threads + Wait + time::Clock + Sync>(
         back: &back,
         most: case.most,
     };
-    let beside = Beside { rt };
     let [one, other] = case.scripts;
     let ((first, second), (ended, begun)) = thread::join(
         rt,
@@ -202,26 +242,10 @@ pub(super) fn sent<R: Threads + Wait + time::Clock + Sync>(
             )
         },
         || {
-            let (latch, unsaid) = Latch::new();
-            let mut start = Start::new(&latch, unsaid);
-            let ended = drive_all(
-                rt,
-                alloc,
-                &mut start,
-                2,
-                2,
-                &bind_settings,
-                &rules,
-                openings.as_slice(),
-                given,
-                &dial,
-                &beside,
-                &beside,
-                &beside,
-            );
+            let (ended, begun) = drive(rt, alloc, &dial, openings.as_slice(), given);
             there[0].close(rt);
             there[1].close(rt);
-            (ended, start.begun())
+            (ended, begun)
         },
     );
     Ok(Done {
@@ -249,9 +273,9 @@ const OPEN: BindClosing = BindClosing {
 pub(super) fn want_unbound(rt: &impl Abort, bind: &BindEnd, workers: usize) {
     same(rt, bind.workers(), workers);
     same(rt, bind.closing(), OPEN);
-    match bind.unbinding() {
-        Unbinding::Sent(_) => {}
-        Unbinding::NotYet | Unbinding::Failed(_) | Unbinding::Unasked(_) => {
+    match bind.unbind_result() {
+        UnbindResult::Sent(_) => {}
+        UnbindResult::Idle | UnbindResult::Failed(_) | UnbindResult::Skipped(_) => {
             panic!(rt; "not unbound")
         }
     }
@@ -305,7 +329,7 @@ fn two_binds_of_two_workers(rt: HostRuntime) -> Result<(), Fail> {
         ended,
         begun,
     } = sent(&rt, rt.alloc(), case)?;
-    same(&rt, begun, Begun::Heard(Word::Go));
+    same(&rt, begun, StartPhase::Released(Command::Go));
     match ended {
         Ok(sending) => want_all_charged(&rt, &sending),
         Err(fault) => return Err(Fail::new(fault)),
@@ -389,7 +413,7 @@ fn a_bind_is_refused(rt: HostRuntime) -> Result<(), Fail> {
         };
         let done = sent(&rt, rt.alloc(), case)?;
         want_fault(&rt, &done.ended, refusal.fault);
-        same(&rt, done.begun, Begun::NotYet);
+        same(&rt, done.begun, StartPhase::Idle);
         want_none_sent(&rt, &done, refusal.causes);
     }
     Ok(())

@@ -5,7 +5,7 @@
 use super::driving::{Case, Done, GOOD, sent, want_all_charged, want_none_sent};
 use super::same::same;
 use sms_centre::ServeCause;
-use sms_driver::{Begun, SendFault, Word};
+use sms_driver::{Command, SendFault, StartPhase};
 use std::process::Abort;
 use std::test::Fail;
 
@@ -24,7 +24,7 @@ fn want_all_or_none(rt: &impl Abort, done: &Done) {
         Ok(sending) => want_all_charged(rt, sending),
         Err(fault) => {
             same(rt, *fault, SendFault::ThreadRefused);
-            same(rt, done.begun, Begun::Heard(Word::Leave));
+            same(rt, done.begun, StartPhase::Released(Command::Leave));
             want_none_sent(rt, done, (ServeCause::Unbound, ServeCause::Unbound));
         }
     }
@@ -40,7 +40,7 @@ fn threads_all_start_or_nothing_is_sent(rt: HostRuntime) -> Result<(), Fail> {
 // No fault comes after a message.
 fn want_none_before(rt: &impl Abort, done: &Done) {
     match &done.ended {
-        Ok(_) => same(rt, done.begun, Begun::Heard(Word::Go)),
+        Ok(_) => same(rt, done.begun, StartPhase::Released(Command::Go)),
         Err(_) => same(rt, (done.first.submits, done.second.submits), (0, 0)),
     }
 }

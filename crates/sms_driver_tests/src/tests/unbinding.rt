@@ -1,9 +1,9 @@
 //! Message centres that answer no unbind.
 
-use super::driving::{bind_settings, openings, rules, want_unbound};
+use super::driving::{openings, settings, want_unbound};
 use super::same::same;
 use sms_centre::{Pipe, PipeEnd};
-use sms_driver::{Dial, Latch, SendFault, Sending, Start, drive_all};
+use sms_driver::{Devices, Dial, SendFault, Sending, Start, StartGate, drive_all};
 use sms_worker::{Clock, Gate, Pause};
 use std::alloc::Global;
 use std::io::Write;
@@ -95,23 +95,22 @@ fn four_binds<R: Threads + Wait + time::Clock + Sync>(
         there: &there,
         back: &back,
     };
-    let (bind_settings, rules) = (bind_settings(alloc)?, rules(alloc)?);
+    let settings = settings(alloc, 4, 1)?;
     let openings = openings(alloc, 1)?;
-    let (latch, unsaid) = Latch::new();
+    let (latch, trigger) = StartGate::new();
     Ok(drive_all(
         rt,
         alloc,
-        &mut Start::new(&latch, unsaid),
-        4,
-        1,
-        &bind_settings,
-        &rules,
+        &mut Start::new(&latch, trigger),
+        &settings,
         openings.as_slice(),
         Vec::new(alloc),
-        &dial,
-        paused,
-        paused,
-        paused,
+        &Devices {
+            dial: &dial,
+            gate: paused,
+            clock: paused,
+            pause: paused,
+        },
     ))
 }
 

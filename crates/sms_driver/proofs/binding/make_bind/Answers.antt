@@ -5,12 +5,12 @@ use Rattle.sms_driver.proofs.binding.make_bind.Goals as goal
 
 pub split_seats-requires-clause-names : goal.split_seats-requires-clause-names
 split_seats-requires-clause-names g c =
-    let few = c.requires.few in
+    let few = c.requires.bound in
     (64, omega arith, omega arith, c.in_ok-window.ensures.names)
 
 pub split-seat-requires-clause-names : goal.split-seat-requires-clause-names
 split-seat-requires-clause-names g c =
-    let few = c.requires.few in
+    let few = c.requires.bound in
     can_split (64 - c.args.workers) _ (omega arith) (omega arith) (c.in-Ok.ensures.names 64 (omega arith) (omega arith) c.in_ok-window.ensures.names)
 
 pub returns-clause-set : goal.returns-clause-set
@@ -20,7 +20,7 @@ returns-clause-set g c =
     record {
       slots = ap (λ (v : View). v.slots) c.split-seat.ensures.giver ∙ kept.0 ∙ keeper.0;
       first = ap (λ (v : View). v.first) c.split-seat.ensures.giver ∙ kept.2 ∙ keeper.1;
-      follow = c.following.ensures;
+      follow = c.follow_of.ensures;
     }
 
 pub returns-clause-asked : goal.returns-clause-asked

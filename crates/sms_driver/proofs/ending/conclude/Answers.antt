@@ -1,21 +1,24 @@
 use Rattle.std.proofs.Common.{◌∙◌, ℕ, List, Option, length, map, ap, sym, subst}
+use Rattle.std.specs.List.{AllZip}
 use Rattle.sms_book.specs.Portions.{row_at}
 use Rattle.sms_book.specs.Shares.{Share, AreAll}
 use Rattle.sms_book.specs.Sums.{IsSumOf}
-use Rattle.sms_deal.specs.Deals.{dealt}
+use Rattle.sms_driver.specs.Deals.{dealt}
 use Rattle.sms_window.specs.SeatState.{SeatState}
 use Rattle.sms_window.specs.declared.view.View.{View}
 use Rattle.sms_driver.specs.declared.bind_end.BindEnd.{BindEnd}
-use Rattle.sms_driver.specs.Closings.{AreTold}
+use Rattle.sms_driver.specs.BindEnds.{AreBinds}
+use Rattle.sms_driver.specs.Closings.{HaveClosings}
 use Rattle.sms_driver.specs.Numbered.{DrewBelow}
 use Rattle.sms_worker.specs.declared.closure.ClosedBy.{ClosedBy}
 use Rattle.std.proofs.lemmas.List.{length-map}
 use Rattle.rtrb.specs.Ring.{IsPair}
 use Rattle.sms_bind.specs.declared.ending.ReaderEnd.{ReaderEnd}
 use Rattle.sms_worker.specs.declared.work.WorkerEnd.{WorkerEnd}
-use Rattle.sms_unbind.proofs.Places.{same_length}
+use Rattle.sms_worker.specs.Rests.{HasReceived}
+use Rattle.sms_driver.proofs.Places.{same_length}
 use Rattle.sms_driver.specs.Rings.{flat}
-use Rattle.sms_driver.specs.Rooms.{IsFree}
+use Rattle.sms_driver.specs.Buffers.{IsFree}
 use Rattle.sms_driver.proofs.Grouping.{zip_length}
 use Rattle.sms_driver.proofs.Drawn.{drew_below, once_as}
 use Rattle.sms_driver.proofs.ending.conclude.Goals as goal
@@ -25,38 +28,41 @@ settle-statement-requires g c = record { all = subst (AreAll g.N.BookName.book.w
 
 pub returns-clause-ends : goal.returns-clause-ends
 returns-clause-ends g c es long dealt_is =
-    c.merged.ensures es long (c.take_apart-apart.ensures.ends ∙ dealt_is ∙ ap (λ n. dealt n 0 es) (sym c.take_apart-apart.ensures.long))
+    c.merged.ensures es long (c.take_apart-apart.ensures.ends ∙ dealt_is ∙ ap (λ n. dealt n 0 es) (sym c.take_apart-apart.ensures.length))
 
-pub returns-clause-sums : goal.returns-clause-sums
-returns-clause-sums g c i low = subst (λ (shares : List Share). IsSumOf (row_at c.settle-statement.result i) i c.args.till shares) c.take_apart-apart.ensures.shares (c.settle-statement.ensures.sums i low)
-
-pub returns-clause-once : goal.returns-clause-once
-returns-clause-once g c =
-    let l = c.join_ends-joined.ensures in
-    once_as _ _ _ _ _ _ (ap (λ v. length v.items) l.shared_binds) l.workers c.take_apart-apart.ensures.views c.close_all-binds.ensures.once
-
-pub returns-clause-outcomes : goal.returns-clause-outcomes
-returns-clause-outcomes g c = c.close_all-binds.ensures.outcomes ∙ c.join_ends-joined.ensures.outcomes
-
-pub returns-clause-below : goal.returns-clause-below
-returns-clause-below g c =
-    let ends = map (λ (b : BindEnd). b.window) c.close_all-binds.result.items in
-    subst (λ (vs : List View). DrewBelow c.args.left.workers vs ends) c.take_apart-apart.ensures.views
-    (subst (λ (w : ℕ). DrewBelow w (map (λ (s : SeatState). s.view) c.take_apart-apart.result.seats.items) ends) c.join_ends-joined.ensures.workers (drew_below _ _ _ _ _ c.close_all-binds.ensures.closed))
-
-pub returns-clause-told : goal.returns-clause-told
-returns-clause-told g c =
-    let closings = map (λ (b : BindEnd). b.closing) c.close_all-binds.result.items in
-    subst (λ (xs : List (Option ClosedBy)). AreTold c.args.left.workers xs closings) c.take_apart-apart.ensures.causes
-    (subst (λ (w : ℕ). AreTold w c.take_apart-apart.result.causes.items closings) c.join_ends-joined.ensures.workers c.close_all-binds.ensures.told)
+pub returns-clause-concluded : goal.returns-clause-concluded
+returns-clause-concluded g c =
+    let apart = c.take_apart-apart.ensures in
+    let joined = c.join_ends-joined.ensures in
+    let closed = c.close_all-binds.ensures in
+    let binds = c.close_all-binds.result.items in
+    let windows = map (λ (b : BindEnd). b.window) binds in
+    let closings = map (λ (b : BindEnd). b.closing) binds in
+    let rings = flat (map (λ (d : ReaderEnd). d.producers.items) c.args.output.readers.items) in
+    record {
+      received = subst (AllZip HasReceived rings) apart.consumers joined.received;
+      accounts = c.settle-statement.ensures.accounts;
+      sums = λ i low. subst (λ (shares : List Share). IsSumOf (row_at c.settle-statement.result i) i c.args.till shares) apart.shares (c.settle-statement.ensures.sums i low);
+      ended =
+          subst (λ (n : ℕ). AreBinds n c.args.workers binds) (ap (λ v. length v.items) joined.shared_binds)
+          (subst (λ (w : ℕ). AreBinds (length c.join_ends-joined.result.shared_binds.items) w binds) joined.workers closed.binds);
+      outcomes = closed.outcomes ∙ joined.outcomes;
+      closings =
+          subst (λ (xs : List (Option ClosedBy)). HaveClosings c.args.workers xs closings) apart.causes
+          (subst (λ (w : ℕ). HaveClosings w c.take_apart-apart.result.causes.items closings) joined.workers closed.closings);
+      once = once_as _ _ _ _ _ _ (ap (λ v. length v.items) joined.shared_binds) joined.workers apart.views closed.once;
+      below =
+          subst (λ (vs : List View). DrewBelow c.args.workers vs windows) apart.views
+          (subst (λ (w : ℕ). DrewBelow w (map (λ (s : SeatState). s.view) c.take_apart-apart.result.seats.items) windows) joined.workers (drew_below _ _ _ _ _ closed.closed));
+    }
 
 pub join_ends-joined-requires-clause-producers : goal.join_ends-joined-requires-clause-producers
 join_ends-joined-requires-clause-producers g c =
-    let rings = flat (map (λ (d : ReaderEnd). d.producers.items) c.args.left.readers.items) in
-    let long = sym (zip_length IsPair rings (map (λ (d : WorkerEnd g.row.N.Denot). d.consumer) c.args.done.items) c.requires.rings) ∙ length-map c.args.done.items (λ (d : WorkerEnd g.row.N.Denot). d.consumer) in
-    subst (λ (n : ℕ). IsFree n c.args.room.taken.producers) (sym long) c.requires.room.producers
+    let rings = flat (map (λ (d : ReaderEnd). d.producers.items) c.args.output.readers.items) in
+    let long = sym (zip_length IsPair rings (map (λ (d : WorkerEnd g.row.N.Denot). d.consumer) c.args.output.done.items) c.requires.output.rings) ∙ length-map c.args.output.done.items (λ (d : WorkerEnd g.row.N.Denot). d.consumer) in
+    subst (λ (n : ℕ). IsFree n c.args.buffers.ring_ends.producers) (sym long) c.requires.buffers.producers
 
 pub join_ends-joined-requires-clause-bare : goal.join_ends-joined-requires-clause-bare
 join_ends-joined-requires-clause-bare g c =
-    let long = same_length (λ d. d.seat.window) (λ b. b.window) c.args.left.readers.items c.args.left.shared_binds.items c.requires.readers in
-    subst (λ (n : ℕ). IsFree n c.args.room.taken.readers) (sym long) c.requires.room.readers
+    let long = same_length (λ d. d.seat.window) (λ b. b.window) c.args.output.readers.items c.args.shared_binds.items c.requires.output.readers in
+    subst (λ (n : ℕ). IsFree n c.args.buffers.ring_ends.readers) (sym long) c.requires.buffers.readers

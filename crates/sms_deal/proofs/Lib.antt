@@ -1,2 +1,0 @@
-pub mod Dealings
-pub mod Takes

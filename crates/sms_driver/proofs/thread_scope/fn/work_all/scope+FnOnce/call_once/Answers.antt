@@ -1,5 +1,0 @@
-use denote.Param.Send.{sendable}
-use Rattle.sms_driver.proofs.thread_scope.fn.work_all.scope+FnOnce.call_once.Goals as goal
-
-pub scope-requires : goal.scope-requires
-scope-requires g c = (search sendable, (search sendable, (search sendable, (search sendable, (search sendable, (search sendable, (search sendable, search sendable)))))))

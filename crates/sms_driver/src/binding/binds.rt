@@ -1,0 +1,45 @@
+//! What a bind has for its threads and for the driver.
+
+use crate::binding::following::Following;
+use crate::ending::unbind_result::UnbindResult;
+use rtrb::{Consumer, Producer};
+use sms_bind::{Bound, Line, ReaderLeave};
+use sms_pdu::{Reply, Tap};
+use sms_window::{Window, WindowSeat};
+
+/// What the threads of a bind share.
+#[derive(Drop)]
+pub struct SharedBind<W> {
+    pub line: Line<W>,
+    pub window: Window,
+}
+
+/// What the threads of a bind are given: the reader gets the keeper's seat and the permission to mark the line
+/// down, each worker a seat and a ring.
+#[derive(Drop)]
+pub struct BindParts<Rd> {
+    pub keeper: WindowSeat,
+    pub seats: Vec<WindowSeat>,
+    pub consumers: Vec<Consumer<Reply>>,
+    pub producers: Vec<Producer<Reply>>,
+    pub reader: Tap<Rd>,
+    pub bound: Bound,
+    pub follow: Following,
+    pub leave: ReaderLeave,
+}
+
+/// The driver's own seat at a bind, and the result of its unbind.
+#[derive(Drop)]
+pub struct DriverSeat {
+    pub seat: WindowSeat,
+    pub unbind_result: UnbindResult,
+}
+
+/// All binds, each at its place in each list: what its threads share, what they are given, and the
+/// driver's own seat.
+#[derive(Drop)]
+pub struct Binds<Rd, W> {
+    pub shared_binds: Vec<SharedBind<W>>,
+    pub bind_parts: Vec<BindParts<Rd>>,
+    pub driver_seats: Vec<DriverSeat>,
+}

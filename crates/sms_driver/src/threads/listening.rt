@@ -1,0 +1,166 @@
+//! Readers in threads of their own.
+
+ghost use Rattle.std.specs.Prelude.{◌≡◌, ◌<◌, ◌≤◌, [], length, map, take, IfErr, IfOk, OnOk, vec_capacity};
+ghost use Rattle.std.specs.List.{AllByRecursion};
+ghost use Rattle.sms_driver.specs.StartGates.{IsReleased};
+ghost use Rattle.sms_driver.specs.Reads.{listener_of, listener_promised, reading_of, HasRead, IsUnread};
+ghost use Rattle.sms_driver.specs.declared.fault.SendFault.TheVariants.{ThreadRefused};
+
+use crate::fault::SendFault;
+use crate::start_gate::{Command, StartGate, ThreadResult};
+use crate::threads::{ReaderPromise, ReaderTask};
+use rtrb::Producer;
+use sms_bind::{ReaderCause, ReaderEnd, read_loop};
+use sms_pdu::{Reply, Tap};
+use sms_window::WindowSeat;
+use sms_worker::Rules;
+use std::alloc::Global;
+use std::io::{Read, Write};
+use std::snapshot::Snapshot;
+use std::sync::Wait;
+use std::thread::{PromisedHandle, Scope, Threads};
+
+/// A reader's thread, and what it gives back.
+pub type ReaderHandle<'s, Rd> = PromisedHandle<ThreadResult<'s, ReaderEnd>, ReaderPromise<Rd>>;
+
+/// The end of a reader that was stopped before its first read.
+fn unread(producers: Vec<Producer<Reply>>, seat: WindowSeat) -> ReaderEnd
+    ensures { IsUnread seat producers.items result }
+{
+    ReaderEnd {
+        answered: 0,
+        unknown: 0,
+        overrun: 0,
+        delivered: 0,
+        noted: 0,
+        nacked: 0,
+        unreplied: 0,
+        errors: 0,
+        cause: ReaderCause::Stopped,
+        producers,
+        seat,
+    }
+}
+
+/// Waits at the gate, and then reads until the bind's end or gives back what it has. The errors of the
+/// input are counted from there on.
+fn listen<'s, Rd: Read, W: Write, R: Wait>(
+    rt: &R,
+    alloc: Global,
+    latch: &'s StartGate,
+    reader_task: ReaderTask<Rd, W>,
+    rules: &Rules,
+) -> ThreadResult<'s, ReaderEnd>
+where
+    Rd: Drop,
+    requires same_window { reader_task.seat.window ≡ reader_task.window.now }
+    ensures { IsReleased latch.now
+        (λ r. (r.seat.window ≡ reader_task.entry.seat.window) × HasRead rules.now.turns Rd.remaining (reading_of reader_task.entry) r)
+        (IsUnread reader_task.entry.seat reader_task.entry.producers.items) result }
+{
+    let started = latch.wait(rt);
+    let ReaderTask {
+        reader,
+        bound,
+        follow,
+        producers,
+        seat,
+        leave,
+        line,
+        window,
+    } = reader_task;
+    match latch.command(&started) {
+        Command::Go => {
+            let mut reader = Tap::new(reader.into_inner());
+            let (value, _down) = read_loop(
+                rt,
+                alloc,
+                &mut reader,
+                bound,
+                producers,
+                line,
+                window,
+                seat,
+                leave,
+                follow.limit,
+                rules.turns,
+            );
+            ThreadResult { started, value }
+        }
+        Command::Leave => ThreadResult {
+            started,
+            value: unread(producers, seat),
+        },
+    }
+}
+
+/// Starts a reader in a thread of the scope.
+fn start_reader<
+    's,
+    'l: 's,
+    E,
+    Rd: Read + Send + Drop + 's,
+    W: Write + Send + 's,
+    R: Threads + Wait + Sync,
+>(
+    scope: &Scope<'s, E>,
+    rt: &'s R,
+    alloc: Global,
+    latch: &'l StartGate,
+    reader_task: ReaderTask<'s, Rd, W>,
+    rules: &'s Rules,
+) -> Result<ReaderHandle<'l, Rd>, SendFault>
+    requires same_window { reader_task.seat.window ≡ reader_task.window.now }
+    ensures listener { IfOk result (λ h. listener_promised h.promise ≡ listener_of reader_task.entry) }
+    ensures given { IfOk result (λ h. (h.promise.latch.value ≡ latch.now) × (h.promise.turns ≡ rules.now.turns)) }
+    ensures refused { IfErr result (λ fault. fault ≡ ThreadRefused) }
+{
+    let promise = ReaderPromise {
+        latch: Snapshot::of(latch),
+        seat: Snapshot::of(&reader_task.seat),
+        reader: Snapshot::of(&reader_task.reader),
+        bound: Snapshot::of(&reader_task.bound),
+        producers: Snapshot::of(&reader_task.producers),
+        follow: reader_task.follow,
+        turns: rules.turns,
+    };
+    match scope.spawn_with(promise, move || {
+        listen(rt, alloc, latch, reader_task, rules)
+    }) {
+        Ok(handle) => Ok(handle),
+        Err(_refused) => Err(SendFault::ThreadRefused),
+    }
+}
+
+/// Starts a reader for each bind. If one is refused, those that were started are in the list.
+pub(crate) fn start_readers<
+    's,
+    'l: 's,
+    E,
+    Rd: Read + Send + Drop + 's,
+    W: Write + Send + 's,
+    R: Threads + Wait + Sync,
+>(
+    scope: &Scope<'s, E>,
+    rt: &'s R,
+    alloc: Global,
+    latch: &'l StartGate,
+    reader_tasks: Vec<ReaderTask<'s, Rd, W>>,
+    rules: &'s Rules,
+    handles: &mut Vec<ReaderHandle<'l, Rd>>,
+) -> Result<(), SendFault>
+    requires same_window { AllByRecursion (λ t. t.seat.window ≡ t.window.now) reader_tasks.items }
+    requires room { (handles.old.items ≡ []) × (length reader_tasks.items ≤ vec_capacity handles.old) }
+    ensures all { OnOk result (map (λ h. listener_promised h.promise) handles.new.items ≡ map listener_of reader_tasks.entry.items) }
+    ensures bound { length handles.new.items ≤ length reader_tasks.entry.items }
+    ensures first { map (λ h. listener_promised h.promise) handles.new.items ≡ take (length handles.new.items) (map listener_of reader_tasks.entry.items) }
+    ensures given { AllByRecursion (λ h. (h.promise.latch.value ≡ latch.now) × (h.promise.turns ≡ rules.now.turns)) handles.new.items }
+    ensures refused { IfErr result (λ fault. fault ≡ ThreadRefused) }
+    ensures short { IfErr result (λ _. length handles.new.items < length reader_tasks.entry.items) }
+{
+    for reader_task in reader_tasks {
+        let handle = start_reader(scope, rt, alloc, latch, reader_task, rules)?;
+        handles.push_reserved(handle);
+    }
+    Ok(())
+}
