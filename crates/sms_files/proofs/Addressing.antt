@@ -4,7 +4,7 @@ use Rattle.std.specs.List.{AllZip}
 use Rattle.std.specs.Prelude.{string_bytes}
 use Rattle.sms_message.specs.declared.message.Message.{Message}
 use Rattle.sms_files.specs.Fields.{Field, Record}
-use Rattle.sms_files.specs.Messages.{is_header, is_message, most_messages}
+use Rattle.sms_files.specs.Messages.{message_flaw, messages_header_flaw, most_messages}
 use Rattle.sms_files.specs.Rows.{AreRows}
 use Rattle.sms_files.specs.MessageRows.{AreFrom, AreMessages, AreSaid, HasFields, IsMessage, Said}
 use Rattle.sms_files.specs.declared.message_rows.MessageRow.{MessageRow}
@@ -45,6 +45,6 @@ one-more-said names place rows ms pushed row m h s e p =
     let here : place ≡ 0 + length rows = omega (arith, e, said-length names 0 rows ms h) in
     rw p (said-push names 0 place rows ms row m here h s)
 
-pub messages-are : (names : List Field) (rs : List Record) (rows : List MessageRow) (ms : List Message) → AreRows is_header is_message HasFields most_messages rs rows → AreSaid names 0 rows ms → AreMessages names rs ms
+pub messages-are : (names : List Field) (rs : List Record) (rows : List MessageRow) (ms : List Message) → AreRows messages_header_flaw message_flaw HasFields most_messages rs rows → AreSaid names 0 rows ms → AreMessages names rs ms
 messages-are names [] rows ms h s = absurd h
 messages-are names (r ∷ rs) rows ms h s = (h.0, messages_from names 0 rs rows ms h.1 s)

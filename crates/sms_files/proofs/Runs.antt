@@ -1,5 +1,5 @@
 -- How the records of a file after its first are told from faulty ones, one at a time.
-use Rattle.std.proofs.Common.{◌≡◌, ◌∙◌, sym, refl, ap, ℕ, ◌+◌, ◌<◌, ◌≤◌, inl, Bool, true, false, List, [], ◌∷◌, ◌++◌, Option, Some, None, IfSome, arith, append_assoc, Result, Ok, Err, IfErr}
+use Rattle.std.proofs.Common.{◌≡◌, ◌∙◌, sym, refl, ap, ℕ, ◌+◌, ◌<◌, ◌≤◌, inl, inr, Bool, true, false, List, [], ◌∷◌, ◌++◌, Option, Some, None, IfSome, arith, append_assoc, Result, Ok, Err, IfErr}
 use Rattle.std.specs.List.{AllZip}
 use Rattle.std.specs.Prelude.{nat_le}
 use Rattle.std.specs.Result.{IsErrAnd}
@@ -7,10 +7,15 @@ use Rattle.std.proofs.lemmas.Bool.Decides.{nat_tests}
 use Rattle.std.proofs.lemmas.List.{append-nil}
 use Rattle.sms_files.specs.Faults.{IsDevice}
 use Rattle.sms_files.specs.Fields.{Record}
-use Rattle.sms_files.specs.Records.{GivesFirst, IsReadAs, TellsRecords, record_fault}
+use Rattle.sms_files.specs.Records.{GivesFirst, IsBadRecord, IsReadAs, IsRowFault, TellsRecords, Trouble, record_fault}
 use Rattle.sms_files.specs.declared.fault.InputFault.{InputFault}
 use Rattle.sms_files.specs.declared.fault.InputFault.TheVariants.{OutOfMemory}
 use Rattle.sms_files.specs.declared.fault.Source.{Source}
+use Rattle.sms_files.specs.declared.flaw.Flaw.{Flaw}
+use Rattle.sms_files.specs.declared.flaw.Flaw.TheVariants.{OneTooMany}
+use Rattle.sms_files.specs.declared.records.RowFault.{RowFault}
+use Rattle.sms_files.specs.declared.records.RowFault.TheVariants.{Flawed}
+use Rattle.sms_files.specs.declared.records.RowFault.TheVariants.{OutOfMemory as RowMemory}
 
 -- what holds of a told value, whichever it is
 pub if_known : {A : Type 0} (o : Option A) (P : A → Type 0) → ((x : A) → o ≡ Some x → P x) → IfSome o P
@@ -36,19 +41,17 @@ next-found o left found r after known h e = first-found left found r after (rw k
 
 -- the first faulty record, by the one that stands next
 
-pub fault-bad : (is_good : Record → Bool) (most before : ℕ) (r : Record) (rs : List Record) → is_good r ≡ false → record_fault is_good most before (r ∷ rs) ≡ Some (before + 1)
-fault-bad is_good most before r rs e = by (nat_le before most) refl
-  where
-    by : (b : Bool) → nat_le before most ≡ b → record_fault is_good most before (r ∷ rs) ≡ Some (before + 1)
-    by true h = rw (h, e) refl
-    by false h = rw h refl
+pub fault-bad : (flaw : Record → Option Flaw) (most before : ℕ) (r : Record) (rs : List Record) (is : Flaw) → before ≤ most → flaw r ≡ Some is
+    → record_fault flaw most before (r ∷ rs) ≡ Some (before + 1, is)
+fault-bad flaw most before r rs is low e = let h : nat_le before most ≡ true = grind (arith, nat_tests) in rw (h, e) refl
 
-pub fault-good : (is_good : Record → Bool) (most before : ℕ) (r : Record) (rs : List Record) → before ≤ most → is_good r ≡ true
-    → record_fault is_good most before (r ∷ rs) ≡ record_fault is_good most (before + 1) rs
-fault-good is_good most before r rs low e = let h : nat_le before most ≡ true = grind (arith, nat_tests) in rw (h, e) refl
+pub fault-good : (flaw : Record → Option Flaw) (most before : ℕ) (r : Record) (rs : List Record) → before ≤ most → flaw r ≡ None
+    → record_fault flaw most before (r ∷ rs) ≡ record_fault flaw most (before + 1) rs
+fault-good flaw most before r rs low e = let h : nat_le before most ≡ true = grind (arith, nat_tests) in rw (h, e) refl
 
-pub fault-many : (is_good : Record → Bool) (most before : ℕ) (r : Record) (rs : List Record) → most < before → record_fault is_good most before (r ∷ rs) ≡ Some (before + 1)
-fault-many is_good most before r rs high = let h : nat_le before most ≡ false = grind (arith, nat_tests) in rw h refl
+pub fault-many : (flaw : Record → Option Flaw) (most before : ℕ) (r : Record) (rs : List Record) → most < before
+    → record_fault flaw most before (r ∷ rs) ≡ Some (before + 1, OneTooMany)
+fault-many flaw most before r rs high = let h : nat_le before most ≡ false = grind (arith, nat_tests) in rw h refl
 
 -- one more of each of two lists
 zip-push : {A B : Type 0} (R : A → B → Type 0) (xs : List A) (ys : List B) (x : A) (y : B) → AllZip R xs ys → R x y → AllZip R (xs ++ x ∷ []) (ys ++ y ∷ [])
@@ -59,7 +62,7 @@ zip-push R (a ∷ more) (b ∷ bs) x y h p = (h.0, zip-push R more bs x y h.1 p)
 
 -- of the records that were left, some were read as these items, and others are left now; the first faulty one of all, if there is one, is
 -- that of the others
-pub record ReadSo {T : Type 0} (Says : Record → T → Type 0) (total : Option ℕ) (rest : List Record → Option ℕ) (left : List Record) (items : List T) (now : Option (List Record)) : Type 0 where
+pub record ReadSo {T : Type 0} (Says : Record → T → Type 0) (total : Option Trouble) (rest : List Record → Option Trouble) (left : List Record) (items : List T) (now : Option (List Record)) : Type 0 where
   pub front : List Record
   pub after : List Record
   pub known : now ≡ Some after
@@ -68,7 +71,7 @@ pub record ReadSo {T : Type 0} (Says : Record → T → Type 0) (total : Option 
   pub faulty : total ≡ rest after
 
 -- the next record was read too
-pub one-more : {T : Type 0} (Says : Record → T → Type 0) (total : Option ℕ) (rest next : List Record → Option ℕ) (left : List Record) (items pushed : List T) (x : T) (now after : Option (List Record)) (found : Bool) (r : Record)
+pub one-more : {T : Type 0} (Says : Record → T → Type 0) (total : Option Trouble) (rest next : List Record → Option Trouble) (left : List Record) (items pushed : List T) (x : T) (now after : Option (List Record)) (found : Bool) (r : Record)
     → ReadSo Says total rest left items now → IfSome now (λ rs. GivesFirst rs found r after) → found ≡ true → ((rs : List Record) → rest (r ∷ rs) ≡ next rs) → Says r x
     → pushed ≡ items ++ x ∷ [] → ReadSo Says total next left pushed after
 one-more Says total rest next left items pushed x now after found r so h e goes says p =
@@ -83,7 +86,7 @@ one-more Says total rest next left items pushed x now after found r so h e goes 
     }
 
 -- no record is left
-pub no-more : {T : Type 0} (Says : Record → T → Type 0) (total : Option ℕ) (rest : List Record → Option ℕ) (left : List Record) (items : List T) (now after : Option (List Record)) (found : Bool) (r : Record)
+pub no-more : {T : Type 0} (Says : Record → T → Type 0) (total : Option Trouble) (rest : List Record → Option Trouble) (left : List Record) (items : List T) (now after : Option (List Record)) (found : Bool) (r : Record)
     → ReadSo Says total rest left items now → IfSome now (λ rs. GivesFirst rs found r after) → found ≡ false → rest [] ≡ None
     → AllZip Says left items × (total ≡ None)
 no-more Says total rest left items now after found r so h e ends =
@@ -92,15 +95,15 @@ no-more Says total rest left items now after found r so h e ends =
     (rw all so.says, so.faulty ∙ ap rest none ∙ ends)
 
 -- the next record is the first faulty one
-pub bad-next : {T : Type 0} (Says : Record → T → Type 0) (total : Option ℕ) (rest : List Record → Option ℕ) (place : ℕ) (left : List Record) (items : List T) (now after : Option (List Record)) (found : Bool) (r : Record)
-    → ReadSo Says total rest left items now → IfSome now (λ rs. GivesFirst rs found r after) → found ≡ true → ((rs : List Record) → rest (r ∷ rs) ≡ Some place)
-    → total ≡ Some place
-bad-next Says total rest place left items now after found r so h e bad =
+pub bad-next : {T : Type 0} (Says : Record → T → Type 0) (total : Option Trouble) (rest : List Record → Option Trouble) (trouble : Trouble) (left : List Record) (items : List T) (now after : Option (List Record)) (found : Bool) (r : Record)
+    → ReadSo Says total rest left items now → IfSome now (λ rs. GivesFirst rs found r after) → found ≡ true → ((rs : List Record) → rest (r ∷ rs) ≡ Some trouble)
+    → total ≡ Some trouble
+bad-next Says total rest trouble left items now after found r so h e bad =
     let f = next-found now so.after found r after so.known h e in
     so.faulty ∙ ap rest f.1 ∙ bad f.0
 
 -- a fault of the device tells nothing of the records
-pub device-tells : (source : Source) (o : Option (List Record)) (faulty : List Record → Option ℕ) (f : InputFault) → IsDevice source f → IfSome o (λ left. TellsRecords source (faulty left) f)
+pub device-tells : (source : Source) (o : Option (List Record)) (faulty : List Record → Option Trouble) (f : InputFault) → IsDevice source f → IfSome o (λ left. TellsRecords source (faulty left) f)
 device-tells source o faulty f h = if_known o (λ left. TellsRecords source (faulty left) f) (λ left known. inl h)
 
 -- what holds of a fault holds of it when it is told
@@ -113,8 +116,18 @@ pub refused : {T : Type 0} (r : Result T InputFault) (P : InputFault → Type 0)
 refused r P h p = told_so r OutOfMemory P h p
 
 -- what was read of a record, by cases
-pub not-read : {T : Type 0} (is_good : Record → Bool) (Says : Record → T → Type 0) (r : Record) (o : Option T) → IsReadAs is_good Says r o → o ≡ None → is_good r ≡ false
-not-read is_good Says r o h e = rw e at h
+pub flaw-read : {T : Type 0} (flaw : Record → Option Flaw) (Says : Record → T → Type 0) (r : Record) (o : Result T RowFault) (fault : RowFault) (is : Flaw) → IsReadAs flaw Says r o → o ≡ Err fault → fault ≡ Flawed is
+    → flaw r ≡ Some is
+flaw-read flaw Says r o fault is h e f = rw (e, f) at h
 
-pub was-read : {T : Type 0} (is_good : Record → Bool) (Says : Record → T → Type 0) (r : Record) (o : Option T) (x : T) → IsReadAs is_good Says r o → o ≡ Some x → (is_good r ≡ true) × Says r x
-was-read is_good Says r o x h e = rw e at h
+pub was-read : {T : Type 0} (flaw : Record → Option Flaw) (Says : Record → T → Type 0) (r : Record) (o : Result T RowFault) (x : T) → IsReadAs flaw Says r o → o ≡ Ok x → (flaw r ≡ None) × Says r x
+was-read flaw Says r o x h e = rw e at h
+
+-- the fault of a record that is the first faulty one
+pub names-record : (source : Source) (place : ℕ) (flaw : Flaw) (faulty : Option Trouble) (f : InputFault) → IsBadRecord source place flaw f → faulty ≡ Some (place, flaw) → TellsRecords source faulty f
+names-record source place flaw faulty f bad is = inr (place, flaw, bad, is)
+
+pub names-row : (source : Source) (place : ℕ) (fault : RowFault) (faulty : Option Trouble) (f : InputFault) → IsRowFault source place fault f
+    → ((flaw : Flaw) → fault ≡ Flawed flaw → faulty ≡ Some (place, flaw)) → TellsRecords source faulty f
+names-row source place (Flawed flaw) faulty f bad is = names-record source place flaw faulty f bad (is flaw refl)
+names-row source place RowMemory faulty f memory is = inl (inr memory)

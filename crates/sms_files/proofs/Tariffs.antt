@@ -1,5 +1,5 @@
--- Why rates are no tariff, and the place that is told.
-use Rattle.std.proofs.Common.{◌≡◌, ◌⊎◌, ◌↔◌, ◌<◌, ◌≤◌, refl, ap, ℕ, List, length, Some, None, Result, Err, IsErrOf, inl, inr, arith}
+-- Why rates are no tariff, and the fault of the first one that is refused.
+use Rattle.std.proofs.Common.{◌≡◌, ◌⊎◌, ◌↔◌, ◌<◌, ◌≤◌, ◌+◌, refl, ap, ℕ, List, length, Some, None, Result, Err, IsErrOf, inl, inr, arith}
 use Rattle.std.proofs.lemmas.List.{length-map}
 use Rattle.sms_book.specs.declared.error.TariffError.{TariffError}
 use Rattle.sms_book.specs.declared.error.TariffError.TheVariants.{TooMany, BadPrefix, BadCredits, Duplicate, OutOfMemory}
@@ -7,7 +7,13 @@ use Rattle.sms_book.specs.declared.rate.Rate.{Rate}
 use Rattle.sms_book.specs.Limits.{most_rates as most_of_tariff}
 use Rattle.sms_book.specs.Openings.{HaveOneName}
 use Rattle.sms_book.specs.Tariffs.{IsCredits, IsPrefix, IsReached, Price, Refuses, prefixes, price_at, price_of, prices_of}
-use Rattle.sms_files.specs.Rates.{place_of}
+use Rattle.sms_files.specs.Rates.{TellsPrices, trouble_of}
+use Rattle.sms_files.specs.Records.{IsBadRecord}
+use Rattle.sms_files.specs.declared.fault.InputFault.{InputFault}
+use Rattle.sms_files.specs.declared.fault.Source.TheVariants.{Tariff}
+use Rattle.sms_files.specs.declared.flaw.Flaw.{Flaw}
+use Rattle.sms_files.specs.declared.flaw.Flaw.TheVariants.{OneTooMany}
+use Rattle.sms_files.proofs.FirstFlaws.{same_trouble}
 
 -- why rates are no tariff
 pub refuses-so : (rates : List Rate) (r : Result (List Price) TariffError) (e : TariffError) → r ≡ Err e
@@ -24,15 +30,28 @@ refuses-so rates r (Duplicate first second) is many prefix credits double =
     let (reached, prefix_is, credits_are, named) = (double first second).0 is in inr (reached, record { is = refl; prefix = prefix_is; credits = credits_are; double = named })
 refuses-so rates r OutOfMemory is many prefix credits double = inl refl
 
--- a place is told where the rates are refused
-pub refuses-there : (prices : List Price) (e : TariffError) (place : ℕ) → (e ≡ OutOfMemory) ⊎ Refuses prices e → place_of e ≡ Some place → Refuses prices e
-refuses-there prices e place (inl memory) p = let q : place_of e ≡ None = ap place_of memory in cc
-refuses-there prices e place (inr h) p = h
+-- the place of the rate is within the limit
+pub there_low : (prices : List Price) (at : ℕ) → IsReached prices at → at ≤ 1000
+there_low prices at h = let low = h.there in let few = h.few in omega arith
 
--- and it is within the limit
-pub place-low : (prices : List Price) (e : TariffError) (place : ℕ) → Refuses prices e → place_of e ≡ Some place → place ≤ 1000
-place-low prices TooMany place h p = let same : 1000 ≡ place = cc in omega arith
-place-low prices (BadPrefix at) place h p = let same : at ≡ place = cc in let low = h.0.there in let few = h.0.few in omega arith
-place-low prices (BadCredits at) place h p = let same : at ≡ place = cc in let low = h.0.there in let few = h.0.few in omega arith
-place-low prices (Duplicate first second) place h p = let same : second ≡ place = cc in let low = h.0.there in let few = h.0.few in omega arith
-place-low prices OutOfMemory place h p = absurd h
+-- the fault of a rate that no tariff takes
+pub names-rate : (prices : List Price) (e : TariffError) (place : ℕ) (flaw : Flaw) (f : InputFault) → (e ≡ OutOfMemory) ⊎ Refuses prices e → trouble_of e ≡ Some (place, flaw) → IsBadRecord Tariff (place + 2) flaw f → TellsPrices prices f
+names-rate prices e place flaw f (inl memory) p bad = let q : trouble_of e ≡ None = ap trouble_of memory in cc
+names-rate prices e place flaw f (inr why) p bad = inr (e, place, flaw, why, p, bad)
+
+-- the place of the first of two rates with one prefix
+pub first_low : (prices : List Price) (e : TariffError) (first second : ℕ) → (e ≡ OutOfMemory) ⊎ Refuses prices e → e ≡ Duplicate first second → first ≤ 1000
+first_low prices e first second (inl memory) is = cc
+first_low prices e first second (inr why) is =
+    let duplicate : Refuses prices (Duplicate first second) = rw is at why in
+    let before = duplicate.1.double.before in
+    let low = there_low prices second duplicate.0 in
+    omega (arith, before, low)
+
+pub place_low : (prices : List Price) (e : TariffError) (place : ℕ) (flaw : Flaw) → (e ≡ OutOfMemory) ⊎ Refuses prices e → trouble_of e ≡ Some (place, flaw) → place ≤ 1000
+place_low prices e place flaw (inl memory) p = let q : trouble_of e ≡ None = ap trouble_of memory in cc
+place_low prices TooMany place flaw (inr why) p = let same = same_trouble 1000 place OneTooMany flaw p in let is = same.0 in omega (arith, is)
+place_low prices (BadPrefix at) place flaw (inr why) p = let same = same_trouble at place _ flaw p in let is = same.0 in let low = there_low prices at why.0 in omega (arith, is, low)
+place_low prices (BadCredits at) place flaw (inr why) p = let same = same_trouble at place _ flaw p in let is = same.0 in let low = there_low prices at why.0 in omega (arith, is, low)
+place_low prices (Duplicate first second) place flaw (inr why) p = let same = same_trouble second place _ flaw p in let is = same.0 in let low = there_low prices second why.0 in omega (arith, is, low)
+place_low prices OutOfMemory place flaw (inr why) p = absurd why

@@ -4,6 +4,7 @@ use Rattle.std.specs.Str.{is_utf8}
 use Rattle.toml.specs.Data.{Members}
 use Rattle.toml.specs.Parse.{parse_document}
 use Rattle.sms_files.specs.Config.{Key, faulty_key, host_of, port_of, system_id_of, password_of, system_type_of, mode_of, binds_of, workers_of, window_of, depth_of, attempts_of, base_ms_of, answer_ms_of, receipts_of, long_reference_of, follow_of, accounts_of, messages_of, tariff_of, bind_status_of, answers_of}
+use Rattle.sms_files.specs.ConfigValues.{IsValueAt}
 use Rattle.sms_files.specs.declared.config.Config.{Config}
 use Rattle.sms_files.specs.declared.config.Connection.{Connection}
 use Rattle.sms_files.specs.declared.limits.Limits.{Limits}
@@ -14,11 +15,11 @@ use Rattle.sms_files.specs.declared.config.Answers.{Answers}
 use Rattle.sms_files.specs.declared.fault.InputFault.{InputFault}
 use Rattle.sms_files.specs.declared.fault.InputFault.TheVariants.{BadKey, NotToml, OutOfMemory}
 
--- what a fault says of the keys, of which this is the first faulty one
-abbrev pub TellsKey : Option Key → InputFault → Type 0
-TellsKey faulty (BadKey key) = faulty ≡ Some (string_bytes key)
-TellsKey faulty OutOfMemory = Unit {0}
-TellsKey faulty _ = ⊥
+-- what a fault says of the keys of a table, of which this is the first faulty one: it names that one and what stands there
+abbrev pub TellsKey : Members → Option Key → InputFault → Type 0
+TellsKey t faulty (BadKey key value) = (faulty ≡ Some (string_bytes key)) × IsValueAt (string_bytes key) t value
+TellsKey t faulty OutOfMemory = Unit {0}
+TellsKey t faulty _ = ⊥
 
 -- the values are those of the keys
 pub record SaysConnection (t : Members) (c : Connection) : Type 0 where
@@ -70,13 +71,19 @@ toml_of octets = if is_utf8 octets then parse_document octets else None
 abbrev pub OfTable : List ℕ → (Members → Type 0) → Type 0
 OfTable octets P = (t : Members) × (toml_of octets ≡ Some t) × P t
 
+-- what a fault says of octets that are no table
+abbrev pub TellsToml : List ℕ → InputFault → Type 0
+TellsToml octets (NotToml why) = toml_of octets ≡ None
+TellsToml octets OutOfMemory = Unit {0}
+TellsToml octets _ = ⊥
+
 -- the octets are a config without a fault, which says this
 abbrev pub IsConfig : List ℕ → Config → Type 0
 IsConfig octets c = OfTable octets (λ t. (faulty_key t ≡ None) × SaysConfig t c)
 
--- what a fault says of the octets of a config: they aren't TOML, or which key is the first faulty one
+-- what a fault says of the octets of a config: they aren't TOML, or which key is the first faulty one, and what stands there
 abbrev pub TellsConfig : List ℕ → InputFault → Type 0
-TellsConfig octets NotToml = toml_of octets ≡ None
-TellsConfig octets (BadKey key) = OfTable octets (λ t. faulty_key t ≡ Some (string_bytes key))
+TellsConfig octets (NotToml why) = toml_of octets ≡ None
+TellsConfig octets (BadKey key value) = OfTable octets (λ t. (faulty_key t ≡ Some (string_bytes key)) × IsValueAt (string_bytes key) t value)
 TellsConfig octets OutOfMemory = Unit {0}
 TellsConfig octets _ = ⊥

@@ -31,6 +31,12 @@ pub record IsInput (config : List ℕ) (accounts messages : Told) (tariff : Opti
   pub messages_are : IfSome messages (λ bytes. AreMessages (names_of input.openings.items) (records_of bytes) input.messages.items)
   pub tariff_is : IsTariffOf tariff input.tariff
 
+-- the input has these accounts, messages and tariff
+pub record HasFiles (accounts messages : Told) (tariff : Option Told) (input : Input) : Type 0 where
+  pub openings : IfSome accounts (λ bytes. AreAccounts (records_of bytes) input.openings.items)
+  pub messages_are : IfSome messages (λ bytes. AreMessages (names_of input.openings.items) (records_of bytes) input.messages.items)
+  pub tariff_is : IsTariffOf tariff input.tariff
+
 -- the config, the accounts and the messages have no fault
 abbrev pub HasConfig : List ℕ → Type 0
 HasConfig octets = (c : Config) × IsConfig octets c
@@ -52,10 +58,13 @@ abbrev pub TellsTariffOf : Option Told → InputFault → Type 0
 TellsTariffOf None fault = fault ≡ OutOfMemory
 TellsTariffOf (Some told) fault = IfSome told (λ bytes. TellsTariff (records_of bytes) fault)
 
--- what a fault says of them all: it is of the first in this order that has one
+-- what a fault says of the files: it is of the first in this order that has one
+abbrev pub IsFaultOfFiles : Told → Told → Option Told → InputFault → Type 0
+IsFaultOfFiles accounts messages tariff fault =
+    TellsAccounts accounts fault
+    ⊎ (HasAccounts accounts × TellsMessages messages fault)
+    ⊎ (HasAccounts accounts × HasMessages messages × TellsTariffOf tariff fault)
+
+-- what a fault says of them all: it is of the config, or the config has none and it is of the files
 abbrev pub TellsInput : List ℕ → Told → Told → Option Told → InputFault → Type 0
-TellsInput config accounts messages tariff fault =
-    TellsConfig config fault
-    ⊎ (HasConfig config × TellsAccounts accounts fault)
-    ⊎ (HasConfig config × HasAccounts accounts × TellsMessages messages fault)
-    ⊎ (HasConfig config × HasAccounts accounts × HasMessages messages × TellsTariffOf tariff fault)
+TellsInput config accounts messages tariff fault = TellsConfig config fault ⊎ (HasConfig config × IsFaultOfFiles accounts messages tariff fault)

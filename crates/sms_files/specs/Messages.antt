@@ -1,9 +1,11 @@
 -- A messages file: a header, and a record for each message with its account, source, destination and text.
-use Rattle.std.specs.Prelude.{◌≡◌, ℕ, ◌==◌, ◌&&◌, Bool, true, false, List, [], ◌∷◌, length, Option, Some, None, codes, string_bytes}
-use Rattle.std.specs.Str.{is_utf8}
+use Rattle.std.specs.Prelude.{◌≡◌, ℕ, ◌==◌, ◌&&◌, Bool, List, [], ◌∷◌, length, Option, Some, None, if◌then◌else◌, Result, Ok, Err, codes, string_bytes}
 use Rattle.sms_files.specs.Fields.{Field, Record}
-use Rattle.sms_files.specs.Records.{file_fault}
-use Rattle.sms_files.specs.Rows.{AreRows, field_is}
+use Rattle.sms_files.specs.FieldFlaws.{first_flaw, text_flaw}
+use Rattle.sms_files.specs.Records.{Trouble, file_fault}
+use Rattle.sms_files.specs.Rows.{AreRows, field_is, header_of}
+use Rattle.sms_files.specs.declared.flaw.Flaw.{Flaw}
+use Rattle.sms_files.specs.declared.flaw.Flaw.TheVariants.{Fields}
 use Rattle.sms_files.specs.declared.messages.MessageFields.{MessageFields}
 use Rattle.sms_files.specs.declared.messages.MessageText.{MessageText}
 
@@ -17,27 +19,29 @@ is_header r =
     length r == 4
     && (field_is r 0 (codes "account") && (field_is r 1 (codes "source") && (field_is r 2 (codes "destination") && field_is r 3 (codes "text"))))
 
--- each field is text
-abbrev pub are_texts : Record → Bool
-are_texts [] = true
-are_texts (field ∷ fields) = is_utf8 field && are_texts fields
+-- a first record that isn't it
+abbrev pub messages_header_flaw : Record → Option Flaw
+messages_header_flaw = header_of is_header
 
--- four fields of text
-abbrev pub is_message : Record → Bool
-is_message r = length r == 4 && are_texts r
+-- a message has four fields of text
+abbrev pub message_flaw : Record → Option Flaw
+message_flaw r =
+    if length r == 4
+    then first_flaw (text_flaw r 0) (first_flaw (text_flaw r 1) (first_flaw (text_flaw r 2) (text_flaw r 3)))
+    else Some (Fields (length r))
 
--- the number, from 1, of the first record that may not stand where it stands
-abbrev pub messages_fault : List Record → Option ℕ
-messages_fault = file_fault is_header is_message most_messages
+-- the first record that may not stand where it stands, by its number from 1, and its flaw
+abbrev pub messages_fault : List Record → Option Trouble
+messages_fault = file_fault messages_header_flaw message_flaw most_messages
 
 -- the record that has these fields
 abbrev pub record_of : MessageFields → Record
 record_of m = m.account.now ∷ (m.source.now ∷ (m.destination.now ∷ (m.text.now ∷ [])))
 
--- the record is a message's, and these are its fields; or it isn't one
-abbrev pub AreFieldsOf : Record → Option MessageFields → Type 0
-AreFieldsOf r None = is_message r ≡ false
-AreFieldsOf r (Some m) = (is_message r ≡ true) × (record_of m ≡ r)
+-- the record is a message's, and these are its fields; or it has this flaw
+abbrev pub AreFieldsOf : Record → Result MessageFields Flaw → Type 0
+AreFieldsOf r (Err flaw) = message_flaw r ≡ Some flaw
+AreFieldsOf r (Ok m) = (message_flaw r ≡ None) × (record_of m ≡ r)
 
 -- the text in a message's record
 abbrev pub text_of : Record → Field
@@ -49,4 +53,4 @@ HasText r m = string_bytes m.text ≡ text_of r
 
 -- the records are a messages file of these texts
 abbrev pub AreTexts : List Record → List MessageText → Type 0
-AreTexts = AreRows is_header is_message HasText most_messages
+AreTexts = AreRows messages_header_flaw message_flaw HasText most_messages

@@ -1,5 +1,5 @@
 -- What a reader of a file's records has left, and what one read gives of it.
-use Rattle.std.specs.Prelude.{◌≡◌, ◌⊎◌, ℕ, ◌+◌, ◌&&◌, nat_le, if◌then◌else◌, Bool, true, false, List, [], ◌∷◌, length, Option, None, Some, option_map}
+use Rattle.std.specs.Prelude.{◌≡◌, ◌⊎◌, ℕ, ◌+◌, nat_le, if◌then◌else◌, Bool, true, false, List, [], ◌∷◌, length, Option, None, Some, option_map, Result, Ok, Err}
 use Rattle.csv.specs.Reading.{Ready, default_config, is_flexible, is_io, records_from, source_of, reader_config, reader_state, reader_trim}
 use Rattle.csv.specs.declared.error.ErrorKind.{ErrorKind}
 use Rattle.csv.specs.declared.error.ErrorKind.TheVariants as kind
@@ -11,7 +11,13 @@ use Rattle.sms_files.specs.Faults.{IsDevice}
 use Rattle.sms_files.specs.Fields.{Record}
 use Rattle.sms_files.specs.declared.fault.InputFault.{InputFault}
 use Rattle.sms_files.specs.declared.fault.InputFault.TheVariants.{BadRecord}
+use Rattle.sms_files.specs.declared.fault.InputFault.TheVariants as told
 use Rattle.sms_files.specs.declared.fault.Source.{Source}
+use Rattle.sms_files.specs.declared.flaw.Flaw.{Flaw}
+use Rattle.sms_files.specs.declared.flaw.Flaw.TheVariants.{Missing, OneTooMany}
+use Rattle.sms_files.specs.declared.record_flaw.RecordFlaw.{RecordFlaw}
+use Rattle.sms_files.specs.declared.records.RowFault.{RowFault}
+use Rattle.sms_files.specs.declared.records.RowFault.TheVariants.{Flawed, OutOfMemory}
 
 -- the reader gives every record as it stands, the first one too, and of whatever length
 pub record ReadsAll {R : Type 0} (a : Reader R) : Type 0 where
@@ -37,22 +43,45 @@ abbrev pub GivesFirst : List Record → Bool → Record → Option (List Record)
 GivesFirst [] found r after = found ≡ false
 GivesFirst (first ∷ rest) found r after = (found ≡ true) × (r ≡ first) × (after ≡ Some rest)
 
--- the record is good and says this; or it isn't good
-abbrev pub IsReadAs : {T : Type 0} → (Record → Bool) → (Record → T → Type 0) → Record → Option T → Type 0
-IsReadAs is_good Says r None = is_good r ≡ false
-IsReadAs is_good Says r (Some x) = (is_good r ≡ true) × Says r x
+-- the record has no flaw and says this; or this is its flaw
+abbrev pub IsReadAs : {T : Type 0} → (Record → Option Flaw) → (Record → T → Type 0) → Record → Result T RowFault → Type 0
+IsReadAs flaw Says r (Ok x) = (flaw r ≡ None) × Says r x
+IsReadAs flaw Says r (Err (Flawed is)) = flaw r ≡ Some is
+IsReadAs flaw Says r (Err OutOfMemory) = Unit {0}
 
--- the number, from 1, of the first record that isn't good or is one too many, where so many records stand before
-abbrev pub record_fault : (Record → Bool) → ℕ → ℕ → List Record → Option ℕ
-record_fault is_good most before [] = None
-record_fault is_good most before (r ∷ rs) =
-    if nat_le before most && is_good r then record_fault is_good most (before + 1) rs else Some (before + 1)
+-- the number of a faulty record, from 1, and what is wrong with it
+abbrev pub Trouble : Type 0
+Trouble = ℕ × Flaw
 
--- the number, from 1, of the first record of a file that may not stand where it stands; a file has a first record
-abbrev pub file_fault : (Record → Bool) → (Record → Bool) → ℕ → List Record → Option ℕ
-file_fault is_first is_good most [] = Some 1
-file_fault is_first is_good most (r ∷ rs) = if is_first r then record_fault is_good most 1 rs else Some 1
+abbrev pub some_trouble : ℕ → Flaw → Option Trouble
+some_trouble place flaw = Some (place, flaw)
 
--- what a fault says of a source's records, of which this is the first faulty one: that it is, or that the device failed
-abbrev pub TellsRecords : Source → Option ℕ → InputFault → Type 0
-TellsRecords source faulty f = IsDevice source f ⊎ ((place : ℕ) × (f ≡ BadRecord source place) × (faulty ≡ Some place))
+-- the trouble with a record of this flaw, where so many records stand before it; without a flaw that of those after it
+abbrev pub trouble_by : ℕ → Option Flaw → Option Trouble → Option Trouble
+trouble_by before None later = later
+trouble_by before (Some flaw) later = Some (before + 1, flaw)
+
+-- the first record that has a flaw or is one too many, where so many records stand before
+abbrev pub record_fault : (Record → Option Flaw) → ℕ → ℕ → List Record → Option Trouble
+record_fault flaw most before [] = None
+record_fault flaw most before (r ∷ rs) =
+    if nat_le before most then trouble_by before (flaw r) (record_fault flaw most (before + 1) rs) else Some (before + 1, OneTooMany)
+
+-- the first record of a file that may not stand where it stands; a file has a first record
+abbrev pub file_fault : (Record → Option Flaw) → (Record → Option Flaw) → ℕ → List Record → Option Trouble
+file_fault first flaw most [] = Some (1, Missing)
+file_fault first flaw most (r ∷ rs) = trouble_by 0 (first r) (record_fault flaw most 1 rs)
+
+-- a fault names this record of a source, with this flaw
+abbrev pub IsBadRecord : Source → ℕ → Flaw → InputFault → Type 0
+IsBadRecord source place flaw f = (detail : RecordFlaw) × (f ≡ BadRecord source place detail) × (detail.flaw ≡ flaw)
+
+-- a fault is of this record of a source, which is no row for this reason
+abbrev pub IsRowFault : Source → ℕ → RowFault → InputFault → Type 0
+IsRowFault source place (Flawed flaw) f = IsBadRecord source place flaw f
+IsRowFault source place OutOfMemory f = f ≡ told.OutOfMemory
+
+-- what a fault says of a source's records, of which this is the first faulty one: that it is, and why, or that the device failed
+abbrev pub TellsRecords : Source → Option Trouble → InputFault → Type 0
+TellsRecords source faulty f =
+    IsDevice source f ⊎ ((place : ℕ) × (flaw : Flaw) × IsBadRecord source place flaw f × (faulty ≡ Some (place, flaw)))

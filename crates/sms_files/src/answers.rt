@@ -53,13 +53,13 @@ fn answers_of(alloc: Global, value: &Value) -> Result<Option<Vec<String>>, Alloc
 /// The texts at the key `answers`.
 pub fn answers_at(alloc: Global, table: &Table) -> Result<Vec<String>, InputFault>
     ensures answers { IfOk result (λ texts. answers_in (get_member (codes "answers") (table_view table.now)) ≡ Some (map string_bytes texts.items)) }
-    ensures refused { IfErr result (TellsKey (fault_at (codes "answers") (answers_in (get_member (codes "answers") (table_view table.now))))) }
+    ensures refused { IfErr result (TellsKey (table_view table.now) (fault_at (codes "answers") (answers_in (get_member (codes "answers") (table_view table.now))))) }
 {
     match table.get("answers") {
         None => Ok(default_answers(alloc)?),
         Some(value) => match answers_of(alloc, value)? {
             Some(texts) => Ok(texts),
-            None => Err(bad_key(alloc, "answers")),
+            None => Err(bad_key(alloc, table, "answers")),
         },
     }
 }

@@ -1,15 +1,15 @@
 //! The config: the keys of its TOML text, each with its value or its default.
 
-ghost use Rattle.std.specs.Prelude.{◌≡◌, ◌≤◌, ◌⊎◌, None, Some, IfErr, IfOk, map};
+ghost use Rattle.std.specs.Prelude.{◌≡◌, ◌≤◌, None, Some, IfErr, IfOk, map};
 ghost use Rattle.toml.specs.View.{table_view};
 ghost use Rattle.sms_bind.specs.Binds.{setting};
 ghost use Rattle.sms_files.specs.Config.{c_octet_string, connection_fault, faulty_key, files_fault, flags_fault, is_among, known_keys, limits_fault, retry_fault, script_fault, unknown_key as unknown_key_of};
-ghost use Rattle.sms_files.specs.ConfigFaults.{IsConfig, SaysAnswers, SaysConfig, SaysConnection, SaysFiles, SaysLimits, SaysFlags, SaysRetry, TellsConfig, TellsKey, toml_of};
-ghost use Rattle.sms_files.specs.declared.fault.InputFault.TheVariants.{NotToml, OutOfMemory};
+ghost use Rattle.sms_files.specs.ConfigFaults.{IsConfig, SaysAnswers, SaysConfig, SaysConnection, SaysFiles, SaysLimits, SaysFlags, SaysRetry, TellsConfig, TellsKey, TellsToml, toml_of};
 
 use crate::answers::answers_at;
 use crate::fault::InputFault;
 use crate::limits::Limits;
+use crate::toml_flaw::TomlFlaw;
 use crate::toml_value::{bad_key, flag_at, mode_at, number_at, octets_at, text_at};
 use sms_bind::Settings;
 use sms_pdu::{Mode, Octets};
@@ -103,7 +103,7 @@ fn settings_of(mode: Mode, system_id: Octets, password: Octets, system_type: Oct
 fn connection_at(alloc: Global, table: &Table) -> Result<Connection, InputFault>
     ensures says { IfOk result (SaysConnection (table_view table.now)) }
     ensures faultless { IfOk result (λ _. connection_fault (table_view table.now) ≡ None) }
-    ensures refused { IfErr result (TellsKey (connection_fault (table_view table.now))) }
+    ensures refused { IfErr result (TellsKey (table_view table.now) (connection_fault (table_view table.now))) }
 {
     let host = text_at(alloc, table, "host", "127.0.0.1")?;
     let port = number_at(alloc, table, "port", 2775, 1, 65_535)?;
@@ -122,7 +122,7 @@ fn connection_at(alloc: Global, table: &Table) -> Result<Connection, InputFault>
 fn limits_at(alloc: Global, table: &Table) -> Result<Limits, InputFault>
     ensures says { IfOk result (SaysLimits (table_view table.now)) }
     ensures faultless { IfOk result (λ _. limits_fault (table_view table.now) ≡ None) }
-    ensures refused { IfErr result (TellsKey (limits_fault (table_view table.now))) }
+    ensures refused { IfErr result (TellsKey (table_view table.now) (limits_fault (table_view table.now))) }
 {
     let binds = number_at(alloc, table, "binds", 1, 1, 4)?;
     let workers = number_at(alloc, table, "workers", 1, 1, 8)?;
@@ -140,7 +140,7 @@ fn limits_at(alloc: Global, table: &Table) -> Result<Limits, InputFault>
 fn retry_at(alloc: Global, table: &Table) -> Result<Retry, InputFault>
     ensures says { IfOk result (SaysRetry (table_view table.now)) }
     ensures faultless { IfOk result (λ _. retry_fault (table_view table.now) ≡ None) }
-    ensures refused { IfErr result (TellsKey (retry_fault (table_view table.now))) }
+    ensures refused { IfErr result (TellsKey (table_view table.now) (retry_fault (table_view table.now))) }
 {
     let attempts = number_at(alloc, table, "attempts", 3, 1, 10)?;
     let base_ms = number_at(alloc, table, "base_ms", 100, 0, 60_000)?;
@@ -155,7 +155,7 @@ fn retry_at(alloc: Global, table: &Table) -> Result<Retry, InputFault>
 fn flags_at(alloc: Global, table: &Table) -> Result<Flags, InputFault>
     ensures says { IfOk result (SaysFlags (table_view table.now)) }
     ensures faultless { IfOk result (λ _. flags_fault (table_view table.now) ≡ None) }
-    ensures refused { IfErr result (TellsKey (flags_fault (table_view table.now))) }
+    ensures refused { IfErr result (TellsKey (table_view table.now) (flags_fault (table_view table.now))) }
 {
     let receipts = flag_at(alloc, table, "receipts")?;
     let long_reference = flag_at(alloc, table, "long_reference")?;
@@ -171,7 +171,7 @@ fn flags_at(alloc: Global, table: &Table) -> Result<Flags, InputFault>
 fn files_at(alloc: Global, table: &Table) -> Result<FileNames, InputFault>
     ensures says { IfOk result (SaysFiles (table_view table.now)) }
     ensures faultless { IfOk result (λ _. files_fault (table_view table.now) ≡ None) }
-    ensures refused { IfErr result (TellsKey (files_fault (table_view table.now))) }
+    ensures refused { IfErr result (TellsKey (table_view table.now) (files_fault (table_view table.now))) }
 {
     let accounts = text_at(alloc, table, "accounts", "accounts.csv")?;
     let messages = text_at(alloc, table, "messages", "messages.csv")?;
@@ -187,7 +187,7 @@ fn files_at(alloc: Global, table: &Table) -> Result<FileNames, InputFault>
 fn script_at(alloc: Global, table: &Table) -> Result<Answers, InputFault>
     ensures says { IfOk result (SaysAnswers (table_view table.now)) }
     ensures faultless { IfOk result (λ _. script_fault (table_view table.now) ≡ None) }
-    ensures refused { IfErr result (TellsKey (script_fault (table_view table.now))) }
+    ensures refused { IfErr result (TellsKey (table_view table.now) (script_fault (table_view table.now))) }
 {
     let bind_status = number_at(alloc, table, "bind_status", 0, 0, u32::MAX)?;
     let texts = answers_at(alloc, table)?;
@@ -242,11 +242,11 @@ fn is_known(key: &str) -> bool
 #[tactic(auto, using(crate::proofs::Keys::unknown_first))]
 fn check_keys(alloc: Global, table: &Table) -> Result<(), InputFault>
     ensures known { IfOk result (λ _. unknown_key_of (table_view table.now) ≡ None) }
-    ensures refused { IfErr result (TellsKey (unknown_key_of (table_view table.now))) }
+    ensures refused { IfErr result (TellsKey (table_view table.now) (unknown_key_of (table_view table.now))) }
 {
     for key in table.keys() {
         if !is_known(key.as_str()) {
-            return Err(bad_key(alloc, key.as_str()));
+            return Err(bad_key(alloc, table, key.as_str()));
         }
     }
     Ok(())
@@ -256,7 +256,7 @@ fn check_keys(alloc: Global, table: &Table) -> Result<(), InputFault>
 fn config_in(alloc: Global, table: &Table) -> Result<Config, InputFault>
     ensures says { IfOk result (SaysConfig (table_view table.now)) }
     ensures faultless { IfOk result (λ _. faulty_key (table_view table.now) ≡ None) }
-    ensures refused { IfErr result (TellsKey (faulty_key (table_view table.now))) }
+    ensures refused { IfErr result (TellsKey (table_view table.now) (faulty_key (table_view table.now))) }
 {
     let connection = connection_at(alloc, table)?;
     let limits = limits_at(alloc, table)?;
@@ -278,16 +278,19 @@ fn config_in(alloc: Global, table: &Table) -> Result<Config, InputFault>
 /// The table that the octets spell.
 pub fn table_of(alloc: Global, octets: &[u8]) -> Result<Table, InputFault>
     ensures table { IfOk result (λ table. toml_of octets.now ≡ Some (table_view table)) }
-    ensures refused { IfErr result (λ fault. (fault ≡ OutOfMemory) ⊎ ((fault ≡ NotToml) × (toml_of octets.now ≡ None))) }
+    ensures refused { IfErr result (TellsToml octets.now) }
 {
     let text = match str::from_utf8(octets) {
         Ok(text) => text,
-        Err(_) => return Err(InputFault::NotToml),
+        Err(error) => {
+            let why = TomlFlaw::not_utf8(octets, error.valid_up_to());
+            return Err(InputFault::NotToml(why));
+        }
     };
     match toml::table_from_str(alloc, text) {
         Ok(table) => Ok(table),
         Err(error) if error.is_memory() => Err(InputFault::OutOfMemory),
-        Err(_) => Err(InputFault::NotToml),
+        Err(error) => Err(InputFault::NotToml(TomlFlaw::of(octets, error))),
     }
 }
 

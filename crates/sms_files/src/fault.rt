@@ -1,6 +1,9 @@
-//! What is wrong with what is read.
+//! Why an input can't be used.
 
-use crate::unread::Unread;
+use crate::config_value::ConfigValue;
+use crate::record_flaw::RecordFlaw;
+use crate::toml_flaw::TomlFlaw;
+use sms_pdu::DeviceError;
 use std::alloc::{AllocError, AllocFailed};
 use std::fmt;
 
@@ -45,21 +48,21 @@ impl fmt::Display for Source {
     }
 }
 
-/// Why what is read can't be used. Of several faults the first is told.
+/// Why what is read can't be used. Where there are several faults it is the first.
 #[derive(Debug, Drop, thiserror::Error)]
 pub enum InputFault {
-    /// What was opened can't be read.
+    /// A file was opened, but its device answered an error.
     #[error("file {0}")]
-    Unreadable(Unread),
-    /// The record of a file, counted from 1, isn't one that may stand there.
+    Unreadable(Source, DeviceError),
+    /// This record of a file, counted from 1, may not stand there, and why.
     #[error("{0} record {1}")]
-    BadRecord(Source, usize),
+    BadRecord(Source, usize, RecordFlaw),
     /// The config isn't TOML.
     #[error("config")]
-    NotToml,
-    /// The config has no good value of this key, or may not have it.
+    NotToml(TomlFlaw),
+    /// The config has this value at this key, which isn't a good one, or may not have the key.
     #[error("config {0}")]
-    BadKey(String),
+    BadKey(String, ConfigValue),
     /// Memory was refused.
     #[error("out of memory")]
     OutOfMemory,

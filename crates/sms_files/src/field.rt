@@ -1,35 +1,51 @@
 //! What stands in the fields of a file's records: numbers and text.
 
-ghost use Rattle.std.specs.Prelude.{◌≡◌, option_map};
+ghost use Rattle.std.specs.Prelude.{◌≡◌, ◌≤◌, ◌+◌, None, Some, MatchResult};
 ghost use Rattle.csv.specs.Records.{fields_of};
-ghost use Rattle.sms_files.specs.Fields.{number_at as number_in_place, text_in};
+ghost use Rattle.sms_files.specs.FieldFlaws.{number_read};
+ghost use Rattle.sms_files.specs.Fields.{text_in};
 
+use crate::flaw::Flaw;
 use csv::ByteRecord;
 use sms_core::decimal_of;
 use std::str;
 
-/// The number in the record's field at a place.
-pub fn number_at(record: &ByteRecord, place: usize, most: u64) -> Option<u64>
-    ensures { result ≡ number_in_place most (fields_of «record».now) place }
+/// The number in the record's field at a place, from 0.
+pub fn number_at(record: &ByteRecord, place: usize, most: u64) -> Result<u64, Flaw>
+    requires { place ≤ 3 }
+    ensures { result ≡ number_read most (fields_of «record».now) place }
 {
-    decimal_of(record.get(place)?, most)
+    match record.get(place) {
+        Some(field) => match decimal_of(field, most) {
+            Some(number) => Ok(number),
+            None => Err(Flaw::NotNumber(place + 1)),
+        },
+        None => Err(Flaw::NotNumber(place + 1)),
+    }
 }
 
 /// The same, of a number below 2^32.
-pub fn u32_at(record: &ByteRecord, place: usize) -> Option<u32>
-    ensures { result ≡ number_in_place u32.MAX (fields_of «record».now) place }
+pub fn u32_at(record: &ByteRecord, place: usize) -> Result<u32, Flaw>
+    requires { place ≤ 3 }
+    ensures { result ≡ number_read u32.MAX (fields_of «record».now) place }
 {
-    let number = number_at(record, place, u64::from(u32::MAX))?;
-    Some(number as u32)
+    match number_at(record, place, u64::from(u32::MAX)) {
+        Ok(number) => Ok(number as u32),
+        Err(flaw) => Err(flaw),
+    }
 }
 
-/// The text in the record's field at a place.
-pub fn text_at<'a>(record: &'a ByteRecord, place: usize) -> Option<&'a str>
-    ensures { option_map (λ text. text.now) result ≡ text_in (fields_of «record».now) place }
+/// The text in the record's field at a place, from 0.
+pub fn text_at<'a>(record: &'a ByteRecord, place: usize) -> Result<&'a str, Flaw>
+    requires { place ≤ 3 }
+    ensures { MatchResult result (λ text. text_in (fields_of «record».now) place ≡ Some text.now)
+        (λ flaw. (text_in (fields_of «record».now) place ≡ None) × (flaw ≡ Flaw.NotText (place + 1))) }
 {
-    let field = record.get(place)?;
-    match str::from_utf8(field) {
-        Ok(text) => Some(text),
-        Err(_) => None,
+    match record.get(place) {
+        Some(field) => match str::from_utf8(field) {
+            Ok(text) => Ok(text),
+            Err(_) => Err(Flaw::NotText(place + 1)),
+        },
+        None => Err(Flaw::NotText(place + 1)),
     }
 }

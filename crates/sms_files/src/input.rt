@@ -1,7 +1,7 @@
 //! All that the sender reads before it sends: the config, the accounts, the messages and the tariff.
 
 ghost use Rattle.std.specs.Prelude.{◌≡◌, IfErr, IfOk, option_map};
-ghost use Rattle.sms_files.specs.Inputs.{IsInput, IsTariffOf, TellsInput, TellsTariffOf};
+ghost use Rattle.sms_files.specs.Inputs.{HasFiles, IsFaultOfFiles, IsInput, IsTariffOf, TellsInput, TellsTariffOf};
 
 use crate::accounts::read_accounts;
 use crate::config::{Config, config_of};
@@ -13,7 +13,7 @@ use sms_message::Message;
 use std::alloc::Global;
 use std::io::Read;
 
-/// What is to be sent, for whom and how. `read_input` alone makes one.
+/// What is to be sent, for whom and how. `read_input` and `read_files` alone make one.
 #[derive(Drop)]
 pub struct Input {
     config: Config,
@@ -83,10 +83,28 @@ pub fn read_input<A: Read + Drop, M: Read + Drop, T: Read + Drop>(
     // A fault is of the first that has one.
     ensures refused { IfErr result (TellsInput config.now (A.remaining accounts) (M.remaining messages) (option_map T.remaining tariff)) }
 {
-    let config = match config_of(alloc, config) {
-        Ok(config) => config,
-        Err(fault) => return Err(fault),
-    };
+    match config_of(alloc, config) {
+        Ok(config) => read_files(alloc, config, accounts, messages, tariff),
+        Err(fault) => Err(fault),
+    }
+}
+
+/// Reads the files of a sending with this config, in this order. Of several faults the first is returned:
+/// `BadRecord` of a file's first faulty record, or `Unreadable` where its reader fails. Without a tariff
+/// file there are no rates.
+pub fn read_files<A: Read + Drop, M: Read + Drop, T: Read + Drop>(
+    alloc: Global,
+    config: Config,
+    accounts: A,
+    messages: M,
+    tariff: Option<T>,
+) -> Result<Input, InputFault>
+    ensures config { IfOk result (λ input. input.config ≡ config) }
+    ensures read { IfOk result (HasFiles (A.remaining accounts) (M.remaining messages) (option_map T.remaining tariff)) }
+
+    // A fault is of the first that has one.
+    ensures refused { IfErr result (IsFaultOfFiles (A.remaining accounts) (M.remaining messages) (option_map T.remaining tariff)) }
+{
     let openings = match read_accounts(alloc, accounts) {
         Ok(openings) => openings,
         Err(fault) => return Err(fault),

@@ -3,13 +3,13 @@
 ghost use Rattle.std.specs.Prelude.{◌≡◌, IfErr, IfOk, IfSome, string_bytes};
 ghost use Rattle.sms_book.specs.Openings.{names_of};
 ghost use Rattle.sms_files.specs.Fields.{records_of};
-ghost use Rattle.sms_files.specs.Messages.{is_header as header_is, is_message, messages_fault};
+ghost use Rattle.sms_files.specs.Messages.{is_header as header_is, message_flaw, messages_fault};
 ghost use Rattle.sms_files.specs.Records.{TellsRecords};
 ghost use Rattle.sms_files.specs.MessageRows.{AreMessages, AreSaid, HasFields, place_of as place_in};
 
 use crate::fault::{InputFault, Source};
 use crate::messages::{MOST_MESSAGES, MessageText, message_fields};
-use crate::records::FromRecord;
+use crate::records::{FromRecord, RowFault};
 use crate::rows::{Headed, read_rows};
 use csv::ByteRecord;
 use sms_book::Opening;
@@ -31,24 +31,24 @@ pub struct MessageRow {
 }
 
 impl FromRecord for MessageRow {
-    ghost is_good = { is_message };
+    ghost flaw = { message_flaw };
 
     ghost Says = { HasFields };
 
-    fn from_record(alloc: Global, record: &ByteRecord) -> Result<Option<MessageRow>, AllocError> {
+    fn from_record(alloc: Global, record: &ByteRecord) -> Result<MessageRow, RowFault> {
         match message_fields(record) {
-            None => Ok(None),
-            Some(fields) => {
+            Err(flaw) => Err(RowFault::Flawed(flaw)),
+            Ok(fields) => {
                 let account = String::from_str(alloc, fields.account)?;
                 let source = String::from_str(alloc, fields.source)?;
                 let destination = String::from_str(alloc, fields.destination)?;
                 let text = String::from_str(alloc, fields.text)?;
-                Ok(Some(MessageRow {
+                Ok(MessageRow {
                     account,
                     source,
                     destination,
                     text,
-                }))
+                })
             }
         }
     }

@@ -3,16 +3,17 @@
 ghost use Rattle.std.specs.Prelude.{IfErr, IfOk, IfSome};
 ghost use Rattle.csv.specs.Records.{fields_of};
 ghost use Rattle.sms_files.specs.Fields.{records_of};
-ghost use Rattle.sms_files.specs.Messages.{AreFieldsOf, AreTexts, HasText, is_header as header_is, is_message, messages_fault};
+ghost use Rattle.sms_files.specs.Messages.{AreFieldsOf, AreTexts, HasText, is_header as header_is, message_flaw, messages_fault};
 ghost use Rattle.sms_files.specs.Records.{TellsRecords};
 ghost use Rattle.sms_files.specs.declared.fault.Source.TheVariants.{Messages};
 
 use crate::fault::{InputFault, Source};
 use crate::field::text_at;
-use crate::records::FromRecord;
+use crate::flaw::Flaw;
+use crate::records::{FromRecord, RowFault};
 use crate::rows::{Headed, is_field, read_rows};
 use csv::ByteRecord;
-use std::alloc::{AllocError, Global};
+use std::alloc::Global;
 use std::io::Read;
 
 /// How many messages a file has at the most.
@@ -42,16 +43,16 @@ pub struct MessageText {
 }
 
 impl FromRecord for MessageText {
-    ghost is_good = { is_message };
+    ghost flaw = { message_flaw };
 
     ghost Says = { HasText };
 
-    fn from_record(alloc: Global, record: &ByteRecord) -> Result<Option<MessageText>, AllocError> {
+    fn from_record(alloc: Global, record: &ByteRecord) -> Result<MessageText, RowFault> {
         match message_fields(record) {
-            None => Ok(None),
-            Some(fields) => {
+            Err(flaw) => Err(RowFault::Flawed(flaw)),
+            Ok(fields) => {
                 let text = String::from_str(alloc, fields.text)?;
-                Ok(Some(MessageText { text }))
+                Ok(MessageText { text })
             }
         }
     }
@@ -69,18 +70,30 @@ impl Headed for MessageText {
     }
 }
 
-/// The fields of a message's record, which are four of text; none where the record isn't one.
-pub fn message_fields<'a>(record: &'a ByteRecord) -> Option<MessageFields<'a>>
+/// The fields of a message's record, which are four of text; or its flaw.
+pub fn message_fields<'a>(record: &'a ByteRecord) -> Result<MessageFields<'a>, Flaw>
     ensures { AreFieldsOf (fields_of «record».now) result }
 {
     if record.len() != FIELDS {
-        return None;
+        return Err(Flaw::Fields(record.len()));
     }
-    let account = text_at(record, 0)?;
-    let source = text_at(record, 1)?;
-    let destination = text_at(record, 2)?;
-    let text = text_at(record, 3)?;
-    Some(MessageFields {
+    let account = match text_at(record, 0) {
+        Ok(account) => account,
+        Err(flaw) => return Err(flaw),
+    };
+    let source = match text_at(record, 1) {
+        Ok(source) => source,
+        Err(flaw) => return Err(flaw),
+    };
+    let destination = match text_at(record, 2) {
+        Ok(destination) => destination,
+        Err(flaw) => return Err(flaw),
+    };
+    let text = match text_at(record, 3) {
+        Ok(text) => text,
+        Err(flaw) => return Err(flaw),
+    };
+    Ok(MessageFields {
         account,
         source,
         destination,

@@ -3,27 +3,31 @@
 ghost use Rattle.std.specs.Prelude.{◌≡◌, ◌+◌, ◌↔◌, IfErr, IsTrue, OnOk, length};
 ghost use Rattle.csv.specs.Reading.{strip_bom};
 ghost use Rattle.sms_files.specs.Quoting.{EndsQuoted, after as place_after};
-ghost use Rattle.sms_files.specs.declared.fault.InputFault.TheVariants.{BadRecord};
+ghost use Rattle.sms_files.specs.Records.{IsBadRecord};
 ghost use Rattle.sms_files.specs.declared.fault.Source.TheVariants.{Messages};
+ghost use Rattle.sms_files.specs.declared.flaw.Flaw.TheVariants.{OpenQuote};
 ghost use Rattle.sms_files.specs.declared.quoting.Place.TheVariants.{Quoted};
 
 use crate::fault::{InputFault, Source};
+use crate::flaw::Flaw;
 use crate::input::Input;
+use crate::record_flaw::{RecordFlaw, keep_octet};
+use std::alloc::Global;
 
 /// Where reading stands in a CSV file (RFC 4180 2.5 to 2.7).
 #[derive(Clone, Copy, Debug, PartialEq, Eq)]
 pub(crate) enum Place {
     /// Before a field, which a quote may open.
     Front,
-    /// In a field that isn't quoted, or behind the quotes of one; a quote stands for itself.
+    /// In a field that isn't quoted, or after the quotes of one; a quote stands for itself.
     Bare,
     /// Between the quotes of a field.
     Quoted,
-    /// Behind a quote between quotes, which ends them or is the first of a doubled one.
+    /// After a quote between quotes, which ends them or is the first of a doubled one.
     Ended,
 }
 
-/// Where it stands behind one octet more.
+/// The place after one more octet.
 fn after(place: Place, octet: u8) -> Place
     ensures { result ≡ place_after place octet }
 {
@@ -47,7 +51,7 @@ fn after(place: Place, octet: u8) -> Place
 /// The byte order mark of UTF-8.
 const MARK: &[u8] = b"\xEF\xBB\xBF";
 
-/// The octets behind a byte order mark.
+/// The octets after a byte order mark.
 fn without_mark(octets: &[u8]) -> &[u8]
     ensures { result.now ≡ strip_bom octets.now }
 {
@@ -67,7 +71,7 @@ fn is_quoted(place: Place) -> bool
 }
 
 /// Whether a CSV file ends within a quote: none ends the last one that opened a field. All that
-/// stands behind it is read as that field.
+/// stands after it is read as that field.
 pub fn ends_quoted(octets: &[u8]) -> bool
     ensures { IsTrue result ↔ EndsQuoted octets.now }
 {
@@ -78,14 +82,45 @@ pub fn ends_quoted(octets: &[u8]) -> bool
     is_quoted(place)
 }
 
+/// The line, from 1, of the quote that is open where a file ends, and the front of what stands after it.
+fn open_quote(alloc: Global, octets: &[u8]) -> (u64, Vec<u8>) {
+    let mut place = Place::Front;
+    let (mut line, mut opened) = (1u64, 1u64);
+    let mut value = Vec::new(alloc);
+    for octet in without_mark(octets) {
+        let next = after(place, *octet);
+        if place == Place::Front && next == Place::Quoted {
+            opened = line;
+            value.clear();
+        } else {
+            keep_octet(&mut value, *octet);
+        }
+        if *octet == b'\n' {
+            line = line.saturating_add(1);
+        }
+        place = next;
+    }
+    (opened, value)
+}
+
 /// Refuses a messages file that ends within a quote, of which this input was read: a fault of its last
-/// record, which the quote makes of all that stands behind it. The header is record 1.
-pub fn check_quotes(messages: &[u8], input: &Input) -> Result<(), InputFault>
+/// record, which the quote makes of all that stands after it. The header is record 1.
+pub fn check_quotes(alloc: Global, messages: &[u8], input: &Input) -> Result<(), InputFault>
     ensures closed { OnOk result (¬ EndsQuoted messages.now) }
-    ensures refused { IfErr result (λ fault. EndsQuoted messages.now × (fault ≡ BadRecord Messages (length input.now.messages.items + 1))) }
+    ensures refused { IfErr result (λ fault. EndsQuoted messages.now × IsBadRecord Messages (length input.now.messages.items + 1) OpenQuote fault) }
 {
     if ends_quoted(messages) {
-        return Err(InputFault::BadRecord(Source::Messages, input.messages().len() + 1));
+        let place = input.messages().len() + 1;
+        return Err(quoted_record(alloc, messages, place));
     }
     Ok(())
+}
+
+/// The fault of a record that the open quote is in.
+fn quoted_record(alloc: Global, messages: &[u8], place: usize) -> InputFault
+    ensures { IsBadRecord Messages place OpenQuote result }
+{
+    let (line, value) = open_quote(alloc, messages);
+    let (flaw, line) = (Flaw::OpenQuote, Some(line));
+    InputFault::BadRecord(Source::Messages, place, RecordFlaw { flaw, line, value })
 }

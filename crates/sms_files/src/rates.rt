@@ -1,18 +1,22 @@
 //! Tariff files: a header, and a record for each rate with its prefix and its credits.
 
-ghost use Rattle.std.specs.Prelude.{◌≡◌, IfErr, IfOk, IfSome, option_map};
+ghost use Rattle.std.specs.Prelude.{◌≡◌, ◌≤◌, ℕ, ◌+◌, ◌⊎◌, IfErr, IfOk, IfSome, MatchResult, Some};
 ghost use Rattle.csv.specs.Records.{fields_of};
-ghost use Rattle.sms_book.specs.Tariffs.{IsTariff, prices_of};
+ghost use Rattle.sms_book.specs.Tariffs.{IsTariff, Refuses, prices_of};
 ghost use Rattle.sms_files.specs.Fields.{records_of};
-ghost use Rattle.sms_files.specs.Rates.{IsRate, IsTariffFile, SaysRate, TellsPrices, TellsTariff, is_rate, is_rates_header, place_of as place_in};
+ghost use Rattle.sms_files.specs.Rates.{IsRate, IsTariffFile, SaysRate, TellsPrices, TellsTariff, is_rates_header, rate_flaw, trouble_of as trouble_in};
+ghost use Rattle.sms_files.specs.Records.{IsBadRecord};
 
 use crate::fault::{InputFault, Source};
 use crate::field::{text_at, u32_at};
-use crate::records::FromRecord;
+use crate::flaw::Flaw;
+use crate::record_flaw::{RecordFlaw, keep_octets};
+use crate::records::{FromRecord, RowFault};
 use crate::rows::{Headed, is_pair, read_rows};
 use csv::ByteRecord;
 use sms_book::{Rate, Tariff, TariffError};
-use std::alloc::{AllocError, Global};
+use std::alloc::Global;
+use std::fmt::Write;
 use std::io::Read;
 
 /// How many rates a file has at the most.
@@ -22,16 +26,16 @@ pub const MOST_RATES: usize = 1_000;
 const FIELDS: usize = 2;
 
 impl FromRecord for Rate {
-    ghost is_good = { is_rate };
+    ghost flaw = { rate_flaw };
 
     ghost Says = { SaysRate };
 
-    fn from_record(alloc: Global, record: &ByteRecord) -> Result<Option<Rate>, AllocError> {
+    fn from_record(alloc: Global, record: &ByteRecord) -> Result<Rate, RowFault> {
         match rate_of(record) {
-            None => Ok(None),
-            Some((prefix, credits)) => {
+            Err(flaw) => Err(RowFault::Flawed(flaw)),
+            Ok((prefix, credits)) => {
                 let prefix = String::from_str(alloc, prefix)?;
-                Ok(Some(Rate { prefix, credits }))
+                Ok(Rate { prefix, credits })
             }
         }
     }
@@ -45,16 +49,20 @@ impl Headed for Rate {
     }
 }
 
-/// The prefix and the credits of a rate's record.
-fn rate_of<'a>(record: &'a ByteRecord) -> Option<(&'a str, u32)>
-    ensures { IsRate (fields_of «record».now) (option_map (λ rate. (rate.0.now, rate.1)) result) }
+/// The prefix and the credits of a rate's record; or its flaw.
+fn rate_of<'a>(record: &'a ByteRecord) -> Result<(&'a str, u32), Flaw>
+    ensures { MatchResult result (λ rate. IsRate (fields_of «record».now) rate.0.now rate.1) (λ flaw. rate_flaw (fields_of «record».now) ≡ Some flaw) }
 {
     if record.len() != FIELDS {
-        return None;
+        return Err(Flaw::Fields(record.len()));
     }
-    let prefix = text_at(record, 0)?;
-    let credits = u32_at(record, 1)?;
-    Some((prefix, credits))
+    match text_at(record, 0) {
+        Ok(prefix) => match u32_at(record, 1) {
+            Ok(credits) => Ok((prefix, credits)),
+            Err(flaw) => Err(flaw),
+        },
+        Err(flaw) => Err(flaw),
+    }
 }
 
 /// The tariff of a file. A record that isn't a rate's and the first one past the limit are told
@@ -84,23 +92,62 @@ pub fn tariff_of(alloc: Global, rates: &[Rate]) -> Result<Tariff, InputFault>
 {
     match Tariff::new(alloc, rates) {
         Ok(tariff) => Ok(tariff),
-        Err(error) => match place_of(error) {
-            // The header comes before the rates, and records count from 1.
-            Some(place) => Err(InputFault::BadRecord(Source::Tariff, place + 2)),
-            None => Err(InputFault::OutOfMemory),
-        },
+        Err(error) => Err(refused_of(alloc, rates, error)),
     }
 }
 
-/// The place of the rate that no tariff takes; none where memory was refused.
-fn place_of(error: TariffError) -> Option<usize>
-    ensures { result ≡ place_in error }
+/// The fault of rates that are no tariff.
+fn refused_of(alloc: Global, rates: &[Rate], error: TariffError) -> InputFault
+    requires { (error ≡ TariffError.OutOfMemory) ⊎ Refuses (prices_of rates.now) error }
+    ensures { TellsPrices (prices_of rates.now) result }
+{
+    match trouble_of(error) {
+        Some((place, flaw)) => bad_rate(alloc, rates, place, flaw),
+        None => InputFault::OutOfMemory,
+    }
+}
+
+/// The place of the rate that no tariff takes, and its flaw; none where memory was refused.
+fn trouble_of(error: TariffError) -> Option<(usize, Flaw)>
+    requires { (first second : ℕ) → error ≡ TariffError.Duplicate first second → first ≤ 1_000 }
+    ensures { result ≡ trouble_in error }
 {
     match error {
-        TariffError::TooMany => Some(MOST_RATES),
-        TariffError::BadPrefix { place } => Some(place),
-        TariffError::BadCredits { place } => Some(place),
-        TariffError::Duplicate { first: _, second } => Some(second),
+        TariffError::TooMany => Some((MOST_RATES, Flaw::OneTooMany)),
+        TariffError::BadPrefix { place } => Some((place, Flaw::NotDigits(1))),
+        TariffError::BadCredits { place } => Some((place, Flaw::NotNumber(2))),
+        TariffError::Duplicate { first, second } => Some((second, Flaw::Taken(first + 2))),
         TariffError::OutOfMemory => None,
+    }
+}
+
+/// The fault of the rate at this place. The header comes before the rates, and records count from 1.
+fn bad_rate(alloc: Global, rates: &[Rate], place: usize, flaw: Flaw) -> InputFault
+    requires { place ≤ 1_000 }
+    ensures { IsBadRecord Source.Tariff (place + 2) flaw result }
+{
+    let value = value_of(alloc, rates, place, flaw);
+    let line = None;
+    InputFault::BadRecord(Source::Tariff, place + 2, RecordFlaw { flaw, line, value })
+}
+
+/// What is at fault in the rate at this place: its prefix, or its credits where they are no good number.
+fn value_of(alloc: Global, rates: &[Rate], place: usize, flaw: Flaw) -> Vec<u8> {
+    let mut value = Vec::new(alloc);
+    if place < rates.len() {
+        match flaw {
+            Flaw::NotNumber(_) => keep_number(alloc, &mut value, rates[place].credits),
+            _ => keep_octets(&mut value, rates[place].prefix.as_bytes()),
+        }
+    }
+    value
+}
+
+/// Appends a number in digits, if there is memory for it.
+fn keep_number(alloc: Global, value: &mut Vec<u8>, number: u32) {
+    let mut text = String::new(alloc);
+    match write!(text, "{number}") {
+        Ok(()) => keep_octets(value, text.as_bytes()),
+        Err(_no_memory) => {}
     }
 }

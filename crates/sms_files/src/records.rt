@@ -1,6 +1,6 @@
 //! The records of a CSV file, one at a time, and those after the first as rows of one kind.
 
-ghost use Rattle.std.specs.Prelude.{◌≡◌, ◌<◌, ◌≤◌, ◌+◌, None, Bool, List, ℕ, false, true, IfErr, IfOk, IfSome, OnOk, length, option_map};
+ghost use Rattle.std.specs.Prelude.{◌≡◌, ◌<◌, ◌≤◌, ◌+◌, None, Option, List, ℕ, false, true, IfErr, IfOk, IfSome, OnOk, length, option_map};
 ghost use Rattle.std.specs.List.{AllZip};
 ghost use Rattle.csv.specs.Reading.{error_kind, is_io, reader_source};
 ghost use Rattle.csv.specs.Records.{fields_of};
@@ -11,23 +11,67 @@ ghost use Rattle.sms_files.specs.declared.fault.InputFault.TheVariants.{OutOfMem
 ghost use Rattle.sms_pdu.specs.Devices.{faults_of};
 
 use crate::fault::{InputFault, Source};
-use crate::unread::Unread;
+use crate::flaw::Flaw;
+use crate::record_flaw::{bad_record, has_returns, line_of};
 use csv::{ByteRecord, Error, Reader, ReaderBuilder};
-use sms_pdu::Tap;
+use sms_pdu::{DeviceError, Tap};
 use std::alloc::{AllocError, Global};
 use std::io::Read;
 
+/// Why a record is no row.
+#[derive(Clone, Copy, Debug, PartialEq, Eq)]
+pub enum RowFault {
+    /// It has this flaw.
+    Flawed(Flaw),
+    /// Memory was refused.
+    OutOfMemory,
+}
+
+impl From<AllocError> for RowFault {
+    ghost use Rattle.std.specs.Prelude.{◌≡◌};
+    ghost use Rattle.sms_files.specs.declared.records.RowFault.TheVariants.{OutOfMemory};
+
+    ghost from_gives = { λ _ f. f ≡ OutOfMemory };
+
+    fn from(_e: AllocError) -> RowFault {
+        RowFault::OutOfMemory
+    }
+}
+
+impl RowFault {
+    ghost use Rattle.sms_files.specs.Records.{IsRowFault};
+
+    /// The fault of the record at this place of a source, which begins on this line.
+    pub fn at(
+        self,
+        alloc: Global,
+        source: Source,
+        place: usize,
+        record: &ByteRecord,
+        line: u64,
+    ) -> InputFault
+        ensures { IsRowFault source place self result }
+    {
+        match self {
+            RowFault::Flawed(flaw) => bad_record(alloc, source, place, flaw, record, line),
+            RowFault::OutOfMemory => InputFault::OutOfMemory,
+        }
+    }
+}
+
 /// A row: what a record of a file is read as, where it stands after the file's first.
 pub trait FromRecord: Drop {
-    /// The records that may stand there.
-    ghost is_good: { List (List ℕ) → Bool };
+    ghost use Rattle.sms_files.specs.declared.flaw.Flaw.{Flaw};
 
-    /// That such a record says this.
+    /// What is wrong with a record that stands there.
+    ghost flaw: { List (List ℕ) → Option Flaw };
+
+    /// That a record without a flaw says this.
     ghost Says: { List (List ℕ) → Self → Type 0 };
 
-    /// What the record says, where it may stand there.
-    fn from_record(alloc: Global, record: &ByteRecord) -> Result<Option<Self>, AllocError>
-        ensures { IfOk result (IsReadAs is_good Says (fields_of «record».now)) };
+    /// What the record says, or its flaw.
+    fn from_record(alloc: Global, record: &ByteRecord) -> Result<Self, RowFault>
+        ensures { IsReadAs flaw Says (fields_of «record».now) result };
 }
 
 /// Reads the records that the reader has left, which come after the file's first, to their end, to
@@ -42,23 +86,29 @@ pub fn read_records<T: FromRecord, R: Read>(
     requires reads { ReadsAll reader.old }
     requires countable { most + 2 ≤ usize.MAX }
     ensures rows { IfOk result (λ rows. IfSome (records_left R.remaining reader.old) (λ left.
-        AllZip T.Says left rows.items × (record_fault T.is_good most 1 left ≡ None))) }
+        AllZip T.Says left rows.items × (record_fault T.flaw most 1 left ≡ None))) }
     ensures limit { IfOk result (λ rows. length rows.items ≤ most) }
     ensures faulty { IfErr result (λ fault. IfSome (records_left R.remaining reader.old) (λ left.
-        TellsRecords source (record_fault T.is_good most 1 left) fault)) }
+        TellsRecords source (record_fault T.flaw most 1 left) fault)) }
 {
+    let returns = has_returns(reader);
     let mut rows = Vec::new(alloc);
     for before in 1..most + 1 {
         if !next_record(reader, record, source)? {
             return Ok(rows);
         }
-        match T::from_record(alloc, record)? {
-            Some(row) => rows.push(row)?,
-            None => return Err(InputFault::BadRecord(source, before + 1)),
+        match T::from_record(alloc, record) {
+            Ok(row) => rows.push(row)?,
+            Err(fault) => {
+                let line = line_of(reader, record, returns);
+                return Err(fault.at(alloc, source, before + 1, record, line));
+            }
         }
     }
     if next_record(reader, record, source)? {
-        return Err(InputFault::BadRecord(source, most + 2));
+        let line = line_of(reader, record, returns);
+        let flaw = Flaw::OneTooMany;
+        return Err(bad_record(alloc, source, most + 2, flaw, record, line));
     }
     Ok(rows)
 }
@@ -75,7 +125,7 @@ pub fn read_all<R: Read>(alloc: Global, input: R) -> Reader<Tap<R>>
         .from_reader(alloc, Tap::new(input))
 }
 
-/// Reads the next record into `record`, and tells whether there was one.
+/// Reads the next record into `record`, and answers whether there was one.
 pub fn next_record<R: Read>(
     reader: &mut Reader<Tap<R>>,
     record: &mut ByteRecord,
@@ -105,8 +155,8 @@ fn fault_of<T>(error: &Error, device: &Tap<T>, source: Source) -> InputFault
     if !error.is_io_error() {
         return InputFault::OutOfMemory;
     }
-    match Unread::of(device, source) {
-        Some(unread) => InputFault::Unreadable(unread),
+    match DeviceError::of(device) {
+        Some(failure) => InputFault::Unreadable(source, failure),
         None => InputFault::OutOfMemory,
     }
 }

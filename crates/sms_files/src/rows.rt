@@ -4,9 +4,11 @@ ghost use Rattle.std.specs.Prelude.{◌≡◌, ◌≤◌, ◌+◌, Bool, List, �
 ghost use Rattle.csv.specs.Records.{fields_of};
 ghost use Rattle.sms_files.specs.Fields.{records_of};
 ghost use Rattle.sms_files.specs.Records.{ReadsAll, TellsRecords, file_fault, records_left};
-ghost use Rattle.sms_files.specs.Rows.{AreRows, field_is, is_pair as are_pair};
+ghost use Rattle.sms_files.specs.Rows.{AreRows, field_is, header_of, is_pair as are_pair};
 
 use crate::fault::{InputFault, Source};
+use crate::flaw::Flaw;
+use crate::record_flaw::{bad_record, line_of, missing_record};
 use crate::records::{FromRecord, next_record, read_all, read_records};
 use csv::{ByteRecord, Reader};
 use sms_pdu::Tap;
@@ -32,9 +34,9 @@ pub fn read_rows<T: Headed, R: Read + Drop>(
     most: usize,
 ) -> Result<Vec<T>, InputFault>
     requires countable { most + 2 ≤ usize.MAX }
-    ensures rows { IfOk result (λ rows. IfSome (R.remaining input) (λ bytes. AreRows T.is_header T.is_good T.Says most (records_of bytes) rows.items)) }
+    ensures rows { IfOk result (λ rows. IfSome (R.remaining input) (λ bytes. AreRows (header_of T.is_header) T.flaw T.Says most (records_of bytes) rows.items)) }
     ensures limit { IfOk result (λ rows. length rows.items ≤ most) }
-    ensures faulty { IfErr result (λ fault. IfSome (R.remaining input) (λ bytes. TellsRecords source (file_fault T.is_header T.is_good most (records_of bytes)) fault)) }
+    ensures faulty { IfErr result (λ fault. IfSome (R.remaining input) (λ bytes. TellsRecords source (file_fault (header_of T.is_header) T.flaw most (records_of bytes)) fault)) }
 {
     let mut reader = read_all(alloc, input);
     let mut record = ByteRecord::new(alloc);
@@ -54,15 +56,16 @@ fn rows_left<T: Headed, R: Read>(
 ) -> Result<Vec<T>, InputFault>
     requires reads { ReadsAll reader.old }
     requires countable { most + 2 ≤ usize.MAX }
-    ensures rows { IfOk result (λ rows. IfSome (records_left R.remaining reader.old) (λ left. AreRows T.is_header T.is_good T.Says most left rows.items)) }
+    ensures rows { IfOk result (λ rows. IfSome (records_left R.remaining reader.old) (λ left. AreRows (header_of T.is_header) T.flaw T.Says most left rows.items)) }
     ensures limit { IfOk result (λ rows. length rows.items ≤ most) }
-    ensures faulty { IfErr result (λ fault. IfSome (records_left R.remaining reader.old) (λ left. TellsRecords source (file_fault T.is_header T.is_good most left) fault)) }
+    ensures faulty { IfErr result (λ fault. IfSome (records_left R.remaining reader.old) (λ left. TellsRecords source (file_fault (header_of T.is_header) T.flaw most left) fault)) }
 {
     if !next_record(reader, record, source)? {
-        return Err(InputFault::BadRecord(source, 1));
+        return Err(missing_record(alloc, source, 1));
     }
     if !T::is_header(record) {
-        return Err(InputFault::BadRecord(source, 1));
+        let line = line_of(reader, record, false);
+        return Err(bad_record(alloc, source, 1, Flaw::Header, record, line));
     }
     read_records(alloc, reader, record, source, most)
 }

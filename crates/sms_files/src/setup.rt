@@ -5,19 +5,15 @@ ghost use Rattle.sms_files.specs.ConfigFaults.{IsConfig, TellsConfig};
 ghost use Rattle.sms_files.specs.declared.config.Config.{Config as ConfigRecord};
 ghost use Rattle.sms_files.specs.Setups.{setup_in};
 
-use crate::config::{Config, config_of};
+use crate::config::{Config, FileNames, config_of};
 use crate::fault::InputFault;
 use std::alloc::Global;
 
 /// The names of the files to open, and what the program connects to or answers by itself.
 #[derive(Debug, Drop)]
 pub struct Setup {
-    /// The name of the accounts file.
-    pub accounts: String,
-    /// The name of the messages file.
-    pub messages: String,
-    /// The name of the tariff file; empty where there is no tariff.
-    pub tariff: String,
+    /// The names of the files to open.
+    pub files: FileNames,
     /// The message centre's name or address.
     pub host: String,
     /// Its TCP port, 1 to 65,535.
@@ -51,9 +47,7 @@ fn setup_in(config: Config) -> Setup
         ..
     } = config;
     Setup {
-        accounts: files.accounts,
-        messages: files.messages,
-        tariff: files.tariff,
+        files,
         host: connection.host,
         port: connection.port,
         bind_status: answers.bind_status,

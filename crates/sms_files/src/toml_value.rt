@@ -6,17 +6,22 @@ ghost use Rattle.toml.specs.View.{table_view, view};
 ghost use Rattle.sms_files.specs.Config.{c_octet_string, fault_at, flag_in, has_no_zero as is_without_zero, in_range, mode_in, number_in, octets_in, text_in};
 ghost use Rattle.sms_files.specs.ConfigFaults.{TellsKey};
 
+use crate::config_value::value_at;
 use crate::fault::InputFault;
 use sms_pdu::{Mode, Octets};
 use std::alloc::Global;
 use toml::{Table, Value};
 
-/// The fault of a key.
-pub fn bad_key(alloc: Global, key: &str) -> InputFault
-    ensures { TellsKey (Some key.now) result }
+/// The fault of a key of this table, with what stands there.
+pub fn bad_key(alloc: Global, table: &Table, key: &str) -> InputFault
+    ensures { TellsKey (table_view table.now) (Some key.now) result }
 {
+    let value = match value_at(alloc, table, key) {
+        Ok(value) => value,
+        Err(_) => return InputFault::OutOfMemory,
+    };
     match String::from_str(alloc, key) {
-        Ok(name) => InputFault::BadKey(name),
+        Ok(name) => InputFault::BadKey(name, value),
         Err(_) => InputFault::OutOfMemory,
     }
 }
@@ -47,13 +52,13 @@ pub fn number_at(
     requires default { (least ≤ default) × (default ≤ most) }
     ensures range { IfOk result (λ number. (least ≤ number) × (number ≤ most)) }
     ensures number { IfOk result (λ number. number_in default least most (get_member key.now (table_view table.now)) ≡ Some number) }
-    ensures refused { IfErr result (TellsKey (fault_at key.now (number_in default least most (get_member key.now (table_view table.now))))) }
+    ensures refused { IfErr result (TellsKey (table_view table.now) (fault_at key.now (number_in default least most (get_member key.now (table_view table.now))))) }
 {
     match table.get(key) {
         None => Ok(default),
         Some(value) => match number_of(value, least, most) {
             Some(number) => Ok(number),
-            None => Err(bad_key(alloc, key)),
+            None => Err(bad_key(alloc, table, key)),
         },
     }
 }
@@ -61,13 +66,13 @@ pub fn number_at(
 /// The flag at a key.
 pub fn flag_at(alloc: Global, table: &Table, key: &str) -> Result<bool, InputFault>
     ensures flag { IfOk result (λ flag. flag_in (get_member key.now (table_view table.now)) ≡ Some flag) }
-    ensures refused { IfErr result (TellsKey (fault_at key.now (flag_in (get_member key.now (table_view table.now))))) }
+    ensures refused { IfErr result (TellsKey (table_view table.now) (fault_at key.now (flag_in (get_member key.now (table_view table.now))))) }
 {
     match table.get(key) {
         None => Ok(false),
         Some(value) => match value.as_bool() {
             Some(flag) => Ok(flag),
-            None => Err(bad_key(alloc, key)),
+            None => Err(bad_key(alloc, table, key)),
         },
     }
 }
@@ -85,14 +90,14 @@ fn text_found<'a>(table: &'a Table, key: &str, default: &'a str) -> Option<&'a s
 /// The text at a key.
 pub fn text_at(alloc: Global, table: &Table, key: &str, default: &str) -> Result<String, InputFault>
     ensures text { IfOk result (λ text. text_in default.now (get_member key.now (table_view table.now)) ≡ Some (string_bytes text)) }
-    ensures refused { IfErr result (TellsKey (fault_at key.now (text_in default.now (get_member key.now (table_view table.now))))) }
+    ensures refused { IfErr result (TellsKey (table_view table.now) (fault_at key.now (text_in default.now (get_member key.now (table_view table.now))))) }
 {
     match text_found(table, key, default) {
         Some(text) => match String::from_str(alloc, text) {
             Ok(copy) => Ok(copy),
             Err(_) => Err(InputFault::OutOfMemory),
         },
-        None => Err(bad_key(alloc, key)),
+        None => Err(bad_key(alloc, table, key)),
     }
 }
 
@@ -118,7 +123,7 @@ pub fn octets_at(
 ) -> Result<Octets, InputFault>
     ensures octets { IfOk result (λ octets. octets_in most default.now (get_member key.now (table_view table.now)) ≡ Some octets) }
     ensures fits { IfOk result (λ octets. c_octet_string most octets ≡ Some octets) }
-    ensures refused { IfErr result (TellsKey (fault_at key.now (octets_in most default.now (get_member key.now (table_view table.now))))) }
+    ensures refused { IfErr result (TellsKey (table_view table.now) (fault_at key.now (octets_in most default.now (get_member key.now (table_view table.now))))) }
 {
     match text_found(table, key, default) {
         Some(text) if text.len() < most && has_no_zero(text.as_bytes()) => {
@@ -127,18 +132,18 @@ pub fn octets_at(
                 Err(_) => Err(InputFault::OutOfMemory),
             }
         }
-        _ => Err(bad_key(alloc, key)),
+        _ => Err(bad_key(alloc, table, key)),
     }
 }
 
 /// The mode at a key.
 pub fn mode_at(alloc: Global, table: &Table, key: &str) -> Result<Mode, InputFault>
     ensures mode { IfOk result (λ mode. mode_in (get_member key.now (table_view table.now)) ≡ Some mode) }
-    ensures refused { IfErr result (TellsKey (fault_at key.now (mode_in (get_member key.now (table_view table.now))))) }
+    ensures refused { IfErr result (TellsKey (table_view table.now) (fault_at key.now (mode_in (get_member key.now (table_view table.now))))) }
 {
     match text_found(table, key, "transmitter") {
         Some("transmitter") => Ok(Mode::Transmitter),
         Some("transceiver") => Ok(Mode::Transceiver),
-        _ => Err(bad_key(alloc, key)),
+        _ => Err(bad_key(alloc, table, key)),
     }
 }

@@ -6,5 +6,6 @@ mod flaws;
 mod input;
 mod quoting;
 mod reading;
+mod report;
 mod same;
 mod told;

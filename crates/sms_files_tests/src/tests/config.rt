@@ -18,7 +18,8 @@ fn said(alloc: Global, config: &[u8]) -> Result<String, Fail> {
 // The values of a setup, one after another.
 fn shown(alloc: Global, setup: &Setup) -> Result<String, AllocError> {
     let mut text = String::new(alloc);
-    for name in [&setup.accounts, &setup.messages, &setup.tariff, &setup.host] {
+    let files = &setup.files;
+    for name in [&files.accounts, &files.messages, &files.tariff, &setup.host] {
         text.push_str(name.as_str())?;
         text.push_str(" ")?;
     }

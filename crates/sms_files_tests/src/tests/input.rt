@@ -246,7 +246,7 @@ fn gives_its_parts(rt: HostRuntime) {
 // The fault says that this source can't be read.
 fn is_unread(fault: &Option<InputFault>, source: Source) -> bool {
     match fault {
-        Some(InputFault::Unreadable(unread)) => unread.source() == source,
+        Some(InputFault::Unreadable(failed, _)) => *failed == source,
         _ => false,
     }
 }

@@ -1,4 +1,4 @@
-use Rattle.std.proofs.Common.{◌≡◌, ◌∙◌, ◌<◌, sym, refl, inl, inr, [], length, None, rules, arith}
+use Rattle.std.proofs.Common.{◌≡◌, ◌∙◌, ◌<◌, sym, refl, inl, [], ◌∷◌, length, None, rules, arith}
 use Rattle.std.specs.List.{AllZip}
 use Rattle.std.specs.Prelude.{vec_len}
 use Rattle.std.proofs.lemmas.Bool.{eqb-false}
@@ -6,18 +6,19 @@ use Rattle.csv.specs.Records.{fields_of}
 use Rattle.sms_files.specs.Accounts.{AreAccounts, SaysAccount, accounts_fault, rest_fault}
 use Rattle.sms_files.specs.Fields.{records_of}
 use Rattle.sms_files.specs.Records.{TellsRecords, records_left}
-use Rattle.sms_files.specs.declared.fault.InputFault.TheVariants.{BadRecord}
 use Rattle.sms_files.specs.declared.fault.Source.TheVariants.{Accounts}
+use Rattle.sms_files.specs.declared.flaw.Flaw.TheVariants.{Header, Missing}
 use Rattle.sms_files.proofs.Files.{told-empty, told-first}
 use Rattle.sms_files.proofs.NewAccounts.{are-accounts, bad-header, no-accounts, tells-rest}
-use Rattle.sms_files.proofs.Runs.{if_known, told_so}
+use Rattle.sms_files.proofs.Runs.{if_known, names-record, told_so}
 use Rattle.sms_files.proofs.accounts.read_accounts.Goals as goal
 
 pub returns-then-not-branch-clause-faulty : goal.returns-then-not-branch-clause-faulty
 returns-then-not-branch-clause-faulty g c =
     let remaining = g.R.Read.remaining in
-    told-empty (λ rs. TellsRecords Accounts (accounts_fault rs) (BadRecord Accounts 1)) (remaining c.args.input) (records_left remaining c.read_all-reader.result) c.in_ok-next_record.field-0
-    (fields_of c.next_record.new.record) (records_left remaining c.next_record.new.reader) c.read_all-reader.ensures.whole c.in_ok-next_record.ensures.first c.if-not-branch.true (inr (1, refl, refl))
+    told-empty (λ rs. TellsRecords Accounts (accounts_fault rs) c.missing_record.result) (remaining c.args.input) (records_left remaining c.read_all-reader.result) c.in_ok-next_record.field-0
+    (fields_of c.next_record.new.record) (records_left remaining c.next_record.new.reader) c.read_all-reader.ensures.whole c.in_ok-next_record.ensures.first c.if-not-branch.true
+    (names-record Accounts 1 Missing (accounts_fault []) c.missing_record.result c.missing_record.ensures refl)
 
 pub returns-then-not-is_pair-clause-faulty : goal.returns-then-not-is_pair-clause-faulty
 returns-then-not-is_pair-clause-faulty g c =
@@ -25,9 +26,9 @@ returns-then-not-is_pair-clause-faulty g c =
     let r = fields_of c.next_record.new.record in
     let after = records_left remaining c.next_record.new.reader in
     let bad = sym c.is_pair.ensures ∙ c.if-not-is_pair.true in
-    told-first (λ rs. TellsRecords Accounts (accounts_fault rs) (BadRecord Accounts 1)) (λ rs. Unit {0}) (remaining c.args.input) (records_left remaining c.read_all-reader.result)
+    told-first (λ rs. TellsRecords Accounts (accounts_fault rs) c.bad_record.result) (λ rs. Unit {0}) (remaining c.args.input) (records_left remaining c.read_all-reader.result)
     c.in_ok-next_record.field-0 r after c.read_all-reader.ensures.whole c.in_ok-next_record.ensures.first c.if-not-branch.false
-    (if_known after (λ rs. Unit {0}) (λ rs known. tt)) (λ rs h. inr (1, refl, bad-header r rs bad))
+    (if_known after (λ rs. Unit {0}) (λ rs known. tt)) (λ rs h. names-record Accounts 1 Header (accounts_fault (r ∷ rs)) c.bad_record.result c.bad_record.ensures (bad-header r rs bad))
 
 pub returns-then-is_empty-clause-faulty : goal.returns-then-is_empty-clause-faulty
 returns-then-is_empty-clause-faulty g c =
@@ -36,10 +37,10 @@ returns-then-is_empty-clause-faulty g c =
     let openings = c.in-Ok.openings.items in
     let good = sym c.is_pair.ensures ∙ c.if-not-is_pair.false in
     let none : length openings ≡ 0 = search rules in
-    told-first (λ rs. TellsRecords Accounts (accounts_fault rs) (BadRecord Accounts 2)) (λ rs. AllZip SaysAccount rs openings × (rest_fault [] 1 rs ≡ None)) (remaining c.args.input)
+    told-first (λ rs. TellsRecords Accounts (accounts_fault rs) c.missing_record-then-is_empty.result) (λ rs. AllZip SaysAccount rs openings × (rest_fault [] 1 rs ≡ None)) (remaining c.args.input)
     (records_left remaining c.read_all-reader.result) c.in_ok-next_record.field-0 r (records_left remaining c.next_record.new.reader)
     c.read_all-reader.ensures.whole c.in_ok-next_record.ensures.first c.if-not-branch.false
-    c.in-Ok.ensures.accounts (λ rs h. inr (2, refl, no-accounts r rs openings good none h.0))
+    c.in-Ok.ensures.accounts (λ rs h. names-record Accounts 2 Missing (accounts_fault (r ∷ rs)) c.missing_record-then-is_empty.result c.missing_record-then-is_empty.ensures (no-accounts r rs openings good none h.0))
 
 pub returns-in-Ok-clause-accounts : goal.returns-in-Ok-clause-accounts
 returns-in-Ok-clause-accounts g c =

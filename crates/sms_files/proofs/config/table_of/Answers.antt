@@ -1,10 +1,10 @@
-use Rattle.std.proofs.Common.{Some, inr, refl}
+use Rattle.std.proofs.Common.{Some}
 use Rattle.toml.specs.View.{table_view}
 use Rattle.sms_files.proofs.Toml.{no_toml, text_toml}
 use Rattle.sms_files.proofs.config.table_of.Goals as goal
 
 pub returns-in-Err-clause-refused : goal.returns-in-Err-clause-refused
-returns-in-Err-clause-refused c = inr (refl, no_toml c.args.octets.now c.in-Err.ensures.cases.0)
+returns-in-Err-clause-refused c = no_toml c.args.octets.now c.in-Err.ensures.cases.0
 
 pub returns-in-Ok-table_from_str-clause-table : goal.returns-in-Ok-table_from_str-clause-table
 returns-in-Ok-table_from_str-clause-table c =

@@ -10,5 +10,5 @@ invariant-loop-before g l = record {
   reads : ReadsAll l.reader;
   count : length l.rows.items + 1 ≡ l.before;
   rest : (left : List Record) → records_left g.R.Read.remaining l.initial.reader ≡ Some left
-      → ReadSo g.T.FromRecord.Says (record_fault g.T.FromRecord.is_good l.most 1 left) (record_fault g.T.FromRecord.is_good l.most l.before) left l.rows.items (records_left g.R.Read.remaining l.reader);
+      → ReadSo g.T.FromRecord.Says (record_fault g.T.FromRecord.flaw l.most 1 left) (record_fault g.T.FromRecord.flaw l.most l.before) left l.rows.items (records_left g.R.Read.remaining l.reader);
 }

@@ -1,4 +1,5 @@
 use Rattle.std.proofs.Common.{sym, ◌∙◌}
+use Rattle.toml.specs.View.{table_view}
 use Rattle.toml.proofs.Views.{table_get}
 use Rattle.sms_files.proofs.Keys.{told}
 use Rattle.sms_files.proofs.toml_value.flag_at.Goals as goal
@@ -16,4 +17,4 @@ returns-in-Some-as_bool-clause-flag c =
 pub returns-in-None-as_bool-clause-refused : goal.returns-in-None-as_bool-clause-refused
 returns-in-None-as_bool-clause-refused c =
     let found = table_get c.get.result c.args.key.now c.args.table.now.entries c.get.ensures.value in
-    rw (← rw c.in-Some.is at found) (told c.args.key.now _ c.bad_key.result (sym c.as_bool.ensures ∙ c.in-None-as_bool.is) c.bad_key.ensures)
+    rw (← rw c.in-Some.is at found) (told (table_view c.args.table.now) c.args.key.now _ c.bad_key.result (sym c.as_bool.ensures ∙ c.in-None-as_bool.is) c.bad_key.ensures)

@@ -1,4 +1,5 @@
 use Rattle.std.proofs.Common.{sym, ◌∙◌}
+use Rattle.toml.specs.View.{table_view}
 use Rattle.toml.proofs.Views.{table_get}
 use Rattle.sms_files.proofs.Keys.{told}
 use Rattle.sms_files.proofs.toml_value.number_at.Goals as goal
@@ -16,4 +17,4 @@ returns-in-Some-number_of-clause-number c =
 pub returns-in-None-number_of-clause-refused : goal.returns-in-None-number_of-clause-refused
 returns-in-None-number_of-clause-refused c =
     let found = table_get c.get.result c.args.key.now c.args.table.now.entries c.get.ensures.value in
-    rw (← rw c.in-Some.is at found) (told c.args.key.now _ c.bad_key.result (sym c.number_of.ensures.is ∙ c.in-None-number_of.is) c.bad_key.ensures)
+    rw (← rw c.in-Some.is at found) (told (table_view c.args.table.now) c.args.key.now _ c.bad_key.result (sym c.number_of.ensures.is ∙ c.in-None-number_of.is) c.bad_key.ensures)

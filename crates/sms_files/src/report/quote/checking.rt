@@ -1,0 +1,90 @@
+//! The checks of a message.
+
+ghost use Rattle.std.specs.Prelude.{◌≡◌, ◌≤◌, ◌*◌, IfOk};
+ghost use Rattle.sms_files.specs.Quotes.{IsChecked, IsCounted, IsPartCount, IsQuoteOf};
+
+use crate::report::quote::quote::{Quote, Verdict};
+use sms_alphabet::choose;
+use sms_book::Tariff;
+use sms_message::{Message, has_addresses, is_known, reference_for};
+use sms_segment::parts_in;
+use std::alloc::{AllocError, Global};
+
+/// How many parts a message has; none where no header can count them.
+fn parts_for(alloc: Global, long: bool, message: &Message) -> Result<Option<u8>, AllocError>
+    ensures { IfOk result (IsPartCount long message.now) }
+{
+    let text = choose(alloc, message.text.as_str())?;
+    Ok(parts_in(&text, reference_for(long, message)))
+}
+
+/// A message that isn't cut.
+fn uncut(verdict: Verdict) -> Quote
+    ensures { result ≡ record { verdict = verdict; parts = 0; cost = 0 } }
+{
+    Quote {
+        verdict,
+        parts: 0,
+        cost: 0,
+    }
+}
+
+/// What so many parts cost.
+fn cost_for(parts: u8, price: u32) -> u64
+    requires { 1 ≤ price }
+    ensures is { result ≡ parts * price }
+    ensures more { parts ≤ result }
+{
+    u64::from(parts) * u64::from(price)
+}
+
+/// The quote of a message whose account has credits enough.
+fn checked(
+    alloc: Global,
+    accounts: usize,
+    long: bool,
+    tariff: &Tariff,
+    message: &Message,
+) -> Result<Quote, AllocError>
+    ensures checked { IfOk result (λ q. IsChecked accounts long tariff.now message.now q) }
+    ensures counted { IfOk result IsCounted }
+{
+    if !is_known(message.account, accounts) {
+        return Ok(uncut(Verdict::NoAccount));
+    }
+    if !has_addresses(message) {
+        return Ok(uncut(Verdict::BadAddress));
+    }
+    let Some(parts) = parts_for(alloc, long, message)? else {
+        return Ok(uncut(Verdict::TooLong));
+    };
+    let price = tariff.cost(message.dest.as_str());
+    Ok(Quote {
+        verdict: Verdict::Passes,
+        parts: u64::from(parts),
+        cost: cost_for(parts, price),
+    })
+}
+
+/// The quote of a message whose account has so many credits left.
+pub(crate) fn quote_of(
+    alloc: Global,
+    accounts: usize,
+    long: bool,
+    tariff: &Tariff,
+    free: u64,
+    message: &Message,
+) -> Result<Quote, AllocError>
+    ensures quote { IfOk result (λ q. IsQuoteOf accounts long tariff.now free message.now q) }
+    ensures counted { IfOk result IsCounted }
+{
+    let quote = checked(alloc, accounts, long, tariff, message)?;
+    if quote.verdict == Verdict::Passes && quote.cost > free {
+        return Ok(Quote {
+            verdict: Verdict::NoCredit,
+            parts: quote.parts,
+            cost: quote.cost,
+        });
+    }
+    Ok(quote)
+}

@@ -1,0 +1,79 @@
+//! What is told of texts that look as if a quote had been left open.
+
+ghost use Rattle.std.specs.Prelude.{◌≡◌, ◌++◌, IfOk, OnOk, string_bytes};
+ghost use Rattle.sms_files.specs.Warnings.{behind_line as what_is_behind, commas, looks_open as is_open, warning_line, warning_lines};
+
+use crate::Input;
+use sms_message::Message;
+use std::alloc::{AllocError, Global};
+use std::fmt::Write;
+
+/// How many commas behind a line feed look like records: as many as stand in a messages record.
+const COMMAS: usize = 3;
+
+/// How many commas there are.
+fn commas_in(text: &[u8]) -> usize
+    ensures { result ≡ commas text.now }
+{
+    let mut count = 0;
+    for octet in text {
+        if *octet == b',' {
+            count += 1;
+        }
+    }
+    count
+}
+
+/// What stands behind the first line feed; nothing where there is none.
+fn behind_line(text: &[u8]) -> &[u8]
+    ensures { result.now ≡ what_is_behind text.now }
+{
+    for place in 0..text.len() {
+        if text[place] == b'\n' {
+            return &text[place + 1..];
+        }
+    }
+    &text[text.len()..]
+}
+
+/// Whether the text looks as if it held records behind a line feed.
+fn looks_open(text: &[u8]) -> bool
+    ensures { result ≡ is_open text.now }
+{
+    commas_in(behind_line(text)) >= COMMAS
+}
+
+/// The line of a message whose text looks so, and nothing of another.
+fn write_warning(text: &mut String, message: &Message) -> Result<(), AllocError>
+    ensures { OnOk result (string_bytes text.new ≡ string_bytes text.old ++ warning_line message.now) }
+{
+    if !looks_open(message.text.as_bytes()) {
+        return Ok(());
+    }
+    let index = message.index;
+    write!(
+        text,
+        "warning: message {index}: its text has a line end and commas: is a quote left open?\n"
+    )
+}
+
+/// The lines of these messages.
+fn write_warnings(text: &mut String, messages: &[Message]) -> Result<(), AllocError>
+    ensures { OnOk result (string_bytes text.new ≡ string_bytes text.old ++ warning_lines messages.now) }
+{
+    for place in 0..messages.len() {
+        write_warning(text, &messages[place])?;
+    }
+    Ok(())
+}
+
+/// What is to be told of the messages of an input: a line for each whose text has a line feed and
+/// behind it at least as many commas as stand in a messages record. A quote that is left open in a
+/// messages file makes such a text of the records behind it.
+pub fn warnings_text(alloc: Global, input: &Input) -> Result<String, AllocError>
+    ensures { IfOk result (λ text. string_bytes text ≡ warning_lines input.now.messages.items) }
+{
+    let mut text = String::new(alloc);
+    write_warnings(&mut text, input.messages())?;
+    Ok(text)
+}

@@ -1,0 +1,6 @@
+//! What is printed, worked out by hand.
+
+mod progress;
+mod quote;
+mod report;
+mod same;

@@ -1,5 +1,0 @@
-use Rattle.sms_quote.proofs.Refusals.{same_refusals}
-use Rattle.sms_quote.proofs.laws.refusals_are_the_workers.Goals as goal
-
-pub returns : goal.returns
-returns c = same_refusals

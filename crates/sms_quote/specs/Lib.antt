@@ -1,6 +1,0 @@
-pub mod Credit
-pub mod Laws
-pub mod QuoteText
-pub mod Quotes
-pub mod Totals
-pub mod Warnings

@@ -1,5 +1,0 @@
-use Rattle.sms_report.proofs.WayLines.{line_fits}
-use Rattle.sms_report.proofs.laws.the_line_fits_a_row.Goals as goal
-
-pub returns : goal.returns
-returns c = line_fits

@@ -1,8 +1,0 @@
-use Rattle.std.proofs.Common.{◌≡◌, ◌++◌, drop}
-use Rattle.std.specs.Prelude.{flat_map, string_bytes}
-use Rattle.sms_report.specs.ReplayText.{request_line}
-use Rattle.sms_report.proofs.replay.write_requests.Given as goal
-
-abbrev pub invariant-loop-request : goal.invariant-loop-request
-invariant-loop-request l =
-    string_bytes l.text ++ flat_map request_line (drop l.request-index l.requests) ≡ string_bytes l.initial.text ++ flat_map request_line l.requests

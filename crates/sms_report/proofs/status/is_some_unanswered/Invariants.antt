@@ -1,6 +1,0 @@
-use Rattle.std.proofs.Common.{◌≡◌, drop}
-use Rattle.sms_report.specs.Report.{has_unanswered}
-use Rattle.sms_report.proofs.status.is_some_unanswered.Given as goal
-
-abbrev pub invariant-loop-segment : goal.invariant-loop-segment
-invariant-loop-segment g l = has_unanswered l.segments ≡ has_unanswered (drop l.segment-index l.segments)

@@ -1,8 +1,0 @@
-use Rattle.std.proofs.Common.{rules}
-use Rattle.sms_report.specs.Whole.{counts_whole}
-use Rattle.sms_report.proofs.Capped.{capped_more}
-use Rattle.sms_report.proofs.whole.count_whole.Goals as goal
-
-pub loop-end-preserved : goal.loop-end-preserved
-loop-end-preserved g c =
-    capped_more counts_whole c.args.ends.now c.loop-end.end-index c.end-item.result c.end-item.result _ _ _ (search rules) c.end-item.is c.loop-end.invariant c.count.ensures (search rules)

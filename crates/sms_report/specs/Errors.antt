@@ -1,7 +1,0 @@
--- What contracts see of the errors that an output answered.
-use Rattle.std.specs.Prelude.{ℕ}
-use Rattle.sms_report.specs.declared.unwritten.Errors.{Errors}
-
--- how many there were
-abbrev pub errors_of : Errors → ℕ
-errors_of errors = errors.count

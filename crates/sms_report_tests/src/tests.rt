@@ -1,5 +1,0 @@
-//! What is printed, worked out by hand.
-
-mod progress;
-mod report;
-mod same;
