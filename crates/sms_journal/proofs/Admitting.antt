@@ -5,8 +5,8 @@ use Rattle.std.proofs.lemmas.Option.{get_or_from_slice_get}
 use Rattle.sms_message.specs.declared.message.Message.{Message}
 use Rattle.sms_message.specs.declared.rules.Rules.{Rules}
 use Rattle.sms_message.specs.Submits.{message_parts}
-use Rattle.sms_journal.specs.declared.note.Call.{Call}
-use Rattle.sms_journal.specs.declared.note.Note.{Note}
+use Rattle.sms_journal.specs.declared.notes.note.RequestId.{RequestId}
+use Rattle.sms_journal.specs.declared.notes.note.Note.{Note}
 use Rattle.sms_journal.specs.Recovered.{or_else, fate_of}
 use Rattle.sms_journal.specs.Lawful.{HasParts, IsOver, MayTry, message_of, with_index}
 use Rattle.sms_journal.specs.Seen.{IsCounted, IsLastTry, IsPlace}
@@ -45,20 +45,20 @@ place_snoc ms m i None h = here (m.index == i) refl
 
 -- ---- requests
 
-pub over_try : (notes : List Note) (m p : ℕ) (o : Option Call) (call : Call) → IsLastTry notes m p o → o ≡ Some call → IsOver (fate_of notes call.worker call.number) → MayTry notes m p
-over_try notes m p None call h e over k other there = absurd (cc)
-over_try notes m p (Some last) call h e over k other there =
-    let same : call ≡ last = cc in
+pub over_try : (notes : List Note) (m p : ℕ) (o : Option RequestId) (request : RequestId) → IsLastTry notes m p o → o ≡ Some request → IsOver (fate_of notes request.worker request.number) → MayTry notes m p
+over_try notes m p None request h e over k other there = absurd (cc)
+over_try notes m p (Some last) request h e over k other there =
+    let same : request ≡ last = cc in
     elim (h.others k other there) [
-      | inl is ↦ subst (λ (c : Call). IsOver (fate_of notes c.worker c.number)) (same ∙ sym is) over
+      | inl is ↦ subst (λ (c : RequestId). IsOver (fate_of notes c.worker c.number)) (same ∙ sym is) over
       | inr done ↦ done
     ]
 
-pub try_over : (notes : List Note) (m p : ℕ) (o : Option Call) (call : Call) → IsLastTry notes m p o → o ≡ Some call → MayTry notes m p → IsOver (fate_of notes call.worker call.number)
-try_over notes m p None call h e may = absurd (cc)
-try_over notes m p (Some last) call h e may =
-    let same : last ≡ call = cc in
-    subst (λ (c : Call). IsOver (fate_of notes c.worker c.number)) same (may h.place last h.there)
+pub try_over : (notes : List Note) (m p : ℕ) (o : Option RequestId) (request : RequestId) → IsLastTry notes m p o → o ≡ Some request → MayTry notes m p → IsOver (fate_of notes request.worker request.number)
+try_over notes m p None request h e may = absurd (cc)
+try_over notes m p (Some last) request h e may =
+    let same : last ≡ request = cc in
+    subst (λ (c : RequestId). IsOver (fate_of notes c.worker c.number)) same (may h.place last h.there)
 
 pub counted : (rules : Rules) (accounts : ℕ) (ms : List Message) (i : ℕ) (o : Option ℕ) (count : ℕ) → IsCounted rules accounts ms i o → o ≡ Some count → HasParts rules accounts ms i count
 counted rules accounts ms i None count h e = absurd h

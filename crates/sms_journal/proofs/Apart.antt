@@ -4,9 +4,10 @@ use Rattle.std.specs.Prelude.{if◌then◌else◌, nat_lt, ◌==◌, codes, deci
 use Rattle.std.specs.List.{AllByRecursion, position_or_len}
 use Rattle.std.proofs.lemmas.Bool.{both_ways, or_parts, eq-eqb, lt-ltb}
 use Rattle.std.proofs.lemmas.List.Concat.{flat_map-cons}
-use Rattle.sms_journal.specs.declared.note.Note.{Note}
-use Rattle.sms_journal.specs.declared.note.Note.TheVariants.{Begun, Sent, Unsent, Heard, Refused, End}
-use Rattle.sms_journal.specs.Text.{flag, id_text, note_text, refusal_word}
+use Rattle.sms_journal.specs.declared.notes.note.Note.{Note}
+use Rattle.sms_journal.specs.declared.notes.note.Note.TheVariants.{Begun, Sent, Unsent, Heard, Refused, End}
+use Rattle.sms_journal.specs.Text.{flag, id_text, note_text}
+use Rattle.sms_files.specs.Names.{refusal_name}
 use Rattle.sms_journal.specs.Lines.{AreNotes, AreU64, IsNote, IsU64, feed_at, timed_text}
 use Rattle.sms_journal.proofs.Fields.{HasNoEnd, begun_line, end_line, flag_low, heard_line, no_end_id, no_end_number, no_end_refusal, refused_line, sent_line, unsent_line}
 use Rattle.sms_journal.proofs.Records.{line_once}
@@ -46,21 +47,21 @@ pub note_is_line : (time : ℕ) (note : Note) → IsU64 time → IsNote note →
 note_is_line time (Begun m) low h =
     subst IsLine (sym (begun_line time m)) (with_field (codes "begun") (decimal time ++ 44 ∷ (decimal m ++ 10 ∷ [])) (search rules)
     (with_field (decimal time) (decimal m ++ 10 ∷ []) (no_end_number time low) (last_field (decimal m) (no_end_number m h))))
-note_is_line time (Sent call m p) low h =
-    let w = call.worker in
-    let n = call.number in
+note_is_line time (Sent request m p) low h =
+    let w = request.worker in
+    let n = request.number in
     let X3 = decimal p ++ 10 ∷ [] in
     let X2 = decimal m ++ 44 ∷ X3 in
     let X1 = decimal n ++ 44 ∷ X2 in
     let X0 = decimal w ++ 44 ∷ X1 in
-    subst IsLine (sym (sent_line time call m p)) (with_field (codes "sent") (decimal time ++ 44 ∷ X0) (search rules) (with_field (decimal time) X0 (no_end_number time low)
+    subst IsLine (sym (sent_line time request m p)) (with_field (codes "sent") (decimal time ++ 44 ∷ X0) (search rules) (with_field (decimal time) X0 (no_end_number time low)
     (with_field (decimal w) X1 (no_end_number w (omega (arith, h.0))) (with_field (decimal n) X2 (no_end_number n (omega (arith, h.1))) (with_field (decimal m) X3 (no_end_number m h.2) (last_field (decimal p) (no_end_number p (omega (arith, h.3)))))))))
-note_is_line time (Unsent call) low h =
-    let w = call.worker in
-    let n = call.number in
+note_is_line time (Unsent request) low h =
+    let w = request.worker in
+    let n = request.number in
     let X1 = decimal n ++ 10 ∷ [] in
     let X0 = decimal w ++ 44 ∷ X1 in
-    subst IsLine (sym (unsent_line time call)) (with_field (codes "unsent") (decimal time ++ 44 ∷ X0) (search rules) (with_field (decimal time) X0 (no_end_number time low)
+    subst IsLine (sym (unsent_line time request)) (with_field (codes "unsent") (decimal time ++ 44 ∷ X0) (search rules) (with_field (decimal time) X0 (no_end_number time low)
     (with_field (decimal w) X1 (no_end_number w (omega (arith, h.0))) (last_field (decimal n) (no_end_number n (omega (arith, h.1)))))))
 note_is_line time (Heard by reply) low h =
     let n = reply.number in
@@ -75,8 +76,8 @@ note_is_line time (Heard by reply) low h =
     (with_field (decimal by) X1 (no_end_number by (omega (arith, h.0))) (with_field (decimal n) X2 (no_end_number n (omega (arith, h.1))) (with_field (decimal s) X3 (no_end_number s (omega (arith, h.2)))
     (with_field (decimal k) X4 (no_end_number k (flag_low reply.nack)) (last_field (id_text reply.id) (no_end_id reply.id h.3.1))))))))
 note_is_line time (Refused m refusal) low h =
-    subst IsLine (sym (refused_line time m refusal)) (with_field (codes "refused") (decimal time ++ 44 ∷ (decimal m ++ 44 ∷ (refusal_word refusal ++ 10 ∷ []))) (search rules)
-    (with_field (decimal time) (decimal m ++ 44 ∷ (refusal_word refusal ++ 10 ∷ [])) (no_end_number time low) (with_field (decimal m) (refusal_word refusal ++ 10 ∷ []) (no_end_number m h) (last_field (refusal_word refusal) (no_end_refusal refusal)))))
+    subst IsLine (sym (refused_line time m refusal)) (with_field (codes "refused") (decimal time ++ 44 ∷ (decimal m ++ 44 ∷ (refusal_name refusal ++ 10 ∷ []))) (search rules)
+    (with_field (decimal time) (decimal m ++ 44 ∷ (refusal_name refusal ++ 10 ∷ [])) (no_end_number time low) (with_field (decimal m) (refusal_name refusal ++ 10 ∷ []) (no_end_number m h) (last_field (refusal_name refusal) (no_end_refusal refusal)))))
 note_is_line time (End status) low h =
     subst IsLine (sym (end_line time status)) (with_field (codes "end") (decimal time ++ 44 ∷ (decimal status ++ 10 ∷ [])) (search rules)
     (with_field (decimal time) (decimal status ++ 10 ∷ []) (no_end_number time low) (last_field (decimal status) (no_end_number status (omega (arith, h))))))

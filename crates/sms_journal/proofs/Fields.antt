@@ -16,14 +16,15 @@ use Rattle.sms_pdu.specs.declared.reply.Reply.{Reply}
 use Rattle.sms_pdu.specs.Reply.{before, before_zero}
 use Rattle.sms_message.specs.declared.ends.MessageRefusal.{MessageRefusal}
 use Rattle.sms_message.specs.declared.ends.MessageRefusal.TheVariants.{NoAccount, NoCredit, TooLong, BadAddress, BindClosed, OutOfMemory}
-use Rattle.sms_journal.specs.declared.note.Call.{Call}
-use Rattle.sms_journal.specs.declared.note.Note.{Note}
-use Rattle.sms_journal.specs.declared.note.Note.TheVariants.{Begun, Sent, Unsent, Heard, Refused, End}
-use Rattle.sms_journal.specs.declared.reading.Escape.TheVariants.{Plain, First}
+use Rattle.sms_journal.specs.declared.notes.note.RequestId.{RequestId}
+use Rattle.sms_journal.specs.declared.notes.note.Note.{Note}
+use Rattle.sms_journal.specs.declared.notes.note.Note.TheVariants.{Begun, Sent, Unsent, Heard, Refused, End}
+use Rattle.sms_journal.specs.declared.text.note_fields.Escape.TheVariants.{Plain, First}
 use Rattle.sms_journal.proofs.Lists.{take_whole}
-use Rattle.sms_journal.specs.Text.{flag, hex_digit, hex_octet, id_octet, id_text, is_plain, note_text, number_field, refusal_word}
+use Rattle.sms_journal.specs.Text.{flag, hex_digit, hex_octet, id_octet, id_text, is_plain, note_text, number_field}
+use Rattle.sms_files.specs.Names.{refusal_name, refusal_named}
 use Rattle.sms_journal.specs.Lines.{AreIdOctets, IsId, IsNote, IsU32, IsU64}
-use Rattle.sms_journal.specs.Reading.{begun_in, behind_field, digit_in, end_at, end_in, field_in, flag_in, heard_in, heard_of, id_in, is_end, kind_in, note_in, octets_in, refusal_in, refused_in, refused_of, sent_in, time_in, u32_in, u64_in, u8_in, unsent_in}
+use Rattle.sms_journal.specs.Reading.{begun_in, behind_field, digit_in, end_at, end_in, field_in, flag_in, heard_in, heard_of, id_in, is_end, kind_in, note_in, octets_in, refused_in, refused_of, sent_in, time_in, u32_in, u64_in, u8_in, unsent_in}
 
 -- ---- fields
 
@@ -98,7 +99,7 @@ pub flag_low : (b : Bool) → IsU64 (flag b)
 flag_low true = omega arith
 flag_low false = omega arith
 
-pub refusal_found : (refusal : MessageRefusal) → refusal_in (refusal_word refusal) ≡ Some refusal
+pub refusal_found : (refusal : MessageRefusal) → refusal_named (refusal_name refusal) ≡ Some refusal
 refusal_found NoAccount = refl
 refusal_found NoCredit = refl
 refusal_found TooLong = refl
@@ -106,7 +107,7 @@ refusal_found BadAddress = refl
 refusal_found BindClosed = refl
 refusal_found OutOfMemory = refl
 
-pub no_end_refusal : (refusal : MessageRefusal) → HasNoEnd (refusal_word refusal)
+pub no_end_refusal : (refusal : MessageRefusal) → HasNoEnd (refusal_name refusal)
 no_end_refusal NoAccount = search rules
 no_end_refusal NoCredit = search rules
 no_end_refusal TooLong = search rules
@@ -202,10 +203,10 @@ begun_is m low = ap (λ (f : List ℕ). option_map (λ n. Begun n) (u64_in f)) (
 end_is : (status : ℕ) → status < 256 → end_in (decimal status ++ 10 ∷ []) ≡ Some (End status)
 end_is s low = ap (λ (f : List ℕ). option_map (λ n. End n) (u8_in f)) (number_field_is s 10 [] (omega arith) feed) ∙ ap (option_map (λ n. End n)) (u8_found s low)
 
-unsent_is : (call : Call) → IsU32 call.worker → IsU32 call.number → unsent_in (decimal call.worker ++ 44 ∷ (decimal call.number ++ 10 ∷ [])) ≡ Some (Unsent call)
-unsent_is call hw hn =
-    let w = call.worker in
-    let n = call.number in
+unsent_is : (request : RequestId) → IsU32 request.worker → IsU32 request.number → unsent_in (decimal request.worker ++ 44 ∷ (decimal request.number ++ 10 ∷ [])) ≡ Some (Unsent request)
+unsent_is request hw hn =
+    let w = request.worker in
+    let n = request.number in
     let X1 = decimal n ++ 10 ∷ [] in
     let f0 : field_in (decimal w ++ 44 ∷ X1) ≡ decimal w = number_field_is w 44 X1 (omega arith) comma in
     let b0 : behind_field (decimal w ++ 44 ∷ X1) ≡ X1 = behind_number_is w 44 X1 (omega arith) comma in
@@ -214,11 +215,11 @@ unsent_is call hw hn =
     let u1 : u32_in (decimal n) ≡ Some n = u32_found n hn in
     rw (b0, f0, f1, u0, u1) refl
 
-sent_is : (call : Call) (m p : ℕ) → IsU32 call.worker → IsU32 call.number → IsU64 m → p < 256
-    → sent_in (decimal call.worker ++ 44 ∷ (decimal call.number ++ 44 ∷ (decimal m ++ 44 ∷ (decimal p ++ 10 ∷ [])))) ≡ Some (Sent call m p)
-sent_is call m p hw hn hm hp =
-    let w = call.worker in
-    let n = call.number in
+sent_is : (request : RequestId) (m p : ℕ) → IsU32 request.worker → IsU32 request.number → IsU64 m → p < 256
+    → sent_in (decimal request.worker ++ 44 ∷ (decimal request.number ++ 44 ∷ (decimal m ++ 44 ∷ (decimal p ++ 10 ∷ [])))) ≡ Some (Sent request m p)
+sent_is request m p hw hn hm hp =
+    let w = request.worker in
+    let n = request.number in
     let X3 = decimal p ++ 10 ∷ [] in
     let X2 = decimal m ++ 44 ∷ X3 in
     let X1 = decimal n ++ 44 ∷ X2 in
@@ -264,17 +265,17 @@ heard_is by reply hw hn hs hi =
     heard_of_is : (by : ℕ) (reply : Reply) (a b c d e : List ℕ) → u32_in a ≡ Some by → u32_in b ≡ Some reply.number → u32_in c ≡ Some reply.status → flag_in d ≡ reply.nack → id_in e ≡ reply.id → heard_of a b c d e ≡ Some (Heard by reply)
     heard_of_is by reply a b c d e ha hb hc hd he = rw (ha, hb, hc) (ap (λ (x : Bool). Some (Heard by (record { number = reply.number; status = reply.status; nack = x; id = id_in e }))) hd ∙ ap (λ (x : List ℕ). Some (Heard by (record { number = reply.number; status = reply.status; nack = reply.nack; id = x }))) he)
 
-refused_is : (m : ℕ) (refusal : MessageRefusal) → IsU64 m → refused_in (decimal m ++ 44 ∷ (refusal_word refusal ++ 10 ∷ [])) ≡ Some (Refused m refusal)
+refused_is : (m : ℕ) (refusal : MessageRefusal) → IsU64 m → refused_in (decimal m ++ 44 ∷ (refusal_name refusal ++ 10 ∷ [])) ≡ Some (Refused m refusal)
 refused_is m refusal low =
-    let X1 = refusal_word refusal ++ 10 ∷ [] in
+    let X1 = refusal_name refusal ++ 10 ∷ [] in
     let f0 : field_in (decimal m ++ 44 ∷ X1) ≡ decimal m = number_field_is m 44 X1 low comma in
     let b0 : behind_field (decimal m ++ 44 ∷ X1) ≡ X1 = behind_number_is m 44 X1 low comma in
-    let f1 : field_in X1 ≡ refusal_word refusal = field_is (refusal_word refusal) 10 [] (no_end_refusal refusal) feed in
+    let f1 : field_in X1 ≡ refusal_name refusal = field_is (refusal_name refusal) 10 [] (no_end_refusal refusal) feed in
     let u0 : u64_in (decimal m) ≡ Some m = u64_found m low in
-    let u1 : refusal_in (refusal_word refusal) ≡ Some refusal = refusal_found refusal in
-    rw (b0, f0, f1) (refused_of_is (decimal m) (refusal_word refusal) u0 u1)
+    let u1 : refusal_named (refusal_name refusal) ≡ Some refusal = refusal_found refusal in
+    rw (b0, f0, f1) (refused_of_is (decimal m) (refusal_name refusal) u0 u1)
   where
-    refused_of_is : (a b : List ℕ) → u64_in a ≡ Some m → refusal_in b ≡ Some refusal → refused_of a b ≡ Some (Refused m refusal)
+    refused_of_is : (a b : List ℕ) → u64_in a ≡ Some m → refusal_named b ≡ Some refusal → refused_of a b ≡ Some (Refused m refusal)
     refused_of_is a b ha hb = rw ha (ap (option_map (λ r. Refused m r)) hb)
 
 -- lines, field by field
@@ -290,11 +291,11 @@ regroup9 a b c d e f g h i = simp append_assoc
 pub begun_line : (time m : ℕ) → note_text time (Begun m) ≡ codes "begun" ++ 44 ∷ (decimal time ++ 44 ∷ (decimal m ++ 10 ∷ []))
 begun_line time m = simp append_assoc
 
-pub sent_line : (time : ℕ) (call : Call) (m p : ℕ) → note_text time (Sent call m p) ≡ codes "sent" ++ 44 ∷ (decimal time ++ 44 ∷ (decimal call.worker ++ 44 ∷ (decimal call.number ++ 44 ∷ (decimal m ++ 44 ∷ (decimal p ++ 10 ∷ [])))))
-sent_line time call m p = regroup7 (codes "sent") (number_field time) (number_field call.worker) (number_field call.number) (number_field m) (number_field p) (codes "\n")
+pub sent_line : (time : ℕ) (request : RequestId) (m p : ℕ) → note_text time (Sent request m p) ≡ codes "sent" ++ 44 ∷ (decimal time ++ 44 ∷ (decimal request.worker ++ 44 ∷ (decimal request.number ++ 44 ∷ (decimal m ++ 44 ∷ (decimal p ++ 10 ∷ [])))))
+sent_line time request m p = regroup7 (codes "sent") (number_field time) (number_field request.worker) (number_field request.number) (number_field m) (number_field p) (codes "\n")
 
-pub unsent_line : (time : ℕ) (call : Call) → note_text time (Unsent call) ≡ codes "unsent" ++ 44 ∷ (decimal time ++ 44 ∷ (decimal call.worker ++ 44 ∷ (decimal call.number ++ 10 ∷ [])))
-unsent_line time call = regroup5 (codes "unsent") (number_field time) (number_field call.worker) (number_field call.number) (codes "\n")
+pub unsent_line : (time : ℕ) (request : RequestId) → note_text time (Unsent request) ≡ codes "unsent" ++ 44 ∷ (decimal time ++ 44 ∷ (decimal request.worker ++ 44 ∷ (decimal request.number ++ 10 ∷ [])))
+unsent_line time request = regroup5 (codes "unsent") (number_field time) (number_field request.worker) (number_field request.number) (codes "\n")
 
 pub heard_line : (time by : ℕ) (reply : Reply)
     → note_text time (Heard by reply)
@@ -302,7 +303,7 @@ pub heard_line : (time by : ℕ) (reply : Reply)
 heard_line time by reply =
     regroup9 (codes "heard") (number_field time) (number_field by) (number_field reply.number) (number_field reply.status) (number_field (flag reply.nack)) (codes ",") (id_text reply.id) (codes "\n")
 
-pub refused_line : (time m : ℕ) (refusal : MessageRefusal) → note_text time (Refused m refusal) ≡ codes "refused" ++ 44 ∷ (decimal time ++ 44 ∷ (decimal m ++ 44 ∷ (refusal_word refusal ++ 10 ∷ [])))
+pub refused_line : (time m : ℕ) (refusal : MessageRefusal) → note_text time (Refused m refusal) ≡ codes "refused" ++ 44 ∷ (decimal time ++ 44 ∷ (decimal m ++ 44 ∷ (refusal_name refusal ++ 10 ∷ [])))
 refused_line time m refusal = simp append_assoc
 
 pub end_line : (time status : ℕ) → note_text time (End status) ≡ codes "end" ++ 44 ∷ (decimal time ++ 44 ∷ (decimal status ++ 10 ∷ []))
@@ -311,26 +312,26 @@ end_line time status = simp append_assoc
 -- a line that is written of a note is read as the note
 pub note_found : (time : ℕ) (note : Note) → IsU64 time → IsNote note → note_in (note_text time note) ≡ Some note
 note_found time (Begun m) low h = ap note_in (begun_line time m) ∙ head_is (codes "begun") time (decimal m ++ 10 ∷ []) (search rules) low ∙ begun_is m h
-note_found time (Sent call m p) low h =
-    ap note_in (sent_line time call m p) ∙ head_is (codes "sent") time (decimal call.worker ++ 44 ∷ (decimal call.number ++ 44 ∷ (decimal m ++ 44 ∷ (decimal p ++ 10 ∷ [])))) (search rules) low
-    ∙ sent_is call m p h.0 h.1 h.2 h.3
-note_found time (Unsent call) low h =
-    ap note_in (unsent_line time call) ∙ head_is (codes "unsent") time (decimal call.worker ++ 44 ∷ (decimal call.number ++ 10 ∷ [])) (search rules) low ∙ unsent_is call h.0 h.1
+note_found time (Sent request m p) low h =
+    ap note_in (sent_line time request m p) ∙ head_is (codes "sent") time (decimal request.worker ++ 44 ∷ (decimal request.number ++ 44 ∷ (decimal m ++ 44 ∷ (decimal p ++ 10 ∷ [])))) (search rules) low
+    ∙ sent_is request m p h.0 h.1 h.2 h.3
+note_found time (Unsent request) low h =
+    ap note_in (unsent_line time request) ∙ head_is (codes "unsent") time (decimal request.worker ++ 44 ∷ (decimal request.number ++ 10 ∷ [])) (search rules) low ∙ unsent_is request h.0 h.1
 note_found time (Heard by reply) low h =
     ap note_in (heard_line time by reply)
     ∙ head_is (codes "heard") time (decimal by ++ 44 ∷ (decimal reply.number ++ 44 ∷ (decimal reply.status ++ 44 ∷ (decimal (flag reply.nack) ++ 44 ∷ (id_text reply.id ++ 10 ∷ []))))) (search rules) low
     ∙ heard_is by reply h.0 h.1 h.2 h.3
 note_found time (Refused m refusal) low h =
-    ap note_in (refused_line time m refusal) ∙ head_is (codes "refused") time (decimal m ++ 44 ∷ (refusal_word refusal ++ 10 ∷ [])) (search rules) low ∙ refused_is m refusal h
+    ap note_in (refused_line time m refusal) ∙ head_is (codes "refused") time (decimal m ++ 44 ∷ (refusal_name refusal ++ 10 ∷ [])) (search rules) low ∙ refused_is m refusal h
 note_found time (End status) low h = ap note_in (end_line time status) ∙ head_is (codes "end") time (decimal status ++ 10 ∷ []) (search rules) low ∙ end_is status h
 
 pub time_found : (time : ℕ) (note : Note) → IsU64 time → time_in (note_text time note) ≡ Some time
 time_found time (Begun m) low = ap time_in (begun_line time m) ∙ time_is (codes "begun") time (decimal m ++ 10 ∷ []) (search rules) low
-time_found time (Sent call m p) low =
-    ap time_in (sent_line time call m p) ∙ time_is (codes "sent") time (decimal call.worker ++ 44 ∷ (decimal call.number ++ 44 ∷ (decimal m ++ 44 ∷ (decimal p ++ 10 ∷ [])))) (search rules) low
-time_found time (Unsent call) low = ap time_in (unsent_line time call) ∙ time_is (codes "unsent") time (decimal call.worker ++ 44 ∷ (decimal call.number ++ 10 ∷ [])) (search rules) low
+time_found time (Sent request m p) low =
+    ap time_in (sent_line time request m p) ∙ time_is (codes "sent") time (decimal request.worker ++ 44 ∷ (decimal request.number ++ 44 ∷ (decimal m ++ 44 ∷ (decimal p ++ 10 ∷ [])))) (search rules) low
+time_found time (Unsent request) low = ap time_in (unsent_line time request) ∙ time_is (codes "unsent") time (decimal request.worker ++ 44 ∷ (decimal request.number ++ 10 ∷ [])) (search rules) low
 time_found time (Heard by reply) low =
     ap time_in (heard_line time by reply)
     ∙ time_is (codes "heard") time (decimal by ++ 44 ∷ (decimal reply.number ++ 44 ∷ (decimal reply.status ++ 44 ∷ (decimal (flag reply.nack) ++ 44 ∷ (id_text reply.id ++ 10 ∷ []))))) (search rules) low
-time_found time (Refused m refusal) low = ap time_in (refused_line time m refusal) ∙ time_is (codes "refused") time (decimal m ++ 44 ∷ (refusal_word refusal ++ 10 ∷ [])) (search rules) low
+time_found time (Refused m refusal) low = ap time_in (refused_line time m refusal) ∙ time_is (codes "refused") time (decimal m ++ 44 ∷ (refusal_name refusal ++ 10 ∷ [])) (search rules) low
 time_found time (End status) low = ap time_in (end_line time status) ∙ time_is (codes "end") time (decimal status ++ 10 ∷ []) (search rules) low

@@ -4,9 +4,9 @@ use Rattle.std.specs.Prelude.{◌==◌, if◌then◌else◌, codes, option_map, 
 use Rattle.std.proofs.lemmas.List.{take_more, take_more_set}
 use Rattle.std.proofs.lemmas.List.Concat.{flat_map-cons}
 use Rattle.std.proofs.lemmas.Bool.{cases_Bool, eqb-true}
-use Rattle.sms_journal.specs.declared.header.Digests.{Digests}
-use Rattle.sms_journal.specs.declared.header.JournalKind.{JournalKind}
-use Rattle.sms_journal.specs.declared.header.JournalKind.TheVariants.{Run, Trial}
+use Rattle.sms_journal.specs.declared.text.header.Digests.{Digests}
+use Rattle.sms_journal.specs.declared.text.header.JournalKind.{JournalKind}
+use Rattle.sms_journal.specs.declared.text.header.JournalKind.TheVariants.{Run, Trial}
 use Rattle.sms_journal.specs.Digests.{AreDigests, AreOctets, IsDigest, IsTariffDigest}
 use Rattle.sms_journal.specs.Heads.{digest_in, digests_in, digests_of, head_in, kind_in, octet_at, octet_of, octets_in, tariff_in}
 use Rattle.sms_journal.specs.Reading.{behind_field, field_in}

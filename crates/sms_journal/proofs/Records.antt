@@ -4,9 +4,9 @@ use Rattle.std.specs.Prelude.{flat_map}
 use Rattle.std.proofs.Math.Seq.{take-append_seam}
 use Rattle.std.proofs.lemmas.Grind.{flat_map-append}
 use Rattle.std.proofs.lemmas.List.{map-append}
-use Rattle.sms_journal.specs.declared.note.Note.{Note}
-use Rattle.sms_journal.specs.declared.header.Digests.{Digests}
-use Rattle.sms_journal.specs.declared.header.JournalKind.TheVariants.{Run, Trial}
+use Rattle.sms_journal.specs.declared.notes.note.Note.{Note}
+use Rattle.sms_journal.specs.declared.text.header.Digests.{Digests}
+use Rattle.sms_journal.specs.declared.text.header.JournalKind.TheVariants.{Run, Trial}
 use Rattle.sms_journal.specs.Text.{header_text, note_text}
 use Rattle.sms_journal.specs.Lines.{AreLines, AreU64, IsLineOf, IsNote, IsTruncated, IsU64, IsUnbegun, TruncatesHeader, timed_text}
 use Rattle.sms_journal.specs.Reading.{note_in, time_in}
@@ -25,9 +25,9 @@ no_note line time note low good is none = let e : Some note ≡ None = sym (note
 
 -- so it is written as what was read
 pub written_again : (line : List ℕ) (time : ℕ) (note : Note) (t : ℕ) (n : Note) → IsU64 time → IsNote note → line ≡ note_text time note → time_in line ≡ Some t → note_in line ≡ Some n → note_text t n ≡ line
-written_again line time note t n low good is there told =
+written_again line time note t n low good is there recovered =
     let e : Some time ≡ Some t = sym (time_found time note low) ∙ ap time_in (sym is) ∙ there in
-    let f : Some note ≡ Some n = sym (note_found time note low good) ∙ ap note_in (sym is) ∙ told in
+    let f : Some note ≡ Some n = sym (note_found time note low good) ∙ ap note_in (sym is) ∙ recovered in
     let same_time : time ≡ t = cc in
     let same_note : note ≡ n = cc in
     ap (λ (k : ℕ). note_text k n) (sym same_time) ∙ ap (note_text time) (sym same_note) ∙ sym is

@@ -1,9 +1,9 @@
 -- Of which files a run is: the SHA-256 digests of their octets (FIPS 180-4).
 use Rattle.std.specs.Prelude.{◌≡◌, ◌≢◌, ℕ, ◌<◌, ⊤, List, [], ◌∷◌, length, Option, Some, None, option_map}
 use Rattle.sha2.specs.Sha256.{sha256}
-use Rattle.sms_journal.specs.declared.digests.RunFile.{RunFile}
-use Rattle.sms_journal.specs.declared.digests.RunFile.TheVariants.{Config, Accounts, Messages, Tariff}
-use Rattle.sms_journal.specs.declared.header.Digests.{Digests}
+use Rattle.sms_journal.specs.declared.text.digests.RunFile.{RunFile}
+use Rattle.sms_journal.specs.declared.text.digests.RunFile.TheVariants.{Config, Accounts, Messages, Tariff}
+use Rattle.sms_journal.specs.declared.text.header.Digests.{Digests}
 
 -- there may be no tariff
 abbrev pub digests_of : List ℕ → List ℕ → List ℕ → Option (List ℕ) → Digests

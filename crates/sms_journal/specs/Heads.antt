@@ -2,9 +2,9 @@
 -- comparing shows the difference.
 use Rattle.std.specs.Prelude.{ℕ, ◌+◌, ◌*◌, ◌==◌, List, [], ◌∷◌, length, Option, Some, None, option_map, option_and_then, if◌then◌else◌, codes, get_or}
 use Rattle.std.specs.Str.{bytes_eq}
-use Rattle.sms_journal.specs.declared.header.Digests.{Digests}
-use Rattle.sms_journal.specs.declared.header.JournalKind.{JournalKind}
-use Rattle.sms_journal.specs.declared.header.JournalKind.TheVariants.{Run, Trial}
+use Rattle.sms_journal.specs.declared.text.header.Digests.{Digests}
+use Rattle.sms_journal.specs.declared.text.header.JournalKind.{JournalKind}
+use Rattle.sms_journal.specs.declared.text.header.JournalKind.TheVariants.{Run, Trial}
 use Rattle.sms_journal.specs.Reading.{behind_field, digit_in, field_in}
 
 -- two digits, the greater half first

@@ -6,9 +6,9 @@ use Rattle.sms_message.specs.declared.message.Message.{Message}
 use Rattle.sms_message.specs.declared.rules.Rules.{Rules}
 use Rattle.sms_message.specs.Submits.{message_parts}
 use Rattle.sms_message.specs.Admission.{IsKnown, IsShort}
-use Rattle.sms_journal.specs.declared.note.Call.{Call}
-use Rattle.sms_journal.specs.declared.note.Note.{Note}
-use Rattle.sms_journal.specs.declared.note.Note.TheVariants.{Begun, Sent, Unsent, Heard, Refused, End}
+use Rattle.sms_journal.specs.declared.notes.note.RequestId.{RequestId}
+use Rattle.sms_journal.specs.declared.notes.note.Note.{Note}
+use Rattle.sms_journal.specs.declared.notes.note.Note.TheVariants.{Begun, Sent, Unsent, Heard, Refused, End}
 use Rattle.sms_journal.specs.Recovered.{first_in, fate_of, start_of}
 
 -- ---- the messages
@@ -20,7 +20,7 @@ with_index i m = if m.index == i then Some m else None
 abbrev pub message_of : List Message → ℕ → Option Message
 message_of ms i = first_in (with_index i) ms
 
--- the message with this index has an account and is cut into so many parts
+-- the message with this index has an account and is cut into this number of parts
 pub record HasParts (rules : Rules) (accounts : ℕ) (ms : List Message) (i count : ℕ) : Type 0 where
   pub message : Message
   pub is : message_of ms i ≡ Some message
@@ -33,13 +33,13 @@ pub record HasParts (rules : Rules) (accounts : ℕ) (ms : List Message) (i coun
 -- whether a note is of this request
 abbrev pub sent_in : ℕ → ℕ → Note → Option Note
 sent_in worker number (Begun m) = None
-sent_in worker number (Sent call m p) = if call.worker == worker && (call.number == number) then Some (Sent call m p) else None
-sent_in worker number (Unsent call) = None
+sent_in worker number (Sent request m p) = if request.worker == worker && (request.number == number) then Some (Sent request m p) else None
+sent_in worker number (Unsent request) = None
 sent_in worker number (Heard by reply) = None
 sent_in worker number (Refused m refusal) = None
 sent_in worker number (End status) = None
 
--- the request was noted, and how it went on was not
+-- the request was noted, and its fate was not
 pub record IsOpen (notes : List Note) (worker number : ℕ) : Type 0 where
   pub sent : IsSome (first_in (sent_in worker number) notes)
   pub open_yet : fate_of notes worker number ≡ None
@@ -52,28 +52,28 @@ IsOver (Some (Some reply)) = is_retry reply.status reply.nack ≡ true
 
 -- so is each request of the part
 abbrev pub MayTry : List Note → ℕ → ℕ → Type 0
-MayTry notes m p = (k : ℕ) (call : Call) → slice_get notes k ≡ Some (Sent call m p) → IsOver (fate_of notes call.worker call.number)
+MayTry notes m p = (k : ℕ) (request : RequestId) → slice_get notes k ≡ Some (Sent request m p) → IsOver (fate_of notes request.worker request.number)
 
 -- the number is above that of each request of its worker
-abbrev pub IsAbove : List Note → Call → Type 0
-IsAbove notes call = (k : ℕ) (other : Call) (m p : ℕ) → slice_get notes k ≡ Some (Sent other m p) → other.worker ≡ call.worker → other.number < call.number
+abbrev pub IsAbove : List Note → RequestId → Type 0
+IsAbove notes request = (k : ℕ) (other : RequestId) (m p : ℕ) → slice_get notes k ≡ Some (Sent other m p) → other.worker ≡ request.worker → other.number < request.number
 
 -- ---- the journal
 
 -- a request for a part of a message that was begun
-pub record MaySend (rules : Rules) (accounts : ℕ) (ms : List Message) (notes : List Note) (call : Call) (i p : ℕ) : Type 0 where
+pub record MaySend (rules : Rules) (accounts : ℕ) (ms : List Message) (notes : List Note) (request : RequestId) (i p : ℕ) : Type 0 where
   pub begun : start_of notes i ≡ Some None
   pub count : ℕ
   pub parts : HasParts rules accounts ms i count
   pub from : 1 ≤ p
   pub to : p ≤ count
-  pub above : IsAbove notes call
+  pub above : IsAbove notes request
   pub again : MayTry notes i p
 
 abbrev pub MayFollow : Rules → ℕ → List Message → List Note → Note → Type 0
 MayFollow rules accounts ms notes (Begun i) = (start_of notes i ≡ None) × ((count : ℕ) × HasParts rules accounts ms i count)
-MayFollow rules accounts ms notes (Sent call i p) = MaySend rules accounts ms notes call i p
-MayFollow rules accounts ms notes (Unsent call) = IsOpen notes call.worker call.number
+MayFollow rules accounts ms notes (Sent request i p) = MaySend rules accounts ms notes request i p
+MayFollow rules accounts ms notes (Unsent request) = IsOpen notes request.worker request.number
 MayFollow rules accounts ms notes (Heard by reply) = IsOpen notes by reply.number
 MayFollow rules accounts ms notes (Refused i refusal) = (start_of notes i ≡ None) × IsSome (message_of ms i)
 MayFollow rules accounts ms notes (End status) = Unit {0}

@@ -2,13 +2,13 @@
 use Rattle.std.specs.Prelude.{◌≡◌, ◌≢◌, ℕ, ◌+◌, ◌<◌, ◌≤◌, ◌==◌, ◌⊎◌, ⊤, Bool, true, false, List, [], ◌∷◌, ◌++◌, length, map, flat_map, position, Option, Some, None}
 use Rattle.sms_journal.specs.declared.error.JournalError.{JournalError}
 use Rattle.sms_journal.specs.declared.error.JournalError.TheVariants.{BadRecord, OtherFiles, BadNote, Overdrawn, OutOfMemory}
-use Rattle.sms_journal.specs.declared.digests.RunFile.{RunFile}
-use Rattle.sms_journal.specs.declared.header.Digests.{Digests}
-use Rattle.sms_journal.specs.declared.header.JournalKind.{JournalKind}
-use Rattle.sms_journal.specs.declared.header.JournalKind.TheVariants.{Run}
+use Rattle.sms_journal.specs.declared.text.digests.RunFile.{RunFile}
+use Rattle.sms_journal.specs.declared.text.header.Digests.{Digests}
+use Rattle.sms_journal.specs.declared.text.header.JournalKind.{JournalKind}
+use Rattle.sms_journal.specs.declared.text.header.JournalKind.TheVariants.{Run}
 use Rattle.sms_journal.specs.Digests.{AreDigests, DiffersFirst}
-use Rattle.sms_journal.specs.declared.note.Note.{Note}
-use Rattle.sms_journal.specs.declared.note.Note.TheVariants.{Begun, Sent, Unsent, Heard, Refused, End}
+use Rattle.sms_journal.specs.declared.notes.note.Note.{Note}
+use Rattle.sms_journal.specs.declared.notes.note.Note.TheVariants.{Begun, Sent, Unsent, Heard, Refused, End}
 use Rattle.sms_journal.specs.Text.{header_text, note_text}
 
 -- ---- notes that a run can write: their numbers are those of their fields
@@ -30,8 +30,8 @@ IsId id = (length id ≤ 64) × AreIdOctets id
 
 abbrev pub IsNote : Note → Type 0
 IsNote (Begun m) = IsU64 m
-IsNote (Sent call m p) = IsU32 call.worker × IsU32 call.number × IsU64 m × (p < 256)
-IsNote (Unsent call) = IsU32 call.worker × IsU32 call.number
+IsNote (Sent request m p) = IsU32 request.worker × IsU32 request.number × IsU64 m × (p < 256)
+IsNote (Unsent request) = IsU32 request.worker × IsU32 request.number
 IsNote (Heard by reply) = IsU32 by × IsU32 reply.number × IsU32 reply.status × IsId reply.id
 IsNote (Refused m refusal) = IsU64 m
 IsNote (End status) = status < 256

@@ -1,15 +1,14 @@
 -- A note read from its line: what the fields of a line that was written say. A line that says something else too is read as if a run had
--- written it, and told from one by writing its note again.
-use Rattle.std.specs.Prelude.{ℕ, suc, ◌+◌, ◌*◌, ◌-◌, ◌%◌, ◌==◌, ◌||◌, nat_lt, Bool, List, [], ◌∷◌, ◌++◌, take, drop, Option, Some, None, option_map, option_and_then, if◌then◌else◌, codes}
+-- written it, and refused because its note is written otherwise.
+use Rattle.std.specs.Prelude.{ℕ, suc, ◌+◌, ◌*◌, ◌-◌, ◌%◌, ◌==◌, ◌||◌, nat_lt, Bool, List, [], ◌∷◌, ◌++◌, take, drop, Option, None, option_map, option_and_then, if◌then◌else◌, codes}
 use Rattle.std.specs.Str.{bytes_eq}
 use Rattle.sms_core.specs.Decimal.{decimal_in}
 use Rattle.sms_pdu.specs.Reply.{id_text as id_before_zero}
-use Rattle.sms_message.specs.declared.ends.MessageRefusal.{MessageRefusal}
-use Rattle.sms_message.specs.declared.ends.MessageRefusal.TheVariants.{NoAccount, NoCredit, TooLong, BadAddress, BindClosed, OutOfMemory}
-use Rattle.sms_journal.specs.declared.note.Note.{Note}
-use Rattle.sms_journal.specs.declared.note.Note.TheVariants.{Begun, Sent, Unsent, Heard, Refused, End}
-use Rattle.sms_journal.specs.declared.reading.Escape.{Escape}
-use Rattle.sms_journal.specs.declared.reading.Escape.TheVariants.{Plain, First, Second}
+use Rattle.sms_files.specs.Names.{refusal_named}
+use Rattle.sms_journal.specs.declared.notes.note.Note.{Note}
+use Rattle.sms_journal.specs.declared.notes.note.Note.TheVariants.{Begun, Sent, Unsent, Heard, Refused, End}
+use Rattle.sms_journal.specs.declared.text.note_fields.Escape.{Escape}
+use Rattle.sms_journal.specs.declared.text.note_fields.Escape.TheVariants.{Plain, First, Second}
 
 -- ---- fields
 
@@ -40,15 +39,6 @@ u8_in field = decimal_in 0xFF field
 
 abbrev pub flag_in : List ℕ → Bool
 flag_in field = bytes_eq field (codes "1")
-
-abbrev pub refusal_in : List ℕ → Option MessageRefusal
-refusal_in word =
-    if bytes_eq word (codes "no-account") then Some NoAccount
-    else (if bytes_eq word (codes "no-credit") then Some NoCredit
-    else (if bytes_eq word (codes "too-long") then Some TooLong
-    else (if bytes_eq word (codes "bad-address") then Some BadAddress
-    else (if bytes_eq word (codes "bind-closed") then Some BindClosed
-    else (if bytes_eq word (codes "out-of-memory") then Some OutOfMemory else None)))))
 
 -- ---- message_ids
 
@@ -93,7 +83,7 @@ heard_in text =
     (field_in (behind_field (behind_field (behind_field (behind_field text)))))
 
 abbrev pub refused_of : List ℕ → List ℕ → Option Note
-refused_of message word = option_and_then (λ m. option_map (λ r. Refused m r) (refusal_in word)) (u64_in message)
+refused_of message word = option_and_then (λ m. option_map (λ r. Refused m r) (refusal_named word)) (u64_in message)
 
 abbrev pub refused_in : List ℕ → Option Note
 refused_in text = refused_of (field_in text) (field_in (behind_field text))

@@ -1,4 +1,4 @@
--- What a list of notes says of messages: the report of a run whose lines all went down behind the last note.
+-- What a list of notes says of messages: the ends that a run would have reported if every connection had dropped just after the last note.
 -- A message goes by its index, and a part by its number, from 1.
 use Rattle.std.specs.Prelude.{◌≡◌, ℕ, ◌+◌, ◌==◌, ◌&&◌, List, [], ◌∷◌, length, map, Option, Some, None, flat_map, slice_get, string_bytes, if◌then◌else◌}
 use Rattle.sms_core.specs.Replies.{outcome_of}
@@ -14,9 +14,12 @@ use Rattle.sms_segment.specs.Message.{IsTooLong}
 use Rattle.sms_message.specs.Submits.{coded_text, message_parts, reference_of}
 use Rattle.sms_message.specs.Admission.{IsShort}
 use Rattle.sms_message.specs.Results.{read_reply}
-use Rattle.sms_journal.specs.declared.note.Note.{Note}
-use Rattle.sms_journal.specs.declared.note.Note.TheVariants.{Begun, Sent, Unsent, Heard, Refused, End}
-use Rattle.sms_journal.specs.Types.{Tried, PartTold, ResultTold, MessageTold}
+use Rattle.sms_journal.specs.declared.notes.note.Note.{Note}
+use Rattle.sms_journal.specs.declared.notes.note.Note.TheVariants.{Begun, Sent, Unsent, Heard, Refused, End}
+use Rattle.sms_message.specs.declared.ends.Attempt.{Attempt}
+use Rattle.sms_message.specs.declared.ends.SegmentEnd.{SegmentEnd}
+use Rattle.sms_message.specs.declared.ends.MessageResult.{MessageResult}
+use Rattle.sms_message.specs.declared.ends.MessageEnd.{MessageEnd}
 use Rattle.sms_message.specs.declared.ends.MessageResult.TheVariants as result
 
 -- the first that f finds in a list
@@ -35,11 +38,11 @@ listed (Some x) = x ∷ []
 
 -- ---- a request
 
--- what a note says of how a request went on: None that it was not handed to the wire, Some that it was answered
+-- the fate of a request by a note: None that it was not written to the connection, Some that it was answered
 abbrev pub fate_in : ℕ → ℕ → Note → Option (Option Reply)
 fate_in worker number (Begun m) = None
-fate_in worker number (Sent call m p) = None
-fate_in worker number (Unsent call) = if call.worker == worker && (call.number == number) then Some None else None
+fate_in worker number (Sent request m p) = None
+fate_in worker number (Unsent request) = if request.worker == worker && (request.number == number) then Some None else None
 fate_in worker number (Heard by reply) = if by == worker && (reply.number == number) then Some (Some reply) else None
 fate_in worker number (Refused m refusal) = None
 fate_in worker number (End status) = None
@@ -49,42 +52,42 @@ abbrev pub fate_of : List Note → ℕ → ℕ → Option (Option Reply)
 fate_of notes worker number = first_in (fate_in worker number) notes
 
 -- a request that the wire was handed, with its answer if there is one
-abbrev pub tried : ℕ → Option (Option Reply) → List Tried
-tried number None = record { number = number; sent = tt; reply = None } ∷ []
-tried number (Some None) = []
-tried number (Some (Some reply)) = record { number = number; sent = tt; reply = Some reply } ∷ []
+abbrev pub attempts_with : ℕ → Option (Option Reply) → List (Attempt (Unit {0}))
+attempts_with number None = record { number = number; sent = tt; reply = None } ∷ []
+attempts_with number (Some None) = []
+attempts_with number (Some (Some reply)) = record { number = number; sent = tt; reply = Some reply } ∷ []
 
 -- ---- a part
 
 -- the request for this part that a note is of
-abbrev pub tried_in : List Note → ℕ → ℕ → Note → List Tried
-tried_in notes m p (Begun m') = []
-tried_in notes m p (Sent call m' p') = if m' == m && (p' == p) then tried call.number (fate_of notes call.worker call.number) else []
-tried_in notes m p (Unsent call) = []
-tried_in notes m p (Heard worker reply) = []
-tried_in notes m p (Refused m' refusal) = []
-tried_in notes m p (End status) = []
+abbrev pub attempts_in : List Note → ℕ → ℕ → Note → List (Attempt (Unit {0}))
+attempts_in notes m p (Begun m') = []
+attempts_in notes m p (Sent request m' p') = if m' == m && (p' == p) then attempts_with request.number (fate_of notes request.worker request.number) else []
+attempts_in notes m p (Unsent request) = []
+attempts_in notes m p (Heard worker reply) = []
+attempts_in notes m p (Refused m' refusal) = []
+attempts_in notes m p (End status) = []
 
 -- all of them, in the order of the notes
-abbrev pub tries_of : List Note → ℕ → ℕ → List Tried
-tries_of notes m p = flat_map (tried_in notes m p) notes
+abbrev pub attempts_of : List Note → ℕ → ℕ → List (Attempt (Unit {0}))
+attempts_of notes m p = flat_map (attempts_in notes m p) notes
 
-abbrev pub answers_told : List Tried → List (Option core.Reply)
-answers_told tries = map (λ t. read_reply t.reply) tries
+abbrev pub answers_of : List (Attempt (Unit {0})) → List (Option core.Reply)
+answers_of attempts = map (λ t. read_reply t.reply) attempts
 
 -- its cost, its requests, and what these come to
-pub record IsPartTold (rules : Rules) (notes : List Note) (m : Message) (p : ℕ) (s : PartTold) : Type 0 where
+pub record IsRecoveredSegment (rules : Rules) (notes : List Note) (m : Message) (p : ℕ) (s : SegmentEnd (Unit {0})) : Type 0 where
   pub cost : s.cost ≡ cost_of rules.tariff (string_bytes m.dest)
-  pub tries : s.attempts ≡ tries_of notes m.index p
-  pub outcome : outcome_of (answers_told s.attempts) ≡ phase_of s.outcome
+  pub attempts : s.attempts ≡ attempts_of notes m.index p
+  pub outcome : outcome_of (answers_of s.attempts) ≡ phase_of s.outcome
 
 -- ---- a message
 
 -- what a note says of how a message was begun: None that it was, Some that it was refused
 abbrev pub start_in : ℕ → Note → Option (Option MessageRefusal)
 start_in m (Begun m') = if m' == m then Some None else None
-start_in m (Sent call m' p) = None
-start_in m (Unsent call) = None
+start_in m (Sent request m' p) = None
+start_in m (Unsent request) = None
 start_in m (Heard worker reply) = None
 start_in m (Refused m' refusal) = if m' == m then Some (Some refusal) else None
 start_in m (End status) = None
@@ -94,31 +97,31 @@ abbrev pub start_of : List Note → ℕ → Option (Option MessageRefusal)
 start_of notes m = first_in (start_in m) notes
 
 -- the note itself, where it is one of this message
-abbrev pub own_in : ℕ → Note → List Note
-own_in m (Begun m') = if m' == m then Begun m' ∷ [] else []
-own_in m (Sent call m' p) = if m' == m then Sent call m' p ∷ [] else []
-own_in m (Unsent call) = []
-own_in m (Heard worker reply) = []
-own_in m (Refused m' refusal) = if m' == m then Refused m' refusal ∷ [] else []
-own_in m (End status) = []
+abbrev pub note_about : ℕ → Note → List Note
+note_about m (Begun m') = if m' == m then Begun m' ∷ [] else []
+note_about m (Sent request m' p) = if m' == m then Sent request m' p ∷ [] else []
+note_about m (Unsent request) = []
+note_about m (Heard worker reply) = []
+note_about m (Refused m' refusal) = if m' == m then Refused m' refusal ∷ [] else []
+note_about m (End status) = []
 
 -- it was begun, and has a part for each of its cutting
-pub record ArePartsTold (rules : Rules) (notes : List Note) (m : Message) (parts : List PartTold) : Type 0 where
+pub record AreRecoveredSegments (rules : Rules) (notes : List Note) (m : Message) (parts : List (SegmentEnd (Unit {0}))) : Type 0 where
   pub begun : start_of notes m.index ≡ Some None
   pub short : IsShort rules m
   pub count : length parts ≡ length (message_parts rules m)
-  pub each : (p : ℕ) (s : PartTold) → slice_get parts p ≡ Some s → IsPartTold rules notes m (p + 1) s
+  pub each : (p : ℕ) (s : SegmentEnd (Unit {0})) → slice_get parts p ≡ Some s → IsRecoveredSegment rules notes m (p + 1) s
 
 -- a message without a note of its beginning was not begun; one that has no cutting has no parts
-abbrev pub IsRefusalTold : Rules → Message → Option (Option MessageRefusal) → MessageRefusal → Type 0
-IsRefusalTold rules m None refusal = refusal ≡ BindClosed
-IsRefusalTold rules m (Some None) refusal = IsTooLong (coded_text m) (reference_of rules m) × (refusal ≡ TooLong)
-IsRefusalTold rules m (Some (Some noted)) refusal = refusal ≡ noted
+abbrev pub IsRecoveredRefusal : Rules → Message → Option (Option MessageRefusal) → MessageRefusal → Type 0
+IsRecoveredRefusal rules m None refusal = refusal ≡ BindClosed
+IsRecoveredRefusal rules m (Some None) refusal = IsTooLong (coded_text m) (reference_of rules m) × (refusal ≡ TooLong)
+IsRecoveredRefusal rules m (Some (Some noted)) refusal = refusal ≡ noted
 
-abbrev pub IsResultTold : Rules → List Note → Message → ResultTold → Type 0
-IsResultTold rules notes m (result.Sent parts) = ArePartsTold rules notes m parts
-IsResultTold rules notes m (result.Refused refusal) = IsRefusalTold rules m (start_of notes m.index) refusal
+abbrev pub IsRecoveredResult : Rules → List Note → Message → MessageResult (Unit {0}) → Type 0
+IsRecoveredResult rules notes m (result.Sent parts) = AreRecoveredSegments rules notes m parts
+IsRecoveredResult rules notes m (result.Refused refusal) = IsRecoveredRefusal rules m (start_of notes m.index) refusal
 
-pub record IsTold (rules : Rules) (notes : List Note) (m : Message) (e : MessageTold) : Type 0 where
+pub record IsRecoveredEnd (rules : Rules) (notes : List Note) (m : Message) (e : MessageEnd (Unit {0})) : Type 0 where
   pub index : e.index ≡ m.index
-  pub result : IsResultTold rules notes m e.result
+  pub result : IsRecoveredResult rules notes m e.result

@@ -3,10 +3,10 @@ use Rattle.std.specs.Prelude.{◌≡◌, ◌⊎◌, ℕ, ◌+◌, ◌*◌, ◌<�
 use Rattle.std.specs.HashMap.{HashMap, get}
 use Rattle.sms_message.specs.declared.message.Message.{Message}
 use Rattle.sms_message.specs.declared.rules.Rules.{Rules}
-use Rattle.sms_journal.specs.declared.note.Call.{Call}
-use Rattle.sms_journal.specs.declared.note.Note.{Note}
-use Rattle.sms_journal.specs.declared.note.Note.TheVariants.{Begun, Sent, Unsent, Heard, Refused, End}
-use Rattle.sms_journal.specs.declared.seen.Seen.{Seen}
+use Rattle.sms_journal.specs.declared.notes.note.RequestId.{RequestId}
+use Rattle.sms_journal.specs.declared.notes.note.Note.{Note}
+use Rattle.sms_journal.specs.declared.notes.note.Note.TheVariants.{Begun, Sent, Unsent, Heard, Refused, End}
+use Rattle.sms_journal.specs.declared.notes.seen.Seen.{Seen}
 use Rattle.sms_journal.specs.Index.{AreFates}
 use Rattle.sms_journal.specs.Lawful.{HasParts, IsOver, message_of, sent_in}
 use Rattle.sms_journal.specs.Recovered.{or_else, fate_in, fate_of, first_in, start_in, start_of}
@@ -26,26 +26,26 @@ ArePlaces ms places = (i : ℕ) → IsPlace ms i (get nat_eq places i)
 -- the number of a worker's latest request
 abbrev pub latest_in : ℕ → Note → Option ℕ → Option ℕ
 latest_in worker (Begun m) kept = kept
-latest_in worker (Sent call m p) kept = if call.worker == worker then Some call.number else kept
-latest_in worker (Unsent call) kept = kept
+latest_in worker (Sent request m p) kept = if request.worker == worker then Some request.number else kept
+latest_in worker (Unsent request) kept = kept
 latest_in worker (Heard by reply) kept = kept
 latest_in worker (Refused m refusal) kept = kept
 latest_in worker (End status) kept = kept
 
 -- the latest request of a part
-abbrev pub try_in : ℕ → ℕ → Note → Option Call → Option Call
-try_in m p (Begun m') kept = kept
-try_in m p (Sent call m' p') kept = if m' == m && (p' == p) then Some call else kept
-try_in m p (Unsent call) kept = kept
-try_in m p (Heard by reply) kept = kept
-try_in m p (Refused m' refusal) kept = kept
-try_in m p (End status) kept = kept
+abbrev pub attempt_in_note : ℕ → ℕ → Note → Option RequestId → Option RequestId
+attempt_in_note m p (Begun m') kept = kept
+attempt_in_note m p (Sent request m' p') kept = if m' == m && (p' == p) then Some request else kept
+attempt_in_note m p (Unsent request) kept = kept
+attempt_in_note m p (Heard by reply) kept = kept
+attempt_in_note m p (Refused m' refusal) kept = kept
+attempt_in_note m p (End status) kept = kept
 
 -- how many parts a message has that was begun
 abbrev pub count_in : ℕ → ℕ → Note → Option ℕ → Option ℕ
 count_in count m (Begun m') kept = if m' == m then Some count else kept
-count_in count m (Sent call m' p') kept = kept
-count_in count m (Unsent call) kept = kept
+count_in count m (Sent request m' p') kept = kept
+count_in count m (Unsent request) kept = kept
 count_in count m (Heard by reply) kept = kept
 count_in count m (Refused m' refusal) kept = kept
 count_in count m (End status) kept = kept
@@ -55,46 +55,46 @@ count_in count m (End status) kept = kept
 -- it is the greatest of the worker's numbers
 pub record IsGreatest (notes : List Note) (worker number : ℕ) : Type 0 where
   pub place : ℕ
-  pub call : Call
+  pub request : RequestId
   pub message : ℕ
   pub part : ℕ
-  pub there : slice_get notes place ≡ Some (Sent call message part)
-  pub its : call.worker ≡ worker
-  pub is : call.number ≡ number
-  pub greatest : (k : ℕ) (other : Call) (m p : ℕ) → slice_get notes k ≡ Some (Sent other m p) → other.worker ≡ worker → other.number ≤ number
+  pub there : slice_get notes place ≡ Some (Sent request message part)
+  pub its : request.worker ≡ worker
+  pub is : request.number ≡ number
+  pub greatest : (k : ℕ) (other : RequestId) (m p : ℕ) → slice_get notes k ≡ Some (Sent other m p) → other.worker ≡ worker → other.number ≤ number
 
 abbrev pub IsLatest : List Note → ℕ → Option ℕ → Type 0
-IsLatest notes worker None = (k : ℕ) (call : Call) (m p : ℕ) → slice_get notes k ≡ Some (Sent call m p) → call.worker ≡ worker → ⊥
+IsLatest notes worker None = (k : ℕ) (request : RequestId) (m p : ℕ) → slice_get notes k ≡ Some (Sent request m p) → request.worker ≡ worker → ⊥
 IsLatest notes worker (Some number) = IsGreatest notes worker number
 
 -- each request of the part but this one is over
-pub record IsLast (notes : List Note) (m p : ℕ) (call : Call) : Type 0 where
+pub record IsLast (notes : List Note) (m p : ℕ) (request : RequestId) : Type 0 where
   pub place : ℕ
-  pub there : slice_get notes place ≡ Some (Sent call m p)
-  pub others : (k : ℕ) (other : Call) → slice_get notes k ≡ Some (Sent other m p) → (other ≡ call) ⊎ IsOver (fate_of notes other.worker other.number)
+  pub there : slice_get notes place ≡ Some (Sent request m p)
+  pub others : (k : ℕ) (other : RequestId) → slice_get notes k ≡ Some (Sent other m p) → (other ≡ request) ⊎ IsOver (fate_of notes other.worker other.number)
 
-abbrev pub IsLastTry : List Note → ℕ → ℕ → Option Call → Type 0
-IsLastTry notes m p None = (k : ℕ) (call : Call) → slice_get notes k ≡ Some (Sent call m p) → ⊥
-IsLastTry notes m p (Some call) = IsLast notes m p call
+abbrev pub IsLastTry : List Note → ℕ → ℕ → Option RequestId → Type 0
+IsLastTry notes m p None = (k : ℕ) (request : RequestId) → slice_get notes k ≡ Some (Sent request m p) → ⊥
+IsLastTry notes m p (Some request) = IsLast notes m p request
 
 abbrev pub IsCounted : Rules → ℕ → List Message → ℕ → Option ℕ → Type 0
 IsCounted rules accounts ms i None = ⊥
 IsCounted rules accounts ms i (Some count) = HasParts rules accounts ms i count
 
--- a worker's number and a part's are below 2^32 and 2^8, so that keys are told apart
+-- a worker's number and a part's are below 2^32 and 2^8, so that keys are distinct
 pub record Sees (rules : Rules) (accounts : ℕ) (ms : List Message) (notes : List Note) (seen : Seen) : Type 0 where
   pub starts : (i : ℕ) → get nat_eq seen.starts i ≡ start_of notes i
   pub counts : (i : ℕ) → start_of notes i ≡ Some None → IsCounted rules accounts ms i (get nat_eq seen.counts i)
   pub sent : (worker number : ℕ) → number < 4294967296 → get nat_eq seen.sent (worker * 4294967296 + number) ≡ first_in (sent_in worker number) notes
   pub fates : AreFates notes seen.fates
   pub latest : (worker : ℕ) → IsLatest notes worker (get nat_eq seen.latest worker)
-  pub tries : (m p : ℕ) → p < 256 → IsLastTry notes m p (get nat_eq seen.tries (m * 256 + p))
+  pub attempts : (m p : ℕ) → p < 256 → IsLastTry notes m p (get nat_eq seen.attempts (m * 256 + p))
 
 -- the count that is kept with the note of a message's beginning
 abbrev pub IsCountFor : Rules → ℕ → List Message → Note → ℕ → Type 0
 IsCountFor rules accounts ms (Begun i) count = HasParts rules accounts ms i count
-IsCountFor rules accounts ms (Sent call i p) count = Unit {0}
-IsCountFor rules accounts ms (Unsent call) count = Unit {0}
+IsCountFor rules accounts ms (Sent request i p) count = Unit {0}
+IsCountFor rules accounts ms (Unsent request) count = Unit {0}
 IsCountFor rules accounts ms (Heard by reply) count = Unit {0}
 IsCountFor rules accounts ms (Refused i refusal) count = Unit {0}
 IsCountFor rules accounts ms (End status) count = Unit {0}
@@ -106,4 +106,4 @@ pub record IsKept (n : Note) (count : ℕ) (old new : Seen) : Type 0 where
   pub sent : (w k : ℕ) → k < 4294967296 → get nat_eq new.sent (w * 4294967296 + k) ≡ or_else (get nat_eq old.sent (w * 4294967296 + k)) (sent_in w k n)
   pub fates : (w k : ℕ) → k < 4294967296 → get nat_eq new.fates (w * 4294967296 + k) ≡ or_else (get nat_eq old.fates (w * 4294967296 + k)) (fate_in w k n)
   pub latest : (w : ℕ) → get nat_eq new.latest w ≡ latest_in w n (get nat_eq old.latest w)
-  pub tries : (m p : ℕ) → p < 256 → get nat_eq new.tries (m * 256 + p) ≡ try_in m p n (get nat_eq old.tries (m * 256 + p))
+  pub attempts : (m p : ℕ) → p < 256 → get nat_eq new.attempts (m * 256 + p) ≡ attempt_in_note m p n (get nat_eq old.attempts (m * 256 + p))

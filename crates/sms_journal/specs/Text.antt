@@ -1,12 +1,11 @@
 -- The text of a journal: a header, and a line for each note. Lines are records of CSV, of which no field wants quotes.
 use Rattle.std.specs.Prelude.{ℕ, ◌+◌, ◌/◌, ◌%◌, ◌==◌, ◌&&◌, not, nat_le, nat_lt, Bool, List, [], ◌∷◌, ◌++◌, Option, Some, None, if◌then◌else◌, codes, decimal, flat_map}
-use Rattle.sms_message.specs.declared.ends.MessageRefusal.{MessageRefusal}
-use Rattle.sms_message.specs.declared.ends.MessageRefusal.TheVariants.{NoAccount, NoCredit, TooLong, BadAddress, BindClosed, OutOfMemory}
-use Rattle.sms_journal.specs.declared.header.Digests.{Digests}
-use Rattle.sms_journal.specs.declared.header.JournalKind.{JournalKind}
-use Rattle.sms_journal.specs.declared.header.JournalKind.TheVariants.{Run, Trial}
-use Rattle.sms_journal.specs.declared.note.Note.{Note}
-use Rattle.sms_journal.specs.declared.note.Note.TheVariants.{Begun, Sent, Unsent, Heard, Refused, End}
+use Rattle.sms_files.specs.Names.{refusal_name}
+use Rattle.sms_journal.specs.declared.text.header.Digests.{Digests}
+use Rattle.sms_journal.specs.declared.text.header.JournalKind.{JournalKind}
+use Rattle.sms_journal.specs.declared.text.header.JournalKind.TheVariants.{Run, Trial}
+use Rattle.sms_journal.specs.declared.notes.note.Note.{Note}
+use Rattle.sms_journal.specs.declared.notes.note.Note.TheVariants.{Begun, Sent, Unsent, Heard, Refused, End}
 
 -- ---- hexadecimal digits, the greater half first
 
@@ -27,15 +26,6 @@ number_field n = codes "," ++ decimal n
 abbrev pub flag : Bool → ℕ
 flag b = if b then 1 else 0
 
--- the names of the report
-abbrev pub refusal_word : MessageRefusal → List ℕ
-refusal_word NoAccount = codes "no-account"
-refusal_word NoCredit = codes "no-credit"
-refusal_word TooLong = codes "too-long"
-refusal_word BadAddress = codes "bad-address"
-refusal_word BindClosed = codes "bind-closed"
-refusal_word OutOfMemory = codes "out-of-memory"
-
 -- a message_id: visible ASCII characters but comma, quote and percent stand for themselves, and a percent with two digits for any other octet
 abbrev pub is_plain : ℕ → Bool
 is_plain c = (nat_le 0x21 c && nat_le c 0x7E) && (not (c == 0x22) && (not (c == 0x25) && not (c == 0x2C)))
@@ -51,11 +41,11 @@ id_text id = flat_map id_octet id
 -- the line of a note that was made at this time, in milliseconds since 1970 UTC
 abbrev pub note_text : ℕ → Note → List ℕ
 note_text time (Begun m) = codes "begun" ++ number_field time ++ number_field m ++ codes "\n"
-note_text time (Sent call m p) = codes "sent" ++ number_field time ++ number_field call.worker ++ number_field call.number ++ number_field m ++ number_field p ++ codes "\n"
-note_text time (Unsent call) = codes "unsent" ++ number_field time ++ number_field call.worker ++ number_field call.number ++ codes "\n"
+note_text time (Sent request m p) = codes "sent" ++ number_field time ++ number_field request.worker ++ number_field request.number ++ number_field m ++ number_field p ++ codes "\n"
+note_text time (Unsent request) = codes "unsent" ++ number_field time ++ number_field request.worker ++ number_field request.number ++ codes "\n"
 note_text time (Heard by reply) =
     codes "heard" ++ number_field time ++ number_field by ++ number_field reply.number ++ number_field reply.status ++ number_field (flag reply.nack) ++ codes "," ++ id_text reply.id ++ codes "\n"
-note_text time (Refused m refusal) = codes "refused" ++ number_field time ++ number_field m ++ codes "," ++ refusal_word refusal ++ codes "\n"
+note_text time (Refused m refusal) = codes "refused" ++ number_field time ++ number_field m ++ codes "," ++ refusal_name refusal ++ codes "\n"
 note_text time (End status) = codes "end" ++ number_field time ++ number_field status ++ codes "\n"
 
 -- a digest; nothing stands for that of a file that there isn't

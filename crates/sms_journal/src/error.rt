@@ -1,6 +1,6 @@
 //! What can be wrong with a journal.
 
-use crate::digests::RunFile;
+use crate::text::RunFile;
 use std::alloc::{AllocError, AllocFailed};
 use thiserror::Error;
 

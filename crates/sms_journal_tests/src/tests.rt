@@ -1,15 +1,14 @@
-//! Journals written by hand, and what is told of them.
+//! Journals written by hand, and what is recovered from them.
 
 mod lines;
 mod reading;
+mod recovery;
 
 use sms_book::{Opening, Tariff};
-use sms_journal::{
-    Call, JournalError, MessageTold, Note, ResultTold, check_notes, recover, rows_told,
-};
+use sms_journal::{JournalError, Note, RequestId, check_notes, recover, recovered_rows};
+use sms_message::{Message, MessageEnd, MessageRefusal, MessageResult, Outcome, Rules};
 use sms_pdu::{MessageId, Reply};
 use sms_session::Policy;
-use sms_worker::{Message, MessageRefusal, Outcome, Rules};
 use std::alloc::{AllocError, Global};
 use std::fmt::Debug;
 use std::process::Abort;
@@ -37,7 +36,7 @@ enum Row {
     End,
 }
 
-/// What is told of a message: what its one part came to, and its tries.
+/// The end of a message: the outcome of its one part, and the number of its attempts.
 #[derive(Clone, Copy, Debug, PartialEq, Eq)]
 enum Shown {
     Part(Outcome, usize),
@@ -45,7 +44,7 @@ enum Shown {
     Other,
 }
 
-/// A journal of two messages: the place of the first note that doesn't follow, and what is told.
+/// A journal of two messages: the place of the first note that doesn't follow, and the ends of both.
 struct Case {
     rows: &'static [Row],
     fault: Option<usize>,
@@ -182,8 +181,8 @@ const CASES: [Case; 15] = [
 fn note_of(row: Row) -> Note {
     match row {
         Row::Begun(message) => Note::Begun(message),
-        Row::Sent(number, message, part) => Note::Sent(call_of(number), message, part),
-        Row::Unsent(number) => Note::Unsent(call_of(number)),
+        Row::Sent(number, message, part) => Note::Sent(request_of(number), message, part),
+        Row::Unsent(number) => Note::Unsent(request_of(number)),
         Row::Heard(number, status, nack) => Note::Heard(
             7,
             Reply {
@@ -198,8 +197,8 @@ fn note_of(row: Row) -> Note {
     }
 }
 
-fn call_of(number: u32) -> Call {
-    Call { worker: 7, number }
+fn request_of(number: u32) -> RequestId {
+    RequestId { worker: 7, number }
 }
 
 fn notes_of(alloc: Global, rows: &[Row]) -> Result<Vec<Note>, AllocError> {
@@ -240,19 +239,19 @@ fn messages_of(alloc: Global) -> Result<Vec<Message>, AllocError> {
     Ok(messages)
 }
 
-fn shown_result(told: &ResultTold) -> Shown {
-    match told {
-        ResultTold::Refused(refusal) => Shown::Refused(*refusal),
-        ResultTold::Sent(parts) => match parts.as_slice() {
+fn shown_result(ended: &MessageResult<()>) -> Shown {
+    match ended {
+        MessageResult::Refused(refusal) => Shown::Refused(*refusal),
+        MessageResult::Sent(parts) => match parts.as_slice() {
             [part] => Shown::Part(part.outcome, part.attempts.as_slice().len()),
             _ => Shown::Other,
         },
     }
 }
 
-fn told_at(told: &[MessageTold], place: usize) -> Shown {
-    match told.get(place) {
-        Some(told) => shown_result(&told.result),
+fn shown_at(ends: &[MessageEnd<()>], place: usize) -> Shown {
+    match ends.get(place) {
+        Some(end) => shown_result(&end.result),
         None => Shown::Other,
     }
 }
@@ -275,14 +274,14 @@ fn check_case(
     let notes = notes_of(alloc, case.rows)?;
     let checked = check_notes(alloc, messages, rules, 1, notes.as_slice());
     same(rt, fault_of(rt, checked), case.fault);
-    let told = recover(alloc, messages, rules, notes.as_slice())?;
-    same(rt, told_at(told.as_slice(), 0), case.first);
-    same(rt, told_at(told.as_slice(), 1), case.second);
+    let ends = recover(alloc, messages, rules, notes.as_slice())?;
+    same(rt, shown_at(ends.as_slice(), 0), case.first);
+    same(rt, shown_at(ends.as_slice(), 1), case.second);
     Ok(())
 }
 
 #[test]
-fn journals_are_checked_and_told(rt: HostRuntime) -> Result<(), Fail> {
+fn journals_are_checked_and_recovered(rt: HostRuntime) -> Result<(), Fail> {
     let alloc = rt.alloc();
     let Some(rules) = rules_of(alloc) else {
         return Err("no rules".into());
@@ -331,8 +330,8 @@ fn row_after(
     rows: &[Row],
 ) -> Result<[u64; 4], Fail> {
     let notes = notes_of(alloc, rows)?;
-    let told = recover(alloc, messages, rules, notes.as_slice())?;
-    match rows_told(alloc, openings, messages, told.as_slice()) {
+    let ends = recover(alloc, messages, rules, notes.as_slice())?;
+    match recovered_rows(alloc, openings, messages, ends.as_slice()) {
         Ok(rows) => match rows.as_slice() {
             [row] => Ok([row.free, row.reserved, row.charged, row.returned]),
             _ => Err("not one row".into()),
@@ -342,7 +341,7 @@ fn row_after(
 }
 
 #[test]
-fn rows_are_the_sums_of_what_is_told(rt: HostRuntime) -> Result<(), Fail> {
+fn rows_are_the_sums_of_the_ends(rt: HostRuntime) -> Result<(), Fail> {
     let alloc = rt.alloc();
     let Some(rules) = rules_of(alloc) else {
         return Err("no rules".into());

@@ -2,11 +2,11 @@
 
 use super::same;
 use sms_journal::{
-    Call, Digests, JournalError, JournalKind, Note, RunFile, digests_of, read_notes, write_header,
-    write_note,
+    Digests, JournalError, JournalKind, Note, RequestId, RunFile, digests_of, read_notes,
+    write_header, write_note,
 };
+use sms_message::MessageRefusal;
 use sms_pdu::reply_of;
-use sms_worker::MessageRefusal;
 use std::alloc::{AllocError, Global};
 use std::process::Abort;
 use std::test::Fail;
@@ -243,14 +243,14 @@ fn what_was_written_is_read(rt: HostRuntime) -> Result<(), Fail> {
     let Some(reply) = reply_of(ANSWER) else {
         return Err("no answer".into());
     };
-    let call = Call {
+    let request = RequestId {
         worker: 7,
         number: 1,
     };
     let notes = [
         Note::Begun(3),
-        Note::Sent(call, 3, 1),
-        Note::Unsent(call),
+        Note::Sent(request, 3, 1),
+        Note::Unsent(request),
         Note::Heard(7, reply),
         Note::Refused(9, MessageRefusal::NoCredit),
         Note::End(4),

@@ -1,0 +1,43 @@
+-- What a run of notes comes to, from what its steps come to.
+use Rattle.std.proofs.Common.{◌≡◌, ◌⊎◌, ◌+◌, refl, inl, inr, ℕ, List, Option, Some, None, length}
+use Rattle.std.specs.Prelude.{option_copied, option_map}
+use Rattle.std.specs.Borrow.{Bor}
+use Rattle.std.specs.Io.KnownBytes.{Appends}
+use Rattle.std.specs.List.{AllZip}
+use Rattle.sms_core.specs.declared.row.Row.{Row}
+use Rattle.sms_book.specs.declared.opening.Opening.{Opening}
+use Rattle.sms_message.specs.declared.message.Message.{Message}
+use Rattle.sms_message.specs.declared.rules.Rules.{Rules}
+use Rattle.sms_journal.specs.declared.notes.note.Note.{Note}
+use Rattle.sms_message.specs.declared.ends.MessageEnd.{MessageEnd}
+use Rattle.sms_journal.specs.Lawful.{IsFirstFault, IsJournal}
+use Rattle.sms_journal.specs.Recovered.{IsRecoveredEnd}
+use Rattle.sms_journal.specs.Sums.{AreCovered}
+use Rattle.sms_journal.specs.Files.{IsCut, octets_read}
+use Rattle.sms_journal.specs.Recovering.{IsRecovered, Recovers, IsFaultOfNotes, IsFaultOfRecovery}
+use Rattle.sms_files.specs.Report.{report_of, ends_status}
+use Rattle.sms_journal.specs.declared.recovery.fault.RecoveryFault.{RecoveryFault}
+use Rattle.sms_journal.specs.declared.recovery.fault.RecoveryFault.TheVariants.{Journal, Overdrawn, OutOfMemory}
+
+-- a file that there may be, as its reader tells it
+pub tariff_read : (t : Option (Bor (List ℕ))) → option_map (λ x. Some x.now) t ≡ octets_read (option_copied t)
+tariff_read None = refl
+tariff_read (Some x) = refl
+
+-- the fault of a note that may not follow
+pub note_fault : (rules : Rules) (accounts : ℕ) (ms : List Message) (notes : List Note) (fault : RecoveryFault) (place : ℕ) → (fault ≡ Journal (place + 2)) ⊎ (fault ≡ OutOfMemory) → IsFirstFault rules accounts ms notes place
+    → IsFaultOfNotes rules accounts ms notes fault
+note_fault rules accounts ms notes fault place (inl ends) h = inr (place, ends, h)
+note_fault rules accounts ms notes fault place (inr memory) h = inl memory
+
+module _ (rules : Rules) (os : List Opening) (ms : List Message) (notes : List Note) (ends : List (MessageEnd (Unit {0}))) (old new : Option (List ℕ)) where
+  pub printed : (rows : List Row) → IsRecovered rules os ms notes ends rows → (status : ℕ) → Appends old new (report_of os ends rows) × (status ≡ ends_status ends) → Recovers rules os ms notes old new status
+  printed rows is status h = record { ends = ends; rows = rows; is = is; written = h.0; status_is = h.1 }
+
+  pub cut_off : (rows : List Row) → IsRecovered rules os ms notes ends rows → (fault : RecoveryFault) → IsCut (report_of os ends rows) old new fault → IsFaultOfRecovery rules os ms notes old new fault
+  cut_off rows is fault (inl memory) = inl (inl memory)
+  cut_off rows is fault (inr h) = inr (inr (h.0, record { ends = ends; rows = rows; is = is; front = h.1 }))
+
+  pub overdrawn : IsJournal rules (length os) ms notes → AllZip (IsRecoveredEnd rules notes) ms ends → (fault : RecoveryFault) → (fault ≡ OutOfMemory) ⊎ ((fault ≡ Overdrawn) × ¬ AreCovered os ms ends) → IsFaultOfRecovery rules os ms notes old new fault
+  overdrawn lawful tells fault (inl memory) = inl (inl memory)
+  overdrawn lawful tells fault (inr h) = inr (inl (h.0, record { lawful = lawful; ends = ends; tells = tells; overdrawn = h.1 }))

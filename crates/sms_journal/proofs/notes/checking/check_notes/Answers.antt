@@ -1,0 +1,34 @@
+use Rattle.std.proofs.Common.{rules, ◌≡◌, List, subst, sym, take, arith}
+use Rattle.sms_journal.specs.declared.notes.note.Note.{Note}
+use Rattle.sms_journal.specs.Lawful.{IsJournal, IsFirstFault}
+use Rattle.sms_journal.specs.Seen.{Sees}
+use Rattle.sms_journal.proofs.Lists.{got_at, some_of, take_snoc, take_whole}
+use Rattle.sms_journal.proofs.Seeing.{journal_more, sees_more}
+use Rattle.sms_journal.proofs.notes.checking.check_notes.Goals as goal
+
+pub loop-place-preserved : goal.loop-place-preserved
+loop-place-preserved c =
+    let there = got_at c.args.notes.now c.loop-place.place c.index-notes-place.result (omega arith) c.index-notes-place.is in
+    let front = take c.loop-place.place c.args.notes.now in
+    let more = take_snoc c.args.notes.now c.loop-place.place c.index-notes-place.result there in
+    let may = some_of _ c.in_ok-found.found c.in-Some.count c.in-Some.is c.in_ok-found.ensures.admitted front c.loop-place.invariant.sees in
+    let counts = some_of _ c.in_ok-found.found c.in-Some.count c.in-Some.is c.in_ok-found.ensures.count in
+    record {
+      sees = subst (λ (l : List Note). Sees c.args.rules.now c.args.accounts c.args.messages.now l c.keep.new.seen) (sym more)
+          (sees_more c.args.rules.now c.args.accounts c.args.messages.now front c.index-notes-place.result c.in-Some.count c.loop-place.seen c.keep.new.seen c.in_ok-keep.ensures c.loop-place.invariant.sees may counts);
+      journal = subst (λ (l : List Note). IsJournal c.args.rules.now c.args.accounts c.args.messages.now l) (sym more)
+          (journal_more c.args.rules.now c.args.accounts c.args.messages.now front c.index-notes-place.result c.loop-place.invariant.journal may);
+    }
+
+pub returns-in_default-clause-faulty : goal.returns-in_default-clause-faulty
+returns-in_default-clause-faulty c = λ k is.
+    let there = got_at c.args.notes.now c.loop-place.place c.index-notes-place.result (omega arith) c.index-notes-place.is in
+    let same : c.loop-place.place ≡ k = cc in
+    subst (IsFirstFault c.args.rules.now c.args.accounts c.args.messages.now c.args.notes.now) same
+    (record { front = c.loop-place.invariant.journal; note = c.index-notes-place.result; there = there; refused = c.in_ok-found.ensures.refused (search rules) (take c.loop-place.place c.args.notes.now) c.loop-place.invariant.sees })
+
+pub returns-clause-lawful : goal.returns-clause-lawful
+returns-clause-lawful c = subst (λ (l : List Note). IsJournal c.args.rules.now c.args.accounts c.args.messages.now l) (take_whole c.args.notes.now c.loop-place.place (omega arith)) c.loop-place.invariant.journal
+
+pub loop-place-init : goal.loop-place-init
+loop-place-init c = record { sees = c.nothing_seen-seen.ensures c.args.rules.now c.args.accounts c.args.messages.now; journal = λ k n there. absurd (cc) }

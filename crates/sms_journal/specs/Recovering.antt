@@ -1,0 +1,118 @@
+-- What is recovered from a run's journal.
+use Rattle.std.specs.Prelude.{◌≡◌, ◌⊎◌, ℕ, ◌+◌, Bool, true, false, List, Option, Some, length, slice_get}
+use Rattle.std.specs.Io.KnownBytes.{Appends}
+use Rattle.std.specs.List.{AllZip}
+use Rattle.sms_core.specs.declared.row.Row.{Row}
+use Rattle.sms_core.specs.Rows.{IsBalanced}
+use Rattle.sms_book.specs.declared.opening.Opening.{Opening}
+use Rattle.sms_message.specs.declared.message.Message.{Message}
+use Rattle.sms_message.specs.declared.rules.Rules.{Rules}
+use Rattle.sms_files.specs.declared.input.Input.{Input as TheInput}
+use Rattle.sms_journal.specs.declared.text.digests.RunFile.{RunFile}
+use Rattle.sms_journal.specs.declared.text.header.Digests.{Digests}
+use Rattle.sms_journal.specs.declared.text.header.JournalKind.{JournalKind}
+use Rattle.sms_journal.specs.declared.text.header.JournalKind.TheVariants.{Trial}
+use Rattle.sms_journal.specs.declared.notes.note.Note.{Note}
+use Rattle.sms_message.specs.declared.ends.MessageEnd.{MessageEnd}
+use Rattle.sms_journal.specs.Digests.{digests_of}
+use Rattle.sms_journal.specs.Lawful.{IsFirstFault, IsJournal}
+use Rattle.sms_journal.specs.Lines.{IsBadRecord, IsJournalText, IsOfOthers}
+use Rattle.sms_journal.specs.Recovered.{IsRecoveredEnd}
+use Rattle.sms_journal.specs.Sums.{AreCovered, recovered_row}
+use Rattle.sms_files.specs.Output.{WritesFront}
+use Rattle.sms_journal.specs.Files.{Reads, IsFaultOfFiles}
+use Rattle.sms_files.specs.Report.{report_of, ends_status}
+use Rattle.sms_files.specs.RunRules.{IsRulesOf}
+use Rattle.sms_journal.specs.declared.recovery.fault.RecoveryFault.{RecoveryFault}
+use Rattle.sms_journal.specs.Faults.{output_failed}
+use Rattle.sms_journal.specs.declared.recovery.fault.RecoveryFault.TheVariants as variants
+use Rattle.sms_journal.specs.declared.recovery.fault.RecoveryFault.TheVariants.{Journal, OtherFiles, Overdrawn, OutOfMemory}
+use Rattle.sms_journal.specs.declared.recovery.recovering.Recovered.{Recovered}
+
+-- a row for each account, over the ends of the messages, and it balances
+pub record AreRecoveredRows (openings : List Opening) (ms : List Message) (ends : List (MessageEnd (Unit {0}))) (rows : List Row) : Type 0 where
+  pub count : length rows ≡ length openings
+  pub each : (i : ℕ) (row : Row) → slice_get rows i ≡ Some row → (o : Opening) → slice_get openings i ≡ Some o → row ≡ recovered_row o.credits i ms ends
+  pub balanced : (i : ℕ) (row : Row) → slice_get rows i ≡ Some row → IsBalanced row
+
+-- what a run of these messages would have reported that can have noted this, if all its lines had gone down then
+pub record IsRecovered (rules : Rules) (openings : List Opening) (ms : List Message) (notes : List Note) (ends : List (MessageEnd (Unit {0}))) (rows : List Row) : Type 0 where
+  pub lawful : IsJournal rules (length openings) ms notes
+  pub tells : AllZip (IsRecoveredEnd rules notes) ms ends
+  pub rows_are : AreRecoveredRows openings ms ends rows
+
+-- the report of that was written, and nothing else, and the status is by it
+pub record Recovers (rules : Rules) (openings : List Opening) (ms : List Message) (notes : List Note) (old new : Option (List ℕ)) (status : ℕ) : Type 0 where
+  pub ends : List (MessageEnd (Unit {0}))
+  pub rows : List Row
+  pub is : IsRecovered rules openings ms notes ends rows
+  pub written : Appends old new (report_of openings ends rows)
+  pub status_is : status ≡ ends_status ends
+
+-- the notes are not those of a run: the first that isn't stands in this record, behind the header
+abbrev pub IsFaultOfNotes : Rules → ℕ → List Message → List Note → RecoveryFault → Type 0
+IsFaultOfNotes rules accounts ms notes fault = (fault ≡ OutOfMemory) ⊎ ((k : ℕ) × (fault ≡ Journal (k + 2)) × IsFirstFault rules accounts ms notes k)
+
+-- the ends that they say are not covered by the accounts
+pub record IsOverdrawn (rules : Rules) (openings : List Opening) (ms : List Message) (notes : List Note) : Type 0 where
+  pub lawful : IsJournal rules (length openings) ms notes
+  pub ends : List (MessageEnd (Unit {0}))
+  pub tells : AllZip (IsRecoveredEnd rules notes) ms ends
+  pub overdrawn : ¬ AreCovered openings ms ends
+
+-- the output failed behind a front of the report
+pub record IsCutOff (rules : Rules) (openings : List Opening) (ms : List Message) (notes : List Note) (old new : Option (List ℕ)) : Type 0 where
+  pub ends : List (MessageEnd (Unit {0}))
+  pub rows : List Row
+  pub is : IsRecovered rules openings ms notes ends rows
+  pub front : WritesFront old new (report_of openings ends rows)
+
+-- what a fault says of notes
+abbrev pub IsFaultOfRecovery : Rules → List Opening → List Message → List Note → Option (List ℕ) → Option (List ℕ) → RecoveryFault → Type 0
+IsFaultOfRecovery rules openings ms notes old new fault =
+    IsFaultOfNotes rules (length openings) ms notes fault
+    ⊎ ((fault ≡ Overdrawn) × IsOverdrawn rules openings ms notes)
+    ⊎ ((fault ≡ output_failed) × IsCutOff rules openings ms notes old new)
+
+-- ---- of an input
+
+-- the rules are those of the input
+pub record RecoversInput (input : TheInput) (notes : List Note) (old new : Option (List ℕ)) (status : ℕ) : Type 0 where
+  pub rules : Rules
+  pub says : IsRulesOf input.config.retry input.config.limits input.config.flags input.tariff 0 rules
+  pub recovers : Recovers rules input.openings.items input.messages.items notes old new status
+
+pub record IsFaultOfInput (input : TheInput) (notes : List Note) (old new : Option (List ℕ)) (fault : RecoveryFault) : Type 0 where
+  pub rules : Rules
+  pub says : IsRulesOf input.config.retry input.config.limits input.config.flags input.tariff 0 rules
+  pub tells : IsFaultOfRecovery rules input.openings.items input.messages.items notes old new fault
+
+-- ---- of a journal
+
+-- a journal of this kind is taken: that of a trial only where it is asked for
+abbrev pub IsTaken : Bool → JournalKind → Type 0
+IsTaken trial kind = kind ≡ Trial → trial ≡ true
+
+-- why the journal's text is refused: its first faulty record is this, or it is of other files, or it is the journal of a trial, which wasn't asked for
+abbrev pub IsFaultOfText : Digests → Bool → List ℕ → RecoveryFault → Type 0
+IsFaultOfText digests trial journal fault =
+    (fault ≡ OutOfMemory)
+    ⊎ ((k : ℕ) × (fault ≡ Journal k) × IsBadRecord digests journal k)
+    ⊎ ((file : RunFile) × (fault ≡ OtherFiles file) × IsOfOthers digests journal file)
+    ⊎ ((fault ≡ variants.Trial) × (trial ≡ false) × (notes : List Note) × IsJournalText digests journal Trial notes)
+
+-- the input was read, and the journal of a run of files with these digests, or of a trial, and what it tells was written
+pub record RecoversJournal (config accounts messages : List ℕ) (tariff : Option (List ℕ)) (journal : List ℕ) (trial : Bool) (old new : Option (List ℕ)) (recovered : Recovered) : Type 0 where
+  pub input : TheInput
+  pub read : Reads config accounts messages tariff input
+  pub notes : List Note
+  pub text : IsJournalText (digests_of config accounts messages tariff) journal recovered.kind notes
+  pub taken : IsTaken trial recovered.kind
+  pub recovers : RecoversInput input notes old new recovered.status
+
+-- what a fault says: it is of the input, of the journal's text, or of its notes
+abbrev pub IsFaultOfJournal : List ℕ → List ℕ → List ℕ → Option (List ℕ) → List ℕ → Bool → Option (List ℕ) → Option (List ℕ) → RecoveryFault → Type 0
+IsFaultOfJournal config accounts messages tariff journal trial old new fault =
+    IsFaultOfFiles config accounts messages tariff fault
+    ⊎ ((input : TheInput) × Reads config accounts messages tariff input × IsFaultOfText (digests_of config accounts messages tariff) trial journal fault)
+    ⊎ ((input : TheInput) × Reads config accounts messages tariff input × (kind : JournalKind) × IsTaken trial kind × (notes : List Note) × IsJournalText (digests_of config accounts messages tariff) journal kind notes × IsFaultOfInput input notes old new fault)

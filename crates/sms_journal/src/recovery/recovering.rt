@@ -1,0 +1,120 @@
+//! The report of a run, from its files and its journal.
+
+ghost use Rattle.std.specs.Prelude.{◌≡◌, ◌≢◌, IfErr, IfOk, option_copied};
+ghost use Rattle.sms_journal.specs.Digests.{digests_of as of_files};
+ghost use Rattle.sms_journal.specs.Lines.{IsJournalText};
+ghost use Rattle.sms_journal.specs.Recovering.{IsTaken, RecoversInput, RecoversJournal, IsFaultOfInput, IsFaultOfJournal, IsFaultOfText};
+ghost use Rattle.sms_journal.specs.Faults.{output_failed};
+
+use crate::error::JournalError;
+use crate::notes::Note;
+use crate::recovery::fault::RecoveryFault;
+use crate::recovery::files::input_of;
+use crate::recovery::journaled::recover_notes;
+use crate::text::{JournalKind, JournalNotes, digests_of, read_notes};
+use sms_files::{Config, Input, rules_of};
+use std::alloc::Global;
+use std::io::Write;
+
+/// What was recovered.
+#[derive(Clone, Copy, Debug, PartialEq, Eq)]
+pub struct Recovered {
+    /// The exit status that the run would have had.
+    pub status: u8,
+    pub kind: JournalKind,
+}
+
+/// The notes of a run of these files, or of a trial where `trial` allows one.
+fn notes_in(
+    alloc: Global,
+    config: &[u8],
+    accounts: &[u8],
+    messages: &[u8],
+    tariff: Option<&[u8]>,
+    journal: &[u8],
+    trial: bool,
+) -> Result<JournalNotes, RecoveryFault>
+    ensures notes { IfOk result (λ read. IsJournalText (of_files config.now accounts.now messages.now (option_copied tariff.entry)) journal.now read.kind read.notes.items × IsTaken trial read.kind) }
+    ensures refused { IfErr result (IsFaultOfText (of_files config.now accounts.now messages.now (option_copied tariff.entry)) trial journal.now) }
+{
+    let digests = digests_of(config, accounts, messages, tariff);
+    match read_notes(alloc, journal, &digests) {
+        Ok(read) => {
+            if read.kind == JournalKind::Trial && !trial {
+                return Err(RecoveryFault::Trial);
+            }
+            Ok(read)
+        }
+        Err(JournalError::BadRecord(record)) => Err(RecoveryFault::Journal(record)),
+        Err(JournalError::OtherFiles(file)) => Err(RecoveryFault::OtherFiles(file)),
+        Err(_) => Err(RecoveryFault::OutOfMemory),
+    }
+}
+
+/// Prints what a run of this input would have reported if every connection had dropped just after the last
+/// of these notes, and returns its exit status.
+fn recover_input<W: Write>(
+    alloc: Global,
+    input: Input,
+    notes: &[Note],
+    output: &mut W,
+) -> Result<u8, RecoveryFault>
+    ensures recovered { IfOk result (RecoversInput input notes.now (W.contents output.old) (W.contents output.new)) }
+    ensures refused { IfErr result (IsFaultOfInput input notes.now (W.contents output.old) (W.contents output.new)) }
+    ensures quiet { IfErr result (λ fault. fault ≢ output_failed → output.new ≡ output.old) }
+{
+    let (config, openings, messages, tariff) = input.into_parts();
+    let Config {
+        limits,
+        retry,
+        flags,
+        ..
+    } = config;
+    let rules = rules_of(retry, limits, flags, tariff, 0);
+    recover_notes(
+        alloc,
+        &rules,
+        openings.as_slice(),
+        messages.as_slice(),
+        notes,
+        output,
+    )
+}
+
+/// Prints the report that the run of these files would have printed if every connection had dropped just after
+/// the last complete record of its journal, and returns the exit status that it would have had: 4 where a part
+/// is unanswered, else 0. The report is formed whole before its first octet is written. The journal of a trial
+/// is refused unless `trial` allows it.
+pub fn run_recover<W: Write>(
+    alloc: Global,
+    config: &[u8],
+    accounts: &[u8],
+    messages: &[u8],
+    tariff: Option<&[u8]>,
+    journal: &[u8],
+    trial: bool,
+    output: &mut W,
+) -> Result<Recovered, RecoveryFault>
+    ensures recovered { IfOk result (RecoversJournal config.now accounts.now messages.now (option_copied tariff.entry) journal.now trial (W.contents output.old) (W.contents output.new)) }
+    ensures refused { IfErr result (IsFaultOfJournal config.now accounts.now messages.now (option_copied tariff.entry) journal.now trial (W.contents output.old) (W.contents output.new)) }
+    ensures quiet { IfErr result (λ fault. fault ≢ output_failed → output.new ≡ output.old) }
+{
+    let input = match input_of(alloc, config, accounts, messages, tariff) {
+        Ok(input) => input,
+        Err(fault) => return Err(fault),
+    };
+    let read = match notes_in(alloc, config, accounts, messages, tariff, journal, trial) {
+        Ok(read) => read,
+        Err(fault) => {
+            drop(input);
+            return Err(fault);
+        }
+    };
+    match recover_input(alloc, input, read.notes.as_slice(), output) {
+        Ok(status) => Ok(Recovered {
+            status,
+            kind: read.kind,
+        }),
+        Err(fault) => Err(fault),
+    }
+}

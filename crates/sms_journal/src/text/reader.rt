@@ -1,0 +1,140 @@
+//! A journal read: its header, and the notes of its lines.
+
+ghost use Rattle.std.specs.Prelude.{◌≡◌, ◌<◌, IfErr, IfOk, IfSome, MatchOption, false, length};
+ghost use Rattle.sms_journal.specs.Lines.{AreFaultyLines, AreNotes, IsFaultyText, IsJournalText, IsRead, IsTruncated, IsUnbegun, feed_at as first_feed};
+ghost use Rattle.sms_journal.specs.declared.text.header.JournalKind.{JournalKind as TheKind};
+
+use crate::error::JournalError;
+use crate::notes::Note;
+use crate::text::digests::first_difference;
+use crate::text::header::{Digests, JournalKind, write_header};
+use crate::text::header_fields::{behind, read_head};
+use crate::text::note_fields::{note_in, time_in};
+use crate::text::note_line::write_note;
+use std::alloc::{AllocError, Global};
+
+/// Where the first line feed stands.
+fn feed_at(text: &[u8]) -> Option<usize>
+    ensures place { result ≡ first_feed text.now }
+    ensures within { IfSome result (λ at. at < length text.now) }
+{
+    text.iter().position(|octet| *octet == b'\n')
+}
+
+/// The note whose line this is, if it is one. What was read is written again and compared.
+fn read_line(
+    written: &mut String,
+    room: &mut Vec<u8>,
+    line: &[u8],
+) -> Result<Option<Note>, AllocError>
+    ensures { IfOk result (IsRead line.now) }
+{
+    let Some(time) = time_in(line) else {
+        return Ok(None);
+    };
+    let Some(note) = note_in(room, line)? else {
+        return Ok(None);
+    };
+    written.clear();
+    write_note(written, time, &note)?;
+    if written.as_bytes() == line {
+        Ok(Some(note))
+    } else {
+        Ok(None)
+    }
+}
+
+/// The notes of the lines behind the header.
+fn read_lines(alloc: Global, text: &[u8]) -> Result<Vec<Note>, JournalError>
+    ensures notes { IfOk result (λ notes. AreNotes text.now notes.items) }
+    ensures faulty { IfErr result (AreFaultyLines text.now) }
+{
+    let mut notes = Vec::new(alloc);
+    let mut written = String::new(alloc);
+    let mut room = Vec::new(alloc);
+    let mut left = text;
+    while let Some(at) = feed_at(left) {
+        let (line, rest) = left.split_at(at + 1);
+        let Some(note) = read_line(&mut written, &mut room, line)? else {
+            return Err(JournalError::BadRecord(notes.len() + 2));
+        };
+        notes.push(note)?;
+        left = rest;
+    }
+    Ok(notes)
+}
+
+/// A journal read.
+#[derive(Drop)]
+pub struct JournalNotes {
+    pub kind: JournalKind,
+    pub notes: Vec<Note>,
+}
+
+/// The notes after a header of this kind.
+fn notes_after(alloc: Global, kind: JournalKind, text: &[u8]) -> Result<JournalNotes, JournalError>
+    ensures notes { IfOk result (λ read. (read.kind ≡ kind) × AreNotes text.now read.notes.items) }
+    ensures faulty { IfErr result (AreFaultyLines text.now) }
+{
+    let notes = read_lines(alloc, text)?;
+    Ok(JournalNotes { kind, notes })
+}
+
+/// Whether the text is a truncated header of this kind.
+fn is_truncated(
+    header: &mut String,
+    kind: JournalKind,
+    digests: &Digests,
+    text: &[u8],
+) -> Result<bool, AllocError>
+    ensures { IfOk result (IsTruncated kind digests.now text.now) }
+{
+    header.clear();
+    write_header(header, kind, digests)?;
+    Ok(behind(header.as_bytes(), text).is_some())
+}
+
+/// The kind of a journal whose header is truncated.
+fn truncated_kind(
+    header: &mut String,
+    digests: &Digests,
+    text: &[u8],
+) -> Result<Option<JournalKind>, AllocError>
+    ensures { IfOk result (λ read. MatchOption read ((kind : TheKind) → IsTruncated kind digests.now text.now false) (λ kind. IsUnbegun kind digests.now text.now)) }
+{
+    if is_truncated(header, JournalKind::Run, digests, text)? {
+        return Ok(Some(JournalKind::Run));
+    }
+    if is_truncated(header, JournalKind::Trial, digests, text)? {
+        return Ok(Some(JournalKind::Trial));
+    }
+    Ok(None)
+}
+
+/// The notes of a journal of the files with these digests, in order. Octets after the last line feed are a
+/// truncated line and don't count. A truncated header is a journal without notes: its run ended before it
+/// noted anything. An empty text is the journal of a run. `OtherFiles` is for a text that begins with the
+/// header of other files, `BadRecord` for the first record that `write_header` or `write_note` doesn't write.
+pub fn read_notes(
+    alloc: Global,
+    text: &[u8],
+    digests: &Digests,
+) -> Result<JournalNotes, JournalError>
+    ensures notes { IfOk result (λ read. IsJournalText digests.now text.now read.kind read.notes.items) }
+    ensures faulty { IfErr result (IsFaultyText digests.now text.now) }
+{
+    let mut header = String::new(alloc);
+    if let Some(head) = read_head(&mut header, text)? {
+        return match first_difference(&head.digests, digests) {
+            Some(file) => Err(JournalError::OtherFiles(file)),
+            None => notes_after(alloc, head.kind, head.rest),
+        };
+    }
+    match truncated_kind(&mut header, digests, text)? {
+        Some(kind) => Ok(JournalNotes {
+            kind,
+            notes: Vec::new(alloc),
+        }),
+        None => Err(JournalError::BadRecord(1)),
+    }
+}

@@ -1,0 +1,6 @@
+//! What is recovered and what is left, worked out by hand.
+
+mod fault_text;
+mod recover;
+mod rest;
+mod same;

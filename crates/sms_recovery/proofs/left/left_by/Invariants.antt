@@ -1,8 +1,0 @@
-use Rattle.std.proofs.Common.{◌<◌, ℕ}
-use Rattle.std.specs.Prelude.{slice_get}
-use Rattle.csv.specs.Records.{fields_of}
-use Rattle.sms_recovery.proofs.Lefts.{HasFlag}
-use Rattle.sms_recovery.proofs.left.left_by.Given as goal
-
-abbrev pub invariant-loop-record : goal.invariant-loop-record
-invariant-loop-record l = (i : ℕ) → i < l.fn.count → HasFlag fields_of l.report l.record-index i (slice_get l.left.items i)

@@ -1,5 +1,0 @@
-use Rattle.std.proofs.Common.{inr}
-use Rattle.sms_recovery.proofs.rest.read_report.Goals as goal
-
-pub returns-in-Err-report_of-clause-refused : goal.returns-in-Err-report_of-clause-refused
-returns-in-Err-report_of-clause-refused c = inr (c.in-Ok.input, c.in-Ok.ensures.read, c.in-Err-report_of.ensures.refused)

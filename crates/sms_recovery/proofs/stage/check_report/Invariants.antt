@@ -1,8 +1,0 @@
-use Rattle.std.proofs.Common.{◌≡◌, map, take, Some}
-use Rattle.csv.specs.Records.{fields_of}
-use Rattle.sms_recovery.specs.declared.stage.Stage.TheVariants.{Start}
-use Rattle.sms_recovery.specs.Stages.{after}
-use Rattle.sms_recovery.proofs.stage.check_report.Given as goal
-
-abbrev pub invariant-loop-place : goal.invariant-loop-place
-invariant-loop-place l = after l.counts l.openings Start (take l.place (map fields_of l.records)) ≡ Some l.stage
