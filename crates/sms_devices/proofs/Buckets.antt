@@ -3,7 +3,7 @@ use Rattle.std.proofs.Common.{◌≡◌, ℕ, ◌+◌, ◌-◌, ◌*◌, ◌/◌
 use Rattle.std.proofs.Math.Nat.{add-mul, mul-le-mul_right}
 use Rattle.std.proofs.lemmas.Bool.{ltb-true}
 use Rattle.std.specs.Prelude.{if◌then◌else◌}
-use Rattle.sms_devices.specs.declared.bucket.Bucket.{Bucket}
+use Rattle.sms_devices.specs.declared.gate.bucket.Bucket.{Bucket}
 use Rattle.sms_devices.specs.Buckets.Asked.{Lend, Send, GiveBack}
 use Rattle.sms_devices.specs.Buckets.{Asked, after, after_all, can_lend, given_back, level_at, new_bucket, room_for, sends, sends_at, sent_at}
 

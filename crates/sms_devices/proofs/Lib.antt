@@ -1,6 +1,6 @@
 pub mod Words
-pub mod Passing
-pub mod Looking
+pub mod FrameEvents
+pub mod Scanning
 pub mod Woken
 pub mod Buckets
 pub mod Stops

@@ -2,7 +2,7 @@
 use Rattle.std.proofs.Common.{◌≡◌, ℕ, ◌+◌, ◌-◌, ◌^◌, ◌<◌, ◌≤◌, max, min, ap, ◌∙◌, arith}
 use Rattle.std.specs.Prelude.{if◌then◌else◌}
 use Rattle.std.proofs.lemmas.Bool.{le-ltb, lt-ltb}
-use Rattle.sms_devices.specs.declared.steady.Steady.{Steady}
+use Rattle.sms_devices.specs.declared.clock.steady.Steady.{Steady}
 use Rattle.sms_devices.specs.Steady.{passed_to, read_at, stood_at}
 
 still : (shown at later top : ℕ) → shown ≤ top → later ≤ at + 300 → later ≤ top → min (shown + (later - max at (min (at + 300) top))) top ≡ shown

@@ -1,12 +1,12 @@
--- Whom what passed wakes, and nobody else.
+-- Whom an event wakes, and nobody else.
 use Rattle.std.proofs.Common.{◌≡◌, ℕ, ◌⊎◌, Bool, true, false, cond, ltb, List, [], ◌∷◌, ◌++◌, length, get_or, set, refl, sym, ap, subst, ◌∙◌, inl, inr, arith}
 use Rattle.std.proofs.lemmas.Bool.{lt-ltb}
 use Rattle.std.proofs.lemmas.Bool.Decides.{eqb_tells}
 use Rattle.std.proofs.lemmas.List.{get_or-set_other, get_or-set_same, length-set}
-use Rattle.sms_devices.specs.declared.headers.Passed.{Passed}
-use Rattle.sms_devices.specs.declared.wakes.Wake.{Wake}
-use Rattle.sms_devices.specs.declared.wakes.Wake.TheVariants.{Nobody, Worker, All}
-use Rattle.sms_devices.specs.declared.wakes.Wakes.{Wakes}
+use Rattle.sms_devices.specs.declared.waking.headers.FrameEvent.{FrameEvent}
+use Rattle.sms_devices.specs.declared.waking.wakes.Wake.{Wake}
+use Rattle.sms_devices.specs.declared.waking.wakes.Wake.TheVariants.{Nobody, Worker, All}
+use Rattle.sms_devices.specs.declared.waking.wakes.Wakes.{Wakes}
 use Rattle.sms_devices.specs.Wakes.{Concerns, Includes, Woke, and_this, wake_for}
 
 -- who is to be woken, with a worker who has a bell
@@ -74,22 +74,22 @@ others w (Worker k) x h =
 
 -- ---- all that pass
 
-pub all_kept : (ps : List Passed) (old new : Wakes) (x : Wake) → length old.workers ≡ 32 → Woke ps old new → Includes old x → Includes new x
+pub all_kept : (ps : List FrameEvent) (old new : Wakes) (x : Wake) → length old.workers ≡ 32 → Woke ps old new → Includes old x → Includes new x
 all_kept [] old new x n h k = subst (λ w. Includes w x) (sym h) k
 all_kept (p ∷ ps) old new x n h k =
     all_kept ps (and_this old (wake_for p h.0)) new x (length_kept old (wake_for p h.0) n) h.1 (kept old (wake_for p h.0) x n k)
 
-pub each_told : (ps qs : List Passed) (p : Passed) (old new : Wakes) → length old.workers ≡ 32 → Woke (ps ++ p ∷ qs) old new → (word : ℕ) × Includes new (wake_for p word)
-each_told [] qs p old new n h =
+pub each_woken : (ps qs : List FrameEvent) (p : FrameEvent) (old new : Wakes) → length old.workers ≡ 32 → Woke (ps ++ p ∷ qs) old new → (word : ℕ) × Includes new (wake_for p word)
+each_woken [] qs p old new n h =
     (h.0, all_kept qs (and_this old (wake_for p h.0)) new (wake_for p h.0) (length_kept old (wake_for p h.0) n) h.1 (this old (wake_for p h.0) n))
-each_told (q ∷ ps) qs p old new n h = each_told ps qs p (and_this old (wake_for q h.0)) new (length_kept old (wake_for q h.0) n) h.1
+each_woken (q ∷ ps) qs p old new n h = each_woken ps qs p (and_this old (wake_for q h.0)) new (length_kept old (wake_for q h.0) n) h.1
 
 -- whom one of the others concerns
-concerns_more : (p : Passed) (ps : List Passed) (x : Wake) → Concerns ps x → Concerns (p ∷ ps) x
+concerns_more : (p : FrameEvent) (ps : List FrameEvent) (x : Wake) → Concerns ps x → Concerns (p ∷ ps) x
 concerns_more p ps x h =
     record { before = p ∷ h.before; one = h.one; after = h.after; word = h.word; among = ap (λ l. p ∷ l) h.among; whom = h.whom }
 
-pub none_else : (ps : List Passed) (old new : Wakes) (x : Wake) → Woke ps old new → Includes new x → Includes old x ⊎ Concerns ps x
+pub none_else : (ps : List FrameEvent) (old new : Wakes) (x : Wake) → Woke ps old new → Includes new x → Includes old x ⊎ Concerns ps x
 none_else [] old new x h k = inl (subst (λ w. Includes w x) h k)
 none_else (p ∷ ps) old new x h k =
     elim (none_else ps (and_this old (wake_for p h.0)) new x h.1 k) [

@@ -1,12 +1,12 @@
--- How many requests may be sent, where at most so many are sent in any second. A level counts 1,010ths of a request; times are in milliseconds.
+-- A bucket that limits the requests in any second. A level counts 1,010ths of a request; times are in milliseconds.
 use Rattle.std.specs.Prelude.{ℕ, Bool, List, [], ◌∷◌, ◌+◌, ◌*◌, ◌-◌, ◌/◌, max, min, nat_lt, if◌then◌else◌}
-use Rattle.sms_devices.specs.declared.bucket.Bucket.{Bucket}
+use Rattle.sms_devices.specs.declared.gate.bucket.Bucket.{Bucket}
 
--- of so many requests in a second, how many there is room for: those of a fiftieth of a second, and one at least
+-- how many requests may be saved up, if at most `most` are sent in a second: those of a fiftieth of a second, but at least one
 abbrev pub room_for : ℕ → ℕ
 room_for most = max (most / 50) 1
 
--- a full bucket, for at most so many requests in a second: what there is room for, and what comes in 1,010 ms, are together one more
+-- a full bucket, for at most `most` requests in a second: what may be saved up, and what comes in 1,010 ms, are together one more
 abbrev pub new_bucket : ℕ → ℕ → Bucket
 new_bucket most now = record {
   rate = most - room_for most + 1;
@@ -16,30 +16,30 @@ new_bucket most now = record {
   lent = 0;
 }
 
--- what is there at a time: what was there, and what came since by the rate, as far as there is room
+-- the level at a time: what was there, and what came since at the rate, up to the depth
 abbrev pub level_at : Bucket → ℕ → ℕ
 level_at b now = min (b.depth * 1010) (b.level + (now - b.at_ms) * b.rate)
 
--- there is a request's worth for which nobody has leave
+-- there is a request's worth for which no permit is given out
 abbrev pub can_lend : Bucket → ℕ → Bool
 can_lend b now = nat_lt b.lent (level_at b now / 1010)
 
--- leave for one more request is given, where there is one
+-- one more permit is given, if there is one
 abbrev pub lent_at : Bucket → ℕ → Bucket
 lent_at b now =
     if can_lend b now
     then record b { level = level_at b now; at_ms = max b.at_ms now; lent = b.lent + 1 }
     else b
 
--- a request that has leave is sent
+-- a request with a permit is sent
 abbrev pub sent_at : Bucket → ℕ → Bucket
 sent_at b now = record b { level = level_at b now - 1010; at_ms = max b.at_ms now; lent = b.lent - 1 }
 
--- a leave is given back
+-- a permit comes back unused
 abbrev pub given_back : Bucket → Bucket
 given_back b = record b { lent = b.lent - 1 }
 
--- what is asked of a bucket: leave at a time; that a request is sent at a time, where one has leave; that a leave isn't used
+-- what is asked of a bucket: a permit at a time; to send a request at a time, if one has a permit; to take a permit back
 pub data Asked : Type 0 where
   Lend : (now : ℕ) → Asked
   Send : (now : ℕ) → Asked

@@ -4,19 +4,19 @@ use Rattle.std.specs.Io.KnownBytes.{Appends}
 use Rattle.std.specs.String.{string_bytes}
 use Rattle.std.specs.declared.io.ErrorKind.{ErrorKind}
 use Rattle.std.specs.declared.io.ErrorKind.TheVariants as kind
-use Rattle.sms_journal.specs.declared.note.Note.{Note}
-use Rattle.sms_journal.specs.declared.note.Note.TheVariants.{End, Sent}
+use Rattle.sms_journal.specs.declared.notes.note.Note.{Note}
+use Rattle.sms_journal.specs.declared.notes.note.Note.TheVariants.{End, Sent}
 use Rattle.sms_journal.specs.Lines.{IsU64}
 use Rattle.sms_journal.specs.Text.{note_text}
-use Rattle.sms_devices.specs.declared.journal.Pages.{Pages}
-use Rattle.sms_devices.specs.declared.journal_failure.JournalFailure.{JournalFailure}
-use Rattle.sms_devices.specs.declared.journal_failure.JournalFailure.TheVariants as why
+use Rattle.sms_devices.specs.declared.journal.pages.Pages.{Pages}
+use Rattle.sms_devices.specs.declared.journal.failure.JournalFailure.{JournalFailure}
+use Rattle.sms_devices.specs.declared.journal.failure.JournalFailure.TheVariants as why
 
--- what was noted and isn't written yet
+-- the notes that aren't written yet
 abbrev pub waiting_lines : {F : Type 0} → Pages F → List ℕ
 waiting_lines pages = string_bytes pages.waiting
 
--- a file was given lines, of which the last is the note that a run has ended with this status
+-- a file was given lines, and the last is the note that a run has ended with this status
 pub record HasEnded {F : Type 0} (contents : F → Option (List ℕ)) (status : ℕ) (file : F) : Type 0 where
   pub before : F
   pub lines : List ℕ
@@ -24,11 +24,11 @@ pub record HasEnded {F : Type 0} (contents : F → Option (List ℕ)) (status : 
   pub small : IsU64 time
   pub given : Appends (contents before) (contents file) (lines ++ note_text time (End status))
 
--- the request of a worker for a part of a message, which goes by its place among the parts
+-- the note of a worker's request for the part at this place of a message; parts are counted from 1
 abbrev pub request_note : ℕ → ℕ → ℕ → ℕ → Note
 request_note worker number message place = Sent (record { worker = worker; number = number }) message (place + 1)
 
--- a note has room for the numbers of a worker and of a part
+-- a note can hold the numbers of a worker and of a part
 abbrev pub HasRoom : ℕ → ℕ → Type 0
 HasRoom worker place = (worker ≤ 4294967295) × (place + 1 ≤ 255)
 

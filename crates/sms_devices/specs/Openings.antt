@@ -1,6 +1,6 @@
 -- How much has come of a connection's first frame.
 use Rattle.std.specs.Prelude.{ℕ, ◌+◌, ◌*◌, ◌-◌, ◌^◌, ◌&&◌, Bool, min, nat_le, nat_lt, List, [], ◌∷◌, if◌then◌else◌}
-use Rattle.sms_devices.specs.declared.opening.Opening.{Opening}
+use Rattle.sms_devices.specs.declared.transport.opening.Opening.{Opening}
 
 -- a count stops at its greatest value
 abbrev pub capped : ℕ → ℕ
@@ -19,6 +19,6 @@ abbrev pub seen_all : List ℕ → Opening → Opening
 seen_all [] o = o
 seen_all (octet ∷ octets) o = seen_all octets (seen_one o octet)
 
--- the length has come, and so many octets
+-- the length has come, and as many octets
 abbrev pub is_whole_frame : Opening → Bool
 is_whole_frame o = nat_le 4 o.seen && nat_le o.length o.seen

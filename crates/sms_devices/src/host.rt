@@ -1,8 +1,8 @@
-//! What the program asks of the process that it runs in.
+//! What the program needs of the process that it runs in.
 
-use crate::connects::Connects;
-use crate::journal_files::JournalFiles;
-use crate::screen::Screen;
+use crate::journal::JournalFiles;
+use crate::terminal::Screen;
+use crate::transport::Connects;
 use std::io::Eprint;
 use std::rt::Files;
 use std::sync::Wait;

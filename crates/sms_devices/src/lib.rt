@@ -1,55 +1,32 @@
-//! The devices that a sending stands on in the program: connections over TCP, what waits to be
-//! written to them, the bells that end pauses, the clock, standard streams, and what a person is
-//! told on the way.
+//! The devices that a run stands on in the program.
+//!
+//! - `transport`: the connections of binds over TCP, and what waits to be written to them;
+//! - `waking`: how workers wait for answers, and how a bind's reader wakes them;
+//! - `gate`: what is asked before a request goes out: rate, journal, watchdog;
+//! - `journal`: the journal's way to its file;
+//! - `terminal`: standard streams, and the progress that a person sees;
+//! - `clock`: the time of a run.
 
 #![tactic(auto)]
 
-mod bell;
-mod bucket;
-mod connecting;
-mod connects;
-mod devices;
-mod headers;
+mod clock;
+mod gate;
 mod host;
 mod journal;
-mod journal_failure;
-mod journal_files;
-mod network;
-mod noting;
-mod opening;
-mod outbox;
-mod owning;
-mod posting;
-mod progress;
-mod rated;
-mod requests;
-mod ringing;
-mod room;
-mod screen;
-mod serving;
-mod silence;
-mod standard;
-mod steady;
-mod stopping;
-mod wakes;
+mod limits;
+mod terminal;
+mod transport;
+mod waking;
 
-pub use bell::{Bells, Rest};
-pub use connecting::{Reason, Unconnected};
-pub use connects::Connects;
-pub use devices::Ticks;
+pub use clock::Ticks;
+pub use gate::{GateLimits, SendGate};
 pub use host::Host;
-pub use journal::Journal;
-pub use journal_failure::JournalFailure;
-pub use journal_files::{JournalFiles, Unmade};
-pub use network::{LoopDial, TcpDial};
-pub use noting::Noting;
-pub use opening::{Deadline, Opening};
-pub use outbox::{Guarded, Outbox, Outboxes};
-pub use owning::Owning;
-pub use posting::Posting;
-pub use progress::{Progress, Telling};
-pub use rated::Rated;
-pub use ringing::{Incoming, Ringing};
-pub use screen::{Notice, Notices, Pen, Screen, TakesNotices, Terminal, is_verbose};
-pub use standard::stand_ins;
-pub use stopping::Stopping;
+pub use journal::{Journal, JournalFailure, JournalFiles, Unmade};
+pub use terminal::{
+    Notice, Notices, Pen, Progress, Screen, TakesNotices, Telling, Terminal, is_verbose, stand_ins,
+};
+pub use transport::{
+    Connects, Deadline, Guarded, LoopDial, Opening, Outbox, OutboxWriter, Outboxes, Reason,
+    TcpDial, Unconnected,
+};
+pub use waking::{Bells, Incoming, Parking, WakingReader};

@@ -2,9 +2,9 @@
 //! workers 0 and 1, bind 1 the workers 2 and 3.
 
 use super::network::{accepted, listening, no_journal, put, want_nothing};
-use super::paper::OpenGate;
+use super::paper::{ManualClock, Nowhere, limits, no_progress};
 use super::same::same;
-use sms_devices::{Outboxes, Owning, Rest, TcpDial};
+use sms_devices::{Outboxes, Parking, SendGate, TcpDial};
 use sms_driver::Dial;
 use sms_worker::{Gate, Pause};
 use std::io::{Read, Write};
@@ -26,11 +26,11 @@ const ENQUIRE: [u8; 16] = [0, 0, 0, 16, 0, 0, 0, 0x15, 0, 0, 0, 0, 0, 0, 0, 7];
 const BAD: [u8; 16] = [0, 0, 0, 15, 0x80, 0, 0, 4, 0, 0, 0, 0, 0, 0, 0, 7];
 
 // How long a worker waited that asked for so many milliseconds.
-fn waited<R: time::Clock, P: Pause>(rt: &R, rest: &P, worker: usize, ms: u32) -> u64 {
+fn waited<R: time::Clock, P: Pause>(rt: &R, parking: &P, worker: usize, ms: u32) -> u64 {
     let Ok(begun) = Instant::now(rt) else {
         return 0;
     };
-    rest.wait(worker, ms, 0);
+    parking.wait(worker, ms, 0);
     match begun.elapsed(rt) {
         Ok(passed) => u64::try_from(passed.as_millis()).unwrap_or(u64::MAX),
         Err(_) => 0,
@@ -38,12 +38,12 @@ fn waited<R: time::Clock, P: Pause>(rt: &R, rest: &P, worker: usize, ms: u32) ->
 }
 
 // These of the workers 0, 1 and 2 were woken since they waited last, and the others not.
-fn want_woken<R: time::Clock + Abort, P: Pause>(rt: &R, rest: &P, wanted: [bool; 3]) {
+fn want_woken<R: time::Clock + Abort, P: Pause>(rt: &R, parking: &P, wanted: [bool; 3]) {
     for worker in 0..3usize {
         if wanted[worker] {
-            assert!(rt; waited(rt, rest, worker, 20_000) < 10_000);
+            assert!(rt; waited(rt, parking, worker, 20_000) < 10_000);
         } else {
-            assert!(rt; waited(rt, rest, worker, 20) >= 20);
+            assert!(rt; waited(rt, parking, worker, 20) >= 20);
         }
     }
 }
@@ -68,57 +68,6 @@ fn bring_singly<R: Abort>(rt: &R, far: &mut TcpStream, reader: &mut impl Read, o
     want_nothing(rt, reader);
 }
 
-/// An answer wakes the worker alone whose request it answers, once it has come whole and the reader
-/// asks for more. A request of the message centre wakes nobody. Where it isn't known whose request it
-/// is, since another number took its place or nobody sent it, all workers of the bind are woken.
-#[test]
-fn wakes_whom_an_answer_is_for(rt: HostRuntime) {
-    let outboxes = Outboxes::new(&rt, no_journal());
-    let (listener, port) = listening(&rt);
-    let dial = TcpDial {
-        rt: &rt,
-        alloc: rt.alloc(),
-        outboxes: &outboxes,
-        connect_ms: None,
-        host: "127.0.0.1",
-        port,
-    };
-    let Some((mut reader, _writer)) = dial.dial(0) else {
-        panic!(rt; "no connection")
-    };
-    let mut far = accepted(&rt, &listener);
-    let rest = Rest {
-        rt: &rt,
-        outboxes: &outboxes,
-    };
-    let bells = outboxes.bells();
-    bells.set_workers(2);
-    let gate = Owning {
-        gate: &OpenGate,
-        bells,
-        alloc: rt.alloc(),
-    };
-    assert!(rt; gate.sending(1, 7, 0, 0) && gate.sending(3, 8, 0, 0));
-    bring(&rt, &mut far, &mut reader, &ANSWER[..17]);
-    want_woken(&rt, &rest, [false, false, false]);
-    bring(&rt, &mut far, &mut reader, &ANSWER[17..]);
-    want_woken(&rt, &rest, [false, true, false]);
-    bring(&rt, &mut far, &mut reader, &ANSWER);
-    want_woken(&rt, &rest, [false, true, false]);
-    bring_singly(&rt, &mut far, &mut reader, &ANSWER);
-    want_woken(&rt, &rest, [false, true, false]);
-    bring(&rt, &mut far, &mut reader, &ENQUIRE);
-    want_woken(&rt, &rest, [false, false, false]);
-    bring(&rt, &mut far, &mut reader, &NACK);
-    want_woken(&rt, &rest, [true, true, false]);
-    assert!(rt; gate.sending(0, 8, 0, 0));
-    bring(&rt, &mut far, &mut reader, &NACK);
-    want_woken(&rt, &rest, [true, false, false]);
-    assert!(rt; gate.sending(0, 263, 0, 0));
-    bring(&rt, &mut far, &mut reader, &ANSWER);
-    want_woken(&rt, &rest, [true, true, false]);
-}
-
 /// What comes behind a bad command_length wakes all workers of the bind, and so do a write that fails
 /// and the reader's end.
 #[test]
@@ -137,18 +86,18 @@ fn wakes_all_where_a_line_goes_down(rt: HostRuntime) {
         panic!(rt; "no connection")
     };
     let mut far = accepted(&rt, &listener);
-    let rest = Rest {
+    let parking = Parking {
         rt: &rt,
         outboxes: &outboxes,
     };
     outboxes.bells().set_workers(2);
     bring(&rt, &mut far, &mut reader, &BAD);
-    want_woken(&rt, &rest, [true, true, false]);
+    want_woken(&rt, &parking, [true, true, false]);
     bring(&rt, &mut far, &mut reader, &[0]);
-    want_woken(&rt, &rest, [true, true, false]);
+    want_woken(&rt, &parking, [true, true, false]);
     outboxes.give_up(0);
     assert!(rt; writer.write(b"one").is_err());
-    want_woken(&rt, &rest, [true, true, false]);
+    want_woken(&rt, &parking, [true, true, false]);
     drop(reader);
-    want_woken(&rt, &rest, [true, true, false]);
+    want_woken(&rt, &parking, [true, true, false]);
 }

@@ -1,9 +1,9 @@
 //! How a bind ends whose journal has failed.
 
 use super::network::{accepted, listening, put, want_nothing};
-use super::paper::{ManualClock, OpenGate, PaperFile, Sheet};
+use super::paper::{ManualClock, Nowhere, PaperFile, Sheet, limits, no_progress};
 use super::same::same;
-use sms_devices::{Journal, Outboxes, Stopping, TcpDial};
+use sms_devices::{Journal, Outboxes, SendGate, TcpDial};
 use sms_driver::Dial;
 use sms_journal::Note;
 use sms_pdu::{MessageId, Reply};
@@ -76,8 +76,9 @@ fn waits_for_the_answers_that_can_come(rt: HostRuntime) {
         panic!(rt; "no connection")
     };
     let clock = ManualClock::new(0);
-    let gate = Stopping::new(&rt, &OpenGate, &clock, &outboxes, 1, 500, None);
-    outboxes.bells().set_workers(1);
+    let progress = no_progress(&Nowhere, &clock);
+    let wanted = limits(1, None, None);
+    let gate = SendGate::new(rt.alloc(), &outboxes, &clock, &progress, wanted);
     let mut far = accepted(&rt, &listener);
     put(&rt, &mut one, &REQUEST);
     put(&rt, &mut one, &REQUEST);
@@ -123,7 +124,9 @@ fn waits_for_what_made_room(rt: HostRuntime) {
         panic!(rt; "no connection")
     };
     let clock = ManualClock::new(0);
-    let gate = Stopping::new(&rt, &OpenGate, &clock, &outboxes, 1, 500, None);
+    let progress = no_progress(&Nowhere, &clock);
+    let wanted = limits(1, None, None);
+    let gate = SendGate::new(rt.alloc(), &outboxes, &clock, &progress, wanted);
     for _request in 0..513 {
         put(&rt, &mut writer, &REQUEST);
     }

@@ -1,8 +1,11 @@
 //! What a journal's file takes, and that no request goes out before its note.
 
-use super::paper::{Line, OpenGate, PaperFile, STILL_MS, Sheet, Still};
+use super::network::no_journal;
+use super::paper::{
+    Line, ManualClock, Nowhere, PaperFile, STILL_MS, Sheet, Still, limits, no_progress,
+};
 use super::same::same;
-use sms_devices::{Guarded, Journal, Noting};
+use sms_devices::{Guarded, Journal, Outboxes, SendGate};
 use sms_journal::{Digests, JournalKind};
 use sms_pdu::{MessageId, Reply};
 use sms_worker::{Gate, MessageRefusal};
@@ -67,28 +70,28 @@ fn tell<G: Gate>(rt: &impl Abort, gate: &G) {
 // Tells a journal of two messages.
 fn tell_journal<'j, R: Wait + Clock, F: Write + OpenFile>(
     rt: &impl Abort,
+    alloc: Global,
     still: &'j R,
     journal: &'j Journal<F>,
 ) {
-    let noting = Noting {
-        rt: still,
-        gate: &OpenGate,
-        journal: Some(journal),
-    };
-    tell(rt, &noting);
+    let outboxes = Outboxes::new(still, Some(journal));
+    let clock = ManualClock::new(0);
+    let progress = no_progress(&Nowhere, &clock);
+    let gate = SendGate::new(alloc, &outboxes, &clock, &progress, limits(8, None, None));
+    tell(rt, &gate);
 }
 
 // Whether a request passes behind a journal.
 fn lets_a_request_out<'j, R: Wait + Clock, F: Write + OpenFile>(
     rt: &'j R,
+    alloc: Global,
     journal: &'j Journal<F>,
 ) -> bool {
-    let noting = Noting {
-        rt,
-        gate: &OpenGate,
-        journal: Some(journal),
-    };
-    noting.sending(0, 1, 3, 0)
+    let outboxes = Outboxes::new(rt, Some(journal));
+    let clock = ManualClock::new(0);
+    let progress = no_progress(&Nowhere, &clock);
+    let gate = SendGate::new(alloc, &outboxes, &clock, &progress, limits(1, None, None));
+    gate.sending(0, 1, 3, 0)
 }
 
 // Whether a journal's file has the note of an end with this status.
@@ -130,7 +133,7 @@ fn writes_what_was_noted(rt: HostRuntime) {
         journal.begin(&rt, kind, &DIGESTS);
         assert!(rt; journal.let_out(&rt));
         want(&rt, alloc, &sheet, header);
-        tell_journal(&rt, &still, &journal);
+        tell_journal(&rt, alloc, &still, &journal);
         want(&rt, alloc, &sheet, "");
         assert!(rt; journal.let_out(&rt));
         want(&rt, alloc, &sheet, LINES);
@@ -159,15 +162,38 @@ fn notes_without_a_clock(rt: HostRuntime) {
         kind: ErrorKind::Other,
     };
     let journal = Journal::new(alloc, file, false);
-    let noting = Noting {
-        rt: &still,
-        gate: &OpenGate,
-        journal: Some(&journal),
-    };
-    noting.begun(0, 3);
-    assert!(rt; !noting.sending(0, 1, 3, 255));
+    let outboxes = Outboxes::new(&still, Some(&journal));
+    let clock = ManualClock::new(0);
+    let progress = no_progress(&Nowhere, &clock);
+    let gate = SendGate::new(alloc, &outboxes, &clock, &progress, limits(1, None, None));
+    gate.begun(0, 3);
+    assert!(rt; !gate.sending(0, 1, 3, 255));
     assert!(rt; journal.let_out(&rt));
     want(&rt, alloc, &sheet, "begun,0,3\n");
+}
+
+/// A request that the journal can't note takes no permit of the rate.
+#[test]
+fn counts_no_refused_request(rt: HostRuntime) {
+    let alloc = rt.alloc();
+    let sheet = Sheet::blank(alloc);
+    let file = PaperFile {
+        rt: &rt,
+        sheet: &sheet,
+        room: ALL,
+        syncs: false,
+        kind: ErrorKind::Other,
+    };
+    let journal = Journal::new(alloc, file, false);
+    let outboxes = Outboxes::new(&rt, Some(&journal));
+    let clock = ManualClock::new(0);
+    let progress = no_progress(&Nowhere, &clock);
+    let wanted = limits(1, Some(1), None);
+    let gate = SendGate::new(alloc, &outboxes, &clock, &progress, wanted);
+    assert!(rt; gate.ready(0));
+    assert!(rt; !gate.sending(0, 1, 3, 255));
+    gate.see(0, &[], 0);
+    assert!(rt; gate.ready(0));
 }
 
 /// A file that can't be made durable has failed, and nothing is written to it any more.
@@ -187,7 +213,7 @@ fn fails_where_it_is_not_durable(rt: HostRuntime) {
     assert!(rt; !journal.let_out(&rt));
     want(&rt, alloc, &sheet, HEADER);
     assert!(rt; journal.has_failed());
-    assert!(rt; !lets_a_request_out(&rt, &journal));
+    assert!(rt; !lets_a_request_out(&rt, alloc, &journal));
     assert!(rt; !journal.let_out(&rt));
     assert!(rt; !closes(&rt, journal, 0));
     want(&rt, alloc, &sheet, "");
@@ -223,11 +249,10 @@ fn send_over<'j, R: Wait + Clock, F: Write + OpenFile>(
     alloc: Global,
     journal: &'j Journal<F>,
 ) -> Result<(Vec<u8>, u32), AllocError> {
-    let noting = Noting {
-        rt,
-        gate: &OpenGate,
-        journal: Some(journal),
-    };
+    let outboxes = Outboxes::new(rt, Some(journal));
+    let clock = ManualClock::new(0);
+    let progress = no_progress(&Nowhere, &clock);
+    let gate = SendGate::new(alloc, &outboxes, &clock, &progress, limits(1, None, None));
     let guarded = Guarded {
         connection: Line {
             octets: Vec::new(alloc),
@@ -238,7 +263,7 @@ fn send_over<'j, R: Wait + Clock, F: Write + OpenFile>(
     let Ok(mut writer) = BufWriter::with_capacity(alloc, 10, guarded) else {
         return Err(AllocError);
     };
-    let passed = send_requests(&noting, &mut writer);
+    let passed = send_requests(&gate, &mut writer);
     let mut octets = Vec::new(alloc);
     octets.extend_from_slice(writer.get_ref().connection.octets.as_slice())?;
     Ok((octets, passed))
@@ -314,11 +339,16 @@ fn sends_nothing_that_is_not_noted(rt: HostRuntime) -> Result<(), Fail> {
 /// Without a journal a gate notes nothing and lets everything pass.
 #[test]
 fn passes_all_without_a_journal(rt: HostRuntime) {
-    let noting: Noting<'_, OpenGate, HostRuntime, PaperFile<'_, HostRuntime>> = Noting {
-        rt: &rt,
-        gate: &OpenGate,
-        journal: None,
-    };
-    tell(&rt, &noting);
-    assert!(rt; noting.sending(0, 1, 3, 255));
+    let outboxes = Outboxes::new(&rt, no_journal());
+    let clock = ManualClock::new(0);
+    let progress = no_progress(&Nowhere, &clock);
+    let gate = SendGate::new(
+        rt.alloc(),
+        &outboxes,
+        &clock,
+        &progress,
+        limits(8, None, None),
+    );
+    tell(&rt, &gate);
+    assert!(rt; gate.sending(0, 1, 3, 255));
 }

@@ -2,7 +2,7 @@
 //! someone waits, and who is served.
 
 use super::same::same;
-use sms_devices::{Connects, Journal, LoopDial, Outboxes, Rest, TcpDial};
+use sms_devices::{Connects, Journal, LoopDial, Outboxes, Parking, TcpDial};
 use sms_driver::Dial;
 use sms_worker::Pause;
 use std::fs::File;
@@ -128,12 +128,12 @@ fn writes_before_it_reads(rt: HostRuntime) {
     put(&rt, &mut writer, b"one");
     want_nothing(&rt, &mut reader);
     want(&rt, &mut far, b"one");
-    let rest = Rest {
+    let parking = Parking {
         rt: &rt,
         outboxes: &outboxes,
     };
     put(&rt, &mut writer, b"two");
-    rest.pause(1);
+    parking.pause(1);
     want(&rt, &mut far, b"two");
 }
 
@@ -173,7 +173,7 @@ fn keeps_8192_octets(rt: HostRuntime) {
     };
     let mut far = accepted(&rt, &listener);
     assert!(rt; far.set_nonblocking(true).is_ok());
-    let rest = Rest {
+    let parking = Parking {
         rt: &rt,
         outboxes: &outboxes,
     };
@@ -181,7 +181,7 @@ fn keeps_8192_octets(rt: HostRuntime) {
     holds(&rt, &mut writer, &mut far, 16);
     put(&rt, &mut writer, &[8u8; 512]);
     want_octets(&rt, &mut far, 8_192);
-    rest.wait(0, 5, 0);
+    parking.wait(0, 5, 0);
     want_octets(&rt, &mut far, 512);
     holds(&rt, &mut writer, &mut far, 2);
     for (wanted, puts) in [(1_024, 4), (2_048, 8), (4_096, 16), (8_192, 16)] {
@@ -208,14 +208,14 @@ fn rings_at_its_end(rt: HostRuntime) {
         panic!(rt; "no connection")
     };
     drop(reader);
-    let rest = Rest {
+    let parking = Parking {
         rt: &rt,
         outboxes: &outboxes,
     };
     let Ok(begun) = Instant::now(&rt) else {
         panic!(rt; "no clock")
     };
-    rest.pause(20_000);
+    parking.pause(20_000);
     match begun.elapsed(&rt) {
         Ok(passed) => assert!(rt; passed < Duration::from_secs(10)),
         Err(_) => panic!(rt; "no clock"),

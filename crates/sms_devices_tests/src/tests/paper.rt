@@ -1,11 +1,12 @@
 //! Devices in memory, for the tests of the journal: a file that takes so many octets, a connection, a
-//! clock that stands, and a gate that lets everything pass.
+//! clock that stands, and a standard error that drops what it is given.
 
-use sms_worker::Gate;
+use sms_devices::{GateLimits, Notice, Progress, TakesNotices, Telling};
 use std::alloc::Global;
 use std::env::{Env, FillError};
+use std::fmt::Display;
 use std::fs::{Metadata, OpenFile};
-use std::io::{Error, ErrorKind, Write};
+use std::io::{Eprint, Error, ErrorKind, Write};
 use std::sync::atomic::{AtomicU32, AtomicU64, Ordering};
 use std::sync::{Mutex, Wait};
 use std::time::{Clock, Duration};
@@ -179,13 +180,47 @@ impl Write for Line {
     }
 }
 
-/// Lets every request pass.
+/// A standard error that drops what it is given.
 #[derive(Clone, Copy, Drop)]
-pub struct OpenGate;
+pub struct Nowhere;
 
-impl Gate for OpenGate {
-    fn pass(&self, _worker: usize, _number: u32) -> bool {
+impl Eprint for Nowhere {
+    fn eprint<D: Display + Drop>(&self, value: D) -> io::Result<()> {
+        drop(value);
+        Ok(())
+    }
+
+    fn eprintln<D: Display + Drop>(&self, value: D) -> io::Result<()> {
+        drop(value);
+        Ok(())
+    }
+}
+
+impl TakesNotices for Nowhere {
+    fn tell(&self, _notice: Notice) -> bool {
+        false
+    }
+
+    fn settle(&self) -> bool {
         true
+    }
+}
+
+/// The progress of a run that shows none.
+pub fn no_progress<'r, K: sms_worker::Clock>(
+    screen: &'r Nowhere,
+    clock: &'r K,
+) -> Progress<'r, Nowhere, Nowhere, K> {
+    Progress::new(screen, Nowhere, clock, Telling::Nothing, 0, false)
+}
+
+/// The limits of a gate that waits 500 ms for an answer.
+pub fn limits(workers: u32, rate: Option<u32>, stop_after: Option<u32>) -> GateLimits {
+    GateLimits {
+        workers,
+        answer_ms: 500,
+        rate,
+        stop_after,
     }
 }
 

@@ -4,7 +4,7 @@ use super::paper::ManualClock;
 use super::same::same;
 use sms_devices::{Notice, Progress, TakesNotices, Telling};
 use sms_worker::{
-    Attempts, Gate, MessageEnd, MessageRefusal, MessageResult, Outcome, SegmentEnd, Segments,
+    Attempts, MessageEnd, MessageRefusal, MessageResult, Outcome, SegmentEnd, Segments,
 };
 use std::alloc::Global;
 use std::fmt::Display;
@@ -136,7 +136,6 @@ fn is_quiet_in_a_pipe(rt: HostRuntime) -> Result<(), Fail> {
     for telling in [Telling::Nothing, Telling::End] {
         let progress = Progress::new(&paper, &paper, &clock, telling, 10, true);
         clock.set(5000);
-        assert!(rt; progress.pass(0, 1));
         progress.see(0, ends.as_slice(), 0);
         progress.see_last(0, ends.as_slice());
         progress.clear();

@@ -1,5 +1,0 @@
-use Rattle.sms_devices.proofs.Buckets.{no_more}
-use Rattle.sms_devices.proofs.bucket.no_more_go_in_any_second.Goals as goal
-
-pub returns : goal.returns
-returns c = no_more

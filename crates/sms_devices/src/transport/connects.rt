@@ -1,0 +1,114 @@
+//! How the connections of binds are made.
+
+use crate::transport::connecting::{Unconnected, connect};
+use crate::transport::guarded::Guarded;
+use crate::transport::opening::Deadline;
+use crate::transport::outboxes::Outboxes;
+use crate::transport::serving::serve_own;
+use std::alloc::Global;
+use std::fs::OpenFile;
+use std::io::{Read, Write};
+use std::net::{Ipv4Addr, Net, TcpListener, TcpStream};
+use std::sync::Wait;
+use std::thread::Threads;
+use std::time::{Clock, Duration};
+
+/// How many milliseconds a read waits for octets.
+const READ_MS: u64 = 100;
+
+/// Makes connections. Before a connection is written to, the journal of the run is let out, if it has one.
+pub trait Connects: Wait {
+    ghost use Rattle.std.specs.Prelude.{◌≡◌, ℕ, Bool, List, Option, None, IfOk, map, string_bytes};
+    ghost use Rattle.sms_devices.specs.Centres.{CentreAt};
+    ghost use Rattle.sms_devices.specs.Centres.CentreAt.{Named, Own};
+    ghost use Rattle.sms_devices.specs.Outboxes.{has_journal};
+
+    /// The reading end of a connection.
+    type Incoming: Read + Send + Drop;
+
+    // The octets that a connection to this centre will give, behind a journal or not, for the bind with this number, if
+    // they are known.
+    ghost tells: { Self → CentreAt → Bool → ℕ → Option (List ℕ) } = { λ _ _ _ _. None };
+
+    /// A listener on a free port of the loopback interface.
+    fn listen(&self) -> Option<TcpListener>;
+
+    /// A connection to the message centre at a port of a host, or why there is none. It is waited for until the
+    /// deadline, if there is one.
+    fn reach<'j, F: Write + OpenFile>(
+        &self,
+        outboxes: &Outboxes<'j, Self, F>,
+        bind: u32,
+        host: &str,
+        port: u16,
+        deadline: Option<Deadline>,
+    ) -> Result<(Self::Incoming, Guarded<'j, TcpStream, Self, F>), Unconnected>
+        ensures told { IfOk result (λ ends. Self.Incoming.remaining ends.0 ≡ tells self.now (Named host.now port) (has_journal outboxes.now) bind) };
+
+    /// A connection through the listener to a test centre with this script, or why there is none. The centre is
+    /// started for this connection, in a thread of its own.
+    fn reach_own<'j, F: Write + OpenFile>(
+        &self,
+        alloc: Global,
+        outboxes: &Outboxes<'j, Self, F>,
+        bind: u32,
+        listener: &TcpListener,
+        bind_status: u32,
+        answers: &[String],
+        deadline: Option<Deadline>,
+    ) -> Result<(Self::Incoming, Guarded<'j, TcpStream, Self, F>), Unconnected>
+        ensures told { IfOk result (λ ends. Self.Incoming.remaining ends.0 ≡ tells self.now (Own bind_status (map string_bytes answers.now)) (has_journal outboxes.now) bind) };
+}
+
+impl<R: Net<Stream = TcpStream, Listener = TcpListener> + Threads + Clock + Wait> Connects for R {
+    type Incoming = TcpStream;
+
+    fn listen(&self) -> Option<TcpListener> {
+        TcpListener::bind(self, (Ipv4Addr::LOCALHOST, 0u16)).ok()
+    }
+
+    fn reach<'j, F: Write + OpenFile>(
+        &self,
+        outboxes: &Outboxes<'j, R, F>,
+        _bind: u32,
+        host: &str,
+        port: u16,
+        deadline: Option<Deadline>,
+    ) -> Result<(TcpStream, Guarded<'j, TcpStream, R, F>), Unconnected> {
+        let stream = connect(self, (host, port), deadline)?;
+        set_up(outboxes, stream).ok_or(Unconnected::Other)
+    }
+
+    fn reach_own<'j, F: Write + OpenFile>(
+        &self,
+        alloc: Global,
+        outboxes: &Outboxes<'j, R, F>,
+        _bind: u32,
+        listener: &TcpListener,
+        bind_status: u32,
+        answers: &[String],
+        deadline: Option<Deadline>,
+    ) -> Result<(TcpStream, Guarded<'j, TcpStream, R, F>), Unconnected> {
+        let Ok(address) = listener.local_addr() else {
+            return Err(Unconnected::Other);
+        };
+        let near = connect(self, address, deadline)?;
+        serve_own(self, alloc, listener, &near, bind_status, answers).ok_or(Unconnected::Other)?;
+        set_up(outboxes, near).ok_or(Unconnected::Other)
+    }
+}
+
+/// The reading end and the writing end of a stream. What is written isn't delayed to be joined with more. A read
+/// waits for 100 ms at most. A write waits as long as the outboxes say, if the connection takes nothing.
+fn set_up<'j, R: Wait, F: Write + OpenFile>(
+    outboxes: &Outboxes<'j, R, F>,
+    stream: TcpStream,
+) -> Option<(TcpStream, Guarded<'j, TcpStream, R, F>)> {
+    stream.set_nodelay(true).ok()?;
+    stream
+        .set_read_timeout(Some(Duration::from_millis(READ_MS)))
+        .ok()?;
+    stream.set_write_timeout(outboxes.patience()).ok()?;
+    let incoming = stream.try_clone().ok()?;
+    Some((incoming, outboxes.guard(stream)))
+}

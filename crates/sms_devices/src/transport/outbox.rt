@@ -1,0 +1,129 @@
+//! What the wire of a bind has written and its connection has not taken yet. The requests of a turn go
+//! out together, not by a write each.
+
+ghost use Rattle.std.specs.Prelude.{◌≡◌};
+ghost use Rattle.std.specs.Result.{result_ok};
+ghost use Rattle.std.specs.Io.{WritesAtMost};
+
+use crate::transport::buffered::Buffered;
+use crate::transport::connecting::Unconnected;
+use crate::transport::guarded::Guarded;
+use crate::transport::requests::Requests;
+use std::alloc::Global;
+use std::fs::OpenFile;
+use std::io;
+use std::io::{Error, ErrorKind, Write};
+use std::net::{Shutdown, TcpStream};
+use std::sync::{Mutex, Wait};
+
+/// The outbox of one bind. It has no connection until one is made.
+#[derive(Drop)]
+pub struct Outbox<'j, R: Wait, F: Write + OpenFile> {
+    connection: Mutex<Option<Buffered<Guarded<'j, TcpStream, R, F>>>>,
+    requests: Requests,
+    /// Why there is no connection, if the last attempt to make one failed.
+    unconnected: Mutex<Unconnected>,
+}
+
+impl<'j, R: Wait, F: Write + OpenFile> Outbox<'j, R, F> {
+    /// An outbox without a connection.
+    pub(crate) fn new() -> Outbox<'j, R, F> {
+        Outbox {
+            connection: Mutex::new(None),
+            requests: Requests::new(),
+            unconnected: Mutex::new(Unconnected::Other),
+        }
+    }
+
+    /// Buffers what is written to this connection from now on. None if memory runs out.
+    pub fn open(&self, alloc: Global, connection: Guarded<'j, TcpStream, R, F>) -> Option<()> {
+        let rt = connection.rt;
+        let has_journal = connection.journal.is_some();
+        let buffered = Buffered::new(alloc, connection, has_journal)?;
+        *self.connection.lock(rt) = Some(buffered);
+        Some(())
+    }
+
+    /// The connection's ends, if it was made. If it wasn't, the reason is kept.
+    pub fn dialled<T: Drop>(&self, rt: &R, ends: Result<T, Unconnected>) -> Option<T>
+        ensures { result ≡ result_ok ends }
+    {
+        match ends {
+            Ok(ends) => Some(ends),
+            Err(why) => {
+                *self.unconnected.lock(rt) = why;
+                None
+            }
+        }
+    }
+
+    /// Why there is no connection, if the last attempt to make one failed.
+    pub(crate) fn reason(&self, rt: &R) -> Unconnected {
+        *self.unconnected.lock(rt)
+    }
+
+    /// Puts octets into the buffer of the connection. All callers put whole frames.
+    pub(crate) fn put(&self, rt: &R, octets: &[u8]) -> io::Result<usize>
+        ensures bound { WritesAtMost result octets.now }
+    {
+        let mut connection = self.connection.lock(rt);
+        match connection.as_mut() {
+            Some(open) => {
+                let before = open.waiting();
+                let put = open.put(octets);
+                match &put {
+                    Ok(_count) => self.requests.put(octets, before, open.waiting()),
+                    Err(_broken) => self.requests.flush(before, open.waiting()),
+                }
+                put
+            }
+            None => Err(Error::from(ErrorKind::NotConnected)),
+        }
+    }
+
+    /// One of the bind's requests was answered.
+    pub(crate) fn answer(&self) {
+        self.requests.answer();
+    }
+
+    /// Gives the connection up if every request is answered that may have gone out. It is for a connection
+    /// to which nothing is written any more. Does nothing while another thread uses the outbox: the next
+    /// call looks again.
+    pub(crate) fn give_up_answered(&self) {
+        if let Some(mut connection) = self.connection.try_lock() {
+            if let Some(open) = connection.as_mut() {
+                if self.requests.are_answered() {
+                    open.give_up(Shutdown::Both);
+                }
+            }
+        }
+    }
+
+    /// Gives the connection up: nothing is written to it or read from it any more, and the bind's line
+    /// goes down.
+    pub(crate) fn give_up(&self, rt: &R) {
+        if let Some(open) = self.connection.lock(rt).as_mut() {
+            open.give_up(Shutdown::Both);
+        }
+    }
+
+    /// Starts a burst after a pause, a long one or not. Does nothing while another thread uses the outbox.
+    pub(crate) fn begin(&self, waited_long: bool) {
+        if let Some(mut connection) = self.connection.try_lock() {
+            if let Some(open) = connection.as_mut() {
+                open.begin(waited_long);
+            }
+        }
+    }
+
+    /// Writes what waits. If another thread uses the outbox, it is left to that thread.
+    pub fn flush(&self) {
+        if let Some(mut connection) = self.connection.try_lock() {
+            if let Some(open) = connection.as_mut() {
+                let before = open.waiting();
+                open.flush();
+                self.requests.flush(before, open.waiting());
+            }
+        }
+    }
+}

@@ -1,0 +1,173 @@
+//! The outboxes of all binds, with what their connections share: the journal, the bells and the clock.
+
+ghost use Rattle.std.specs.Prelude.{◌≡◌, option_copied};
+ghost use Rattle.std.specs.Option.{is_some};
+ghost use Rattle.sms_devices.specs.Outboxes.{has_journal, outbox_of};
+
+use crate::clock::Ticks;
+use crate::journal::{Journal, let_out_of};
+use crate::transport::connecting::{Reason, Unconnected};
+use crate::transport::guarded::Guarded;
+use crate::transport::outbox::Outbox;
+use crate::waking::Bells;
+use std::fs::OpenFile;
+use std::io::Write;
+use std::sync::Wait;
+use std::sync::atomic::{AtomicU32, Ordering};
+use std::time::{Clock, Duration};
+
+/// The outboxes of all binds, and the bells of their workers.
+#[derive(Drop)]
+pub struct Outboxes<'j, R: Wait, F: Write + OpenFile> {
+    rt: &'j R,
+    journal: Option<&'j Journal<F>>,
+    bells: Bells,
+    clock: Ticks<'j, R>,
+    first: Outbox<'j, R, F>,
+    second: Outbox<'j, R, F>,
+    third: Outbox<'j, R, F>,
+    fourth: Outbox<'j, R, F>,
+    /// How many milliseconds a write may wait for a connection that takes no octet; 0 is without a limit.
+    patience_ms: AtomicU32,
+}
+
+impl<'j, R: Wait + Clock, F: Write + OpenFile> Outboxes<'j, R, F> {
+    /// Outboxes without connections, in a run with a journal or without.
+    pub fn new(rt: &'j R, journal: Option<&'j Journal<F>>) -> Outboxes<'j, R, F>
+        ensures { has_journal result ≡ is_some journal.entry }
+    {
+        Outboxes {
+            rt,
+            journal,
+            bells: Bells::new(),
+            clock: Ticks::new(rt),
+            first: Outbox::new(),
+            second: Outbox::new(),
+            third: Outbox::new(),
+            fourth: Outbox::new(),
+            patience_ms: AtomicU32::new(0),
+        }
+    }
+
+    /// The clock of the run, which starts now.
+    pub fn start_clock(&self) -> &Ticks<'j, R> {
+        self.clock.go_on();
+        &self.clock
+    }
+
+    /// The clock of the run.
+    pub(crate) fn clock(&self) -> &Ticks<'j, R> {
+        &self.clock
+    }
+}
+
+impl<'j, R: Wait, F: Write + OpenFile> Outboxes<'j, R, F> {
+    /// The outbox of the bind with this number; None beyond the last bind.
+    pub fn get(&self, bind: u32) -> Option<&Outbox<'j, R, F>>
+        ensures { option_copied result ≡ outbox_of self.now bind }
+    {
+        self.at(bind as usize)
+    }
+
+    /// The outbox of the bind at this place; None beyond the last bind.
+    fn at(&self, bind: usize) -> Option<&Outbox<'j, R, F>>
+        ensures { option_copied result ≡ outbox_of self.now bind }
+    {
+        match bind {
+            0 => Some(&self.first),
+            1 => Some(&self.second),
+            2 => Some(&self.third),
+            3 => Some(&self.fourth),
+            _ => None,
+        }
+    }
+
+    /// Why a bind has no connection, if the last attempt to make one failed.
+    pub fn reason(&self, bind: u32) -> Reason
+        ensures { result.bind ≡ bind }
+    {
+        let why = match self.get(bind) {
+            Some(outbox) => outbox.reason(self.rt),
+            None => Unconnected::Other,
+        };
+        Reason { bind, why }
+    }
+
+    /// Gives the connection of a bind up: its line goes down.
+    pub fn give_up(&self, bind: u32) {
+        if let Some(outbox) = self.get(bind) {
+            outbox.give_up(self.rt);
+        }
+    }
+
+    /// One of the bind's requests was answered.
+    pub(crate) fn answer(&self, bind: usize) {
+        if let Some(outbox) = self.at(bind) {
+            outbox.answer();
+        }
+    }
+
+    /// Sets how many milliseconds a write may wait for a connection that takes no octet, for connections
+    /// that are made from now on.
+    pub fn set_patience(&self, ms: u32) {
+        self.patience_ms.store(ms, Ordering::SeqCst);
+    }
+
+    /// How long a write may wait for a connection; None is without a limit.
+    pub fn patience(&self) -> Option<Duration> {
+        match self.patience_ms.load(Ordering::SeqCst) {
+            0 => None,
+            ms => Some(Duration::from_millis(u64::from(ms))),
+        }
+    }
+
+    /// The runtime, by which locks are waited for.
+    pub(crate) fn rt(&self) -> &'j R {
+        self.rt
+    }
+
+    /// The bells of the binds' workers.
+    pub fn bells(&self) -> &Bells {
+        &self.bells
+    }
+
+    /// The journal of the run, if it has one.
+    pub fn journal(&self) -> Option<&'j Journal<F>>
+        ensures { is_some result ≡ has_journal self.now }
+    {
+        self.journal
+    }
+
+    /// The connection behind the journal of the run.
+    pub fn guard<W>(&self, connection: W) -> Guarded<'j, W, R, F> {
+        Guarded {
+            connection,
+            rt: self.rt,
+            journal: self.journal,
+        }
+    }
+
+    /// Writes what waits for the connection of this bind, and then the notes that are still in memory.
+    pub fn flush_bind(&self, bind: usize) {
+        if let Some(outbox) = self.at(bind) {
+            outbox.flush();
+        }
+        let _let_out = let_out_of(self.rt, self.journal);
+    }
+
+    /// Starts a burst at this bind after a pause, a long one or not.
+    pub fn begin(&self, bind: usize, waited_long: bool) {
+        if let Some(outbox) = self.at(bind) {
+            outbox.begin(waited_long);
+        }
+    }
+
+    /// Writes what waits for any connection, and then the notes that are still in memory.
+    pub fn flush(&self) {
+        self.first.flush();
+        self.second.flush();
+        self.third.flush();
+        self.fourth.flush();
+        let _let_out = let_out_of(self.rt, self.journal);
+    }
+}
