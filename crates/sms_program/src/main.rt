@@ -5,7 +5,7 @@
 #![tactic(auto)]
 
 use sms_devices::stand_ins;
-use sms_send::{StandardError, run, status_after, tell};
+use sms_send::{FaultContext, StandardError, run, status_after, tell};
 use std::io;
 use std::process::ExitCode;
 
@@ -14,10 +14,11 @@ fn main(rt: HostRuntime) -> ExitCode {
     let _kept = stand_ins(&rt);
     let mut output = io::writer(&rt);
     let mut error = StandardError { rt: &rt };
-    let status = match run(&rt, &mut output, &mut error) {
+    let mut context = FaultContext::new();
+    let status = match run(&rt, &mut context, &mut output, &mut error) {
         Ok(status) => status,
         Err(fault) => {
-            let told = tell(&rt, &fault, &mut output, &mut error);
+            let told = tell(&rt, &fault, &context, &mut output, &mut error);
             status_after(&told, &fault)
         }
     };

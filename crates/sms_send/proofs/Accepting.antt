@@ -16,7 +16,7 @@ use Rattle.sms_message.specs.Ends.{phase_of, segment_at, segments_in}
 use Rattle.sms_worker.specs.Rests.{Charge}
 use Rattle.sms_message.specs.Results.{answers, read_reply}
 use Rattle.sms_driver.specs.Answered.{Answered, RestOn, ends_at}
-use Rattle.sms_deal.specs.Deals.{cons_at, dealt, next}
+use Rattle.sms_driver.specs.Deals.{cons_at, dealt, next}
 use Rattle.sms_send.specs.Laws.{AcceptsLast}
 
 -- lists that are dealt

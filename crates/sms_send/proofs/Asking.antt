@@ -7,8 +7,8 @@ use Rattle.sms_devices.specs.Centres.{CentreAt}
 use Rattle.sms_files.specs.Inputs.{Told}
 use Rattle.sms_send.specs.Asked.{WorksAsAsked}
 use Rattle.sms_send.specs.Jobs.{OfJob, Works}
-use Rattle.sms_send.specs.declared.fault.Fault.{Fault}
-use Rattle.sms_send.specs.declared.job.Job.{Job}
+use Rattle.sms_send.specs.declared.faults.fault.Fault.{Fault}
+use Rattle.sms_send.specs.declared.args.job.Job.{Job}
 
 -- what was done by the words that the world has, of which these are a view, was done as it was asked for
 pub works_asked : {S : Type 0} (r : Result ℕ Fault) (has : Option (List Text) → Type 0) (standard : S → Told) (finds : List ℕ → Option Told → Type 0) (tells : CentreAt → Bool → ℕ → Told) (beside : Job → Type 0)

@@ -8,7 +8,7 @@ use Rattle.sms_message.specs.declared.message.Message.{Message}
 use Rattle.sms_message.specs.declared.rules.Rules.{Rules}
 use Rattle.sms_worker.specs.Types.{MessageEnd, SegmentEnd}
 use Rattle.sms_driver.specs.Answered.{AreHeard, ends_at}
-use Rattle.sms_deal.specs.Deals.{dealt}
+use Rattle.sms_driver.specs.Deals.{dealt}
 use Rattle.sms_send.proofs.Accepting.{accepted, answered, apart}
 use Rattle.sms_send.proofs.Covering.{of_a_bind, one_part}
 use Rattle.sms_send.specs.Laws.{AcceptsLast, AreApart, WereRead}

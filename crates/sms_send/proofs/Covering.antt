@@ -8,7 +8,7 @@ use Rattle.sms_worker.specs.Types.{MessageEnd, SegmentEnd}
 use Rattle.sms_message.specs.Ends.{segment_at, segments_in}
 use Rattle.sms_worker.specs.Rests.{Charge}
 use Rattle.sms_driver.specs.Answered.{ends_at}
-use Rattle.sms_deal.specs.Deals.{cons_at, dealt, next}
+use Rattle.sms_driver.specs.Deals.{cons_at, dealt, next}
 use Rattle.sms_send.proofs.Accepting.{end_at}
 use Rattle.sms_send.specs.Laws.{ChargedPart}
 

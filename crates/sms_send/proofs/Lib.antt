@@ -2,8 +2,7 @@ pub mod Accepting
 pub mod Asking
 pub mod Charging
 pub mod Covering
-pub mod Jobs
-pub mod Knowing
+pub mod JobsDone
 pub mod Lines
 pub mod Noting
 pub mod Plans
@@ -11,9 +10,12 @@ pub mod Quoting
 pub mod Replaying
 pub mod Runs
 pub mod Sendings
+pub mod SendJobs
 pub mod Starts
 pub mod Statuses
 pub mod Telling
+pub mod Reading
 pub mod Reasons
 pub mod Recovering
 pub mod Reaching
+pub mod Characters

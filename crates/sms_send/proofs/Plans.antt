@@ -5,7 +5,7 @@ use Rattle.std.specs.List.{AllZip}
 use Rattle.sms_segment.specs.declared.place.Reference.{Reference}
 use Rattle.sms_files.specs.Fields.{Record, records_of}
 use Rattle.sms_files.specs.Messages.{AreTexts, HasText, messages_fault, text_of}
-use Rattle.sms_report.specs.PlanText.{message_lines, message_plan, plan_of, text_line, text_lines}
+use Rattle.sms_files.specs.PlanText.{message_lines, message_plan, plan_of, text_line, text_lines}
 use Rattle.sms_files.specs.Inputs.{Told}
 use Rattle.sms_files.specs.declared.fault.InputFault.TheVariants as input
 use Rattle.sms_files.specs.declared.fault.Source.TheVariants.{Messages}
@@ -13,8 +13,8 @@ use Rattle.sms_files.specs.declared.messages.MessageText.{MessageText}
 use Rattle.sms_send.specs.Opened.{OfFile}
 use Rattle.sms_send.specs.Plans.{TellsPlan}
 use Rattle.sms_send.specs.Runs.{TellsUnread}
-use Rattle.sms_send.specs.declared.fault.Fault.{Fault}
-use Rattle.sms_send.specs.declared.fault.Fault.TheVariants.{OutOfMemory}
+use Rattle.sms_send.specs.declared.faults.fault.Fault.{Fault}
+use Rattle.sms_send.specs.declared.faults.fault.Fault.TheVariants.{OutOfMemory}
 
 -- the texts of the records are those of the messages
 lines-are : (reference : Reference) (index : ℕ) (rs : List Record) (ms : List MessageText) → AllZip HasText rs ms → text_lines reference index (map text_of rs) ≡ message_lines reference index ms
@@ -62,4 +62,4 @@ one-record-each (Some bytes) ms count is h = ap (λ (n : ℕ). n + 1) is ∙ sym
 pub unread-plan : (finds : List ℕ → Option Told → Type 0) (name : List ℕ) (told : Told) (fault : Fault) → finds name (Some told) → (fault ≡ OutOfMemory) ⊎ TellsUnread Messages fault → OfFile finds name (λ bytes. TellsPlan (records_of bytes) fault)
 unread-plan finds name None fault found tells = (None, found, tt)
 unread-plan finds name (Some bytes) fault found (inl is) = (Some bytes, found, inl (input.OutOfMemory, inl (inr refl), is))
-unread-plan finds name (Some bytes) fault found (inr (unread, is, of)) = (Some bytes, found, inl (input.Unreadable unread, inl (inl (unread, refl, of)), is))
+unread-plan finds name (Some bytes) fault found (inr (error, is)) = (Some bytes, found, inl (input.Unreadable Messages error, inl (inl (error, refl)), is))

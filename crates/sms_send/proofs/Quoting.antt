@@ -3,25 +3,43 @@ use Rattle.std.proofs.Common.{◌≡◌, ◌∙◌, ◌⊎◌, inl, inr, refl, s
 use Rattle.std.specs.Prelude.{◌≢◌, ◌||◌, Bool, IfErr, IfOk, OnOk, String, string_bytes, if◌then◌else◌}
 use Rattle.std.specs.Io.KnownBytes.{Appends}
 use Rattle.std.specs.declared.alloc.Global.{Global}
+use Rattle.std.specs.declared.io.ErrorKind.{ErrorKind}
 use Rattle.std.proofs.KnownBytes.{Appends-nil, Appends-trans}
 use Rattle.std.proofs.lemmas.Option.{IfSome_then}
-use Rattle.sms_files.specs.ConfigFaults.{TellsConfig}
+use Rattle.sms_files.specs.ConfigFaults.{IsConfig, TellsConfig}
 use Rattle.sms_files.specs.Inputs.{Told}
-use Rattle.sms_files.specs.Setups.{names_in}
+use Rattle.sms_files.specs.Setups.{setup_in}
+use Rattle.sms_files.specs.declared.config.Config.{Config}
 use Rattle.sms_files.specs.declared.config.FileNames.{FileNames}
 use Rattle.sms_files.specs.declared.fault.InputFault.{InputFault}
 use Rattle.sms_files.specs.declared.fault.InputFault.TheVariants as input
 use Rattle.sms_files.specs.declared.input.Input.{Input}
 use Rattle.sms_files.specs.declared.setup.Setup.{Setup}
-use Rattle.sms_report.specs.Output.{WritesFront}
+use Rattle.sms_files.specs.Output.{WritesFront}
 use Rattle.sms_send.specs.Faults.{TellsRead, told_input, output_failed}
 use Rattle.sms_send.specs.Opened.{AreFound, OfFile, TellsUnreadFile}
 use Rattle.sms_send.specs.FullNames.{TellsIfKept}
 use Rattle.sms_send.specs.Quoted.{FailsBehind, HasQuote, PrintsFront, PrintsQuote, QuotesAndTells, QuotesAndWarns, QuotesAsAsked, QuotesFiles, QuotesNamedAndTells, TellsFront, TellsFrontAsAsked, TellsFrontNamed, TellsNames, TellsQuoteFiles, TellsQuoteJob, TellsQuoteNamed, WarnsFront, warnings_of}
-use Rattle.sms_send.specs.declared.fault.Fault.{Fault}
-use Rattle.sms_send.specs.declared.fault.Fault.TheVariants.{File, OutOfMemory}
-use Rattle.sms_send.proofs.Noting.{IsSetUp}
-use Rattle.sms_send.proofs.Sendings.{beside, of_config, of_two}
+use Rattle.sms_send.specs.declared.faults.fault.Fault.{Fault}
+use Rattle.sms_send.specs.declared.faults.fault.Fault.TheVariants.{File, OutOfMemory}
+use Rattle.sms_send.proofs.Sendings.{beside, of_two}
+
+-- what holds of a setup holds of that of the config that it is of
+of_config : (finds : List ℕ → Option Told → Type 0) (name items read handed : List ℕ) (setup : Setup) (Q : Setup → List ℕ → Type 0) (P : List ℕ → Type 0)
+    → OfFile finds name (λ bytes. items ≡ bytes) → read ≡ items → handed ≡ items
+    → ((config : Config) × IsConfig read config × (setup ≡ setup_in config))
+    → ((octets : List ℕ) → ((config : Config) × IsConfig octets config × Q (setup_in config) octets) → P octets)
+    → Q setup handed → OfFile finds name P
+of_config finds name items read handed setup Q P input one two (config, says, same) into holds =
+    beside finds name items items P input refl
+    (into items (config, subst (λ (octets : List ℕ). IsConfig octets config) one says, subst (λ (octets : List ℕ). Q (setup_in config) octets) two (subst (λ (s : Setup). Q s handed) same holds)))
+
+-- what was read of a config: its octets are those of the file of its name, and the setup is of the config that they are
+pub record IsSetUp (finds : List ℕ → Option Told → Type 0) (name items read handed : List ℕ) (setup : Setup) : Type 0 where
+  pub input : OfFile finds name (λ bytes. items ≡ bytes)
+  pub one : read ≡ items
+  pub two : handed ≡ items
+  pub says : (config : Config) × IsConfig read config × (setup ≡ setup_in config)
 
 pub on_ok_both : {T E P Q R : Type 0} (r : Result T E) → (P → Q → R) → OnOk r P → OnOk r Q → OnOk r R
 on_ok_both (Ok x) f p q = f p q
@@ -40,18 +58,18 @@ printed_front given text out old new quote same front = record { text = text; qu
 
 -- a fault of what is read is none of the output
 never_output : (f : InputFault) → told_input f ≡ output_failed → ⊥
-never_output (input.Unreadable unread) e = cc
-never_output (input.BadRecord source place) e = cc
-never_output input.NotToml e = cc
-never_output (input.BadKey key) e = cc
+never_output (input.Unreadable source error) e = cc
+never_output (input.BadRecord source place detail) e = cc
+never_output (input.NotToml flaw) e = cc
+never_output (input.BadKey key found) e = cc
 never_output input.OutOfMemory e = cc
 
 pub read_is_no_output : {A : Type 0} (P : InputFault → Type 0) (fault : Fault) → TellsRead P fault → fault ≡ output_failed → A
 read_is_no_output P fault (f, holds, told) is = absurd (never_output f (sym told ∙ is))
 
 -- so is one of a file's name, and want of memory
-pub name_is_no_output : {A : Type 0} (fault : Fault) (name : String Global) → fault ≡ File name → fault ≡ output_failed → A
-name_is_no_output fault name told is = let bad = sym told ∙ is in cc
+pub name_is_no_output : {A : Type 0} (fault : Fault) (name : String Global) → ((kind : ErrorKind) × (fault ≡ File name kind)) → fault ≡ output_failed → A
+name_is_no_output fault name (kind, told) is = let bad = sym told ∙ is in cc
 
 pub memory_is_no_output : {A : Type 0} (fault : Fault) → fault ≡ OutOfMemory → fault ≡ output_failed → A
 memory_is_no_output fault told is = let bad = sym told ∙ is in cc
@@ -59,7 +77,7 @@ memory_is_no_output fault told is = let bad = sym told ∙ is in cc
 pub config_is_no_output : {A : Type 0} (finds : List ℕ → Option Told → Type 0) (name : String Global) (fault : Fault) → (fault ≡ OutOfMemory) ⊎ TellsUnreadFile finds name fault → fault ≡ output_failed → A
 config_is_no_output finds name fault (inl memory) is = memory_is_no_output fault memory is
 config_is_no_output finds name fault (inr (inl lost)) is = name_is_no_output fault name lost.0 is
-config_is_no_output finds name fault (inr (inr unread)) is = let bad = sym unread.0 ∙ is in cc
+config_is_no_output finds name fault (inr (inr ((error, kind, unread), found))) is = let bad = sym unread ∙ is in cc
 
 -- of files that were opened
 pub named_tells : (finds : List ℕ → Option Told → Type 0) (names : FileNames) (config lines shown : List ℕ) (accounts messages : Told) (tariff : Option Told) (old new told_old mid told_new : Option (List ℕ))
@@ -78,20 +96,20 @@ named_tells finds names config lines shown accounts messages tariff old new told
 
 -- of those that a config names
 pub set_up_quotes : (finds : List ℕ → Option Told → Type 0) (is_full : List ℕ → List ℕ → Type 0) (at_length : Bool) (name items read handed : List ℕ) (setup : Setup) (lines : List ℕ) (old new told_old told_new : Option (List ℕ))
-    → IsSetUp finds name items read handed setup → TellsNames is_full at_length name (names_in setup) lines → QuotesNamedAndTells finds (names_in setup) handed lines old new told_old told_new
+    → IsSetUp finds name items read handed setup → TellsNames is_full at_length name setup.files lines → QuotesNamedAndTells finds setup.files handed lines old new told_old told_new
     → OfFile finds name (λ octets. QuotesAndTells finds is_full at_length name octets old new told_old told_new)
 set_up_quotes finds is_full at_length name items read handed setup lines old new told_old told_new set named quotes =
     of_config finds name items read handed setup
-    (λ s octets. (lines : List ℕ) × TellsNames is_full at_length name (names_in s) lines × QuotesNamedAndTells finds (names_in s) octets lines old new told_old told_new)
+    (λ s octets. (lines : List ℕ) × TellsNames is_full at_length name s.files lines × QuotesNamedAndTells finds s.files octets lines old new told_old told_new)
     (λ octets. QuotesAndTells finds is_full at_length name octets old new told_old told_new)
     set.input set.one set.two set.says (λ octets so. (so.0, so.1, so.2.0, so.2.1, so.2.2)) (lines, named, quotes)
 
 pub set_up_fronts : (finds : List ℕ → Option Told → Type 0) (is_full : List ℕ → List ℕ → Type 0) (at_length : Bool) (name items read handed : List ℕ) (setup : Setup) (lines : List ℕ) (told_old told_new : Option (List ℕ))
-    → IsSetUp finds name items read handed setup → TellsNames is_full at_length name (names_in setup) lines → TellsFrontNamed finds (names_in setup) handed lines told_old told_new
+    → IsSetUp finds name items read handed setup → TellsNames is_full at_length name setup.files lines → TellsFrontNamed finds setup.files handed lines told_old told_new
     → OfFile finds name (λ octets. TellsFront finds is_full at_length name octets told_old told_new)
 set_up_fronts finds is_full at_length name items read handed setup lines told_old told_new set named front =
     of_config finds name items read handed setup
-    (λ s octets. (lines : List ℕ) × TellsNames is_full at_length name (names_in s) lines × TellsFrontNamed finds (names_in s) octets lines told_old told_new)
+    (λ s octets. (lines : List ℕ) × TellsNames is_full at_length name s.files lines × TellsFrontNamed finds s.files octets lines told_old told_new)
     (λ octets. TellsFront finds is_full at_length name octets told_old told_new)
     set.input set.one set.two set.says (λ octets so. (so.0, so.1, so.2.0, so.2.1, so.2.2)) (lines, named, front)
 
@@ -127,9 +145,9 @@ front_asked finds is_full shows name verbose terminal at_length told_old told_ne
     (terminal, shown, subst (λ (b : Bool). OfFile finds (string_bytes name) (λ octets. TellsFront finds is_full b (string_bytes name) octets told_old told_new)) same front)
 
 pub set_up_tells : (finds : List ℕ → Option Told → Type 0) (items read handed : List ℕ) (setup : Setup) (name : String Global) (old new : Option (List ℕ)) (fault : Fault)
-    → IsSetUp finds (string_bytes name) items read handed setup → TellsQuoteNamed finds (names_in setup) handed old new fault → TellsQuoteJob finds name old new fault
+    → IsSetUp finds (string_bytes name) items read handed setup → TellsQuoteNamed finds setup.files handed old new fault → TellsQuoteJob finds name old new fault
 set_up_tells finds items read handed setup name old new fault set tells =
-    inr (inr (of_config finds (string_bytes name) items read handed setup (λ s octets. TellsQuoteNamed finds (names_in s) octets old new fault) (λ octets. TellsQuoteFiles finds octets old new fault)
+    inr (inr (of_config finds (string_bytes name) items read handed setup (λ s octets. TellsQuoteNamed finds s.files octets old new fault) (λ octets. TellsQuoteFiles finds octets old new fault)
     set.input set.one set.two set.says (λ octets so. inr so) tells))
 
 pub config_tells : (finds : List ℕ → Option Told → Type 0) (name : String Global) (old new : Option (List ℕ)) (fault : Fault)

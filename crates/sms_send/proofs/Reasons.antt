@@ -1,18 +1,33 @@
--- What a sending ended with, and what that is once the reason of a missing connection is told.
-use Rattle.std.proofs.Common.{◌≡◌, ◌∙◌, ◌⊎◌, inr, ap, ℕ, Result, Ok, Err, IfErr}
+-- What a sending ended with, and what that is once the reason of a missing connection is added.
+use Rattle.std.proofs.Common.{◌≡◌, ◌∙◌, ◌⊎◌, inr, ap, ℕ, Bool, List, Option, Result, Ok, Err, IfErr, IfOk}
 use Rattle.std.specs.Prelude.{◌≢◌}
-use Rattle.sms_devices.specs.declared.connecting.Unconnected.{Unconnected as Why}
-use Rattle.sms_send.specs.Faults.{IsTold, with_reason, output_failed}
-use Rattle.sms_send.specs.declared.fault.Fault.{Fault}
+use Rattle.sms_devices.specs.Centres.{CentreAt}
+use Rattle.sms_devices.specs.declared.transport.connecting.Unconnected.{Unconnected as Why}
+use Rattle.sms_driver.specs.declared.start.StartPhase.{StartPhase}
+use Rattle.sms_files.specs.Inputs.{Told}
+use Rattle.sms_files.specs.declared.input.Input.{Input}
+use Rattle.sms_send.specs.Faults.{with_reason, output_failed}
+use Rattle.sms_send.specs.Sent.{FailsSending, SendingEnd, TellsSending, unknown}
+use Rattle.sms_send.specs.declared.faults.fault.Fault.{Fault}
+use Rattle.sms_send.proofs.Starts.{IsOf, reason_at}
 
--- a fault is that of the sending, told with a reason
-abbrev pub IsOf : Result ℕ Fault → Fault → Type 0
-IsOf x fault = (f : Fault) × (x ≡ Err f) × (why : Why) × (fault ≡ with_reason why f)
-
-pub reasoned_told : (r x : Result ℕ Fault) (P Q : Fault → Type 0) → IfErr r (IsOf x) → IfErr x P → IfErr r (λ fault. Q fault ⊎ IsTold P fault)
-reasoned_told (Ok s) x P Q told holds = tt
-reasoned_told (Err e) x P Q (f, is, why, same) holds = inr (f, rw is at holds, why, same)
-
-pub reasoned_quiet : (r x : Result ℕ Fault) (A : Type 0) → IfErr r (IsOf x) → IfErr x (λ f. f ≢ output_failed → A) → IfErr r (λ f. f ≢ output_failed → A)
-reasoned_quiet (Ok s) x A told quiet = tt
-reasoned_quiet (Err e) x A (f, is, why, same) quiet = λ other. (rw is at quiet) (λ out. other (same ∙ ap (with_reason why) out))
+-- the sending ended so, and the fault has a reason
+pub reasoned_end : {W : Type 0} (r x : Result ℕ Fault) (centre : CentreAt) (told : ℕ → Told) (strict : Bool) (given : Input) (begun : StartPhase) (before after : W) (old new : Option (List ℕ))
+    → IfOk r (λ s. x ≡ Ok s) → IfErr r (IsOf x) → SendingEnd told strict given (TellsSending unknown told given old new) begun before after old new x
+    → SendingEnd told strict given (FailsSending centre told given old new) begun before after old new r
+reasoned_end (Ok s) x centre told strict given begun before after old new same of end = record {
+  sent = rw same at end.sent;
+  status = rw same at end.status;
+  started = rw same at end.started;
+  refused = tt;
+  phase = tt;
+  unwritten = tt;
+}
+reasoned_end (Err e) x centre told strict given begun before after old new same (f, is, why, with_why) end = record {
+  sent = tt;
+  status = tt;
+  started = tt;
+  refused = inr (f, rw is at end.refused, why, with_why);
+  phase = reason_at begun why f e with_why (rw is at end.phase);
+  unwritten = λ other. (rw is at end.unwritten) (λ out. other (with_why ∙ ap (with_reason why) out));
+}

@@ -1,11 +1,11 @@
 -- What a recovery says, and that its journal is of other files.
 use Rattle.std.proofs.Common.{◌≡◌, ◌∙◌, ap, inl, inr, sym, Result, Ok, Err, IfOk, OnOk}
-use Rattle.sms_journal.specs.declared.digests.RunFile.{RunFile}
-use Rattle.sms_recovery.specs.declared.fault.RecoveryFault.{RecoveryFault}
-use Rattle.sms_recovery.specs.declared.fault.RecoveryFault.TheVariants.{OtherFiles}
+use Rattle.sms_journal.specs.declared.text.digests.RunFile.{RunFile}
+use Rattle.sms_journal.specs.declared.recovery.fault.RecoveryFault.{RecoveryFault}
+use Rattle.sms_journal.specs.declared.recovery.fault.RecoveryFault.TheVariants.{OtherFiles}
 use Rattle.sms_send.specs.Faults.{IsToldOfFiles, told_recovery}
 use Rattle.sms_send.specs.Recovered.{TellsOther}
-use Rattle.sms_send.specs.declared.fault.Fault.{Fault}
+use Rattle.sms_send.specs.declared.faults.fault.Fault.{Fault}
 
 pub on_ok : {T E Q : Type 0} {P : T → Type 0} (r : Result T E) → ((x : T) → P x → Q) → IfOk r P → OnOk r Q
 on_ok (Ok x) f holds = f x holds

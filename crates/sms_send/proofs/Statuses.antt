@@ -1,10 +1,9 @@
 -- Which exit status a sending may have.
 use Rattle.std.proofs.Common.{◌≡◌, inl, inr, refl, ℕ, Bool, true, false, List}
 use Rattle.std.specs.Prelude.{◌==◌, ◌&&◌, not, if◌then◌else◌}
-use Rattle.sms_report.specs.Report.{ends_status, some_unanswered}
-use Rattle.sms_send.specs.Jobs.{IsStatusBy}
-use Rattle.sms_report.specs.Whole.{are_whole}
-use Rattle.sms_send.specs.Statuses.{status_by}
+use Rattle.sms_files.specs.Report.{ends_status, some_unanswered}
+use Rattle.sms_files.specs.Whole.{are_whole}
+use Rattle.sms_send.specs.Statuses.{IsStatusBy, status_by}
 use Rattle.sms_worker.specs.Types.{MessageEnd}
 
 by_segments : (strict b : Bool) (status : ℕ) → status ≡ (if b then 4 else 0) → IsStatusBy strict status

@@ -2,16 +2,16 @@
 use Rattle.std.proofs.Common.{◌≡◌, refl, ap, ℕ, inl, inr, List, Option, Some, None, IfSome, Result, Ok, Err, IfErr}
 use Rattle.std.specs.Result.{IsErrAnd}
 use Rattle.sms_files.specs.Fields.{Record, records_of}
-use Rattle.sms_files.specs.Records.{TellsRecords}
+use Rattle.sms_files.specs.Records.{TellsRecords, Trouble}
 use Rattle.sms_files.specs.declared.fault.InputFault.{InputFault}
 use Rattle.sms_files.specs.declared.fault.InputFault.TheVariants as input
 use Rattle.sms_files.specs.declared.fault.Source.{Source}
-use Rattle.sms_report.specs.declared.fault.OutputFault.{OutputFault}
-use Rattle.sms_report.specs.Output.{output_failed as writing_failed}
+use Rattle.sms_files.specs.declared.report.fault.OutputFault.{OutputFault}
+use Rattle.sms_files.specs.Output.{output_failed as writing_failed}
 use Rattle.sms_send.specs.Faults.{TellsRead, told_input, told_output, output_failed}
 use Rattle.sms_send.specs.Opened.{TellsFile}
-use Rattle.sms_send.specs.declared.fault.Fault.{Fault}
-use Rattle.sms_send.specs.declared.fault.Fault.TheVariants.{OutOfMemory}
+use Rattle.sms_send.specs.declared.faults.fault.Fault.{Fault}
+use Rattle.sms_send.specs.declared.faults.fault.Fault.TheVariants.{OutOfMemory}
 
 -- what holds of a fault holds of it when it is told
 pub told_so : {T E : Type 0} (r : Result T E) (e : E) (P : E → Type 0) → IsErrAnd r (λ f. f ≡ e) → P e → IfErr r P
@@ -32,32 +32,32 @@ at_known o P x h e = rw e at h
 
 -- what a fault of a job says of its source: one in reading it, want of memory, and one in writing
 
-pub told-reading : (source : Source) (o : Option (List ℕ)) (faulty : List Record → Option ℕ) (f : InputFault)
+pub told-reading : (source : Source) (o : Option (List ℕ)) (faulty : List Record → Option Trouble) (f : InputFault)
     → IfSome o (λ bytes. TellsRecords source (faulty (records_of bytes)) f) → IfSome o (λ bytes. TellsFile source (faulty (records_of bytes)) (told_input f))
 told-reading source None faulty f h = tt
 told-reading source (Some bytes) faulty f h = inl (f, h, refl)
 
 -- one that was told already
-pub told-read : (source : Source) (o : Option (List ℕ)) (faulty : List Record → Option ℕ) (f : Fault)
+pub told-read : (source : Source) (o : Option (List ℕ)) (faulty : List Record → Option Trouble) (f : Fault)
     → IfSome o (λ bytes. TellsRead (TellsRecords source (faulty (records_of bytes))) f) → IfSome o (λ bytes. TellsFile source (faulty (records_of bytes)) f)
 told-read source None faulty f h = tt
 told-read source (Some bytes) faulty f h = inl h
 
 -- one of a read whose text is not made yet
-pub told-first : (source : Source) (o : Option (List ℕ)) (faulty : List Record → Option ℕ) (f : InputFault)
+pub told-first : (source : Source) (o : Option (List ℕ)) (faulty : List Record → Option Trouble) (f : InputFault)
     → IfSome o (λ bytes. TellsRecords source (faulty (records_of bytes)) f) → IfSome o (λ bytes. TellsRead (TellsRecords source (faulty (records_of bytes))) (told_input f))
 told-first source None faulty f h = tt
 told-first source (Some bytes) faulty f h = (f, h, refl)
 
-pub no-memory : (source : Source) (o : Option (List ℕ)) (faulty : List Record → Option ℕ) → IfSome o (λ bytes. TellsRead (TellsRecords source (faulty (records_of bytes))) OutOfMemory)
+pub no-memory : (source : Source) (o : Option (List ℕ)) (faulty : List Record → Option Trouble) → IfSome o (λ bytes. TellsRead (TellsRecords source (faulty (records_of bytes))) OutOfMemory)
 no-memory source None faulty = tt
 no-memory source (Some bytes) faulty = (input.OutOfMemory, inl (inr refl), refl)
 
-pub told-memory : (source : Source) (o : Option (List ℕ)) (faulty : List Record → Option ℕ) → IfSome o (λ bytes. TellsFile source (faulty (records_of bytes)) OutOfMemory)
+pub told-memory : (source : Source) (o : Option (List ℕ)) (faulty : List Record → Option Trouble) → IfSome o (λ bytes. TellsFile source (faulty (records_of bytes)) OutOfMemory)
 told-memory source None faulty = tt
 told-memory source (Some bytes) faulty = inl (input.OutOfMemory, inl (inr refl), refl)
 
-pub told-writing : (source : Source) (o : Option (List ℕ)) (faulty : List Record → Option ℕ) (f : OutputFault)
+pub told-writing : (source : Source) (o : Option (List ℕ)) (faulty : List Record → Option Trouble) (f : OutputFault)
     → IfSome o (λ bytes. faulty (records_of bytes) ≡ None) → f ≡ writing_failed → IfSome o (λ bytes. TellsFile source (faulty (records_of bytes)) (told_output f))
 told-writing source None faulty f h e = tt
 told-writing source (Some bytes) faulty f h e = inr (ap told_output e, h)

@@ -10,15 +10,18 @@ use Rattle.clap.specs.declared.builder.action.ArgAction.TheVariants.{SetTrue}
 use Rattle.clap.specs.declared.error.kind.ErrorKind.{ErrorKind}
 use Rattle.clap.specs.declared.error.kind.ErrorKind.TheVariants as kind
 use Rattle.sms_core.specs.Decimal.{decimal_in}
-use Rattle.sms_send.specs.declared.fault.Fault.{Fault}
-use Rattle.sms_send.specs.declared.fault.Fault.TheVariants.{Words, Help, Version, OutOfMemory}
-use Rattle.sms_send.specs.declared.job.Job.{Job}
-use Rattle.sms_send.specs.declared.job.Job.TheVariants.{Loop, Plan, Quote, Recover, Replay, Rest, Send}
-use Rattle.sms_send.specs.declared.job.Subcommand.{Subcommand}
-use Rattle.sms_send.specs.declared.order.JournalFile.{JournalFile}
-use Rattle.sms_send.specs.declared.order.Order.{Order}
-use Rattle.sms_send.specs.declared.order.Pace.{Pace}
-use Rattle.sms_send.specs.declared.job.Subcommand.TheVariants as sub
+use Rattle.sms_send.specs.Faults.{IsWords}
+use Rattle.sms_send.specs.declared.faults.argument_error.NumberOption.{NumberOption}
+use Rattle.sms_send.specs.declared.faults.argument_error.NumberOption.TheVariants.{ConnectMs, Rate, StopAfter}
+use Rattle.sms_send.specs.declared.faults.fault.Fault.{Fault}
+use Rattle.sms_send.specs.declared.faults.fault.Fault.TheVariants.{Words, Help, Version, OutOfMemory}
+use Rattle.sms_send.specs.declared.args.job.Job.{Job}
+use Rattle.sms_send.specs.declared.args.job.Job.TheVariants.{Loop, Plan, Quote, Recover, Replay, Rest, Send}
+use Rattle.sms_send.specs.declared.args.job.Subcommand.{Subcommand}
+use Rattle.sms_send.specs.declared.args.send_args.JournalFile.{JournalFile}
+use Rattle.sms_send.specs.declared.args.send_args.SendArgs.{SendArgs}
+use Rattle.sms_send.specs.declared.args.send_args.Throttle.{Throttle}
+use Rattle.sms_send.specs.declared.args.job.Subcommand.TheVariants as sub
 
 -- a subcommand with these arguments more, in this order
 abbrev pub with_rules : App → List Rule → App
@@ -60,14 +63,14 @@ abbrev pub quote_line : App
 quote_line = with_rules (new_app (codes "quote")) (file_rule (codes "config") ∷ verbose_rule ∷ [])
 
 -- what bounds a sending
-abbrev pub pace_rules : List Rule
-pace_rules = value_rule (codes "connect-ms") ∷ value_rule (codes "rate") ∷ value_rule (codes "stop-after") ∷ []
+abbrev pub throttle_rules : List Rule
+throttle_rules = value_rule (codes "connect-ms") ∷ value_rule (codes "rate") ∷ value_rule (codes "stop-after") ∷ []
 
 -- `loop --config FILE` or `send --config FILE`, with the other words or without
 abbrev pub sender_line : Text → App
 sender_line name = with_rules
     (with_rules (new_app name) (file_rule (codes "config") ∷ flag_rule (codes "quiet") ∷ value_rule (codes "journal") ∷ flag_rule (codes "sync") ∷ flag_rule (codes "strict") ∷ verbose_rule ∷ []))
-    pace_rules
+    throttle_rules
 
 -- `recover --config FILE --journal FILE`, with `--trial` or without, and `rest --config FILE --report FILE`, with `--accounts` or without
 abbrev pub recover_line : App
@@ -139,18 +142,18 @@ AsksToNote rows None = (first_of (codes "journal") rows ≡ None) × (is_set (fi
 AsksToNote rows (Some file) = (first_of (codes "journal") rows ≡ Some (string_bytes file.name)) × (is_set (first_of (codes "sync") rows) ≡ file.sync)
 
 -- what they say bounds the sending
-pub record HasPace (rows : List Row) (pace : Pace) : Type 0 where
-  pub connect_ms : number_of 600000 (first_of (codes "connect-ms") rows) ≡ Some pace.connect_ms
-  pub rate : number_of 100000 (first_of (codes "rate") rows) ≡ Some pace.rate
-  pub stop_after : number_of 1000000 (first_of (codes "stop-after") rows) ≡ Some pace.stop_after
+pub record HasThrottle (rows : List Row) (throttle : Throttle) : Type 0 where
+  pub connect_ms : number_of 600000 (first_of (codes "connect-ms") rows) ≡ Some throttle.connect_ms
+  pub rate : number_of 100000 (first_of (codes "rate") rows) ≡ Some throttle.rate
+  pub stop_after : number_of 1000000 (first_of (codes "stop-after") rows) ≡ Some throttle.stop_after
 
 -- the sending that they ask for
-pub record AsksToSend (rows : List Row) (order : Order) : Type 0 where
+pub record AsksToSend (rows : List Row) (order : SendArgs) : Type 0 where
   pub config : first_of (codes "config") rows ≡ Some (string_bytes order.config)
   pub quiet : is_set (first_of (codes "quiet") rows) ≡ order.quiet
   pub verbose : is_set (first_of (codes "verbose") rows) ≡ order.verbose
   pub journal : AsksToNote rows order.journal
-  pub pace : HasPace rows order.pace
+  pub throttle : HasThrottle rows order.throttle
   pub strict : is_set (first_of (codes "strict") rows) ≡ order.strict
 
 -- the names of the config and of the file of this other option
@@ -176,22 +179,25 @@ IsJob (Some found) job = (s : Subcommand) × (subcommand_named found.0 ≡ Some 
 
 -- a fault refuses words for this reason, or memory ran out
 abbrev pub TellsFor : Type 0 → Fault → Type 0
-TellsFor reason fault = (fault ≡ OutOfMemory) ⊎ ((fault ≡ Words) × reason)
+TellsFor reason fault = (fault ≡ OutOfMemory) ⊎ (IsWords fault × reason)
 
 -- the disk is to have a journal that isn't asked for
 abbrev pub IsWrongSync : List Row → Type 0
 IsWrongSync rows = (first_of (codes "journal") rows ≡ None) × (is_set (first_of (codes "sync") rows) ≡ true)
 
--- a number is out of range
-abbrev pub IsWrongPace : List Row → Type 0
-IsWrongPace rows =
-    (number_of 600000 (first_of (codes "connect-ms") rows) ≡ None)
-    ⊎ (number_of 100000 (first_of (codes "rate") rows) ≡ None)
-    ⊎ (number_of 1000000 (first_of (codes "stop-after") rows) ≡ None)
+-- the number of an option is out of range
+abbrev pub IsWrongNumber : NumberOption → List Row → Type 0
+IsWrongNumber ConnectMs rows = number_of 600000 (first_of (codes "connect-ms") rows) ≡ None
+IsWrongNumber Rate rows = number_of 100000 (first_of (codes "rate") rows) ≡ None
+IsWrongNumber StopAfter rows = number_of 1000000 (first_of (codes "stop-after") rows) ≡ None
+
+-- one of those that bound a sending is
+abbrev pub IsWrongThrottle : List Row → Type 0
+IsWrongThrottle rows = (option : NumberOption) × IsWrongNumber option rows
 
 -- what is wrong with the matches of a sender
-abbrev pub IsRefusedOrder : List Row → Type 0
-IsRefusedOrder rows = (first_of (codes "config") rows ≡ None) ⊎ IsWrongSync rows ⊎ IsWrongPace rows
+abbrev pub AreRefusedArgs : List Row → Type 0
+AreRefusedArgs rows = (first_of (codes "config") rows ≡ None) ⊎ IsWrongSync rows ⊎ IsWrongThrottle rows
 
 -- the name of the config or of the file of this other option is missing
 abbrev pub LacksName : Text → List Row → Type 0
@@ -202,8 +208,8 @@ abbrev pub IsRefused : Subcommand → List Row → Type 0
 IsRefused sub.Replay rows = first_of (codes "FILE") rows ≡ None
 IsRefused sub.Plan rows = first_of (codes "messages") rows ≡ None
 IsRefused sub.Quote rows = first_of (codes "config") rows ≡ None
-IsRefused sub.Loop rows = IsRefusedOrder rows
-IsRefused sub.Send rows = IsRefusedOrder rows
+IsRefused sub.Loop rows = AreRefusedArgs rows
+IsRefused sub.Send rows = AreRefusedArgs rows
 IsRefused sub.Recover rows = LacksName (codes "journal") rows
 IsRefused sub.Rest rows = LacksName (codes "report") rows
 
@@ -217,7 +223,7 @@ TellsMet (Some found) fault = TellsFor ((subcommand_named found.0 ≡ None) ⊎ 
 abbrev pub TellsRefusal : Kinds → Fault → Type 0
 TellsRefusal kinds (Help text) = IsAmong kind.DisplayHelp kinds
 TellsRefusal kinds (Version text) = IsAmong kind.DisplayVersion kinds
-TellsRefusal kinds Words = (k : ErrorKind) × (k ≢ kind.DisplayHelp) × (k ≢ kind.DisplayVersion) × IsAmong k kinds
+TellsRefusal kinds (Words why) = (k : ErrorKind) × (k ≢ kind.DisplayHelp) × (k ≢ kind.DisplayVersion) × IsAmong k kinds
 TellsRefusal kinds OutOfMemory = Unit {0}
 TellsRefusal kinds _ = ⊥
 

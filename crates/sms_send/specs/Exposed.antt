@@ -1,7 +1,7 @@
 -- Whether a config has a password, whether others can read it, and what is told where they can. Which mode a file may have is a relation
 -- of the world that the program runs in.
 use Rattle.std.specs.Prelude.{◌≡◌, ℕ, Bool, false, not, ◌==◌, ◌&&◌, if◌then◌else◌, List, [], length, Option, Some, None, option_and_then, codes}
-use Rattle.sms_diagnostics.specs.Modes.{lets_others_read}
+use Rattle.sms_send.specs.Modes.{lets_others_read}
 use Rattle.sms_files.specs.ConfigFaults.{toml_of}
 use Rattle.toml.specs.Data.{Members, as_str, get_member}
 

@@ -1,6 +1,6 @@
 -- What is told of the files that a quote reads, by what may be the full name of the file of a name.
 use Rattle.std.specs.Prelude.{◌≡◌, ◌≢◌, ℕ, List, [], Option, None, Some, string_bytes}
-use Rattle.sms_diagnostics.specs.FilesRead.{file_lines}
+use Rattle.sms_send.specs.FilesRead.{file_lines}
 use Rattle.sms_files.specs.declared.config.FileNames.{FileNames}
 
 -- the full name of the file of a name, which is there just where that isn't empty

@@ -1,5 +1,5 @@
 -- What the program does: a job, of an input of the kind that the job names.
-use Rattle.std.specs.Prelude.{◌≡◌, ◌⊎◌, Bool, true, ℕ, List, Option, None, Some, string_bytes}
+use Rattle.std.specs.Prelude.{◌≡◌, ◌⊎◌, Bool, true, ℕ, List, Option, None, Some, is_some, string_bytes}
 use Rattle.std.specs.Io.KnownBytes.{Appends}
 use Rattle.clap.specs.Words.{Text}
 use Rattle.sms_devices.specs.Centres.{CentreAt}
@@ -7,36 +7,32 @@ use Rattle.sms_send.specs.CommandLine.{IsJob, TellsWords, subcommand_in}
 use Rattle.sms_files.specs.Fields.{records_of}
 use Rattle.sms_files.specs.Inputs.{Told}
 use Rattle.sms_files.specs.Messages.{messages_fault}
-use Rattle.sms_report.specs.PlanText.{kind_of, plan_of}
+use Rattle.sms_files.specs.PlanText.{kind_of, plan_of}
 use Rattle.sms_send.specs.Opened.{OfFile, OfInput, TellsLost}
 use Rattle.sms_send.specs.Plans.{TellsPlan, Warns, WarnsFront}
 use Rattle.sms_send.specs.Quoted.{QuotesAsAsked, QuotesFiles, TellsFrontAsAsked, TellsQuoteJob}
-use Rattle.sms_report.specs.Output.{WritesFront}
-use Rattle.sms_send.specs.Recovered.{PrintsLeft, RecoversAndTells, RecoversOrder, TellsRecoverJob, TellsRestJob, trial_line}
+use Rattle.sms_files.specs.Output.{WritesFront}
+use Rattle.sms_send.specs.Recovered.{PrintsLeft, RecoversAndTells, RecoversBy, TellsRecoverJob, TellsRestJob, trial_line}
 use Rattle.sms_send.specs.Replays.{Replays, TellsReplay}
 use Rattle.sms_send.specs.Runs.{IsRun}
-use Rattle.sms_send.specs.Noted.{IsToldNoted, SendsBy, TellsOrder}
-use Rattle.sms_driver.specs.declared.latch.Word.TheVariants.{Go}
-use Rattle.sms_driver.specs.declared.start.Begun.{Begun}
-use Rattle.sms_driver.specs.declared.start.Begun.TheVariants.{NotYet, Heard}
-use Rattle.sms_send.specs.declared.fault.Fault.{Fault}
-use Rattle.sms_send.specs.declared.job.Job.{Job}
-use Rattle.sms_send.specs.declared.order.JournalFile.{JournalFile}
-use Rattle.sms_send.specs.declared.job.Job.TheVariants.{Loop, Plan, Quote, Recover, Replay, Rest, Send}
-use Rattle.sms_send.specs.declared.run_files.RunFiles.{RunFiles}
-use Rattle.sms_send.specs.declared.send_job.Centre.TheVariants.{Named, Own}
+use Rattle.sms_send.specs.Statuses.{IsStatus, IsStatusBy}
+use Rattle.sms_send.specs.Noted.{IsToldNoted}
+use Rattle.sms_send.specs.SendJobs.{FailsSendJob, SendsBy}
+use Rattle.sms_driver.specs.declared.start_gate.Command.TheVariants.{Go}
+use Rattle.sms_driver.specs.declared.start.StartPhase.{StartPhase}
+use Rattle.sms_driver.specs.declared.start.StartPhase.TheVariants.{Idle, Released}
+use Rattle.sms_send.specs.declared.faults.fault.Fault.{Fault}
+use Rattle.sms_send.specs.declared.args.job.Job.{Job}
+use Rattle.sms_send.specs.declared.args.send_args.JournalFile.{JournalFile}
+use Rattle.sms_send.specs.declared.args.job.Job.TheVariants.{Loop, Plan, Quote, Recover, Replay, Rest, Send}
+use Rattle.sms_send.specs.declared.files.run_files.RunFiles.{RunFiles}
+use Rattle.sms_send.specs.declared.sending.target.TargetKind.TheVariants.{Loopback, Remote}
 
 -- the bytes are a messages file, and its plan with references of 16 bits or of 8 was written and nothing else
 abbrev pub Plans : Bool → List ℕ → Option (List ℕ) → Option (List ℕ) → Type 0
 Plans long bytes old new = (messages_fault (records_of bytes) ≡ None) × Appends old new (plan_of (kind_of long) (records_of bytes))
 
 -- the exit status of a job that was done: 0, of the sender and of a recovery also 4, and of the sender with `--strict` also 5
-abbrev pub IsStatus : ℕ → Type 0
-IsStatus status = (status ≡ 0) ⊎ (status ≡ 4)
-
-abbrev pub IsStatusBy : Bool → ℕ → Type 0
-IsStatusBy strict status = IsStatus status ⊎ ((strict ≡ true) × (status ≡ 5))
-
 abbrev pub IsStatusOf : Job → ℕ → Type 0
 IsStatusOf (Replay file) status = status ≡ 0
 IsStatusOf (Plan name long) status = status ≡ 0
@@ -52,9 +48,9 @@ Does standard finds tells (Replay None) old new status = OfInput standard (λ by
 Does standard finds tells (Replay (Some name)) old new status = OfFile finds (string_bytes name) (λ bytes. Replays bytes old new)
 Does standard finds tells (Plan name long) old new status = OfFile finds (string_bytes name) (λ bytes. Plans long bytes old new)
 Does standard finds tells (Quote config verbose) old new status = OfFile finds (string_bytes config) (λ octets. QuotesFiles finds octets old new)
-Does standard finds tells (Loop order) old new status = OfFile finds (string_bytes order.config) (λ octets. SendsBy tells Own order.strict finds order.journal octets old new status)
-Does standard finds tells (Send order) old new status = OfFile finds (string_bytes order.config) (λ octets. SendsBy tells Named order.strict finds order.journal octets old new status)
-Does standard finds tells (Recover order) old new status = RecoversOrder finds order old new status
+Does standard finds tells (Loop order) old new status = OfFile finds (string_bytes order.config) (λ octets. SendsBy finds tells Loopback order.strict (is_some order.journal) octets old new status)
+Does standard finds tells (Send order) old new status = OfFile finds (string_bytes order.config) (λ octets. SendsBy finds tells Remote order.strict (is_some order.journal) octets old new status)
+Does standard finds tells (Recover order) old new status = RecoversBy finds order old new status
 Does standard finds tells (Rest order) old new status = (run : RunFiles) × IsRun finds (string_bytes order.config) (string_bytes order.report) run × PrintsLeft order.accounts run old new
 
 -- what standard error was told by a job that was done: by a plan whether a quote is open, by a quote what there is to warn of and, at length, its files' full
@@ -79,22 +75,22 @@ TellsJob begins holds standard finds tells (Replay None) old new fault = OfInput
 TellsJob begins holds standard finds tells (Replay (Some name)) old new fault = TellsLost finds name fault ⊎ OfFile finds (string_bytes name) (λ bytes. TellsReplay (records_of bytes) fault)
 TellsJob begins holds standard finds tells (Plan name long) old new fault = TellsLost finds name fault ⊎ OfFile finds (string_bytes name) (λ bytes. TellsPlan (records_of bytes) fault)
 TellsJob begins holds standard finds tells (Quote config verbose) old new fault = TellsQuoteJob finds config old new fault
-TellsJob begins holds standard finds tells (Loop order) old new fault = TellsOrder begins tells finds Own order old new fault
-TellsJob begins holds standard finds tells (Send order) old new fault = TellsOrder begins tells finds Named order old new fault
+TellsJob begins holds standard finds tells (Loop order) old new fault = FailsSendJob begins finds tells Loopback order old new fault
+TellsJob begins holds standard finds tells (Send order) old new fault = FailsSendJob begins finds tells Remote order old new fault
 TellsJob begins holds standard finds tells (Recover order) old new fault = TellsRecoverJob holds finds order old new fault
 TellsJob begins holds standard finds tells (Rest order) old new fault = TellsRestJob finds order old new fault
 
 -- how far its sending came once a job was done: all workers were told to go, of one that sends
-abbrev pub HasBegun : Job → Begun → Type 0
-HasBegun (Loop order) begun = begun ≡ Heard Go
-HasBegun (Send order) begun = begun ≡ Heard Go
-HasBegun _ begun = begun ≡ NotYet
+abbrev pub HasBegun : Job → StartPhase → Type 0
+HasBegun (Loop order) begun = begun ≡ Released Go
+HasBegun (Send order) begun = begun ≡ Released Go
+HasBegun _ begun = begun ≡ Idle
 
 -- how far it came where this fault of the job is told
-abbrev pub IsToldOf : (CentreAt → Bool → ℕ → Told) → Job → Begun → Option (List ℕ) → Option (List ℕ) → Fault → Type 0
+abbrev pub IsToldOf : (CentreAt → Bool → ℕ → Told) → Job → StartPhase → Option (List ℕ) → Option (List ℕ) → Fault → Type 0
 IsToldOf tells (Loop order) begun old new fault = IsToldNoted tells order.strict begun old new fault
 IsToldOf tells (Send order) begun old new fault = IsToldNoted tells order.strict begun old new fault
-IsToldOf tells _ begun old new fault = begun ≡ NotYet
+IsToldOf tells _ begun old new fault = begun ≡ Idle
 
 -- it holds of a job that these words ask for
 abbrev pub OfJob : List Text → (Job → Type 0) → Type 0
@@ -109,8 +105,8 @@ abbrev pub TellsRun : {S : Type 0} → (JournalFile → Fault → Type 0) → (L
 TellsRun begins holds standard finds tells words old new fault = TellsWords words fault ⊎ ((job : Job) × IsJob (subcommand_in words) job × TellsJob begins holds standard finds tells job old new fault)
 
 -- how far the sending came that these words ask for, once what they ask for was done, and where this fault is told
-abbrev pub WentSo : List Text → Begun → Type 0
+abbrev pub WentSo : List Text → StartPhase → Type 0
 WentSo words begun = (job : Job) × IsJob (subcommand_in words) job × HasBegun job begun
 
-abbrev pub IsToldSo : (CentreAt → Bool → ℕ → Told) → List Text → Begun → Option (List ℕ) → Option (List ℕ) → Fault → Type 0
-IsToldSo tells words begun old new fault = ((begun ≡ NotYet) × TellsWords words fault) ⊎ ((job : Job) × IsJob (subcommand_in words) job × IsToldOf tells job begun old new fault)
+abbrev pub IsToldSo : (CentreAt → Bool → ℕ → Told) → List Text → StartPhase → Option (List ℕ) → Option (List ℕ) → Fault → Type 0
+IsToldSo tells words begun old new fault = ((begun ≡ Idle) × TellsWords words fault) ⊎ ((job : Job) × IsJob (subcommand_in words) job × IsToldOf tells job begun old new fault)

@@ -9,10 +9,10 @@ use Rattle.sms_worker.specs.Rests.{Charge}
 use Rattle.sms_worker.specs.Types.{Attempt, MessageEnd, SegmentEnd}
 use Rattle.sms_message.specs.declared.ends.Outcome.TheVariants.{Charged}
 use Rattle.sms_driver.specs.Answered.{ends_at}
-use Rattle.sms_deal.specs.Deals.{dealt}
+use Rattle.sms_driver.specs.Deals.{dealt}
 use Rattle.sms_files.specs.Inputs.{Told}
 use Rattle.sms_files.specs.declared.input.Input.{Input}
-use Rattle.sms_send.specs.declared.sender.Ended.{Ended}
+use Rattle.sms_send.specs.declared.sending.sender.Ended.{Ended}
 use Rattle.sms_send.specs.Sent.{IsSent}
 
 -- a submit_sm_resp, no generic_nack, with ESME_ROK and this sequence_number (SMPP 3.4 4.3.1, 4.4.2)

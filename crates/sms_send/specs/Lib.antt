@@ -1,14 +1,14 @@
 pub mod Asked
-pub mod Explained
 pub mod Exposed
 pub mod Faults
+pub mod FaultReports
 pub mod FullNames
-pub mod Known
 pub mod Opened
 pub mod CommandLine
 pub mod Plans
 pub mod Quoted
 pub mod Reached
+pub mod Reading
 pub mod Recovered
 pub mod Remarks
 pub mod Replays
@@ -16,6 +16,10 @@ pub mod Runs
 pub mod Statuses
 pub mod Unsent
 pub mod Sent
+pub mod SendJobs
 pub mod Laws
 pub mod Noted
 pub mod Jobs
+pub mod FilesRead
+pub mod Modes
+pub mod Shown

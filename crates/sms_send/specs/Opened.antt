@@ -3,13 +3,15 @@
 -- much is told, from its first octet on.
 use Rattle.std.specs.Prelude.{◌≡◌, ◌≢◌, ◌⊎◌, ℕ, List, [], Option, Some, None, IfSome, String, string_bytes}
 use Rattle.std.specs.declared.alloc.Global.{Global}
+use Rattle.std.specs.declared.io.ErrorKind.{ErrorKind}
+use Rattle.sms_pdu.specs.declared.device_error.DeviceError.{DeviceError}
 use Rattle.sms_files.specs.Inputs.{Told}
-use Rattle.sms_files.specs.Records.{TellsRecords}
+use Rattle.sms_files.specs.Records.{TellsRecords, Trouble}
 use Rattle.sms_files.specs.declared.config.FileNames.{FileNames}
 use Rattle.sms_files.specs.declared.fault.Source.{Source}
 use Rattle.sms_send.specs.Faults.{TellsRead, output_failed}
-use Rattle.sms_send.specs.declared.fault.Fault.{Fault}
-use Rattle.sms_send.specs.declared.fault.Fault.TheVariants.{File, UnreadFile}
+use Rattle.sms_send.specs.declared.faults.fault.Fault.{Fault}
+use Rattle.sms_send.specs.declared.faults.fault.Fault.TheVariants.{File, UnreadFile}
 
 -- it holds of an input's bytes, where they are told
 abbrev pub OfInput : {I : Type 0} → (I → Told) → (List ℕ → Type 0) → Type 0
@@ -35,12 +37,12 @@ AreFound finds names accounts messages tariff =
 
 -- no file that can be opened is found by a name
 abbrev pub TellsLost : (List ℕ → Option Told → Type 0) → String Global → Fault → Type 0
-TellsLost finds name fault = (fault ≡ File name) × finds (string_bytes name) None
+TellsLost finds name fault = ((kind : ErrorKind) × (fault ≡ File name kind)) × finds (string_bytes name) None
 
 -- a file's octets can't be had, and the fault tells its name: none that can be opened is found by that, or one is found, which can't be
--- read; a body has a `ReadFailure` to tell only of a file that answered an error
+-- read; a body has a `DeviceError` only of a file that answered an error
 abbrev pub TellsUnreadFile : (List ℕ → Option Told → Type 0) → String Global → Fault → Type 0
-TellsUnreadFile finds name fault = TellsLost finds name fault ⊎ ((fault ≡ UnreadFile name tt) × IsFound finds (string_bytes name))
+TellsUnreadFile finds name fault = TellsLost finds name fault ⊎ (((error : DeviceError) × (kind : ErrorKind) × (fault ≡ UnreadFile name error kind)) × IsFound finds (string_bytes name))
 
 -- one of them can't be opened, and those before it are found: accounts, messages, tariff
 abbrev pub TellsMissing : (List ℕ → Option Told → Type 0) → FileNames → Fault → Type 0
@@ -51,5 +53,5 @@ TellsMissing finds names fault =
 
 -- what a fault of a job on a source says, of whose records this is the first faulty one: that it is, or that the device
 -- failed, or that the output failed where no record was faulty
-abbrev pub TellsFile : Source → Option ℕ → Fault → Type 0
+abbrev pub TellsFile : Source → Option Trouble → Fault → Type 0
 TellsFile source faulty f = TellsRead (TellsRecords source faulty) f ⊎ ((f ≡ output_failed) × (faulty ≡ None))

@@ -5,9 +5,9 @@ use Rattle.sms_files.specs.Fields.{Record, records_of}
 use Rattle.sms_files.specs.Messages.{messages_fault}
 use Rattle.sms_files.specs.Quoting.{EndsQuoted}
 use Rattle.sms_files.specs.declared.fault.Source.TheVariants.{Messages}
-use Rattle.sms_report.specs.Output.{WritesFront}
+use Rattle.sms_files.specs.Output.{WritesFront}
 use Rattle.sms_send.specs.Opened.{TellsFile}
-use Rattle.sms_send.specs.declared.fault.Fault.{Fault}
+use Rattle.sms_send.specs.declared.faults.fault.Fault.{Fault}
 
 -- the record that a fault names is the first faulty one; where the output failed, none was
 abbrev pub TellsPlan : List Record → Fault → Type 0

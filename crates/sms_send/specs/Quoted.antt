@@ -7,14 +7,14 @@ use Rattle.sms_files.specs.Inputs.{IsInput, Told, TellsInput}
 use Rattle.sms_files.specs.declared.config.Config.{Config}
 use Rattle.sms_files.specs.declared.config.FileNames.{FileNames}
 use Rattle.sms_files.specs.declared.input.Input.{Input}
-use Rattle.sms_quote.specs.QuoteText.{IsQuoteText}
-use Rattle.sms_quote.specs.Warnings.{warning_lines}
-use Rattle.sms_report.specs.Output.{WritesFront}
+use Rattle.sms_files.specs.QuoteText.{IsQuoteText}
+use Rattle.sms_files.specs.Warnings.{warning_lines}
+use Rattle.sms_files.specs.Output.{WritesFront}
 use Rattle.sms_send.specs.Faults.{TellsRead, output_failed}
 use Rattle.sms_send.specs.FullNames.{TellsIfKept}
 use Rattle.sms_send.specs.Opened.{AreFound, OfFile, TellsMissing, TellsUnreadFile}
-use Rattle.sms_send.specs.declared.fault.Fault.{Fault}
-use Rattle.sms_send.specs.declared.fault.Fault.TheVariants.{OutOfMemory}
+use Rattle.sms_send.specs.declared.faults.fault.Fault.{Fault}
+use Rattle.sms_send.specs.declared.faults.fault.Fault.TheVariants.{OutOfMemory}
 
 -- ---- of an input
 

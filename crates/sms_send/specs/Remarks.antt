@@ -1,7 +1,7 @@
 -- What standard error has of a sending beside its fault.
 use Rattle.std.specs.Prelude.{Bool, ◌&&◌, ◌||◌, not}
 use Rattle.sms_devices.specs.Telling.{telling_of}
-use Rattle.sms_send.specs.declared.remarks.Remarks.{Remarks}
+use Rattle.sms_send.specs.declared.sending.remarks.Remarks.{Remarks}
 
 -- nothing where that is asked for; at length where details are wanted of each sending, or of this one
 abbrev pub remarks_by : Bool → Bool → Bool → Bool → Bool → Remarks

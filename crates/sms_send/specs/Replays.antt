@@ -6,13 +6,13 @@ use Rattle.sms_core.specs.declared.event.Step.{Step}
 use Rattle.sms_core.specs.Histories.{Runs}
 use Rattle.sms_core.specs.State.{State}
 use Rattle.sms_files.specs.Fields.{Record, records_of}
-use Rattle.sms_report.specs.Output.{WritesFront}
+use Rattle.sms_files.specs.Output.{WritesFront}
 use Rattle.sms_files.specs.Records.{TellsRecords}
 use Rattle.sms_send.specs.Faults.{TellsRead}
 use Rattle.sms_send.specs.Opened.{TellsFile}
 use Rattle.sms_files.specs.Schedule.{AreSchedule, schedule_fault}
-use Rattle.sms_report.specs.ReplayText.{replay_text}
-use Rattle.sms_send.specs.declared.fault.Fault.{Fault}
+use Rattle.sms_files.specs.ReplayText.{replay_text}
+use Rattle.sms_send.specs.declared.faults.fault.Fault.{Fault}
 use Rattle.sms_files.specs.declared.fault.Source.TheVariants.{Schedule}
 
 -- the events took the world from one state to another, and this is printed of them

@@ -2,19 +2,18 @@
 use Rattle.std.specs.Prelude.{◌≡◌, ◌≢◌, ◌⊎◌, ℕ, String, List, Option, Some, None, IfSome, option_map, string_bytes}
 use Rattle.std.specs.declared.alloc.Global.{Global}
 use Rattle.sms_files.specs.ConfigFaults.{IsConfig, TellsConfig}
-use Rattle.sms_files.specs.Faults.{unread_source}
 use Rattle.sms_files.specs.Inputs.{Told}
 use Rattle.sms_files.specs.declared.config.Config.{Config}
 use Rattle.sms_files.specs.declared.config.FileNames.{FileNames}
 use Rattle.sms_files.specs.declared.fault.Source.{Source}
 use Rattle.sms_files.specs.declared.fault.Source.TheVariants.{Accounts, Messages, Tariff}
-use Rattle.sms_files.specs.declared.unread.Unread.{Unread}
+use Rattle.sms_pdu.specs.declared.device_error.DeviceError.{DeviceError}
 use Rattle.sms_send.specs.Faults.{TellsRead}
 use Rattle.sms_send.specs.Opened.{AreFound, OfFile, TellsMissing, TellsUnreadFile}
-use Rattle.sms_send.specs.declared.fault.Fault.{Fault}
-use Rattle.sms_send.specs.declared.fault.Fault.TheVariants.{OutOfMemory, Unreadable}
-use Rattle.sms_send.specs.declared.run_files.NamedFiles.{NamedFiles}
-use Rattle.sms_send.specs.declared.run_files.RunFiles.{RunFiles}
+use Rattle.sms_send.specs.declared.faults.fault.Fault.{Fault}
+use Rattle.sms_send.specs.declared.faults.fault.Fault.TheVariants.{OutOfMemory, Unreadable}
+use Rattle.sms_send.specs.declared.files.named_files.NamedFiles.{NamedFiles}
+use Rattle.sms_send.specs.declared.files.run_files.RunFiles.{RunFiles}
 
 -- the octets of the tariff, where there is one
 abbrev pub tariff_in : NamedFiles → Option (List ℕ)
@@ -40,12 +39,13 @@ pub record IsRun (finds : List ℕ → Option Told → Type 0) (name written : L
   pub config_is : OfFile finds name (λ bytes. run.config.items ≡ bytes)
   pub config : Config
   pub says : IsConfig run.config.items config
+  pub names_are : run.names ≡ config.files
   pub named : AreNamed finds config.files run.named
   pub written_is : OfFile finds written (λ bytes. run.written.items ≡ bytes)
 
--- a fault tells that this source can't be read; only a device that answered an error gives an `Unread` to tell
+-- a fault tells that this source can't be read; only a device that answered an error gives a `DeviceError`
 abbrev pub TellsUnread : Source → Fault → Type 0
-TellsUnread source fault = (unread : Unread) × (fault ≡ Unreadable unread) × (unread_source unread ≡ source)
+TellsUnread source fault = (error : DeviceError) × (fault ≡ Unreadable source error)
 
 -- what a fault says of opened files: one can't be read, or memory ran out
 abbrev pub TellsOpened : Option Told → Fault → Type 0

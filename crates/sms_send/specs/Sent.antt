@@ -1,5 +1,5 @@
 -- What a sending promises of what was read.
-use Rattle.std.specs.Prelude.{◌≡◌, ◌⊎◌, ◌*◌, ℕ, Bool, List, Option, length}
+use Rattle.std.specs.Prelude.{◌≡◌, ◌≢◌, ◌⊎◌, ◌*◌, ℕ, Bool, List, Option, Result, IfErr, IfOk, OnOk, length}
 use Rattle.std.specs.Io.KnownBytes.{Appends}
 use Rattle.std.specs.List.{AllZip}
 use Rattle.sms_book.specs.Openings.{credits_of}
@@ -8,43 +8,35 @@ use Rattle.sms_message.specs.Limits.{most_turns}
 use Rattle.sms_message.specs.declared.rules.Rules.{Rules}
 use Rattle.sms_driver.specs.Answered.{AreHeard}
 use Rattle.sms_driver.specs.BindEnds.{AreBinds}
-use Rattle.sms_deal.specs.Deals.{dealt}
+use Rattle.sms_driver.specs.Deals.{dealt}
 use Rattle.sms_driver.specs.Ended.{HaveEnded}
 use Rattle.sms_driver.specs.Closings.{AreExplained}
 use Rattle.sms_driver.specs.Numbered.{AreBelow, AreNumbered}
 use Rattle.sms_files.specs.Inputs.{IsInput, Told, TellsInput}
-use Rattle.sms_send.specs.Faults.{TellsRead, told_sending, output_failed}
-use Rattle.sms_send.specs.Opened.{AreFound, TellsMissing}
-use Rattle.sms_send.specs.Statuses.{status_by}
-use Rattle.sms_report.specs.Output.{WritesFront}
-use Rattle.sms_report.specs.Report.{report_of}
+use Rattle.sms_devices.specs.Centres.{CentreAt}
+use Rattle.sms_devices.specs.Centres.CentreAt.{Named, Own}
+use Rattle.sms_send.specs.Faults.{IsTold, IsToldAt, TellsRead, told_sending, output_failed}
+use Rattle.sms_send.specs.Statuses.{IsStatusBy, status_by}
+use Rattle.sms_files.specs.Output.{WritesFront}
+use Rattle.sms_files.specs.Report.{report_of}
+use Rattle.sms_files.specs.RunRules.{IsRulesOf}
 use Rattle.sms_driver.specs.SendFaults.{IsFaultOfOne}
 use Rattle.sms_driver.specs.Starts.{TellsStart}
 use Rattle.sms_driver.specs.Statements.{AreRows}
-use Rattle.sms_book.specs.Tariffs.{Price}
 use Rattle.sms_files.specs.declared.config.Config.{Config}
 use Rattle.sms_files.specs.declared.config.Connection.{Connection}
-use Rattle.sms_files.specs.declared.config.FileNames.{FileNames}
 use Rattle.sms_files.specs.declared.config.Flags.{Flags}
-use Rattle.sms_files.specs.declared.config.Retry.{Retry}
 use Rattle.sms_driver.specs.declared.binding.BindSettings.{BindSettings}
 use Rattle.sms_driver.specs.declared.fault.SendFault.{SendFault}
-use Rattle.sms_driver.specs.declared.start.Begun.{Begun}
-use Rattle.sms_send.specs.declared.fault.Fault.{Fault}
-use Rattle.sms_send.specs.declared.fault.Fault.TheVariants.{Unreported}
+use Rattle.sms_driver.specs.declared.fault.BindFailure.TheVariants.{NoConnection}
+use Rattle.sms_driver.specs.declared.start_gate.Command.TheVariants.{Go}
+use Rattle.sms_driver.specs.declared.start.StartPhase.{StartPhase}
+use Rattle.sms_driver.specs.declared.start.StartPhase.TheVariants.{Released}
+use Rattle.sms_send.specs.declared.faults.fault.Fault.{Fault}
+use Rattle.sms_send.specs.declared.faults.fault.Fault.TheVariants.{BindFailed, Unreported}
 use Rattle.sms_files.specs.declared.input.Input.{Input}
 use Rattle.sms_files.specs.declared.limits.Limits.{Limits}
-use Rattle.sms_send.specs.declared.sender.Ended.{Ended}
-
--- the rules say what the config and the tariff say, and of turns the most that may be taken
-pub record IsRulesOf (retry : Retry) (limits : Limits) (flags : Flags) (tariff : List Price) (rules : Rules) : Type 0 where
-  pub policy : rules.policy ≡ retry.policy
-  pub depth : rules.depth ≡ limits.depth
-  pub answer_ms : rules.answer_ms ≡ retry.answer_ms
-  pub receipts : rules.receipts ≡ flags.receipts
-  pub long_reference : rules.long_reference ≡ flags.long_reference
-  pub turns : rules.turns ≡ most_turns
-  pub tariff_is : rules.tariff ≡ tariff
+use Rattle.sms_send.specs.declared.sending.sender.Ended.{Ended}
 
 -- all binds have the config's window, follow as it says, and are asked for with what it says (SMPP 3.4 4.1)
 pub record AreSettingsOf (connection : Connection) (limits : Limits) (flags : Flags) (all : BindSettings) : Type 0 where
@@ -62,7 +54,7 @@ pub record AreSettingsOf (connection : Connection) (limits : Limits) (flags : Fl
 pub record IsSent (told : ℕ → Told) (input : Input) (ended : Ended) : Type 0 where
   pub openings : ended.openings ≡ input.openings
   pub rules : Rules
-  pub says : IsRulesOf input.config.retry input.config.limits input.config.flags input.tariff rules
+  pub says : IsRulesOf input.config.retry input.config.limits input.config.flags input.tariff most_turns rules
   pub ends : AllZip (IsEndOf rules (length input.openings.items)) input.messages.items ended.ends.items
   pub rows : AreRows (credits_of input.openings.items) input.messages.items ended.ends.items ended.statement
   pub binds : AreBinds input.config.limits.binds input.config.limits.workers ended.binds.items
@@ -97,7 +89,7 @@ abbrev pub IsFaultIn : (ℕ → Type 0) → (ℕ → Told) → Config → SendFa
 IsFaultIn refuses told config = IsFaultOfOne refuses told config.connection.settings.mode config.limits.binds
 
 -- what a fault of the sending says that came so far: it is such a one, and comes where the sending came so far
-abbrev pub TellsDriven : (ℕ → Type 0) → (ℕ → Told) → Config → Begun → Fault → Type 0
+abbrev pub TellsDriven : (ℕ → Type 0) → (ℕ → Told) → Config → StartPhase → Fault → Type 0
 TellsDriven refuses told config begun fault = (f : SendFault) × IsFaultIn refuses told config f × TellsStart begun f × (fault ≡ told_sending f)
 
 -- what a fault says once the input was read: it is of one of the config's binds, or of memory; or all was sent, and the
@@ -114,13 +106,35 @@ TellsSender refuses told config accounts messages tariff old new fault =
     TellsRead (TellsInput config accounts messages tariff) fault
     ⊎ ((input : Input) × IsInput config accounts messages tariff input × TellsSending refuses told input old new fault)
 
--- the files that are found by the names were read beside a config of these octets, that of the tariff just where it has a name, and sent so
-abbrev pub SendsNamed : (ℕ → Told) → Bool → (List ℕ → Option Told → Type 0) → FileNames → List ℕ → Option (List ℕ) → Option (List ℕ) → ℕ → Type 0
-SendsNamed told strict finds names config old new status =
-    (accounts : Told) × (messages : Told) × (tariff : Option Told) × AreFound finds names accounts messages tariff × RunsSender told strict config accounts messages tariff old new status
+-- ---- of an input that was read
 
--- what a fault says of files of these names: one can't be opened, or what it says of the sending of them all
-abbrev pub TellsNamed : (ℕ → Type 0) → (ℕ → Told) → (List ℕ → Option Told → Type 0) → FileNames → List ℕ → Option (List ℕ) → Option (List ℕ) → Fault → Type 0
-TellsNamed refuses told finds names config old new fault =
-    TellsMissing finds names fault
-    ⊎ ((accounts : Told) × (messages : Told) × (tariff : Option Told) × AreFound finds names accounts messages tariff × TellsSender refuses told config accounts messages tariff old new fault)
+-- the input was sent; the report of that was written and nothing else, and the status is by the ends
+pub record SendsInput (told : ℕ → Told) (strict : Bool) (input : Input) (old new : Option (List ℕ)) (status : ℕ) : Type 0 where
+  pub ended : Ended
+  pub sent : IsSent told input ended
+  pub written : Appends old new (report_in ended)
+  pub status_is : status ≡ status_by strict ended.ends.items
+
+-- how a sending ended with this result, of which a fault says this
+pub record SendingEnd (told : ℕ → Told) (strict : Bool) (input : Input) (fails : Fault → Type 0) (begun : StartPhase) {W : Type 0} (output_old output_new : W) (old new : Option (List ℕ)) (result : Result ℕ Fault) : Type 0 where
+  -- the messages were sent and the report was written
+  pub sent : IfOk result (SendsInput told strict input old new)
+  -- the status is 0 or 4, strictly also 5
+  pub status : IfOk result (IsStatusBy strict)
+  -- all workers were started
+  pub started : OnOk result (begun ≡ Released Go)
+  -- or it failed
+  pub refused : IfErr result fails
+  -- and the fault says whether messages may have been sent
+  pub phase : IfErr result (IsToldAt begun)
+  -- nothing was written, but where the output failed
+  pub unwritten : IfErr result (λ fault. fault ≢ output_failed → output_new ≡ output_old)
+
+-- a centre of the program's own can't listen
+abbrev pub IsDeaf : CentreAt → Fault → Type 0
+IsDeaf (Own bind_status answers) fault = fault ≡ BindFailed 0 NoConnection
+IsDeaf (Named host port) fault = ⊥
+
+-- what a fault says of an input that was to be sent to a centre: that can't listen, or the fault of the sending, with the reason of a missing connection
+abbrev pub FailsSending : CentreAt → (ℕ → Told) → Input → Option (List ℕ) → Option (List ℕ) → Fault → Type 0
+FailsSending centre told input old new fault = IsDeaf centre fault ⊎ IsTold (TellsSending unknown told input old new) fault

@@ -2,33 +2,33 @@
 
 ghost use Rattle.std.specs.Prelude.{◌≡◌, ◌≢◌, None, Some, IfErr, IfOk, IfSome, OnOk, is_ok, is_some, map, string_bytes, true, if◌then◌else◌};
 ghost use Rattle.std.specs.Io.KnownBytes.{Appends};
-ghost use Rattle.sms_driver.specs.declared.start.Begun.TheVariants.{NotYet};
-ghost use Rattle.sms_report.specs.Output.{WritesFront};
-ghost use Rattle.sms_send.specs.Asked.{IsKnownAt, IsKnownHere, IsUntold, OfAsked, TellsAsAsked, TellsLines, WorksAsAsked, printed_of};
+ghost use Rattle.sms_driver.specs.declared.start.StartPhase.TheVariants.{Idle};
+ghost use Rattle.sms_files.specs.Output.{WritesFront};
+ghost use Rattle.sms_send.specs.Asked.{AsksForDetails, IsUntold, OfAsked, TellsAsAsked, WorksAsAsked, printed_of};
+ghost use Rattle.sms_send.specs.FaultReports.{ReportsFault};
 ghost use Rattle.sms_send.specs.Faults.{HasLostJournal, status_of, output_failed};
 ghost use Rattle.sms_send.specs.Jobs.{Does, HasBegun, IsStatusOf, IsToldOf, IsToldSo, OfJob, TellsBeside, TellsBesideFront, TellsJob, TellsRun, WentSo, Works};
-ghost use Rattle.sms_send.specs.Known.{texts_of};
 ghost use Rattle.sms_send.specs.Noted.{TellsBegin};
 
-use crate::explained::{Known, is_at_length, told_of};
-use crate::exposed::FileModes;
-use crate::fault::Fault;
-use crate::full_names::FullNames;
-use crate::job::{Job, job_of};
-use crate::known::known_at;
-use crate::looks::FilesAgain;
-use crate::opened::{InputFiles, open};
-use crate::plan_job::plan_job;
-use crate::program_words::ProgramWords;
-use crate::quote_job::quote_job;
-use crate::recover_job::{recover_job, rest_job};
-use crate::replay::run_replay;
-use crate::send_job::{Centre, send_job};
-use crate::standard_error::TakesLines;
-use crate::words::is_verbose;
+use crate::args::job::{Job, job_of};
+use crate::args::program_args::ProgramWords;
+use crate::args::values::is_verbose;
+use crate::faults::context::{FaultContext, JobContext, is_at_length};
+use crate::faults::exposed::FileModes;
+use crate::faults::fault::Fault;
+use crate::faults::full_names::FullNames;
+use crate::faults::report::{FaultReport, details_of, fixed_details};
+use crate::files::opened::{InputFiles, open};
+use crate::jobs::plan_job::plan_job;
+use crate::jobs::quote_job::quote_job;
+use crate::jobs::recover_job::{recover_job, rest_job};
+use crate::jobs::replay::run_replay;
+use crate::jobs::send_job::send_job;
+use crate::sending::target::TargetKind;
+use crate::terminal::standard_error::TakesLines;
 use sms_devices::{Host, Screen};
-use sms_driver::{Latch, Start};
-use sms_report::write_out;
+use sms_driver::{Start, StartGate};
+use sms_files::write_out;
 use std::io::{self, Write};
 
 /// The exit status where a fault can't be told: that of a fault of the output.
@@ -38,6 +38,7 @@ const UNTOLD: u8 = 1;
 /// a quote goes to standard error.
 pub fn run<R: FileModes + FullNames + Host + InputFiles + ProgramWords, W: Write, E: Write>(
     rt: &R,
+    context: &mut FaultContext,
     output: &mut W,
     error: &mut E,
 ) -> Result<u8, Fault>
@@ -46,24 +47,35 @@ pub fn run<R: FileModes + FullNames + Host + InputFiles + ProgramWords, W: Write
     ensures unwritten { IfErr result (λ fault. fault ≢ output_failed → ¬ HasLostJournal fault → output.new ≡ output.old) }
     ensures front { IfErr result (λ fault. fault ≡ output_failed → OfAsked (R.has rt.now) (λ job. TellsBesideFront (R.finds rt.now) (R.is_full rt.now) (R.details rt.now) job (E.contents error.old) (E.contents error.new))) }
     ensures untold { IfErr result (λ fault. fault ≢ output_failed → error.new ≡ error.old) }
+    ensures verbose { IfErr result (AsksForDetails (R.has rt.now) context.new.verbose) }
 {
+    context.verbose = false;
     let words = rt.words()?;
-    let (latch, unsaid) = Latch::new();
+    context.verbose = is_verbose(words.as_slice());
+    let (latch, unsaid) = StartGate::new();
     let mut start = Start::new(&latch, unsaid);
-    do_words(rt, &mut start, words.as_slice(), output, error)
+    do_words(
+        rt,
+        &mut context.job,
+        &mut start,
+        words.as_slice(),
+        output,
+        error,
+    )
 }
 
 /// Does the job that these words ask for, and gives the exit status.
 fn do_words<R: FileModes + FullNames + Host + InputFiles, W: Write, E: Write>(
     rt: &R,
+    context: &mut JobContext,
     start: &mut Start<'_>,
     words: &[String],
     output: &mut W,
     error: &mut E,
 ) -> Result<u8, Fault>
-    requires yet { start.old.begun ≡ NotYet }
+    requires not_started { start.old.begun ≡ Idle }
     ensures latch { start.new.latch ≡ start.old.latch }
-    ensures went { OnOk result (WentSo (map string_bytes words.now) start.new.begun) }
+    ensures started { OnOk result (WentSo (map string_bytes words.now) start.new.begun) }
     ensures done { IfOk result (λ status. Works R.Reader.remaining (R.finds rt.now) (R.tells rt.now) (map string_bytes words.now) status (W.contents output.old) (W.contents output.new)) }
     ensures beside { OnOk result (OfJob (map string_bytes words.now) (λ job. TellsBeside (R.finds rt.now) (R.is_full rt.now) (R.details rt.now) job (W.contents output.old) (W.contents output.new) (E.contents error.old) (E.contents error.new))) }
     ensures front { IfErr result (λ fault. fault ≡ output_failed → OfJob (map string_bytes words.now) (λ job. TellsBesideFront (R.finds rt.now) (R.is_full rt.now) (R.details rt.now) job (E.contents error.old) (E.contents error.new))) }
@@ -73,22 +85,27 @@ fn do_words<R: FileModes + FullNames + Host + InputFiles, W: Write, E: Write>(
     ensures untold { IfErr result (λ fault. fault ≢ output_failed → error.new ≡ error.old) }
 {
     match job_of(rt.alloc(), words) {
-        Ok(job) => do_job(rt, start, job, output, error),
+        Ok(job) => {
+            context.note_job(rt.alloc(), &job);
+            do_job(rt, context, start, job, output, error)
+        }
         Err(fault) => Err(fault),
     }
 }
 
-/// Does a job, and gives the exit status. Where the job sends, the start says how far the sending came.
+/// Does a job, and gives the exit status. Where the job sends, the start says how far the sending came. The context
+/// notes what the config names.
 pub fn do_job<R: FileModes + FullNames + Host + InputFiles, W: Write, E: Write>(
     rt: &R,
+    context: &mut JobContext,
     start: &mut Start<'_>,
     job: Job,
     output: &mut W,
     error: &mut E,
 ) -> Result<u8, Fault>
-    requires yet { start.old.begun ≡ NotYet }
+    requires not_started { start.old.begun ≡ Idle }
     ensures latch { start.new.latch ≡ start.old.latch }
-    ensures went { OnOk result (HasBegun job start.new.begun) }
+    ensures started { OnOk result (HasBegun job start.new.begun) }
     ensures status { IfOk result (IsStatusOf job) }
     ensures done { IfOk result (Does R.Reader.remaining (R.finds rt.now) (R.tells rt.now) job (W.contents output.old) (W.contents output.new)) }
     ensures beside { OnOk result (TellsBeside (R.finds rt.now) (R.is_full rt.now) (R.details rt.now) job (W.contents output.old) (W.contents output.new) (E.contents error.old) (E.contents error.new)) }
@@ -102,11 +119,11 @@ pub fn do_job<R: FileModes + FullNames + Host + InputFiles, W: Write, E: Write>(
         Job::Replay(None) => run_replay(rt.alloc(), rt.reader(), output),
         Job::Replay(Some(name)) => run_replay(rt.alloc(), open(rt, name)?, output),
         Job::Plan(name, long) => plan_job(rt, name, long, output, error),
-        Job::Quote(config, verbose) => quote_job(rt, config, verbose, output, error),
-        Job::Loop(order) => send_job(rt, start, Centre::Own, order, output),
-        Job::Send(order) => send_job(rt, start, Centre::Named, order, output),
-        Job::Recover(order) => recover_job(rt, order, output, error),
-        Job::Rest(order) => rest_job(rt, order, output),
+        Job::Quote(config, verbose) => quote_job(rt, context, config, verbose, output, error),
+        Job::Loop(order) => send_job(rt, context, start, TargetKind::Loopback, order, output),
+        Job::Send(order) => send_job(rt, context, start, TargetKind::Remote, order, output),
+        Job::Recover(order) => recover_job(rt, context, order, output, error),
+        Job::Rest(order) => rest_job(rt, context, order, output),
     }
 }
 
@@ -119,34 +136,38 @@ pub enum Untold {
     Error(io::Error),
 }
 
-/// Tells a fault on standard error, and help or the version on the output. That they can't be printed is
-/// a fault of the output, which is told in its turn.
-pub fn tell<R: AllocGlobal + FilesAgain + ProgramWords + Screen, W: Write, E: TakesLines>(
+/// Writes a fault to standard error, and help or the version to the output. That they can't be written is a fault of the
+/// output, which is written to standard error in its turn.
+pub fn tell<R: AllocGlobal + FullNames + Screen, W: Write, E: TakesLines>(
     rt: &R,
     fault: &Fault,
+    context: &FaultContext,
     output: &mut W,
     error: &mut E,
 ) -> Result<(), Untold>
     ensures printed { OnOk result (IfSome (printed_of fault.now) (Appends (W.contents output.old) (W.contents output.new))) }
     ensures front { IfSome (printed_of fault.now) (WritesFront (W.contents output.old) (W.contents output.new)) }
     ensures alone { OnOk result (is_some (printed_of fault.now) ≡ true → error.new ≡ error.old) }
-    ensures told { OnOk result (printed_of fault.now ≡ None → TellsLines (R.has rt.now) (R.details rt.now) (R.holds rt.now) (R.says rt.now) fault.now (E.told error.old) (E.told error.new)) }
+    ensures told { OnOk result (printed_of fault.now ≡ None → ReportsFault (R.details rt.now) context.now.verbose fault.now (E.told error.old) (E.told error.new)) }
     ensures unprinted { printed_of fault.now ≡ None → output.new ≡ output.old }
     ensures untold { IfErr result (IsUntold (E.fails error.new) (printed_of fault.now)) }
 {
     match fault {
-        Fault::Help(text) | Fault::Version(text) => print_text(rt, text.as_bytes(), output, error),
-        _ => match tell_fault(rt, fault, error) {
+        Fault::Help(text) | Fault::Version(text) => {
+            print_text(rt, text.as_bytes(), context, output, error)
+        }
+        _ => match report_fault(rt, fault, context, error) {
             Ok(()) => Ok(()),
             Err(untold) => Err(Untold::Error(untold)),
         },
     }
 }
 
-/// Prints a text. That it can't be printed is told.
-fn print_text<R: AllocGlobal + FilesAgain + ProgramWords + Screen, W: Write, E: TakesLines>(
+/// Prints a text. That it can't be printed is written to standard error.
+fn print_text<R: AllocGlobal + FullNames + Screen, W: Write, E: TakesLines>(
     rt: &R,
     text: &[u8],
+    context: &FaultContext,
     output: &mut W,
     error: &mut E,
 ) -> Result<(), Untold>
@@ -159,53 +180,38 @@ fn print_text<R: AllocGlobal + FilesAgain + ProgramWords + Screen, W: Write, E: 
         Ok(()) => Ok(()),
         Err(unprinted) => {
             let lost = Fault::from(unprinted);
-            let _told = tell_fault(rt, &lost, error);
+            let _told = report_fault(rt, &lost, context, error);
             Err(Untold::Output(lost))
         }
     }
 }
 
-/// Tells a fault in one line; where details are wanted, of each run or of this one, lines follow it.
-fn tell_fault<R: AllocGlobal + FilesAgain + ProgramWords + Screen, E: TakesLines>(
+/// Writes the line of a fault and, where details are wanted of each run or of this one, the detail lines.
+fn report_fault<R: AllocGlobal + FullNames + Screen, E: TakesLines>(
     rt: &R,
     fault: &Fault,
+    context: &FaultContext,
     error: &mut E,
 ) -> io::Result<()>
-    ensures told { OnOk result (TellsLines (R.has rt.now) (R.details rt.now) (R.holds rt.now) (R.says rt.now) fault.now (E.told error.old) (E.told error.new)) }
+    ensures told { OnOk result (ReportsFault (R.details rt.now) context.now.verbose fault.now (E.told error.old) (E.told error.new)) }
     ensures failed { IfErr result (E.fails error.new) }
 {
-    let known = known_here(rt, fault);
-    error.tell_lines(&told_of(fault, &known))
+    let wanted = is_at_length(rt.has_details(), context.verbose);
+    let fixed = fixed_details(fault, wanted);
+    if !fixed.is_empty() {
+        return error.tell_lines(&FaultReport {
+            fault,
+            details: fixed,
+        });
+    }
+    let details = details_of(rt, fault, &context.job, wanted);
+    error.tell_lines(&FaultReport {
+        fault,
+        details: details.as_str(),
+    })
 }
 
-/// What is known of this run, which has this fault, where more is told of it.
-fn known_here<R: AllocGlobal + FilesAgain + ProgramWords + Screen>(
-    rt: &R,
-    fault: &Fault,
-) -> Option<Known>
-    ensures { IsKnownHere (R.has rt.now) (R.details rt.now) (R.holds rt.now) (R.says rt.now) fault.now result }
-{
-    let words = rt.words().ok();
-    known_by(rt, &words, rt.has_details(), fault)
-}
-
-/// The same by these words, which may be out of reach, where details of each run are wanted or not.
-fn known_by<R: AllocGlobal + FilesAgain>(
-    rt: &R,
-    words: &Option<Vec<String>>,
-    details: bool,
-    fault: &Fault,
-) -> Option<Known>
-    ensures { IsKnownAt (R.holds rt.now) (R.says rt.now) (texts_of words.now) details fault.now result }
-{
-    let verbose = match words {
-        Some(words) => is_verbose(words.as_slice()),
-        None => false,
-    };
-    known_at(rt, words, fault, is_at_length(details, verbose))
-}
-
-/// The exit status after a fault was told: its own, and that of the output where telling failed.
+/// The exit status after a fault was written: its own, and that of the output where that failed.
 pub fn status_after(told: &Result<(), Untold>, fault: &Fault) -> u8
     ensures { result ≡ (if is_ok told.now then status_of fault.now else status_of output_failed) }
 {

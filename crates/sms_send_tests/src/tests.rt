@@ -2,7 +2,7 @@
 
 mod answers;
 mod broken;
-mod explained;
+mod details;
 mod frames;
 mod full_names;
 mod held;
@@ -11,6 +11,7 @@ mod journal;
 mod plan;
 mod quote;
 mod refusals;
+mod report;
 mod same;
 mod sending;
 mod simulator;

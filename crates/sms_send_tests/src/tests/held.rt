@@ -3,9 +3,10 @@
 use super::same::same;
 use super::told::told_of;
 use sms_devices::Host;
-use sms_driver::{Latch, Start};
+use sms_driver::{Start, StartGate};
 use sms_send::{
-    Fault, FileModes, FullNames, InputFiles, Job, JournalFile, Order, Pace, RecoverOrder, do_job,
+    Fault, FileModes, FullNames, InputFiles, Job, JobContext, JournalFile, RecoverArgs, SendArgs,
+    Throttle, do_job,
 };
 use std::alloc::{AllocError, Global};
 use std::fs::{self, OpenOptions};
@@ -34,12 +35,12 @@ fn noted_job(alloc: Global) -> Result<Job, AllocError> {
         name: String::from_str(alloc, JOURNAL)?,
         sync: false,
     };
-    Ok(Job::Loop(Order {
+    Ok(Job::Loop(SendArgs {
         config: String::from_str(alloc, FILES[0].0)?,
         quiet: true,
         verbose: false,
         journal: Some(journal),
-        pace: Pace {
+        throttle: Throttle {
             connect_ms: None,
             rate: None,
             stop_after: None,
@@ -50,7 +51,7 @@ fn noted_job(alloc: Global) -> Result<Job, AllocError> {
 
 // The job to recover the report from the journal, which may be of a trial.
 fn recover_job(alloc: Global) -> Result<Job, AllocError> {
-    Ok(Job::Recover(RecoverOrder {
+    Ok(Job::Recover(RecoverArgs {
         config: String::from_str(alloc, FILES[0].0)?,
         journal: String::from_str(alloc, JOURNAL)?,
         trial: true,
@@ -73,9 +74,16 @@ fn want_refused<R: FileModes + FullNames + Host + InputFiles + Abort>(
 ) -> Result<(), Fail> {
     let alloc = rt.alloc();
     let (mut output, mut error) = (Vec::new(alloc), Vec::new(alloc));
-    let (latch, unsaid) = Latch::new();
+    let (latch, unsaid) = StartGate::new();
     let mut start = Start::new(&latch, unsaid);
-    let done = do_job(rt, &mut start, job, &mut output, &mut error);
+    let done = do_job(
+        rt,
+        &mut JobContext::new(),
+        &mut start,
+        job,
+        &mut output,
+        &mut error,
+    );
     same(rt, fault_text(rt, alloc, done)?.as_str(), wanted);
     assert!(rt; output.is_empty() && error.is_empty());
     Ok(())
@@ -144,9 +152,16 @@ fn want_warning<R: FileModes + FullNames + Host + InputFiles + Files + Abort>(
     assert!(rt; fs::write(rt, "open.csv", text).is_ok());
     let job = Job::Plan(String::from_str(alloc, "open.csv")?, false);
     let (mut output, mut error) = (Vec::new(alloc), Vec::new(alloc));
-    let (latch, unsaid) = Latch::new();
+    let (latch, unsaid) = StartGate::new();
     let mut start = Start::new(&latch, unsaid);
-    let done = do_job(rt, &mut start, job, &mut output, &mut error);
+    let done = do_job(
+        rt,
+        &mut JobContext::new(),
+        &mut start,
+        job,
+        &mut output,
+        &mut error,
+    );
     assert!(rt; done.is_ok());
     let printed = output.iter().filter(|octet| **octet == b'\n').count();
     same(rt, printed, lines);

@@ -3,8 +3,8 @@
 use super::broken::{FailingInput, FailingOutput};
 use super::same::same;
 use super::told::told_of;
-use sms_driver::{Latch, Start};
-use sms_send::{Fault, Job, Order, Pace, do_job, run_replay};
+use sms_driver::{Start, StartGate};
+use sms_send::{Fault, Job, JobContext, SendArgs, Throttle, do_job, run_replay};
 use std::alloc::Global;
 use std::io::{Read, Write};
 use std::process::Abort;
@@ -140,20 +140,20 @@ fn tells_a_broken_schedule(rt: HostRuntime) -> Result<(), Fail> {
 }
 
 // What bounds nothing.
-const UNBOUND: Pace = Pace {
+const UNBOUND: Throttle = Throttle {
     connect_ms: None,
     rate: None,
     stop_after: None,
 };
 
 // A sending by this config, of which nothing but a fault is told.
-fn quiet_order(config: String) -> Order {
-    Order {
+fn quiet_order(config: String) -> SendArgs {
+    SendArgs {
         config,
         quiet: true,
         verbose: false,
         journal: None,
-        pace: UNBOUND,
+        throttle: UNBOUND,
         strict: false,
     }
 }
@@ -200,10 +200,17 @@ fn tells_files_that_cannot_be_read(rt: HostRuntime) -> Result<(), Fail> {
     for (word, name, wanted) in UNREAD {
         let job = job_with(word, String::from_str(rt.alloc(), name)?);
         let mut output = Vec::new(rt.alloc());
-        let (latch, unsaid) = Latch::new();
+        let (latch, unsaid) = StartGate::new();
         let mut error = Vec::new(rt.alloc());
         let start = &mut Start::new(&latch, unsaid);
-        let done = do_job(&rt, start, job, &mut output, &mut error);
+        let done = do_job(
+            &rt,
+            &mut JobContext::new(),
+            start,
+            job,
+            &mut output,
+            &mut error,
+        );
         want_fault(&rt, done, wanted);
         assert!(rt; output.is_empty() && error.is_empty());
     }

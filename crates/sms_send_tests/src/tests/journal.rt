@@ -3,8 +3,8 @@
 use super::broken::FailingOutput;
 use super::same::same;
 use super::told::told_of;
-use sms_driver::{Latch, Start};
-use sms_send::{Fault, Job, JournalFile, Order, Pace, RecoverOrder, do_job};
+use sms_driver::{Start, StartGate};
+use sms_send::{Fault, Job, JobContext, JournalFile, RecoverArgs, SendArgs, Throttle, do_job};
 use std::alloc::{AllocError, Global};
 use std::fs;
 use std::process::Abort;
@@ -34,12 +34,12 @@ fn noted_job(alloc: Global) -> Result<Job, AllocError> {
         name: String::from_str(alloc, JOURNAL)?,
         sync: true,
     };
-    Ok(Job::Loop(Order {
+    Ok(Job::Loop(SendArgs {
         config: String::from_str(alloc, FILES[0].0)?,
         quiet: true,
         verbose: false,
         journal: Some(journal),
-        pace: Pace {
+        throttle: Throttle {
             connect_ms: None,
             rate: None,
             stop_after: None,
@@ -50,7 +50,7 @@ fn noted_job(alloc: Global) -> Result<Job, AllocError> {
 
 // The job to recover the report from the journal, which may be of a trial.
 fn recover_job(alloc: Global, trial: bool) -> Result<Job, AllocError> {
-    Ok(Job::Recover(RecoverOrder {
+    Ok(Job::Recover(RecoverArgs {
         config: String::from_str(alloc, FILES[0].0)?,
         journal: String::from_str(alloc, JOURNAL)?,
         trial,
@@ -90,9 +90,10 @@ fn ends_a_journal_behind_its_report(rt: HostRuntime) -> Result<(), Fail> {
     let _removed = fs::remove_file(&rt, JOURNAL);
     let mut printed = Vec::new(alloc);
     let mut told_beside = Vec::new(alloc);
-    let (latch, unsaid) = Latch::new();
+    let (latch, unsaid) = StartGate::new();
     let done = do_job(
         &rt,
+        &mut JobContext::new(),
         &mut Start::new(&latch, unsaid),
         noted_job(alloc)?,
         &mut printed,
@@ -105,9 +106,10 @@ fn ends_a_journal_behind_its_report(rt: HostRuntime) -> Result<(), Fail> {
     };
     assert!(rt; last.starts_with("end,") && last.ends_with(",0\n"));
     let mut recovered = Vec::new(alloc);
-    let (latch, unsaid) = Latch::new();
+    let (latch, unsaid) = StartGate::new();
     let told = do_job(
         &rt,
+        &mut JobContext::new(),
         &mut Start::new(&latch, unsaid),
         recover_job(alloc, true)?,
         &mut recovered,
@@ -117,9 +119,10 @@ fn ends_a_journal_behind_its_report(rt: HostRuntime) -> Result<(), Fail> {
     same(&rt, recovered.as_slice(), printed.as_slice());
     same(&rt, told_beside.as_slice(), TRIAL.as_bytes());
     told_beside.clear();
-    let (latch, unsaid) = Latch::new();
+    let (latch, unsaid) = StartGate::new();
     let refused = do_job(
         &rt,
+        &mut JobContext::new(),
         &mut Start::new(&latch, unsaid),
         recover_job(alloc, false)?,
         &mut recovered,
@@ -132,9 +135,10 @@ fn ends_a_journal_behind_its_report(rt: HostRuntime) -> Result<(), Fail> {
         "fault: journal of a trial: no message centre saw any of it",
     )?;
     same(&rt, recovered.as_slice(), printed.as_slice());
-    let (latch, unsaid) = Latch::new();
+    let (latch, unsaid) = StartGate::new();
     let again = do_job(
         &rt,
+        &mut JobContext::new(),
         &mut Start::new(&latch, unsaid),
         noted_job(alloc)?,
         &mut printed,
@@ -143,10 +147,11 @@ fn ends_a_journal_behind_its_report(rt: HostRuntime) -> Result<(), Fail> {
     want_fault(&rt, alloc, again, "fault: file noted-journal.csv")?;
     same(&rt, journal_text(&rt).as_str(), text.as_str());
     assert!(rt; fs::remove_file(&rt, JOURNAL).is_ok());
-    let (latch, unsaid) = Latch::new();
+    let (latch, unsaid) = StartGate::new();
     let output = &mut FailingOutput { room: 9 };
     let failed = do_job(
         &rt,
+        &mut JobContext::new(),
         &mut Start::new(&latch, unsaid),
         noted_job(alloc)?,
         output,

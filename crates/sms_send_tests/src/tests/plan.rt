@@ -158,7 +158,7 @@ fn want_broken_writer(rt: &(impl AllocGlobal + Abort), input: &[u8], room: usize
 fn want_broken_reader(rt: &(impl AllocGlobal + Abort), left: &[u8]) {
     let alloc = rt.alloc();
     match run_plan(alloc, FailingInput { left }, false, &mut Vec::new(alloc)) {
-        Err(Fault::Unreadable(unread)) if unread.source() == Source::Messages => {}
+        Err(Fault::Unreadable(Source::Messages, _)) => {}
         _ => panic!(rt; "a broken reader"),
     }
 }

@@ -168,7 +168,7 @@ fn want_broken_reader(rt: &(impl AllocGlobal + Abort), left: &[u8]) {
         &mut Vec::new(alloc),
     );
     match done {
-        Err(Fault::Unreadable(unread)) if unread.source() == Source::Messages => {}
+        Err(Fault::Unreadable(Source::Messages, _)) => {}
         _ => panic!(rt; "a broken reader"),
     }
 }

@@ -3,7 +3,7 @@
 
 use super::simulator::{Beside, Simulator};
 use sms_centre::Fuse;
-use sms_driver::{Latch, Start};
+use sms_driver::{Start, StartGate};
 use sms_send::{Fault, run_sender, setup_of};
 use sms_worker::Gate;
 use std::alloc::{AllocError, Global};
@@ -101,7 +101,7 @@ pub fn send<R: Threads + Wait + Sync, G: Gate + Sync>(
         writes: sending.writes,
     };
     let mut printed = Vec::with_capacity(alloc, PRINTED)?;
-    let (latch, unsaid) = Latch::new();
+    let (latch, unsaid) = StartGate::new();
     let mut start = Start::new(&latch, unsaid);
     let ended = run_sender(
         rt,

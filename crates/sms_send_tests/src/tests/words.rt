@@ -1,7 +1,7 @@
 //! The words of the command line, and the jobs that they ask for.
 
 use super::same::same;
-use sms_send::{Fault, Job, JournalFile, Order, job_of};
+use sms_send::{Fault, Job, JournalFile, SendArgs, job_of};
 use std::alloc::Global;
 use std::process::Abort;
 use std::test::Fail;
@@ -216,7 +216,7 @@ const ORDERED: [(&str, Option<(&str, bool, [u32; 3])>); 33] = [
 ];
 
 // The sending that a job asks for.
-fn order_in(rt: &impl Abort, job: Job) -> Order {
+fn order_in(rt: &impl Abort, job: Job) -> SendArgs {
     match job {
         Job::Loop(order) | Job::Send(order) => order,
         _ => panic!(rt; "another job"),
@@ -232,13 +232,13 @@ fn journal_in(journal: &Option<JournalFile>) -> (&str, bool) {
 }
 
 // That the sending is asked for so.
-fn want_order(rt: &impl Abort, order: &Order, wanted: (&str, bool, [u32; 3])) {
+fn want_order(rt: &impl Abort, order: &SendArgs, wanted: (&str, bool, [u32; 3])) {
     let (name, sync) = journal_in(&order.journal);
-    let pace = order.pace;
+    let throttle = order.throttle;
     let numbers = [
-        pace.connect_ms.unwrap_or(0),
-        pace.rate.unwrap_or(0),
-        pace.stop_after.unwrap_or(0),
+        throttle.connect_ms.unwrap_or(0),
+        throttle.rate.unwrap_or(0),
+        throttle.stop_after.unwrap_or(0),
     ];
     same(rt, (name, sync, numbers), wanted);
     same(rt, order.config.as_str(), "c.toml");

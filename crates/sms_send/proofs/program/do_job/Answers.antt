@@ -1,7 +1,7 @@
 use Rattle.std.proofs.Common.{◌≡◌, IfErr, subst, sym}
 use Rattle.sms_send.specs.Faults.{output_failed}
 use Rattle.sms_send.specs.Jobs.{TellsBesideFront}
-use Rattle.sms_send.specs.declared.job.Job.{Job}
+use Rattle.sms_send.specs.declared.args.job.Job.{Job}
 use Rattle.sms_send.proofs.Noting.{both_quiet, quiet_too}
 use Rattle.sms_send.proofs.Telling.{where-output}
 use Rattle.sms_send.proofs.program.do_job.Goals as goal
@@ -20,3 +20,6 @@ returns-in-Recover-clause-unwritten g c = both_quiet c.recover_job.result _ _ c.
 
 pub returns-in-Rest-clause-unwritten : goal.returns-in-Rest-clause-unwritten
 returns-in-Rest-clause-unwritten g c = quiet_too c.rest_job.result _ c.rest_job.ensures.unwritten
+
+pub returns-in-Replay-None-clause-unwritten : goal.returns-in-Replay-None-clause-unwritten
+returns-in-Replay-None-clause-unwritten g c = quiet_too c.run_replay.result _ c.run_replay.ensures.unwritten

@@ -1,4 +1,0 @@
-//! What is told of causes, worked out by hand.
-
-mod causes;
-mod same;

@@ -1,7 +1,0 @@
-use Rattle.sms_send.proofs.command_line.with_pace.Goals as goal
-
-pub returns : goal.returns
-returns c = λ line was.
-    let connected = c.with_argument-connected.ensures _ _ c.value_option-connect.ensures.rule was in
-    let rated = c.with_argument-rated.ensures _ _ c.value_option-rate.ensures.rule connected in
-    c.with_argument.ensures _ _ c.value_option-stop.ensures.rule rated

@@ -1,0 +1,50 @@
+use Rattle.std.proofs.Common.{inl, inr, refl, ap}
+use Rattle.sms_send.proofs.Telling.{told_so}
+use Rattle.sms_send.proofs.Sendings.{unwritten_told}
+use Rattle.sms_send.proofs.Starts.{read_at, unwritten_at}
+use Rattle.sms_send.proofs.jobs.send_job.run_sender.Goals as goal
+
+pub returns-clause-sent : goal.returns-clause-sent
+returns-clause-sent g c = record {
+  input = c.in_ok-input.input;
+  read = c.in_ok-input.ensures.read;
+  ended = c.in_ok-ended.ended;
+  sent = c.in_ok-ended.ensures.sent;
+  written = c.in_ok-write_report.ensures.written;
+  status_is = c.exit_status.ensures;
+}
+
+pub returns-in_err-input-clause-refused : goal.returns-in_err-input-clause-refused
+returns-in_err-input-clause-refused g c = told_so c.from_residual.result _ _ c.from_residual.ensures.1 (inl c.in_err-input.ensures.refused)
+
+pub returns-in_err-ended-clause-refused : goal.returns-in_err-ended-clause-refused
+returns-in_err-ended-clause-refused g c =
+    told_so c.from_residual-in_err-ended.result _ _ c.from_residual-in_err-ended.ensures.1
+    (inr (c.in_ok-input.input, c.in_ok-input.ensures.read, inl (c.in_err-ended.ensures.refused.0, c.in_err-ended.ensures.refused.1, c.in_err-ended.ensures.refused.3)))
+
+pub returns-in_err-write_report-clause-refused : goal.returns-in_err-write_report-clause-refused
+returns-in_err-write_report-clause-refused g c =
+    told_so c.from_residual-in_err-write_report.result _ _ c.from_residual-in_err-write_report.ensures.1
+    (inr (
+      c.in_ok-input.input,
+      c.in_ok-input.ensures.read,
+      unwritten_told (g.D.Dial.refuses c.args.dial.now) _ _ c.in_ok-ended.ended _ _ _ c.in_ok-ended.ensures.sent c.in_err-write_report.ensures.failed c.in_err-write_report.ensures.front (λ memory. ap g.W.Write.contents (c.in_err-write_report.ensures.quiet memory)),
+    ))
+
+pub returns-in_err-input-clause-unwritten : goal.returns-in_err-input-clause-unwritten
+returns-in_err-input-clause-unwritten g c = told_so c.from_residual.result _ _ c.from_residual.ensures.1 (λ other. refl)
+
+pub returns-in_err-ended-clause-unwritten : goal.returns-in_err-ended-clause-unwritten
+returns-in_err-ended-clause-unwritten g c = told_so c.from_residual-in_err-ended.result _ _ c.from_residual-in_err-ended.ensures.1 (λ other. refl)
+
+pub returns-clause-started : goal.returns-clause-started
+returns-clause-started g c = c.in_ok-ended.ensures.started
+
+pub returns-in_err-input-clause-told : goal.returns-in_err-input-clause-told
+returns-in_err-input-clause-told g c = told_so c.from_residual.result _ _ c.from_residual.ensures.1 (read_at _ _ _ c.requires.not_started c.in_err-input.ensures.refused)
+
+pub returns-in_err-ended-clause-told : goal.returns-in_err-ended-clause-told
+returns-in_err-ended-clause-told g c = told_so c.from_residual-in_err-ended.result _ _ c.from_residual-in_err-ended.ensures.1 c.in_err-ended.ensures.told
+
+pub returns-in_err-write_report-clause-told : goal.returns-in_err-write_report-clause-told
+returns-in_err-write_report-clause-told g c = told_so c.from_residual-in_err-write_report.result _ _ c.from_residual-in_err-write_report.ensures.1 (unwritten_at _ _ c.in_ok-ended.ensures.started c.in_err-write_report.ensures.failed)

@@ -1,7 +1,0 @@
-use Rattle.std.proofs.Common.{◌≡◌, drop, map}
-use Rattle.std.specs.Prelude.{string_bytes}
-use Rattle.sms_send.specs.CommandLine.{asks_for_more}
-use Rattle.sms_send.proofs.words.is_verbose.Given as goal
-
-abbrev pub invariant-loop-word : goal.invariant-loop-word
-invariant-loop-word l = asks_for_more (map string_bytes l.words) ≡ asks_for_more (map string_bytes (drop l.word-index l.words))

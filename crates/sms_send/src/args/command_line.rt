@@ -1,0 +1,311 @@
+//! The command line, as the parser knows it.
+
+ghost use Rattle.std.specs.Prelude.{◌≡◌, false, IfOk, IsOkAnd};
+ghost use Rattle.clap.specs.Words.{AddsSubcommand, App, Rule, app_of, new_app, rule_of, with_rule};
+ghost use Rattle.sms_send.specs.CommandLine.{IsLine, command_line as words_allowed, file_rule, flag_rule, name_rule, throttle_rules, plan_line, program_line, quote_line, recover_line, replay_line, rest_line, sender_line, value_rule, verbose_rule, with_rules};
+
+use clap::{Arg, ArgAction, Command};
+use std::alloc::{AllocError, Global};
+
+/// The program's name, as its help and version have it.
+const NAME: &str = "sms-send";
+
+/// The program's version.
+const VERSION: &str = "0.1.0";
+
+/// What the parser is told of the command line.
+pub fn command_line<'a>(alloc: Global) -> Result<Command<'a>, AllocError>
+    ensures { IfOk result (λ command. app_of command ≡ words_allowed) }
+{
+    let program = program_command(alloc)?;
+    let replaying = with_subcommand(program, replay_command(alloc))?;
+    let planning = with_subcommand(replaying, plan_command(alloc))?;
+    let quoting = with_subcommand(planning, quote_command(alloc))?;
+    let looping = sender_command(
+        alloc,
+        "loop",
+        "Sends the messages that the config names through a test centre in this process, and prints a report",
+    );
+    let either = with_subcommand(quoting, looping)?;
+    let sending = sender_command(
+        alloc,
+        "send",
+        "Sends the messages that the config names to its message centre, and prints a report",
+    );
+    let both = with_subcommand(either, sending)?;
+    let recovering = with_subcommand(both, recover_command(alloc))?;
+    with_subcommand(recovering, rest_command(alloc))
+}
+
+/// The command with this subcommand too, where there was memory for both.
+//
+// What dies here is dropped by a call: behind a `?` each of its parts would die on a way of its own,
+// which the prover goes through.
+fn with_subcommand<'a>(
+    command: Command<'a>,
+    subcommand: Result<Command<'a>, AllocError>,
+) -> Result<Command<'a>, AllocError>
+    ensures { IfOk result (λ r. IsOkAnd subcommand.entry (λ s. AddsSubcommand command.entry s r)) }
+{
+    match subcommand {
+        Ok(subcommand) => command.subcommand(subcommand),
+        Err(error) => {
+            drop(command);
+            Err(error)
+        }
+    }
+}
+
+/// What the parser is told of the program before its subcommands.
+fn program_command<'a>(alloc: Global) -> Result<Command<'a>, AllocError>
+    ensures { IfOk result (λ command. app_of command ≡ program_line) }
+{
+    Command::new(alloc, NAME)
+        .about(
+            "Sends prepaid short messages over SMPP 3.4; without arguments it replays the schedule on standard input",
+        )
+        .version(VERSION)
+        .no_binary_name(true)
+        .bin_name(NAME)
+}
+
+/// The flag that every subcommand has.
+fn verbose_flag<'a>(alloc: Global) -> Arg<'a>
+    ensures rule { rule_of result ≡ verbose_rule }
+    ensures local { result.global ≡ false }
+{
+    flag(
+        alloc,
+        "verbose",
+        "Prints details of a fault on standard error",
+    )
+}
+
+/// What the parser is told of `replay`.
+fn replay_command<'a>(alloc: Global) -> Result<Command<'a>, AllocError>
+    ensures { IfOk result (IsLine replay_line) }
+{
+    let begun = subcommand(
+        alloc,
+        "replay",
+        "Replays a schedule of events and prints the result of each",
+    );
+    let named = with_argument(
+        Ok(begun),
+        name_argument(alloc, "FILE", "The schedule; - is standard input"),
+    );
+    with_argument(named, verbose_flag(alloc))
+}
+
+/// What the parser is told of `plan`.
+fn plan_command<'a>(alloc: Global) -> Result<Command<'a>, AllocError>
+    ensures { IfOk result (IsLine plan_line) }
+{
+    let messages = file_option(alloc, "messages", "The messages file");
+    let long = flag(
+        alloc,
+        "long",
+        "Splits long texts with references of 16 bits in place of 8",
+    );
+    let begun = subcommand(
+        alloc,
+        "plan",
+        "Prints how the text of each message is encoded and split into parts",
+    );
+    let filed = with_argument(Ok(begun), messages);
+    let longer = with_argument(filed, long);
+    with_argument(longer, verbose_flag(alloc))
+}
+
+/// What the parser is told of `quote`.
+fn quote_command<'a>(alloc: Global) -> Result<Command<'a>, AllocError>
+    ensures { IfOk result (IsLine quote_line) }
+{
+    let config = file_option(alloc, "config", "The config of the sending");
+    let begun = subcommand(
+        alloc,
+        "quote",
+        "Prints what the messages that the config names would cost, and which would be refused; sends nothing",
+    );
+    let configured = with_argument(Ok(begun), config);
+    with_argument(configured, verbose_flag(alloc))
+}
+
+/// What the parser is told of `recover`.
+fn recover_command<'a>(alloc: Global) -> Result<Command<'a>, AllocError>
+    ensures { IfOk result (IsLine recover_line) }
+{
+    let config = file_option(alloc, "config", "The config of the run");
+    let journal = file_option(alloc, "journal", "The journal of the run");
+    let trial = flag(
+        alloc,
+        "trial",
+        "Prints the report of a trial, a journal of loop, too",
+    );
+    let begun = subcommand(
+        alloc,
+        "recover",
+        "Prints the report of a run that was interrupted, from its journal",
+    );
+    let configured = with_argument(Ok(begun), config);
+    let noted = with_argument(configured, journal);
+    let tried = with_argument(noted, trial);
+    with_argument(tried, verbose_flag(alloc))
+}
+
+/// What the parser is told of `rest`.
+fn rest_command<'a>(alloc: Global) -> Result<Command<'a>, AllocError>
+    ensures { IfOk result (IsLine rest_line) }
+{
+    let config = file_option(alloc, "config", "The config of the run");
+    let report = file_option(alloc, "report", "The report of the run");
+    let accounts = flag(
+        alloc,
+        "accounts",
+        "Prints the accounts with the credits that they have left, instead of the messages",
+    );
+    let begun = subcommand(
+        alloc,
+        "rest",
+        "Prints the messages of which a run sent nothing, from its report",
+    );
+    let configured = with_argument(Ok(begun), config);
+    let reported = with_argument(configured, report);
+    let counted = with_argument(reported, accounts);
+    with_argument(counted, verbose_flag(alloc))
+}
+
+/// What the parser is told of `loop` or of `send`.
+fn sender_command<'a>(
+    alloc: Global,
+    name: &'a str,
+    about: &'a str,
+) -> Result<Command<'a>, AllocError>
+    ensures { IfOk result (IsLine (sender_line name.now)) }
+{
+    let config = file_option(alloc, "config", "The config, which names the other files");
+    let quiet = flag(
+        alloc,
+        "quiet",
+        "Prints nothing but faults on standard error",
+    );
+    let journal = value_option(
+        alloc,
+        "journal",
+        "FILE",
+        "Writes a journal of what is sent and received to this new file",
+    );
+    let sync = flag(
+        alloc,
+        "sync",
+        "Sends nothing that is not on the disk in the journal",
+    );
+    let strict = flag(
+        alloc,
+        "strict",
+        "Ends with status 5 if a message was not sent whole and no part is unanswered",
+    );
+    let begun = with_argument(Ok(subcommand(alloc, name, about)), config);
+    let quieted = with_argument(begun, quiet);
+    let noted = with_argument(quieted, journal);
+    let synced = with_argument(noted, sync);
+    let stricter = with_argument(synced, strict);
+    let told = with_argument(stricter, verbose_flag(alloc));
+    with_throttle(alloc, told)
+}
+
+/// The command with the options of its pace too.
+fn with_throttle<'a>(
+    alloc: Global,
+    command: Result<Command<'a>, AllocError>,
+) -> Result<Command<'a>, AllocError>
+    ensures { (line : App) → IfOk command.entry (IsLine line) → IfOk result (IsLine (with_rules line throttle_rules)) }
+{
+    let connect = value_option(
+        alloc,
+        "connect-ms",
+        "N",
+        "The most milliseconds to connect and to bind, 1 to 600000",
+    );
+    let rate = value_option(
+        alloc,
+        "rate",
+        "N",
+        "The most requests that a bind sends in any second, 1 to 100000",
+    );
+    let stop = value_option(
+        alloc,
+        "stop-after",
+        "N",
+        "Gives a bind up after so many unanswered requests in a row, 1 to 1000000",
+    );
+    let connected = with_argument(command, connect);
+    let rated = with_argument(connected, rate);
+    with_argument(rated, stop)
+}
+
+/// A subcommand before its arguments.
+fn subcommand<'a>(alloc: Global, name: &'a str, about: &'a str) -> Command<'a>
+    ensures { IsLine (new_app name.now) result }
+{
+    Command::new(alloc, name).about(about)
+}
+
+/// The command with this argument too, where there was memory for both.
+fn with_argument<'a>(
+    command: Result<Command<'a>, AllocError>,
+    argument: Arg<'a>,
+) -> Result<Command<'a>, AllocError>
+    requires local { argument.global ≡ false }
+    ensures { (line : App) → (rule : Rule) → rule_of argument.entry ≡ rule → IfOk command.entry (IsLine line) → IfOk result (IsLine (with_rule line rule)) }
+{
+    match command {
+        Ok(command) => command.arg(argument),
+        Err(error) => {
+            drop(argument);
+            Err(error)
+        }
+    }
+}
+
+/// A word that has to be given.
+fn name_argument<'a>(alloc: Global, name: &'a str, help: &'a str) -> Arg<'a>
+    ensures rule { rule_of result ≡ name_rule name.now }
+    ensures local { result.global ≡ false }
+{
+    Arg::new(alloc, name).required(true).help(help)
+}
+
+/// An option that has to be given a file.
+fn file_option<'a>(alloc: Global, name: &'a str, help: &'a str) -> Arg<'a>
+    ensures rule { rule_of result ≡ file_rule name.now }
+    ensures local { result.global ≡ false }
+{
+    Arg::new(alloc, name)
+        .long(name)
+        .value_name("FILE")
+        .required(true)
+        .help(help)
+}
+
+/// An option that may be given a value.
+fn value_option<'a>(alloc: Global, name: &'a str, value: &'a str, help: &'a str) -> Arg<'a>
+    ensures rule { rule_of result ≡ value_rule name.now }
+    ensures local { result.global ≡ false }
+{
+    Arg::new(alloc, name)
+        .long(name)
+        .value_name(value)
+        .help(help)
+}
+
+/// An option that is given or not.
+fn flag<'a>(alloc: Global, name: &'a str, help: &'a str) -> Arg<'a>
+    ensures rule { rule_of result ≡ flag_rule name.now }
+    ensures local { result.global ≡ false }
+{
+    Arg::new(alloc, name)
+        .long(name)
+        .action(ArgAction::SetTrue)
+        .help(help)
+}

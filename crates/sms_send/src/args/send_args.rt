@@ -1,0 +1,60 @@
+//! What the arguments of the subcommands that send, and that look at what was sent, ask for.
+
+/// A sending as the command line asks for it.
+#[derive(Debug, Drop)]
+pub struct SendArgs {
+    /// The name of the config.
+    pub config: String,
+    /// Whether nothing but a fault is printed on standard error.
+    pub quiet: bool,
+    /// Whether details are printed there of what needs an operator.
+    pub verbose: bool,
+    /// Where it is noted what is sent and what is heard; nowhere without the option.
+    pub journal: Option<JournalFile>,
+    /// How long is waited for the binds, and how fast and how far is sent.
+    pub throttle: Throttle,
+    /// Whether the exit status says that a message was not sent whole.
+    pub strict: bool,
+}
+
+/// The journal that a sending is to write.
+#[derive(Debug, Drop)]
+pub struct JournalFile {
+    /// The name of its file, which is made new.
+    pub name: String,
+    /// Whether the disk has it before a request goes out.
+    pub sync: bool,
+}
+
+/// A report by a journal as the command line asks for it.
+#[derive(Debug, Drop)]
+pub struct RecoverArgs {
+    /// The name of the config of the run.
+    pub config: String,
+    /// The name of its journal.
+    pub journal: String,
+    /// Whether the journal may be of a trial.
+    pub trial: bool,
+}
+
+/// What a run left as the command line asks for it.
+#[derive(Debug, Drop)]
+pub struct RestArgs {
+    /// The name of the config of the run.
+    pub config: String,
+    /// The name of its report.
+    pub report: String,
+    /// Whether the accounts are asked for, and not the messages.
+    pub accounts: bool,
+}
+
+/// What bounds a sending. Without its option nothing does.
+#[derive(Clone, Copy, Debug, PartialEq, Eq)]
+pub struct Throttle {
+    /// How many milliseconds it may take to connect and to bind, 1 to 600,000.
+    pub connect_ms: Option<u32>,
+    /// How many requests a bind sends in a second at the most, 1 to 100,000.
+    pub rate: Option<u32>,
+    /// After how many unanswered requests in a row a bind goes down, 1 to 1,000,000.
+    pub stop_after: Option<u32>,
+}

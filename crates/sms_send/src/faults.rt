@@ -1,0 +1,11 @@
+//! The faults that end the program, and the detail lines behind them.
+
+pub mod argument_error;
+pub mod context;
+pub mod details;
+pub mod exposed;
+pub mod fault;
+pub mod full_names;
+pub mod report;
+pub mod unconnected;
+pub mod unsent;

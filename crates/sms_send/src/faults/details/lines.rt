@@ -1,0 +1,67 @@
+//! The detail lines of each fault.
+
+use crate::faults::context::JobContext;
+use crate::faults::details::arguments::write_argument_error;
+use crate::faults::details::bind::{
+    connection_text, failure_text, write_bind_failure, write_status,
+};
+use crate::faults::details::file::{
+    making_text, opening_text, reading_text, write_named_file, write_other_file,
+    write_unread_source,
+};
+use crate::faults::details::journal::{write_unbegun, write_unnoted, write_unprinted};
+use crate::faults::details::key::{write_key, write_toml_flaw};
+use crate::faults::details::record::{write_note, write_record, write_report_record};
+use crate::faults::fault::Fault;
+use crate::faults::full_names::FullNames;
+use std::alloc::AllocError;
+
+/// The detail line of a fault that always has the same one; empty where it has another. It takes no memory.
+pub(crate) fn fixed_text(fault: &Fault) -> &'static str {
+    match fault {
+        Fault::JournalHeld => "its run is still going on",
+        Fault::Overdrawn => "it takes more of an account than that has",
+        Fault::Trial => "--trial prints its report",
+        Fault::OutOfMemory => "memory or a thread was refused; nothing was sent",
+        Fault::Unreported => "memory or a thread was refused; messages may have been sent",
+        _ => "",
+    }
+}
+
+/// Writes the detail lines of a fault of a job, without a line end behind the last.
+pub(crate) fn write_lines<R: AllocGlobal + FullNames>(
+    rt: &R,
+    text: &mut String,
+    fault: &Fault,
+    job: &JobContext,
+) -> Result<(), AllocError> {
+    match fault {
+        Fault::Words(error) => write_argument_error(text, error),
+        Fault::File(name, kind) => {
+            write_named_file(rt, text, name.as_str(), opening_text(*kind))
+        }
+        Fault::UnreadFile(name, _, kind) => {
+            write_named_file(rt, text, name.as_str(), reading_text(*kind))
+        }
+        Fault::Unreadable(source, _) => write_unread_source(text, &job.names, *source),
+        Fault::BadRecord(source, place, record) => {
+            write_record(text, &job.names, *source, *place, record)
+        }
+        Fault::NotToml(flaw) => write_toml_flaw(text, &job.names.config, flaw),
+        Fault::BadKey(key, value) => write_key(text, key.as_str(), value),
+        Fault::BindRefused(_, status) => write_status(text, *status),
+        Fault::BindFailed(_, why) => write_bind_failure(text, &job.centre, failure_text(*why)),
+        Fault::Unconnected(reason) => {
+            write_bind_failure(text, &job.centre, connection_text(reason.why))
+        }
+        Fault::BadNote(place) => write_note(text, &job.names.journal, *place),
+        Fault::BadReport(place) => write_report_record(text, &job.names.report, *place),
+        Fault::Unmade(_, kind) => text.push_str(making_text(*kind)),
+        Fault::Unbegun(why) => write_unbegun(text, *why),
+        Fault::Journal(why) => write_unnoted(text, job, *why),
+        Fault::OtherFile(name) => write_other_file(text, name.as_str()),
+        Fault::Output(_) => write_unprinted(text, job),
+        // The others have a fixed line, or none.
+        _ => Ok(()),
+    }
+}

@@ -1,0 +1,8 @@
+//! The files that the program reads, by their names.
+
+pub mod named_files;
+pub mod open_input;
+pub mod opened;
+pub mod reading;
+pub mod run_files;
+pub mod sending_input;

@@ -1,0 +1,87 @@
+//! The files that a config names, opened to be read.
+
+ghost use Rattle.std.specs.Prelude.{◌≡◌, ◌≢◌, [], None, IfErr, IfOk, option_map};
+ghost use Rattle.sms_send.specs.Opened.{AreFound, IsNamed, TellsMissing};
+
+use crate::faults::fault::Fault;
+use crate::files::opened::InputFiles;
+use sms_files::{Config, FileNames};
+use std::io::ErrorKind;
+
+/// A config, and the files that it names, opened to be read.
+#[derive(Drop)]
+pub struct OpenInput<F> {
+    /// What the config says.
+    pub config: Config,
+    /// The accounts that pay.
+    pub accounts: F,
+    /// The messages to send.
+    pub messages: F,
+    /// What a segment costs; None where the config names no tariff.
+    pub tariff: Option<F>,
+}
+
+/// The file of this name, opened to be read; none where the name is empty.
+fn open_if_named<R: InputFiles>(rt: &R, name: &str) -> Result<Option<R::InputFile>, ErrorKind>
+    ensures named { IfOk result (λ file. IsNamed (R.finds rt.now) name.now (option_map R.InputFile.remaining file)) }
+    ensures lost { IfErr result (λ kind. R.finds rt.now name.now None × (name.now ≢ [])) }
+{
+    if name.is_empty() {
+        return Ok(None);
+    }
+    match rt.open_input(name) {
+        Ok(file) => Ok(Some(file)),
+        Err(error) => Err(error.kind()),
+    }
+}
+
+/// Opens the files that a config names: accounts, messages, tariff. The first that can't be opened is the
+/// fault.
+pub fn open_input<R: InputFiles>(rt: &R, config: Config) -> Result<OpenInput<R::InputFile>, Fault>
+    ensures config { IfOk result (λ opened. opened.config ≡ config) }
+    ensures found { IfOk result (λ opened. AreFound (R.finds rt.now) config.files (R.InputFile.remaining opened.accounts) (R.InputFile.remaining opened.messages) (option_map R.InputFile.remaining opened.tariff)) }
+    ensures refused { IfErr result (TellsMissing (R.finds rt.now) config.files) }
+{
+    let Config {
+        connection,
+        limits,
+        retry,
+        flags,
+        files,
+        answers,
+    } = config;
+    let FileNames {
+        accounts,
+        messages,
+        tariff,
+    } = files;
+    let accounts_file = match rt.open_input(accounts.as_str()) {
+        Ok(file) => file,
+        Err(error) => return Err(Fault::File(accounts, error.kind())),
+    };
+    let messages_file = match rt.open_input(messages.as_str()) {
+        Ok(file) => file,
+        Err(error) => return Err(Fault::File(messages, error.kind())),
+    };
+    let tariff_file = match open_if_named(rt, tariff.as_str()) {
+        Ok(file) => file,
+        Err(kind) => return Err(Fault::File(tariff, kind)),
+    };
+    Ok(OpenInput {
+        config: Config {
+            connection,
+            limits,
+            retry,
+            flags,
+            files: FileNames {
+                accounts,
+                messages,
+                tariff,
+            },
+            answers,
+        },
+        accounts: accounts_file,
+        messages: messages_file,
+        tariff: tariff_file,
+    })
+}

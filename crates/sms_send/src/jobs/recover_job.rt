@@ -1,0 +1,249 @@
+//! The jobs of `recover` and `rest`: what is left of a run, by its journal or its report.
+
+ghost use Rattle.std.specs.Prelude.{◌≡◌, ◌≢◌, ◌⊎◌, IfErr, IfOk, OnOk, false, string_bytes, true};
+ghost use Rattle.sms_journal.specs.declared.text.header.JournalKind.TheVariants.{Trial};
+ghost use Rattle.sms_journal.specs.declared.recovery.recovering.Recovered.{Recovered as IsDone};
+ghost use Rattle.sms_files.specs.Output.{WritesFront};
+ghost use Rattle.sms_send.specs.Statuses.{IsStatus};
+ghost use Rattle.sms_send.specs.Recovered.{LosesTrial, PrintsLeft, RecoversAndTells, RecoversBy, RecoversRun, TellsKind, TellsLeft, TellsOther, TellsRecovered, TellsRecoverFree, TellsRecoverJob, TellsRestJob, name_of, trial_line};
+ghost use Rattle.sms_send.specs.Runs.{IsRun};
+ghost use Rattle.sms_send.specs.Faults.{output_failed};
+ghost use Rattle.sms_send.specs.declared.files.run_files.RunFiles.{RunFiles as TheRunFiles};
+
+use crate::args::send_args::{RecoverArgs, RestArgs};
+use crate::faults::context::JobContext;
+use crate::faults::fault::Fault;
+use crate::files::opened::InputFiles;
+use crate::files::run_files::{RunFiles, read_run};
+use sms_devices::JournalFiles;
+use sms_files::{FileNames, write_out};
+use sms_journal::{
+    JournalKind, Recovered, RecoveryFault, RunFile, run_recover, run_rest, run_rest_accounts,
+};
+use std::alloc::Global;
+use std::io::Write;
+
+/// The line of a trial.
+const TRIAL: &str = "trial: no message centre saw any of it\n";
+
+/// Prints what a run would have reported, by its journal, and gives the exit status that it would have
+/// had. A journal that a process holds isn't read. Of a trial that is asked for standard error is told that no
+/// message centre saw any of it.
+pub fn recover_job<R: AllocGlobal + InputFiles + JournalFiles, W: Write, E: Write>(
+    rt: &R,
+    context: &mut JobContext,
+    order: RecoverArgs,
+    output: &mut W,
+    error: &mut E,
+) -> Result<u8, Fault>
+    ensures recovered { IfOk result (RecoversBy (R.finds rt.now) order (W.contents output.old) (W.contents output.new)) }
+    ensures status { IfOk result IsStatus }
+    ensures beside { OnOk result (RecoversAndTells (R.finds rt.now) order (W.contents output.old) (W.contents output.new) (E.contents error.old) (E.contents error.new)) }
+    ensures refused { IfErr result (TellsRecoverJob (R.holds rt.now) (R.finds rt.now) order (W.contents output.old) (W.contents output.new)) }
+    ensures told { WritesFront (E.contents error.old) (E.contents error.new) trial_line }
+    ensures unwritten { IfErr result (λ fault. fault ≢ output_failed → (output.new ≡ output.old) × (error.new ≡ error.old)) }
+{
+    if rt.is_held(order.journal.as_str()) {
+        return Err(Fault::JournalHeld);
+    }
+    recover_free(rt, context, order, output, error)
+}
+
+/// The same of a journal that no process holds.
+fn recover_free<R: AllocGlobal + InputFiles, W: Write, E: Write>(
+    rt: &R,
+    context: &mut JobContext,
+    order: RecoverArgs,
+    output: &mut W,
+    error: &mut E,
+) -> Result<u8, Fault>
+    ensures recovered { IfOk result (RecoversBy (R.finds rt.now) order (W.contents output.old) (W.contents output.new)) }
+    ensures status { IfOk result IsStatus }
+    ensures beside { OnOk result (RecoversAndTells (R.finds rt.now) order (W.contents output.old) (W.contents output.new) (E.contents error.old) (E.contents error.new)) }
+    ensures refused { IfErr result (TellsRecoverFree (R.finds rt.now) order (W.contents output.old) (W.contents output.new)) }
+    ensures told { WritesFront (E.contents error.old) (E.contents error.new) trial_line }
+    ensures unwritten { IfErr result (λ fault. fault ≢ output_failed → (output.new ≡ output.old) × (error.new ≡ error.old)) }
+{
+    let trial = order.trial;
+    let name = match String::from_str(rt.alloc(), order.config.as_str()) {
+        Ok(name) => name,
+        Err(_) => return Err(Fault::OutOfMemory),
+    };
+    match read_run(rt, context, order.config, order.journal) {
+        Ok(run) => recover_run(rt.alloc(), name.as_str(), &run, trial, output, error),
+        Err(fault) => Err(fault),
+    }
+}
+
+/// The same of files that were read, by a config of this name.
+fn recover_run<W: Write, E: Write>(
+    alloc: Global,
+    name: &str,
+    run: &RunFiles,
+    trial: bool,
+    output: &mut W,
+    error: &mut E,
+) -> Result<u8, Fault>
+    ensures recovered { IfOk result (λ status. (done : IsDone) × RecoversRun run.now trial (W.contents output.old) (W.contents output.new) done × TellsKind done.kind (E.contents error.old) (E.contents error.new) × (status ≡ done.status)) }
+    ensures status { IfOk result IsStatus }
+    ensures refused { IfErr result (λ fault. TellsRecovered run.now trial (W.contents output.old) (W.contents output.new) fault ⊎ LosesTrial run.now trial (W.contents output.old) (W.contents output.new) fault) }
+    ensures told { WritesFront (E.contents error.old) (E.contents error.new) trial_line }
+    ensures unwritten { IfErr result (λ fault. fault ≢ output_failed → (output.new ≡ output.old) × (error.new ≡ error.old)) }
+{
+    match recovered(alloc, name, run, trial, output) {
+        Ok(done) => tell_kind(error, done),
+        Err(fault) => Err(fault),
+    }
+}
+
+/// What was recovered of files that were read, by a config of this name.
+fn recovered<W: Write>(
+    alloc: Global,
+    name: &str,
+    run: &RunFiles,
+    trial: bool,
+    output: &mut W,
+) -> Result<Recovered, Fault>
+    ensures recovered { IfOk result (RecoversRun run.now trial (W.contents output.old) (W.contents output.new)) }
+    ensures status { IfOk result (λ done. IsStatus done.status) }
+    ensures refused { IfErr result (TellsRecovered run.now trial (W.contents output.old) (W.contents output.new)) }
+    ensures unwritten { IfErr result (λ fault. fault ≢ output_failed → output.new ≡ output.old) }
+{
+    let recovered = run_recover(
+        alloc,
+        run.config.as_slice(),
+        run.named.accounts.as_slice(),
+        run.named.messages.as_slice(),
+        run.named.tariff(),
+        run.written.as_slice(),
+        trial,
+        output,
+    );
+    match recovered {
+        Ok(done) => Ok(done),
+        Err(RecoveryFault::OtherFiles(file)) => {
+            Err(of_other_file(alloc, name_in(name, &run.names, file)))
+        }
+        Err(fault) => Err(Fault::from(fault)),
+    }
+}
+
+/// The name of a file of a run, of which the config has this name.
+fn name_in<'a>(config: &'a str, names: &'a FileNames, file: RunFile) -> &'a str
+    ensures { result.now ≡ name_of config.now names.now file }
+{
+    match file {
+        RunFile::Config => config,
+        RunFile::Accounts => names.accounts.as_str(),
+        RunFile::Messages => names.messages.as_str(),
+        RunFile::Tariff => names.tariff.as_str(),
+    }
+}
+
+/// The fault of a journal that isn't of the file of this name. It has no name where memory is refused for it.
+fn of_other_file(alloc: Global, name: &str) -> Fault
+    ensures { TellsOther result }
+{
+    match String::from_str(alloc, name) {
+        Ok(name) => Fault::OtherFile(name),
+        Err(_) => Fault::BadNote(1),
+    }
+}
+
+/// Tells of a trial that it is one, and gives the exit status of what was recovered.
+fn tell_kind<E: Write>(error: &mut E, done: Recovered) -> Result<u8, Fault>
+    ensures told { IfOk result (λ status. TellsKind done.kind (E.contents error.old) (E.contents error.new) × (status ≡ done.status)) }
+    ensures failed { IfErr result (λ fault. (fault ≡ output_failed) × (done.kind ≡ Trial)) }
+    ensures front { WritesFront (E.contents error.old) (E.contents error.new) trial_line }
+{
+    match done.kind {
+        JournalKind::Run => Ok(done.status),
+        JournalKind::Trial => match write_out(error, TRIAL.as_bytes()) {
+            Ok(()) => Ok(done.status),
+            Err(fault) => Err(Fault::from(fault)),
+        },
+    }
+}
+
+/// Prints the messages that a run did not send at all, by its report, or the accounts that go with
+/// them. The exit status is 0.
+pub fn rest_job<R: AllocGlobal + InputFiles, W: Write>(
+    rt: &R,
+    context: &mut JobContext,
+    order: RestArgs,
+    output: &mut W,
+) -> Result<u8, Fault>
+    ensures status { IfOk result (λ status. status ≡ 0) }
+    ensures printed { IfOk result (λ status. (run : TheRunFiles) × IsRun (R.finds rt.now) (string_bytes order.config) (string_bytes order.report) run × PrintsLeft order.accounts run (W.contents output.old) (W.contents output.new)) }
+    ensures refused { IfErr result (TellsRestJob (R.finds rt.now) order (W.contents output.old) (W.contents output.new)) }
+    ensures unwritten { IfErr result (λ fault. fault ≢ output_failed → output.new ≡ output.old) }
+{
+    let accounts = order.accounts;
+    match read_run(rt, context, order.config, order.report) {
+        Ok(run) => left(rt.alloc(), &run, accounts, output),
+        Err(fault) => Err(fault),
+    }
+}
+
+/// The same of files that were read.
+fn left<W: Write>(
+    alloc: Global,
+    run: &RunFiles,
+    accounts: bool,
+    output: &mut W,
+) -> Result<u8, Fault>
+    ensures status { IfOk result (λ status. status ≡ 0) }
+    ensures printed { IfOk result (λ status. PrintsLeft accounts run.now (W.contents output.old) (W.contents output.new)) }
+    ensures refused { IfErr result (TellsLeft accounts run.now (W.contents output.old) (W.contents output.new)) }
+    ensures unwritten { IfErr result (λ fault. fault ≢ output_failed → output.new ≡ output.old) }
+{
+    if accounts {
+        accounts_left(alloc, run, output)
+    } else {
+        messages_left(alloc, run, output)
+    }
+}
+
+/// Prints the accounts with what they have left.
+fn accounts_left<W: Write>(alloc: Global, run: &RunFiles, output: &mut W) -> Result<u8, Fault>
+    ensures status { IfOk result (λ status. status ≡ 0) }
+    ensures printed { IfOk result (λ status. PrintsLeft true run.now (W.contents output.old) (W.contents output.new)) }
+    ensures refused { IfErr result (TellsLeft true run.now (W.contents output.old) (W.contents output.new)) }
+    ensures unwritten { IfErr result (λ fault. fault ≢ output_failed → output.new ≡ output.old) }
+{
+    let printed = run_rest_accounts(
+        alloc,
+        run.config.as_slice(),
+        run.named.accounts.as_slice(),
+        run.named.messages.as_slice(),
+        run.named.tariff(),
+        run.written.as_slice(),
+        output,
+    );
+    match printed {
+        Ok(()) => Ok(0),
+        Err(fault) => Err(Fault::from(fault)),
+    }
+}
+
+/// Prints the messages that were not sent at all.
+fn messages_left<W: Write>(alloc: Global, run: &RunFiles, output: &mut W) -> Result<u8, Fault>
+    ensures status { IfOk result (λ status. status ≡ 0) }
+    ensures printed { IfOk result (λ status. PrintsLeft false run.now (W.contents output.old) (W.contents output.new)) }
+    ensures refused { IfErr result (TellsLeft false run.now (W.contents output.old) (W.contents output.new)) }
+    ensures unwritten { IfErr result (λ fault. fault ≢ output_failed → output.new ≡ output.old) }
+{
+    let printed = run_rest(
+        alloc,
+        run.config.as_slice(),
+        run.named.accounts.as_slice(),
+        run.named.messages.as_slice(),
+        run.named.tariff(),
+        run.written.as_slice(),
+        output,
+    );
+    match printed {
+        Ok(()) => Ok(0),
+        Err(fault) => Err(Fault::from(fault)),
+    }
+}

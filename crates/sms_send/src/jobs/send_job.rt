@@ -1,0 +1,128 @@
+//! The job of `loop` and `send`: the files that the config names are opened and read, and sent.
+
+ghost use Rattle.std.specs.Prelude.{◌≡◌, ◌≢◌, IfErr, IfOk, OnOk, is_some, option_map, string_bytes};
+ghost use Rattle.sms_driver.specs.declared.start_gate.Command.TheVariants.{Go};
+ghost use Rattle.sms_driver.specs.declared.start.StartPhase.TheVariants.{Idle, Released};
+ghost use Rattle.sms_send.specs.Faults.{HasLostJournal, IsToldAt, output_failed};
+ghost use Rattle.sms_send.specs.Opened.{OfFile};
+ghost use Rattle.sms_send.specs.Statuses.{IsStatusBy};
+ghost use Rattle.sms_send.specs.Noted.{IsToldNoted, TellsBegin};
+ghost use Rattle.sms_send.specs.SendJobs.{FailsSendJob, SendsBy};
+ghost use Rattle.sms_send.specs.Sent.{RunsSender, TellsSender};
+
+use crate::args::send_args::SendArgs;
+use crate::faults::context::JobContext;
+use crate::faults::exposed::{FileModes, config_of};
+use crate::faults::fault::Fault;
+use crate::files::open_input::open_input;
+use crate::files::opened::InputFiles;
+use crate::files::reading::{parse_config, read_input};
+use crate::files::sending_input::{read_noted, read_plain};
+use crate::sending::Sending;
+use crate::sending::remarks::Remarks;
+use crate::sending::sender::{send_all, write_report};
+use crate::sending::target::{Target, TargetKind};
+use sms_devices::Host;
+use sms_driver::{Dial, Start};
+use sms_worker::{Clock, Gate, Pause};
+use std::alloc::Global;
+use std::io::{Read, Write};
+use std::sync::Wait;
+use std::thread::Threads;
+
+/// Reads the config's octets and the files, sends all messages, and writes the report. Gives the
+/// exit status: 4 where a segment is unanswered; else, if it is to be strict, 5 where a message was not
+/// sent whole; else 0.
+pub fn run_sender<
+    A: Read + Drop,
+    M: Read + Drop,
+    T: Read + Drop,
+    D: Dial,
+    G: Gate + Sync,
+    K: Clock + Sync,
+    P: Pause + Sync,
+    R: Threads + Wait + Sync,
+    W: Write,
+>(
+    rt: &R,
+    alloc: Global,
+    start: &mut Start<'_>,
+    config: &[u8],
+    accounts: A,
+    messages: M,
+    tariff: Option<T>,
+    dial: &D,
+    gate: &G,
+    clock: &K,
+    pause: &P,
+    strict: bool,
+    output: &mut W,
+) -> Result<u8, Fault>
+    requires not_started { start.old.begun ≡ Idle }
+    ensures latch { start.new.latch ≡ start.old.latch }
+    ensures started { OnOk result (start.new.begun ≡ Released Go) }
+    ensures sent { IfOk result (λ status. RunsSender (D.told dial.now) strict config.now (A.remaining accounts) (M.remaining messages) (option_map T.remaining tariff) (W.contents output.old) (W.contents output.new) status) }
+    // A fault is of the first of these that has one, or of the sending of what they say.
+    ensures refused { IfErr result (TellsSender (D.refuses dial.now) (D.told dial.now) config.now (A.remaining accounts) (M.remaining messages) (option_map T.remaining tariff) (W.contents output.old) (W.contents output.new)) }
+    // And it says whether messages may have been sent: just where all workers were told to go.
+    ensures told { IfErr result (IsToldAt start.new.begun) }
+    ensures unwritten { IfErr result (λ fault. fault ≢ output_failed → output.new ≡ output.old) }
+{
+    let input = read_input(alloc, config, accounts, messages, tariff)?;
+    let ended = send_all(rt, alloc, start, input, dial, gate, clock, pause)?;
+    write_report(alloc, &ended, output)?;
+    Ok(ended.exit_status(strict))
+}
+
+/// Reads the config of this name and the files that it names, and sends. With a journal the files are read to
+/// their ends first, and what goes out is noted.
+pub fn send_job<R: FileModes + Host + InputFiles, W: Write>(
+    rt: &R,
+    context: &mut JobContext,
+    start: &mut Start<'_>,
+    kind: TargetKind,
+    order: SendArgs,
+    output: &mut W,
+) -> Result<u8, Fault>
+    requires not_started { start.old.begun ≡ Idle }
+    ensures latch { start.new.latch ≡ start.old.latch }
+    ensures started { OnOk result (start.new.begun ≡ Released Go) }
+    ensures sent { IfOk result (λ status. OfFile (R.finds rt.now) (string_bytes order.config) (λ octets. SendsBy (R.finds rt.now) (R.tells rt.now) kind order.strict (is_some order.journal) octets (W.contents output.old) (W.contents output.new) status)) }
+    ensures status { IfOk result (IsStatusBy order.strict) }
+    ensures refused { IfErr result (FailsSendJob (TellsBegin (R.makes rt.now) (R.refuses rt.now) (R.holds rt.now)) (R.finds rt.now) (R.tells rt.now) kind order (W.contents output.old) (W.contents output.new)) }
+    ensures phase { IfErr result (IsToldNoted (R.tells rt.now) order.strict start.new.begun (W.contents output.old) (W.contents output.new)) }
+    ensures unwritten { IfErr result (λ fault. fault ≢ output_failed → ¬ HasLostJournal fault → output.new ≡ output.old) }
+{
+    let SendArgs {
+        config,
+        quiet,
+        verbose,
+        journal,
+        throttle,
+        strict,
+    } = order;
+    let trial = kind == TargetKind::Loopback;
+    let remarks = Remarks::new(quiet, verbose, rt.is_terminal(), rt.has_details(), trial);
+    let octets = config_of(rt, config, remarks.at_length)?;
+    let parsed = parse_config(rt.alloc(), octets.as_slice())?;
+    context.note_config(rt.alloc(), &parsed);
+    let target = Target::new(rt.alloc(), kind, &parsed)?;
+    let opened = open_input(rt, parsed)?;
+    let sending = Sending {
+        rt,
+        target,
+        throttle,
+        remarks,
+        strict,
+    };
+    match journal {
+        None => {
+            let input = read_plain(rt.alloc(), opened, strict)?;
+            sending.run(start, input, None, output)
+        }
+        Some(wanted) => {
+            let noted = read_noted(rt.alloc(), octets.as_slice(), opened, strict)?;
+            sending.run_noted(start, noted.input, &noted.digests, wanted, output)
+        }
+    }
+}

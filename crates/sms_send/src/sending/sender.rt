@@ -1,0 +1,191 @@
+//! The sender: what was read is sent over all binds, and ends as its contract says.
+
+ghost use Rattle.std.specs.Prelude.{◌≡◌, ◌⊎◌, IfErr, IfOk, OnOk};
+ghost use Rattle.std.specs.Io.KnownBytes.{Appends};
+ghost use Rattle.sms_files.specs.Output.{WritesFront};
+ghost use Rattle.sms_files.specs.Report.{report_of};
+ghost use Rattle.sms_send.specs.Faults.{IsToldAt, output_failed};
+ghost use Rattle.sms_send.specs.Sent.{AreSettingsOf, IsSent, TellsDriven};
+ghost use Rattle.sms_send.specs.Statuses.{status_by};
+ghost use Rattle.sms_driver.specs.declared.start_gate.Command.TheVariants.{Go};
+ghost use Rattle.sms_driver.specs.declared.start.StartPhase.TheVariants.{Idle, Released};
+ghost use Rattle.sms_send.specs.declared.faults.fault.Fault.TheVariants.{Unreported};
+
+use crate::faults::fault::Fault;
+use crate::sending::status::status_of;
+use sms_book::{Opening, Statement};
+use sms_driver::{BindEnd, BindSettings, Devices, Dial, RunSettings, Sending, Start, drive_all};
+use sms_files::{Config, Connection, Flags, Input, Limits, OutputFault, rules_of, write_report_of};
+use sms_worker::{Clock, Gate, MessageEnd, Pause};
+use std::alloc::Global;
+use std::io::Write;
+use std::sync::Wait;
+use std::thread::Threads;
+
+/// How many turns readers and workers take at most.
+const TURNS: u64 = 1 << 40;
+
+/// What a sending ends with: an end for each message, in order, a row for each account, and what
+/// became of each bind.
+/// `send_all` alone makes one.
+#[derive(Drop)]
+pub struct Ended {
+    openings: Vec<Opening>,
+    ends: Vec<MessageEnd>,
+    statement: Statement,
+    binds: Vec<BindEnd>,
+}
+
+impl Ended {
+    /// The accounts as they were opened.
+    pub fn openings(&self) -> &[Opening]
+        ensures { result.now ≡ self.now.openings.items }
+    {
+        self.openings.as_slice()
+    }
+
+    /// What became of the messages.
+    pub fn ends(&self) -> &[MessageEnd]
+        ensures { result.now ≡ self.now.ends.items }
+    {
+        self.ends.as_slice()
+    }
+
+    /// The program's exit status: 4 where a segment is unanswered; else, if it is to be strict, 5 where a
+    /// message was not sent whole; else 0.
+    pub fn exit_status(&self, strict: bool) -> u8
+        ensures { result ≡ status_by strict self.now.ends.items }
+    {
+        status_of(self.ends.as_slice(), strict)
+    }
+
+    /// What became of the accounts.
+    pub fn statement(&self) -> &Statement
+        ensures { result.now ≡ self.now.statement }
+    {
+        &self.statement
+    }
+
+    /// What became of the binds.
+    pub fn binds(&self) -> &[BindEnd]
+        ensures { result.now ≡ self.now.binds.items }
+    {
+        self.binds.as_slice()
+    }
+}
+
+/// What all binds have in common.
+fn settings_of(connection: Connection, limits: Limits, flags: Flags) -> BindSettings
+    ensures { AreSettingsOf connection limits flags result }
+{
+    BindSettings {
+        settings: connection.settings,
+        limit: limits.window,
+        follow: flags.follow,
+    }
+}
+
+/// Makes all binds, sends all messages, and ends the binds. Nothing is sent where a bind fails; the
+/// first that fails is told. Where a fault is told, the start says whether a message could have gone out
+/// before it: only where all workers were told to go.
+pub fn send_all<
+    'l,
+    D: Dial,
+    G: Gate + Sync,
+    K: Clock + Sync,
+    P: Pause + Sync,
+    R: Threads + Wait + Sync,
+>(
+    rt: &R,
+    alloc: Global,
+    start: &mut Start<'l>,
+    input: Input,
+    dial: &D,
+    gate: &G,
+    clock: &K,
+    pause: &P,
+) -> Result<Ended, Fault>
+    requires not_started { start.old.begun ≡ Idle }
+    ensures latch { start.new.latch ≡ start.old.latch }
+    ensures started { OnOk result (start.new.begun ≡ Released Go) }
+    ensures sent { IfOk result (IsSent (D.told dial.now) input) }
+    // A fault is of one of the config's binds, and tells what was read of it, or of memory; and a fault that comes before a message could go out comes where no
+    // worker was told to go, and one that comes after where all were.
+    ensures refused { IfErr result (TellsDriven (D.refuses dial.now) (D.told dial.now) input.config start.new.begun) }
+    // So the fault that is told says whether messages may have been sent.
+    ensures told { IfErr result (IsToldAt start.new.begun) }
+{
+    let (config, openings, messages, tariff) = input.into_parts();
+    let Config {
+        connection,
+        limits,
+        retry,
+        flags,
+        ..
+    } = config;
+    let rules = rules_of(retry, limits, flags, tariff, TURNS);
+    let settings = settings_of(connection, limits, flags);
+    let run = RunSettings {
+        binds: limits.binds as usize,
+        workers: limits.workers as usize,
+        bind_settings: settings,
+        rules,
+    };
+    let devices = Devices {
+        dial,
+        gate,
+        clock,
+        pause,
+    };
+    let driven = drive_all(
+        rt,
+        alloc,
+        start,
+        &run,
+        openings.as_slice(),
+        messages,
+        &devices,
+    );
+    let sending = match driven {
+        Ok(sending) => sending,
+        Err(fault) => {
+            let told = Fault::from(fault);
+            return Err(told);
+        }
+    };
+    let Sending {
+        ends,
+        statement,
+        binds,
+    } = sending;
+    Ok(Ended {
+        openings,
+        ends,
+        statement,
+        binds,
+    })
+}
+
+/// Writes what is printed of a sending. It is made whole before its first octet is written; where memory is
+/// refused for that, the messages have ended.
+pub fn write_report<W: Write>(alloc: Global, ended: &Ended, output: &mut W) -> Result<(), Fault>
+    ensures written { OnOk result (Appends (W.contents output.old) (W.contents output.new) (report_of ended.now.openings.items ended.now.ends.items ended.now.statement)) }
+    ensures failed { IfErr result (λ fault. (fault ≡ output_failed) ⊎ (fault ≡ Unreported)) }
+
+    // Where the output failed, a front of the text was written, and else nothing.
+    ensures front { IfErr result (λ fault. fault ≡ output_failed → WritesFront (W.contents output.old) (W.contents output.new) (report_of ended.now.openings.items ended.now.ends.items ended.now.statement)) }
+    ensures quiet { IfErr result (λ fault. fault ≡ Unreported → output.new ≡ output.old) }
+{
+    let written = write_report_of(
+        alloc,
+        ended.openings(),
+        ended.ends(),
+        ended.statement(),
+        output,
+    );
+    match written {
+        Ok(()) => Ok(()),
+        Err(OutputFault::Output(unwritten)) => Err(Fault::Output(unwritten)),
+        Err(OutputFault::OutOfMemory) => Err(Fault::Unreported),
+    }
+}
