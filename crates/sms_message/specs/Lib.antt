@@ -3,6 +3,7 @@ pub mod Admission
 pub mod EndOf
 pub mod Ends
 pub mod Limits
+pub mod Names
 pub mod Results
 pub mod Submits
 pub mod UserData

@@ -6,6 +6,7 @@ mod address;
 mod admission;
 mod ends;
 mod message;
+mod names;
 mod rules;
 mod user_data;
 
@@ -15,5 +16,6 @@ pub use ends::{
     Attempt, Attempts, MessageEnd, MessageRefusal, MessageResult, Outcome, SegmentEnd, Segments,
 };
 pub use message::Message;
+pub use names::{outcome_name, outcome_named, refusal_name, refusal_named};
 pub use rules::Rules;
 pub use user_data::UserData;

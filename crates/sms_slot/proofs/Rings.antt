@@ -6,7 +6,7 @@ use Rattle.std.proofs.lemmas.Bool.{eqb-false}
 use Rattle.std.proofs.Math.Seq.{map-set_same}
 use Rattle.rtrb.specs.Ring.{SameProducer}
 use Rattle.rtrb.specs.declared.producer.Producer.{Producer}
-use Rattle.sms_slot.specs.declared.slot.Answer.TheVariants.{Matched, Overrun}
+use Rattle.sms_slot.specs.declared.slot.SlotDelivery.TheVariants.{Matched, Overrun}
 use Rattle.sms_slot.specs.Rings.{pushed, pushed_to, handed, count_handed, went_to, Room}
 
 module _ {A : Type 0} (R : A → A → Type 0) where
@@ -89,7 +89,7 @@ pub length-handed : {X : Type 0} (ls : List (List X)) (es : List (X × Option �
 length-handed ls [] = refl
 length-handed ls (e ∷ es) = length-handed (pushed_to ls e.0 e.1) es ∙ length-pushed_to ls e.0 e.1
 
--- a ring that was there has sent what it had sent, and then what went to it, in order
+-- a ring in the list has sent what it had sent, and then what the log says it took, in order
 module _ {X : Type 0} where
   pushed-here : (ls : List (List X)) (i : ℕ) (x : X) → i < length ls → get_or (pushed ls i x) i [] ≡ get_or ls i [] ++ x ∷ []
   pushed-here [] i x low = absurd (omega arith)

@@ -6,8 +6,8 @@ use Rattle.sms_core.specs.Marks.{replied, settled, expired}
 use Rattle.sms_pdu.specs.declared.reply.Reply.{Reply}
 use Rattle.sms_slot.specs.declared.slot.Slot.{Slot}
 use Rattle.sms_slot.specs.declared.slot.Slot.TheVariants.{Empty, Waiting, Answered}
-use Rattle.sms_slot.specs.declared.slot.Answer.{Answer}
-use Rattle.sms_slot.specs.declared.slot.Answer.TheVariants.{Matched, Overrun, Unknown}
+use Rattle.sms_slot.specs.declared.slot.SlotDelivery.{SlotDelivery}
+use Rattle.sms_slot.specs.declared.slot.SlotDelivery.TheVariants.{Matched, Overrun, Unknown}
 use Rattle.sms_slot.specs.declared.row.NotAnswered.{NotAnswered}
 use Rattle.sms_slot.specs.declared.slot.NoAnswer.{NoAnswer}
 use Rattle.sms_slot.specs.declared.slot.Taken.{Taken}
@@ -41,12 +41,12 @@ abbrev pub IsAnswered : ℕ → Slot → Type 0
 IsAnswered number slot = (worker : ℕ) × (slot ≡ Answered worker number)
 
 -- an answer is matched by its number; where the worker's ring has no room the request waits on
-abbrev pub Answers : Reply → Slot → Answer → Slot → Type 0
+abbrev pub Answers : Reply → Slot → SlotDelivery → Slot → Type 0
 Answers reply old (Matched worker) new = (old ≡ Waiting worker reply.number) × (new ≡ Answered worker reply.number)
 Answers reply old (Overrun worker) new = (old ≡ Waiting worker reply.number) × (new ≡ old)
 Answers reply old Unknown new = (¬ IsWaiting reply.number old) × (new ≡ old)
 
-abbrev pub AnswersMark : Reply → Slot → Answer → Slot → Type 0
+abbrev pub AnswersMark : Reply → Slot → SlotDelivery → Slot → Type 0
 AnswersMark reply old (Matched worker) new = MarkChanges (answered_with reply) old new
 AnswersMark reply old (Overrun worker) new = new ≡ old
 AnswersMark reply old Unknown new = MarkForbids (answered_with reply) old
@@ -56,13 +56,13 @@ Takes number old Got new = IsAnswered number old × (new ≡ Empty)
 Takes number old NotYet new = IsWaiting number old × (new ≡ old)
 Takes number old TakenUnknown new = (¬ IsWaiting number old) × (¬ IsAnswered number old) × (new ≡ old)
 
--- a slot that was as it tells was asked for the answer to this number, and didn't have it
+-- the slot's state is the error's, and it has no answer to this number
 abbrev pub LacksAnswer : ℕ → NoAnswer → Type 0
 LacksAnswer number none = (none.number ≡ number) × ¬ IsAnswered number none.was
 
--- and it was this slot of a row
+-- the same of this slot of a row
 abbrev pub IsNotAnswered : ℕ → ℕ → NotAnswered → Type 0
-IsNotAnswered slot number told = (told.slot ≡ slot) × LacksAnswer number told.none
+IsNotAnswered slot number e = (e.slot ≡ slot) × LacksAnswer number e.none
 
 abbrev pub TakesMark : Slot → Taken → Slot → Type 0
 TakesMark old Got new = MarkChanges settled old new

@@ -8,5 +8,5 @@ mod slot;
 #[cfg(test)]
 mod tests;
 
-pub use row::{NotAnswered, Search, SlotRow};
-pub use slot::{Answer, Expired, NoAnswer, Slot, SlotError, Taken};
+pub use row::{Delivery, NotAnswered, SlotRow};
+pub use slot::{Expired, NoAnswer, Slot, SlotDelivery, SlotError, Taken};

@@ -5,11 +5,11 @@ ghost use Rattle.std.specs.List.{AllZip};
 ghost use Rattle.rtrb.specs.Ring.{sent, known_free, SameProducer};
 ghost use Rattle.sms_core.specs.Limits.{most_slots};
 ghost use Rattle.sms_slot.specs.Row.{IsInRow};
-ghost use Rattle.sms_slot.specs.Rings.{pushed_to, place_of, HasRing, Room, answer_of};
+ghost use Rattle.sms_slot.specs.Rings.{pushed_to, place_of, HasRing, Room, slot_delivery};
 ghost use Rattle.sms_slot.specs.Slot.{IsNotAnswered};
-ghost use Rattle.sms_slot.specs.declared.row.Search.TheVariants.{Unknown};
+ghost use Rattle.sms_slot.specs.declared.row.Delivery.TheVariants.{Unknown};
 
-use crate::slot::{Answer, Expired, NoAnswer, Slot, SlotError, Taken};
+use crate::slot::{Expired, NoAnswer, Slot, SlotDelivery, SlotError, Taken};
 use rtrb::Producer;
 use sms_core::MOST_SLOTS;
 use sms_pdu::Reply;
@@ -17,34 +17,34 @@ use std::alloc::{AllocError, Global};
 use std::sync::atomic::{AtomicU32, Ordering};
 use std::sync::{Mutex, Wait};
 
-/// The 64 slots of a bind. A call takes one slot's lock at a time, and waits for it. What a slot has
-/// when its lock is taken is whatever the last holder of the lock left there, so no clause tells it.
+/// The 64 slots of a bind. A call takes one slot's lock at a time, and waits for it. A slot's state when
+/// its lock is taken is whatever the last holder of the lock left there, so no clause describes it.
 #[derive(Drop)]
 pub struct SlotRow {
     slots: Vec<Mutex<Slot>>,
     /// The number that was posted last in each slot. `post` alone writes it, while it holds the slot's
     /// lock and before its caller can send the request: an answer to a request that waits finds its
     /// number here, since nothing else can be posted in that slot until the request is gone from it.
-    /// So a slot that has another number here needs no look behind its lock. A request that was
-    /// answered or given up leaves its number, which the slot behind the lock no longer waits for.
+    /// So a slot that has another number here need not be locked. A request that was answered or given
+    /// up leaves its number here, but its slot no longer waits for it.
     numbers: Vec<AtomicU32>,
     ghost all: { vec_len slots ≡ most_slots },
     ghost each: { vec_len numbers ≡ most_slots },
 }
 
-/// Where an answer was brought.
+/// Whether an answer was delivered.
 #[derive(Clone, Copy, Debug, PartialEq, Eq)]
-pub enum Search {
-    /// The slot's request waited for it, and it went into the worker's ring.
+pub enum Delivery {
+    /// The slot's request waited for it, and the worker's ring took it.
     Found { slot: u32, worker: usize },
-    /// The slot's request waits for it, and the worker has no ring in the list or one without room.
+    /// The slot's request still waits for it: the worker has no ring in the list, or a full one.
     Overrun { slot: u32, worker: usize },
     /// No slot had a request that waited for this number when it was looked at.
     Unknown,
 }
 
-/// Which slot was asked for an answer that it doesn't have, and what it was then. Only asking a slot of a
-/// row gives one.
+/// Evidence that a slot had no answer for a number, and what its state was. Only `SlotRow::take_answer` makes
+/// one.
 #[derive(Clone, Copy, Debug, PartialEq, Eq)]
 pub struct NotAnswered {
     slot: u32,
@@ -87,7 +87,7 @@ impl SlotRow {
         kept.take(number)
     }
 
-    /// `Slot::take_answer` of this slot. What it was behind its lock is told where its answer hasn't come.
+    /// `Slot::take_answer` of this slot. The error has the slot's state while it was locked.
     pub fn take_answer<R: Wait>(&self, rt: &R, slot: u32, number: u32) -> Result<(), NotAnswered>
         requires slot { slot < most_slots }
         ensures none { IfErr result (IsNotAnswered slot number) }
@@ -111,12 +111,17 @@ impl SlotRow {
     /// answer goes into the ring while that slot is locked, and no slot is locked in which that number
     /// wasn't posted.
     #[tactic(auto, using(crate::proofs::Rings::same_rings))]
-    pub fn answer<R: Wait>(&self, rt: &R, reply: Reply, producers: &mut [Producer<Reply>]) -> Search
+    pub fn answer<R: Wait>(
+        &self,
+        rt: &R,
+        reply: Reply,
+        producers: &mut [Producer<Reply>],
+    ) -> Delivery
         ensures slot { IsInRow result }
         ensures rings { AllZip SameProducer producers.old producers.new }
-        ensures sent { map sent producers.new ≡ pushed_to (map sent producers.old) reply (place_of (answer_of result)) }
-        ensures ring { HasRing (answer_of result) (length producers.old) }
-        ensures room { Room (answer_of result) (map known_free producers.old) (map known_free producers.new) }
+        ensures sent { map sent producers.new ≡ pushed_to (map sent producers.old) reply (place_of (slot_delivery result)) }
+        ensures ring { HasRing (slot_delivery result) (length producers.old) }
+        ensures room { Room (slot_delivery result) (map known_free producers.old) (map known_free producers.new) }
         ensures unknown { result ≡ Unknown → producers.new ≡ producers.old }
     {
         for slot in 0..MOST_SLOTS {
@@ -127,11 +132,11 @@ impl SlotRow {
             // Each turn has a copy of its own, or the borrow checker takes the reply for moved.
             let this = reply;
             match kept.answer(this, producers) {
-                Answer::Matched { worker } => return Search::Found { slot, worker },
-                Answer::Overrun { worker } => return Search::Overrun { slot, worker },
-                Answer::Unknown => {}
+                SlotDelivery::Matched { worker } => return Delivery::Found { slot, worker },
+                SlotDelivery::Overrun { worker } => return Delivery::Overrun { slot, worker },
+                SlotDelivery::Unknown => {}
             }
         }
-        Search::Unknown
+        Delivery::Unknown
     }
 }

@@ -4,19 +4,19 @@ ghost use Rattle.std.specs.Prelude.{◌≡◌, ◌↔◌, ℕ, true, false, leng
 ghost use Rattle.std.specs.List.{AllZip};
 ghost use Rattle.rtrb.specs.Ring.{sent, known_free, SameProducer};
 ghost use Rattle.sms_slot.specs.Rings.{pushed_to, place_of, HasRing, Room};
-ghost use Rattle.sms_slot.specs.declared.slot.Answer.TheVariants.{Matched, Overrun, Unknown};
+ghost use Rattle.sms_slot.specs.declared.slot.SlotDelivery.TheVariants.{Matched, Overrun, Unknown};
 
 use rtrb::Producer;
 use sms_pdu::Reply;
 
-/// A slot of the window, as the worker that holds it and the reader of answers share it.
+/// A slot of the window, shared by the worker that holds it and the reader of answers.
 #[derive(Clone, Copy, Debug, PartialEq, Eq)]
 pub enum Slot {
-    /// No request of it waits.
+    /// No request waits.
     Empty,
     /// The request with this sequence number was sent by the worker, and has no answer yet.
     Waiting { worker: usize, number: u32 },
-    /// The answer went into the worker's ring, and the worker has not taken the slot back.
+    /// The worker's ring took the answer, and the worker has not taken the slot back.
     Answered { worker: usize, number: u32 },
 }
 
@@ -27,22 +27,22 @@ pub enum SlotError {
     Busy,
 }
 
-/// Whose request an answer belongs to.
+/// What a slot did with an answer.
 #[derive(Clone, Copy, Debug, PartialEq, Eq)]
-pub enum Answer {
-    /// It is this worker's, and went into its ring.
+pub enum SlotDelivery {
+    /// It is for this worker, whose ring took it.
     Matched { worker: usize },
-    /// It is this worker's, which has no ring in the list or one without room. It is dropped, and the
-    /// request waits on.
+    /// It is for this worker, which has no ring in the list, or a full one. The answer is dropped, and
+    /// the request waits on.
     Overrun { worker: usize },
     /// No request with this number waits here.
     Unknown,
 }
 
-/// What a worker finds that asks for its answer.
+/// What a slot returns to a worker that asks for its answer.
 #[derive(Clone, Copy, Debug, PartialEq, Eq)]
 pub enum Taken {
-    /// The answer went into the worker's ring, and the slot is empty.
+    /// The worker's ring has the answer, and the slot is empty.
     Got,
     /// The request with this number waits still.
     NotYet,
@@ -50,19 +50,19 @@ pub enum Taken {
     Unknown,
 }
 
-/// What a slot was that was asked for an answer which it doesn't have. Only asking a slot gives one.
+/// Evidence that a slot had no answer for a number, and what its state was. Only `Slot::take_answer` makes one.
 #[derive(Clone, Copy, Debug, PartialEq, Eq)]
 pub struct NoAnswer {
     number: u32,
     was: Slot,
 }
 
-/// What comes of giving up a request.
+/// The result of giving up a request.
 #[derive(Clone, Copy, Debug, PartialEq, Eq)]
 pub enum Expired {
     /// The slot is empty, and a later answer will be unknown.
     Done,
-    /// The answer came before, and has to be taken.
+    /// The answer came first, and has to be taken.
     Answered,
     /// The slot has no request with this number.
     Unknown,
@@ -90,10 +90,10 @@ impl Slot {
         }
     }
 
-    /// Brings an answer. It belongs here where a request with its number waits, and goes into the
+    /// Delivers an answer. It belongs here where a request with its number waits, and goes into the
     /// ring of the worker whose request it is.
     #[tactic(auto, using(crate::proofs::Rings::same_rings))]
-    pub fn answer(&mut self, reply: Reply, producers: &mut [Producer<Reply>]) -> Answer
+    pub fn answer(&mut self, reply: Reply, producers: &mut [Producer<Reply>]) -> SlotDelivery
         ensures slot { Answers reply self.old result self.new }
         ensures mark { AnswersMark reply self.old result self.new }
         ensures rings { AllZip SameProducer producers.old producers.new }
@@ -104,13 +104,13 @@ impl Slot {
     {
         match *self {
             Slot::Waiting { worker, number } if number == reply.number => {
-                if !hand_on(producers, worker, reply) {
-                    return Answer::Overrun { worker };
+                if !push_reply(producers, worker, reply) {
+                    return SlotDelivery::Overrun { worker };
                 }
                 *self = Slot::Answered { worker, number };
-                Answer::Matched { worker }
+                SlotDelivery::Matched { worker }
             }
-            Slot::Empty | Slot::Waiting { .. } | Slot::Answered { .. } => Answer::Unknown,
+            Slot::Empty | Slot::Waiting { .. } | Slot::Answered { .. } => SlotDelivery::Unknown,
         }
     }
 
@@ -129,7 +129,7 @@ impl Slot {
         }
     }
 
-    /// As `take`, for who has to know that the answer hasn't come: then it tells what the slot was.
+    /// As `take`, with the slot's state as the error where the answer hasn't come.
     pub fn take_answer(&mut self, number: u32) -> Result<(), NoAnswer>
         ensures got { OnOk result (IsAnswered number self.old × (self.new ≡ Empty)) }
         ensures none { OnErr result ((¬ IsAnswered number self.old) × (self.new ≡ self.old)) }
@@ -161,7 +161,7 @@ impl Slot {
 }
 
 /// Pushes an answer into the ring at a place: true where there is such a ring and it took the answer.
-fn hand_on(producers: &mut [Producer<Reply>], place: usize, reply: Reply) -> bool
+fn push_reply(producers: &mut [Producer<Reply>], place: usize, reply: Reply) -> bool
     ensures rings { AllZip SameProducer producers.old producers.new }
     ensures sent { map sent producers.new ≡ pushed_to (map sent producers.old) reply (if result then Some place else None) }
     ensures ring { result ≡ true → HasRing (Matched place) (length producers.old) }

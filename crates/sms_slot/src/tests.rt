@@ -3,7 +3,7 @@
 ghost use Rattle.std.specs.Prelude.{◌<◌};
 ghost use Rattle.sms_core.specs.Limits.{most_slots};
 
-use crate::{Answer, Expired, Search, Slot, SlotError, SlotRow, Taken};
+use crate::{Delivery, Expired, Slot, SlotDelivery, SlotError, SlotRow, Taken};
 use rtrb::{Consumer, Producer, RingBuffer};
 use sms_pdu::{Reply, reply_of};
 use std::alloc::Global;
@@ -93,7 +93,7 @@ fn hears(
     slot: &mut Slot,
     producers: &mut [Producer<Reply>],
     number: u32,
-    wanted: Answer,
+    wanted: SlotDelivery,
 ) {
     let answer = slot.answer(reply_to(rt, number), producers);
     same(rt, (number, answer), (number, wanted));
@@ -124,8 +124,14 @@ fn want_late(rt: &impl Abort, producers: &mut [Producer<Reply>]) {
     opens(rt, &mut slot, 1, 5);
     closes(rt, &mut slot, 5);
     opens(rt, &mut slot, 1, 6);
-    hears(rt, &mut slot, producers, 5, Answer::Unknown);
-    hears(rt, &mut slot, producers, 6, Answer::Matched { worker: 1 });
+    hears(rt, &mut slot, producers, 5, SlotDelivery::Unknown);
+    hears(
+        rt,
+        &mut slot,
+        producers,
+        6,
+        SlotDelivery::Matched { worker: 1 },
+    );
     taken_once(rt, &mut slot, 6);
     same(rt, slot, Slot::Empty);
 }
@@ -142,7 +148,13 @@ fn a_late_answer_is_unknown(rt: HostRuntime) {
 fn want_overrun(rt: &impl Abort, producers: &mut [Producer<Reply>], worker: usize) {
     let mut slot = Slot::Empty;
     opens(rt, &mut slot, worker, 5);
-    hears(rt, &mut slot, producers, 5, Answer::Overrun { worker });
+    hears(
+        rt,
+        &mut slot,
+        producers,
+        5,
+        SlotDelivery::Overrun { worker },
+    );
     same(rt, slot, Slot::Waiting { worker, number: 5 });
     closes(rt, &mut slot, 5);
 }
@@ -210,7 +222,7 @@ fn answers(
     row: &SlotRow,
     producers: &mut [Producer<Reply>],
     number: u32,
-    wanted: Search,
+    wanted: Delivery,
 ) {
     let found = row.answer(rt, reply_to(rt, number), producers);
     same(rt, (number, found), (number, wanted));
@@ -221,9 +233,9 @@ fn want_one_slot(rt: &(impl Abort + Wait), row: &SlotRow, producers: &mut [Produ
     posts(rt, row, 3, 1, 5, Ok(()));
     posts(rt, row, 3, 0, 6, Err(SlotError::Busy));
     takes(rt, row, 3, 5, Taken::NotYet);
-    let found = Search::Found { slot: 3, worker: 1 };
+    let found = Delivery::Found { slot: 3, worker: 1 };
     answers(rt, row, producers, 5, found);
-    answers(rt, row, producers, 5, Search::Unknown);
+    answers(rt, row, producers, 5, Delivery::Unknown);
     expires(rt, row, 3, 5, Expired::Answered);
     takes(rt, row, 3, 5, Taken::Got);
 }
@@ -250,7 +262,7 @@ fn want_answer(rt: &(impl Abort + Wait), row: &SlotRow, producers: &mut [Produce
     takes_answer(rt, row, 3, 5, false);
     posts(rt, row, 3, 1, 5, Ok(()));
     takes_answer(rt, row, 3, 5, false);
-    let found = Search::Found { slot: 3, worker: 1 };
+    let found = Delivery::Found { slot: 3, worker: 1 };
     answers(rt, row, producers, 5, found);
     takes_answer(rt, row, 3, 6, false);
     takes_answer(rt, row, 2, 5, false);
@@ -271,7 +283,7 @@ fn an_answer_is_taken_where_it_came(rt: HostRuntime) {
 fn want_empty(rt: &(impl Abort + Wait), row: &SlotRow, producers: &mut [Producer<Reply>]) {
     takes(rt, row, 0, 5, Taken::Unknown);
     expires(rt, row, 0, 5, Expired::Unknown);
-    answers(rt, row, producers, 5, Search::Unknown);
+    answers(rt, row, producers, 5, Delivery::Unknown);
 }
 
 // A request is neither taken nor given up by another number or in another slot, and its answer is found.
@@ -280,7 +292,7 @@ fn want_others(rt: &(impl Abort + Wait), row: &SlotRow, producers: &mut [Produce
     takes(rt, row, 0, 6, Taken::Unknown);
     expires(rt, row, 0, 6, Expired::Unknown);
     takes(rt, row, 1, 5, Taken::Unknown);
-    let found = Search::Found { slot: 0, worker: 2 };
+    let found = Delivery::Found { slot: 0, worker: 2 };
     answers(rt, row, producers, 5, found);
     takes(rt, row, 0, 6, Taken::Unknown);
     expires(rt, row, 0, 6, Expired::Unknown);
@@ -290,7 +302,7 @@ fn want_others(rt: &(impl Abort + Wait), row: &SlotRow, producers: &mut [Produce
 // A request of a worker without a ring waits on, and can be given up.
 fn want_no_ring(rt: &(impl Abort + Wait), row: &SlotRow, producers: &mut [Producer<Reply>]) {
     posts(rt, row, 0, 3, 6, Ok(()));
-    let overrun = Search::Overrun { slot: 0, worker: 3 };
+    let overrun = Delivery::Overrun { slot: 0, worker: 3 };
     answers(rt, row, producers, 6, overrun);
     expires(rt, row, 0, 6, Expired::Done);
     posts(rt, row, 0, 3, 7, Ok(()));
@@ -319,10 +331,10 @@ fn want_lower(
 {
     let slot = number * 2;
     let worker = slot as usize;
-    answers(rt, row, producers, number, Search::Found { slot, worker });
+    answers(rt, row, producers, number, Delivery::Found { slot, worker });
     takes(rt, row, slot, number, Taken::Got);
     expires(rt, row, slot + 1, number, Expired::Done);
-    answers(rt, row, producers, number, Search::Unknown);
+    answers(rt, row, producers, number, Delivery::Unknown);
     want_one_in_ring(rt, consumers, worker, number);
     want_in_ring(rt, consumers, worker + 1, &[]);
 }
@@ -330,7 +342,7 @@ fn want_lower(
 // The last slot is free again for a request, whose answer goes into the ring at 9.
 fn want_last(rt: &(impl Abort + Wait), row: &SlotRow, producers: &mut [Producer<Reply>]) {
     posts(rt, row, 63, 9, 64, Ok(()));
-    let last = Search::Found {
+    let last = Delivery::Found {
         slot: 63,
         worker: 9,
     };

@@ -1,7 +1,7 @@
 //! A reader of answers and a worker on one row.
 
 use super::{reply_to, rings, row_of, same};
-use crate::{Search, SlotRow, Taken};
+use crate::{Delivery, SlotRow, Taken};
 use rtrb::{Consumer, Producer};
 use sms_pdu::Reply;
 use std::process::Abort;
@@ -19,17 +19,17 @@ fn answer_some<R: Wait>(
     row: &SlotRow,
     reply: Reply,
     producers: &mut [Producer<Reply>],
-) -> Search {
+) -> Delivery {
     for _ in 0..TRIES {
         // Each turn has a copy of its own, or the borrow checker takes the reply for moved.
         let this = reply;
-        let search = row.answer(rt, this, producers);
-        if search != Search::Unknown {
-            return search;
+        let delivery = row.answer(rt, this, producers);
+        if delivery != Delivery::Unknown {
+            return delivery;
         }
         thread::yield_now();
     }
-    Search::Unknown
+    Delivery::Unknown
 }
 
 // Takes the answer to a number once it has come.
@@ -50,11 +50,11 @@ fn take_some<R: Wait>(rt: &R, row: &SlotRow, slot: u32, number: u32) -> Taken {
 // Answers the numbers below `ROUNDS` in turn.
 fn answer_all<R: Wait + Abort>(rt: &R, row: &SlotRow, producers: &mut [Producer<Reply>]) {
     for number in 0..ROUNDS {
-        let search = answer_some(rt, row, reply_to(rt, number), producers);
+        let delivery = answer_some(rt, row, reply_to(rt, number), producers);
         same(
             rt,
-            search,
-            Search::Found {
+            delivery,
+            Delivery::Found {
                 slot: number % 64,
                 worker: 0,
             },

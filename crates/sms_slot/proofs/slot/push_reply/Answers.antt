@@ -2,7 +2,7 @@ use Rattle.std.proofs.Common.{refl, rules}
 use Rattle.std.proofs.Math.Seq.{map-set_same}
 use Rattle.rtrb.specs.Ring.{sent, known_free}
 use Rattle.sms_slot.proofs.Rings.{same_rings, set_ring, map_set_pushed, map_past, none_free, room_taken, room_given_back}
-use Rattle.sms_slot.proofs.slot.hand_on.Goals as goal
+use Rattle.sms_slot.proofs.slot.push_reply.Goals as goal
 
 pub returns-then-place-producers-clause-rings : goal.returns-then-place-producers-clause-rings
 returns-then-place-producers-clause-rings c = same_rings c.args.producers.now
