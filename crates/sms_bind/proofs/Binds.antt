@@ -82,13 +82,13 @@ gave_answer got piece framer r t u d good few before last =
     let short = short_rest framer d.ended good in
     gave 74096 r u (got ++ piece) (omega (arith, length-append got piece, few, whole, short)) (Consumes-trans r t u got piece before last)
 
--- who read something at last had something left at first
+-- an input that gave something had something left before
 pub not_spent_before : (got piece : List ℕ) (r t u : Option (List ℕ)) → 0 < length piece → Consumes r t got → Consumes t u piece → ¬ IsSpent r
 not_spent_before got piece r t u some before last = not_spent r u (got ++ piece) (omega (arith, length-append got piece, some)) (Consumes-trans r t u got piece before last)
 
 -- ---- the reads that gave nothing
 
--- so many were counted, and where there were none the count is what it was
+-- n errors were counted; where n is 0 the count is what it was
 abbrev pub Tried : ℕ → ℕ → ℕ → Type 0
 Tried n old new = ((n ≡ 0) × (new ≡ old)) ⊎ CountsMany n old new
 

@@ -1,4 +1,4 @@
--- What was worked of a stream, as the reader promises it.
+-- What was handled of a stream, as the contract of the reader says it.
 use Rattle.std.proofs.Common.{◌≡◌, ◌≢◌, ◌↔◌, ℕ, List, [], ◌++◌, inr, map, Option, Some, refl, sym, ap, ◌∙◌, subst, arith}
 use Rattle.std.proofs.KnownBytes.{Consumes-nil}
 use Rattle.rtrb.specs.Ring.{sent, known_free}
@@ -11,25 +11,25 @@ use Rattle.sms_pdu.proofs.Streams.{rest_divided, division_after}
 use Rattle.sms_session.specs.declared.session.State.{State}
 use Rattle.sms_session.specs.Session.{IsBound}
 use Rattle.sms_bind.specs.declared.reader_state.ReaderState.{ReaderState}
-use Rattle.sms_bind.specs.declared.deed.Deed.{Deed}
+use Rattle.sms_bind.specs.declared.outcome.FrameOutcome.{FrameOutcome}
 use Rattle.sms_bind.specs.declared.counts.Counts.{Counts}
 use Rattle.sms_bind.specs.declared.ending.ReaderCause.{ReaderCause}
 use Rattle.sms_bind.specs.declared.ending.ReaderCause.TheVariants as cause
 use Rattle.sms_bind.specs.declared.ending.ReaderEnd.{ReaderEnd}
 use Rattle.sms_bind.specs.Held.{Held}
 use Rattle.sms_bind.specs.Deeds.{Reaches, stretch_of, broken_at, no_counts, tallies}
-use Rattle.sms_bind.specs.ReaderStates.{Worked}
+use Rattle.sms_bind.specs.ReaderStates.{Handled}
 use Rattle.sms_bind.specs.Ends.{HandsOn, LeavesRoom, Tells}
 use Rattle.sms_bind.proofs.Logs.{log_answers, tallies_add}
 
--- all whole frames were worked, unless the reading ended early
+-- all whole frames were handled, unless the reading ended early
 rest_left : (s : Stretch) (left held : List ℕ) → s ≢ early → Leaves s left held → IsRest left
 rest_left going left held late h = h.0
 rest_left complete left held late h = h.0
 rest_left lost left held late h = inr (inr h)
 rest_left early left held late h = absurd (late refl)
 
--- and a bad length is left exactly where the reader is lost
+-- and a bad length is left iff the reader ended for it
 lost_where : (end : ReaderCause) (left held : List ℕ) → stretch_of (Some end) ≢ early → Leaves (stretch_of (Some end)) left held → (end ≡ cause.Lost) ↔ IsBad left
 lost_where cause.Ended left held late h = (λ e. absurd cc, λ bad. absurd (h.1 bad))
 lost_where cause.Unbound left held late h = absurd (late refl)
@@ -40,8 +40,8 @@ lost_where cause.Stopped left held late h = (λ e. absurd cc, λ bad. absurd (h.
 lost_where cause.Turns left held late h = (λ e. absurd cc, λ bad. absurd (h.1 bad))
 lost_where cause.OutOfMemory left held late h = absurd (late refl)
 
--- the counts that began at nothing
-tells : (ds : List Deed) (c : Counts) (end : ReaderEnd) → c ≡ tallies no_counts ds
+-- the counts that began at 0
+tells : (ds : List FrameOutcome) (c : Counts) (end : ReaderEnd) → c ≡ tallies no_counts ds
     → end.answered ≡ c.answered → end.unknown ≡ c.unknown → end.overrun ≡ c.overrun → end.delivered ≡ c.delivered → end.noted ≡ c.noted → end.nacked ≡ c.nacked → end.unreplied ≡ c.unreplied
     → Tells ds end
 tells ds c end is e1 e2 e3 e4 e5 e6 e7 =
@@ -69,7 +69,7 @@ abbrev pub end_of : ReaderState → ℕ → ReaderCause → ReaderEnd
 end_of d errors cause = record { answered = d.counts.answered; unknown = d.counts.unknown; overrun = d.counts.overrun; delivered = d.counts.delivered; noted = d.counts.noted; nacked = d.counts.nacked; unreplied = d.counts.unreplied; errors = errors; cause = cause; producers = d.producers; seat = d.follower.now }
 
 pub hands_on : (s : State) (a b : ReaderState) (begun kept : List ℕ) (r t : Option (List ℕ)) (errors : ℕ) (end : ReaderCause) → IsBound s → a.counts ≡ no_counts
-    → Reads (Worked s (Some end) a b) begun r t (stretch_of (Some end)) kept
+    → Reads (Handled s (Some end) a b) begun r t (stretch_of (Some end)) kept
     → HandsOn s begun r t (map sent a.producers.items) (map sent b.producers.items) a.follower (end_of b errors end)
 hands_on s a b begun kept r t errors end up none p =
     let w = p.went in
@@ -101,7 +101,7 @@ hands_on s a b begun kept r t errors end up none p =
 
 -- and the room of the rings
 pub leaves_room : (s : State) (a b : ReaderState) (begun kept : List ℕ) (r t : Option (List ℕ)) (errors : ℕ) (end : ReaderCause) → a.counts ≡ no_counts
-    → Reads (Worked s (Some end) a b) begun r t (stretch_of (Some end)) kept
+    → Reads (Handled s (Some end) a b) begun r t (stretch_of (Some end)) kept
     → LeavesRoom (map sent a.producers.items) (map sent b.producers.items) (map known_free a.producers.items) (map known_free b.producers.items) (end_of b errors end)
 leaves_room s a b begun kept r t errors end none p =
     let w = p.went.done in
@@ -112,7 +112,7 @@ leaves_room s a b begun kept r t errors end none p =
       room = w.room;
     }
 
--- nothing was read and nothing worked
+-- nothing was read or handled
 pub hands_none : (s : State) (begun : List ℕ) (r : Option (List ℕ)) (rings : List (List Reply)) (held : Held) (end : ReaderEnd) → end.cause ≡ cause.OutOfMemory
     → end.answered ≡ 0 → end.unknown ≡ 0 → end.overrun ≡ 0 → end.delivered ≡ 0 → end.noted ≡ 0 → end.nacked ≡ 0 → end.unreplied ≡ 0 → end.seat ≡ held.now
     → HandsOn s begun r r rings rings held end

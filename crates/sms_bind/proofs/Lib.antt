@@ -1,6 +1,6 @@
 pub mod Binds
 pub mod Tables
 pub mod Logs
-pub mod Works
+pub mod Handling
 pub mod Hands
 pub mod Turning

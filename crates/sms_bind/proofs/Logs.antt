@@ -1,4 +1,4 @@
--- Deeds: their log, their counts, and what follows them.
+-- The outcomes of frames: their log, their counts, and what follows them.
 use Rattle.std.proofs.Common.{◌≡◌, ◌≢◌, ◌⊎◌, inl, inr, ℕ, ◌+◌, ◌≤◌, Bool, List, [], ◌∷◌, ◌++◌, length, map, Option, None, refl, sym, ap, ◌∙◌, subst, arith, append_assoc, append-nil, length-append}
 use Rattle.std.specs.List.{AllByRecursion, cons_option}
 use Rattle.std.proofs.lemmas.List.{map-append}
@@ -11,12 +11,12 @@ use Rattle.sms_session.specs.declared.session.Action.TheVariants as action
 use Rattle.sms_session.specs.declared.session.State.{State}
 use Rattle.sms_session.specs.declared.session.State.TheVariants.{BoundTx, BoundTrx, Closed as StateClosed}
 use Rattle.sms_session.specs.Session.{on_table, IsBound}
-use Rattle.sms_slot.specs.declared.row.Search.TheVariants.{Found, Overrun, Unknown}
+use Rattle.sms_slot.specs.declared.row.Delivery.TheVariants.{Found, Overrun, Unknown}
 use Rattle.sms_slot.specs.Rings.{count_handed}
 use Rattle.sms_slot.proofs.Rings.{count_handed-append}
-use Rattle.sms_bind.specs.declared.deed.Deed.{Deed}
-use Rattle.sms_bind.specs.declared.deed.Deed.TheVariants.{Brought, Replied, Noted, Closed}
-use Rattle.sms_bind.specs.declared.deed.Written.TheVariants.{Sent, NoMemory, Broken}
+use Rattle.sms_bind.specs.declared.outcome.FrameOutcome.{FrameOutcome}
+use Rattle.sms_bind.specs.declared.outcome.FrameOutcome.TheVariants.{Answer, Replied, Noted, Closed}
+use Rattle.sms_bind.specs.declared.outcome.Written.TheVariants.{Sent, NoMemory, Broken}
 use Rattle.sms_bind.specs.declared.counts.Counts.{Counts}
 use Rattle.sms_bind.specs.Held.{Held}
 use Rattle.sms_bind.specs.Deeds.{Does, SuitAll, FollowAll, TakeRoomAll, one_if, Reaches, cause_after, state_after, broken_at, entry, log, tally, tallies, counted, of_answer, of_response, is_note, overruns, misses, delivers, nacks, is_silent, is_broken}
@@ -25,21 +25,21 @@ use Rattle.sms_bind.proofs.Tables.{no_reply}
 abbrev first : Reply × Option ℕ → Reply
 first e = e.0
 
--- ---- one list of deeds after another
+-- ---- one list of outcomes after another
 
-pub log-append : (ds es : List Deed) → log (ds ++ es) ≡ log ds ++ log es
+pub log-append : (ds es : List FrameOutcome) → log (ds ++ es) ≡ log ds ++ log es
 log-append [] es = refl
 log-append (d ∷ ds) es = ap (λ l. entry d ++ l) (log-append ds es) ∙ sym (append_assoc (entry d) (log ds) (log es))
 
-pub tallies-append : (c : Counts) (ds es : List Deed) → tallies c (ds ++ es) ≡ tallies (tallies c ds) es
+pub tallies-append : (c : Counts) (ds es : List FrameOutcome) → tallies c (ds ++ es) ≡ tallies (tallies c ds) es
 tallies-append c [] es = refl
 tallies-append c (d ∷ ds) es = tallies-append (tally c d) ds es
 
-pub counted-append : (p : Deed → Bool) (ds es : List Deed) → counted p (ds ++ es) ≡ counted p ds + counted p es
+pub counted-append : (p : FrameOutcome → Bool) (ds es : List FrameOutcome) → counted p (ds ++ es) ≡ counted p ds + counted p es
 counted-append p [] es = omega arith
 counted-append p (d ∷ ds) es = omega (arith, counted-append p ds es)
 
-pub follow-append : (ds es : List Deed) (a b c : Held) → FollowAll ds a b → FollowAll es b c → FollowAll (ds ++ es) a c
+pub follow-append : (ds es : List FrameOutcome) (a b c : Held) → FollowAll ds a b → FollowAll es b c → FollowAll (ds ++ es) a c
 follow-append [] es a b c p q = subst (λ (h : Held). FollowAll es h c) p q
 follow-append (d ∷ ds) es a b c (next, one, rest) q = (next, one, follow-append ds es next b c rest q)
 
@@ -47,45 +47,45 @@ pub state-append : (s : State) (fs gs : List (List ℕ)) → state_after s (fs +
 state-append s [] gs = refl
 state-append s (f ∷ fs) gs = state-append (on_table s (header_at_front f)).1 fs gs
 
--- ---- the end that a deed brings
+-- ---- why the reader ends after an outcome
 
-ends_by : (s t : State) → (t ≡ s) ⊎ (t ≡ StateClosed) → (d : Deed) → cause_after d t ≡ cause_after Noted t → Reaches (cause_after d t) s t × (broken_at (cause_after d t) ≡ 0)
+ends_by : (s t : State) → (t ≡ s) ⊎ (t ≡ StateClosed) → (d : FrameOutcome) → cause_after d t ≡ cause_after Noted t → Reaches (cause_after d t) s t × (broken_at (cause_after d t) ≡ 0)
 ends_by s BoundTx (inl e) d k = rw k (e, refl)
 ends_by s BoundTx (inr e) d k = absurd cc
 ends_by s BoundTrx (inl e) d k = rw k (e, refl)
 ends_by s BoundTrx (inr e) d k = absurd cc
 ends_by s StateClosed h d k = rw k (refl, refl)
 
-abbrev pub breaks : Deed → Bool
+abbrev pub breaks : FrameOutcome → Bool
 breaks d = of_response (λ response written. is_broken written) d
 
--- the next state is the same, or closed; what the reader ends with says so
-pub reached : (s t : State) (d : Deed) → (t ≡ s) ⊎ (t ≡ StateClosed) → Reaches (cause_after d t) s t
-reached s t (Brought reply search) h = (ends_by s t h (Brought reply search) refl).0
+-- the next state is the same, or closed; the cause for which the reader ends says so
+pub reached : (s t : State) (d : FrameOutcome) → (t ≡ s) ⊎ (t ≡ StateClosed) → Reaches (cause_after d t) s t
+reached s t (Answer reply delivery) h = (ends_by s t h (Answer reply delivery) refl).0
 reached s t (Replied response (Sent octets)) h = (ends_by s t h (Replied response (Sent octets)) refl).0
 reached s t (Replied response NoMemory) h = (ends_by s t h (Replied response NoMemory) refl).0
 reached s t (Replied response Broken) h = tt
 reached s t Noted h = (ends_by s t h Noted refl).0
 reached s t Closed h = (ends_by s t h Closed refl).0
 
-pub broke : (s t : State) (d : Deed) → (t ≡ s) ⊎ (t ≡ StateClosed) → counted (of_response (λ response written. is_broken written)) (d ∷ []) ≡ broken_at (cause_after d t)
-broke s t (Brought reply search) h = sym (ends_by s t h (Brought reply search) refl).1
+pub broke : (s t : State) (d : FrameOutcome) → (t ≡ s) ⊎ (t ≡ StateClosed) → counted (of_response (λ response written. is_broken written)) (d ∷ []) ≡ broken_at (cause_after d t)
+broke s t (Answer reply delivery) h = sym (ends_by s t h (Answer reply delivery) refl).1
 broke s t (Replied response (Sent octets)) h = sym (ends_by s t h (Replied response (Sent octets)) refl).1
 broke s t (Replied response NoMemory) h = sym (ends_by s t h (Replied response NoMemory) refl).1
 broke s t (Replied response Broken) h = refl
 broke s t Noted h = sym (ends_by s t h Noted refl).1
 broke s t Closed h = sym (ends_by s t h Closed refl).1
 
--- ---- a deed that ends nothing
+-- ---- an outcome after which the reader goes on
 
 up_by : (t : State) → cause_after Noted t ≡ None → IsBound t
 up_by BoundTx e = λ k. absurd cc
 up_by BoundTrx e = λ k. absurd cc
 up_by StateClosed e = absurd cc
 
--- the session is bound behind it
-pub bound_after : (d : Deed) (t : State) → cause_after d t ≡ None → IsBound t
-bound_after (Brought reply search) t e = up_by t e
+-- the session is bound after it
+pub bound_after : (d : FrameOutcome) (t : State) → cause_after d t ≡ None → IsBound t
+bound_after (Answer reply delivery) t e = up_by t e
 bound_after (Replied response (Sent octets)) t e = up_by t e
 bound_after (Replied response NoMemory) t e = up_by t e
 bound_after (Replied response Broken) t e = absurd cc
@@ -97,21 +97,21 @@ none_by BoundTx up = refl
 none_by BoundTrx up = refl
 none_by StateClosed up = absurd (up refl)
 
--- while the session is bound that is each which doesn't break the wire
-ends_nothing : (d : Deed) (t : State) → IsBound t → one_if (breaks d) ≡ 0 → cause_after d t ≡ None
-ends_nothing (Brought reply search) t up e = none_by t up
+-- while the session is bound, any outcome that doesn't break the wire
+ends_nothing : (d : FrameOutcome) (t : State) → IsBound t → one_if (breaks d) ≡ 0 → cause_after d t ≡ None
+ends_nothing (Answer reply delivery) t up e = none_by t up
 ends_nothing (Replied response (Sent octets)) t up e = none_by t up
 ends_nothing (Replied response NoMemory) t up e = none_by t up
 ends_nothing (Replied response Broken) t up e = absurd (omega (arith, e))
 ends_nothing Noted t up e = none_by t up
 ends_nothing Closed t up e = none_by t up
 
-nothing_here : (d : Deed) (t : State) (fs : List (List ℕ)) → (fs ≢ [] → cause_after d t ≡ None) → IsBound (state_after t fs) → one_if (breaks d) ≡ 0 → cause_after d t ≡ None
+nothing_here : (d : FrameOutcome) (t : State) (fs : List (List ℕ)) → (fs ≢ [] → cause_after d t ≡ None) → IsBound (state_after t fs) → one_if (breaks d) ≡ 0 → cause_after d t ≡ None
 nothing_here d t [] on up e = ends_nothing d t up e
 nothing_here d t (f ∷ fs) on up e = on (λ k. absurd cc)
 
--- frames behind which the session is bound and the wire sound, and those that come next
-pub suits-append : (s : State) (fs gs : List (List ℕ)) (ds es : List Deed) → SuitAll s fs ds → IsBound (state_after s fs) → counted breaks ds ≡ 0 → SuitAll (state_after s fs) gs es → SuitAll s (fs ++ gs) (ds ++ es)
+-- frames after which the session is bound and the wire sound, and the frames after them
+pub suits-append : (s : State) (fs gs : List (List ℕ)) (ds es : List FrameOutcome) → SuitAll s fs ds → IsBound (state_after s fs) → counted breaks ds ≡ 0 → SuitAll (state_after s fs) gs es → SuitAll s (fs ++ gs) (ds ++ es)
 suits-append s [] gs [] es p up none q = q
 suits-append s [] gs (d ∷ ds) es p up none q = absurd p
 suits-append s (f ∷ fs) gs [] es p up none q = absurd p
@@ -121,21 +121,21 @@ suits-append s (f ∷ fs) gs (d ∷ ds) es (suits, on, later) up none q =
     let there : counted breaks ds ≡ 0 = omega (arith, none) in
     (suits, (λ more. nothing_here d t fs on up here), suits-append t fs gs ds es later up there q)
 
-pub take-append : (ds es : List Deed) (a b c : List ℕ) → TakeRoomAll ds a b → TakeRoomAll es b c → TakeRoomAll (ds ++ es) a c
+pub take-append : (ds es : List FrameOutcome) (a b c : List ℕ) → TakeRoomAll ds a b → TakeRoomAll es b c → TakeRoomAll (ds ++ es) a c
 take-append [] es a b c p q = subst (λ l. TakeRoomAll es l c) p q
 take-append (d ∷ ds) es a b c (next, one, rest) q = (next, one, take-append ds es next b c rest q)
 
 -- ---- the log has the frames' answers
 
-entry_by : (a : Action) (f : List ℕ) (d : Deed) (rest : List Reply) → (a ≢ action.Answer → reply_in f ≡ None) → Does a f d → map first (entry d) ++ rest ≡ cons_option (reply_in f) rest
-entry_by action.Answer f d rest other (reply, search, is, deed) = rw (deed, is) refl
+entry_by : (a : Action) (f : List ℕ) (d : FrameOutcome) (rest : List Reply) → (a ≢ action.Answer → reply_in f ≡ None) → Does a f d → map first (entry d) ++ rest ≡ cons_option (reply_in f) rest
+entry_by action.Answer f d rest other (reply, delivery, is, deed) = rw (deed, is) refl
 entry_by (action.Reply response) f d rest other (written, deed, how) = rw (deed, other (λ e. absurd cc)) refl
 entry_by (action.ReplyClose response) f d rest other (written, deed, how) = rw (deed, other (λ e. absurd cc)) refl
 entry_by action.Note f d rest other does = rw (does, other (λ e. absurd cc)) refl
 entry_by action.Close f d rest other does = rw (does, other (λ e. absurd cc)) refl
 entry_by action.Drop f d rest other does = rw (does, other (λ e. absurd cc)) refl
 
-pub log_answers : (s : State) (fs : List (List ℕ)) (ds : List Deed) → (fs ≢ [] → IsBound s) → AllByRecursion IsFrame fs → SuitAll s fs ds → map first (log ds) ≡ answers fs
+pub log_answers : (s : State) (fs : List (List ℕ)) (ds : List FrameOutcome) → (fs ≢ [] → IsBound s) → AllByRecursion IsFrame fs → SuitAll s fs ds → map first (log ds) ≡ answers fs
 log_answers s [] [] up each all = refl
 log_answers s [] (d ∷ ds) up each all = absurd all
 log_answers s (f ∷ fs) [] up each all = absurd all
@@ -148,8 +148,8 @@ log_answers s (f ∷ fs) (d ∷ ds) up each (suits, on, later) =
 
 -- ---- the counts
 
--- what so many deeds add to each count
-pub record Adds (ds : List Deed) (old new : Counts) : Type 0 where
+-- what a list of outcomes adds to each count
+pub record Adds (ds : List FrameOutcome) (old new : Counts) : Type 0 where
   pub answered : new.answered ≡ old.answered + count_handed (log ds)
   pub unknown : new.unknown ≡ old.unknown + counted (of_answer misses) ds
   pub overrun : new.overrun ≡ old.overrun + counted (of_answer overruns) ds
@@ -162,22 +162,22 @@ pub record Adds (ds : List Deed) (old new : Counts) : Type 0 where
 none_added : (c : Counts) → Adds [] c c
 none_added c = record { answered = omega arith; unknown = omega arith; overrun = omega arith; all = omega arith; delivered = omega arith; noted = omega arith; nacked = omega arith; unreplied = omega arith }
 
-one_added : (c : Counts) (d : Deed) → Adds (d ∷ []) c (tally c d)
-one_added c (Brought reply (Found slot worker)) = record { answered = omega arith; unknown = omega arith; overrun = omega arith; all = omega arith; delivered = omega arith; noted = omega arith; nacked = omega arith; unreplied = omega arith }
-one_added c (Brought reply (Overrun slot worker)) = record { answered = omega arith; unknown = omega arith; overrun = omega arith; all = omega arith; delivered = omega arith; noted = omega arith; nacked = omega arith; unreplied = omega arith }
-one_added c (Brought reply Unknown) = record { answered = omega arith; unknown = omega arith; overrun = omega arith; all = omega arith; delivered = omega arith; noted = omega arith; nacked = omega arith; unreplied = omega arith }
+one_added : (c : Counts) (d : FrameOutcome) → Adds (d ∷ []) c (tally c d)
+one_added c (Answer reply (Found slot worker)) = record { answered = omega arith; unknown = omega arith; overrun = omega arith; all = omega arith; delivered = omega arith; noted = omega arith; nacked = omega arith; unreplied = omega arith }
+one_added c (Answer reply (Overrun slot worker)) = record { answered = omega arith; unknown = omega arith; overrun = omega arith; all = omega arith; delivered = omega arith; noted = omega arith; nacked = omega arith; unreplied = omega arith }
+one_added c (Answer reply Unknown) = record { answered = omega arith; unknown = omega arith; overrun = omega arith; all = omega arith; delivered = omega arith; noted = omega arith; nacked = omega arith; unreplied = omega arith }
 one_added c (Replied response (Sent octets)) = record { answered = omega arith; unknown = omega arith; overrun = omega arith; all = omega arith; delivered = omega arith; noted = omega arith; nacked = omega arith; unreplied = omega arith }
 one_added c (Replied response NoMemory) = record { answered = omega arith; unknown = omega arith; overrun = omega arith; all = omega arith; delivered = omega arith; noted = omega arith; nacked = omega arith; unreplied = omega arith }
 one_added c (Replied response Broken) = record { answered = omega arith; unknown = omega arith; overrun = omega arith; all = omega arith; delivered = omega arith; noted = omega arith; nacked = omega arith; unreplied = omega arith }
 one_added c Noted = record { answered = omega arith; unknown = omega arith; overrun = omega arith; all = omega arith; delivered = omega arith; noted = omega arith; nacked = omega arith; unreplied = omega arith }
 one_added c Closed = record { answered = omega arith; unknown = omega arith; overrun = omega arith; all = omega arith; delivered = omega arith; noted = omega arith; nacked = omega arith; unreplied = omega arith }
 
-pub tallies_add : (c : Counts) (ds : List Deed) → Adds ds c (tallies c ds)
+pub tallies_add : (c : Counts) (ds : List FrameOutcome) → Adds ds c (tallies c ds)
 tallies_add c [] = none_added c
 tallies_add c (d ∷ ds) =
     let one = one_added c d in
     let more = tallies_add (tally c d) ds in
-    let joins : (p : Deed → Bool) → counted p (d ∷ ds) ≡ counted p (d ∷ []) + counted p ds = λ p. counted-append p (d ∷ []) ds in
+    let joins : (p : FrameOutcome → Bool) → counted p (d ∷ ds) ≡ counted p (d ∷ []) + counted p ds = λ p. counted-append p (d ∷ []) ds in
     let entries : entry d ++ [] ≡ entry d = append-nil (entry d) in
     let single : length (log (d ∷ [])) ≡ length (entry d) = ap length entries in
     let taken : count_handed (log (d ∷ [])) ≡ count_handed (entry d) = ap count_handed entries in

@@ -61,7 +61,7 @@ by_command_some true b x y e = (x, refl)
 by_command_some false true x y e = (y, refl)
 by_command_some false false x y e = absurd cc
 
--- a frame is an answer where the table says Answer, and nowhere else
+-- a frame is an answer iff the table says Answer
 abbrev test : List ℕ → Bool
 test f = is command.SubmitSmResp (number_at 4 f) || is command.GenericNack (number_at 4 f)
 

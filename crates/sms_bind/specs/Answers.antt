@@ -1,4 +1,4 @@
--- What the octets that were read say to a bind.
+-- What the octets that were read mean for a bind.
 use Rattle.std.specs.Prelude.{◌≡◌, ℕ, ◌+◌, ◌<◌, List, [], ◌∷◌, Bool, true, false, Result, Ok, Err, ◌⊎◌}
 use Rattle.sms_pdu.specs.declared.command.Mode.{Mode}
 use Rattle.sms_pdu.specs.declared.tap.Tap.{Tap}
@@ -14,24 +14,23 @@ use Rattle.sms_bind.specs.declared.bound.Bound.{Bound}
 use Rattle.sms_bind.specs.declared.binding.BindFault.{BindFault}
 use Rattle.sms_bind.specs.declared.binding.BindFault.TheVariants as fault
 
--- the octets that are read for the answer at most: fewer than the longest frame has, and one read more
+-- the most octets that are read for the answer: fewer than the longest frame has, and one read more
 abbrev pub most_answer : ℕ
 most_answer = 70000 + 4096
 
--- the reads that may give nothing, of which the last is a fault
+-- the reads that may give nothing; the last of them is a fault
 abbrev pub most_tries : ℕ
 most_tries = 600
 
--- what the device's counts say of a call that answers a failed read: it met one failure more, or none and so many reads
--- that gave nothing
+-- the device's counts after a call that returns a failed read: one failure more, or none and 600 reads that gave nothing
 abbrev pub Fails : {T : Type 0} → Tap T → Tap T → Type 0
 Fails old new = Counts (failures_of old) (failures_of new) ⊎ ((failures_of new ≡ failures_of old) × CountsMany most_tries (faults_of old) (faults_of new))
 
--- and of every other call: it met no failure, and fewer reads that gave nothing
+-- the device's counts after any other call: no failure more, and fewer than 600 reads that gave nothing
 abbrev pub Passes : {T : Type 0} → Tap T → Tap T → Type 0
 Passes old new = (failures_of new ≡ failures_of old) × (faults_of new < faults_of old + most_tries)
 
--- the bind was written whole
+-- whether the bind was written whole
 abbrev pub sent_at : BindFault → Bool
 sent_at (fault.Refused status) = true
 sent_at fault.Closed = true

@@ -1,4 +1,4 @@
--- What is done with a frame, and what is counted.
+-- The outcomes of frames, and how they are counted. A list of outcomes, one a frame, is named `deeds`.
 use Rattle.std.specs.Prelude.{◌≡◌, ◌≢◌, ℕ, ◌+◌, ◌≤◌, List, [], ◌∷◌, ◌++◌, length, Option, Some, None, Bool, true, false, ◌==◌, if◌then◌else◌}
 use Rattle.sms_core.specs.Statuses.{bad_command_length}
 use Rattle.sms_pdu.specs.declared.body.Pdu.{Pdu}
@@ -17,13 +17,13 @@ use Rattle.sms_session.specs.declared.session.Response.{Response}
 use Rattle.sms_session.specs.declared.session.State.{State}
 use Rattle.sms_session.specs.declared.session.State.TheVariants.{BoundTx, BoundTrx, Closed as StateClosed}
 use Rattle.sms_session.specs.Session.{on_table}
-use Rattle.sms_slot.specs.declared.row.Search.{Search}
-use Rattle.sms_slot.specs.declared.row.Search.TheVariants.{Found, Overrun, Unknown}
-use Rattle.sms_slot.specs.Rings.{place_of, answer_of, HasRing, Room}
-use Rattle.sms_bind.specs.declared.deed.Deed.{Deed}
-use Rattle.sms_bind.specs.declared.deed.Deed.TheVariants.{Brought, Replied, Noted, Closed}
-use Rattle.sms_bind.specs.declared.deed.Written.{Written}
-use Rattle.sms_bind.specs.declared.deed.Written.TheVariants.{Sent, NoMemory, Broken}
+use Rattle.sms_slot.specs.declared.row.Delivery.{Delivery}
+use Rattle.sms_slot.specs.declared.row.Delivery.TheVariants.{Found, Overrun, Unknown}
+use Rattle.sms_slot.specs.Rings.{place_of, slot_delivery, HasRing, Room}
+use Rattle.sms_bind.specs.declared.outcome.FrameOutcome.{FrameOutcome}
+use Rattle.sms_bind.specs.declared.outcome.FrameOutcome.TheVariants.{Answer, Replied, Noted, Closed}
+use Rattle.sms_bind.specs.declared.outcome.Written.{Written}
+use Rattle.sms_bind.specs.declared.outcome.Written.TheVariants.{Sent, NoMemory, Broken}
 use Rattle.sms_bind.specs.declared.ending.ReaderCause.{ReaderCause}
 use Rattle.sms_bind.specs.declared.ending.ReaderCause.TheVariants as cause
 use Rattle.sms_bind.specs.declared.counts.Counts.{Counts}
@@ -42,33 +42,33 @@ body_for id =
 abbrev pub pdu_for : Response → Pdu
 pdu_for r = record { status = r.status; number = r.number; body = body_for r.command }
 
--- what tells the other side that a command_length was bad (SMPP 3.4 4.3)
+-- the response to a bad command_length (SMPP 3.4 4.3)
 abbrev pub bad_length_response : Response
 bad_length_response = record { command = id_of command.GenericNack; status = bad_command_length; number = 0 }
 
--- what was handed to the wire spells the response
+-- the octets that were given to the wire encode the response
 abbrev pub IsWritten : Response → Written → Type 0
 IsWritten response (Sent octets) = Spells (pdu_for response) octets
 IsWritten response NoMemory = Unit {0}
 IsWritten response Broken = Unit {0}
 
--- ---- what is done with one frame
+-- ---- the outcome of one frame
 
--- the response was tried, and what was handed to the wire for it spells it
-abbrev pub Responded : Response → Deed → Type 0
+-- the outcome is this response, and the octets that were given to the wire encode it
+abbrev pub Responded : Response → FrameOutcome → Type 0
 Responded response deed = (written : Written) × (deed ≡ Replied response written) × IsWritten response written
 
--- what an action asks for is done with the frame
-abbrev pub Does : Action → List ℕ → Deed → Type 0
-Does action.Answer frame deed = (reply : Reply) × (search : Search) × (reply_in frame ≡ Some reply) × (deed ≡ Brought reply search)
+-- the frame's outcome is what the action asks for
+abbrev pub Does : Action → List ℕ → FrameOutcome → Type 0
+Does action.Answer frame deed = (reply : Reply) × (delivery : Delivery) × (reply_in frame ≡ Some reply) × (deed ≡ Answer reply delivery)
 Does (action.Reply response) frame deed = Responded response deed
 Does (action.ReplyClose response) frame deed = Responded response deed
 Does action.Note frame deed = deed ≡ Noted
 Does action.Close frame deed = deed ≡ Closed
 Does action.Drop frame deed = deed ≡ Closed
 
--- the deed is the one that the session's table asks for
-abbrev pub Suits : State → List ℕ → Deed → Type 0
+-- the frame's outcome is what the session's table asks for
+abbrev pub Suits : State → List ℕ → FrameOutcome → Type 0
 Suits state frame deed = Does (on_table state (header_at_front frame)).0 frame deed
 
 -- the state that the table leads to, frame by frame
@@ -76,39 +76,39 @@ abbrev pub state_after : State → List (List ℕ) → State
 state_after state [] = state
 state_after state (frame ∷ frames) = state_after (on_table state (header_at_front frame)).1 frames
 
--- the answer that was brought, with the place of the ring that took it
-abbrev pub entry : Deed → List (Reply × Option ℕ)
-entry (Brought reply search) = (reply, place_of (answer_of search)) ∷ []
+-- the answer, with the place of the ring that took it
+abbrev pub entry : FrameOutcome → List (Reply × Option ℕ)
+entry (Answer reply delivery) = (reply, place_of (slot_delivery delivery)) ∷ []
 entry (Replied response written) = []
 entry Noted = []
 entry Closed = []
 
-abbrev pub log : List Deed → List (Reply × Option ℕ)
+abbrev pub log : List FrameOutcome → List (Reply × Option ℕ)
 log [] = []
 log (deed ∷ deeds) = entry deed ++ log deeds
 
--- the reader's seat takes note of the answers that were handed on
-abbrev pub Follow : Deed → Held → Held → Type 0
-Follow (Brought reply (Found slot worker)) old new = Notes reply old new
-Follow (Brought reply (Overrun slot worker)) old new = new ≡ old
-Follow (Brought reply Unknown) old new = new ≡ old
+-- the reader's seat counts the answers that a ring took
+abbrev pub Follow : FrameOutcome → Held → Held → Type 0
+Follow (Answer reply (Found slot worker)) old new = Notes reply old new
+Follow (Answer reply (Overrun slot worker)) old new = new ≡ old
+Follow (Answer reply Unknown) old new = new ≡ old
 Follow (Replied response written) old new = new ≡ old
 Follow Noted old new = new ≡ old
 Follow Closed old new = new ≡ old
 
-abbrev pub FollowAll : List Deed → Held → Held → Type 0
+abbrev pub FollowAll : List FrameOutcome → Held → Held → Type 0
 FollowAll [] old new = new ≡ old
 FollowAll (deed ∷ deeds) old new = (next : Held) × Follow deed old next × FollowAll deeds next new
 
 -- The room that the rings are known to have: a ring that takes an answer loses one place at most, and an answer that
--- overruns finds none that is known; all other deeds change nothing.
-abbrev pub TakesRoom : Deed → List ℕ → List ℕ → Type 0
-TakesRoom (Brought reply search) old new = HasRing (answer_of search) (length old) × Room (answer_of search) old new
+-- overruns finds none that is known; all other outcomes change nothing.
+abbrev pub TakesRoom : FrameOutcome → List ℕ → List ℕ → Type 0
+TakesRoom (Answer reply delivery) old new = HasRing (slot_delivery delivery) (length old) × Room (slot_delivery delivery) old new
 TakesRoom (Replied response written) old new = new ≡ old
 TakesRoom Noted old new = new ≡ old
 TakesRoom Closed old new = new ≡ old
 
-abbrev pub TakeRoomAll : List Deed → List ℕ → List ℕ → Type 0
+abbrev pub TakeRoomAll : List FrameOutcome → List ℕ → List ℕ → Type 0
 TakeRoomAll [] old new = new ≡ old
 TakeRoomAll (deed ∷ deeds) old new = (next : List ℕ) × TakesRoom deed old next × TakeRoomAll deeds next new
 
@@ -119,25 +119,25 @@ cause_by BoundTx = None
 cause_by BoundTrx = None
 cause_by StateClosed = Some cause.Unbound
 
--- why the reader ends after a deed that left the session in this state
-abbrev pub cause_after : Deed → State → Option ReaderCause
-cause_after (Brought reply search) state = cause_by state
+-- why the reader ends after this outcome, which left the session in this state
+abbrev pub cause_after : FrameOutcome → State → Option ReaderCause
+cause_after (Answer reply delivery) state = cause_by state
 cause_after (Replied response (Sent octets)) state = cause_by state
 cause_after (Replied response NoMemory) state = cause_by state
 cause_after (Replied response Broken) state = Some cause.WriteFault
 cause_after Noted state = cause_by state
 cause_after Closed state = cause_by state
 
--- Each deed suits its frame in the state to which the frames before led, and nothing is worked behind a deed that ends the
--- reader: behind one that closed the session, or broke the wire.
-abbrev pub SuitAll : State → List (List ℕ) → List Deed → Type 0
+-- Each outcome is what the table asks for in the state after the frames before, and no frame is handled after one that ended the
+-- reader: one that closed the session or broke the wire.
+abbrev pub SuitAll : State → List (List ℕ) → List FrameOutcome → Type 0
 SuitAll state [] [] = Unit {0}
 SuitAll state [] (deed ∷ deeds) = ⊥
 SuitAll state (frame ∷ frames) [] = ⊥
 SuitAll state (frame ∷ frames) (deed ∷ deeds) = Suits state frame deed × (frames ≢ [] → cause_after deed (state_after state (frame ∷ [])) ≡ None) × SuitAll (state_after state (frame ∷ [])) frames deeds
 
--- how the reading stands then: all whole frames were worked, unless the session closed, the wire broke or memory was
--- refused; and a bad length stands behind them exactly where the reader is lost
+-- How far the stream was handled: all whole frames, unless the session closed, the wire broke or memory ran out; and a bad length
+-- is next iff the reader ended for it.
 abbrev pub stretch_of : Option ReaderCause → Stretch
 stretch_of None = going
 stretch_of (Some cause.Ended) = complete
@@ -149,8 +149,7 @@ stretch_of (Some cause.Stopped) = complete
 stretch_of (Some cause.Turns) = complete
 stretch_of (Some cause.OutOfMemory) = early
 
--- the state that the worked frames led to: the session closed exactly where that ends the reader; where the wire broke
--- it may have
+-- the state after the handled frames: the session is closed iff that ended the reader; where the wire broke it may be
 abbrev pub Reaches : Option ReaderCause → State → State → Type 0
 Reaches None state reached = reached ≡ state
 Reaches (Some cause.Ended) state reached = reached ≡ state
@@ -174,27 +173,27 @@ broken_at (Some cause.Stopped) = 0
 broken_at (Some cause.Turns) = 0
 broken_at (Some cause.OutOfMemory) = 0
 
--- ---- how many deeds there are of each kind
+-- ---- how many outcomes there are of each kind
 
 abbrev pub one_if : Bool → ℕ
 one_if true = 1
 one_if false = 0
 
-abbrev pub counted : (Deed → Bool) → List Deed → ℕ
+abbrev pub counted : (FrameOutcome → Bool) → List FrameOutcome → ℕ
 counted p [] = 0
 counted p (deed ∷ deeds) = one_if (p deed) + counted p deeds
 
-abbrev pub finds : Search → Bool
+abbrev pub finds : Delivery → Bool
 finds (Found slot worker) = true
 finds (Overrun slot worker) = false
 finds Unknown = false
 
-abbrev pub overruns : Search → Bool
+abbrev pub overruns : Delivery → Bool
 overruns (Found slot worker) = false
 overruns (Overrun slot worker) = true
 overruns Unknown = false
 
-abbrev pub misses : Search → Bool
+abbrev pub misses : Delivery → Bool
 misses (Found slot worker) = false
 misses (Overrun slot worker) = false
 misses Unknown = true
@@ -218,21 +217,21 @@ is_broken (Sent octets) = false
 is_broken NoMemory = false
 is_broken Broken = true
 
--- of the deeds that bring an answer, those of which p is true; and of those that respond
-abbrev pub of_answer : (Search → Bool) → Deed → Bool
-of_answer p (Brought reply search) = p search
+-- p is true of an answer's delivery; of a response and whether it was written
+abbrev pub of_answer : (Delivery → Bool) → FrameOutcome → Bool
+of_answer p (Answer reply delivery) = p delivery
 of_answer p (Replied response written) = false
 of_answer p Noted = false
 of_answer p Closed = false
 
-abbrev pub of_response : (Response → Written → Bool) → Deed → Bool
-of_response p (Brought reply search) = false
+abbrev pub of_response : (Response → Written → Bool) → FrameOutcome → Bool
+of_response p (Answer reply delivery) = false
 of_response p (Replied response written) = p response written
 of_response p Noted = false
 of_response p Closed = false
 
-abbrev pub is_note : Deed → Bool
-is_note (Brought reply search) = false
+abbrev pub is_note : FrameOutcome → Bool
+is_note (Answer reply delivery) = false
 is_note (Replied response written) = false
 is_note Noted = true
 is_note Closed = false
@@ -242,7 +241,7 @@ is_note Closed = false
 abbrev pub no_counts : Counts
 no_counts = record { frames = 0; answered = 0; unknown = 0; overrun = 0; delivered = 0; noted = 0; nacked = 0; unreplied = 0 }
 
-abbrev pub with_answer : Counts → Search → Counts
+abbrev pub with_answer : Counts → Delivery → Counts
 with_answer c (Found slot worker) = record c { answered = c.answered + 1 }
 with_answer c (Overrun slot worker) = record c { overrun = c.overrun + 1 }
 with_answer c Unknown = record c { unknown = c.unknown + 1 }
@@ -254,14 +253,14 @@ with_reply c response written =
 abbrev pub with_frame : Counts → Counts
 with_frame c = record c { frames = c.frames + 1 }
 
--- one frame more, and what was done with it
-abbrev pub tally : Counts → Deed → Counts
-tally c (Brought reply search) = with_answer (with_frame c) search
+-- one frame more, with this outcome
+abbrev pub tally : Counts → FrameOutcome → Counts
+tally c (Answer reply delivery) = with_answer (with_frame c) delivery
 tally c (Replied response written) = with_reply (with_frame c) response written
 tally c Noted = record c { frames = c.frames + 1; noted = c.noted + 1 }
 tally c Closed = with_frame c
 
-abbrev pub tallies : Counts → List Deed → Counts
+abbrev pub tallies : Counts → List FrameOutcome → Counts
 tallies c [] = c
 tallies c (deed ∷ deeds) = tallies (tally c deed) deeds
 

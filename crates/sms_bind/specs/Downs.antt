@@ -1,4 +1,4 @@
--- What contracts see of a line that is down.
+-- Evidence that a line is down, as contracts see it.
 use Rattle.std.specs.Prelude.{◌≡◌, MatchResult, Result}
 use Rattle.sms_bind.specs.declared.down.Down.{Down}
 use Rattle.sms_bind.specs.declared.down.DownBefore.{DownBefore}
@@ -11,11 +11,11 @@ use Rattle.sms_bind.specs.declared.ending.ReaderCause.{ReaderCause}
 abbrev pub cause_of : Down → DownCause
 cause_of down = down.token.value
 
--- it is the line of this mark that is down
+-- this is evidence of the line that has this mark
 abbrev pub IsDownAt : DownMark → Down → Type 0
 IsDownAt mark down = down.token.of ≡ mark.cause.id
 
--- of one line
+-- both are evidence of the same line
 abbrev pub AreOfOneMark : Down → Down → Type 0
 AreOfOneMark one other = one.token.of ≡ other.token.of
 

@@ -10,7 +10,7 @@ use Rattle.sms_window.specs.Outcome.{Claimed, FreedSlot}
 use Rattle.sms_window.specs.SeatState.{SeatState}
 use Rattle.sms_bind.specs.Held.{Held}
 
--- one of the window's slots stays for the workers; who doesn't follow holds none back
+-- the most slots that are held back: one of the window's slots stays for the workers; without following none is held back
 abbrev pub most_held : Option ℕ → ℕ
 most_held None = 0
 most_held (Some limit) = limit - 1
@@ -29,11 +29,11 @@ is_throttled reply = not reply.nack && (reply.status == throttled)
 abbrev pub good_row : ℕ
 good_row = 16
 
--- how many answers in a row were good; a full row begins anew
+-- how many answers in a row were good; after a full row the count is 0 again
 abbrev pub good_after : Reply → ℕ → ℕ
 good_after reply good = if is_good reply then (if good + 1 == good_row then 0 else good + 1) else 0
 
--- it is the last of a full row
+-- the answer is the last of a full row of good ones
 abbrev pub fills : Reply → ℕ → Bool
 fills reply good = is_good reply && (good + 1 == good_row)
 
@@ -75,7 +75,7 @@ pub record Gives (old new : Held) : Type 0 where
   pub none : old.claimed ≡ [] → Rests old new
   pub some : old.claimed ≢ [] → Frees old new
 
--- what an answer that was handed on does
+-- what an answer that a ring took does to the seat
 pub record Notes (reply : Reply) (old new : Held) : Type 0 where
   pub follows : Follows old new
   pub good : new.good ≡ good_after reply old.good
@@ -83,7 +83,7 @@ pub record Notes (reply : Reply) (old new : Held) : Type 0 where
   pub gives : fills reply old.good ≡ true → Gives old new
   pub rests : is_throttled reply ≡ false → fills reply old.good ≡ false → Rests old new
 
--- beside the slots that the seat held, at most so many more
+-- beside the slots that the seat held at first, it holds at most `most` more
 pub record HoldsBack (most : ℕ) (began now : View) : Type 0 where
   pub more : List ℕ
   pub slots : IsOpen began.slots more now.slots

@@ -1,4 +1,4 @@
--- The reader's seat: as it came, and as it is.
+-- The reader's seat: as it was at first, and as it is.
 use Rattle.std.specs.Prelude.{ℕ, List}
 use Rattle.sms_window.specs.SeatState.{SeatState}
 
@@ -7,7 +7,7 @@ pub record Held : Type 0 where
   pub now : SeatState
   -- the slots that are held back, in the order in which they were claimed
   pub claimed : List ℕ
-  -- the most of them
+  -- the most slots that it may hold back
   pub most : ℕ
   -- how many answers in a row were good
   pub good : ℕ

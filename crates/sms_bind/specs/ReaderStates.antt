@@ -1,17 +1,19 @@
--- What a reader has done with frames.
-use Rattle.std.specs.Prelude.{◌≡◌, ℕ, List, map, Option}
+-- The state of a reader before and after it handles frames.
+use Rattle.std.specs.Prelude.{◌≡◌, ℕ, ◌+◌, ◌≤◌, List, length, map, Option}
 use Rattle.std.specs.List.{AllZip}
 use Rattle.rtrb.specs.Ring.{sent, known_free, SameProducer}
+use Rattle.sms_pdu.specs.Frame.{IsRest, IsBad}
 use Rattle.sms_session.specs.declared.session.State.{State}
+use Rattle.sms_session.specs.Session.{IsBound}
 use Rattle.sms_slot.specs.Rings.{handed}
 use Rattle.sms_bind.specs.declared.reader_state.ReaderState.{ReaderState}
-use Rattle.sms_bind.specs.declared.deed.Deed.{Deed}
+use Rattle.sms_bind.specs.declared.outcome.FrameOutcome.{FrameOutcome}
 use Rattle.sms_bind.specs.declared.ending.ReaderCause.{ReaderCause}
-use Rattle.sms_bind.specs.Deeds.{SuitAll, FollowAll, TakeRoomAll, Reaches, state_after, log, tallies, counted, of_response, is_broken, broken_at}
+use Rattle.sms_bind.specs.Deeds.{SuitAll, FollowAll, TakeRoomAll, Reaches, state_after, log, tallies, counted, of_response, is_broken, broken_at, IsWithin}
 
--- these frames were worked, one after another, from a state of the session on, and that brought the end
-pub record Worked (state : State) (end : Option ReaderCause) (old new : ReaderState) (frames : List (List ℕ)) : Type 0 where
-  pub deeds : List Deed
+-- the frames were handled one after another, beginning in this state of the session, and that ended the reader where `end` is a cause
+pub record Handled (state : State) (end : Option ReaderCause) (old new : ReaderState) (frames : List (List ℕ)) : Type 0 where
+  pub deeds : List FrameOutcome
   pub each : SuitAll state frames deeds
   pub reaches : Reaches end state (state_after state frames)
   pub breaks : counted (of_response (λ response written. is_broken written)) deeds ≡ broken_at end
@@ -20,3 +22,17 @@ pub record Worked (state : State) (end : Option ReaderCause) (old new : ReaderSt
   pub room : TakeRoomAll deeds (map known_free old.producers.items) (map known_free new.producers.items)
   pub counts : new.counts ≡ tallies old.counts deeds
   pub follows : FollowAll deeds old.follower new.follower
+
+-- the reader can take a turn: its session is bound, no count is more than its frames, and it holds the beginning of a frame
+pub record CanRead (state : ReaderState) (held : List ℕ) : Type 0 where
+  pub bound : IsBound state.session
+  pub within : IsWithin state.counts
+  pub rest : IsRest held
+  pub good : ¬ IsBad held
+
+-- the reader goes on after a turn: it held `held` before, and holds `kept` now
+pub record GoesOn (old new : ReaderState) (held kept : List ℕ) : Type 0 where
+  pub session : new.session ≡ old.session
+  pub good : ¬ IsBad kept
+  -- there are no more frames than octets
+  pub room : new.counts.frames + length kept ≤ old.counts.frames + length held + 65536

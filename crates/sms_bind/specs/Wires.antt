@@ -7,10 +7,10 @@ use Rattle.sms_bind.specs.declared.wire.Wire.{Wire}
 abbrev pub writer : {W : Type 0} → Wire W → W
 writer wire = device wire.tap
 
--- how many errors it answered
+-- how many errors the writer returned
 abbrev pub write_faults : {W : Type 0} → Wire W → ℕ
 write_faults wire = faults_of wire.tap
 
--- a send has failed
+-- whether a send has failed
 abbrev pub is_broken : {W : Type 0} → Wire W → Bool
 is_broken wire = wire.broken

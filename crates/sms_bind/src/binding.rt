@@ -16,7 +16,7 @@ ghost use Rattle.sms_bind.specs.declared.binding.BindFault.TheVariants.{Closed, 
 use crate::bound::Bound;
 use crate::settings::Settings;
 use crate::wire::Wire;
-use sms_pdu::{Fed, Frame, Framer, Frames, Mode, Tap, encode_into, gave_nothing};
+use sms_pdu::{Fed, Frame, Framer, Frames, Mode, Tap, gave_nothing};
 use sms_session::{OpenFault, Opened};
 use std::alloc::{AllocError, Global};
 use std::io::{Read, Write};
@@ -30,7 +30,7 @@ pub enum BindFault {
     /// The input ended before an answer was whole.
     #[error("the input ended before the bind's answer")]
     Closed,
-    /// What came is no answer to a bind.
+    /// What was read is no answer to a bind.
     #[error("what came is no answer to a bind")]
     NotSmpp,
     /// A read failed, or gave nothing 600 times.
@@ -39,7 +39,7 @@ pub enum BindFault {
     /// A write failed, or the wire was broken before.
     #[error("the bind can't be written")]
     Write,
-    /// Memory was refused.
+    /// Out of memory.
     #[error("out of memory")]
     OutOfMemory,
 }
@@ -55,11 +55,11 @@ impl From<AllocError> for BindFault {
     }
 }
 
-/// The reads that may give nothing before it is a fault.
+/// After this many reads that gave nothing it is a fault.
 const EMPTY_READS: u32 = 600;
 
-/// Writes the bind with this number and reads up to its answer. What was read beyond the answer is
-/// kept in `Bound`. After a refusal nothing more is read or written.
+/// Writes the bind with this sequence number and reads until its answer is whole. What was read after the
+/// answer is kept in `Bound`. After a refusal nothing more is read or written.
 pub fn bind<R: Read, W: Write>(
     alloc: Global,
     reader: &mut Tap<R>,
@@ -67,17 +67,17 @@ pub fn bind<R: Read, W: Write>(
     settings: &Settings,
     number: u32,
 ) -> Result<Bound, BindFault>
-    ensures part { (octets : List ℕ) → Spells (bind_pdu settings.now number) octets → SomeAppended (W.contents (writer wire.old)) (W.contents (writer wire.new)) octets }
+    ensures prefix { (octets : List ℕ) → Spells (bind_pdu settings.now number) octets → SomeAppended (W.contents (writer wire.old)) (W.contents (writer wire.new)) octets }
     ensures sent { (octets : List ℕ) → Spells (bind_pdu settings.now number) octets → is_sent result ≡ true → Appends (W.contents (writer wire.old)) (W.contents (writer wire.new)) octets }
     ensures written { is_sent result ≡ true → (octets : List ℕ) × Spells (bind_pdu settings.now number) octets × Appends (W.contents (writer wire.old)) (W.contents (writer wire.new)) octets }
     ensures answer { (got : List ℕ) × Consumes (R.remaining (device reader.old)) (R.remaining (device reader.new)) got × Answers settings.now.mode got result }
-    ensures end { result ≡ Err Closed → IsAtEnd (R.remaining (device reader.new)) }
-    ensures most { GaveAtMost most_answer (R.remaining (device reader.old)) (R.remaining (device reader.new)) }
-    ensures tries { faults_of reader.new ≤ faults_of reader.old + most_tries }
-    ensures passed { OnOk result (faults_of reader.new < faults_of reader.old + most_tries) }
+    ensures at_end { result ≡ Err Closed → IsAtEnd (R.remaining (device reader.new)) }
+    ensures read_at_most { GaveAtMost most_answer (R.remaining (device reader.old)) (R.remaining (device reader.new)) }
+    ensures errors_at_most { faults_of reader.new ≤ faults_of reader.old + most_tries }
+    ensures errors_if_bound { OnOk result (faults_of reader.new < faults_of reader.old + most_tries) }
     ensures read_fault { result ≡ Err ReadFault → IsCounted (faults_of reader.old) (faults_of reader.new) }
     ensures failed { result ≡ Err ReadFault → Fails reader.old reader.new }
-    ensures quiet { result ≢ Err ReadFault → Passes reader.old reader.new }
+    ensures no_failure { result ≢ Err ReadFault → Passes reader.old reader.new }
     ensures write_fault { result ≡ Err WriteFault → (is_broken wire.old ≡ true) ⊎ IsCounted (write_faults wire.old) (write_faults wire.new) }
 {
     if let Err(fault) = write_bind(alloc, wire, settings, number) {
@@ -93,17 +93,16 @@ fn write_bind<W: Write>(
     settings: &Settings,
     number: u32,
 ) -> Result<(), BindFault>
-    ensures part { (octets : List ℕ) → Spells (bind_pdu settings.now number) octets → SomeAppended (W.contents (writer wire.old)) (W.contents (writer wire.new)) octets }
+    ensures prefix { (octets : List ℕ) → Spells (bind_pdu settings.now number) octets → SomeAppended (W.contents (writer wire.old)) (W.contents (writer wire.new)) octets }
     ensures sent { (octets : List ℕ) → Spells (bind_pdu settings.now number) octets → OnOk result (Appends (W.contents (writer wire.old)) (W.contents (writer wire.new)) octets) }
     ensures written { OnOk result ((octets : List ℕ) × Spells (bind_pdu settings.now number) octets × Appends (W.contents (writer wire.old)) (W.contents (writer wire.new)) octets) }
     ensures fault { result ≡ Err WriteFault → (is_broken wire.old ≡ true) ⊎ IsCounted (write_faults wire.old) (write_faults wire.new) }
-    ensures which { IfErr result (λ e. (sent_at e ≡ false) × (e ≢ ReadFault) × (e ≢ Closed)) }
+    ensures possible_faults { IfErr result (λ e. (sent_at e ≡ false) × (e ≢ ReadFault) × (e ≢ Closed)) }
 {
-    let mut octets = Vec::new(alloc);
-    let Ok(_size) = encode_into(&mut octets, &settings.pdu(number)) else {
+    let Ok(frame) = Frame::encode(alloc, &settings.pdu(number)) else {
         return Err(BindFault::OutOfMemory);
     };
-    match wire.send(Frame::new(octets)) {
+    match wire.send(frame) {
         Ok(_receipt) => Ok(()),
         Err(_fault) => Err(BindFault::Write),
     }
@@ -112,15 +111,15 @@ fn write_bind<W: Write>(
 /// Reads the bind's answer.
 fn read_answer<R: Read>(alloc: Global, reader: &mut Tap<R>, mode: Mode) -> Result<Bound, BindFault>
     ensures answer { (got : List ℕ) × Consumes (R.remaining (device reader.old)) (R.remaining (device reader.new)) got × Answers mode got result }
-    ensures end { result ≡ Err Closed → IsAtEnd (R.remaining (device reader.new)) }
-    ensures most { GaveAtMost most_answer (R.remaining (device reader.old)) (R.remaining (device reader.new)) }
-    ensures tries { faults_of reader.new ≤ faults_of reader.old + most_tries }
-    ensures passed { OnOk result (faults_of reader.new < faults_of reader.old + most_tries) }
-    ensures spent { IsSpent (R.remaining (device reader.old)) → ¬ IsCounted (faults_of reader.old) (faults_of reader.new) → result ≡ Err Closed }
+    ensures at_end { result ≡ Err Closed → IsAtEnd (R.remaining (device reader.new)) }
+    ensures read_at_most { GaveAtMost most_answer (R.remaining (device reader.old)) (R.remaining (device reader.new)) }
+    ensures errors_at_most { faults_of reader.new ≤ faults_of reader.old + most_tries }
+    ensures errors_if_bound { OnOk result (faults_of reader.new < faults_of reader.old + most_tries) }
+    ensures ended_input { IsSpent (R.remaining (device reader.old)) → ¬ IsCounted (faults_of reader.old) (faults_of reader.new) → result ≡ Err Closed }
     ensures fault { result ≡ Err ReadFault → IsCounted (faults_of reader.old) (faults_of reader.new) }
     ensures failed { result ≡ Err ReadFault → Fails reader.old reader.new }
-    ensures quiet { result ≢ Err ReadFault → Passes reader.old reader.new }
-    ensures which { IfErr result (λ e. (e ≢ WriteFault) × (e ≢ OutOfMemory → sent_at e ≡ true)) }
+    ensures no_failure { result ≢ Err ReadFault → Passes reader.old reader.new }
+    ensures possible_faults { IfErr result (λ e. (e ≢ WriteFault) × (e ≢ OutOfMemory → sent_at e ≡ true)) }
 {
     let (first, framer, frames) = match read_first(alloc, reader) {
         Ok(read) => read,
@@ -137,7 +136,7 @@ fn read_answer<R: Read>(alloc: Global, reader: &mut Tap<R>, mode: Mode) -> Resul
     }
 }
 
-/// The bind's fault where its answer is this.
+/// The fault for an answer that doesn't bind.
 fn refusal(why: OpenFault) -> BindFault
     ensures { result ≡ fault_of why }
 {
@@ -147,22 +146,22 @@ fn refusal(why: OpenFault) -> BindFault
     }
 }
 
-/// Reads until a frame is whole. Gives it, and what came after it.
+/// Reads until a frame is whole. Returns it, and what was read after it.
 fn read_first<R: Read>(
     alloc: Global,
     reader: &mut Tap<R>,
 ) -> Result<(Frame, Framer, Frames), BindFault>
     ensures answer { (got : List ℕ) × Consumes (R.remaining (device reader.old)) (R.remaining (device reader.new)) got × IfOk result (λ r. Division got (r.0 ∷ r.2) r.1) × IfErr result (FoundNone got) }
-    ensures small { IfOk result (λ r. length r.2 < 2 ^ 63) }
-    ensures end { result ≡ Err Closed → IsAtEnd (R.remaining (device reader.new)) }
-    ensures most { GaveAtMost most_answer (R.remaining (device reader.old)) (R.remaining (device reader.new)) }
-    ensures tries { faults_of reader.new ≤ faults_of reader.old + most_tries }
-    ensures passed { OnOk result (faults_of reader.new < faults_of reader.old + most_tries) }
-    ensures spent { IsSpent (R.remaining (device reader.old)) → ¬ IsCounted (faults_of reader.old) (faults_of reader.new) → result ≡ Err Closed }
+    ensures frames_fit { IfOk result (λ r. length r.2 < 2 ^ 63) }
+    ensures at_end { result ≡ Err Closed → IsAtEnd (R.remaining (device reader.new)) }
+    ensures read_at_most { GaveAtMost most_answer (R.remaining (device reader.old)) (R.remaining (device reader.new)) }
+    ensures errors_at_most { faults_of reader.new ≤ faults_of reader.old + most_tries }
+    ensures errors_if_bound { OnOk result (faults_of reader.new < faults_of reader.old + most_tries) }
+    ensures ended_input { IsSpent (R.remaining (device reader.old)) → ¬ IsCounted (faults_of reader.old) (faults_of reader.new) → result ≡ Err Closed }
     ensures fault { result ≡ Err ReadFault → IsCounted (faults_of reader.old) (faults_of reader.new) }
     ensures failed { result ≡ Err ReadFault → Fails reader.old reader.new }
-    ensures quiet { result ≢ Err ReadFault → Passes reader.old reader.new }
-    ensures which { IfErr result (λ e. (e ≢ WriteFault) × (e ≢ OutOfMemory → sent_at e ≡ true)) }
+    ensures no_failure { result ≢ Err ReadFault → Passes reader.old reader.new }
+    ensures possible_faults { IfErr result (λ e. (e ≢ WriteFault) × (e ≢ OutOfMemory → sent_at e ≡ true)) }
 {
     let mut framer = Framer::new(alloc);
     let mut piece = [0u8; 4096];

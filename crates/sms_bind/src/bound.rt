@@ -9,11 +9,11 @@ ghost use Rattle.sms_session.specs.Session.{IsBound};
 use sms_pdu::{Framer, Frames};
 use sms_session::Session;
 
-/// A session that was bound, and what was read beyond the bind's answer.
+/// A bound session, and what was read after the bind's answer.
 #[derive(Drop)]
 pub struct Bound {
     pub session: Session,
-    /// What was read after the frames.
+    /// The octets that were read after these frames: the beginning of another.
     pub framer: Framer,
     /// The whole frames that were read after the answer.
     pub frames: Frames,

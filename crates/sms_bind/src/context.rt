@@ -1,10 +1,10 @@
-//! What a reader works with.
+//! What a reader is given.
 
 use crate::line::Line;
 use sms_window::Window;
 use std::alloc::Global;
 
-/// What a reader works with, the same in each turn.
+/// What a reader is given, the same in each turn.
 #[derive(Drop)]
 pub(crate) struct ReaderContext<'a, W, S> {
     pub rt: &'a S,

@@ -1,14 +1,14 @@
-//! How many frames came, and what became of them.
+//! How many frames came in, by outcome.
 
 ghost use Rattle.std.specs.Prelude.{◌≡◌, ◌+◌, ◌<◌, ◌^◌};
 ghost use Rattle.sms_bind.specs.Deeds.{tally, no_counts, with_answer, with_reply, IsWithin};
 
-use crate::deed::{Deed, Written};
+use crate::outcome::{FrameOutcome, Written};
 use sms_pdu::{DELIVER_SM_RESP, GENERIC_NACK};
 use sms_session::Response;
-use sms_slot::Search;
+use sms_slot::Delivery;
 
-/// What became of the frames that were worked.
+/// How many frames were handled, by outcome.
 #[derive(Clone, Copy, Debug, PartialEq, Eq)]
 pub(crate) struct Counts {
     pub frames: u64,
@@ -22,7 +22,7 @@ pub(crate) struct Counts {
 }
 
 impl Counts {
-    /// Nothing was worked.
+    /// All counts 0.
     pub fn new() -> Counts
         ensures { result ≡ no_counts }
     {
@@ -38,36 +38,36 @@ impl Counts {
         }
     }
 
-    /// One frame more.
-    pub fn add(&mut self, deed: &Deed)
+    /// Counts a frame with this outcome.
+    pub fn add(&mut self, outcome: &FrameOutcome)
         requires within { IsWithin self.old }
         requires room { self.old.frames + 1 < 2 ^ 64 }
-        ensures tally { self.new ≡ tally self.old deed.now }
+        ensures tally { self.new ≡ tally self.old outcome.now }
         ensures within { IsWithin self.new }
         ensures frames { self.new.frames ≡ self.old.frames + 1 }
     {
         self.frames += 1;
-        match deed {
-            Deed::Brought { reply: _, search } => self.add_answer(*search),
-            Deed::Replied { response, written } => self.add_response(response, written),
-            Deed::Noted => self.noted += 1,
-            Deed::Closed => {}
+        match outcome {
+            FrameOutcome::Answer { reply: _, delivery } => self.add_answer(*delivery),
+            FrameOutcome::Replied { response, written } => self.add_response(response, written),
+            FrameOutcome::Noted => self.noted += 1,
+            FrameOutcome::Closed => {}
         }
     }
 
-    /// One answer more.
-    fn add_answer(&mut self, search: Search)
+    /// Counts an answer.
+    fn add_answer(&mut self, delivery: Delivery)
         requires { (self.old.answered + 1 < 2 ^ 64) × (self.old.unknown + 1 < 2 ^ 64) × (self.old.overrun + 1 < 2 ^ 64) }
-        ensures { self.new ≡ with_answer self.old search }
+        ensures { self.new ≡ with_answer self.old delivery }
     {
-        match search {
-            Search::Found { slot: _, worker: _ } => self.answered += 1,
-            Search::Overrun { slot: _, worker: _ } => self.overrun += 1,
-            Search::Unknown => self.unknown += 1,
+        match delivery {
+            Delivery::Found { slot: _, worker: _ } => self.answered += 1,
+            Delivery::Overrun { slot: _, worker: _ } => self.overrun += 1,
+            Delivery::Unknown => self.unknown += 1,
         }
     }
 
-    /// One response more. A request that has a deliver_sm_resp is a deliver_sm.
+    /// Counts a response. A request whose response is a deliver_sm_resp is a deliver_sm.
     fn add_response(&mut self, response: &Response, written: &Written)
         requires { (self.old.delivered + 1 < 2 ^ 64) × (self.old.nacked + 1 < 2 ^ 64) × (self.old.unreplied + 1 < 2 ^ 64) }
         ensures { self.new ≡ with_reply self.old response.now written.now }

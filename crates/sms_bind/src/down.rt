@@ -18,35 +18,35 @@ pub enum DownCause {
     Write,
 }
 
-/// That a line is down. All that have one of the same line have the same cause.
+/// Evidence that a line is down. All evidence of the same line has the same cause.
 #[derive(Drop)]
 pub struct Down<'a> {
     token: OnceToken<'a, DownCause>,
 }
 
-/// That a line was down already when its reader ended, for this cause.
+/// Evidence that a line was down already when its reader ended; `cause` is why the reader ended.
 #[derive(Drop)]
 pub struct DownBefore<'a> {
     down: Down<'a>,
     cause: ReaderCause,
 }
 
-/// The leave of a line's reader to mark it down. It is made with its line and nowhere else, and is used up by the
-/// mark: so a reader marks its line once, and for one cause.
+/// A reader's permission to mark its line down. It is made only with its line, and marking uses it up: so a reader
+/// marks its line once, for one cause.
 #[derive(Drop)]
 pub struct ReaderLeave {
     _made: (),
 }
 
-/// Whether a line is down. It goes down once, and stays so: the first cause stands. Outside of this crate it is
-/// marked by a wire that is broken, and by no one else.
+/// Whether a line is down. It goes down once, and stays down for the first cause. Outside of this crate only a
+/// broken wire can mark it.
 #[derive(Drop)]
 pub struct DownMark {
     cause: OnceLock<DownCause>,
 }
 
 impl DownMark {
-    /// Of a line that isn't down, and its reader's leave to mark it.
+    /// The mark of a line that isn't down, and its reader's permission to mark it.
     pub(crate) fn new() -> (DownMark, ReaderLeave) {
         let mark = DownMark {
             cause: OnceLock::new(),
@@ -54,7 +54,7 @@ impl DownMark {
         (mark, ReaderLeave { _made: () })
     }
 
-    /// That the line is down, if it is now. It waits for nothing.
+    /// Evidence that the line is down, if it is now. Never waits.
     pub fn look(&self) -> Option<Down<'_>>
         ensures at { IfSome result (IsDownAt self.now) }
     {
@@ -72,7 +72,7 @@ impl DownMark {
         *self.cause.value(&down.token)
     }
 
-    // Marks the line down. Ok where it wasn't: this is its cause then. Err where another cause stood already.
+    // Marks the line down. Ok where it wasn't down: this is its cause then. Err where it was down before.
     fn mark<R: Wait>(&self, rt: &R, cause: DownCause) -> Result<Down<'_>, Down<'_>>
         ensures { IsMarked self.now cause result }
     {
@@ -82,7 +82,7 @@ impl DownMark {
         }
     }
 
-    /// The bind's reader has ended, for this cause. Err where the line was down before.
+    /// Marks the line down because its reader ended for this cause. Err where the line was down before.
     pub(crate) fn reader_ended<R: Wait>(
         &self,
         rt: &R,
@@ -98,7 +98,7 @@ impl DownMark {
         }
     }
 
-    /// A frame wasn't written whole on this wire. Err where the line was down before.
+    /// Marks the line down because this wire is broken. Err where the line was down before.
     pub fn write_failed<W, R: Wait>(&self, rt: &R, _wire: &Wire<W>) -> Result<Down<'_>, Down<'_>>
         requires broken { is_broken _wire.now ≡ true }
         ensures down { IsMarked self.now Write result }
@@ -108,7 +108,7 @@ impl DownMark {
 }
 
 impl<'a> Down<'a> {
-    /// Two that saw one line down saw one cause.
+    /// Evidence of the same line has the same cause.
     pub fn agrees(&self, other: &Down<'a>)
         requires mark { AreOfOneMark self.now other.now }
         ensures cause { cause_of self.now ≡ cause_of other.now }
@@ -118,7 +118,7 @@ impl<'a> Down<'a> {
 }
 
 impl<'a> DownBefore<'a> {
-    /// That the line is down.
+    /// Evidence that the line is down.
     pub fn down(&self) -> &Down<'a>
         ensures { result.now ≡ self.now.down }
     {

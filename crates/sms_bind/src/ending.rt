@@ -11,7 +11,7 @@ pub enum ReaderCause {
     Ended,
     /// The session was closed, by an unbind or by the response to one.
     Unbound,
-    /// A command_length was bad.
+    /// A command_length was bad, so the stream can't be divided any further.
     Lost,
     /// A read failed.
     ReadFault,
@@ -21,32 +21,32 @@ pub enum ReaderCause {
     Stopped,
     /// The turns were used up.
     Turns,
-    /// Memory was refused.
+    /// Out of memory.
     OutOfMemory,
 }
 
-/// What a reader leaves.
+/// What is left when a reader has ended.
 #[derive(Drop)]
 pub struct ReaderEnd {
-    /// Answers that went into a worker's ring.
+    /// Answers that a worker's ring took.
     pub answered: u64,
     /// Answers that no slot waited for.
     pub unknown: u64,
-    /// Answers whose worker has no ring or one without room.
+    /// Answers whose worker has no ring, or a full one.
     pub overrun: u64,
-    /// Requests deliver_sm.
+    /// deliver_sm requests.
     pub delivered: u64,
-    /// Frames of which nothing came.
+    /// Frames that were only counted.
     pub noted: u64,
-    /// Requests that generic_nack was written for.
+    /// Requests that were answered by a generic_nack.
     pub nacked: u64,
-    /// Requests whose response couldn't be encoded for want of memory.
+    /// Requests whose response couldn't be encoded: out of memory.
     pub unreplied: u64,
-    /// Errors that its input answered while it read.
+    /// Errors that its input returned while it read.
     pub errors: u64,
     /// Why it ended.
     pub cause: ReaderCause,
-    /// The rings, in their order, with what was handed on.
+    /// The rings, in their order, with the answers that they took.
     pub producers: Vec<Producer<Reply>>,
     /// The window's seat, with the slots that it holds back.
     pub seat: WindowSeat,

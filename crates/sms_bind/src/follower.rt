@@ -16,11 +16,11 @@ pub(crate) struct Follower {
     seat: WindowSeat,
     /// The slots that are held back, in the order in which they were claimed.
     claimed: Vec<u32>,
-    /// The most of them.
+    /// The most slots that it may hold back.
     most: u32,
     /// How many answers in a row were good.
     good: u32,
-    /// The seat as it came.
+    /// The seat as it was at first.
     began: Snapshot<WindowSeat>,
 }
 
@@ -46,7 +46,7 @@ impl Model for Follower {
 const GOOD_ANSWERS: u32 = 16;
 
 impl Follower {
-    /// A seat that holds nothing back yet, and may hold back `most` slots.
+    /// A seat that holds nothing back yet, and may hold back `most` slots. Err where memory runs out.
     pub fn new(
         alloc: Global,
         seat: WindowSeat,
@@ -78,8 +78,8 @@ impl Follower {
         self.seat
     }
 
-    /// Takes note of an answer that was handed on: one that tells of throttling makes the seat try
-    /// for a slot, and so many good ones in a row make it give one back.
+    /// Counts an answer that a ring took: after an answer with ESME_RTHROTTLED the seat tries to claim a
+    /// slot, and after 16 good ones in a row it releases one.
     pub fn note(&mut self, window: &Window, reply: &Reply)
         requires same_window { self.old.now.window ≡ window.now }
         ensures follows { Follows self.old self.new }

@@ -8,22 +8,22 @@ use sms_slot::SlotRow;
 use std::sync::Mutex;
 use std::sync::atomic::AtomicBool;
 
-/// What the reader and the workers of a bind share. What stands behind the wire's lock and in `stop` is
-/// whatever was left there last, so no clause tells it; that a line is down is told by a `Down`.
+/// What the reader and the workers of a bind share. The wire behind its lock and the value of `stop` are
+/// whatever was left there last, so no clause describes them; a `Down` is evidence that the line is down.
 #[derive(Drop)]
 pub struct Line<W> {
     /// The requests that wait for their answers.
     pub slots: SlotRow,
-    /// The wire, which writes one frame in each holding of its lock.
+    /// The wire. One frame is written each time its lock is held.
     pub wire: Mutex<Wire<W>>,
-    /// Whether no answer comes any more, and why.
+    /// Whether the line is down (no more answers will come), and why.
     pub down: DownMark,
-    /// The reader is to end.
+    /// Set to make the reader end before its next turn.
     pub stop: AtomicBool,
 }
 
 impl<W> Line<W> {
-    /// A line that is neither down nor stopped, and its reader's leave to mark it down.
+    /// A line that is neither down nor stopped, and its reader's permission to mark it down.
     pub fn new(slots: SlotRow, wire: Wire<W>) -> (Line<W>, ReaderLeave)
         ensures slots { result.0.slots ≡ slots }
     {

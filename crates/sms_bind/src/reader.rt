@@ -1,18 +1,14 @@
 //! The reader of a bind.
 
-ghost use Rattle.std.specs.Prelude.{◌≡◌, ◌≢◌, ◌+◌, ◌-◌, ◌<◌, ◌≤◌, ◌^◌, ◌++◌, map, IfSome};
+ghost use Rattle.std.specs.Prelude.{◌≡◌, ◌≤◌, ◌^◌, ◌++◌, map, IfSome};
 ghost use Rattle.std.specs.List.{concat, AllZip};
-ghost use Rattle.std.specs.Io.KnownBytes.{IsAtEnd};
 ghost use Rattle.rtrb.specs.Ring.{sent, known_free, SameProducer};
 ghost use Rattle.sms_core.specs.Limits.{most_slots};
-ghost use Rattle.sms_pdu.specs.Devices.{device, faults_of, failures_of};
-ghost use Rattle.sms_pdu.specs.Faults.{Counts as CountsOne, IsCounted};
-ghost use Rattle.sms_pdu.specs.Turn.{Turned};
+ghost use Rattle.sms_pdu.specs.Devices.{device};
 ghost use Rattle.sms_bind.specs.Follows.{HoldsBack, most_held, held_none};
 ghost use Rattle.sms_bind.specs.Downs.{IsMarkedAtEnd};
 ghost use Rattle.sms_bind.specs.Ends.{HandsOn, LeavesRoom};
-ghost use Rattle.sms_bind.specs.Turns.{Stops, TookTurns};
-ghost use Rattle.sms_bind.specs.declared.ending.ReaderCause.TheVariants.{Ended, ReadFault, Stopped, Turns};
+ghost use Rattle.sms_bind.specs.Turns.{ReadUntil};
 
 use crate::bound::Bound;
 use crate::context::ReaderContext;
@@ -29,10 +25,11 @@ use std::alloc::Global;
 use std::io::{Read, Write};
 use std::sync::Wait;
 
-/// Reads what comes in on a bind for so many turns, works each frame by the session's table, and
-/// hands the answers to the rings of the workers whose requests wait for them. One turn reads at most
-/// 65,536 octets. At its end the line is down: Ok where this brought it down, Err where it was before. Where
-/// `follow` is the window's limit, fewer requests are let through while the message centre throttles.
+/// Reads what comes in on a bind for at most `turns` turns, handles each frame by the session's table,
+/// and pushes each answer into the ring of the worker whose request waits for it. One turn reads at most
+/// 65,536 octets. When it returns the line is down: Ok where this call marked it down, Err where it was
+/// down before. Where `follow` is the window's limit, fewer requests are let through while the message
+/// centre throttles.
 pub fn read_loop<'l, R: Read, W: Write, S: Wait>(
     rt: &S,
     alloc: Global,
@@ -54,57 +51,42 @@ pub fn read_loop<'l, R: Read, W: Write, S: Wait>(
     ensures rings { AllZip SameProducer producers.items result.0.producers.items }
     ensures seat { HoldsBack (most_held follow) seat.view result.0.seat.view }
     ensures window { result.0.seat.window ≡ seat.window }
-    ensures turned { Turned turns (result.0.cause ≡ Turns) (R.remaining (device reader.old)) (R.remaining (device reader.new)) (faults_of reader.old) (faults_of reader.new) }
-    // Where its turns were used up it took so many, of which so many met an error.
-    ensures took { faults_of reader.old + turns < 2 ^ 64 → result.0.cause ≡ Turns → TookTurns turns result.0.errors (R.remaining (device reader.old)) (R.remaining (device reader.new)) }
-    ensures errors { result.0.errors ≡ faults_of reader.new - faults_of reader.old }
-    ensures stopped { result.0.cause ≡ Stopped → Stops turns (R.remaining (device reader.old)) (R.remaining (device reader.new)) }
-    ensures end { result.0.cause ≡ Ended → IsAtEnd (R.remaining (device reader.new)) }
-    ensures fault { result.0.cause ≡ ReadFault → IsCounted (faults_of reader.old) (faults_of reader.new) }
-    ensures failed { result.0.cause ≡ ReadFault → CountsOne (failures_of reader.old) (failures_of reader.new) }
-    ensures quiet { result.0.cause ≢ ReadFault → failures_of reader.new ≡ failures_of reader.old }
+    ensures read { ReadUntil R.remaining turns result.0.errors result.0.cause reader.old reader.new }
     // The line is down: it was marked once the reader had ended, for this cause, if it wasn't down before.
     ensures down { IsMarkedAtEnd line.now.down result.0.cause result.1 }
 {
-    let end = read_all(
-        rt, alloc, reader, bound, producers, line, window, seat, follow, turns,
-    );
+    let context = ReaderContext {
+        rt,
+        alloc,
+        line,
+        window,
+    };
+    let end = read_all(&context, reader, bound, producers, seat, follow, turns);
     let down = line.down.reader_ended(rt, leave, end.cause);
     (end, down)
 }
 
 /// Reads as `read_loop` does, which marks the line down at its end.
 fn read_all<R: Read, W: Write, S: Wait>(
-    rt: &S,
-    alloc: Global,
+    context: &ReaderContext<W, S>,
     reader: &mut Tap<R>,
     bound: Bound,
     producers: Vec<Producer<Reply>>,
-    line: &Line<W>,
-    window: &Window,
     seat: WindowSeat,
     follow: Option<u32>,
     turns: u64,
 ) -> ReaderEnd
     requires turns { turns ≤ 2 ^ 40 }
-    requires same_window { seat.window ≡ window.now }
+    requires same_window { seat.window ≡ context.now.window.now }
     requires limit { IfSome follow (λ limit. (1 ≤ limit) × (limit ≤ most_slots)) }
     ensures answers { HandsOn bound.session (concat bound.frames ++ bound.framer) (R.remaining (device reader.old)) (R.remaining (device reader.new)) (map sent producers.items) (map sent result.producers.items) (held_none seat (most_held follow)) result }
     ensures room { LeavesRoom (map sent producers.items) (map sent result.producers.items) (map known_free producers.items) (map known_free result.producers.items) result }
     ensures rings { AllZip SameProducer producers.items result.producers.items }
     ensures seat { HoldsBack (most_held follow) seat.view result.seat.view }
     ensures window { result.seat.window ≡ seat.window }
-    ensures turned { Turned turns (result.cause ≡ Turns) (R.remaining (device reader.old)) (R.remaining (device reader.new)) (faults_of reader.old) (faults_of reader.new) }
-    // Where its turns were used up it took so many, of which so many met an error.
-    ensures took { faults_of reader.old + turns < 2 ^ 64 → result.cause ≡ Turns → TookTurns turns result.errors (R.remaining (device reader.old)) (R.remaining (device reader.new)) }
-    ensures errors { result.errors ≡ faults_of reader.new - faults_of reader.old }
-    ensures stopped { result.cause ≡ Stopped → Stops turns (R.remaining (device reader.old)) (R.remaining (device reader.new)) }
-    ensures end { result.cause ≡ Ended → IsAtEnd (R.remaining (device reader.new)) }
-    ensures fault { result.cause ≡ ReadFault → IsCounted (faults_of reader.old) (faults_of reader.new) }
-    ensures failed { result.cause ≡ ReadFault → CountsOne (failures_of reader.old) (failures_of reader.new) }
-    ensures quiet { result.cause ≢ ReadFault → failures_of reader.new ≡ failures_of reader.old }
+    ensures read { ReadUntil R.remaining turns result.errors result.cause reader.old reader.new }
 {
-    let follower = match Follower::new(alloc, seat, most_of(follow)) {
+    let follower = match Follower::new(context.alloc, seat, most_of(follow)) {
         Ok(follower) => follower,
         Err((_e, seat)) => {
             return ended(producers, seat, Counts::new(), 0, ReaderCause::OutOfMemory);
@@ -121,15 +103,9 @@ fn read_all<R: Read, W: Write, S: Wait>(
         counts: Counts::new(),
         follower,
     };
-    let context = ReaderContext {
-        rt,
-        alloc,
-        line,
-        window,
-    };
     let rest = framer.into_rest();
     let before = reader.faults();
-    let cause = reader_state.read(&context, reader, frames.as_slice(), rest, turns);
+    let cause = reader_state.read(context, reader, frames.as_slice(), rest, turns);
     let ReaderState {
         session: _,
         producers,
@@ -151,7 +127,7 @@ fn most_of(follow: Option<u32>) -> u32
     }
 }
 
-/// What a reader leaves, put together.
+/// The end of a reader, put together.
 fn ended(
     producers: Vec<Producer<Reply>>,
     seat: WindowSeat,

@@ -6,22 +6,21 @@ ghost use Rattle.sms_pdu.specs.Borrowed.{owned_body, owned_pdu};
 ghost use Rattle.sms_pdu.specs.Grammar.{Spells};
 ghost use Rattle.sms_bind.specs.Wires.{writer, is_broken};
 ghost use Rattle.sms_bind.specs.Deeds.{bad_length_response, body_for, pdu_for, IsWritten};
-ghost use Rattle.sms_bind.specs.declared.deed.Written.TheVariants.{Sent, Broken};
+ghost use Rattle.sms_bind.specs.declared.outcome.Written.TheVariants.{Sent, Broken};
 
 use crate::context::ReaderContext;
-use crate::deed::Written;
+use crate::outcome::Written;
 use crate::wire::Wire;
 use sms_core::ESME_RINVCMDLEN;
 use sms_pdu::{
-    BodyRef, DELIVER_SM_RESP, ENQUIRE_LINK_RESP, Frame, GENERIC_NACK, PduError, PduRef,
-    UNBIND_RESP, encode_into,
+    BodyRef, DELIVER_SM_RESP, ENQUIRE_LINK_RESP, Frame, GENERIC_NACK, PduError, PduRef, UNBIND_RESP,
 };
 use sms_session::Response;
 use std::alloc::Global;
 use std::io::Write;
 use std::sync::Wait;
 
-/// Writes a response, in one holding of the wire's lock.
+/// Writes a response, holding the wire's lock once.
 pub(crate) fn reply<W: Write, S: Wait>(
     context: &ReaderContext<W, S>,
     response: &Response,
@@ -35,8 +34,8 @@ pub(crate) fn reply<W: Write, S: Wait>(
     write_frame(&mut wire, frame)
 }
 
-/// Tells the other side that a command_length was bad (SMPP 3.4 4.3). That it was told is not waited
-/// for.
+/// Sends the generic_nack of a bad command_length (SMPP 3.4 4.3). Whether it was written changes nothing:
+/// the reader ends either way.
 pub(crate) fn refuse_length<W: Write, S: Wait>(context: &ReaderContext<W, S>) {
     let _written = reply(context, &bad_length());
 }
@@ -57,11 +56,7 @@ fn bad_length() -> Response
 fn frame_of(alloc: Global, response: &Response) -> Result<Frame, PduError>
     ensures { IfOk result (λ frame. Spells (pdu_for response.now) frame) }
 {
-    let mut octets = Vec::new(alloc);
-    match encode_into(&mut octets, &pdu_of(response)) {
-        Ok(_size) => Ok(Frame::new(octets)),
-        Err(e) => Err(e),
-    }
+    Frame::encode(alloc, &pdu_of(response))
 }
 
 /// The PDU of a response.

@@ -1,4 +1,4 @@
-//! The whole frames of a stream, worked where they stand.
+//! Handling the whole frames of a stream, in place.
 
 ghost use Rattle.std.specs.Prelude.{◌≡◌, ◌≢◌, ℕ, ◌+◌, ◌<◌, ◌≤◌, ◌^◌, [], List, length, drop, None, Some, IfSome};
 ghost use Rattle.std.specs.List.{concat};
@@ -7,7 +7,7 @@ ghost use Rattle.sms_pdu.specs.Streams.{Went, Leaves, early};
 ghost use Rattle.sms_session.specs.Session.{IsBound};
 ghost use Rattle.sms_bind.specs.Deeds.{stretch_of, IsWithin};
 ghost use Rattle.sms_bind.specs.Follows.{Follows};
-ghost use Rattle.sms_bind.specs.ReaderStates.{Worked};
+ghost use Rattle.sms_bind.specs.ReaderStates.{Handled};
 ghost use Rattle.sms_bind.specs.declared.ending.ReaderCause.TheVariants.{Ended, ReadFault, Stopped, Turns, OutOfMemory};
 
 use crate::context::ReaderContext;
@@ -19,8 +19,8 @@ use std::io::Write;
 use std::sync::Wait;
 
 impl ReaderState {
-    /// Works frames that were cut before.
-    pub fn work_all<W: Write, S: Wait>(
+    /// Handles frames that are divided already.
+    pub fn handle_all<W: Write, S: Wait>(
         &mut self,
         context: &ReaderContext<W, S>,
         frames: &[Frame],
@@ -30,23 +30,23 @@ impl ReaderState {
         requires within { IsWithin self.old.counts }
         requires room { self.old.counts.frames + length frames.now < 2 ^ 64 }
         ensures follows { Follows self.old.follower self.new.follower }
-        ensures handled { (left : List ℕ) × Went (Worked self.old.session result self.old self.new) (concat frames.now) left × (result ≡ None → left ≡ []) }
+        ensures handled { (left : List ℕ) × Went (Handled self.old.session result self.old self.new) (concat frames.now) left × (result ≡ None → left ≡ []) }
         ensures within { IsWithin self.new.counts }
         ensures room { self.new.counts.frames ≤ self.old.counts.frames + length frames.now }
         ensures going { result ≡ None → self.new.session ≡ self.old.session }
         ensures stretch { IfSome result (λ c. stretch_of (Some c) ≡ early) }
-        ensures full { result ≢ Some OutOfMemory }
+        ensures not_out_of_memory { result ≢ Some OutOfMemory }
     {
         for frame in frames {
-            if let Some(cause) = self.go(context, frame.as_slice()) {
+            if let Some(cause) = self.handle(context, frame.as_slice()) {
                 return Some(cause);
             }
         }
         None
     }
 
-    /// Works the frames at the front of what is held, and keeps what is left.
-    pub fn work_held<W: Write, S: Wait>(
+    /// Handles the whole frames at the beginning of `held`, and removes them from it.
+    pub fn handle_held<W: Write, S: Wait>(
         &mut self,
         context: &ReaderContext<W, S>,
         held: &mut Vec<u8>,
@@ -56,7 +56,7 @@ impl ReaderState {
         requires within { IsWithin self.old.counts }
         requires room { self.old.counts.frames + length held.old.items < 2 ^ 64 }
         ensures follows { Follows self.old.follower self.new.follower }
-        ensures handled { Went (Worked self.old.session result self.old self.new) held.old.items held.new.items }
+        ensures handled { Went (Handled self.old.session result self.old self.new) held.old.items held.new.items }
         ensures leaves { Leaves (stretch_of result) held.new.items held.new.items }
         ensures within { IsWithin self.new.counts }
         ensures room { self.new.counts.frames + length held.new.items ≤ self.old.counts.frames + length held.old.items }
@@ -64,7 +64,7 @@ impl ReaderState {
         ensures going { result ≡ None → self.new.session ≡ self.old.session }
         ensures cause { (result ≢ Some Ended) × (result ≢ Some ReadFault) × (result ≢ Some Stopped) × (result ≢ Some Turns) × (result ≢ Some OutOfMemory) }
     {
-        let (used, ended) = self.work_stream(context, held.as_slice());
+        let (used, ended) = self.handle_stream(context, held.as_slice());
         drop_front(held, used);
         if let Some(cause) = ended {
             return Some(cause);
@@ -76,9 +76,9 @@ impl ReaderState {
         None
     }
 
-    /// Works the frames at the front of a stream. Gives how many octets they have, and why the reader
-    /// ends, if it does.
-    fn work_stream<W: Write, S: Wait>(
+    /// Handles the whole frames at the beginning of a stream. Returns how many octets they have, and why
+    /// the reader ends, if it does.
+    fn handle_stream<W: Write, S: Wait>(
         &mut self,
         context: &ReaderContext<W, S>,
         stream: &[u8],
@@ -89,19 +89,18 @@ impl ReaderState {
         requires room { self.old.counts.frames + length stream.now < 2 ^ 64 }
         ensures follows { Follows self.old.follower self.new.follower }
         ensures used { result.0 ≤ length stream.now }
-        ensures handled { Went (Worked self.old.session result.1 self.old self.new) stream.now (drop result.0 stream.now) }
+        ensures handled { Went (Handled self.old.session result.1 self.old self.new) stream.now (drop result.0 stream.now) }
         ensures within { IsWithin self.new.counts }
         ensures room { self.new.counts.frames ≤ self.old.counts.frames + result.0 }
-        ensures rest { result.1 ≡ None → IsRest (drop result.0 stream.now) }
-        ensures going { result.1 ≡ None → self.new.session ≡ self.old.session }
+        ensures going { result.1 ≡ None → IsRest (drop result.0 stream.now) × (self.new.session ≡ self.old.session) }
         ensures stretch { IfSome result.1 (λ c. stretch_of (Some c) ≡ early) }
-        ensures full { result.1 ≢ Some OutOfMemory }
+        ensures not_out_of_memory { result.1 ≢ Some OutOfMemory }
     {
         let mut left = stream;
         while let Some(length) = first_frame(left) {
             let (frame, after) = left.split_at(length);
             left = after;
-            if let Some(cause) = self.go(context, frame) {
+            if let Some(cause) = self.handle(context, frame) {
                 return (stream.len() - left.len(), Some(cause));
             }
         }

@@ -2,18 +2,17 @@
 
 ghost use Rattle.std.specs.Prelude.{◌≡◌, ◌≢◌, ◌+◌, ◌-◌, ◌<◌, ◌≤◌, ◌^◌, ◌++◌, [], length, None, Some};
 ghost use Rattle.std.specs.List.{concat};
-ghost use Rattle.std.specs.Io.KnownBytes.{IsAtEnd};
 ghost use Rattle.sms_pdu.specs.Frame.{IsRest, IsBad};
-ghost use Rattle.sms_pdu.specs.Devices.{device, faults_of, failures_of};
-ghost use Rattle.sms_pdu.specs.Faults.{Counts, IsCounted};
+ghost use Rattle.sms_pdu.specs.Devices.{device, faults_of};
+ghost use Rattle.sms_pdu.specs.Faults.{IsCounted};
 ghost use Rattle.sms_pdu.specs.Streams.{Reads};
-ghost use Rattle.sms_pdu.specs.Turn.{IsSpent, Turned};
+ghost use Rattle.sms_pdu.specs.Turn.{IsSpent};
 ghost use Rattle.sms_session.specs.Session.{IsBound};
 ghost use Rattle.sms_bind.specs.Deeds.{stretch_of, IsWithin};
 ghost use Rattle.sms_bind.specs.Follows.{Follows};
-ghost use Rattle.sms_bind.specs.ReaderStates.{Worked};
-ghost use Rattle.sms_bind.specs.Turns.{Stops, TookTurns};
-ghost use Rattle.sms_bind.specs.declared.ending.ReaderCause.TheVariants.{Ended, ReadFault, Stopped, Turns, OutOfMemory};
+ghost use Rattle.sms_bind.specs.ReaderStates.{CanRead, GoesOn, Handled};
+ghost use Rattle.sms_bind.specs.Turns.{ReadOnce, ReadUntil};
+ghost use Rattle.sms_bind.specs.declared.ending.ReaderCause.TheVariants.{Ended, Stopped, Turns, OutOfMemory};
 
 use crate::context::ReaderContext;
 use crate::ending::ReaderCause;
@@ -25,7 +24,7 @@ use std::sync::Wait;
 use std::sync::atomic::Ordering;
 
 impl ReaderState {
-    /// Works the frames that were read before, then reads in turns.
+    /// Handles the frames that were read before, then reads in turns.
     pub fn read<R: Read, W: Write, S: Wait>(
         &mut self,
         context: &ReaderContext<W, S>,
@@ -37,22 +36,16 @@ impl ReaderState {
         requires turns { turns ≤ 2 ^ 40 }
         requires bound { IsBound self.old.session }
         requires same_window { self.old.follower.now.window ≡ context.now.window.now }
-        requires small { length frames.now < 2 ^ 63 }
+        requires frames_fit { length frames.now < 2 ^ 63 }
         requires rest { IsRest rest.items }
         requires within { IsWithin self.old.counts }
         requires fresh { self.old.counts.frames ≡ 0 }
         ensures follows { Follows self.old.follower self.new.follower }
-        ensures reads { Reads (Worked self.old.session (Some result) self.old self.new) (concat frames.now ++ rest.items) (R.remaining (device reader.old)) (R.remaining (device reader.new)) (stretch_of (Some result)) [] }
-        ensures turned { Turned turns (result ≡ Turns) (R.remaining (device reader.old)) (R.remaining (device reader.new)) (faults_of reader.old) (faults_of reader.new) }
-        ensures took { faults_of reader.old + turns < 2 ^ 64 → result ≡ Turns → TookTurns turns (faults_of reader.new - faults_of reader.old) (R.remaining (device reader.old)) (R.remaining (device reader.new)) }
-        ensures stopped { result ≡ Stopped → Stops turns (R.remaining (device reader.old)) (R.remaining (device reader.new)) }
-        ensures end { result ≡ Ended → IsAtEnd (R.remaining (device reader.new)) }
-        ensures fault { result ≡ ReadFault → IsCounted (faults_of reader.old) (faults_of reader.new) }
-        ensures failed { result ≡ ReadFault → Counts (failures_of reader.old) (failures_of reader.new) }
-        ensures quiet { result ≢ ReadFault → failures_of reader.new ≡ failures_of reader.old }
-        ensures full { IsBad rest.items → result ≢ OutOfMemory }
+        ensures reads { Reads (Handled self.old.session (Some result) self.old self.new) (concat frames.now ++ rest.items) (R.remaining (device reader.old)) (R.remaining (device reader.new)) (stretch_of (Some result)) [] }
+        ensures read { ReadUntil R.remaining turns (faults_of reader.new - faults_of reader.old) result reader.old reader.new }
+        ensures not_out_of_memory { IsBad rest.items → result ≢ OutOfMemory }
     {
-        if let Some(cause) = self.work_all(context, frames) {
+        if let Some(cause) = self.handle_all(context, frames) {
             return cause;
         }
         if is_bad(rest.as_slice()) {
@@ -62,7 +55,7 @@ impl ReaderState {
         self.read_turns(context, reader, rest, turns)
     }
 
-    /// Reads in turns, behind what is held.
+    /// Reads in turns, after what is held.
     fn read_turns<R: Read, W: Write, S: Wait>(
         &mut self,
         context: &ReaderContext<W, S>,
@@ -71,21 +64,12 @@ impl ReaderState {
         turns: u64,
     ) -> ReaderCause
         requires turns { turns ≤ 2 ^ 40 }
-        requires bound { IsBound self.old.session }
+        requires reading { CanRead self.old held.items }
         requires same_window { self.old.follower.now.window ≡ context.now.window.now }
-        requires rest { IsRest held.items }
-        requires good { ¬ IsBad held.items }
-        requires within { IsWithin self.old.counts }
         requires room { self.old.counts.frames < 2 ^ 63 }
         ensures follows { Follows self.old.follower self.new.follower }
-        ensures reads { Reads (Worked self.old.session (Some result) self.old self.new) held.items (R.remaining (device reader.old)) (R.remaining (device reader.new)) (stretch_of (Some result)) [] }
-        ensures turned { Turned turns (result ≡ Turns) (R.remaining (device reader.old)) (R.remaining (device reader.new)) (faults_of reader.old) (faults_of reader.new) }
-        ensures took { faults_of reader.old + turns < 2 ^ 64 → result ≡ Turns → TookTurns turns (faults_of reader.new - faults_of reader.old) (R.remaining (device reader.old)) (R.remaining (device reader.new)) }
-        ensures stopped { result ≡ Stopped → Stops turns (R.remaining (device reader.old)) (R.remaining (device reader.new)) }
-        ensures end { result ≡ Ended → IsAtEnd (R.remaining (device reader.new)) }
-        ensures fault { result ≡ ReadFault → IsCounted (faults_of reader.old) (faults_of reader.new) }
-        ensures failed { result ≡ ReadFault → Counts (failures_of reader.old) (failures_of reader.new) }
-        ensures quiet { result ≢ ReadFault → failures_of reader.new ≡ failures_of reader.old }
+        ensures reads { Reads (Handled self.old.session (Some result) self.old self.new) held.items (R.remaining (device reader.old)) (R.remaining (device reader.new)) (stretch_of (Some result)) [] }
+        ensures read { ReadUntil R.remaining turns (faults_of reader.new - faults_of reader.old) result reader.old reader.new }
     {
         let Ok(mut piece) = Vec::from_elem(context.alloc, 0u8, PIECE) else {
             return ReaderCause::OutOfMemory;
@@ -102,7 +86,7 @@ impl ReaderState {
         ReaderCause::Turns
     }
 
-    /// One turn: what one read gave, behind what is held, is worked.
+    /// One turn: handles what one read gave, after what is held.
     fn turn<R: Read, W: Write, S: Wait>(
         &mut self,
         context: &ReaderContext<W, S>,
@@ -110,29 +94,18 @@ impl ReaderState {
         piece: &mut Vec<u8>,
         held: &mut Vec<u8>,
     ) -> Option<ReaderCause>
-        requires bound { IsBound self.old.session }
+        requires reading { CanRead self.old held.old.items }
         requires same_window { self.old.follower.now.window ≡ context.now.window.now }
-        requires within { IsWithin self.old.counts }
         requires piece { length piece.old.items ≡ 65536 }
-        requires rest { IsRest held.old.items }
-        requires good { ¬ IsBad held.old.items }
         requires room { self.old.counts.frames + length held.old.items + 65536 < 2 ^ 64 }
         ensures follows { Follows self.old.follower self.new.follower }
-        ensures reads { Reads (Worked self.old.session result self.old self.new) held.old.items (R.remaining (device reader.old)) (R.remaining (device reader.new)) (stretch_of result) held.new.items }
+        ensures reads { Reads (Handled self.old.session result self.old self.new) held.old.items (R.remaining (device reader.old)) (R.remaining (device reader.new)) (stretch_of result) held.new.items }
         ensures within { IsWithin self.new.counts }
         ensures piece { length piece.new.items ≡ 65536 }
-        ensures good { result ≡ None → ¬ IsBad held.new.items }
-        ensures room { result ≡ None → self.new.counts.frames + length held.new.items ≤ self.old.counts.frames + length held.old.items + 65536 }
-        ensures going { result ≡ None → self.new.session ≡ self.old.session }
-        ensures turned { Turned 1 (result ≡ None) (R.remaining (device reader.old)) (R.remaining (device reader.new)) (faults_of reader.old) (faults_of reader.new) }
-        ensures took { faults_of reader.old + 1 < 2 ^ 64 → result ≡ None → TookTurns 1 (faults_of reader.new - faults_of reader.old) (R.remaining (device reader.old)) (R.remaining (device reader.new)) }
+        ensures going { result ≡ None → GoesOn self.old self.new held.old.items held.new.items }
+        ensures read { ReadOnce R.remaining result reader.old reader.new }
         ensures cause { (result ≢ Some Stopped) × (result ≢ Some Turns) }
-        ensures spent { IsSpent (R.remaining (device reader.old)) → ¬ IsCounted (faults_of reader.old) (faults_of reader.new) → result ≡ Some Ended }
-        ensures end { result ≡ Some Ended → IsAtEnd (R.remaining (device reader.new)) }
-        ensures fault { result ≡ Some ReadFault → IsCounted (faults_of reader.old) (faults_of reader.new) }
-        ensures failed { result ≡ Some ReadFault → Counts (failures_of reader.old) (failures_of reader.new) }
-        ensures quiet { result ≢ Some ReadFault → failures_of reader.new ≡ failures_of reader.old }
-        ensures faults { faults_of reader.old ≤ faults_of reader.new }
+        ensures ended_input { IsSpent (R.remaining (device reader.old)) → ¬ IsCounted (faults_of reader.old) (faults_of reader.new) → result ≡ Some Ended }
     {
         match reader.read(piece.as_mut_slice()) {
             Ok(0) => Some(ReaderCause::Ended),
@@ -140,7 +113,7 @@ impl ReaderState {
                 if held.extend_from_slice(&piece[..n]).is_err() {
                     return Some(ReaderCause::OutOfMemory);
                 }
-                self.work_held(context, held)
+                self.handle_held(context, held)
             }
             Err(e) => fault_of(&e, ReaderCause::ReadFault),
         }

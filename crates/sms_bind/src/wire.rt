@@ -12,8 +12,8 @@ use sms_pdu::{Frame, Tap};
 use std::io::Write;
 use std::marker::Model;
 
-/// That a frame was handed to `send`, which alone makes one; it can't be cloned. Contracts see the
-/// frame's octets.
+/// Evidence that a frame was given to `send`, which alone makes one; it can't be cloned. Contracts see
+/// the frame's octets.
 #[derive(Drop)]
 pub struct Receipt {
     frame: Frame,
@@ -30,7 +30,7 @@ impl Model for Receipt {
 /// Why a frame wasn't sent whole.
 #[derive(Drop)]
 pub enum WireFault {
-    /// A write failed in this call; some first octets of the frame may be out.
+    /// A write failed in this call; a prefix of the frame may have been written.
     Write(Receipt),
     /// An earlier send failed, and nothing was written.
     Broken,
@@ -60,7 +60,7 @@ impl<W: Write> Wire<W> {
         self.broken
     }
 
-    /// The writer again, with its count of errors.
+    /// The writer, with its count of errors.
     pub fn into_tap(self) -> Tap<W>
         ensures writer { device result ≡ writer self }
         ensures faults { faults_of result ≡ write_faults self }

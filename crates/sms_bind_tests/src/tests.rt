@@ -52,7 +52,7 @@ impl Read for Source<'_> {
     }
 }
 
-// Takes so many octets, and then none or fails.
+// Takes this many octets, and then none or fails.
 #[derive(Drop)]
 struct Sink {
     room: usize,
@@ -101,7 +101,7 @@ fn made_of(
     Settings::new(mode, system_id, password, system_type)
 }
 
-// A wire that takes so many octets, which go behind these, and then fails.
+// A wire that takes this many octets, which go after these, and then fails.
 fn wire_to(room: usize, octets: Vec<u8>) -> Wire<Sink> {
     Wire::new(Tap::new(Sink {
         room,
@@ -270,7 +270,7 @@ fn answers_that_refuse(rt: HostRuntime) -> Result<(), Fail> {
     Ok(())
 }
 
-// 599 reads may give nothing, and the 600th is a fault; an end or a failure behind them is what it is.
+// 599 reads may give nothing, and the 600th is a fault; after them an end is an end and a failure a failure.
 #[test]
 fn reads_that_give_nothing(rt: HostRuntime) -> Result<(), Fail> {
     let patient = source_of(599, ACCEPTED, false);

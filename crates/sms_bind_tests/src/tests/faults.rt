@@ -61,7 +61,7 @@ fn want_taken(rt: &impl Abort, wire: Wire<Sink>, octets: usize) {
     );
 }
 
-// A bind over a writer with room for so many octets.
+// A bind over a writer with room for this many octets.
 fn want_cut(rt: &impl Abort, alloc: Global, settings: &Settings, room: usize) {
     let mut reader = source_of(0, ACCEPTED, false);
     let mut wire = wire_to(room, Vec::new(alloc));
@@ -90,8 +90,8 @@ fn a_bind_that_is_cut_at_each_octet(rt: HostRuntime) -> Result<(), Fail> {
     Ok(())
 }
 
-// Reads so many octets of STREAM, over a writer with room for so many, and wants this cause, these
-// numbers of answers and of receipts, and so many octets of the responses.
+// Reads a prefix of STREAM, over a writer with this room, and expects this cause, these numbers of
+// answers and of delivery receipts, and this many octets of responses.
 fn want_end<S: Abort + Wait>(
     rt: &S,
     alloc: Global,
@@ -114,7 +114,7 @@ fn want_end<S: Abort + Wait>(
     Ok(())
 }
 
-// The reader fails at each octet: what was whole before is worked, and nothing else.
+// The reader fails at each octet: the frames that were whole before are handled, and nothing else.
 #[test]
 fn a_reader_that_fails_at_each_octet(rt: HostRuntime) -> Result<(), Fail> {
     for octets in 0..81usize {
@@ -147,7 +147,7 @@ fn a_writer_that_fails_at_each_octet(rt: HostRuntime) -> Result<(), Fail> {
     Ok(())
 }
 
-// The same of generic_nack. A bad length ends the reader, whether or not that can be told.
+// The same of generic_nack. A bad length ends the reader, whether or not the nack can be written.
 #[test]
 fn a_nack_that_is_cut_at_each_octet(rt: HostRuntime) -> Result<(), Fail> {
     let alloc = rt.alloc();

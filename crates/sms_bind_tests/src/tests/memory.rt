@@ -56,9 +56,8 @@ fn memory_of_a_bind(rt: HostRuntime) {
     }
 }
 
-// What a reader counts that ended so, and how many octets of the responses are written then: both
-// answers and the note were worked, and of the three responses one at the most wasn't written; or
-// nothing was worked.
+// The counts of a reader that ended so, and whether as many octets of responses were written: both answers
+// and the note were handled, and at most one of the three responses wasn't written; or nothing was handled.
 fn all_or_nothing(cause: ReaderCause, unreplied: u64, written: usize) -> ([u64; 7], bool) {
     match (cause, unreplied) {
         (ReaderCause::Unbound, 0) => ([2, 0, 0, 1, 0, 0, 0], written == 49),
@@ -77,7 +76,7 @@ fn want_all_or_nothing(rt: &impl Abort, cause: ReaderCause, said: [u64; 7], writ
     assert!(rt; written.len() < 49 || written == RESPONSES.as_slice());
 }
 
-// All is worked but for one response, or nothing is; the ring and the seat come back.
+// All is handled but for one response, or nothing is; the ring and the seat come back.
 #[test]
 fn memory_of_a_reader(rt: HostRuntime) {
     let alloc = rt.alloc();

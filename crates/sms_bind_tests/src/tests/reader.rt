@@ -44,7 +44,7 @@ pub(crate) fn bound_as(rt: &impl Abort, alloc: Global, mode: Mode) -> Bound {
     }
 }
 
-// A wire that takes so many octets, and as many slots that wait for the answers from 1 on.
+// A wire with room for this many octets, and this many slots that wait for the answers from 1 on.
 pub(crate) fn line_of<S: Abort + Wait>(
     rt: &S,
     alloc: Global,
@@ -212,7 +212,7 @@ fn streams_that_are_read(rt: HostRuntime) -> Result<(), Fail> {
     Ok(())
 }
 
-// Binds as a transmitter over the answer and these octets behind it.
+// Binds as a transmitter over the answer and these octets after it.
 fn bound_with(rt: &impl Abort, alloc: Global, behind: &[u8]) -> Bound {
     let Ok(mut stream) = Vec::from_slice(alloc, ACCEPTED) else {
         panic!(rt; "no memory")
@@ -224,7 +224,7 @@ fn bound_with(rt: &impl Abort, alloc: Global, behind: &[u8]) -> Bound {
     bound
 }
 
-// What was read with the bind's answer is worked first; a transmitter is sent no deliver_sm.
+// What was read with the bind's answer is handled first; a transmitter is sent no deliver_sm.
 #[test]
 fn what_came_with_the_answer(rt: HostRuntime) -> Result<(), Fail> {
     let cases = [
@@ -310,7 +310,7 @@ fn want_numbers(rt: &impl Abort, consumer: &mut Consumer<Reply>, wanted: &[u32])
 }
 
 // Five requests of three workers: the second one's ring has room for one answer, and the third one has
-// no ring. Each answer goes to its own worker, or is told as what it is.
+// no ring. Each answer goes to its own worker, or is counted as what it is.
 #[test]
 fn answers_of_several_workers(rt: HostRuntime) -> Result<(), Fail> {
     let alloc = rt.alloc();
@@ -360,7 +360,7 @@ fn readers_that_end_early(rt: HostRuntime) -> Result<(), Fail> {
     Ok(())
 }
 
-// The first cause stands: of a wire that breaks, and not of the reader that ends behind it.
+// The first cause stands: that of a wire that breaks, and not of the reader that ends after it.
 #[test]
 fn the_first_cause_stands(rt: HostRuntime) -> Result<(), Fail> {
     let alloc = rt.alloc();

@@ -122,42 +122,42 @@ returns-clause-failed g c = λ e.
     let i = c.loop-empty.invariant in
     inr (i.failures, tried_all _ _ _ _ (search rules) (search rules) i.many)
 
-pub returns-in_default-clause-most : goal.returns-in_default-clause-most
-returns-in_default-clause-most g c =
+pub returns-in_default-clause-read_at_most : goal.returns-in_default-clause-read_at_most
+returns-in_default-clause-read_at_most g c =
     let i = c.loop-empty.invariant in
     gave_answer i.got (take c.in-Ok.n c.read.new.buf) c.loop-empty.framer _ (g.R.Read.remaining (device c.loop-empty.reader)) _ i.divided i.good (search rules) i.consumed c.in-Ok.ensures.bytes.0
 
-pub returns-in_default-clause-spent : goal.returns-in_default-clause-spent
-returns-in_default-clause-spent g c = λ spent quiet.
+pub returns-in_default-clause-ended_input : goal.returns-in_default-clause-ended_input
+returns-in_default-clause-ended_input g c = λ spent quiet.
     let i = c.loop-empty.invariant in
     absurd (not_spent_before i.got (take c.in-Ok.n c.read.new.buf) _ (g.R.Read.remaining (device c.loop-empty.reader)) _ (search rules) i.consumed c.in-Ok.ensures.bytes.0 spent)
 
-pub returns-then-not-is_empty-clause-most : goal.returns-then-not-is_empty-clause-most
-returns-then-not-is_empty-clause-most g c =
+pub returns-then-not-is_empty-clause-read_at_most : goal.returns-then-not-is_empty-clause-read_at_most
+returns-then-not-is_empty-clause-read_at_most g c =
     let i = c.loop-empty.invariant in
     gave_answer i.got (take c.in-Ok.n c.read.new.buf) c.loop-empty.framer _ (g.R.Read.remaining (device c.loop-empty.reader)) _ i.divided i.good (search rules) i.consumed c.in-Ok.ensures.bytes.0
 
-pub returns-then-not-is_empty-clause-spent : goal.returns-then-not-is_empty-clause-spent
-returns-then-not-is_empty-clause-spent g c = λ spent quiet.
+pub returns-then-not-is_empty-clause-ended_input : goal.returns-then-not-is_empty-clause-ended_input
+returns-then-not-is_empty-clause-ended_input g c = λ spent quiet.
     let i = c.loop-empty.invariant in
     absurd (not_spent_before i.got (take c.in-Ok.n c.read.new.buf) _ (g.R.Read.remaining (device c.loop-empty.reader)) _ (search rules) i.consumed c.in-Ok.ensures.bytes.0 spent)
 
-pub returns-then-is_some-clause-most : goal.returns-then-is_some-clause-most
-returns-then-is_some-clause-most g c =
+pub returns-then-is_some-clause-read_at_most : goal.returns-then-is_some-clause-read_at_most
+returns-then-is_some-clause-read_at_most g c =
     let i = c.loop-empty.invariant in
     gave_answer i.got (take c.in-Ok.n c.read.new.buf) c.loop-empty.framer _ (g.R.Read.remaining (device c.loop-empty.reader)) _ i.divided i.good (search rules) i.consumed c.in-Ok.ensures.bytes.0
 
-pub returns-then-is_some-clause-spent : goal.returns-then-is_some-clause-spent
-returns-then-is_some-clause-spent g c = λ spent quiet.
+pub returns-then-is_some-clause-ended_input : goal.returns-then-is_some-clause-ended_input
+returns-then-is_some-clause-ended_input g c = λ spent quiet.
     let i = c.loop-empty.invariant in
     absurd (not_spent_before i.got (take c.in-Ok.n c.read.new.buf) _ (g.R.Read.remaining (device c.loop-empty.reader)) _ (search rules) i.consumed c.in-Ok.ensures.bytes.0 spent)
 
-pub returns-then-not-gave_nothing-clause-most : goal.returns-then-not-gave_nothing-clause-most
-returns-then-not-gave_nothing-clause-most g c =
+pub returns-then-not-gave_nothing-clause-read_at_most : goal.returns-then-not-gave_nothing-clause-read_at_most
+returns-then-not-gave_nothing-clause-read_at_most g c =
     let i = c.loop-empty.invariant in
     gave_answer i.got [] c.loop-empty.framer _ (g.R.Read.remaining (device c.loop-empty.reader)) _ i.divided i.good (omega arith) i.consumed (consumes_nothing _ _ c.in-Err.ensures.bytes)
 
-pub returns-clause-most : goal.returns-clause-most
-returns-clause-most g c =
+pub returns-clause-read_at_most : goal.returns-clause-read_at_most
+returns-clause-read_at_most g c =
     let i = c.loop-empty.invariant in
     gave_answer i.got [] c.loop-empty.framer _ (g.R.Read.remaining (device c.loop-empty.reader)) _ i.divided i.good (omega arith) i.consumed (Consumes-nil _)

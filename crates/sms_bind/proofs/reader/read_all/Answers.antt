@@ -1,7 +1,10 @@
-use Rattle.std.proofs.Common.{◌≡◌, ◌++◌, List, ℕ, map, sym, ap, ◌∙◌, subst, rules}
+use Rattle.std.proofs.Common.{◌≡◌, ◌++◌, ◌-◌, List, ℕ, map, refl, sym, ap, ◌∙◌, subst, rules, arith}
 use Rattle.std.specs.List.{concat, AllZip}
 use Rattle.rtrb.specs.Ring.{sent, known_free, SameProducer}
-use Rattle.sms_pdu.specs.Devices.{device}
+use Rattle.sms_pdu.specs.Devices.{device, faults_of}
+use Rattle.sms_pdu.proofs.Turns.{turned_none}
+use Rattle.sms_bind.specs.Turns.{ReadUntil}
+use Rattle.sms_bind.specs.declared.ending.ReaderCause.TheVariants.{OutOfMemory}
 use Rattle.sms_slot.proofs.Rings.{same_rings}
 use Rattle.sms_bind.specs.declared.ending.ReaderEnd.{ReaderEnd}
 use Rattle.sms_bind.specs.declared.counts.Counts.{Counts}
@@ -83,3 +86,28 @@ returns-clause-room g c =
     let all = leaves_room s a b _ _ r t c.saturating_sub-errors.result c.read-cause.result c.new-2.ensures c.read-cause.ensures.reads in
     let is : c.ended-2.result ≡ end_of b c.saturating_sub-errors.result c.read-cause.result = search rules in
     subst (λ (e : ReaderEnd). LeavesRoom rings (map sent e.producers.items) free (map known_free e.producers.items) e) (sym is) all
+
+-- no memory for the seat's list: no turn was taken
+pub returns-in-Err-clause-read : goal.returns-in-Err-clause-read
+returns-in-Err-clause-read g c =
+    let old = c.args.reader.now in
+    let none : ReadUntil g.R.Read.remaining c.args.turns 0 OutOfMemory old old = record {
+      turned = turned_none _ _ _ _ (λ e. absurd cc);
+      took = λ room e. absurd cc;
+      errors_counted = omega arith;
+      grows = omega arith;
+      stopped = λ e. absurd cc;
+      end = λ e. absurd cc;
+      fault = λ e. absurd cc;
+      failed = λ e. absurd cc;
+      no_failure = λ other. refl;
+    } in
+    subst (λ (e : ReaderEnd). ReadUntil g.R.Read.remaining c.args.turns e.errors e.cause old old) (sym c.ended.ensures) none
+
+pub returns-clause-read : goal.returns-clause-read
+returns-clause-read g c =
+    let old = c.args.reader.now in
+    let new = c.read-cause.new.reader in
+    let errors : c.saturating_sub-errors.result ≡ faults_of new - faults_of old = search rules in
+    let read = subst (λ (n : ℕ). ReadUntil g.R.Read.remaining c.args.turns n c.read-cause.result old new) (sym errors) c.read-cause.ensures.read in
+    subst (λ (e : ReaderEnd). ReadUntil g.R.Read.remaining c.args.turns e.errors e.cause old new) (sym c.ended-2.ensures) read

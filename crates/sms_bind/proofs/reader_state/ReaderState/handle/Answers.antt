@@ -7,23 +7,23 @@ use Rattle.sms_bind.specs.declared.ending.ReaderCause.{ReaderCause}
 use Rattle.sms_bind.specs.Deeds.{Reaches, tally, entry, cause_after, broken_at}
 use Rattle.sms_bind.proofs.Tables.{next_same}
 use Rattle.sms_bind.proofs.Logs.{reached, broke}
-use Rattle.sms_bind.proofs.reader_state.ReaderState.go.Goals as goal
+use Rattle.sms_bind.proofs.reader_state.ReaderState.handle.Goals as goal
 
-pub returns-clause-worked : goal.returns-clause-worked
-returns-clause-worked g c =
-    let deed = c.work-deed.result in
+pub returns-clause-handled : goal.returns-clause-handled
+returns-clause-handled g c =
+    let deed = c.dispatch-outcome.result in
     let s = c.args.self.now.session in
     let t = (on_table s (header_at_front c.args.frame.now)).1 in
     let next = next_same s (header_at_front c.args.frame.now) in
     let end : cause_after deed t ≡ c.cause_of.result = search rules in
     record {
       deeds = deed ∷ [];
-      each = (c.work-deed.ensures.suits, (λ more. absurd (more refl)), tt);
+      each = (c.dispatch-outcome.ensures.suits, (λ more. absurd (more refl)), tt);
       reaches = subst (λ (e : Option ReaderCause). Reaches e s t) end (reached s t deed next);
       breaks = broke s t deed next ∙ ap broken_at end;
-      rings = c.work-deed.ensures.rings;
-      sends = c.work-deed.ensures.sends ∙ ap (handed (map sent c.args.self.now.producers.items)) (sym (append-nil (entry deed)));
-      room = (map known_free c.work-deed.new.self.producers.items, c.work-deed.ensures.room, refl);
-      counts = c.add.ensures.tally ∙ ap (λ k. tally k deed) c.work-deed.ensures.counts;
-      follows = (c.work-deed.new.self.follower, c.work-deed.ensures.follow, refl);
+      rings = c.dispatch-outcome.ensures.rings;
+      sends = c.dispatch-outcome.ensures.sends ∙ ap (handed (map sent c.args.self.now.producers.items)) (sym (append-nil (entry deed)));
+      room = (map known_free c.dispatch-outcome.new.self.producers.items, c.dispatch-outcome.ensures.room, refl);
+      counts = c.add.ensures.tally ∙ ap (λ k. tally k deed) c.dispatch-outcome.ensures.counts;
+      follows = (c.dispatch-outcome.new.self.follower, c.dispatch-outcome.ensures.follow, refl);
     }

@@ -1,4 +1,4 @@
--- Frames that were worked one after another.
+-- Frames that were handled one after another.
 use Rattle.std.proofs.Common.{◌≡◌, ◌⊎◌, ℕ, ◌+◌, ◌<◌, List, [], ◌∷◌, ◌++◌, inl, inr, get_or, length, map, drop, Option, Some, None, refl, sym, ap, ◌∙◌, subst, arith, append-nil}
 use Rattle.std.specs.List.{concat}
 use Rattle.std.proofs.lemmas.List.{drop_more}
@@ -19,22 +19,22 @@ use Rattle.sms_bind.specs.declared.ending.ReaderCause.TheVariants as cause
 use Rattle.sms_bind.specs.Deeds.{SuitAll, Reaches, state_after, stretch_of, broken_at, log, tallies, of_response, is_broken}
 use Rattle.sms_bind.specs.Held.{Held}
 use Rattle.sms_bind.specs.Follows.{Follows}
-use Rattle.sms_bind.specs.ReaderStates.{Worked}
+use Rattle.sms_bind.specs.ReaderStates.{Handled}
 use Rattle.sms_bind.proofs.Logs.{log-append, tallies-append, counted-append, follow-append, take-append, suits-append, state-append}
 
-pub worked_none : (s : State) (a : ReaderState) → Worked s None a a []
-worked_none s a = record { deeds = []; each = tt; reaches = refl; breaks = refl; rings = same_rings a.producers.items; sends = refl; room = refl; counts = refl; follows = refl }
+pub handled_none : (s : State) (a : ReaderState) → Handled s None a a []
+handled_none s a = record { deeds = []; each = tt; reaches = refl; breaks = refl; rings = same_rings a.producers.items; sends = refl; room = refl; counts = refl; follows = refl }
 
--- nothing was worked, and the reader ends
-pub worked_nothing : (s : State) (end : Option ReaderCause) (a : ReaderState) → Reaches end s s → broken_at end ≡ 0 → Worked s end a a []
-worked_nothing s end a reaches quiet = record { deeds = []; each = tt; reaches = reaches; breaks = sym quiet; rings = same_rings a.producers.items; sends = refl; room = refl; counts = refl; follows = refl }
+-- nothing was handled, and the reader ends
+pub handled_nothing : (s : State) (end : Option ReaderCause) (a : ReaderState) → Reaches end s s → broken_at end ≡ 0 → Handled s end a a []
+handled_nothing s end a reaches quiet = record { deeds = []; each = tt; reaches = reaches; breaks = sym quiet; rings = same_rings a.producers.items; sends = refl; room = refl; counts = refl; follows = refl }
 
 -- a ring that stayed the same twice
 same_on : {T A P : Type 0} (x y z : Producer T A P) → SameProducer x y → SameProducer y z → SameProducer x z
 same_on x y z ((a, b, c, d), e) ((f, g, h, i), j) = ((f ∙ a, g ∙ b, h ∙ c, i ∙ d), j ∙ e)
 
-pub worked_more : (s : State) → IsBound s → (end : Option ReaderCause) (a b c : ReaderState) (fs gs : List (List ℕ)) → Worked s None a b fs → Worked s end b c gs → Worked s end a c (fs ++ gs)
-worked_more s up end a b c fs gs p q =
+pub handled_more : (s : State) → IsBound s → (end : Option ReaderCause) (a b c : ReaderState) (fs gs : List (List ℕ)) → Handled s None a b fs → Handled s end b c gs → Handled s end a c (fs ++ gs)
+handled_more s up end a b c fs gs p q =
     let same : state_after s (fs ++ gs) ≡ state_after s gs = state-append s fs gs ∙ ap (λ (t : State). state_after t gs) p.reaches in
     let breaks = counted-append (of_response (λ response written. is_broken written)) p.deeds q.deeds in
     record {
@@ -50,8 +50,8 @@ worked_more s up end a b c fs gs p q =
     }
 
 -- the reader ends after it
-pub worked_ends : (s : State) (end : Option ReaderCause) (a b : ReaderState) (fs : List (List ℕ)) → Reaches end s s → broken_at end ≡ 0 → Worked s None a b fs → Worked s end a b fs
-worked_ends s end a b fs reaches quiet p =
+pub handled_ends : (s : State) (end : Option ReaderCause) (a b : ReaderState) (fs : List (List ℕ)) → Reaches end s s → broken_at end ≡ 0 → Handled s None a b fs → Handled s end a b fs
+handled_ends s end a b fs reaches quiet p =
     record {
       deeds = p.deeds;
       each = p.each;
@@ -78,7 +78,7 @@ follows_same h = record { window = refl; began = refl; most = refl }
 pub follows_on : (a b c : Held) → Follows a b → Follows b c → Follows a c
 follows_on a b c p q = record { window = q.window ∙ p.window; began = q.began ∙ p.began; most = q.most ∙ p.most }
 
--- what is left where the reader ended doesn't hang on what is held
+-- what is left where the reader ended doesn't depend on what is held
 pub leaves_end : (end : ReaderCause) (left held kept : List ℕ) → Leaves (stretch_of (Some end)) left held → Leaves (stretch_of (Some end)) left kept
 leaves_end cause.Ended left held kept h = h
 leaves_end cause.Unbound left held kept h = h
@@ -89,13 +89,13 @@ leaves_end cause.Stopped left held kept h = h
 leaves_end cause.Turns left held kept h = h
 leaves_end cause.OutOfMemory left held kept h = h
 
--- what was not looked at stands beside it
+-- octets that were not read yet stand after the others
 went_beside : (P : List (List ℕ) → Type 0) (stream left more : List ℕ) → Went P stream left → Went P (stream ++ more) (left ++ more)
 went_beside P stream left more w =
     let same : (fs gs : List (List ℕ)) → P fs → gs ≡ [] → P (fs ++ gs) = λ fs gs p e. subst (λ l. P (fs ++ l)) (sym e) (subst P (sym (append-nil fs)) p) in
     went_more P (λ gs. gs ≡ []) P stream left more (left ++ more) w (went_none (λ gs. gs ≡ []) (left ++ more) refl) same
 
--- the reader ended while it worked what was there before
+-- the reader ended while it handled what had been read before
 pub reads_early : (P : List (List ℕ) → Type 0) (begun left more kept : List ℕ) (r : Option (List ℕ)) (s : Stretch) → Went P begun left → s ≡ early → Reads P (begun ++ more) r r s kept
 reads_early P begun left more kept r s w is =
     record {
@@ -106,7 +106,7 @@ reads_early P begun left more kept r s w is =
       leaves = subst (λ x. Leaves x (left ++ more) kept) (sym is) tt;
     }
 
--- or it worked all of it
+-- or it handled all of it
 pub reads_begun : (P : List (List ℕ) → Type 0) (begun left more : List ℕ) (r : Option (List ℕ)) → Went P begun left → left ≡ [] → IsRest more → Reads P (begun ++ more) r r going more
 reads_begun P begun left more r w none rest =
     record {
@@ -121,9 +121,9 @@ reads_begun P begun left more r w none rest =
 
 -- it changes nothing, and the reader goes on or not
 pub reads_failed : (s : State) (a : ReaderState) (end : Option ReaderCause) (held : List ℕ) (r t : Option (List ℕ)) → (end ≡ None) ⊎ (end ≡ Some cause.ReadFault) → Keeps r t → IsRest held → ¬ IsBad held
-    → Reads (Worked s end a a) held r t (stretch_of end) held
+    → Reads (Handled s end a a) held r t (stretch_of end) held
 reads_failed s a end held r t (inl e) kept rest good =
-    subst (λ (x : Option ReaderCause). Reads (Worked s x a a) held r t (stretch_of x) held) (sym e) (reads_none (Worked s None a a) held held r t going (worked_none s a) (consumes_nothing r t kept) (rest, refl))
+    subst (λ (x : Option ReaderCause). Reads (Handled s x a a) held r t (stretch_of x) held) (sym e) (reads_none (Handled s None a a) held held r t going (handled_none s a) (consumes_nothing r t kept) (rest, refl))
 reads_failed s a end held r t (inr e) kept rest good =
-    subst (λ (x : Option ReaderCause). Reads (Worked s x a a) held r t (stretch_of x) held) (sym e)
-    (reads_none (Worked s (Some cause.ReadFault) a a) held held r t complete (worked_nothing s (Some cause.ReadFault) a refl refl) (consumes_nothing r t kept) (rest, good))
+    subst (λ (x : Option ReaderCause). Reads (Handled s x a a) held r t (stretch_of x) held) (sym e)
+    (reads_none (Handled s (Some cause.ReadFault) a a) held held r t complete (handled_nothing s (Some cause.ReadFault) a refl refl) (consumes_nothing r t kept) (rest, good))

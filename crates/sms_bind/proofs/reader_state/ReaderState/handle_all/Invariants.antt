@@ -3,14 +3,14 @@ use Rattle.std.specs.List.{concat}
 use Rattle.sms_pdu.specs.Streams.{Went}
 use Rattle.sms_bind.specs.Deeds.{IsWithin}
 use Rattle.sms_bind.specs.Follows.{Follows}
-use Rattle.sms_bind.specs.ReaderStates.{Worked}
-use Rattle.sms_bind.proofs.reader_state.ReaderState.work_all.Given as goal
+use Rattle.sms_bind.specs.ReaderStates.{Handled}
+use Rattle.sms_bind.proofs.reader_state.ReaderState.handle_all.Given as goal
 
 abbrev pub invariant-loop-frame : goal.invariant-loop-frame
 invariant-loop-frame g l = record {
   follows : Follows l.initial.self.follower l.self.follower;
   same : l.self.session ≡ l.initial.self.session;
   within : IsWithin l.self.counts;
-  went : Went (Worked l.initial.self.session None l.initial.self l.self) (concat l.frames) (concat (drop l.frame-index l.frames));
+  went : Went (Handled l.initial.self.session None l.initial.self l.self) (concat l.frames) (concat (drop l.frame-index l.frames));
   room : l.self.counts.frames ≤ l.initial.self.counts.frames + l.frame-index;
 }

@@ -1,5 +1,5 @@
 use Rattle.sms_slot.proofs.Rings.{same_rings}
-use Rattle.sms_bind.proofs.reader_state.ReaderState.work.Goals as goal
+use Rattle.sms_bind.proofs.reader_state.ReaderState.dispatch.Goals as goal
 
 pub returns-in-Reply-clause-rings : goal.returns-in-Reply-clause-rings
 returns-in-Reply-clause-rings g c = same_rings c.args.self.now.producers.items
