@@ -42,7 +42,7 @@ over_stays p s (f ∷ fs) = over_stays p s fs
 -- ---- into a buffer
 
 pub answered_none : (p : Progress) (out : List ℕ) → Answered p p None out out []
-answered_none p out = record { pieces = []; each = tt; grown = sym (append-nil out); heard = refl }
+answered_none p out = record { pieces = []; each = tt; grown = sym (append-nil out); reached = refl }
 
 pub answered_one : (p q : Progress) (end : Option Stop) (old new f : List ℕ) → brought end ≡ end_at p (header_at_front f) → q ≡ after_frame p (header_at_front f) → PutsAll (said_to p (header_at_front f)) old new → Answered p q end old new (f ∷ [])
 answered_one p q end old new f e h a =
@@ -50,7 +50,7 @@ answered_one p q end old new f e h a =
       pieces = a.pieces;
       each = subst (λ (l : List Said). AllZip IsSaid l a.pieces) (sym (append-nil (said_to p (header_at_front f)))) a.said;
       grown = a.behind;
-      heard = ap (λ (x : Option ServeCause). let t : Talk = record { now = q; over = x } in t) e ∙ ap (λ (x : Progress). let t : Talk = record { now = x; over = end_at p (header_at_front f) } in t) h;
+      reached = ap (λ (x : Option ServeCause). let t : Talk = record { now = q; over = x } in t) e ∙ ap (λ (x : Progress). let t : Talk = record { now = x; over = end_at p (header_at_front f) } in t) h;
     }
 
 pub answered_more : (p q r : Progress) (end : Option Stop) (a b c : List ℕ) (fs gs : List (List ℕ)) → Answered p q None a b fs → Answered q r end b c gs → Answered p r end a c (fs ++ gs)
@@ -58,9 +58,9 @@ answered_more p q r end a b c fs gs x y =
     record {
       pieces = x.pieces ++ y.pieces;
       each = subst (λ (l : List Said). AllZip IsSaid l (x.pieces ++ y.pieces)) (sym (conversation-append (talking p) fs gs))
-          (AllZip-append IsSaid (conversation (talking p) fs) (conversation (talk (talking p) fs) gs) x.pieces y.pieces x.each (subst (λ (t : Talk). AllZip IsSaid (conversation t gs) y.pieces) x.heard y.each));
+          (AllZip-append IsSaid (conversation (talking p) fs) (conversation (talk (talking p) fs) gs) x.pieces y.pieces x.each (subst (λ (t : Talk). AllZip IsSaid (conversation t gs) y.pieces) x.reached y.each));
       grown = y.grown ∙ ap (λ l. l ++ concat y.pieces) x.grown ∙ append_assoc a (concat x.pieces) (concat y.pieces) ∙ ap (λ l. a ++ l) (sym (concat-append x.pieces y.pieces));
-      heard = y.heard ∙ ap (λ (t : Talk). talk t gs) x.heard ∙ sym (talk-append (talking p) fs gs);
+      reached = y.reached ∙ ap (λ (t : Talk). talk t gs) x.reached ∙ sym (talk-append (talking p) fs gs);
     }
 
 -- ---- into a writer
@@ -77,7 +77,7 @@ written_none p end a none uncut =
       each = tt;
       writes = subst (λ (c : Bool). Writes c a a []) (sym uncut) (Appends-nil a);
       at = refl;
-      heard = λ e. ap (λ (x : Option ServeCause). let t : Talk = record { now = p; over = x } in t) none;
+      reached = λ e. ap (λ (x : Option ServeCause). let t : Talk = record { now = p; over = x } in t) none;
     }
 
 -- what was gathered is written
@@ -87,24 +87,24 @@ written_all p q end why a b out fs same uncut x w =
       pieces = x.pieces;
       each = x.each;
       writes = subst (λ (c : Bool). Writes c a b (concat x.pieces)) (sym uncut) (subst (λ l. Appends a b l) x.grown w);
-      at = ap (λ (t : Talk). t.now) x.heard;
-      heard = λ e. ap (λ (o : Option ServeCause). let t : Talk = record { now = q; over = o } in t) same ∙ x.heard;
+      at = ap (λ (t : Talk). t.now) x.reached;
+      reached = λ e. ap (λ (o : Option ServeCause). let t : Talk = record { now = q; over = o } in t) same ∙ x.reached;
     }
 
 -- or fewer octets than all of it
 pub written_some : (p q : Progress) (end : Option Stop) (a b : Option (List ℕ)) (out : List ℕ) (fs : List (List ℕ)) → Answered p q end [] out fs → FewerAppended a b out → Written p q (Some stop.WriteFault) a b fs
 written_some p q end a b out fs x w =
-    record { pieces = x.pieces; each = x.each; writes = subst (λ l. FewerAppended a b l) x.grown w; at = ap (λ (t : Talk). t.now) x.heard; heard = λ e. absurd (true≢false e) }
+    record { pieces = x.pieces; each = x.each; writes = subst (λ l. FewerAppended a b l) x.grown w; at = ap (λ (t : Talk). t.now) x.reached; reached = λ e. absurd (true≢false e) }
 
 pub written_more : (p q r : Progress) (end : Option Stop) (a b c : Option (List ℕ)) (fs gs : List (List ℕ)) → Written p q None a b fs → Written q r end b c gs → Written p r end a c (fs ++ gs)
 written_more p q r end a b c fs gs x y =
     record {
       pieces = x.pieces ++ y.pieces;
       each = subst (λ (l : List Said). AllZip IsSaid l (x.pieces ++ y.pieces)) (sym (conversation-append (talking p) fs gs))
-          (AllZip-append IsSaid (conversation (talking p) fs) (conversation (talk (talking p) fs) gs) x.pieces y.pieces x.each (subst (λ (t : Talk). AllZip IsSaid (conversation t gs) y.pieces) (x.heard refl) y.each));
+          (AllZip-append IsSaid (conversation (talking p) fs) (conversation (talk (talking p) fs) gs) x.pieces y.pieces x.each (subst (λ (t : Talk). AllZip IsSaid (conversation t gs) y.pieces) (x.reached refl) y.each));
       writes = subst (λ l. Writes (ends_cut end) a c l) (sym (concat-append x.pieces y.pieces)) (writes_more (ends_cut end) a b c (concat x.pieces) (concat y.pieces) x.writes y.writes);
-      at = y.at ∙ ap (λ (t : Talk). (talk t gs).now) (x.heard refl) ∙ sym (ap (λ (t : Talk). t.now) (talk-append (talking p) fs gs));
-      heard = λ e. y.heard e ∙ ap (λ (t : Talk). talk t gs) (x.heard refl) ∙ sym (talk-append (talking p) fs gs);
+      at = y.at ∙ ap (λ (t : Talk). (talk t gs).now) (x.reached refl) ∙ sym (ap (λ (t : Talk). t.now) (talk-append (talking p) fs gs));
+      reached = λ e. y.reached e ∙ ap (λ (t : Talk). talk t gs) (x.reached refl) ∙ sym (talk-append (talking p) fs gs);
     }
 
 -- it ends without a frame
@@ -115,7 +115,7 @@ written_ends p q why a b fs uncut none x =
       each = x.each;
       writes = subst (λ (c : Bool). Writes c a b (concat x.pieces)) (sym uncut) x.writes;
       at = x.at;
-      heard = λ e. ap (λ (o : Option ServeCause). let t : Talk = record { now = q; over = o } in t) none ∙ x.heard refl;
+      reached = λ e. ap (λ (o : Option ServeCause). let t : Talk = record { now = q; over = o } in t) none ∙ x.reached refl;
     }
 
 -- a stop that is no write fault
@@ -170,7 +170,7 @@ serves p q why held r t a b x end =
     let d = each_divided x.left in
     let joined = conversation-append (talking p) w.frames d.frames in
     let still = λ (e : is_early (cause_of why) ≡ false). quiet q why x.left held d.frames d.rest e x.leaves d.divided in
-    let talked = λ (e : is_early (cause_of why) ≡ false). talk-append (talking p) w.frames d.frames ∙ ap (λ (k : Talk). talk k d.frames) (sym (w.done.heard e)) ∙ (still e).1 in
+    let talked = λ (e : is_early (cause_of why) ≡ false). talk-append (talking p) w.frames d.frames ∙ ap (λ (k : Talk). talk k d.frames) (sym (w.done.reached e)) ∙ (still e).1 in
     record {
       got = x.got;
       consumed = x.consumed;
@@ -183,9 +183,9 @@ serves p q why held r t a b x end =
       each = w.done.each;
       writes = w.done.writes;
       counted = ap (λ (k : Progress). k.submits) w.done.at;
-      whole = λ e. talked e ∙ w.done.heard e;
+      whole = λ e. talked e ∙ w.done.reached e;
       said = λ e.
-          joined ∙ ap (λ (k : Talk). conversation (talking p) w.frames ++ conversation k d.frames) (sym (w.done.heard e)) ∙ ap (λ (l : List Said). conversation (talking p) w.frames ++ l) (still e).0 ∙ append-nil (conversation (talking p) w.frames);
+          joined ∙ ap (λ (k : Talk). conversation (talking p) w.frames ++ conversation k d.frames) (sym (w.done.reached e)) ∙ ap (λ (l : List Said). conversation (talking p) w.frames ++ l) (still e).0 ∙ append-nil (conversation (talking p) w.frames);
       why = brings why (talk (talking p) (w.frames ++ d.frames)).over x.left held d.frames d.rest t (λ e. ap (λ (k : Talk). k.over) (talked e)) x.leaves d.divided end;
     }
 
@@ -204,7 +204,7 @@ reads_turns p q r t a b held x good =
 
 -- memory ran out behind these frames
 pub answered_full : (p q : Progress) (a b : List ℕ) (fs : List (List ℕ)) → Answered p q None a b fs → Answered p q (Some stop.OutOfMemory) a b fs
-answered_full p q a b fs x = record { pieces = x.pieces; each = x.each; grown = x.grown; heard = x.heard }
+answered_full p q a b fs x = record { pieces = x.pieces; each = x.each; grown = x.grown; reached = x.reached }
 
 -- a read that failed changes nothing, and the connection goes on or not
 pub reads_failed : (p : Progress) (end : Option Stop) (held : List ℕ) (r t w : Option (List ℕ)) → (end ≡ None) ⊎ (end ≡ Some stop.ReadFault) → Keeps r t → IsRest held → ¬ IsBad held

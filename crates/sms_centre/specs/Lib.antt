@@ -6,3 +6,4 @@ pub mod Scripts
 pub mod Serving
 pub mod Stops
 pub mod Texts
+pub mod Turns

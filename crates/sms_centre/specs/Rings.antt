@@ -9,10 +9,10 @@ pub record Held : Type 0 where
 abbrev pub empty : ℕ → Held
 empty room = record { room = room; octets = [] }
 
--- these more behind the others
+-- these more after the others
 abbrev pub holds_more : Held → List ℕ → Held
 holds_more h more = record { room = h.room; octets = h.octets ++ more }
 
--- so many less from the front
+-- without the first `n`
 abbrev pub holds_less : Held → ℕ → Held
 holds_less h n = record { room = h.room; octets = drop n h.octets }

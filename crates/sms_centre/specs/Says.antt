@@ -59,13 +59,13 @@ IsSaid (said.EnquireLinkResp number) octets = Spells (pdu no_error number body.E
 IsSaid said.Deliver octets = Spells (pdu no_error 2 (body.Deliver empty_sm)) octets
 IsSaid said.HugeLength octets = octets ≡ to_be_bytes w32 70001
 
--- the same, behind what was there
+-- the same, after what was there
 pub record Puts (said : Said) (old new : List ℕ) : Type 0 where
   pub octets : List ℕ
   pub is : IsSaid said octets
   pub behind : new ≡ old ++ octets
 
--- pieces behind what was there, one after another
+-- pieces after what was there, one after another
 pub record PutsAll (saids : List Said) (old new : List ℕ) : Type 0 where
   pub pieces : List (List ℕ)
   pub behind : new ≡ old ++ concat pieces

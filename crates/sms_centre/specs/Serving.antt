@@ -44,7 +44,7 @@ pub record Talk : Type 0 where
 abbrev pub talking : Progress → Talk
 talking p = record { now = p; over = None }
 
--- nothing is heard nor said after the end
+-- nothing is read or said after the end
 abbrev pub hears : Option ServeCause → Progress → Header → Talk
 hears None p h = record { now = after_frame p h; over = end_at p h }
 hears (Some cause) p h = record { now = p; over = Some cause }
@@ -82,7 +82,7 @@ is_cut ReadFault = false
 is_cut Turns = false
 is_cut OutOfMemory = false
 
--- what each cause tells: whether a frame brought the end, and else what stands behind the frames, where the rest is bad
+-- what each cause says: whether a frame brought the end, and else what stands after the frames, where the rest is bad
 -- exactly where the connection is lost
 abbrev pub Brings : ServeCause → Option ServeCause → List ℕ → Option (List ℕ) → Type 0
 Brings Ended over rest after = (over ≡ Some Ended) ⊎ ((over ≡ None) × IsAtEnd after × (¬ IsBad rest))

@@ -25,7 +25,7 @@ brought (Some stop.HungUp) = Some cause.Ended
 brought (Some stop.Unbound) = Some cause.Unbound
 brought _ = None
 
--- how the stretch of reading stands: a bad length stands behind the frames exactly where the connection is lost, unless it
+-- how the stretch of reading stands: a bad length stands after the frames exactly where the connection is lost, unless it
 -- ended early
 abbrev pub stretch_of : Option Stop → Stretch
 stretch_of None = going
@@ -55,7 +55,7 @@ pub record Answered (p q : Progress) (end : Option Stop) (old new : List ℕ) (f
   pub pieces : List (List ℕ)
   pub each : AllZip IsSaid (conversation (talking p) frames) pieces
   pub grown : new ≡ old ++ concat pieces
-  pub heard : talk_at q end ≡ talk (talking p) frames
+  pub reached : talk_at q end ≡ talk (talking p) frames
 
 -- what was said to these frames was written
 pub record Written (p q : Progress) (end : Option Stop) (old new : Option (List ℕ)) (frames : List (List ℕ)) : Type 0 where
@@ -63,4 +63,4 @@ pub record Written (p q : Progress) (end : Option Stop) (old new : Option (List 
   pub each : AllZip IsSaid (conversation (talking p) frames) pieces
   pub writes : Writes (ends_cut end) old new (concat pieces)
   pub at : q ≡ (talk (talking p) frames).now
-  pub heard : ends_early end ≡ false → talk_at q end ≡ talk (talking p) frames
+  pub reached : ends_early end ≡ false → talk_at q end ≡ talk (talking p) frames

@@ -14,7 +14,7 @@ abbrev pub space_at : List ℕ → ℕ
 space_at [] = 0
 space_at (c ∷ cs) = if c == 32 then 0 else suc (space_at cs)
 
--- what a word makes of the text behind the space that follows it, if one does
+-- what a word makes of the text after the space that follows it, if one does
 abbrev pub Form : Type 0
 Form = Option (List ℕ) → Option Treatment
 

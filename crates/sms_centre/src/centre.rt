@@ -77,7 +77,7 @@ impl Centre {
         }
     }
 
-    /// Writes what the centre says to a frame with this header behind what is there; `said` is room
+    /// Writes what the centre says to a frame with this header after what is there; `said` is room
     /// that is used again. An `Err` changes nothing else.
     pub(crate) fn answer_into(
         &mut self,

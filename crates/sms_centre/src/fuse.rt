@@ -1,4 +1,4 @@
-//! A device that fails after so many octets.
+//! A device that fails after a number of octets.
 
 ghost use Rattle.std.specs.Prelude.{◌≡◌, ◌+◌, MatchResult, IsErr};
 ghost use Rattle.std.specs.Io.{ReadsAtMost, WritesAtMost};
@@ -8,7 +8,7 @@ ghost use Rattle.sms_centre.specs.Fuses.{device, octets_left};
 use std::io;
 use std::io::{Error, ErrorKind, Read, Write};
 
-/// A reader or a writer that passes so many octets, and then fails.
+/// A reader or a writer that passes a number of octets, and then fails.
 #[derive(Drop)]
 pub struct Fuse<T> {
     inner: T,
@@ -16,7 +16,7 @@ pub struct Fuse<T> {
 }
 
 impl<T> Fuse<T> {
-    /// A device that fails after so many octets.
+    /// A device that fails after this number of octets.
     pub fn new(inner: T, octets: u64) -> Fuse<T>
         ensures inner { device result ≡ inner }
         ensures left { octets_left result ≡ octets }

@@ -18,7 +18,7 @@ const LOOKS: u32 = 100;
 /// How many milliseconds lie between two looks.
 const APART: u64 = 1;
 
-/// What stands behind a pipe's lock.
+/// What a pipe's lock guards.
 #[derive(Drop)]
 struct Held {
     ring: Ring,
@@ -41,7 +41,7 @@ impl Held {
         Some(self.ring.take(buf))
     }
 
-    /// Keeps what fits, and tells how much.
+    /// Keeps what fits, and answers how much.
     fn put(&mut self, buf: &[u8]) -> usize
         ensures fit { result ≡ min (self.old.ring.room - length self.old.ring.octets) (length buf.now) }
         ensures put { self.new.ring ≡ holds_more self.old.ring (take result buf.now) }
@@ -60,7 +60,7 @@ pub struct Pipe {
 }
 
 impl Pipe {
-    /// A pipe that holds at most so many octets, whose room is made here.
+    /// A pipe that holds at most this number of octets, whose room is made here.
     pub fn new(alloc: Global, room: usize) -> Result<Pipe, AllocError> {
         let ring = Ring::new(alloc, room)?;
         Ok(Pipe {

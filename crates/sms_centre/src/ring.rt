@@ -28,7 +28,7 @@ impl Model for Ring {
 }
 
 impl Ring {
-    /// A ring that holds at most so many octets, and none at first.
+    /// A ring that holds at most this number of octets, and none at first.
     pub(crate) fn new(alloc: Global, room: usize) -> Result<Ring, AllocError>
         ensures { IfOk result (λ r. r ≡ empty room) }
     {
@@ -45,7 +45,7 @@ impl Ring {
         self.octets.is_empty()
     }
 
-    /// Takes in what fits of these octets, and tells how many.
+    /// Takes in what fits of these octets, and answers how many.
     pub(crate) fn put(&mut self, from: &[u8]) -> usize
         ensures fit { result ≡ min (self.old.room - length self.old.octets) (length from.now) }
         ensures put { self.new ≡ holds_more self.old (take result from.now) }
@@ -55,7 +55,7 @@ impl Ring {
         fit
     }
 
-    /// Gives out the first octets, as many as fit, and tells how many.
+    /// Gives out the first octets, as many as fit, and answers how many.
     pub(crate) fn take(&mut self, to: &mut [u8]) -> usize
         ensures fit { result ≡ min (length self.old.octets) (length to.old) }
         ensures taken { take result to.new ≡ take result self.old.octets }
@@ -68,7 +68,7 @@ impl Ring {
     }
 }
 
-/// Pushes octets behind the others, for which there is room.
+/// Pushes octets after the others, for which there is room.
 fn push_all(queue: &mut VecDeque<u8>, octets: &[u8])
     requires { deque_len queue.old + length octets.now ≤ deque_capacity queue.old }
     ensures items { queue.new.items ≡ queue.old.items ++ octets.now }

@@ -11,7 +11,7 @@ use sms_core::ESME_ROK;
 use sms_pdu::{BodyRef, Mode, Octets, PduRef, SmRef, encode_into};
 use std::alloc::{AllocError, Global};
 
-/// A piece that the centre writes: a PDU, the front of one, or a command_length alone.
+/// A piece that the centre writes: a PDU, a truncated one, or a command_length alone.
 #[derive(Clone, Copy, Debug, PartialEq, Eq)]
 pub(crate) enum Said {
     /// The answer to a bind (SMPP 3.4 4.1.2, 4.1.6): with the system_id `TEST` where the status is
@@ -69,7 +69,7 @@ const UNBIND_NUMBER: u32 = 1;
 /// The sequence_number of the centre's own deliver_sm.
 const DELIVER_NUMBER: u32 = 2;
 
-/// Writes a piece behind what is there. An `Err` changes nothing.
+/// Writes a piece after what is there. An `Err` changes nothing.
 pub(crate) fn put(alloc: Global, said: &Said, out: &mut Vec<u8>) -> Result<(), AllocError>
     ensures answers { OnOk result (Puts said.now out.old.items out.new.items) }
     ensures err { OnErr result (out.new.items ≡ out.old.items) }
@@ -105,7 +105,7 @@ pub(crate) fn put(alloc: Global, said: &Said, out: &mut Vec<u8>) -> Result<(), A
     }
 }
 
-/// Writes a PDU behind what is there. An `Err` changes nothing.
+/// Writes a PDU after what is there. An `Err` changes nothing.
 fn put_pdu(status: u32, number: u32, body: BodyRef<'_>, out: &mut Vec<u8>) -> Result<(), AllocError>
     ensures answers { OnOk result (Adds (owned_pdu (record { status = status; number = number; body = body.entry })) out.old.items out.new.items) }
     ensures err { OnErr result (out.new.items ≡ out.old.items) }
@@ -193,7 +193,7 @@ fn put_answer(
     }
 }
 
-/// Writes the front of the answer with status 0 to submit_sm k.
+/// Writes the beginning of the answer with status 0 to submit_sm k.
 fn put_cut(alloc: Global, submit: u64, number: u32, out: &mut Vec<u8>) -> Result<(), AllocError>
     ensures answers { OnOk result (Puts (CutResp submit number) out.old.items out.new.items) }
     ensures err { OnErr result (out.new.items ≡ out.old.items) }

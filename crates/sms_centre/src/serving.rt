@@ -1,7 +1,6 @@
 //! The centre serves a connection.
 
 ghost use Rattle.std.specs.Prelude.{◌≡◌, ◌≢◌, ◌⊎◌, ℕ, ◌≤◌, ◌∷◌, [], List, length, drop, Some, None, IfOk, IfSome, OnErr};
-ghost use Rattle.std.specs.Io.KnownBytes.{IsAtEnd};
 ghost use Rattle.sms_pdu.specs.Devices.{device, faults_of, failures_of};
 ghost use Rattle.sms_pdu.specs.Faults.{Counts};
 ghost use Rattle.sms_pdu.specs.Frame.{IsFrame, IsRest, IsBad};
@@ -10,6 +9,7 @@ ghost use Rattle.sms_pdu.specs.Turn.{IsSpent, Turned};
 ghost use Rattle.sms_centre.specs.Says.{begun};
 ghost use Rattle.sms_centre.specs.Serving.{Serves, end_at as brought_by, hangs_up as hung_up_by};
 ghost use Rattle.sms_centre.specs.Stops.{cause_of as cause_of_stop, brought, stretch_of, Answered, Written};
+ghost use Rattle.sms_centre.specs.Turns.{ReadOnce, ReadUntil, CountsWrites};
 ghost use Rattle.sms_centre.specs.declared.serving.Stop.TheVariants.{Ended, OutOfMemory, ReadFault, WriteFault, Turns};
 
 use crate::centre::Centre;
@@ -41,7 +41,7 @@ pub enum ServeCause {
     OutOfMemory,
 }
 
-/// The same, with the two ways of an end told apart.
+/// The same, with an end of the input and one by the script apart.
 #[derive(Clone, Copy, Debug, PartialEq, Eq)]
 pub(crate) enum Stop {
     /// The input ended.
@@ -77,7 +77,7 @@ struct Buffers {
     out: Vec<u8>,
 }
 
-/// Serves a connection by a script for so many turns. One turn reads once, at most 65,536 octets,
+/// Serves a connection by a script for at most `turns` turns. One turn reads once, at most 65,536 octets,
 /// and writes what is said to their frames at once. Frames are read by their headers alone. A read
 /// that fails as WouldBlock, TimedOut or Interrupted is a turn that read nothing; the first that fails
 /// otherwise ends it, and so does the first write that fails.
@@ -91,7 +91,7 @@ pub fn serve<R: Read, W: Write>(
     ensures serves { Serves (begun script) (R.remaining (device reader.old)) (R.remaining (device reader.new)) (W.contents (device writer.old)) (W.contents (device writer.new)) result.cause result.submits }
     ensures turned { Turned turns (result.cause ≡ ServeCause.Turns) (R.remaining (device reader.old)) (R.remaining (device reader.new)) (faults_of reader.old) (faults_of reader.new) }
 
-    // Nothing but want of memory ends it before its first turn.
+    // Nothing but a lack of memory ends it before its first turn.
     ensures none { turns ≡ 0 → (result.cause ≡ ServeCause.Turns) ⊎ (result.cause ≡ ServeCause.OutOfMemory) }
     ensures failed { result.cause ≡ ServeCause.ReadFault → Counts (failures_of reader.old) (failures_of reader.new) }
     ensures quiet { result.cause ≢ ServeCause.ReadFault → failures_of reader.new ≡ failures_of reader.old }
@@ -157,13 +157,9 @@ impl Centre {
         turns: u64,
     ) -> Stop
         ensures served { (held : List ℕ) × Reads (Written self.old self.new (Some result) (W.contents (device writer.old)) (W.contents (device writer.new))) [] (R.remaining (device reader.old)) (R.remaining (device reader.new)) (stretch_of (Some result)) held }
-        ensures turned { Turned turns (result ≡ Turns) (R.remaining (device reader.old)) (R.remaining (device reader.new)) (faults_of reader.old) (faults_of reader.new) }
+        ensures read { ReadUntil R.remaining turns result reader.old reader.new }
         ensures none { turns ≡ 0 → (result ≡ Turns) ⊎ (result ≡ OutOfMemory) }
-        ensures failed { result ≡ ReadFault → Counts (failures_of reader.old) (failures_of reader.new) }
-        ensures quiet { result ≢ ReadFault → failures_of reader.new ≡ failures_of reader.old }
-        ensures unwritten { result ≡ WriteFault → Counts (faults_of writer.old) (faults_of writer.new) }
-        ensures wrote { result ≢ WriteFault → faults_of writer.new ≡ faults_of writer.old }
-        ensures end { result ≡ Ended → IsAtEnd (R.remaining (device reader.new)) }
+        ensures wrote { CountsWrites (λ s. result ≡ s) writer.old writer.new }
     {
         let Ok(mut buffers) = Buffers::new(alloc) else {
             return Stop::OutOfMemory;
@@ -176,7 +172,7 @@ impl Centre {
         Stop::Turns
     }
 
-    /// One turn: what one read gave, behind what is held, is answered.
+    /// One turn: what one read gave, after what is held, is answered.
     fn serve_turn<R: Read, W: Write>(
         &mut self,
         alloc: Global,
@@ -189,16 +185,11 @@ impl Centre {
         requires good { ¬ IsBad buffers.old.held.items }
         ensures reads { Reads (Written self.old self.new result (W.contents (device writer.old)) (W.contents (device writer.new))) buffers.old.held.items (R.remaining (device reader.old)) (R.remaining (device reader.new)) (stretch_of result) buffers.new.held.items }
         ensures good { result ≡ None → ¬ IsBad buffers.new.held.items }
-        ensures turned { Turned 1 (result ≡ None) (R.remaining (device reader.old)) (R.remaining (device reader.new)) (faults_of reader.old) (faults_of reader.new) }
-        ensures faults { faults_of reader.old ≤ faults_of reader.new }
         ensures piece { length buffers.new.piece.items ≡ 65536 }
         ensures turns { result ≢ Some Turns }
         ensures spent { IsSpent (R.remaining (device reader.old)) → (result ≡ Some Ended) ⊎ (result ≡ None) ⊎ (result ≡ Some ReadFault) }
-        ensures failed { result ≡ Some ReadFault → Counts (failures_of reader.old) (failures_of reader.new) }
-        ensures quiet { result ≢ Some ReadFault → failures_of reader.new ≡ failures_of reader.old }
-        ensures unwritten { result ≡ Some WriteFault → Counts (faults_of writer.old) (faults_of writer.new) }
-        ensures wrote { result ≢ Some WriteFault → faults_of writer.new ≡ faults_of writer.old }
-        ensures end { result ≡ Some Ended → IsAtEnd (R.remaining (device reader.new)) }
+        ensures read { ReadOnce R.remaining result reader.old reader.new }
+        ensures wrote { CountsWrites (λ s. result ≡ Some s) writer.old writer.new }
     {
         match reader.read(buffers.piece.as_mut_slice()) {
             Ok(0) => Some(Stop::Ended),
@@ -224,8 +215,7 @@ impl Centre {
         ensures good { result ≡ None → ¬ IsBad buffers.new.held.items }
         ensures piece { buffers.new.piece.items ≡ buffers.old.piece.items }
         ensures cause { (result ≢ Some Ended) × (result ≢ Some ReadFault) × (result ≢ Some Turns) }
-        ensures unwritten { result ≡ Some WriteFault → Counts (faults_of writer.old) (faults_of writer.new) }
-        ensures wrote { result ≢ Some WriteFault → faults_of writer.new ≡ faults_of writer.old }
+        ensures wrote { CountsWrites (λ s. result ≡ Some s) writer.old writer.new }
     {
         buffers.out.clear();
         let (used, ended) = self.answer_stream(
@@ -247,7 +237,7 @@ impl Centre {
         None
     }
 
-    /// Answers the frames at the front of a stream. Gives how many octets they have, and why the
+    /// Answers the whole frames that a stream begins with. Gives how many octets they have, and why the
     /// connection ends, if it does.
     fn answer_stream(
         &mut self,

@@ -7,7 +7,7 @@ ghost use Rattle.sms_centre.specs.Texts.{treatment_of as said_by, number as numb
 use crate::treatment::Treatment;
 use sms_core::decimal_of;
 
-/// The treatment that a text spells: a word alone, or a word, a space and what stands behind it.
+/// The treatment that a text spells: a word alone, or a word, a space and what stands after it.
 pub(crate) fn treatment_of(text: &[u8]) -> Option<Treatment>
     ensures { result ≡ said_by text.now }
 {
@@ -67,7 +67,7 @@ fn alone(treatment: Treatment, behind: Option<&[u8]>) -> Option<Treatment>
     }
 }
 
-/// The number that stands behind a word.
+/// The number that stands after a word.
 fn number_behind(behind: Option<&[u8]>) -> Option<u32>
     ensures { result ≡ number_after (option_copied behind.entry) }
 {
@@ -77,7 +77,7 @@ fn number_behind(behind: Option<&[u8]>) -> Option<u32>
     }
 }
 
-/// The two numbers that stand behind a word.
+/// The two numbers that stand after a word.
 fn late_behind(behind: Option<&[u8]>) -> Option<Treatment>
     ensures { result ≡ late_after (option_copied behind.entry) }
 {

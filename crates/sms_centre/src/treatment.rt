@@ -15,7 +15,7 @@ pub enum Treatment {
     Twice(u32),
     /// The submit_sm_resp with another sequence_number.
     Stray(u32),
-    /// The submit_sm_resp when so many submit_sm more have come.
+    /// The submit_sm_resp once `after` further submit_sm have come.
     Late { after: u32, status: u32 },
     /// A deliver_sm before the submit_sm_resp.
     Deliver,

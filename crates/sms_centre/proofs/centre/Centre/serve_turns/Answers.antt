@@ -53,9 +53,6 @@ returns-in-Some-clause-served g c =
     let kept = c.serve_turn.new.buffers.held.items in
     (kept, reads_more (Written p q None u v) (Written q z why v w) (Written p z why u w) [] c.loop-turn.buffers.held.items kept r s t (stretch_of why) c.loop-turn.invariant.reads c.in-Some.ensures.reads (written_more p q z why u v w))
 
-pub returns-in-Some-clause-end : goal.returns-in-Some-clause-end
-returns-in-Some-clause-end g c = λ e. c.in-Some.ensures.end (ap (λ x. Some x) e)
-
 pub loop-turn-preserved : goal.loop-turn-preserved
 loop-turn-preserved g c =
     let p = c.args.self.now in
@@ -71,10 +68,10 @@ loop-turn-preserved g c =
     record {
       reads = reads_more (Written p q None u v) (Written q z None v w) (Written p z None u w) [] c.loop-turn.buffers.held.items kept r s t going c.loop-turn.invariant.reads c.in_default-serve_turn.ensures.reads (written_more p q z None u v w);
       good = c.in_default-serve_turn.ensures.good refl;
-      turned = turned_more c.loop-turn._turn _ _ _ _ _ _ _ c.serve_turn.ensures.faults c.loop-turn.invariant.turned c.in_default-serve_turn.ensures.turned refl;
-      faults = (let f = c.serve_turn.ensures.faults in let h = c.loop-turn.invariant.faults in omega (arith, f, h));
-      failures = c.in_default-serve_turn.ensures.quiet (λ e. absurd cc) ∙ c.loop-turn.invariant.failures;
-      wrote = c.in_default-serve_turn.ensures.wrote (λ e. absurd cc) ∙ c.loop-turn.invariant.wrote;
+      turned = turned_more c.loop-turn._turn _ _ _ _ _ _ _ c.serve_turn.ensures.read.grows c.loop-turn.invariant.turned c.in_default-serve_turn.ensures.read.turned refl;
+      faults = (let f = c.serve_turn.ensures.read.grows in let h = c.loop-turn.invariant.faults in omega (arith, f, h));
+      failures = c.in_default-serve_turn.ensures.read.quiet (λ e. absurd cc) ∙ c.loop-turn.invariant.failures;
+      wrote = c.in_default-serve_turn.ensures.wrote.quiet (λ e. absurd cc) ∙ c.loop-turn.invariant.wrote;
       piece = c.serve_turn.ensures.piece;
     }
 
@@ -83,29 +80,45 @@ returns-clause-served g c =
     let held = c.loop-turn.buffers.held.items in
     (held, reads_turns c.args.self.now c.loop-turn.self (g.R.Read.remaining (device c.args.reader.now)) (g.R.Read.remaining (device c.loop-turn.reader)) (g.W.Write.contents (device c.args.writer.now)) (g.W.Write.contents (device c.loop-turn.writer)) held c.loop-turn.invariant.reads c.loop-turn.invariant.good)
 
-pub returns-in_default-clause-turned : goal.returns-in_default-clause-turned
-returns-in_default-clause-turned g c = turned_none _ _ _ _ (λ e. absurd cc)
+pub returns-in_default-clause-read : goal.returns-in_default-clause-read
+returns-in_default-clause-read g c = record {
+  turned = turned_none _ _ _ _ (λ e. absurd cc);
+  grows = omega arith;
+  end = λ e. absurd cc;
+  failed = λ e. absurd cc;
+  quiet = λ other. refl;
+}
 
-pub returns-in-Some-clause-turned : goal.returns-in-Some-clause-turned
-returns-in-Some-clause-turned g c = turned_last c.loop-turn._turn _ _ _ _ _ _ _ _ _ (search rules) c.loop-turn.invariant.turned c.serve_turn.ensures.turned (λ e. c.in-Some.ensures.turns (ap (λ x. Some x) e))
+pub returns-in-Some-clause-read : goal.returns-in-Some-clause-read
+returns-in-Some-clause-read g c =
+    let read = c.in-Some.ensures.read in
+    let up = c.serve_turn.ensures.read.grows in
+    let before = c.loop-turn.invariant.faults in
+    record {
+      turned = turned_last c.loop-turn._turn _ _ _ _ _ _ _ _ _ (search rules) c.loop-turn.invariant.turned c.serve_turn.ensures.read.turned (λ e. c.in-Some.ensures.turns (ap (λ x. Some x) e));
+      grows = omega (arith, up, before);
+      end = λ e. read.end (ap (λ x. Some x) e);
+      failed = λ e. counted_once _ _ _ c.loop-turn.invariant.failures (read.failed (ap (λ x. Some x) e));
+      quiet = λ other. read.quiet (λ e. other cc) ∙ c.loop-turn.invariant.failures;
+    }
 
-pub returns-clause-turned : goal.returns-clause-turned
-returns-clause-turned g c = turned_all c.loop-turn._turn _ _ _ _ _ _ (search rules) c.loop-turn.invariant.turned
+pub returns-clause-read : goal.returns-clause-read
+returns-clause-read g c = record {
+  turned = turned_all c.loop-turn._turn _ _ _ _ _ _ (search rules) c.loop-turn.invariant.turned;
+  grows = c.loop-turn.invariant.faults;
+  end = λ e. absurd cc;
+  failed = λ e. absurd cc;
+  quiet = λ other. c.loop-turn.invariant.failures;
+}
 
-pub returns-in-Some-clause-failed : goal.returns-in-Some-clause-failed
-returns-in-Some-clause-failed g c = λ e. counted_once _ _ _ c.loop-turn.invariant.failures (c.in-Some.ensures.failed (ap (λ x. Some x) e))
-
-pub returns-in-Some-clause-quiet : goal.returns-in-Some-clause-quiet
-returns-in-Some-clause-quiet g c = λ other. c.in-Some.ensures.quiet (λ e. other cc) ∙ c.loop-turn.invariant.failures
-
-pub returns-clause-quiet : goal.returns-clause-quiet
-returns-clause-quiet g c = λ other. c.loop-turn.invariant.failures
-
-pub returns-in-Some-clause-unwritten : goal.returns-in-Some-clause-unwritten
-returns-in-Some-clause-unwritten g c = λ e. counted_once _ _ _ c.loop-turn.invariant.wrote (c.in-Some.ensures.unwritten (ap (λ x. Some x) e))
+pub returns-in_default-clause-wrote : goal.returns-in_default-clause-wrote
+returns-in_default-clause-wrote g c = record { failed = λ e. absurd cc; quiet = λ other. refl }
 
 pub returns-in-Some-clause-wrote : goal.returns-in-Some-clause-wrote
-returns-in-Some-clause-wrote g c = λ other. c.in-Some.ensures.wrote (λ e. other cc) ∙ c.loop-turn.invariant.wrote
+returns-in-Some-clause-wrote g c = record {
+  failed = λ e. counted_once _ _ _ c.loop-turn.invariant.wrote (c.in-Some.ensures.wrote.failed (ap (λ x. Some x) e));
+  quiet = λ other. c.in-Some.ensures.wrote.quiet (λ e. other cc) ∙ c.loop-turn.invariant.wrote;
+}
 
 pub returns-clause-wrote : goal.returns-clause-wrote
-returns-clause-wrote g c = λ other. c.loop-turn.invariant.wrote
+returns-clause-wrote g c = record { failed = λ e. absurd cc; quiet = λ other. c.loop-turn.invariant.wrote }
