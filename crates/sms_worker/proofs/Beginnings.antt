@@ -12,7 +12,7 @@ use Rattle.sms_book.specs.Money.{reserved_more}
 use Rattle.sms_book.specs.Portions.{amounts_at}
 use Rattle.sms_book.specs.Shares.{Share, changed}
 use Rattle.sms_message.specs.declared.message.Message.{Message}
-use Rattle.sms_worker.specs.declared.open.Open.{Open}
+use Rattle.sms_worker.specs.declared.state.open.Open.{Open}
 use Rattle.sms_worker.specs.Types.{SegmentEnd, MessageEnd}
 use Rattle.sms_worker.specs.Begins.{fresh, ready, Begins}
 use Rattle.sms_message.specs.Ends.{total_in, credit, uses}
@@ -110,15 +110,15 @@ other_ready old a more i low = dite (ℕ_discrete a i)
     (λ ne. let y = amounts_other old.amounts a i (reserved_more more (amounts_at old.amounts a)) ne in (ap (λ (z : Amounts). z.charged) y, ap (λ (z : Amounts). z.returned) y))
 
 -- a message was begun
-pub keeps_begun : (start : Start) (ms : List Message) (es : List MessageEnd) (texts : List (List UserData)) (os : List Open) (seat : SeatState) (share share' : Share) (heard : List Reply) (m : Message) (carried : List UserData) (e : MessageEnd)
-    → Keeps start ms es texts os seat share heard → slice_get ms (length es) ≡ Some m → length es < length ms → Begins start.rules m share share' carried e
-    → Keeps start ms (es ++ e ∷ []) (texts ++ carried ∷ []) os seat share' heard
-keeps_begun start ms es texts os seat share share' heard m carried e keeps there low b = record {
+pub keeps_begun : (start : Start) (ms : List Message) (es : List MessageEnd) (pending : List (List UserData)) (os : List Open) (seat : SeatState) (share share' : Share) (replies : List Reply) (m : Message) (content : List UserData) (e : MessageEnd)
+    → Keeps start ms es pending os seat share replies → slice_get ms (length es) ≡ Some m → length es < length ms → Begins start.rules m share share' content e
+    → Keeps start ms (es ++ e ∷ []) (pending ++ content ∷ []) os seat share' replies
+keeps_begun start ms es pending os seat share share' replies m content e keeps there low b = record {
   messages = keeps.messages;
   window = keeps.window;
   number = b.number ∙ keeps.number;
   accounts = b.accounts ∙ keeps.accounts;
-  heard_more = keeps.heard_more;
+  replies_more = keeps.replies_more;
   slots = keeps.slots;
   numbers = record {
     drawn = keeps.numbers.drawn;
@@ -135,12 +135,12 @@ keeps_begun start ms es texts os seat share share' heard m carried e keeps there
           (subst (λ (y : Message). (e.index ≡ y.index) × IsResultOf start.rules (length start.share.amounts) y e.result) same (b.index, subst (λ n. IsResultOf start.rules n m e.result) keeps.accounts b.result)))
     ];
   };
-  told = λ k p m' s at got. elim (got_of_more es e k p s got) [
-    | inl h ↦ keeps.told k p m' s at h
+  ends = λ k p m' s at got. elim (got_of_more es e k p s got) [
+    | inl h ↦ keeps.ends k p m' s at h
     | inr h ↦ (let at' : slice_get start.messages (length es) ≡ Some m' = ap (slice_get start.messages) (sym h.0) ∙ at in
         let same : m ≡ m' = cc in
         let is = got_ready _ b.count p s (ap (λ l. slice_get l p) (sym b.segments) ∙ h.1) in
-        subst (λ (x : SegmentEnd). IsTold start.rules (length start.received) heard m' p x) (sym is) (subst (λ (y : Message). IsTold start.rules (length start.received) heard y p (fresh (cost_of start.rules.tariff (string_bytes m.dest)))) same
+        subst (λ (x : SegmentEnd). IsTold start.rules (length start.received) replies m' p x) (sym is) (subst (λ (y : Message). IsTold start.rules (length start.received) replies y p (fresh (cost_of start.rules.tariff (string_bytes m.dest)))) same
         (record { cost = refl; some = b.some (some_ready _ b.count p s (ap (λ l. slice_get l p) (sym b.segments) ∙ h.1)); sent = tt; answered = tt; state = inr (record { outcome = refl; retried = tt; fewer = start.rules.policy.lawful.some_attempt }) })))
   ];
   money = λ i.
@@ -155,13 +155,13 @@ keeps_begun start ms es texts os seat share share' heard m carried e keeps there
       let c = b.charged i in
       let t = b.returned i in
       (omega arith, omega arith, omega arith);
-  texts_kept = λ k m' carried' at got. elim (got_of_append texts carried k carried' got) [
-    | inl h ↦ keeps.texts_kept k m' carried' at h
-    | inr h ↦ (let at' : slice_get start.messages (length es) ≡ Some m' = ap (slice_get start.messages) (sym (h.0 ∙ keeps.texts_long)) ∙ at in
+  pending_kept = λ k m' content' at got. elim (got_of_append pending content k content' got) [
+    | inl h ↦ keeps.pending_kept k m' content' at h
+    | inr h ↦ (let at' : slice_get start.messages (length es) ≡ Some m' = ap (slice_get start.messages) (sym (h.0 ∙ keeps.pending_long)) ∙ at in
         let same : m ≡ m' = cc in
-        subst (λ x. (x ≡ []) ⊎ (x ≡ message_data start.rules m')) (sym h.1) (subst (λ (y : Message). (carried ≡ []) ⊎ (carried ≡ message_data start.rules y)) same b.texts_kept))
+        subst (λ x. (x ≡ []) ⊎ (x ≡ message_data start.rules m')) (sym h.1) (subst (λ (y : Message). (content ≡ []) ⊎ (content ≡ message_data start.rules y)) same b.pending_kept))
   ];
-  texts_long = let a = length-append texts (carried ∷ []) in let b' = length-append es (e ∷ []) in let l = keeps.texts_long in omega arith;
+  pending_long = let a = length-append pending (content ∷ []) in let b' = length-append es (e ∷ []) in let l = keeps.pending_long in omega arith;
 }
   where
     there' : slice_get start.messages (length es) ≡ Some m

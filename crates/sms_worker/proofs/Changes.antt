@@ -26,7 +26,7 @@ use Rattle.sms_message.specs.Ends.{segments_in, segment_at, put_in, put, total, 
 use Rattle.sms_worker.specs.Told.{IsTold, AllTold, Drew, Grew}
 use Rattle.sms_message.specs.Admission.{IsKnown}
 use Rattle.sms_message.specs.Results.{IsResultOf, AreEnds}
-use Rattle.sms_worker.specs.declared.open.Open.{Open}
+use Rattle.sms_worker.specs.declared.state.open.Open.{Open}
 use Rattle.sms_worker.specs.Keeps.{slots_of}
 use Rattle.sms_worker.specs.Steps.{move_of, moved_to, settled_to}
 use Rattle.sms_worker.proofs.EndLemmas.{got_of_put, end_of_put, length-put, total_put, part_at_most, end_at}

@@ -119,9 +119,9 @@ module _ {book : BookId} {rules : Rules} {ms : List Message} where
   credit_none {share = share} no_ends = subst (λ l. LackCredit book rules ms l share) (sym no_ends) (record { each = λ alone k a message e there at is acc. absurd (cc) })
 
   -- a message was begun
-  pub credit_begun : (es : List MessageEnd) (share share' : Share) (m : Message) (carried : List UserData) (e : MessageEnd) → LackCredit book rules ms es share → slice_get ms (length es) ≡ Some m → Begins rules m share share' carried e
+  pub credit_begun : (es : List MessageEnd) (share share' : Share) (m : Message) (content : List UserData) (e : MessageEnd) → LackCredit book rules ms es share → slice_get ms (length es) ≡ Some m → Begins rules m share share' content e
       → (e.result ≡ Refused NoCredit → LacksFor book rules share m) → LackCredit book rules ms (es ++ e ∷ []) share'
-  credit_begun es share share' m carried e c there b lack = record {
+  credit_begun es share share' m content e c there b lack = record {
     each = λ alone k a message d at got is acc.
         let r = b.reserved a in
         let h = b.charged a in

@@ -5,11 +5,11 @@ use mathlib.Core.Logic.{dite}
 use native.Mathlib.Decide.{ℕ_discrete}
 use Rattle.std.proofs.lemmas.Bool.{leb-true, leb-false, ltb-true, ltb-false}
 use Rattle.std.proofs.lemmas.Option.{slice_get-get_or, slice_get_within}
-use Rattle.sms_worker.specs.declared.open.SegmentPlace.{SegmentPlace}
-use Rattle.sms_worker.specs.declared.queue.Head.{Head}
-use Rattle.sms_worker.specs.declared.queue.Queue.{Queue}
+use Rattle.sms_worker.specs.declared.state.open.SegmentPlace.{SegmentPlace}
+use Rattle.sms_worker.specs.declared.state.queue.Head.{Head}
+use Rattle.sms_worker.specs.declared.state.queue.Queue.{Queue}
 use Rattle.sms_worker.specs.Queues.{IsDue, NoneIsDue, due_at, first_in, sooner_of}
-use Rattle.sms_worker.specs.TextsState.{TextsState}
+use Rattle.sms_worker.specs.PendingState.{PendingState}
 
 pub first_at : (qs : List Queue) (k : ℕ) (d : Queue) → k < length qs → first_in qs k ≡ (get_or qs k d).first
 first_at qs k d low = ap (option_and_then (λ (q : Queue). q.first)) (slice_get-get_or qs k d low)
@@ -21,18 +21,18 @@ first_low qs k place is = low (slice_get qs k) refl is
     low None at e = absurd (cc)
     low (Some q) at e = slice_get_within qs k q at
 
-module _ (texts : List TextsState) (qs : List Queue) (now : ℕ) where
+module _ (pending : List PendingState) (qs : List Queue) (now : ℕ) where
   -- of the first n queues, none is due before this one
   pub record IsBest (n : ℕ) (best : Head) : Type 0 where
     pub place : SegmentPlace
     pub first : first_in qs best.queue ≡ Some place
-    pub due : due_at texts place ≡ best.due_ms
+    pub due : due_at pending place ≡ best.due_ms
     pub come : best.due_ms ≤ now
-    pub least : (j : ℕ) (other : SegmentPlace) → j < n → first_in qs j ≡ Some other → (best.due_ms < due_at texts other) ⊎ ((best.due_ms ≡ due_at texts other) × (best.queue ≤ j))
+    pub least : (j : ℕ) (other : SegmentPlace) → j < n → first_in qs j ≡ Some other → (best.due_ms < due_at pending other) ⊎ ((best.due_ms ≡ due_at pending other) × (best.queue ≤ j))
     pub low : best.queue < n
 
   abbrev pub BestOf : ℕ → Option Head → Type 0
-  BestOf n None = (j : ℕ) (other : SegmentPlace) → j < n → first_in qs j ≡ Some other → now < due_at texts other
+  BestOf n None = (j : ℕ) (other : SegmentPlace) → j < n → first_in qs j ≡ Some other → now < due_at pending other
   BestOf n (Some best) = IsBest n best
 
   pub passes_empty : (i n : ℕ) (best : Option Head) → n ≡ i + 1 → first_in qs i ≡ None → BestOf i best → BestOf n best
@@ -48,14 +48,14 @@ module _ (texts : List TextsState) (qs : List Queue) (now : ℕ) where
         least = λ j other small is. dite (ℕ_discrete j i) (λ same. (let e : None ≡ Some other = sym empty ∙ ap (first_in qs) (sym same) ∙ is in absurd (cc))) (λ ne. best.least j other (omega arith) is);
       }
 
-  module _ (i n : ℕ) (head : Head) (place : SegmentPlace) (next : n ≡ i + 1) (own : head.queue ≡ i) (first : first_in qs i ≡ Some place) (due : due_at texts place ≡ head.due_ms) where
-    same_place : (j : ℕ) (other : SegmentPlace) → j ≡ i → first_in qs j ≡ Some other → due_at texts other ≡ head.due_ms
+  module _ (i n : ℕ) (head : Head) (place : SegmentPlace) (next : n ≡ i + 1) (own : head.queue ≡ i) (first : first_in qs i ≡ Some place) (due : due_at pending place ≡ head.due_ms) where
+    same_place : (j : ℕ) (other : SegmentPlace) → j ≡ i → first_in qs j ≡ Some other → due_at pending other ≡ head.due_ms
     same_place j other same is =
         let e : Some other ≡ Some place = sym is ∙ ap (first_in qs) same ∙ first in
         let p : other ≡ place = cc in
-        ap (due_at texts) p ∙ due
+        ap (due_at pending) p ∙ due
 
-    takes : head.due_ms ≤ now → ((j : ℕ) (other : SegmentPlace) → j < i → first_in qs j ≡ Some other → head.due_ms < due_at texts other) → IsBest n head
+    takes : head.due_ms ≤ now → ((j : ℕ) (other : SegmentPlace) → j < i → first_in qs j ≡ Some other → head.due_ms < due_at pending other) → IsBest n head
     takes come before = record {
       place = place;
       first = ap (first_in qs) own ∙ first;
@@ -89,10 +89,10 @@ module _ (texts : List TextsState) (qs : List Queue) (now : ℕ) where
       | false ↦ λ ge. (let late = ltb-false head.due_ms best.due_ms ge in passes best is (omega arith))
     ] refl
 
-  pub none_due : (n : ℕ) → length qs ≤ n → BestOf n None → NoneIsDue texts qs now
+  pub none_due : (n : ℕ) → length qs ≤ n → BestOf n None → NoneIsDue pending qs now
   none_due n all best j place is = let low = first_low qs j place is in best j place (omega arith) is
 
-  pub is_due : (n : ℕ) (best : Head) → length qs ≤ n → IsBest n best → IsDue texts qs now best.queue
+  pub is_due : (n : ℕ) (best : Head) → length qs ≤ n → IsBest n best → IsDue pending qs now best.queue
   is_due n best all is = record {
     place = is.place;
     first = is.first;

@@ -172,8 +172,8 @@ decision_is_event ms w x p q h st c =
     let hears = c.answers.hears in
     let silent = hears.last in
     let last : Attempt = record silent { reply = Some reply } in
-    let told : c.told.attempts ≡ hears.front ++ last ∷ [] = ap (λ (s : SegmentEnd). s.attempts) hears.after in
-    let phase = decided_phase charges again (delay c.base count) x.most hears.front last reply c.told refl told c.answers.state in
+    let told : c.answered.attempts ≡ hears.front ++ last ∷ [] = ap (λ (s : SegmentEnd). s.attempts) hears.after in
+    let phase = decided_phase charges again (delay c.base count) x.most hears.front last reply c.answered refl told c.answers.state in
     let long = length-snoc hears.front last in
     let long' = length-snoc hears.front hears.last in
     let e = ap (λ (l : List Attempt). length l) told in
@@ -195,7 +195,7 @@ decision_is_event ms w x p q h st c =
           account = st.account;
           cost = st.cost ∙ sym (ap (λ (s : SegmentEnd). s.cost) hears.after);
           attempts = omega arith;
-          phase = subst (HasPhase x.most (with_outcome outcome c.told)) (λ j. phase_after (sym st.most j) reply.status reply.nack (sym st.attempts j)) phase;
+          phase = subst (HasPhase x.most (with_outcome outcome c.answered)) (λ j. phase_after (sym st.most j) reply.status reply.nack (sym st.attempts j)) phase;
         };
       },
       credits_move outcome p c.reserved,

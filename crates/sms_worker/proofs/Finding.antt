@@ -5,15 +5,15 @@ use Rattle.sms_worker.specs.Types.{MessageEnd, SegmentEnd}
 use Rattle.sms_session.specs.declared.policy.Decision.{Decision}
 use Rattle.sms_session.specs.declared.policy.Decision.TheVariants.{Charge, Refuse, RetryAfter}
 use Rattle.sms_message.specs.declared.ends.Outcome.TheVariants.{Charged, Refused, Unanswered}
-use Rattle.sms_worker.specs.declared.open.SegmentPlace.{SegmentPlace}
-use Rattle.sms_worker.specs.declared.starting.Source.{Source}
-use Rattle.sms_worker.specs.declared.starting.Source.TheVariants.{Queue, Next}
+use Rattle.sms_worker.specs.declared.state.open.SegmentPlace.{SegmentPlace}
+use Rattle.sms_worker.specs.declared.steps.starting.Source.{Source}
+use Rattle.sms_worker.specs.declared.steps.starting.Source.TheVariants.{Queue, Next}
 use Rattle.sms_message.specs.Ends.{segment_at, segments_in}
 use Rattle.sms_worker.specs.Queues.{last_in}
 use Rattle.sms_worker.specs.Rising.{HasNext}
 use Rattle.sms_worker.specs.RunState.{NewlyWait, RunState}
 use Rattle.sms_worker.specs.Steps.{SettlesTo, outcome_after}
-use Rattle.sms_worker.specs.TextsState.{TextsState, changed, settled_one}
+use Rattle.sms_worker.specs.PendingState.{PendingState, changed, settled_one}
 use Rattle.sms_worker.proofs.EndLemmas.{get_there, got_of_put, segment_in}
 
 -- the part is one of those that were counted
@@ -104,5 +104,5 @@ pub none_newly : (before : List MessageEnd) (run : RunState) → run.ends ≡ be
 none_newly before run same at s there some few = inl (sym (ap (λ l. segment_at l at.message at.part) same) ∙ there)
 
 -- a segment more of a message is settled
-pub settled_in : (a b : RunState) (k : ℕ) (texts : List TextsState) → texts ≡ changed settled_one a.texts k → a ≡ b → record a { texts = texts } ≡ record b { texts = changed settled_one b.texts k }
-settled_in a b k texts is same = ap (λ l. record a { texts = l }) is ∙ ap (λ (x : RunState). record x { texts = changed settled_one x.texts k }) same
+pub settled_in : (a b : RunState) (k : ℕ) (pending : List PendingState) → pending ≡ changed settled_one a.pending k → a ≡ b → record a { pending = pending } ≡ record b { pending = changed settled_one b.pending k }
+settled_in a b k pending is same = ap (λ l. record a { pending = l }) is ∙ ap (λ (x : RunState). record x { pending = changed settled_one x.pending k }) same

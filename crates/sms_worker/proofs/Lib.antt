@@ -10,9 +10,9 @@ pub mod EndsOf
 pub mod Events
 pub mod Expiring
 pub mod Finding
-pub mod Hearing
+pub mod Replies
 pub mod Keeping
-pub mod Kept
+pub mod Pending
 pub mod Naming
 pub mod Nearest
 pub mod Placed

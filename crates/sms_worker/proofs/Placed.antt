@@ -7,8 +7,8 @@ use Rattle.sms_window.specs.SeatState.{SeatState}
 use Rattle.sms_worker.specs.Types.{MessageEnd, MessageResult, SegmentEnd}
 use Rattle.sms_message.specs.declared.ends.MessageResult.TheVariants.{Sent, Refused as NotSent}
 use Rattle.sms_message.specs.declared.message.Message.{Message}
-use Rattle.sms_worker.specs.declared.open.Open.{Open}
-use Rattle.sms_worker.specs.declared.open.SegmentPlace.{SegmentPlace}
+use Rattle.sms_worker.specs.declared.state.open.Open.{Open}
+use Rattle.sms_worker.specs.declared.state.open.SegmentPlace.{SegmentPlace}
 use Rattle.sms_message.specs.declared.user_data.UserData.{UserData}
 use Rattle.sms_message.specs.declared.rules.Rules.{Rules}
 use Rattle.sms_message.specs.Ends.{segment_at, segments_in}
@@ -40,7 +40,7 @@ module _ (rules : Rules) (accounts : ℕ) (ms : List Message) (es : List Message
       of_result e.0.result (shape.each k m e.0 there e.1).1 e.2
 
 -- it is one of a message that was begun, whose parts may be kept still
-module _ (start : Start) (ms : List Message) (es : List MessageEnd) (texts : List (List UserData)) (os : List Open) (seat : SeatState) (share : Share) (heard : List Reply) (place : SegmentPlace) (keeps : Keeps start ms es texts os seat share heard) where
+module _ (start : Start) (ms : List Message) (es : List MessageEnd) (pending : List (List UserData)) (os : List Open) (seat : SeatState) (share : Share) (replies : List Reply) (place : SegmentPlace) (keeps : Keeps start ms es pending os seat share replies) where
   begun_low : place.message < length es → place.message < length ms
   begun_low low = let within = keeps.shape.within in let same = ap length keeps.messages in omega arith
 
@@ -50,5 +50,5 @@ module _ (start : Start) (ms : List Message) (es : List MessageEnd) (texts : Lis
   pub turn_message : (next : ℕ) → HasTurn es next place → place.message < length ms
   turn_message next turn = begun_low (turn_low es next place turn)
 
-  pub turn_kept : (next : ℕ) → HasTurn es next place → place.message < length texts
-  turn_kept next turn = let low = turn_low es next place turn in let long = keeps.texts_long in omega arith
+  pub turn_kept : (next : ℕ) → HasTurn es next place → place.message < length pending
+  turn_kept next turn = let low = turn_low es next place turn in let long = keeps.pending_long in omega arith

@@ -137,36 +137,36 @@ accepts frame r number is response status numbered =
 
 -- one worker: what it received is a beginning of what its ring had sent and of what went there then, each charge has its answer behind
 -- the first of these, and no place of what it received answers two attempts
-record Hears (old went heard : List Reply) (ends : List MessageEnd) : Type 0 where
-  beginning : IsPrefix heard (old ++ went)
-  charges : (k p : ℕ) (s : SegmentEnd) → segment_at ends k p ≡ Some s → s.outcome ≡ Charged → HasCharge (length old) heard s
-  apart : PlacesApart heard ends
+record Hears (old went replies : List Reply) (ends : List MessageEnd) : Type 0 where
+  beginning : IsPrefix replies (old ++ went)
+  charges : (k p : ℕ) (s : SegmentEnd) → segment_at ends k p ≡ Some s → s.outcome ≡ Charged → HasCharge (length old) replies s
+  apart : PlacesApart replies ends
 
-hears_of : (rules : Rules) (accounts before : ℕ) (messages : List Message) (ends : List MessageEnd) (old went heard : List Reply) → before ≡ length old → IsPrefix heard (old ++ went)
-    → AllZip (IsEndOf rules accounts) messages ends → AllTold rules before heard messages ends → PlacesApart heard ends → Hears old went heard ends
-hears_of rules accounts before messages ends old went heard long prefix each told places = record { beginning = prefix; charges = charge; apart = places }
+hears_of : (rules : Rules) (accounts before : ℕ) (messages : List Message) (ends : List MessageEnd) (old went replies : List Reply) → before ≡ length old → IsPrefix replies (old ++ went)
+    → AllZip (IsEndOf rules accounts) messages ends → AllTold rules before replies messages ends → PlacesApart replies ends → Hears old went replies ends
+hears_of rules accounts before messages ends old went replies long prefix each told places = record { beginning = prefix; charges = charge; apart = places }
   where
-    charge : (k p : ℕ) (s : SegmentEnd) → segment_at ends k p ≡ Some s → s.outcome ≡ Charged → HasCharge (length old) heard s
+    charge : (k p : ℕ) (s : SegmentEnd) → segment_at ends k p ≡ Some s → s.outcome ≡ Charged → HasCharge (length old) replies s
     charge k p s there charged =
         let e = end_at ends k p s there in
         let m = zip_at (IsEndOf rules accounts) messages ends k e.0 each e.1 in
         let settled = (m.2.segments p s e.2).settled in
-        subst (λ n. HasCharge n heard s) long (charges_are_answered rules before heard m.0 p s (told k p m.0 s m.1 there) settled charged)
+        subst (λ n. HasCharge n replies s) long (charges_are_answered rules before replies m.0 p s (told k p m.0 s m.1 there) settled charged)
 
 -- all workers of a bind, over the log of its reader and the frames that it worked
-module _ (entries : List (Reply × Option ℕ)) (frames : List (List ℕ)) (are : map (λ e. e.0) entries ≡ answers frames) (old heard : List (List Reply)) (ess : List (List MessageEnd))
-    (all : (w : ℕ) (es : List MessageEnd) → slice_get ess w ≡ Some es → Hears (get_or old w []) (went_to w entries) (get_or heard w []) es) where
-  hears : (x : Charge ess) → Hears (get_or old x.worker []) (went_to x.worker entries) (get_or heard x.worker []) x.ends
+module _ (entries : List (Reply × Option ℕ)) (frames : List (List ℕ)) (are : map (λ e. e.0) entries ≡ answers frames) (old replies : List (List Reply)) (ess : List (List MessageEnd))
+    (all : (w : ℕ) (es : List MessageEnd) → slice_get ess w ≡ Some es → Hears (get_or old w []) (went_to w entries) (get_or replies w []) es) where
+  hears : (x : Charge ess) → Hears (get_or old x.worker []) (went_to x.worker entries) (get_or replies x.worker []) x.ends
   hears x = all x.worker x.ends x.theirs
 
-  charge : (x : Charge ess) → HasCharge (length (get_or old x.worker [])) (get_or heard x.worker []) x.segment
+  charge : (x : Charge ess) → HasCharge (length (get_or old x.worker [])) (get_or replies x.worker []) x.segment
   charge x = (hears x).charges x.message x.part x.segment x.there x.charged
 
   went : (x : Charge ess) → (i : ℕ) × ((charge x).came.place ≡ length (get_or old x.worker []) + i) × (slice_get (went_to x.worker entries) i ≡ Some (charge x).reply)
   went x =
       let c = (charge x).came in
       behind (get_or old x.worker []) (went_to x.worker entries) c.place (charge x).reply c.since
-      (in_whole (get_or heard x.worker []) (get_or old x.worker [] ++ went_to x.worker entries) c.place (charge x).reply (hears x).beginning c.there)
+      (in_whole (get_or replies x.worker []) (get_or old x.worker [] ++ went_to x.worker entries) c.place (charge x).reply (hears x).beginning c.there)
 
   entry : (x : Charge ess) → Entry entries x.worker (went x).0 (charge x).reply
   entry x = entry_of x.worker entries (went x).0 (charge x).reply (went x).2
@@ -190,7 +190,7 @@ module _ (entries : List (Reply × Option ℕ)) (frames : List (List ℕ)) (are 
       let mine : IsAttempt x.ends x.message x.part c.place c.attempt = record { segment = x.segment; there = x.there; has = c.is } in
       let yours : IsAttempt y.ends y.message y.part d.place d.attempt = record { segment = y.segment; there = y.there; has = d.is } in
       let theirs : IsAttempt x.ends y.message y.part d.place d.attempt = subst (λ (l : List MessageEnd). IsAttempt l y.message y.part d.place d.attempt) (sym es) yours in
-      let at : slice_get (get_or heard x.worker []) c.came.place ≡ Some d.reply = (λ i. slice_get (get_or heard (w i) []) (place i)) ∙ d.came.there in
+      let at : slice_get (get_or replies x.worker []) c.came.place ≡ Some d.reply = (λ i. slice_get (get_or replies (w i) []) (place i)) ∙ d.came.there in
       let one = (hears x).apart x.message x.part c.place y.message y.part d.place c.came.place c.attempt d.attempt c.reply d.reply mine theirs c.answered d.answered c.came.there at in
       (w, one.0, one.1)
 
@@ -213,11 +213,11 @@ charges_rest producers consumers met rings state begun before after held end ess
   frames = h.worked ++ h.others;
   rest = h.rest;
   divided = h.divided;
-  rests = rest_in h.worked h.others ess (rest_on (log h.deeds) h.worked h.are (map sent rings) (map received consumers) ess hear);
+  rests = rest_in h.worked h.others ess (rest_on (log h.deeds) h.worked h.are (map sent rings) (map received consumers) ess take_replies);
 }
   where
-    hear : (w : ℕ) (es : List MessageEnd) → slice_get ess w ≡ Some es → Hears (get_or (map sent rings) w []) (went_to w (log h.deeds)) (get_or (map received consumers) w []) es
-    hear w es at =
+    take_replies : (w : ℕ) (es : List MessageEnd) → slice_get ess w ≡ Some es → Hears (get_or (map sent rings) w []) (went_to w (log h.deeds)) (get_or (map received consumers) w []) es
+    take_replies w es at =
         let k = all w es at in
         let m = zip_at HasReceived producers consumers w k.consumer met k.back in
         let before_all = map_at sent rings w k.ring [] k.its in

@@ -10,25 +10,25 @@ use Rattle.sms_window.specs.Drawing.{HasDrawn}
 use Rattle.sms_pdu.specs.declared.reply.Reply.{Reply}
 use Rattle.sms_segment.specs.declared.part.Part.{Part}
 use Rattle.sms_session.specs.declared.policy.Decision.{Decision}
-use Rattle.sms_worker.specs.declared.attempt.Tried.{Tried}
-use Rattle.sms_worker.specs.declared.attempt.Tried.TheVariants.{Sent, Later, Never}
+use Rattle.sms_worker.specs.declared.steps.attempt.TrySend.{TrySend}
+use Rattle.sms_worker.specs.declared.steps.attempt.TrySend.TheVariants.{Sent, Retry, GiveUp}
 use Rattle.sms_worker.specs.Types.{Attempt, SegmentEnd, MessageEnd}
 use Rattle.sms_message.specs.declared.message.Message.{Message}
-use Rattle.sms_worker.specs.declared.open.Open.{Open}
-use Rattle.sms_worker.specs.declared.open.SegmentPlace.{SegmentPlace}
-use Rattle.sms_worker.specs.declared.queue.Queue.{Queue}
+use Rattle.sms_worker.specs.declared.state.open.Open.{Open}
+use Rattle.sms_worker.specs.declared.state.open.SegmentPlace.{SegmentPlace}
+use Rattle.sms_worker.specs.declared.state.queue.Queue.{Queue}
 use Rattle.sms_message.specs.declared.rules.Rules.{Rules}
-use Rattle.sms_worker.specs.declared.starting.Source.{Source}
-use Rattle.sms_worker.specs.declared.starting.Source.TheVariants as sources
-use Rattle.sms_worker.specs.declared.texts.Kept.{Kept}
-use Rattle.sms_worker.specs.declared.texts.Link.{Link}
+use Rattle.sms_worker.specs.declared.steps.starting.Source.{Source}
+use Rattle.sms_worker.specs.declared.steps.starting.Source.TheVariants as sources
+use Rattle.sms_worker.specs.declared.state.pending.PendingPart.{PendingPart}
+use Rattle.sms_worker.specs.declared.state.pending.Link.{Link}
 use Rattle.sms_worker.specs.Apart.{IsAttempt}
 use Rattle.sms_worker.specs.Begins.{ready}
 use Rattle.sms_message.specs.Ends.{segment_at, segments_in, put, uses}
 use Rattle.sms_worker.specs.Queues.{first_in}
 use Rattle.sms_worker.specs.Rising.{AreSent, HasTurn, InOrder, IsNext, LeadsToSent, WasSent}
 use Rattle.sms_worker.specs.Steps.{Answers, Opens, Tries}
-use Rattle.sms_worker.specs.TextsState.{TextsState, changed, kept_at, link_of, no_link, no_texts, settled_one}
+use Rattle.sms_worker.specs.PendingState.{PendingState, changed, pending_at, link_of, no_link, no_pending, settled_one}
 use Rattle.sms_worker.specs.Told.{Drew}
 use Rattle.sms_worker.proofs.Apartness.{once_at, put_elsewhere}
 use Rattle.sms_worker.proofs.Beginnings.{got_ready}
@@ -67,8 +67,8 @@ module _ (es : List MessageEnd) (k p : ℕ) (s s' : SegmentEnd) (at : segment_at
   ]
 
   -- one segment end changed, and its first attempt stayed
-  pub order_put : (next : ℕ) (os : List Open) (qs : List Queue) (texts : List TextsState) → SameFirst s s' → InOrder es next os qs texts → InOrder (put es k p s') next os qs texts
-  order_put next os qs texts f o = record {
+  pub order_put : (next : ℕ) (os : List Open) (qs : List Queue) (pending : List PendingState) → SameFirst s s' → InOrder es next os qs pending → InOrder (put es k p s') next os qs pending
+  order_put next os qs pending f o = record {
     rise = λ i m j q a b before x y.
         let (a', x', ea) = was_first f i m a x in
         let (b', y', eb) = was_first f j q b y in
@@ -96,8 +96,8 @@ module _ (es : List MessageEnd) (k p : ℕ) (s s' : SegmentEnd) (at : segment_at
     low_message : (j q : ℕ) (a : Attempt) → IsAttempt es j q 0 a → j < length es
     low_message j q a is = let e = end_at es j q is.segment is.there in get_low es j e.0 e.1
 
-    first_sent : (next : ℕ) (os : List Open) (qs : List Queue) (texts : List TextsState) → length es ≡ k + 1 → p ≡ next → InOrder es next os qs texts → InOrder (put es k p s') next os qs texts
-    first_sent next os qs texts last part o = record {
+    first_sent : (next : ℕ) (os : List Open) (qs : List Queue) (pending : List PendingState) → length es ≡ k + 1 → p ≡ next → InOrder es next os qs pending → InOrder (put es k p s') next os qs pending
+    first_sent next os qs pending last part o = record {
       rise = λ i m j q a b before x y. elim (is_new i m a x) [
         | inl h ↦ (let (hi, hm, ha) = h in elim (is_new j q b y) [
           | inl g ↦ (let (gj, gq, gb) = g in absurd (elim before [ inl lt ↦ omega arith | inr le ↦ (let lt = le.1 in omega arith) ]))
@@ -150,8 +150,8 @@ seen_past before now ms es long d j q a is =
     low_in n now.seen d.drawn d.has.below (omega arith)
 
 -- other requests are open
-pub order_open : (es : List MessageEnd) (next : ℕ) (os os' : List Open) (qs : List Queue) (texts : List TextsState) → AreSent es os' → InOrder es next os qs texts → InOrder es next os' qs texts
-order_open es next os os' qs texts opens o = record { rise = o.rise; behind = o.behind; heads = o.heads; links = o.links; opens = opens }
+pub order_open : (es : List MessageEnd) (next : ℕ) (os os' : List Open) (qs : List Queue) (pending : List PendingState) → AreSent es os' → InOrder es next os qs pending → InOrder es next os' qs pending
+order_open es next os os' qs pending opens o = record { rise = o.rise; behind = o.behind; heads = o.heads; links = o.links; opens = opens }
 
 -- a segment that has an attempt was sent
 pub sent_now : (es es' : List MessageEnd) (place : SegmentPlace) (s s' : SegmentEnd) (front : List Attempt) (last : Attempt) → segment_at es place.message place.part ≡ Some s → es' ≡ put es place.message place.part s' → s'.attempts ≡ front ++ last ∷ [] → WasSent es' place
@@ -165,10 +165,10 @@ sent_now es es' place s s' front last at is attempts = found front attempts
     found (x ∷ xs) e = (x, record { segment = s'; there = there; has = ap (λ l. slice_get l 0) e })
 
 -- a try to send a segment whose turn it is
-pub order_tried : (rules : Rules) (m : Message) (part : Part) (before now after : View) (ms : List Message) (es es' : List MessageEnd) (place : SegmentPlace) (s s' : SegmentEnd) (tried : Tried) (next : ℕ) (os os' : List Open) (qs : List Queue) (texts : List TextsState)
+pub order_tried : (rules : Rules) (m : Message) (part : Part) (before now after : View) (ms : List Message) (es es' : List MessageEnd) (place : SegmentPlace) (s s' : SegmentEnd) (tried : TrySend) (next : ℕ) (os os' : List Open) (qs : List Queue) (pending : List PendingState)
     → length es ≤ length ms → Drew before now ms es → segment_at es place.message place.part ≡ Some s → Tries rules m part now s.attempts tried after s'.attempts → HasTurn es next place → Opens tried place os os'
-    → es' ≡ put es place.message place.part s' → InOrder es next os qs texts → InOrder es' next os' qs texts
-order_tried rules m part before now after ms es es' place s s' tried next os os' qs texts long d at tries turn opened is o = subst (λ l. InOrder l next os' qs texts) (sym is) (done tried tries opened)
+    → es' ≡ put es place.message place.part s' → InOrder es next os qs pending → InOrder es' next os' qs pending
+order_tried rules m part before now after ms es es' place s s' tried next os os' qs pending long d at tries turn opened is o = subst (λ l. InOrder l next os' qs pending) (sym is) (done tried tries opened)
   where
     k : ℕ
     k = place.message
@@ -176,7 +176,7 @@ order_tried rules m part before now after ms es es' place s s' tried next os os'
     p : ℕ
     p = place.part
 
-    sent : (n : ℕ) (octets : List ℕ) → HasDrawn now (n ∷ []) after → s'.attempts ≡ s.attempts ++ record { number = n; sent = octets; reply = None } ∷ [] → (xs : List Attempt) → s.attempts ≡ xs → InOrder (put es k p s') next os qs texts
+    sent : (n : ℕ) (octets : List ℕ) → HasDrawn now (n ∷ []) after → s'.attempts ≡ s.attempts ++ record { number = n; sent = octets; reply = None } ∷ [] → (xs : List Attempt) → s.attempts ≡ xs → InOrder (put es k p s') next os qs pending
     sent n octets drawn more [] e =
         let new : Attempt = record { number = n; sent = octets; reply = None } in
         elim turn [
@@ -185,9 +185,9 @@ order_tried rules m part before now after ms es es' place s s' tried next os os'
               let same : s ≡ first.segment = cc in
               let z : None ≡ Some a = sym (ap (λ l. slice_get l 0) e) ∙ ap (λ (x : SegmentEnd). slice_get x.attempts 0) same ∙ first.has in
               absurd (cc))
-          | inr last ↦ first_sent es k p s s' at new e (more ∙ ap (λ l. l ++ new ∷ []) e) (λ j q a x. let lt = seen_past before now ms es long d j q a x in let from = drawn.from.0 in omega arith) next os qs texts last.last last.part o
+          | inr last ↦ first_sent es k p s s' at new e (more ∙ ap (λ l. l ++ new ∷ []) e) (λ j q a x. let lt = seen_past before now ms es long d j q a x in let from = drawn.from.0 in omega arith) next os qs pending last.last last.part o
         ]
-    sent n octets drawn more (x ∷ xs) e = order_put es k p s s' at next os qs texts (again s s' x xs (record { number = n; sent = octets; reply = None }) e more) o
+    sent n octets drawn more (x ∷ xs) e = order_put es k p s s' at next os qs pending (again s s' x xs (record { number = n; sent = octets; reply = None }) e more) o
 
     -- those that were open before, and the one that was sent
     one_more : (n : ℕ) (octets : List ℕ) → s'.attempts ≡ s.attempts ++ record { number = n; sent = octets; reply = None } ∷ [] → (o' : Open) → os' ≡ os ++ o' ∷ [] → o'.place ≡ place → AreSent (put es k p s') os → AreSent (put es k p s') os'
@@ -196,16 +196,16 @@ order_tried rules m part before now after ms es es' place s s' tried next os os'
       | inr h ↦ subst (WasSent (put es k p s')) (sym its ∙ ap (λ (y : Open). y.place) (sym h.1)) (sent_now es (put es k p s') place s s' s.attempts (record { number = n; sent = octets; reply = None }) at refl more)
     ]
 
-    done : (t : Tried) → Tries rules m part now s.attempts t after s'.attempts → Opens t place os os' → InOrder (put es k p s') next os' qs texts
+    done : (t : TrySend) → Tries rules m part now s.attempts t after s'.attempts → Opens t place os os' → InOrder (put es k p s') next os' qs pending
     done (Sent n) (drawn, (octets, more, spells)) (o', added, numbered, its) =
         let now_sent = sent n octets drawn more s.attempts refl in
-        order_open (put es k p s') next os os' qs texts (one_more n octets more o' added its now_sent.opens) now_sent
-    done (Later held) h same = subst (λ l. InOrder (put es k p s') next l qs texts) (sym same) (order_put es k p s s' at next os qs texts (same_attempts s s' h.1) o)
-    done (Never why) h same = subst (λ l. InOrder (put es k p s') next l qs texts) (sym same) (order_put es k p s s' at next os qs texts (same_attempts s s' h.1) o)
+        order_open (put es k p s') next os os' qs pending (one_more n octets more o' added its now_sent.opens) now_sent
+    done (Retry held) h same = subst (λ l. InOrder (put es k p s') next l qs pending) (sym same) (order_put es k p s s' at next os qs pending (same_attempts s s' h.1) o)
+    done (GiveUp why) h same = subst (λ l. InOrder (put es k p s') next l qs pending) (sym same) (order_put es k p s s' at next os qs pending (same_attempts s s' h.1) o)
 
 -- one segment end changed as its attempts stayed, and the list is this one
-pub order_kept : (es es' : List MessageEnd) (k p : ℕ) (s s' : SegmentEnd) (next : ℕ) (os : List Open) (qs : List Queue) (texts : List TextsState) → segment_at es k p ≡ Some s → s'.attempts ≡ s.attempts → es' ≡ put es k p s' → InOrder es next os qs texts → InOrder es' next os qs texts
-order_kept es es' k p s s' next os qs texts at same is o = subst (λ l. InOrder l next os qs texts) (sym is) (order_put es k p s s' at next os qs texts (same_attempts s s' same) o)
+pub order_kept : (es es' : List MessageEnd) (k p : ℕ) (s s' : SegmentEnd) (next : ℕ) (os : List Open) (qs : List Queue) (pending : List PendingState) → segment_at es k p ≡ Some s → s'.attempts ≡ s.attempts → es' ≡ put es k p s' → InOrder es next os qs pending → InOrder es' next os qs pending
+order_kept es es' k p s s' next os qs pending at same is o = subst (λ l. InOrder l next os qs pending) (sym is) (order_put es k p s s' at next os qs pending (same_attempts s s' same) o)
 
 heard_first : (front : List Attempt) (last last' : Attempt) (s s' : SegmentEnd) → last'.number ≡ last.number → s.attempts ≡ front ++ last ∷ [] → s'.attempts ≡ front ++ last' ∷ [] → SameFirst s s'
 heard_first [] last last' s s' same e e' =
@@ -224,12 +224,12 @@ heard_first (x ∷ front) last last' s s' same e e' =
     }
 
 -- the last attempt got its answer
-pub order_heard : (most : ℕ) (es es' : List MessageEnd) (k p : ℕ) (s s1 s' : SegmentEnd) (r : Reply) (d : Decision) (next : ℕ) (os : List Open) (qs : List Queue) (texts : List TextsState) → segment_at es k p ≡ Some s → Answers most s r d s1 → s'.attempts ≡ s1.attempts → es' ≡ put es k p s'
-    → InOrder es next os qs texts → InOrder es' next os qs texts
-order_heard most es es' k p s s1 s' r d next os qs texts at a same is o =
+pub order_heard : (most : ℕ) (es es' : List MessageEnd) (k p : ℕ) (s s1 s' : SegmentEnd) (r : Reply) (d : Decision) (next : ℕ) (os : List Open) (qs : List Queue) (pending : List PendingState) → segment_at es k p ≡ Some s → Answers most s r d s1 → s'.attempts ≡ s1.attempts → es' ≡ put es k p s'
+    → InOrder es next os qs pending → InOrder es' next os qs pending
+order_heard most es es' k p s s1 s' r d next os qs pending at a same is o =
     let h = a.hears in
     let after = same ∙ ap (λ (x : SegmentEnd). x.attempts) h.after in
-    subst (λ l. InOrder l next os qs texts) (sym is) (order_put es k p s s' at next os qs texts (heard_first h.front h.last (record h.last { reply = Some r }) s s' refl h.before after) o)
+    subst (λ l. InOrder l next os qs pending) (sym is) (order_put es k p s s' at next os qs pending (heard_first h.front h.last (record h.last { reply = Some r }) s s' refl h.before after) o)
 
 -- no segment waits in the queues
 both_true : (a b : Bool) → (a && b) ≡ true → (a ≡ true) × (b ≡ true)
@@ -246,8 +246,8 @@ none_first (q ∷ qs) all zero = empty_first q.first (both_true (is_none q.first
 none_first (q ∷ qs) all (suc k) = none_first qs (both_true (is_none q.first && is_none q.last) (list_all (λ q. is_none q.first && is_none q.last) qs) all).1 k
 
 -- a call begins
-pub order_opening : (es : List MessageEnd) (next : ℕ) (os : List Open) (qs : List Queue) (texts : List TextsState) → es ≡ [] → texts ≡ [] → os ≡ [] → list_all (λ q. is_none q.first && is_none q.last) qs ≡ true → InOrder es next os qs texts
-order_opening es next os qs texts no_ends no_texts none_open none_waits = subst (λ l. InOrder l next os qs texts) (sym no_ends) (subst (InOrder [] next os qs) (sym no_texts) (record {
+pub order_opening : (es : List MessageEnd) (next : ℕ) (os : List Open) (qs : List Queue) (pending : List PendingState) → es ≡ [] → pending ≡ [] → os ≡ [] → list_all (λ q. is_none q.first && is_none q.last) qs ≡ true → InOrder es next os qs pending
+order_opening es next os qs pending no_ends no_pending none_open none_waits = subst (λ l. InOrder l next os qs pending) (sym no_ends) (subst (InOrder [] next os qs) (sym no_pending) (record {
   rise = λ i m j q a b before x y. let z = x.there in absurd (cc);
   behind = λ k p a x last. let z = x.there in absurd (cc);
   heads = λ k place is. let z = none_first qs none_waits k in absurd (cc);
@@ -256,8 +256,8 @@ order_opening es next os qs texts no_ends no_texts none_open none_waits = subst 
 }))
 
 -- the next part is a later one
-pub order_on : (es : List MessageEnd) (next next' : ℕ) (os : List Open) (qs : List Queue) (texts : List TextsState) → next ≤ next' → InOrder es next os qs texts → InOrder es next' os qs texts
-order_on es next next' os qs texts later o = record {
+pub order_on : (es : List MessageEnd) (next next' : ℕ) (os : List Open) (qs : List Queue) (pending : List PendingState) → next ≤ next' → InOrder es next os qs pending → InOrder es next' os qs pending
+order_on es next next' os qs pending later o = record {
   rise = o.rise;
   behind = λ k p a is last. let few = o.behind k p a is last in omega arith;
   heads = o.heads;
@@ -266,8 +266,8 @@ order_on es next next' os qs texts later o = record {
 }
 
 -- the queues and links name no other segments than before, but one that was sent
-pub order_named : (es : List MessageEnd) (next : ℕ) (os : List Open) (qs qs' : List Queue) (texts texts' : List TextsState) → ((k : ℕ) (place : SegmentPlace) → first_in qs' k ≡ Some place → WasSent es place) → LeadsToSent es texts' → InOrder es next os qs texts → InOrder es next os qs' texts'
-order_named es next os qs qs' texts texts' heads links o = record { rise = o.rise; behind = o.behind; heads = heads; links = links; opens = o.opens }
+pub order_named : (es : List MessageEnd) (next : ℕ) (os : List Open) (qs qs' : List Queue) (pending pending' : List PendingState) → ((k : ℕ) (place : SegmentPlace) → first_in qs' k ≡ Some place → WasSent es place) → LeadsToSent es pending' → InOrder es next os qs pending → InOrder es next os qs' pending'
+order_named es next os qs qs' pending pending' heads links o = record { rise = o.rise; behind = o.behind; heads = heads; links = links; opens = o.opens }
 
 -- a message was begun
 more_at : (es : List MessageEnd) (e : MessageEnd) (k p : ℕ) (s : SegmentEnd) → segment_at es k p ≡ Some s → segment_at (es ++ e ∷ []) k p ≡ Some s
@@ -275,19 +275,19 @@ more_at [] e k p s at = absurd (cc)
 more_at (x ∷ es) e zero p s at = at
 more_at (x ∷ es) e (suc k) p s at = more_at es e k p s at
 
-linked_more : (texts : List TextsState) (t : TextsState) (from : SegmentPlace) (place : SegmentPlace) → ((q : ℕ) → link_of (slice_get t.kept q) ≡ no_link) → (link_of (kept_at (texts ++ t ∷ []) from)).next ≡ Some place → (link_of (kept_at texts from)).next ≡ Some place
-linked_more texts t from place none_led is = found texts from.message is
+linked_more : (pending : List PendingState) (t : PendingState) (from : SegmentPlace) (place : SegmentPlace) → ((q : ℕ) → link_of (slice_get t.parts q) ≡ no_link) → (link_of (pending_at (pending ++ t ∷ []) from)).next ≡ Some place → (link_of (pending_at pending from)).next ≡ Some place
+linked_more pending t from place none_led is = found pending from.message is
   where
-    at : Option TextsState → Option Kept
-    at o = option_and_then (λ (x : TextsState). slice_get x.kept from.part) o
+    at : Option PendingState → Option PendingPart
+    at o = option_and_then (λ (x : PendingState). slice_get x.parts from.part) o
 
-    found : (xs : List TextsState) (k : ℕ) → (link_of (at (slice_get (xs ++ t ∷ []) k))).next ≡ Some place → (link_of (at (slice_get xs k))).next ≡ Some place
+    found : (xs : List PendingState) (k : ℕ) → (link_of (at (slice_get (xs ++ t ∷ []) k))).next ≡ Some place → (link_of (at (slice_get xs k))).next ≡ Some place
     found [] zero is = let z : None ≡ Some place = sym (ap (λ (l : Link). l.next) (none_led from.part)) ∙ is in absurd (cc)
     found [] (suc k) is = is
     found (x ∷ xs) zero is = is
     found (x ∷ xs) (suc k) is = found xs k is
 
-module _ (es : List MessageEnd) (e : MessageEnd) (texts : List TextsState) (t : TextsState) (cost count : ℕ) (segments : segments_in e.result ≡ ready cost count) where
+module _ (es : List MessageEnd) (e : MessageEnd) (pending : List PendingState) (t : PendingState) (cost count : ℕ) (segments : segments_in e.result ≡ ready cost count) where
   of_old : (k p : ℕ) (a : Attempt) → IsAttempt (es ++ e ∷ []) k p 0 a → IsAttempt es k p 0 a
   of_old k p a is = elim (got_of_more es e k p is.segment is.there) [
     | inl h ↦ record { segment = is.segment; there = h; has = is.has }
@@ -299,7 +299,7 @@ module _ (es : List MessageEnd) (e : MessageEnd) (texts : List TextsState) (t : 
   sent_more : (place : SegmentPlace) → WasSent es place → WasSent (es ++ e ∷ []) place
   sent_more place (a, is) = (a, record { segment = is.segment; there = more_at es e place.message place.part is.segment is.there; has = is.has })
 
-  pub order_begun : (next : ℕ) (os : List Open) (qs : List Queue) → ((q : ℕ) → link_of (slice_get t.kept q) ≡ no_link) → InOrder es next os qs texts → InOrder (es ++ e ∷ []) 0 os qs (texts ++ t ∷ [])
+  pub order_begun : (next : ℕ) (os : List Open) (qs : List Queue) → ((q : ℕ) → link_of (slice_get t.parts q) ≡ no_link) → InOrder es next os qs pending → InOrder (es ++ e ∷ []) 0 os qs (pending ++ t ∷ [])
   order_begun next os qs none_led o = record {
     rise = λ i m j q a b before x y. o.rise i m j q a b before (of_old i m a x) (of_old j q b y);
     behind = λ k p a x last.
@@ -309,50 +309,50 @@ module _ (es : List MessageEnd) (e : MessageEnd) (texts : List TextsState) (t : 
         let long = length-append es (e ∷ []) in
         absurd (omega arith);
     heads = λ k place is. sent_more place (o.heads k place is);
-    links = λ from place is. sent_more place (o.links from place (linked_more texts t from place none_led is));
+    links = λ from place is. sent_more place (o.links from place (linked_more pending t from place none_led is));
     opens = λ k x is. sent_more x.place (o.opens k x is);
   }
 
 -- the parts of a message are given back
-settled_link : (t : TextsState) (q : ℕ) (place : SegmentPlace) → (link_of (slice_get (settled_one t).kept q)).next ≡ Some place → (link_of (slice_get t.kept q)).next ≡ Some place
-settled_link t q place = elim (nat_le t.unsettled 1) as (λ b. (link_of (slice_get (if b then no_texts else record t { unsettled = t.unsettled - 1 }).kept q)).next ≡ Some place → (link_of (slice_get t.kept q)).next ≡ Some place) [
+settled_link : (t : PendingState) (q : ℕ) (place : SegmentPlace) → (link_of (slice_get (settled_one t).parts q)).next ≡ Some place → (link_of (slice_get t.parts q)).next ≡ Some place
+settled_link t q place = elim (nat_le t.unsettled 1) as (λ b. (link_of (slice_get (if b then no_pending else record t { unsettled = t.unsettled - 1 }).parts q)).next ≡ Some place → (link_of (slice_get t.parts q)).next ≡ Some place) [
   | true ↦ (λ is. absurd (cc))
   | false ↦ (λ is. is)
 ]
 
-settled_links : (texts : List TextsState) (k : ℕ) (from place : SegmentPlace) → (link_of (kept_at (changed settled_one texts k) from)).next ≡ Some place → (link_of (kept_at texts from)).next ≡ Some place
-settled_links texts k from place is = found texts k from.message is
+settled_links : (pending : List PendingState) (k : ℕ) (from place : SegmentPlace) → (link_of (pending_at (changed settled_one pending k) from)).next ≡ Some place → (link_of (pending_at pending from)).next ≡ Some place
+settled_links pending k from place is = found pending k from.message is
   where
-    at : Option TextsState → Option Kept
-    at o = option_and_then (λ (x : TextsState). slice_get x.kept from.part) o
+    at : Option PendingState → Option PendingPart
+    at o = option_and_then (λ (x : PendingState). slice_get x.parts from.part) o
 
-    found : (xs : List TextsState) (n j : ℕ) → (link_of (at (slice_get (changed settled_one xs n) j))).next ≡ Some place → (link_of (at (slice_get xs j))).next ≡ Some place
+    found : (xs : List PendingState) (n j : ℕ) → (link_of (at (slice_get (changed settled_one xs n) j))).next ≡ Some place → (link_of (at (slice_get xs j))).next ≡ Some place
     found [] n j is = is
     found (x ∷ xs) zero zero is = settled_link x from.part place is
     found (x ∷ xs) zero (suc j) is = is
     found (x ∷ xs) (suc n) zero is = is
     found (x ∷ xs) (suc n) (suc j) is = found xs n j is
 
-pub order_settled : (es : List MessageEnd) (next : ℕ) (os : List Open) (qs : List Queue) (texts : List TextsState) (k : ℕ) → InOrder es next os qs texts → InOrder es next os qs (changed settled_one texts k)
-order_settled es next os qs texts k o = order_named es next os qs qs texts (changed settled_one texts k) o.heads (λ from place is. o.links from place (settled_links texts k from place is)) o
+pub order_settled : (es : List MessageEnd) (next : ℕ) (os : List Open) (qs : List Queue) (pending : List PendingState) (k : ℕ) → InOrder es next os qs pending → InOrder es next os qs (changed settled_one pending k)
+order_settled es next os qs pending k o = order_named es next os qs qs pending (changed settled_one pending k) o.heads (λ from place is. o.links from place (settled_links pending k from place is)) o
 
 -- a segment that was sent is linked behind the last of its queue
-pub order_pushed : (es : List MessageEnd) (next : ℕ) (os : List Open) (qs qs' : List Queue) (texts texts' : List TextsState) (place : SegmentPlace) → WasSent es place
+pub order_pushed : (es : List MessageEnd) (next : ℕ) (os : List Open) (qs qs' : List Queue) (pending pending' : List PendingState) (place : SegmentPlace) → WasSent es place
     → ((k : ℕ) (named : SegmentPlace) → first_in qs' k ≡ Some named → (named ≡ place) ⊎ (first_in qs k ≡ Some named))
-    → ((from named : SegmentPlace) → (link_of (kept_at texts' from)).next ≡ Some named → (named ≡ place) ⊎ ((link_of (kept_at texts from)).next ≡ Some named))
-    → InOrder es next os qs texts → InOrder es next os qs' texts'
-order_pushed es next os qs qs' texts texts' place sent heads links o =
-    order_named es next os qs qs' texts texts'
+    → ((from named : SegmentPlace) → (link_of (pending_at pending' from)).next ≡ Some named → (named ≡ place) ⊎ ((link_of (pending_at pending from)).next ≡ Some named))
+    → InOrder es next os qs pending → InOrder es next os qs' pending'
+order_pushed es next os qs qs' pending pending' place sent heads links o =
+    order_named es next os qs qs' pending pending'
     (λ k named is. elim (heads k named is) [ inl e ↦ subst (WasSent es) (sym e) sent | inr h ↦ o.heads k named h ])
     (λ from named is. elim (links from named is) [ inl e ↦ subst (WasSent es) (sym e) sent | inr h ↦ o.links from named h ])
     o
 
 -- the first of a queue is taken
-pub order_popped : (es : List MessageEnd) (next : ℕ) (os : List Open) (qs qs' : List Queue) (texts seen : List TextsState) → seen ≡ texts
-    → ((k : ℕ) (named : SegmentPlace) → first_in qs' k ≡ Some named → (first_in qs k ≡ Some named) ⊎ ((from : SegmentPlace) × ((link_of (kept_at seen from)).next ≡ Some named)))
-    → InOrder es next os qs texts → InOrder es next os qs' texts
-order_popped es next os qs qs' texts seen same heads o =
-    order_named es next os qs qs' texts texts (λ k named is. elim (heads k named is) [ inl h ↦ o.heads k named h | inr h ↦ subst (LeadsToSent es) (sym same) o.links h.0 named h.1 ]) o.links o
+pub order_popped : (es : List MessageEnd) (next : ℕ) (os : List Open) (qs qs' : List Queue) (pending seen : List PendingState) → seen ≡ pending
+    → ((k : ℕ) (named : SegmentPlace) → first_in qs' k ≡ Some named → (first_in qs k ≡ Some named) ⊎ ((from : SegmentPlace) × ((link_of (pending_at seen from)).next ≡ Some named)))
+    → InOrder es next os qs pending → InOrder es next os qs' pending
+order_popped es next os qs qs' pending seen same heads o =
+    order_named es next os qs qs' pending pending (λ k named is. elim (heads k named is) [ inl h ↦ o.heads k named h | inr h ↦ subst (LeadsToSent es) (sym same) o.links h.0 named h.1 ]) o.links o
 
 -- a request is open no more
 left_of : (os : List Open) (i j : ℕ) (x : Open) → slice_get (take i os ++ drop (suc i) os) j ≡ Some x → (n : ℕ) × (slice_get os n ≡ Some x)
@@ -362,8 +362,8 @@ left_of (o ∷ os) zero j x is = (suc j, is)
 left_of (o ∷ os) (suc i) zero x is = (0, is)
 left_of (o ∷ os) (suc i) (suc j) x is = let (n, at) = left_of os i j x is in (suc n, at)
 
-pub order_closed : (es : List MessageEnd) (next : ℕ) (os : List Open) (qs : List Queue) (texts : List TextsState) (i : ℕ) → InOrder es next os qs texts → InOrder es next (take i os ++ drop (suc i) os) qs texts
-order_closed es next os qs texts i o = order_open es next os (take i os ++ drop (suc i) os) qs texts (λ j x is. let (n, at) = left_of os i j x is in o.opens n x at) o
+pub order_closed : (es : List MessageEnd) (next : ℕ) (os : List Open) (qs : List Queue) (pending : List PendingState) (i : ℕ) → InOrder es next os qs pending → InOrder es next (take i os ++ drop (suc i) os) qs pending
+order_closed es next os qs pending i o = order_open es next os (take i os ++ drop (suc i) os) qs pending (λ j x is. let (n, at) = left_of os i j x is in o.opens n x at) o
 
 -- where a segment to send was found, its turn has come
 pub first_turn : (es : List MessageEnd) (next : ℕ) (retry : Option (SegmentPlace × ℕ)) (fresh : Option SegmentPlace) (found : Option (SegmentPlace × Source)) → IfSome retry (λ r. WasSent es r.0) → IfSome fresh (IsNext es next)

@@ -11,7 +11,7 @@ use Rattle.sms_message.specs.UserData.{user_data}
 
 -- with this user data
 abbrev pub filled : Address → Address → ℕ → UserData → ℕ → Pdu
-filled source dest asked carried number = record {
+filled source dest asked content number = record {
   status = 0;
   number = number;
   body = Submit (record {
@@ -22,19 +22,19 @@ filled source dest asked carried number = record {
     dest_ton = dest.ton;
     dest_npi = dest.npi;
     dest_addr = dest.octets;
-    esm_class = carried.esm_class;
+    esm_class = content.esm_class;
     protocol_id = 0;
     priority = 0;
     schedule = [];
     validity = [];
     registered = asked;
     replace = 0;
-    data_coding = carried.data_coding;
+    data_coding = content.data_coding;
     default_msg = 0;
-    short_message = carried.short_message;
+    short_message = content.short_message;
     params = [];
   });
 }
 
-pub filled_is : (rules : Rules) (source dest : Address) (part : Part) (number asked : ℕ) (carried : UserData) → asked ≡ registered rules.receipts → carried ≡ user_data part → filled source dest asked carried number ≡ submit_sm rules source dest part number
-filled_is rules source dest part number asked carried e is = λ i. filled source dest (e i) (is i) number
+pub filled_is : (rules : Rules) (source dest : Address) (part : Part) (number asked : ℕ) (content : UserData) → asked ≡ registered rules.receipts → content ≡ user_data part → filled source dest asked content number ≡ submit_sm rules source dest part number
+filled_is rules source dest part number asked content e is = λ i. filled source dest (e i) (is i) number

@@ -23,10 +23,10 @@ ready cost zero = []
 ready cost (suc n) = fresh cost ∷ ready cost n
 
 -- a message was begun: its end, the user data that is kept of it, and what its share reserved for it
-pub record Begins (rules : Rules) (m : Message) (old new : Share) (texts : List UserData) (e : MessageEnd) : Type 0 where
+pub record Begins (rules : Rules) (m : Message) (old new : Share) (pending : List UserData) (e : MessageEnd) : Type 0 where
   pub index : e.index ≡ m.index
   pub result : IsResultOf rules (length old.amounts) m e.result
-  pub texts_kept : (texts ≡ []) ⊎ (texts ≡ message_data rules m)
+  pub pending_kept : (pending ≡ []) ⊎ (pending ≡ message_data rules m)
   pub count : ℕ
   pub some : 0 < count → 0 < cost_of rules.tariff (string_bytes m.dest)
   pub segments : segments_in e.result ≡ ready (cost_of rules.tariff (string_bytes m.dest)) count

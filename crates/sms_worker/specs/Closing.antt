@@ -3,10 +3,10 @@ use Rattle.std.specs.Prelude.{◌≡◌, ℕ, ◌≤◌, Bool, true, false, List
 use Rattle.sms_bind.specs.declared.down.Down.{Down as DownSeen}
 use Rattle.sms_bind.specs.declared.down.DownMark.{DownMark}
 use Rattle.sms_bind.specs.Downs.{cause_of, IsDownAt}
-use Rattle.sms_worker.specs.declared.closure.ClosedBy.{ClosedBy}
-use Rattle.sms_worker.specs.declared.closure.ClosedBy.TheVariants as by
-use Rattle.sms_worker.specs.declared.closure.Closure.{Closure}
-use Rattle.sms_worker.specs.declared.closure.Closure.TheVariants.{Down, Turns}
+use Rattle.sms_worker.specs.declared.state.closing.ClosedBy.{ClosedBy}
+use Rattle.sms_worker.specs.declared.state.closing.ClosedBy.TheVariants as by
+use Rattle.sms_worker.specs.declared.state.closing.Closure.{Closure}
+use Rattle.sms_worker.specs.declared.state.closing.Closure.TheVariants.{Down, Turns}
 use Rattle.sms_worker.specs.Types.{MessageEnd}
 use Rattle.sms_message.specs.declared.ends.MessageRefusal.TheVariants.{BindClosed}
 use Rattle.sms_message.specs.declared.ends.MessageResult.TheVariants.{Refused}

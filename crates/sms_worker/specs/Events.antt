@@ -23,7 +23,7 @@ use Rattle.sms_pdu.specs.declared.reply.Reply.{Reply}
 use Rattle.sms_session.specs.Decisions.{decided}
 use Rattle.sms_slot.specs.declared.slot.Slot.{Slot}
 use Rattle.sms_slot.specs.declared.slot.Slot.TheVariants.{Empty, Waiting, Answered}
-use Rattle.sms_slot.specs.declared.slot.Answer.TheVariants.{Matched}
+use Rattle.sms_slot.specs.declared.slot.SlotDelivery.TheVariants.{Matched}
 use Rattle.sms_slot.specs.declared.slot.Taken.TheVariants.{Got}
 use Rattle.sms_slot.specs.declared.slot.Expired.TheVariants.{Done as IsExpired}
 use Rattle.sms_slot.specs.Slot as slots
@@ -167,12 +167,12 @@ pub record IsDecided (x : Sender) (p q : Parts) : Type 0 where
   pub came : p.answer ≡ Some reply
   pub takes : slots.Takes reply.number p.slot Got q.slot
   pub base : ℕ
-  pub told : SegmentEnd
-  pub answers : Answers x.most p.segment reply (decided reply (length p.segment.attempts) x.most base) told
+  pub answered : SegmentEnd
+  pub answers : Answers x.most p.segment reply (decided reply (length p.segment.attempts) x.most base) answered
   pub rest : q ≡ record (with_credits (outcome_after (decided reply (length p.segment.attempts) x.most base)) p) {
     slot = q.slot;
     answer = None;
-    segment = with_outcome (outcome_after (decided reply (length p.segment.attempts) x.most base)) told;
+    segment = with_outcome (outcome_after (decided reply (length p.segment.attempts) x.most base)) answered;
   }
 
 -- nobody waits for the answer any more

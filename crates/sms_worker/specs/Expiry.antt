@@ -1,8 +1,8 @@
 -- Which open requests expire.
 use Rattle.std.specs.Prelude.{◌≡◌, ℕ, zero, suc, ◌+◌, ◌-◌, ◌<◌, ◌≤◌, ◌⊎◌, ◌++◌, Bool, true, false, IsTrue, length, take, drop, Some, slice_get}
-use Rattle.sms_worker.specs.declared.open.Open.{Open}
+use Rattle.sms_worker.specs.declared.state.open.Open.{Open}
 use Rattle.sms_worker.specs.RunState.{RunState}
-use Rattle.sms_worker.specs.TextsState.{changed, settled_one}
+use Rattle.sms_worker.specs.PendingState.{changed, settled_one}
 
 -- without the open request at the place
 abbrev pub without_open : ℕ → RunState → RunState
@@ -12,7 +12,7 @@ without_open i run = record run { opened = take i run.opened ++ drop (suc i) run
 pub record ExpiresAt (i : ℕ) (old new : RunState) : Type 0 where
   pub request : Open
   pub there : slice_get old.opened i ≡ Some request
-  pub now : new ≡ record (without_open i old) { texts = changed settled_one old.texts request.place.message }
+  pub now : new ≡ record (without_open i old) { pending = changed settled_one old.pending request.place.message }
 
 -- the request at the place has waited for so long, or the line is down
 pub record IsToExpire (down : Bool) (limit now i : ℕ) (run : RunState) : Type 0 where

@@ -16,21 +16,21 @@ use Rattle.sms_message.specs.declared.rules.Rules.{Rules}
 use Rattle.sms_message.specs.declared.ends.Outcome.{Outcome}
 use Rattle.sms_message.specs.declared.ends.Outcome.TheVariants.{Charged, Refused, Unanswered, Unsent}
 use Rattle.sms_worker.specs.Types.{Attempt, SegmentEnd, MessageEnd}
-use Rattle.sms_worker.specs.declared.attempt.Tried.{Tried}
-use Rattle.sms_worker.specs.declared.attempt.Tried.TheVariants.{Sent, Later, Never}
-use Rattle.sms_worker.specs.declared.attempt.Number.{Number}
-use Rattle.sms_worker.specs.declared.attempt.Number.TheVariants.{Drawn, UsedUp, Contended}
-use Rattle.sms_worker.specs.declared.denied.Denied.{Denied}
-use Rattle.sms_worker.specs.declared.denied.Denied.TheVariants as denied
-use Rattle.sms_worker.specs.declared.denied.Denied.TheVariants.{Over, Memory, Line}
-use Rattle.sms_worker.specs.declared.denied.NotHanded.{NotHanded}
-use Rattle.sms_worker.specs.declared.denied.NotHanded.TheVariants.{Broken, Busy}
-use Rattle.sms_worker.specs.declared.held.Drawing.{Drawing}
-use Rattle.sms_worker.specs.declared.held.Drawing.TheVariants as drawing
-use Rattle.sms_worker.specs.declared.held.Held.{Held}
-use Rattle.sms_worker.specs.declared.held.Held.TheVariants.{Gate, Window, Numbers}
-use Rattle.sms_worker.specs.declared.open.Open.{Open}
-use Rattle.sms_worker.specs.declared.open.SegmentPlace.{SegmentPlace}
+use Rattle.sms_worker.specs.declared.steps.attempt.TrySend.{TrySend}
+use Rattle.sms_worker.specs.declared.steps.attempt.TrySend.TheVariants.{Sent, Retry, GiveUp}
+use Rattle.sms_worker.specs.declared.steps.attempt.Number.{Number}
+use Rattle.sms_worker.specs.declared.steps.attempt.Number.TheVariants.{Drawn, UsedUp, Contended}
+use Rattle.sms_worker.specs.declared.steps.give_up.GiveUpReason.{GiveUpReason}
+use Rattle.sms_worker.specs.declared.steps.give_up.GiveUpReason.TheVariants as denied
+use Rattle.sms_worker.specs.declared.steps.give_up.GiveUpReason.TheVariants.{Over, Memory, Line}
+use Rattle.sms_worker.specs.declared.steps.give_up.NotHanded.{NotHanded}
+use Rattle.sms_worker.specs.declared.steps.give_up.NotHanded.TheVariants.{Broken, Busy}
+use Rattle.sms_worker.specs.declared.steps.retry_later.Drawing.{Drawing}
+use Rattle.sms_worker.specs.declared.steps.retry_later.Drawing.TheVariants as drawing
+use Rattle.sms_worker.specs.declared.steps.retry_later.RetryLater.{RetryLater}
+use Rattle.sms_worker.specs.declared.steps.retry_later.RetryLater.TheVariants.{Gate, Window, Numbers}
+use Rattle.sms_worker.specs.declared.state.open.Open.{Open}
+use Rattle.sms_worker.specs.declared.state.open.SegmentPlace.{SegmentPlace}
 use Rattle.sms_worker.specs.Limits.{most_draws}
 use Rattle.sms_message.specs.Submits.{SpellsSubmit}
 use Rattle.sms_message.specs.Ends.{segment_at, put}
@@ -88,42 +88,42 @@ number_of (drawing.Contended _) = Contended
 
 -- what kept a segment from being sent now: the gate, for which nothing was done; or the word in which a slot was looked for;
 -- or that in each try to draw a number another seat had drawn one
-abbrev pub HoldsBack : Held → View → View → Type 0
-HoldsBack (Gate told) v w = w ≡ v
-HoldsBack (Window told) v w = w ≡ met_with v told.found
-HoldsBack (Numbers told) v w = v.seen + most_draws ≤ w.seen
+abbrev pub HoldsBack : RetryLater → View → View → Type 0
+HoldsBack (Gate evidence) v w = w ≡ v
+HoldsBack (Window evidence) v w = w ≡ met_with v evidence.found
+HoldsBack (Numbers evidence) v w = v.seen + most_draws ≤ w.seen
 
 -- the number of a frame that wasn't handed to the wire
 abbrev pub number_unsent : NotHanded → ℕ
-number_unsent (Broken told) = told.number
-number_unsent (Busy told) = told.number
+number_unsent (Broken evidence) = evidence.number
+number_unsent (Busy evidence) = evidence.number
 
 -- a frame wasn't handed to the wire since the wire was broken
 abbrev pub MetBroken : {X : Type 0} → Result X NotHanded → Type 0
 MetBroken (Ok x) = ⊥
-MetBroken (Err (Broken told)) = Unit {0}
-MetBroken (Err (Busy told)) = ⊥
+MetBroken (Err (Broken evidence)) = Unit {0}
+MetBroken (Err (Busy evidence)) = ⊥
 
 -- why a segment is given up that waits to be sent: all numbers are used up; or this one was drawn for it, and not sent
-abbrev pub IsDenied : Denied → View → View → Type 0
-IsDenied Over v w = ⊥
-IsDenied (denied.Numbers all) v w = HasDrawn v [] w × (w.seen ≡ used_up)
-IsDenied (Memory told) v w = HasDrawn v (told.number ∷ []) w
-IsDenied (denied.Gate told) v w = HasDrawn v (told.number ∷ []) w
-IsDenied (Line told) v w = HasDrawn v (number_unsent told ∷ []) w
+abbrev pub IsReason : GiveUpReason → View → View → Type 0
+IsReason Over v w = ⊥
+IsReason (denied.Numbers all) v w = HasDrawn v [] w × (w.seen ≡ used_up)
+IsReason (Memory evidence) v w = HasDrawn v (evidence.number ∷ []) w
+IsReason (denied.Gate evidence) v w = HasDrawn v (evidence.number ∷ []) w
+IsReason (Line evidence) v w = HasDrawn v (number_unsent evidence ∷ []) w
 
 -- what a try to send does to the seat and to the list of attempts
-abbrev pub Tries : Rules → Message → Part → View → List Attempt → Tried → View → List Attempt → Type 0
+abbrev pub Tries : Rules → Message → Part → View → List Attempt → TrySend → View → List Attempt → Type 0
 Tries rules m part v old (Sent n) w new =
     HasDrawn v (n ∷ []) w × ((octets : List ℕ) × (new ≡ old ++ record { number = n; sent = octets; reply = None } ∷ []) × SpellsSubmit rules m part n octets)
-Tries rules m part v old (Later held) w new = (HasDrawn v [] w × HoldsBack held v w) × (new ≡ old)
-Tries rules m part v old (Never why) w new = IsDenied why v w × (new ≡ old)
+Tries rules m part v old (Retry held) w new = (HasDrawn v [] w × HoldsBack held v w) × (new ≡ old)
+Tries rules m part v old (GiveUp why) w new = IsReason why v w × (new ≡ old)
 
 -- the request that was sent is open, behind the others
-abbrev pub Opens : Tried → SegmentPlace → List Open → List Open → Type 0
+abbrev pub Opens : TrySend → SegmentPlace → List Open → List Open → Type 0
 Opens (Sent n) place old new = (o : Open) × (new ≡ old ++ o ∷ []) × (o.number ≡ n) × (o.place ≡ place)
-Opens (Later held) place old new = new ≡ old
-Opens (Never why) place old new = new ≡ old
+Opens (Retry held) place old new = new ≡ old
+Opens (GiveUp why) place old new = new ≡ old
 
 -- where the credits go that were reserved for a segment; without an answer they stay reserved
 abbrev pub move_of : Outcome → Option Move

@@ -55,5 +55,5 @@ Grew old new ms es = (i : ℕ) → ((amounts_at new i).reserved ≡ (amounts_at 
     × ((amounts_at new i).returned ≡ (amounts_at old i).returned + credits returned_of i ms es)
 
 -- what is kept of the messages that were begun: all their user data, or nothing more
-abbrev pub AreTexts : Rules → List Message → List (List UserData) → Type 0
-AreTexts rules ms kept = (k : ℕ) (m : Message) (carried : List UserData) → slice_get ms k ≡ Some m → slice_get kept k ≡ Some carried → (carried ≡ []) ⊎ (carried ≡ message_data rules m)
+abbrev pub ArePending : Rules → List Message → List (List UserData) → Type 0
+ArePending rules ms kept = (k : ℕ) (m : Message) (content : List UserData) → slice_get ms k ≡ Some m → slice_get kept k ≡ Some content → (content ≡ []) ⊎ (content ≡ message_data rules m)

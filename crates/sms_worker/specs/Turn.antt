@@ -1,22 +1,22 @@
 -- What one turn of a call does.
 use Rattle.std.specs.Prelude.{◌≡◌, ℕ, zero, suc, ◌⊎◌, Bool, IsTrue, true, false, length}
 use Rattle.sms_worker.specs.Expiry.{Expires}
-use Rattle.sms_worker.specs.Hearing.{AllBrought}
+use Rattle.sms_worker.specs.Replies.{AllApplied}
 use Rattle.sms_worker.specs.RunState.{RunState, HasNothingToSend}
 use Rattle.sms_worker.specs.Start.{Start}
 use Rattle.sms_worker.specs.Sweeps.{SettledTo}
 use Rattle.sms_worker.specs.Turns.{Starts}
 
--- The steps of a turn, in order: replies are heard and brought, the line is looked at, requests expire; and where the line isn't
+-- The steps of a turn, in order: replies are replies and applied, the line is looked at, requests expire; and where the line isn't
 -- down what is to be sent is started, else all that waits is given up. `again` is whether a turn is to follow
 pub record TakesTurn (start : Start) (again : Bool) (old new : RunState) : Type 0 where
-  pub any_heard : Bool
-  pub heard : RunState
-  pub hears : AllBrought start.rules any_heard old heard
+  pub any_reply : Bool
+  pub replies : RunState
+  pub hears : AllApplied start.rules any_reply old replies
   pub down : Bool
   pub looked : RunState
-  pub looks : looked ≡ record heard { closed = down }
-  pub stays : IsTrue heard.closed → IsTrue down
+  pub looks : looked ≡ record replies { closed = down }
+  pub stays : IsTrue replies.closed → IsTrue down
   pub any_expired : Bool
   pub answered : ℕ
   pub left : RunState
@@ -25,7 +25,7 @@ pub record TakesTurn (start : Start) (again : Bool) (old new : RunState) : Type 
   pub starts : down ≡ false → Starts start any_started left new
   pub sweeps : IsTrue down → SettledTo start.rules.policy.attempts (length new.ends) 0 new.ends
   -- it is the last one only where it did nothing of this, and nothing is left to do
-  pub idle : again ≡ false → (any_heard ≡ false) × (any_expired ≡ false) × (any_started ≡ false)
+  pub idle : again ≡ false → (any_reply ≡ false) × (any_expired ≡ false) × (any_started ≡ false)
   pub done : again ≡ false → (length new.opened ≡ 0) × (IsTrue down ⊎ HasNothingToSend start.messages new)
 
 -- so many turns, behind each of which another was to follow

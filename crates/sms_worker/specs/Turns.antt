@@ -1,23 +1,23 @@
 -- What the steps of a turn do, and what they leave to be sent.
 use Rattle.std.specs.Prelude.{◌≡◌, ℕ, zero, suc, ◌+◌, ◌-◌, ◌^◌, ◌≤◌, ◌⊎◌, Bool, IsTrue, true, false, List, [], ◌∷◌, ◌++◌, length, None, Some, min}
-use Rattle.sms_worker.specs.declared.attempt.Tried.{Tried}
-use Rattle.sms_worker.specs.declared.attempt.Tried.TheVariants.{Sent, Later, Never}
-use Rattle.sms_worker.specs.declared.denied.Denied.{Denied}
-use Rattle.sms_worker.specs.declared.denied.Denied.TheVariants.{Over, Numbers, Memory, Gate, Line}
+use Rattle.sms_worker.specs.declared.steps.attempt.TrySend.{TrySend}
+use Rattle.sms_worker.specs.declared.steps.attempt.TrySend.TheVariants.{Sent, Retry, GiveUp}
+use Rattle.sms_worker.specs.declared.steps.give_up.GiveUpReason.{GiveUpReason}
+use Rattle.sms_worker.specs.declared.steps.give_up.GiveUpReason.TheVariants.{Over, Numbers, Memory, Gate, Line}
 use Rattle.sms_worker.specs.Types.{MessageEnd, SegmentEnd}
-use Rattle.sms_worker.specs.declared.open.Open.{Open}
-use Rattle.sms_worker.specs.declared.open.SegmentPlace.{SegmentPlace}
-use Rattle.sms_worker.specs.declared.starting.Idle.{Idle}
-use Rattle.sms_worker.specs.declared.starting.Idle.TheVariants.{Closed, AllBegun, Waits}
-use Rattle.sms_worker.specs.declared.starting.Started.{Started}
-use Rattle.sms_worker.specs.declared.starting.Started.TheVariants.{One, Nothing}
+use Rattle.sms_worker.specs.declared.state.open.Open.{Open}
+use Rattle.sms_worker.specs.declared.state.open.SegmentPlace.{SegmentPlace}
+use Rattle.sms_worker.specs.declared.steps.starting.Idle.{Idle}
+use Rattle.sms_worker.specs.declared.steps.starting.Idle.TheVariants.{Closed, AllBegun, Waits}
+use Rattle.sms_worker.specs.declared.steps.starting.Started.{Started}
+use Rattle.sms_worker.specs.declared.steps.starting.Started.TheVariants.{One, Nothing}
 use Rattle.sms_message.specs.Ends.{segment_at, put}
 use Rattle.sms_worker.specs.Queues.{IsFirstDue, IsTaken, NoneIsDue}
 use Rattle.sms_worker.specs.Rising.{HasNext, IsNext, IsThere}
 use Rattle.sms_worker.specs.RunState.{RunState}
 use Rattle.sms_worker.specs.Start.{Start}
 use Rattle.sms_worker.specs.Sweeps.{SweptAt}
-use Rattle.sms_worker.specs.TextsState.{LeavesTexts, carried_at}
+use Rattle.sms_worker.specs.PendingState.{LeavesPending, data_at}
 use Rattle.sms_message.specs.Results.{IsSettled}
 
 -- the segment at the place was sent with this number, and nothing else changed
@@ -29,21 +29,21 @@ pub record SentAt (n : ℕ) (place : SegmentPlace) (old new : List MessageEnd) :
 
 -- nothing of the segment is to be sent: what it carries isn't kept, or there is no such segment, or it is settled
 abbrev pub IsOver : ℕ → SegmentPlace → RunState → Type 0
-IsOver most place run = (carried_at run.texts place ≡ None) ⊎ (segment_at run.ends place.message place.part ≡ None) ⊎ ((s : SegmentEnd) × (segment_at run.ends place.message place.part ≡ Some s) × IsSettled most s)
+IsOver most place run = (data_at run.pending place ≡ None) ⊎ (segment_at run.ends place.message place.part ≡ None) ⊎ ((s : SegmentEnd) × (segment_at run.ends place.message place.part ≡ Some s) × IsSettled most s)
 
 -- a segment that is given up without a try is one of which nothing is to be sent
-abbrev pub IsGivenUp : ℕ → Denied → SegmentPlace → RunState → Type 0
+abbrev pub IsGivenUp : ℕ → GiveUpReason → SegmentPlace → RunState → Type 0
 IsGivenUp most Over place run = IsOver most place run
 IsGivenUp most (Numbers all) place run = Unit {0}
-IsGivenUp most (Memory told) place run = Unit {0}
-IsGivenUp most (Gate told) place run = Unit {0}
-IsGivenUp most (Line told) place run = Unit {0}
+IsGivenUp most (Memory evidence) place run = Unit {0}
+IsGivenUp most (Gate evidence) place run = Unit {0}
+IsGivenUp most (Line evidence) place run = Unit {0}
 
 -- a try to send the segment: it was sent, and its request is open behind the others; else all is as it was
-abbrev pub IsTry : ℕ → Tried → SegmentPlace → RunState → RunState → Type 0
+abbrev pub IsTry : ℕ → TrySend → SegmentPlace → RunState → RunState → Type 0
 IsTry most (Sent n) place old new = SentAt n place old.ends new.ends × ((o : Open) × (o.number ≡ n) × (o.place ≡ place) × (new ≡ record old { ends = new.ends; opened = old.opened ++ o ∷ [] }))
-IsTry most (Later held) place old new = new ≡ old
-IsTry most (Never why) place old new = (new ≡ old) × IsGivenUp most why place old
+IsTry most (Retry held) place old new = new ≡ old
+IsTry most (GiveUp why) place old new = (new ≡ old) × IsGivenUp most why place old
 
 -- the segment was sent, or given up
 abbrev pub IsTried : ℕ → SegmentPlace → List MessageEnd → List MessageEnd → Type 0
@@ -53,26 +53,26 @@ IsTried most place old new = ((n : ℕ) × SentAt n place old new) ⊎ SweptAt m
 pub record TriesRetry (most now : ℕ) (old new : RunState) : Type 0 where
   pub place : SegmentPlace
   pub queue : ℕ
-  pub due : IsFirstDue old.texts old.queues now place queue
-  pub taken : IsTaken old.texts queue old.queues new.queues
+  pub due : IsFirstDue old.pending old.queues now place queue
+  pub taken : IsTaken old.pending queue old.queues new.queues
   pub next : new.next ≡ old.next
-  pub texts : LeavesTexts place.message old.texts new.texts
+  pub pending : LeavesPending place.message old.pending new.pending
   pub tried : IsTried most place old.ends new.ends
 
 -- none is due, and the next part of the last message was tried
 pub record TriesNext (most now : ℕ) (old new : RunState) : Type 0 where
-  pub quiet : NoneIsDue old.texts old.queues now
+  pub quiet : NoneIsDue old.pending old.queues now
   pub place : SegmentPlace
   pub is : IsNext old.ends old.next place
   pub there : IsThere old.ends place
   pub queues : new.queues ≡ old.queues
   pub next : new.next ≡ min (old.next + 1) (2 ^ 64 - 1)
-  pub texts : LeavesTexts place.message old.texts new.texts
+  pub pending : LeavesPending place.message old.pending new.pending
   pub tried : IsTried most place old.ends new.ends
 
 -- none is due and all parts were tried, and a message was begun
 pub record BeginsNext (now : ℕ) (old new : RunState) : Type 0 where
-  pub quiet : NoneIsDue old.texts old.queues now
+  pub quiet : NoneIsDue old.pending old.queues now
   pub all : ¬ HasNext old.ends old.next
   pub queues : new.queues ≡ old.queues
   pub next : new.next ≡ 0
@@ -80,12 +80,12 @@ pub record BeginsNext (now : ℕ) (old new : RunState) : Type 0 where
 
 -- the segment whose turn it is by this time: the first that is due, else the next of the last message
 abbrev pub IsTurn : ℕ → RunState → SegmentPlace → Type 0
-IsTurn now run place = ((queue : ℕ) × IsFirstDue run.texts run.queues now place queue) ⊎ (NoneIsDue run.texts run.queues now × IsNext run.ends run.next place × IsThere run.ends place)
+IsTurn now run place = ((queue : ℕ) × IsFirstDue run.pending run.queues now place queue) ⊎ (NoneIsDue run.pending run.queues now × IsNext run.ends run.next place × IsThere run.ends place)
 
 -- why nothing was started: the line was seen down, and a segment is to be sent; or none is, and all messages are begun; or the one whose turn it is was tried, and waits
 abbrev pub IsIdle : Start → ℕ → Idle → RunState → RunState → Type 0
 IsIdle start now Closed old new = IsTrue new.closed × ((place : SegmentPlace) × IsTurn now old place)
-IsIdle start now AllBegun old new = NoneIsDue old.texts old.queues now × (¬ HasNext old.ends old.next) × (length old.ends ≡ length start.messages)
+IsIdle start now AllBegun old new = NoneIsDue old.pending old.queues now × (¬ HasNext old.ends old.next) × (length old.ends ≡ length start.messages)
 IsIdle start now (Waits held) old new = (place : SegmentPlace) × IsTurn now old place
 
 -- what a step did; one that started nothing touched nothing, but that it may have seen the line down

@@ -37,7 +37,7 @@ pub fn received_is_prefix(producer: &mut Producer<Reply>, consumer: &mut Consume
     let _seen = consumer.slots_beside(producer);
 }
 
-// `received_is_prefix` of one ring, whose ends are done with.
+// `received_is_prefix` of one ring, both of whose ends are consumed.
 fn meet(producer: Producer<Reply>, consumer: Consumer<Reply>)
     requires { IsPair producer consumer }
     ensures { HasReceived producer consumer }
@@ -75,9 +75,8 @@ pub fn charges_rest_on_frames(producers: Vec<Producer<Reply>>, consumers: Vec<Co
 /// The changes of one attempt are the core's events: a claim of its slot is a Claim, its draw, its
 /// post and its place in the list are a Post, its answer is a Respond, what the answer decides is a
 /// Settle, an end of the wait an Expire, giving a segment up a Discard, and a release a Release. Each
-/// event is done, and what the worker has stands for the world after it, as it did for the world
-/// before. That a segment whose slot is answered at the end of a call is left without its answer is no
-/// event.
+/// event is allowed, and the worker's state represents the world after it as it did the world before. A
+/// segment that is left without its answer at the end of a call, although its slot is answered, is no event.
 pub fn an_attempt_is_events()
     ensures claims { ClaimIsEvent }
     ensures sends { SendingIsEvent }

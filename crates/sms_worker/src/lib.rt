@@ -3,37 +3,18 @@
 
 #![tactic(auto)]
 
-mod answered;
-mod attempt;
-mod begin;
-mod call;
-mod closure;
-mod context;
-mod denied;
 mod devices;
 mod ends;
-mod expiry;
-mod hear;
-mod held;
+mod entry;
 pub mod laws;
-mod open;
-mod places;
-mod queue;
-mod reading;
-mod ready;
-mod run;
-mod segment;
-mod settling;
-mod starting;
-mod texts;
-mod turns;
-mod waits;
-mod work;
+mod state;
+mod steps;
 
-pub use attempt::{Number, draw};
-pub use closure::ClosedBy;
 pub use devices::{Clock, Gate, Pause};
 pub use ends::{Attempt, Attempts, MessageEnd, MessageResult, SegmentEnd, Segments};
-pub use ready::ReadyWorker;
+pub use entry::context::RunContext;
+pub use entry::ready::ReadyWorker;
+pub use entry::work::{Worker, WorkerEnd, run_worker};
 pub use sms_message::{Message, MessageRefusal, Outcome, Rules};
-pub use work::{Worker, WorkerEnd, run_worker};
+pub use state::closing::ClosedBy;
+pub use steps::attempt::{Number, draw};

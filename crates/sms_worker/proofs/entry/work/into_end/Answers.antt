@@ -1,0 +1,43 @@
+use Rattle.std.proofs.Common.{◌≡◌, [], length, ap, sym, subst, ◌∙◌}
+use Rattle.rtrb.specs.Ring.{received}
+use Rattle.sms_worker.specs.Apart.{PlacesApart}
+use Rattle.sms_worker.specs.RunState.{RunState}
+use Rattle.sms_worker.specs.Sweeps.{SettledTo}
+use Rattle.sms_worker.specs.Told.{AllTold}
+use Rattle.sms_worker.proofs.Apartness.{numbers_apart, places_apart}
+use Rattle.sms_worker.proofs.Changes.{drew_unused}
+use Rattle.sms_worker.proofs.EndsOf.{ends_of}
+use Rattle.sms_worker.proofs.Sweeping.{settled_all}
+use Rattle.sms_worker.proofs.entry.work.into_end.Goals as goal
+
+pub release_all-requires-clause-open : goal.release_all-requires-clause-open
+release_all-requires-clause-open g c = (g.C.WorkerStart.start.seat.view.slots, c.state.invariant.keeps.slots)
+
+pub returns-clause-worked : goal.returns-clause-worked
+returns-clause-worked g c =
+    let start = g.C.WorkerStart.start in
+    let most = start.rules.policy.attempts in
+    let i = c.state.invariant in
+    let es = c.state.inside.ends.items in
+    let got = received c.state.inside.replies.value in
+    let same = ap (λ (x : RunState). x.ends) c.state.view_is in
+    let heard = ap (λ (x : RunState). x.replies) c.state.view_is ∙ c.requires.replies in
+    let all : length es ≡ length start.messages = ap length same ∙ c.requires.all in
+    let settled : SettledTo most (length start.messages) 0 es = subst (SettledTo most (length start.messages) 0) (sym same) c.requires.settled in
+    let drew = drew_unused start.seat.view _ c.release_all.new.seat.view [] start.messages es i.keeps.numbers c.release_all.ensures.numbers in
+    record {
+      each = ends_of start.rules (length start.share.amounts) (length start.received) got start.messages es all i.keeps.shape i.keeps.ends (settled_all most es (subst (λ n. SettledTo most n 0 es) (sym all) settled));
+      closed = i.closing.stays;
+      why = λ none. i.closing.open_yet (c.into_cause-closed.ensures.none none);
+      seen = c.into_cause-closed.ensures.seen;
+      rising = i.order.rise;
+      answers = subst (λ h. AllTold start.rules (length start.received) h start.messages es) heard i.keeps.ends;
+      numbers = drew;
+      apart = numbers_apart start.seat.view c.release_all.new.seat.view start.messages es i.keeps.shape.within drew;
+      places = subst (λ h. PlacesApart h es) heard (places_apart start.rules (length start.received) got start.seat.view c.release_all.new.seat.view start.messages es i.keeps.shape.within drew i.keeps.ends);
+      credits = i.keeps.money;
+      lacking = i.credit;
+      slots = (c.release_all.ensures.slots start.seat.view.slots i.keeps.slots, c.release_all.ensures.window ∙ i.keeps.window);
+      number = i.keeps.number;
+      replies = (i.keeps.replies_more.0, sym heard ∙ i.keeps.replies_more.1);
+    }

@@ -1,0 +1,62 @@
+use Rattle.std.proofs.Common.{◌≤◌, false, sym, ap, ◌∙◌, subst, map}
+use Rattle.rtrb.specs.Ring.{received, SameConsumer}
+use Rattle.sms_worker.specs.PendingState.{data_in}
+use Rattle.sms_worker.specs.Start.{Start}
+use Rattle.sms_worker.proofs.Closing.{closes_none}
+use Rattle.sms_worker.proofs.Credit.{credit_none}
+use Rattle.sms_worker.proofs.Keeping.{keeps_opening}
+use Rattle.sms_worker.proofs.Rising.{order_opening}
+use Rattle.sms_worker.proofs.entry.work.work.Goals as goal
+
+pub invariant_of-state : goal.invariant_of-state
+invariant_of-state g c =
+    let r = c.ready.invariant in
+    let given = c.ready.view_is in
+    let start = c.requires.start in
+    let messages = ap (λ r. r.messages) given ∙ ap (λ (s : Start). s.messages) start in
+    let seat = ap (λ r. r.worker.seat) given ∙ ap (λ (s : Start). s.seat) start in
+    let share = ap (λ r. r.worker.shares) given ∙ ap (λ (s : Start). s.share) start in
+    let got = ap received c.of-replies.ensures ∙ ap (λ r. received r.worker.consumer) given ∙ ap (λ (s : Start). s.received) start in
+    record {
+      keeps = keeps_opening _ _ _ _ _ _ _ _ messages seat share got r.no_ends (ap (map data_in) r.no_pending) r.none_opened;
+      closing = rw (r.no_ends, c.not_yet.ensures) (closes_none false);
+      credit = credit_none r.no_ends;
+      order = order_opening _ 0 _ _ _ r.no_ends r.no_pending r.none_opened c.none.ensures;
+      ends_fit = r.ends_fit;
+      pending_fit = r.pending_fit;
+      opened_fit = subst (λ n. g.C.WorkerStart.start.rules.depth ≤ n) (sym (ap (λ r. r.room) given)) c.requires.room;
+    }
+
+pub not_yet-requires : goal.not_yet-requires
+not_yet-requires g c = record { mark = ap (λ (s : Start). s.mark) c.requires.start }
+
+pub take_turns-requires-clause-window : goal.take_turns-requires-clause-window
+take_turns-requires-clause-window g c = c.requires.window
+
+pub take_turns-requires-clause-rules : goal.take_turns-requires-clause-rules
+take_turns-requires-clause-rules g c = ap (λ (s : Start). s.rules) c.requires.start
+
+pub take_turns-requires-clause-replies : goal.take_turns-requires-clause-replies
+take_turns-requires-clause-replies g c = ap received c.of-replies.ensures
+
+pub finish-requires-clause-window : goal.finish-requires-clause-window
+finish-requires-clause-window g c = c.requires.window
+
+pub finish-requires-clause-rules : goal.finish-requires-clause-rules
+finish-requires-clause-rules g c = ap (λ (s : Start). s.rules) c.requires.start
+
+pub finish-requires-clause-replies : goal.finish-requires-clause-replies
+finish-requires-clause-replies g c = c.take_turns.ensures.replies
+
+pub into_end-end-requires : goal.into_end-end-requires
+into_end-end-requires g c = record { window = c.requires.window; replies = c.finish.ensures.replies; all = c.finish.ensures.all; settled = c.finish.ensures.settled }
+
+pub returns-clause-worked : goal.returns-clause-worked
+returns-clause-worked g c = c.into_end-end.ensures.worked
+
+pub returns-clause-ring : goal.returns-clause-ring
+returns-clause-ring g c =
+    let turns = c.take_turns.ensures.ring in
+    let end = c.finish.ensures.ring in
+    rw (sym c.ready.view_is, c.into_end-end.ensures.consumer)
+    ((end.0.0 ∙ turns.0.0, end.0.1 ∙ turns.0.1, end.0.2 ∙ turns.0.2, end.0.3 ∙ turns.0.3), end.1 ∙ turns.1)

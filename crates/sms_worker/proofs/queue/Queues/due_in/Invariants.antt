@@ -1,5 +1,0 @@
-use Rattle.sms_worker.proofs.Nearest.{IsDueInOf}
-use Rattle.sms_worker.proofs.queue.Queues.due_in.Given as goal
-
-abbrev pub invariant-loop-queue : goal.invariant-loop-queue
-invariant-loop-queue l = IsDueInOf l.texts l.self.all l.now_ms l.queue l.least

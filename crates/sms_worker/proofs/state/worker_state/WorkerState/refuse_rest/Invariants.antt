@@ -1,0 +1,8 @@
+use Rattle.std.proofs.Common.{◌≡◌, ◌-◌, length}
+use Rattle.sms_worker.proofs.state.worker_state.WorkerState.refuse_rest.Given as goal
+
+abbrev pub invariant-loop : goal.invariant-loop
+invariant-loop g l = l.self.replies ≡ l.initial.self.replies
+
+abbrev pub decreases-loop : goal.decreases-loop
+decreases-loop g l = length g.C.WorkerStart.start.messages - length l.self.ends

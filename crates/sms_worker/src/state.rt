@@ -1,0 +1,10 @@
+//! What a worker has while it runs.
+
+pub mod closing;
+pub mod open;
+pub mod pending;
+pub mod places;
+pub mod queue;
+pub mod segment;
+pub mod worker_start;
+pub mod worker_state;

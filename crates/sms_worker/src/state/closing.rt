@@ -1,0 +1,107 @@
+//! Why a bind is closed for a worker.
+
+ghost use Rattle.std.specs.Prelude.{◌≡◌, None, IsTrue, false};
+ghost use Rattle.sms_worker.specs.Closing.{IsSeen};
+
+use crate::state::worker_start::WorkerStart;
+use sms_bind::{Down, DownCause, DownMark};
+use std::marker::{Model, PhantomData};
+
+/// Why a bind is closed for a worker.
+#[derive(Clone, Copy, Debug, PartialEq, Eq)]
+pub enum ClosedBy {
+    /// The bind's line was seen down, for this cause.
+    Down(DownCause),
+    /// The worker's turns were over.
+    Turns,
+}
+
+/// What closed the bind: the line that was seen down, or the worker's turns that are over.
+#[derive(Drop)]
+pub(crate) enum Closure<'l> {
+    Down(Down<'l>),
+    Turns,
+}
+
+/// Whether the bind is closed for a worker. It stays so for the first cause. Contracts see whether it is.
+#[derive(Drop)]
+pub struct Closing<'l, C: WorkerStart> {
+    mark: &'l DownMark,
+    by: Option<Closure<'l>>,
+    of: PhantomData<C>,
+}
+
+impl<'l, C: WorkerStart> Model for Closing<'l, C> {
+    ghost use Rattle.std.specs.Prelude.{Bool};
+    ghost use Rattle.sms_worker.specs.Closing.{is_closed, IsCause};
+
+    ghost Value = { Bool };
+
+    ghost view = { λ c. is_closed c.by };
+
+    ghost invariant = { λ c. IsCause C.start.mark c.mark.now c.by };
+}
+
+impl<'l, C: WorkerStart> Closing<'l, C> {
+    /// It isn't closed yet, at a line of this mark.
+    pub fn not_yet(mark: &'l DownMark) -> Closing<'l, C>
+        requires mark { mark.now ≡ C.start.mark }
+        ensures { result ≡ false }
+    {
+        Closing {
+            mark,
+            by: None,
+            of: PhantomData,
+        }
+    }
+
+    /// Whether it is closed.
+    pub fn is_closed(&self) -> bool
+        ensures { result ≡ self.now }
+    {
+        self.by.is_some()
+    }
+
+    /// Looks at the line, and says whether the bind is closed now.
+    pub fn look(&mut self) -> bool
+        ensures is { result ≡ self.new }
+        ensures stays { IsTrue self.old → IsTrue self.new }
+    {
+        if self.by.is_some() {
+            return true;
+        }
+        match self.mark.look() {
+            Some(down) => {
+                self.by = Some(Closure::Down(down));
+                true
+            }
+            None => false,
+        }
+    }
+
+    /// The worker has taken all its turns.
+    pub fn turns_are_over(&mut self, taken: u64)
+        requires all { taken ≡ C.start.rules.turns }
+        ensures closed { IsTrue self.new }
+    {
+        if self.by.is_none() {
+            self.by = Some(Closure::Turns);
+        }
+    }
+
+    /// Why it is closed; and the evidence that the line was seen down, if it was.
+    pub fn into_cause(self) -> (Option<ClosedBy>, Option<Down<'l>>)
+        ensures none { result.0 ≡ None → self.entry ≡ false }
+        ensures seen { IsSeen C.start.mark result.0 result.1 }
+    {
+        let Closing { mark, by, of: _ } = self;
+        match by {
+            None => (None, None),
+            Some(Closure::Turns) => (Some(ClosedBy::Turns), None),
+            Some(Closure::Down(down)) => {
+                let cause = mark.cause(&down);
+                (Some(ClosedBy::Down(cause)), Some(down))
+            }
+        }
+    }
+}
