@@ -29,7 +29,7 @@ use Rattle.sms_worker.specs.Told.{HeardSince, AllTold, IsAnswered}
 use Rattle.sms_worker.specs.Types.{Attempt, MessageEnd}
 use Rattle.sms_message.specs.declared.message.Message.{Message}
 use Rattle.sms_message.specs.declared.rules.Rules.{Rules}
-use Rattle.sms_worker.specs.declared.work.WorkerEnd.{WorkerEnd}
+use Rattle.sms_worker.specs.declared.entry.work.WorkerEnd.{WorkerEnd}
 use Rattle.sms_worker.proofs.Tries.{all_at}
 use Rattle.sms_worker.proofs.EndLemmas.{get_there, get_low, end_at}
 use Rattle.sms_worker.specs.ReadyState.{ReadyState}
@@ -38,7 +38,7 @@ use Rattle.sms_driver.specs.Reads.{Reading, HasRead, IsOpened}
 use Rattle.sms_worker.specs.Rests.{HasReceived}
 use Rattle.sms_driver.specs.Worked.{IsWorkOf}
 
--- the k-th of what went to a ring stands in the log, behind k others that went there
+-- the k-th answer of a ring stands in the log, after k others of that ring
 pub record Entry {X : Type 0} (log : List (X × Option ℕ)) (w k : ℕ) (x : X) : Type 0 where
   pub place : ℕ
   pub there : slice_get log place ≡ Some (x, Some w)
@@ -75,7 +75,7 @@ onward (y ∷ rs) t (suc k) x at = onward rs t k x at
 pub in_whole : {X : Type 0} (rs xs : List X) (k : ℕ) (x : X) → IsPrefix rs xs → slice_get rs k ≡ Some x → slice_get xs k ≡ Some x
 in_whole rs xs k x p at = ap (λ l. slice_get l k) (sym p.1) ∙ onward rs p.0 k x at
 
--- what each worker received is a beginning of what went to its ring, and the worker heard it
+-- what each worker received is a beginning of what was pushed into its ring, and the worker received it
 abbrev AllHear : List (Reply × Option ℕ) → List (List Reply) → List (List MessageEnd) → Type 0
 AllHear log heard ess = (w : ℕ) (es : List MessageEnd) → slice_get ess w ≡ Some es → IsPrefix (get_or heard w []) (went_to w log) × Hears (get_or heard w []) es
 
@@ -117,7 +117,7 @@ module _ (log : List (Reply × Option ℕ)) (heard : List (List Reply)) (ess : L
 pub rest_in : (xs ys : List Reply) (ess : List (List MessageEnd)) → IsPrefix xs ys → RestOn xs ess → RestOn ys ess
 rest_in xs ys ess p r = record { place = r.place; there = λ a. in_whole xs ys (r.place a) a.reply p (r.there a); number = r.number; apart = r.apart }
 
--- what each worker received is a beginning of what its ring has sent, and the worker heard it
+-- what each worker received is a beginning of what its ring has sent, and the worker received it
 abbrev AllHearOf : List (List Reply) → List (List Reply) → List (List MessageEnd) → Type 0
 AllHearOf sent heard ess = (w : ℕ) (es : List MessageEnd) → slice_get ess w ≡ Some es → (w < length sent) × IsPrefix (get_or heard w []) (get_or sent w []) × Hears (get_or heard w []) es
 

@@ -1,4 +1,4 @@
--- What is told where no book is opened.
+-- The fault if no book is opened.
 use Rattle.std.specs.Prelude.{◌≡◌, ◌≢◌, ◌↔◌, ℕ, List, Option, Result, Ok, Err, IfErr, IsErrOf}
 use Rattle.std.proofs.Common.{sym, ap, ◌∙◌, subst, inl, inr}
 use Rattle.sms_book.specs.Openings.{credits_of, names_of, AllSmall, GoodCount, IsFirstDouble, NoDouble}
@@ -25,7 +25,7 @@ tells_book b (NoCredit free needed) f yet e = subst (TellsStart b) (sym e) yet
 tells_book b NoAccount f yet e = subst (TellsStart b) (sym e) yet
 tells_book b book.OutOfMemory f yet e = subst (TellsStart b) (sym e) (inl yet)
 
--- what is told is of the book, or of memory
+-- the fault is of the book, or of memory
 pub book_is_one : (refuses : ℕ → Type 0) (told : ℕ → Option (List ℕ)) (mode : Mode) (binds : ℕ) (w : BookError) (f : SendFault) → f ≡ fault_of_book w → IsFaultOfOne refuses told mode binds f
 book_is_one refuses told mode binds BadCount f e = inr (inr (BadCount, e))
 book_is_one refuses told mode binds (Duplicate first second) f e = inr (inr (Duplicate first second, e))

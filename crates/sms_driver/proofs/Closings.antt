@@ -2,11 +2,11 @@
 use Rattle.std.proofs.Common.{◌≡◌, ◌+◌, ◌-◌, ◌++◌, ◌<◌, ℕ, zero, suc, List, [], ◌∷◌, length, map, Option, Some, None, refl, sym, ap, ◌∙◌, subst, arith, inl, inr, append_assoc, append-nil}
 use Rattle.std.specs.Prelude.{take, drop, slice_get, IsSome}
 use Rattle.std.specs.List.{AllByRecursion, AllZip}
-use Rattle.sms_worker.specs.declared.closure.ClosedBy.{ClosedBy}
-use Rattle.sms_worker.specs.declared.closure.ClosedBy.TheVariants.{Down, Turns}
+use Rattle.sms_worker.specs.declared.state.closing.ClosedBy.{ClosedBy}
+use Rattle.sms_worker.specs.declared.state.closing.ClosedBy.TheVariants.{Down, Turns}
 use Rattle.sms_worker.specs.Types.{MessageEnd}
 use Rattle.sms_message.specs.declared.rules.Rules.{Rules}
-use Rattle.sms_worker.specs.declared.work.WorkerEnd.{WorkerEnd}
+use Rattle.sms_worker.specs.declared.entry.work.WorkerEnd.{WorkerEnd}
 use Rattle.sms_worker.specs.ReadyState.{ReadyState}
 use Rattle.sms_driver.specs.declared.bind_end.BindEnd.{BindEnd}
 use Rattle.sms_driver.specs.declared.bind_end.BindClosing.{BindClosing}

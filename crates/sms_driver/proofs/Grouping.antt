@@ -1,5 +1,6 @@
--- What all workers heard, bind by bind.
+-- What all workers received, bind by bind.
 use Rattle.std.proofs.Common.{◌≡◌, ◌+◌, ◌<◌, ◌++◌, ℕ, zero, suc, List, [], ◌∷◌, length, map, refl, sym, ap, ◌∙◌, Option, subst, arith}
+use Rattle.std.proofs.lemmas.List.{length-map}
 use Rattle.std.specs.Prelude.{take, drop}
 use Rattle.std.specs.List.{AllByRecursion, AllZip}
 use Rattle.std.specs.declared.alloc.Global.{Global}
@@ -17,7 +18,7 @@ use Rattle.sms_driver.specs.Answered.{Hears, IsHeard, ends_at, AreHeard}
 use Rattle.sms_driver.specs.Reads.{HasRead, AreOpened, reading_in}
 use Rattle.sms_driver.specs.Rings.{flat, IsNewPair}
 use Rattle.sms_worker.specs.Rests.{HasReceived}
-use Rattle.sms_driver.specs.Seated.{IsSeated}
+use Rattle.sms_driver.specs.Seated.{consumers_of, IsSeated}
 use Rattle.sms_driver.proofs.Answering.{bind_is_heard}
 
 module _ {A B : Type 0} (R : A → B → Type 0) where
@@ -27,7 +28,7 @@ module _ {A B : Type 0} (R : A → B → Type 0) where
   zip_length (x ∷ xs) [] z = absurd z
   zip_length (x ∷ xs) (y ∷ ys) z = ap suc (zip_length xs ys z.1)
 
-  -- a front of the one goes with as many of the other
+  -- the first of the one go with as many of the other
   pub zip_front : (n : ℕ) (xs rest : List A) (ys : List B) → length xs ≡ n → AllZip R (xs ++ rest) ys → AllZip R xs (take n ys)
   zip_front zero [] rest ys e z = tt
   zip_front (suc n) [] rest ys e z = absurd (omega arith)
@@ -74,7 +75,7 @@ flat_zip f g R [] (d ∷ ds) z = absurd z
 flat_zip f g R (e ∷ es) [] z = absurd z
 flat_zip f g R (e ∷ es) (d ∷ ds) z = AllZip-append R (f e) (flat (map f es)) (g d) (flat (map g ds)) z.0 (flat_zip f g R es ds z.1)
 
--- the ends of one ring stay so, whatever went through it
+-- the ends of one ring stay so, whatever passed through it
 one_pair : {T A P : Type 0} (p p' : Producer T A P) (c c' : Consumer T A P) → IsPair p c → SameProducer p p' → SameConsumer c c' → IsPair p' c'
 one_pair p p' c c' n s r = (r.0.0 ∙ n.0 ∙ sym s.0.0, r.0.1 ∙ n.1 ∙ sym s.0.1, r.0.2 ∙ n.2 ∙ sym s.0.2, r.0.3 ∙ n.3 ∙ sym s.0.3)
 
@@ -90,11 +91,11 @@ pairs_kept (p ∷ ps) (p' ∷ ps') (c ∷ cs) (c' ∷ cs') n s r = (one_pair p p
 
 -- all rings of the binds' parts are new pairs
 pub seated_pairs : {W Rd : Type 0} (workers : ℕ) (bs : List (SharedBind W)) (parts : List (BindParts Rd)) → AllZip (IsSeated workers) bs parts
-    → AllZip IsNewPair (flat (map (λ p. p.producers.items) parts)) (flat (map (λ p. p.consumers.items) parts))
+    → AllZip IsNewPair (flat (map (λ p. p.producers.items) parts)) (flat (map consumers_of parts))
 seated_pairs workers [] [] z = tt
 seated_pairs workers [] (p ∷ parts) z = absurd z
 seated_pairs workers (b ∷ bs) [] z = absurd z
-seated_pairs workers (b ∷ bs) (p ∷ parts) z = AllZip-append IsNewPair p.producers.items _ p.consumers.items _ z.0.pairs (seated_pairs workers bs parts z.1)
+seated_pairs workers (b ∷ bs) (p ∷ parts) z = AllZip-append IsNewPair p.producers.items _ (consumers_of p) _ z.0.pairs (seated_pairs workers bs parts z.1)
 
 none_sent : {T A P : Type 0} (ps : List (Producer T A P)) (cs : List (Consumer T A P)) → AllZip IsNewPair ps cs → AllByRecursion (λ p. sent p ≡ []) ps
 none_sent [] [] z = tt
@@ -102,7 +103,7 @@ none_sent [] (c ∷ cs) z = absurd z
 none_sent (p ∷ ps) [] z = absurd z
 none_sent (p ∷ ps) (c ∷ cs) z = (z.0.1, none_sent ps cs z.1)
 
--- what was read of each bind with so many workers was heard by them
+-- what was read of each bind with so many workers was received by them
 module _ {W Rd : Type 0} (turns : ℕ) (remaining : Rd → Option (List ℕ)) (mode : Mode) (told : ℕ → Option (List ℕ)) (workers : ℕ) where
   heard_from : (place : ℕ) (bs : List (SharedBind W)) (parts : List (BindParts Rd)) (rs : List ReaderEnd) (cs : List (Consumer Reply Global AnyItems)) (ess : List (List MessageEnd)) → AreOpened remaining mode told place parts
       → AllZip (IsSeated workers) bs parts → AllZip (HasRead turns remaining) (map reading_in parts) rs → AllZip HasReceived (flat (map (λ d. d.producers.items) rs)) cs → AllZip (λ c es. Hears (received c) es) cs ess
@@ -115,17 +116,17 @@ module _ {W Rd : Type 0} (turns : ℕ) (remaining : Rd → Option (List ℕ)) (m
       let ps = d.producers.items in
       let others = flat (map (λ (d : ReaderEnd). d.producers.items) rs) in
       let l = zip_length SameProducer p.producers.items ps z.0.same in
-      let m = zip_length IsNewPair p.producers.items p.consumers.items s.0.pairs in
-      let long : length ps ≡ workers = l ∙ sym m ∙ s.0.rings in
+      let m = zip_length IsNewPair p.producers.items (consumers_of p) s.0.pairs in
+      let long : length ps ≡ workers = l ∙ sym m ∙ length-map p.workers.items (λ w. w.consumer) ∙ s.0.all in
       let same : place ≡ place + 0 = omega arith in
       subst (λ (n : ℕ). IsHeard (told n) (take workers ess)) same
-      (bind_is_heard turns remaining mode (told place) (reading_in p) d (take workers cs) (take workers ess) o.0 (none_sent p.producers.items p.consumers.items s.0.pairs) z.0 (zip_front HasReceived workers ps others cs long r) (zip_take (λ c es. Hears (received c) es) workers cs ess h))
+      (bind_is_heard turns remaining mode (told place) (reading_in p) d (take workers cs) (take workers ess) o.0 (none_sent p.producers.items (consumers_of p) s.0.pairs) z.0 (zip_front HasReceived workers ps others cs long r) (zip_take (λ c es. Hears (received c) es) workers cs ess h))
   heard_from place (b ∷ bs) (p ∷ parts) (d ∷ rs) cs ess o s z r h (suc bind) low =
       let ps = d.producers.items in
       let others = flat (map (λ (d : ReaderEnd). d.producers.items) rs) in
       let l = zip_length SameProducer p.producers.items ps z.0.same in
-      let m = zip_length IsNewPair p.producers.items p.consumers.items s.0.pairs in
-      let long : length ps ≡ workers = l ∙ sym m ∙ s.0.rings in
+      let m = zip_length IsNewPair p.producers.items (consumers_of p) s.0.pairs in
+      let long : length ps ≡ workers = l ∙ sym m ∙ length-map p.workers.items (λ w. w.consumer) ∙ s.0.all in
       let same : (place + 1) + bind ≡ place + suc bind = omega arith in
       let later = heard_from (place + 1) bs parts rs (drop workers cs) (drop workers ess) o.1 s.1 z.1 (zip_back HasReceived workers ps others cs long r) (zip_drop (λ c es. Hears (received c) es) workers cs ess h) bind (omega (arith, low)) in
       subst (λ (n : ℕ). IsHeard (told n) (ends_at workers (suc bind) ess)) same later

@@ -15,6 +15,7 @@ pub mod Openings
 pub mod Refusals
 pub mod Returning
 pub mod Placements
+pub mod Starting
 pub mod Starts
 pub mod Sums
 pub mod Telling

@@ -13,7 +13,7 @@ use Rattle.sms_worker.specs.Told.{Drew}
 use Rattle.sms_worker.specs.Types.{Attempt, SegmentEnd, MessageEnd}
 use Rattle.sms_message.specs.declared.message.Message.{Message}
 use Rattle.sms_message.specs.declared.rules.Rules.{Rules}
-use Rattle.sms_worker.specs.declared.work.WorkerEnd.{WorkerEnd}
+use Rattle.sms_worker.specs.declared.entry.work.WorkerEnd.{WorkerEnd}
 use Rattle.sms_worker.specs.ReadyState.{ReadyState}
 use Rattle.sms_driver.specs.declared.bind_end.BindEnd.{BindEnd}
 use Rattle.sms_driver.specs.Answered.{ends_at}

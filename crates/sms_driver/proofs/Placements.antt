@@ -1,37 +1,32 @@
 -- Workers and readers take their places, one after another.
 use Rattle.std.proofs.Common.{◌≡◌, ◌++◌, ◌+◌, ◌<◌, ◌∙◌, ℕ, zero, suc, List, [], ◌∷◌, length, drop, get_or, refl, sym, ap, add-one, drop-cons, subst, arith, append_assoc, append-nil}
-use Rattle.std.specs.declared.alloc.Global.{Global}
-use Rattle.rtrb.specs.declared.AnyItems.{AnyItems}
-use Rattle.rtrb.specs.declared.consumer.Consumer.{Consumer}
-use Rattle.sms_pdu.specs.declared.reply.Reply.{Reply}
-use Rattle.sms_window.specs.SeatState.{SeatState}
 use Rattle.sms_driver.specs.declared.binding.binds.SharedBind.{SharedBind}
 use Rattle.sms_driver.specs.declared.binding.binds.BindParts.{BindParts}
+use Rattle.sms_driver.specs.declared.binding.binds.WorkerSeat.{WorkerSeat}
 use Rattle.sms_driver.specs.Seated.{WorkerPlacement, ReaderPlacement, placements_from, all_placements, all_reader_placements, CountFrom}
 
 module _ {W : Type 0} (shared : SharedBind W) where
   -- the worker at this place sat down
-  pub one_sits : (place from next : ℕ) (ss ss' : List SeatState) (rs rs' : List (Consumer Reply Global AnyItems)) (s : SeatState) (r : Consumer Reply Global AnyItems) (made more all : List (WorkerPlacement W)) → ss ≡ s ∷ ss' → rs ≡ r ∷ rs'
-      → place ≡ from → next ≡ from + 1
-      → more ≡ made ++ record { seat = s; place = place; ring = r; line = shared.line; window = shared.window } ∷ []
-      → made ++ placements_from shared from ss rs ≡ all → more ++ placements_from shared next ss' rs' ≡ all
-  one_sits place from next ss ss' rs rs' s r made more all es er here behind adds e =
-      let placements : ℕ → WorkerPlacement W = λ n. record { seat = s; place = n; ring = r; line = shared.line; window = shared.window } in
-      let rest = placements_from shared next ss' rs' in
+  pub one_sits : (place from next : ℕ) (ws ws' : List WorkerSeat) (w : WorkerSeat) (made more all : List (WorkerPlacement W)) → ws ≡ w ∷ ws' → place ≡ from → next ≡ from + 1
+      → more ≡ made ++ record { seat = w.seat; place = place; ring = w.consumer; line = shared.line; window = shared.window } ∷ []
+      → made ++ placements_from shared from ws ≡ all → more ++ placements_from shared next ws' ≡ all
+  one_sits place from next ws ws' w made more all es here behind adds e =
+      let placements : ℕ → WorkerPlacement W = λ n. record { seat = w.seat; place = n; ring = w.consumer; line = shared.line; window = shared.window } in
+      let rest = placements_from shared next ws' in
       ap (λ l. l ++ rest) adds ∙ append_assoc made (placements place ∷ []) rest
-      ∙ (λ i. made ++ placements (here i) ∷ placements_from shared (behind i) ss' rs')
-      ∙ (λ i. made ++ placements_from shared from (sym es i) (sym er i)) ∙ e
+      ∙ (λ i. made ++ placements (here i) ∷ placements_from shared (behind i) ws')
+      ∙ (λ i. made ++ placements_from shared from (sym es i)) ∙ e
 
 first_left : {X : Type 0} (i : ℕ) (xs : List X) (x : X) → i < length xs → x ≡ get_or xs i x → drop i xs ≡ x ∷ drop (i + 1) xs
 first_left i xs x low at = drop-cons xs i x low ∙ (λ j. sym at j ∷ drop (sym (add-one i) j) xs)
 
 module _ {W Rd : Type 0} (bs : List (SharedBind W)) (i : ℕ) where
   -- the workers of one bind more
-  pub bind_sits : (b : SharedBind W) (ps ps' : List (BindParts Rd)) (p : BindParts Rd) (made more all : List (WorkerPlacement W)) → i < length bs → b ≡ get_or bs i b → ps ≡ p ∷ ps' → more ≡ made ++ placements_from b 0 p.seats.items p.consumers.items
+  pub bind_sits : (b : SharedBind W) (ps ps' : List (BindParts Rd)) (p : BindParts Rd) (made more all : List (WorkerPlacement W)) → i < length bs → b ≡ get_or bs i b → ps ≡ p ∷ ps' → more ≡ made ++ placements_from b 0 p.workers.items
       → made ++ all_placements (drop i bs) ps ≡ all → more ++ all_placements (drop (i + 1) bs) ps' ≡ all
   bind_sits b ps ps' p made more all low at takes adds e =
       let first = first_left i bs b low at in
-      let theirs = placements_from b 0 p.seats.items p.consumers.items in
+      let theirs = placements_from b 0 p.workers.items in
       ap (λ l. l ++ all_placements (drop (i + 1) bs) ps') adds ∙ append_assoc made theirs _ ∙ (λ j. made ++ all_placements (sym first j) (sym takes j)) ∙ e
 
   pub bind_keeps : (b : SharedBind W) (ps ps' : List (BindParts Rd)) (p : BindParts Rd) (made more all : List (ReaderPlacement W)) → i < length bs → b ≡ get_or bs i b → ps ≡ p ∷ ps'
@@ -41,11 +36,10 @@ module _ {W Rd : Type 0} (bs : List (SharedBind W)) (i : ℕ) where
       let first = first_left i bs b low at in
       ap (λ l. l ++ all_reader_placements (drop (i + 1) bs) ps') adds ∙ append_assoc made (_ ∷ []) _ ∙ (λ j. made ++ all_reader_placements (sym first j) (sym takes j)) ∙ e
 
--- where no ring is left, nobody sits down any more
-pub none_sit : {W : Type 0} (shared : SharedBind W) (place : ℕ) (ss : List SeatState) (rs : List (Consumer Reply Global AnyItems)) (made all : List (WorkerPlacement W)) → length rs ≡ 0 → made ++ placements_from shared place ss rs ≡ all → made ≡ all
-none_sit shared place [] rs made all none e = sym (append-nil made) ∙ e
-none_sit shared place (s ∷ ss) [] made all none e = sym (append-nil made) ∙ e
-none_sit shared place (s ∷ ss) (r ∷ rs) made all none e = absurd (omega arith)
+-- where nobody is left, all sat down
+pub none_sit : {W : Type 0} (shared : SharedBind W) (place : ℕ) (ws : List WorkerSeat) (made all : List (WorkerPlacement W)) → length ws ≡ 0 → made ++ placements_from shared place ws ≡ all → made ≡ all
+none_sit shared place [] made all none e = sym (append-nil made) ∙ e
+none_sit shared place (w ∷ ws) made all none e = absurd (omega arith)
 
 none_dropped : {X : Type 0} (n : ℕ) (xs : List X) → n ≡ length xs → drop n xs ≡ []
 none_dropped zero [] e = refl

@@ -21,7 +21,7 @@ module _ {A U E : Type 0} where
   if_all (Ok u) (Err e) a P is all h = tt
   if_all (Err d) (Err e) a P is all h = tt
 
-  -- what holds of the fault holds of the one that is told
+  -- what holds of the fault holds of the one that is returned
   pub if_told : (made : Result U E) (r : Result A E) (P Q : E → Type 0) → IfErr r (λ e. made ≡ Err e) → IfErr made P → ((e : E) → P e → Q e) → IfErr r Q
   if_told made (Ok b) P Q is h f = tt
   if_told made (Err e) P Q is h f = f e (IfErr-at_err P is h)

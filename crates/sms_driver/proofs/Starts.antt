@@ -13,7 +13,7 @@ use Rattle.sms_bind.specs.declared.binding.BindFault.TheVariants as bind
 use Rattle.sms_driver.specs.SendFaults.{IsFaultOf, IsOfStart, TellsBind}
 use Rattle.sms_driver.specs.Starts.{TellsStart}
 
--- a bind that fails, before a word
+-- a bind that fails, before a command
 tells_in : (place : ℕ) (why : BindFault) (f : SendFault) → TellsBind place why f → TellsStart Idle f
 tells_in place (bind.Refused status) f is = subst (TellsStart Idle) (sym is) refl
 tells_in place bind.Closed f is = subst (TellsStart Idle) (sym is) refl
@@ -27,7 +27,7 @@ tells_bind refuses told mode place f (inl e) = subst (TellsStart Idle) (sym e) (
 tells_bind refuses told mode place f (inr (inl (e, none))) = subst (TellsStart Idle) (sym e) refl
 tells_bind refuses told mode place f (inr (inr (why, refused, tells))) = tells_in place why f tells
 
--- so whatever is told before a word, of a start at which none was said
+-- so each fault before a command, of a start at which none was given
 pub tells_before : (b : StartPhase) (f : SendFault) → b ≡ Idle → TellsStart Idle f → TellsStart b f
 tells_before b f yet h = subst (λ x. TellsStart x f) (sym yet) h
 
@@ -35,12 +35,12 @@ tells_before b f yet h = subst (λ x. TellsStart x f) (sym yet) h
 pub tells_memory : (b : StartPhase) (f : SendFault) → b ≡ Idle → f ≡ OutOfMemory → TellsStart b f
 tells_memory b f yet e = subst (TellsStart b) (sym e) (inl yet)
 
--- all were told to leave
+-- all were ordered to leave
 pub tells_left : (b : StartPhase) (f : SendFault) → b ≡ Released Leave → IsOfStart f → TellsStart b f
 tells_left b f left (inl e) = subst (TellsStart b) (sym e) (inr left)
 tells_left b f left (inr e) = subst (TellsStart b) (sym e) left
 
--- a start that has the word that was said: to go, or to leave where a fault is told
+-- a start that has the command that was given: to go, or to leave if there is a fault
 pub told_command : {A E : Type 0} (r : Result A E) (w : Command) (b : StartPhase) → b ≡ Released w → MatchResult r (λ _. w ≡ Go) (λ _. w ≡ Leave) → MatchResult r (λ _. b ≡ Released Go) (λ _. b ≡ Released Leave)
 told_command (Ok a) w b is go = is ∙ ap Released go
 told_command (Err e) w b is leave = is ∙ ap Released leave

@@ -1,4 +1,4 @@
--- What holds of a fault holds of it when it is told.
+-- What holds of a fault holds of it when it is returned.
 use Rattle.std.proofs.Common.{◌≡◌, Result, Ok, Err, IfErr}
 use Rattle.std.specs.Result.{IsErrAnd}
 

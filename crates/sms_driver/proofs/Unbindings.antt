@@ -1,4 +1,4 @@
--- What is told of a bind's unbind, from the driver's seat as its window was closed with it.
+-- The result of a bind's unbind, from the driver's seat as its window was closed with it.
 use Rattle.std.proofs.Common.{◌≡◌, ◌+◌, ◌++◌, ◌≤◌, ◌<◌, ℕ, List, [], ◌∷◌, ap, subst, arith}
 use Rattle.sms_core.specs.Numbers.{AllBelow}
 use Rattle.sms_driver.specs.Unbinds.{HasAsked, IsUnbound}

@@ -3,8 +3,8 @@ use Rattle.std.specs.Prelude.{◌≡◌, ◌⊎◌, ℕ, true, false, List, [], 
 use Rattle.sms_bind.specs.declared.down.DownCause.{DownCause}
 use Rattle.sms_bind.specs.declared.down.DownCause.TheVariants as cause
 use Rattle.sms_worker.specs.Closing.{IsClosed, NoneIsClosed}
-use Rattle.sms_worker.specs.declared.closure.ClosedBy.{ClosedBy}
-use Rattle.sms_worker.specs.declared.closure.ClosedBy.TheVariants.{Down, Turns}
+use Rattle.sms_worker.specs.declared.state.closing.ClosedBy.{ClosedBy}
+use Rattle.sms_worker.specs.declared.state.closing.ClosedBy.TheVariants.{Down, Turns}
 use Rattle.sms_worker.specs.Types.{MessageEnd}
 use Rattle.sms_driver.specs.declared.bind_end.BindEnd.{BindEnd}
 use Rattle.sms_driver.specs.declared.bind_end.BindClosing.{BindClosing}

@@ -54,7 +54,7 @@ pub record IsUnread (seat : SeatState) (rings : List (Producer Reply Global AnyI
   pub same_rings : end.producers.items ≡ rings
   pub stopped : end.cause ≡ Stopped
 
--- the answers in what was read went to the rings that were given; `remaining` gives what there is to read. It was read in at most this many
+-- the answers in what was read were pushed into the rings that were given; `remaining` gives what there is to read. It was read in at most this many
 -- turns: in exactly as many if the cause is that they were used up, to its end if that is the cause, and with an error if the cause is that a
 -- read failed
 pub record HasRead {Rd : Type 0} (turns : ℕ) (remaining : Rd → Option (List ℕ)) (given : Reading Rd) (end : ReaderEnd) : Type 0 where

@@ -1,5 +1,5 @@
 -- What passes through a run: the job that it is given, its tasks, what its threads give back, and what is concluded from that.
-use Rattle.std.specs.Prelude.{◌≡◌, ◌*◌, ◌<◌, ℕ, List, Option, length, map}
+use Rattle.std.specs.Prelude.{◌≡◌, ◌<◌, ℕ, List, Option, length, map}
 use Rattle.std.specs.List.{AllByRecursion, AllZip}
 use Rattle.rtrb.specs.Ring.{received, IsPair}
 use Rattle.sms_book.specs.Name.{BookId}
@@ -17,7 +17,7 @@ use Rattle.sms_driver.specs.Deals.{dealt}
 use Rattle.sms_driver.specs.Numbered.{AllDrewOnce, DrewBelow, HasNumbers}
 use Rattle.sms_driver.specs.Reads.{reading_in, reading_of, HasRead}
 use Rattle.sms_driver.specs.Rings.{flat}
-use Rattle.sms_driver.specs.Seated.{all_placements, all_reader_placements, placement_of, reader_placement_of, CountFrom, windows}
+use Rattle.sms_driver.specs.Seated.{all_placements, all_reader_placements, placement_of, reader_placement_of, CountFrom, consumers_of, windows}
 use Rattle.sms_driver.specs.Settled.{AreSettled}
 use Rattle.sms_driver.specs.Threads.{IsPrepared}
 use Rattle.sms_driver.specs.Unbinds.{AsksEach, HasTried}
@@ -44,7 +44,7 @@ pub record AreTasks {N Rd W : Type 0} (rules : Rules) (workers : ℕ) (job : Job
   pub seat_windows : map (λ t. t.assignment.worker.seat.window) ready.tasks.items ≡ windows workers (map (λ b. b.window) shared_binds)
   pub keepers : map (λ t. t.seat.window) ready.reader_tasks.items ≡ map (λ b. b.window) shared_binds
   -- each worker has its end of a ring, and each reader what was read while it was bound
-  pub rings : map (λ t. t.assignment.worker.consumer) ready.tasks.items ≡ flat (map (λ p. p.consumers.items) bind_parts)
+  pub rings : map (λ t. t.assignment.worker.consumer) ready.tasks.items ≡ flat (map consumers_of bind_parts)
   pub readings : map reading_of ready.reader_tasks.items ≡ map reading_in bind_parts
   -- each has its place at its bind, with the line and the window of the bind
   pub placements : map placement_of ready.tasks.items ≡ all_placements shared_binds bind_parts

@@ -1,5 +1,5 @@
 -- Which worker and which reader has its place at which bind.
-use Rattle.std.specs.Prelude.{◌≡◌, ◌+◌, ℕ, zero, suc, List, [], ◌∷◌, ◌++◌, length, replicate, take, drop}
+use Rattle.std.specs.Prelude.{◌≡◌, ◌+◌, ℕ, zero, suc, List, [], ◌∷◌, ◌++◌, length, map, replicate, take, drop}
 use Rattle.std.specs.declared.alloc.Global.{Global}
 use Rattle.atomic_table.specs.Seated.{TableId}
 use Rattle.rtrb.specs.declared.AnyItems.{AnyItems}
@@ -11,19 +11,23 @@ use Rattle.std.specs.List.{AllByRecursion, AllZip}
 use Rattle.sms_driver.specs.Rings.{IsNewPair}
 use Rattle.sms_driver.specs.declared.binding.binds.SharedBind.{SharedBind}
 use Rattle.sms_driver.specs.declared.binding.binds.BindParts.{BindParts}
+use Rattle.sms_driver.specs.declared.binding.binds.WorkerSeat.{WorkerSeat}
 use Rattle.sms_driver.specs.declared.binding.following.Following.{Following}
 use Rattle.sms_driver.specs.declared.threads.task.WorkerPlace.{WorkerPlace}
 use Rattle.sms_driver.specs.declared.threads.task.WorkerTask.{WorkerTask}
 use Rattle.sms_driver.specs.declared.threads.ReaderTask.{ReaderTask}
 
+-- the workers' ends of a bind's rings, in order
+abbrev pub consumers_of : {Rd : Type 0} → BindParts Rd → List (Consumer Reply Global AnyItems)
+consumers_of parts = map (λ w. w.consumer) parts.workers.items
+
 -- the parts are those of a bind with this many workers: each worker has a seat of the bind's window and a new ring, whose other end the reader
 -- has in the same place; and the keeper's seat is of the window
 pub record IsSeated {W Rd : Type 0} (workers : ℕ) (shared : SharedBind W) (parts : BindParts Rd) : Type 0 where
   pub keeper : parts.keeper.window ≡ shared.window
-  pub seats : AllByRecursion (λ s. s.window ≡ shared.window) parts.seats.items
-  pub all : length parts.seats.items ≡ workers
-  pub rings : length parts.consumers.items ≡ workers
-  pub pairs : AllZip IsNewPair parts.producers.items parts.consumers.items
+  pub seats : AllByRecursion (λ w. w.seat.window ≡ shared.window) parts.workers.items
+  pub all : length parts.workers.items ≡ workers
+  pub pairs : AllZip IsNewPair parts.producers.items (consumers_of parts)
 
 -- the windows of all workers' seats, bind by bind
 abbrev pub windows : {K : Type 0} → ℕ → List K → List K
@@ -49,17 +53,16 @@ placement_at p = record { seat = p.seat; place = p.place; ring = p.consumer; lin
 abbrev pub placement_of : {N W : Type 0} → WorkerTask N W → WorkerPlacement W
 placement_of t = record { seat = t.assignment.worker.seat; place = t.assignment.worker.place; ring = t.assignment.worker.consumer; line = t.line.now; window = t.window.now }
 
--- the workers of a bind from this place on, each with the next seat and the next ring
-abbrev pub placements_from : {W : Type 0} → SharedBind W → ℕ → List SeatState → List (Consumer Reply Global AnyItems) → List (WorkerPlacement W)
-placements_from shared place [] rings = []
-placements_from shared place (s ∷ seats) [] = []
-placements_from shared place (s ∷ seats) (r ∷ rings) = record { seat = s; place = place; ring = r; line = shared.line; window = shared.window } ∷ placements_from shared (place + 1) seats rings
+-- the workers of a bind from this place on, each with its seat and its ring
+abbrev pub placements_from : {W : Type 0} → SharedBind W → ℕ → List WorkerSeat → List (WorkerPlacement W)
+placements_from shared place [] = []
+placements_from shared place (w ∷ workers) = record { seat = w.seat; place = place; ring = w.consumer; line = shared.line; window = shared.window } ∷ placements_from shared (place + 1) workers
 
 -- the workers of all binds, bind by bind
 abbrev pub all_placements : {W Rd : Type 0} → List (SharedBind W) → List (BindParts Rd) → List (WorkerPlacement W)
 all_placements [] parts = []
 all_placements (b ∷ bs) [] = []
-all_placements (b ∷ bs) (p ∷ parts) = placements_from b 0 p.seats.items p.consumers.items ++ all_placements bs parts
+all_placements (b ∷ bs) (p ∷ parts) = placements_from b 0 p.workers.items ++ all_placements bs parts
 
 -- a reader's placement: the keeper's seat, the limit that it follows, and the bind's line and window
 pub record ReaderPlacement (W : Type 0) : Type 0 where

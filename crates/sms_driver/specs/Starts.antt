@@ -27,7 +27,7 @@ IsStageAt latch stage.Taken = Unit {0}
 IsStageAt latch (stage.Started started) = IsFiredAt latch started
 
 -- how far a sending came that ends with this fault; its threads were never let go: a book is refused, and a bind fails, before a command is given; if a thread
--- is refused all were told to leave; and memory is refused before a command, or all were told to leave
+-- is refused all were ordered to leave; and memory is refused before a command, or all were ordered to leave
 abbrev pub TellsStart : StartPhase → SendFault → Type 0
 TellsStart begun (fault.BindRefused bind status) = begun ≡ Idle
 TellsStart begun (fault.BindFailed bind why) = begun ≡ Idle

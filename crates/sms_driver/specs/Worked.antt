@@ -8,8 +8,8 @@ use Rattle.sms_book.specs.declared.amounts.Amounts.{Amounts}
 use Rattle.sms_message.specs.declared.message.Message.{Message}
 use Rattle.sms_message.specs.declared.rules.Rules.{Rules}
 use Rattle.sms_worker.specs.Types.{MessageEnd}
-use Rattle.sms_worker.specs.declared.work.Worker.{Worker}
-use Rattle.sms_worker.specs.declared.work.WorkerEnd.{WorkerEnd}
+use Rattle.sms_worker.specs.declared.entry.work.Worker.{Worker}
+use Rattle.sms_worker.specs.declared.entry.work.WorkerEnd.{WorkerEnd}
 use Rattle.sms_worker.specs.EndOf.{IsEndOf}
 use Rattle.sms_worker.specs.Apart.{NumbersApart, PlacesApart}
 use Rattle.sms_worker.specs.Told.{AllTold, Drew, Grew}

@@ -206,38 +206,32 @@ fn make_bind<D: Dial>(
     ensures driver_seat { IfOk result (λ m. m.driver_seat.seat.window ≡ m.shared.window) }
     ensures refused { IfErr result (IsFaultOf (D.refuses dial.now) (D.told dial.now) bind_settings.now.settings.mode bind_place) }
 {
-    let Rings {
-        producers,
-        consumers,
-    } = rings;
     let NewWindow {
         window,
         mut keeper,
         number,
     } = open_window(alloc, bind_settings.limit)?;
-    let Ok(seats) = split_seats(alloc, &window, &mut keeper, workers) else {
+    let Ok(seats) = split_seats(alloc, &window, &mut keeper, rings.consumers) else {
         return Err(SendFault::OutOfMemory);
     };
     let seat = window.split(&mut keeper);
     let Ok(slots) = SlotRow::new(alloc) else {
         return Err(SendFault::OutOfMemory);
     };
-    let settings = &bind_settings.settings;
     let Connected {
         reader,
         wire,
         bound,
         dialled,
-    } = dial_and_bind(alloc, dial, settings, bind_place, number)?;
+    } = dial_and_bind(alloc, dial, &bind_settings.settings, bind_place, number)?;
     let asked = Snapshot::of(&wire);
     let (line, leave) = Line::new(slots, wire);
     Ok(NewBind {
         shared: SharedBind { line, window },
         parts: BindParts {
             keeper,
-            seats,
-            consumers,
-            producers,
+            workers: seats,
+            producers: rings.producers,
             reader,
             bound,
             follow: follow_of(bind_settings),
@@ -284,16 +278,9 @@ fn bind_each<D: Dial>(
     for theirs in rings {
         match make_bind(alloc, dial, bind_settings, place, workers, theirs) {
             Ok(made) => {
-                let NewBind {
-                    shared,
-                    parts,
-                    driver_seat,
-                    dialled: _,
-                    asked: _,
-                } = made;
-                shared_binds.push_reserved(shared);
-                bind_parts.push_reserved(parts);
-                driver_seats.push_reserved(driver_seat);
+                shared_binds.push_reserved(made.shared);
+                bind_parts.push_reserved(made.parts);
+                driver_seats.push_reserved(made.driver_seat);
                 place += 1;
             }
             Err(fault) => {

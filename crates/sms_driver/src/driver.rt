@@ -55,7 +55,7 @@ pub fn drive_all<
     ensures latch { start.new.latch ≡ start.old.latch }
     // All threads were started, and the start signal was given.
     ensures started { OnOk result (start.new.begun ≡ Released Go) }
-    // On a fault no thread was let go: a bind fails before the signal, and if a thread is refused the others are told to leave.
+    // On a fault no thread was let go: a bind fails before the signal, and if a thread is refused the others are ordered to leave.
     ensures phase { IfErr result (TellsStart start.new.begun) }
     ensures sent { IfOk result (Sent settings.now (D.told devices.now.dial.now) (length openings.now) (credits_of openings.now) messages.items) }
     // A fault is of one of the binds, and agrees with what was read of it; or it is of the book, of memory, or of a thread.

@@ -36,7 +36,7 @@ pub enum SendFault {
     /// A thread was refused; nothing was sent.
     #[error("a thread could not be started")]
     ThreadRefused,
-    /// No book can be opened with these accounts for so many workers; nothing was sent.
+    /// No book can be opened with these accounts for this many workers; nothing was sent.
     #[error("no book was opened: {0}")]
     BookRefused(BookError),
     /// Memory was refused before the first message; nothing was sent.

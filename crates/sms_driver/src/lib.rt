@@ -22,7 +22,7 @@ mod start_gate;
 mod threads;
 
 pub use bind_end::{BindClosing, BindEnd, DownBy, ReaderOutcome};
-pub use binding::binds::{BindParts, Binds, DriverSeat, SharedBind};
+pub use binding::binds::{BindParts, Binds, DriverSeat, SharedBind, WorkerSeat};
 pub use binding::following::Following;
 pub use binding::{BindSettings, Dial};
 pub use dealing::{deal, merged};

@@ -1,9 +1,9 @@
 //! A sending, once its book is named.
 
-ghost use Rattle.std.specs.Prelude.{◌≡◌, ◌+◌, ◌*◌, ◌<◌, ◌≤◌, length, map, IfErr, IfOk, OnOk};
+ghost use Rattle.std.specs.Prelude.{◌≡◌, ◌*◌, ◌<◌, ◌≤◌, length, map, Ok, IfErr, IfOk, IsOk, OnOk};
 ghost use Rattle.std.specs.List.{AllByRecursion, AllZip};
 ghost use Rattle.sms_book.specs.Shares.{opening_shares};
-ghost use Rattle.sms_driver.specs.Buffers.{AreBuffersFor};
+ghost use Rattle.sms_driver.specs.Buffers.{AreBuffersFor, IsFree};
 ghost use Rattle.sms_driver.specs.Deals.{dealt};
 ghost use Rattle.sms_driver.specs.Rings.{IsNewPair};
 ghost use Rattle.sms_driver.specs.Runs.{AreTasks, IsJob, IsOutput};
@@ -11,6 +11,8 @@ ghost use Rattle.sms_driver.specs.Seated.{IsSeated};
 ghost use Rattle.sms_driver.specs.SendFaults.{IsFaultOfRun, IsOfStart};
 ghost use Rattle.sms_driver.specs.Sendings.{Sent};
 ghost use Rattle.sms_driver.specs.Starts.{TellsStart};
+ghost use Rattle.sms_driver.specs.Threads.{AreSeated, HaveDriven};
+ghost use Rattle.sms_driver.specs.declared.fault.SendFault.TheVariants.{OutOfMemory};
 ghost use Rattle.sms_driver.specs.declared.start.StartPhase.TheVariants.{Idle, Released};
 ghost use Rattle.sms_driver.specs.declared.start_gate.Command.TheVariants.{Go};
 
@@ -21,16 +23,18 @@ use crate::ending::{RunOutput, Sending, all_done, conclude};
 use crate::fault::SendFault;
 use crate::settings::{Devices, RunSettings};
 use crate::start::Start;
+use crate::start_gate::ThreadResult;
+use crate::threads::ReaderTask;
 use crate::threads::placement::{Placement, seat_all};
-use crate::threads::scope::{Returned, work_all};
+use crate::threads::scope::{Returned, StartFailure, drive};
 use crate::threads::task::{WorkerTask, tasks};
-use crate::threads::{ReaderTask, RunContext};
 use crate::{BindParts, Binds, DriverSeat, SharedBind, deal, unbind_all};
 use sms_book::{Blank, BookName, Shares};
-use sms_worker::{Clock, Gate, Message, Pause, Rules, WorkerEnd};
+use sms_worker::{Clock, Gate, Message, Pause, Rules, RunContext, WorkerEnd};
 use std::alloc::{AllocError, Global};
 use std::io::{Read, Write};
 use std::sync::Wait;
+use std::thread;
 use std::thread::Threads;
 
 /// Deals the messages out to one batch for each share.
@@ -138,7 +142,72 @@ fn make_tasks<'a, N: BookName, Rd: Drop, W: Drop>(
     })
 }
 
-/// Sends all messages of a job over the binds. The binds are unbound in any case.
+/// Makes what the threads are given. If memory is refused the binds are unbound.
+fn prepare_threads<
+    'a,
+    N: BookName,
+    Rd: Drop,
+    W: Write + Drop,
+    G: Gate,
+    K: Clock,
+    P: Pause,
+    R: Wait,
+>(
+    context: &RunContext<'_, N, G, K, P, R>,
+    job: Job<N>,
+    shared_binds: &'a [SharedBind<W>],
+    bind_parts: Vec<BindParts<Rd>>,
+    driver_seats: &mut Vec<DriverSeat>,
+    workers: usize,
+) -> Result<RunTasks<'a, N, Rd, W>, SendFault>
+    requires job { IsJob N.book job }
+    requires bind_parts { AllZip (IsSeated workers) shared_binds.now bind_parts.items }
+    requires driver_seats { map (λ s. s.seat.window) driver_seats.old.items ≡ map (λ b. b.window) shared_binds.now }
+    requires count { N.book.workers ≡ length shared_binds.now * workers }
+    ensures tasks { IfOk result (AreTasks context.now.rules.now workers job shared_binds.now bind_parts.items) }
+    ensures driver_seats { OnOk result (driver_seats.new ≡ driver_seats.old) }
+    ensures refused { IfErr result (λ fault. fault ≡ OutOfMemory) }
+{
+    let made = make_tasks(
+        context.alloc,
+        job,
+        shared_binds,
+        bind_parts,
+        workers,
+        context.rules,
+    );
+    match made {
+        Ok(run_tasks) => Ok(run_tasks),
+        Err(_refused) => {
+            unbind_all(context.rt, context.alloc, shared_binds, driver_seats);
+            Err(SendFault::OutOfMemory)
+        }
+    }
+}
+
+/// The output of a run whose threads were let go.
+fn output_of<N: BookName>(returned: Returned<N>, done_buffer: Vec<WorkerEnd<N>>) -> RunOutput<N>
+    requires worked { AllByRecursion (λ r. IsOk r) returned.worker_results.items }
+    requires room { IsFree (length returned.worker_results.items) done_buffer }
+    ensures done { map (λ d. Ok d) result.done.items ≡ returned.worker_results.items }
+    ensures readers { result.readers ≡ returned.readers }
+    ensures driver_seats { result.driver_seats ≡ returned.driver_seats }
+{
+    let Returned {
+        worker_results,
+        readers,
+        driver_seats,
+    } = returned;
+    RunOutput {
+        done: all_done(worker_results, done_buffer),
+        readers,
+        driver_seats,
+    }
+}
+
+/// Sends all messages of a job over the binds, by readers and workers in threads of their own. The binds are
+/// unbound in any case. If one of the threads can't be started nothing is sent. The start keeps the command
+/// that was given.
 fn send_over<
     'x,
     'l: 'x,
@@ -155,7 +224,7 @@ fn send_over<
     job: Job<N>,
     shared_binds: &'x [SharedBind<W>],
     bind_parts: Vec<BindParts<Rd>>,
-    driver_seats: Vec<DriverSeat>,
+    mut driver_seats: Vec<DriverSeat>,
     workers: usize,
 ) -> Result<RunOutput<N>, SendFault>
     requires job { IsJob N.book job }
@@ -170,45 +239,44 @@ fn send_over<
     ensures output { IfOk result (IsOutput context.now.rules.now N.book workers Rd.remaining (map (λ l. l.items) job.batches.items) shared_binds.now bind_parts.items driver_seats.items) }
     ensures refused { IfErr result IsOfStart }
 {
-    let mut driver_seats = driver_seats;
-    let made = make_tasks(
-        context.alloc,
-        job,
-        shared_binds,
-        bind_parts,
-        workers,
-        context.rules,
-    );
     let RunTasks {
         tasks,
         reader_tasks,
         done_buffer,
-    } = match made {
-        Ok(made) => made,
-        Err(_refused) => {
-            unbind_all(context.rt, context.alloc, shared_binds, &mut driver_seats);
-            return Err(SendFault::OutOfMemory);
-        }
-    };
-    let returned = work_all(
+    } = prepare_threads(
         context,
-        start,
-        tasks,
-        reader_tasks,
+        job,
         shared_binds,
-        driver_seats,
+        bind_parts,
+        &mut driver_seats,
+        workers,
     )?;
-    let Returned {
-        worker_results,
-        readers,
-        driver_seats,
-    } = returned;
-    let done = all_done(worker_results, done_buffer);
-    Ok(RunOutput {
-        done,
-        readers,
-        driver_seats,
-    })
+    let (latch, trigger) = start.take_trigger();
+    let ThreadResult { started, value } = thread::scope(
+        thread::scope_env(),
+        context.rt,
+        move |scope| -> ThreadResult<Result<Returned<N>, StartFailure<N>>>
+            requires seated { AreSeated context.now.rules.now tasks.items reader_tasks.items driver_seats.items shared_binds.now }
+            requires trigger { trigger.latch.value ≡ latch.now }
+            ensures driven { HaveDriven context.entry.now.rules.now Rd.remaining latch.entry.now tasks.entry.items reader_tasks.entry.items driver_seats.items shared_binds.entry.now result }
+        {
+            drive(
+                scope,
+                context,
+                latch,
+                trigger,
+                tasks,
+                reader_tasks,
+                shared_binds,
+                driver_seats,
+            )
+        },
+    );
+    start.set_started(started);
+    match value {
+        Ok(returned) => Ok(output_of(returned, done_buffer)),
+        Err(failure) => Err(SendFault::from(failure)),
+    }
 }
 
 /// Sends all messages, and gives their ends, in order, and the statement. Everything that can be made
@@ -259,15 +327,7 @@ pub fn run<
         bind_parts,
         driver_seats,
     } = made;
-    let context = RunContext {
-        rt,
-        alloc,
-        book: &book,
-        rules: &settings.rules,
-        gate: devices.gate,
-        clock: devices.clock,
-        pause: devices.pause,
-    };
+    let context = devices.context(rt, alloc, &book, &settings.rules);
     let output = send_over(
         &context,
         start,

@@ -58,25 +58,19 @@ impl<'l> Start<'l> {
         }
     }
 
-    /// Where its threads wait.
-    pub(crate) fn latch(&self) -> &'l StartGate
-        ensures { result.now ≡ self.now.latch }
-    {
-        self.latch
-    }
-
-    /// Takes the permission to give the command.
-    pub(crate) fn take_trigger(&mut self) -> Trigger
+    /// The gate where its threads wait, and the permission to give the command there, which is taken.
+    pub(crate) fn take_trigger(&mut self) -> (&'l StartGate, Trigger)
         requires not_started { self.old.begun ≡ Idle }
         ensures latch { self.new.latch ≡ self.old.latch }
         ensures begun { self.new.begun ≡ Starting }
-        ensures trigger { result.latch.value ≡ self.old.latch }
+        ensures gate { result.0.now ≡ self.old.latch }
+        ensures trigger { result.1.latch.value ≡ self.old.latch }
     {
         let stage = mem::replace(&mut self.stage, Stage::Taken);
         let Stage::Trigger(trigger) = stage else {
             unreachable!()
         };
-        trigger
+        (self.latch, trigger)
     }
 
     /// The command was given at its gate.

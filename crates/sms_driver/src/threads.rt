@@ -14,14 +14,13 @@ use crate::Following;
 use crate::start_gate::{StartGate, Started, ThreadResult};
 use rtrb::Producer;
 use sms_bind::{Bound, Line, ReaderEnd, ReaderLeave};
-use sms_book::{Book, BookName};
+use sms_book::BookName;
 use sms_pdu::{Reply, Tap};
 use sms_window::{Window, WindowSeat};
 use sms_worker::{Message, ReadyWorker, Rules, Worker, WorkerEnd};
-use std::alloc::{AllocError, Global};
+use std::alloc::AllocError;
 use std::io::Read;
 use std::snapshot::Snapshot;
-use std::sync::Mutex;
 use std::thread::{Promise, PromisedHandle, Threads};
 
 /// What a worker's thread gives back.
@@ -43,18 +42,6 @@ impl<'s, N: BookName> Promise<ThreadResult<'s, WorkerResult<N>>> for WorkerPromi
     ghost kept_by = { λ p thread_result. IsReleased p.latch.value (IsResultOf p.rules.value p.assignment.value) (IsHandedBack p.assignment.value) thread_result };
 }
 
-/// What all workers of a run share.
-#[derive(Drop)]
-pub struct RunContext<'s, N: BookName, G, K, P, R> {
-    pub rt: &'s R,
-    pub alloc: Global,
-    pub book: &'s Mutex<Book<N>>,
-    pub rules: &'s Rules,
-    pub gate: &'s G,
-    pub clock: &'s K,
-    pub pause: &'s P,
-}
-
 /// What a reader's thread is given.
 #[derive(Drop)]
 pub struct ReaderTask<'a, Rd, W> {
@@ -69,7 +56,7 @@ pub struct ReaderTask<'a, Rd, W> {
 }
 
 /// A reader waits at this gate. If it is let go, it gives back a seat of the same window, and what it read in
-/// at most `turns` turns went to the rings that it was given. If it leaves, it gives back the seat and the
+/// at most `turns` turns was pushed into the rings that it was given. If it leaves, it gives back the seat and the
 /// rings as they were.
 #[derive(Drop)]
 pub struct ReaderPromise<Rd> {

@@ -4,5 +4,6 @@ mod causes;
 mod driving;
 mod faults;
 mod same;
+mod sending;
 mod starting;
 mod unbinding;

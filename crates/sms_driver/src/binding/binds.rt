@@ -14,13 +14,19 @@ pub struct SharedBind<W> {
     pub window: Window,
 }
 
-/// What the threads of a bind are given: the reader gets the keeper's seat and the permission to mark the line
-/// down, each worker a seat and a ring.
+/// A worker's place at a bind: its seat at the window, and its end of a ring.
+#[derive(Drop)]
+pub struct WorkerSeat {
+    pub seat: WindowSeat,
+    pub consumer: Consumer<Reply>,
+}
+
+/// What the threads of a bind are given: the reader gets the keeper's seat, its ends of the rings and the
+/// permission to mark the line down, each worker its place.
 #[derive(Drop)]
 pub struct BindParts<Rd> {
     pub keeper: WindowSeat,
-    pub seats: Vec<WindowSeat>,
-    pub consumers: Vec<Consumer<Reply>>,
+    pub workers: Vec<WorkerSeat>,
     pub producers: Vec<Producer<Reply>>,
     pub reader: Tap<Rd>,
     pub bound: Bound,

@@ -21,7 +21,7 @@ pub(crate) struct Rings {
 /// The rings of one bind.
 fn rings_of(alloc: Global, workers: usize) -> Result<Rings, AllocError>
     ensures length { IfOk result (λ r. length r.consumers.items ≡ workers) }
-    // In order they are the two ends of one ring, into which nothing went yet.
+    // In order they are the two ends of one ring, into which nothing was pushed yet.
     ensures pairs { IfOk result (λ r. AllZip IsNewPair r.producers.items r.consumers.items) }
 {
     let mut producers = Vec::with_capacity(alloc, workers)?;

@@ -1,6 +1,6 @@
 //! A bind's window, with the number of its bind, and the workers' seats, split off the keeper's.
 
-ghost use Rattle.std.specs.Prelude.{◌≡◌, ℕ, ◌-◌, ◌^◌, ◌<◌, ◌≤◌, [], ◌∷◌, length, IfErr, IfOk};
+ghost use Rattle.std.specs.Prelude.{◌≡◌, ℕ, ◌-◌, ◌^◌, ◌<◌, ◌≤◌, [], ◌∷◌, length, map, IfErr, IfOk};
 ghost use Rattle.std.specs.List.{AllByRecursion};
 ghost use Rattle.atomic_table.specs.Seated.{TableId};
 ghost use Rattle.sms_core.specs.Limits.{most_slots};
@@ -8,7 +8,10 @@ ghost use Rattle.sms_window.specs.Names.{HasNames};
 ghost use Rattle.sms_window.specs.Outcome.{IsLimit};
 ghost use Rattle.sms_driver.specs.declared.fault.SendFault.TheVariants.{OutOfMemory};
 
+use crate::binding::binds::WorkerSeat;
 use crate::fault::SendFault;
+use rtrb::Consumer;
+use sms_pdu::Reply;
 use sms_window::{Window, WindowSeat};
 use sms_worker::{Number, draw};
 use std::alloc::{AllocError, Global};
@@ -49,25 +52,26 @@ pub fn open_window(alloc: Global, limit: u32) -> Result<NewWindow, SendFault>
     }
 }
 
-/// Splits `count` seats off.
+/// Splits a seat off for each worker, which gets its end of a ring with it.
 pub fn split_seats(
     alloc: Global,
     window: &Window,
     keeper: &mut WindowSeat,
-    count: usize,
-) -> Result<Vec<WindowSeat>, AllocError>
+    consumers: Vec<Consumer<Reply>>,
+) -> Result<Vec<WorkerSeat>, AllocError>
     requires same_window { keeper.old.window ≡ window.now }
-    requires names { (n : ℕ) × (count < n) × (n ≤ 64) × HasNames n keeper.old.view }
+    requires names { (n : ℕ) × (length consumers.items < n) × (n ≤ 64) × HasNames n keeper.old.view }
     ensures window { keeper.new.window ≡ keeper.old.window }
-    ensures names { (n : ℕ) → count < n → n ≤ 64 → HasNames n keeper.old.view → IfOk result (λ _. HasNames (n - count) keeper.new.view) }
+    ensures names { (n : ℕ) → length consumers.items < n → n ≤ 64 → HasNames n keeper.old.view → IfOk result (λ _. HasNames (n - length consumers.items) keeper.new.view) }
     // It has its slots and its numbers, and the window's begin where they did.
     ensures kept { (keeper.new.view.slots ≡ keeper.old.view.slots) × (keeper.new.view.numbers ≡ keeper.old.view.numbers) × (keeper.new.view.first ≡ keeper.old.view.first) }
-    ensures length { IfOk result (λ v. length v.items ≡ count) }
-    ensures seats { IfOk result (λ v. AllByRecursion (λ s. s.window ≡ window.now) v.items) }
+    ensures consumers { IfOk result (λ v. map (λ w. w.consumer) v.items ≡ consumers.items) }
+    ensures seats { IfOk result (λ v. AllByRecursion (λ w. w.seat.window ≡ window.now) v.items) }
 {
-    let mut seats = Vec::with_capacity(alloc, count)?;
-    for _i in 0..count {
-        seats.push_reserved(window.split(keeper));
+    let mut workers = Vec::with_capacity(alloc, consumers.len())?;
+    for consumer in consumers {
+        let seat = window.split(keeper);
+        workers.push_reserved(WorkerSeat { seat, consumer });
     }
-    Ok(seats)
+    Ok(workers)
 }

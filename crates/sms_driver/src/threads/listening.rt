@@ -1,20 +1,22 @@
 //! Readers in threads of their own.
 
-ghost use Rattle.std.specs.Prelude.{◌≡◌, ◌<◌, ◌≤◌, [], length, map, take, IfErr, IfOk, OnOk, vec_capacity};
+ghost use Rattle.std.specs.Prelude.{◌≡◌, ◌<◌, ◌≤◌, [], length, map, Err, IfErr, IfOk, IsOk, OnOk, vec_capacity};
 ghost use Rattle.std.specs.List.{AllByRecursion};
 ghost use Rattle.sms_driver.specs.StartGates.{IsReleased};
 ghost use Rattle.sms_driver.specs.Reads.{listener_of, listener_promised, reading_of, HasRead, IsUnread};
-ghost use Rattle.sms_driver.specs.declared.fault.SendFault.TheVariants.{ThreadRefused};
+ghost use Rattle.sms_driver.specs.Threads.{AreReaders};
+ghost use Rattle.sms_driver.specs.declared.fault.SendFault.TheVariants.{OutOfMemory, ThreadRefused};
 
 use crate::fault::SendFault;
 use crate::start_gate::{Command, StartGate, ThreadResult};
 use crate::threads::{ReaderPromise, ReaderTask};
 use rtrb::Producer;
 use sms_bind::{ReaderCause, ReaderEnd, read_loop};
+use sms_book::BookName;
 use sms_pdu::{Reply, Tap};
 use sms_window::WindowSeat;
-use sms_worker::Rules;
-use std::alloc::Global;
+use sms_worker::{Clock, Gate, Pause, Rules, RunContext};
+use std::alloc::{AllocError, Global};
 use std::io::{Read, Write};
 use std::snapshot::Snapshot;
 use std::sync::Wait;
@@ -132,34 +134,41 @@ fn start_reader<
     }
 }
 
-/// Starts a reader for each bind. If one is refused, those that were started are in the list.
+/// Starts a reader for each bind, if memory for all threads was had. If a thread is refused, those that were
+/// started are in the list.
 pub(crate) fn start_readers<
     's,
     'l: 's,
     E,
+    N: BookName + Send + Sync + 's,
     Rd: Read + Send + Drop + 's,
     W: Write + Send + 's,
+    G: Gate + Sync,
+    K: Clock + Sync,
+    P: Pause + Sync,
     R: Threads + Wait + Sync,
 >(
     scope: &Scope<'s, E>,
-    rt: &'s R,
-    alloc: Global,
+    context: &'s RunContext<'s, N, G, K, P, R>,
     latch: &'l StartGate,
     reader_tasks: Vec<ReaderTask<'s, Rd, W>>,
-    rules: &'s Rules,
+    reserved: Result<(), AllocError>,
     handles: &mut Vec<ReaderHandle<'l, Rd>>,
 ) -> Result<(), SendFault>
     requires same_window { AllByRecursion (λ t. t.seat.window ≡ t.window.now) reader_tasks.items }
-    requires room { (handles.old.items ≡ []) × (length reader_tasks.items ≤ vec_capacity handles.old) }
-    ensures all { OnOk result (map (λ h. listener_promised h.promise) handles.new.items ≡ map listener_of reader_tasks.entry.items) }
-    ensures bound { length handles.new.items ≤ length reader_tasks.entry.items }
-    ensures first { map (λ h. listener_promised h.promise) handles.new.items ≡ take (length handles.new.items) (map listener_of reader_tasks.entry.items) }
-    ensures given { AllByRecursion (λ h. (h.promise.latch.value ≡ latch.now) × (h.promise.turns ≡ rules.now.turns)) handles.new.items }
-    ensures refused { IfErr result (λ fault. fault ≡ ThreadRefused) }
-    ensures short { IfErr result (λ _. length handles.new.items < length reader_tasks.entry.items) }
+    requires none { handles.old.items ≡ [] }
+    requires room { OnOk reserved (length reader_tasks.items ≤ vec_capacity handles.old) }
+    ensures started { AreReaders context.now.rules.now.turns latch.now reader_tasks.entry.items handles.new.items }
+    ensures all { OnOk result (IsOk reserved × (map (λ h. listener_promised h.promise) handles.new.items ≡ map listener_of reader_tasks.entry.items)) }
+    ensures held { IfErr reserved (λ _. (result ≡ Err OutOfMemory) × (handles.new.items ≡ [])) }
+    ensures refused { OnOk reserved (IfErr result (λ fault. (fault ≡ ThreadRefused) × (length handles.new.items < length reader_tasks.entry.items))) }
 {
+    if let Err(_refused) = reserved {
+        return Err(SendFault::OutOfMemory);
+    }
+    let rt = context.rt;
     for reader_task in reader_tasks {
-        let handle = start_reader(scope, rt, alloc, latch, reader_task, rules)?;
+        let handle = start_reader(scope, rt, context.alloc, latch, reader_task, context.rules)?;
         handles.push_reserved(handle);
     }
     Ok(())

@@ -4,14 +4,12 @@ ghost use Rattle.std.specs.Prelude.{◌≡◌, ℕ, ◌+◌, ◌*◌, ◌++◌, 
 ghost use Rattle.std.specs.List.{AllByRecursion, AllZip};
 ghost use Rattle.sms_driver.specs.Reads.{reading_in, reading_of};
 ghost use Rattle.sms_driver.specs.Rings.{flat};
-ghost use Rattle.sms_driver.specs.Seated.{all_reader_placements, all_placements, reader_placement_of, placements_from, placement_at, IsSeated, windows};
+ghost use Rattle.sms_driver.specs.Seated.{all_reader_placements, all_placements, reader_placement_of, consumers_of, placements_from, placement_at, IsSeated, windows};
 
+use crate::binding::binds::WorkerSeat;
 use crate::threads::ReaderTask;
 use crate::threads::task::WorkerPlace;
 use crate::{BindParts, SharedBind};
-use rtrb::Consumer;
-use sms_pdu::Reply;
-use sms_window::WindowSeat;
 use std::alloc::{AllocError, Global};
 use std::collections::VecDeque;
 
@@ -25,27 +23,22 @@ pub struct Placement<'a, Rd, W> {
 // Gives each worker of a bind its place.
 fn seat_workers<'a, W>(
     shared: &'a SharedBind<W>,
-    seats: Vec<WindowSeat>,
-    consumers: Vec<Consumer<Reply>>,
+    workers: Vec<WorkerSeat>,
     places: &mut Vec<WorkerPlace<'a, W>>,
 ) -> Result<(), AllocError>
-    requires seats { AllByRecursion (λ s. s.window ≡ shared.now.window) seats.items }
-    requires consumers { length consumers.items ≡ length seats.items }
+    requires seats { AllByRecursion (λ w. w.seat.window ≡ shared.now.window) workers.items }
     requires same_window { AllByRecursion (λ p. p.seat.window ≡ p.window.now) places.old.items }
     ensures same_window { OnOk result (AllByRecursion (λ p. p.seat.window ≡ p.window.now) places.new.items) }
-    ensures length { OnOk result (length places.new.items ≡ length places.old.items + length seats.items) }
-    ensures windows { OnOk result (map (λ p. p.seat.window) places.new.items ≡ map (λ p. p.seat.window) places.old.items ++ map (λ s. s.window) seats.items) }
-    ensures rings { OnOk result (map (λ p. p.consumer) places.new.items ≡ map (λ p. p.consumer) places.old.items ++ consumers.items) }
-    // Each has the next place, seat and ring, at the bind's line and window.
-    ensures placements { OnOk result (map placement_at places.new.items ≡ map placement_at places.old.items ++ placements_from shared.now 0 seats.items consumers.items) }
+    ensures length { OnOk result (length places.new.items ≡ length places.old.items + length workers.items) }
+    ensures windows { OnOk result (map (λ p. p.seat.window) places.new.items ≡ map (λ p. p.seat.window) places.old.items ++ map (λ w. w.seat.window) workers.items) }
+    ensures rings { OnOk result (map (λ p. p.consumer) places.new.items ≡ map (λ p. p.consumer) places.old.items ++ map (λ w. w.consumer) workers.items) }
+    // Each has the next place, with its seat and its ring, at the bind's line and window.
+    ensures placements { OnOk result (map placement_at places.new.items ≡ map placement_at places.old.items ++ placements_from shared.now 0 workers.items) }
 {
-    let all = consumers.len();
-    let mut consumers = VecDeque::from(consumers);
-    for seat in seats {
-        let place = all - consumers.len();
-        let Some(consumer) = consumers.pop_front() else {
-            unreachable!()
-        };
+    let before = places.len();
+    for worker in workers {
+        let place = places.len() - before;
+        let WorkerSeat { seat, consumer } = worker;
         places.push(WorkerPlace {
             seat,
             place,
@@ -74,7 +67,7 @@ where
     ensures windows { IfOk result (λ s. map (λ p. p.seat.window) s.places.items ≡ windows workers (map (λ b. b.window) shared_binds.now)) }
     ensures keepers { IfOk result (λ s. map (λ t. t.seat.window) s.reader_tasks.items ≡ map (λ b. b.window) shared_binds.now) }
     // Each place has its ring, and each reader task what its bind's parts have, as they were given.
-    ensures rings { IfOk result (λ s. map (λ p. p.consumer) s.places.items ≡ flat (map (λ p. p.consumers.items) bind_parts.items)) }
+    ensures rings { IfOk result (λ s. map (λ p. p.consumer) s.places.items ≡ flat (map consumers_of bind_parts.items)) }
     ensures readings { IfOk result (λ s. map reading_of s.reader_tasks.items ≡ map reading_in bind_parts.items) }
     // Bind by bind, each worker has its place, its seat, its ring, and the line and the window of the bind. Each reader
     // has the keeper's seat and the limit that it follows.
@@ -91,15 +84,14 @@ where
         let shared = &shared_binds[bind];
         let BindParts {
             keeper,
-            seats,
-            consumers,
+            workers: seats,
             producers,
             reader,
             bound,
             follow,
             leave,
         } = parts;
-        seat_workers(shared, seats, consumers, &mut places)?;
+        seat_workers(shared, seats, &mut places)?;
         reader_tasks.push_reserved(ReaderTask {
             reader,
             bound,

@@ -1,18 +1,18 @@
 //! Workers in threads of their own.
 
-ghost use Rattle.std.specs.Prelude.{◌≡◌, ◌<◌, ◌≤◌, [], length, map, take, IfErr, IfOk, OnOk, vec_capacity};
+ghost use Rattle.std.specs.Prelude.{◌≡◌, ◌<◌, ◌≤◌, [], length, map, Err, IfErr, IsOk, OnOk, vec_capacity};
 ghost use Rattle.std.specs.List.{AllByRecursion};
 ghost use Rattle.sms_driver.specs.StartGates.{IsReleased};
-ghost use Rattle.sms_driver.specs.Threads.{IsPrepared};
+ghost use Rattle.sms_driver.specs.Threads.{AreWorkers, IsPrepared};
 ghost use Rattle.sms_driver.specs.Worked.{IsHandedBack, IsResultOf};
 ghost use Rattle.sms_driver.specs.declared.fault.SendFault.TheVariants.{ThreadRefused};
 
 use crate::fault::SendFault;
 use crate::start_gate::{Command, StartGate, ThreadResult};
 use crate::threads::task::WorkerTask;
-use crate::threads::{RunContext, WorkerPromise, WorkerResult};
+use crate::threads::{WorkerPromise, WorkerResult};
 use sms_book::BookName;
-use sms_worker::{Clock, Gate, Pause};
+use sms_worker::{Clock, Gate, Pause, RunContext};
 use std::alloc::AllocError;
 use std::io::Write;
 use std::snapshot::Snapshot;
@@ -39,17 +39,7 @@ fn work<'s, N: BookName, W: Write, G: Gate, K: Clock, P: Pause, R: Wait>(
     } = task;
     match latch.command(&started) {
         Command::Go => {
-            let (end, _seen) = assignment.run(
-                context.rt,
-                context.alloc,
-                line,
-                window,
-                context.book,
-                context.rules,
-                context.gate,
-                context.clock,
-                context.pause,
-            );
+            let (end, _seen) = assignment.run(context, line, window);
             ThreadResult {
                 started,
                 value: Ok(end),
@@ -65,40 +55,8 @@ fn work<'s, N: BookName, W: Write, G: Gate, K: Clock, P: Pause, R: Wait>(
     }
 }
 
-/// Starts a worker in a thread of the scope.
-fn start_worker<
-    's,
-    'l: 's,
-    E,
-    N: BookName + Send + Sync + 's,
-    W: Write + Send + 's,
-    G: Gate + Sync,
-    K: Clock + Sync,
-    P: Pause + Sync,
-    R: Threads + Wait + Sync,
->(
-    scope: &Scope<'s, E>,
-    context: &'s RunContext<'s, N, G, K, P, R>,
-    latch: &'l StartGate,
-    task: WorkerTask<'s, N, W>,
-) -> Result<WorkerHandle<'l, N>, SendFault>
-    requires same_window { IsPrepared context.now.rules.now task }
-    ensures assignment { IfOk result (λ h. h.promise.assignment.value ≡ task.entry.assignment) }
-    ensures given { IfOk result (λ h. (h.promise.rules.value ≡ context.now.rules.now) × (h.promise.latch.value ≡ latch.now)) }
-    ensures refused { IfErr result (λ fault. fault ≡ ThreadRefused) }
-{
-    let promise = WorkerPromise {
-        latch: Snapshot::of(latch),
-        assignment: Snapshot::of(&task.assignment),
-        rules: Snapshot::of(context.rules),
-    };
-    match scope.spawn_with(promise, move || work(context, latch, task)) {
-        Ok(handle) => Ok(handle),
-        Err(_refused) => Err(SendFault::ThreadRefused),
-    }
-}
-
-/// Starts a worker for each task. If one is refused, those that were started are in the list.
+/// Starts a worker for each task, if the readers were started; else it gives their fault. If a thread is
+/// refused, those that were started are in the list.
 pub(crate) fn start_workers<
     's,
     'l: 's,
@@ -114,20 +72,30 @@ pub(crate) fn start_workers<
     context: &'s RunContext<'s, N, G, K, P, R>,
     latch: &'l StartGate,
     tasks: Vec<WorkerTask<'s, N, W>>,
+    listening: Result<(), SendFault>,
     handles: &mut Vec<WorkerHandle<'l, N>>,
 ) -> Result<(), SendFault>
     requires same_window { AllByRecursion (IsPrepared context.now.rules.now) tasks.items }
-    requires room { (handles.old.items ≡ []) × (length tasks.items ≤ vec_capacity handles.old) }
-    ensures all { OnOk result (map (λ h. h.promise.assignment.value) handles.new.items ≡ map (λ t. t.assignment) tasks.entry.items) }
-    ensures bound { length handles.new.items ≤ length tasks.entry.items }
-    ensures first { map (λ h. h.promise.assignment.value) handles.new.items ≡ take (length handles.new.items) (map (λ t. t.assignment) tasks.entry.items) }
-    ensures given { AllByRecursion (λ h. (h.promise.rules.value ≡ context.now.rules.now) × (h.promise.latch.value ≡ latch.now)) handles.new.items }
-    ensures refused { IfErr result (λ fault. fault ≡ ThreadRefused) }
-    ensures short { IfErr result (λ _. length handles.new.items < length tasks.entry.items) }
+    requires none { handles.old.items ≡ [] }
+    requires room { OnOk listening (length tasks.items ≤ vec_capacity handles.old) }
+    ensures started { AreWorkers context.now.rules.now latch.now tasks.entry.items handles.new.items }
+    ensures all { OnOk result (IsOk listening × (map (λ h. h.promise.assignment.value) handles.new.items ≡ map (λ t. t.assignment) tasks.entry.items)) }
+    ensures held { IfErr listening (λ fault. (result ≡ Err fault) × (handles.new.items ≡ [])) }
+    ensures refused { OnOk listening (IfErr result (λ fault. (fault ≡ ThreadRefused) × (length handles.new.items < length tasks.entry.items))) }
 {
+    if let Err(fault) = listening {
+        return Err(fault);
+    }
     for task in tasks {
-        let handle = start_worker(scope, context, latch, task)?;
-        handles.push_reserved(handle);
+        let promise = WorkerPromise {
+            latch: Snapshot::of(latch),
+            assignment: Snapshot::of(&task.assignment),
+            rules: Snapshot::of(context.rules),
+        };
+        match scope.spawn_with(promise, move || work(context, latch, task)) {
+            Ok(handle) => handles.push_reserved(handle),
+            Err(_refused) => return Err(SendFault::ThreadRefused),
+        }
     }
     Ok(())
 }

@@ -2,8 +2,8 @@
 
 ghost use Rattle.std.specs.Prelude.{◌≡◌, IfOk};
 
-use super::driving::{Beside, messages, settings};
 use super::same::same;
+use super::sending::{Beside, messages, settings};
 use sms_bind::{DownCause, ReaderCause};
 use sms_book::Opening;
 use sms_driver::{

@@ -2,8 +2,9 @@
 //! `threads_` with each thread refused in turn, `tools/refuse-memory` what begins with `memory_` with
 //! each allocation refused in turn.
 
-use super::driving::{Case, Done, GOOD, sent, want_all_charged, want_none_sent};
+use super::driving::{GOOD, want_all_charged, want_none_sent};
 use super::same::same;
+use super::sending::{Case, Done, sent};
 use sms_centre::ServeCause;
 use sms_driver::{Command, SendFault, StartPhase};
 use std::process::Abort;

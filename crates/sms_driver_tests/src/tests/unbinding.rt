@@ -1,7 +1,8 @@
 //! Message centres that answer no unbind.
 
-use super::driving::{openings, settings, want_unbound};
+use super::driving::want_unbound;
 use super::same::same;
+use super::sending::{openings, settings};
 use sms_centre::{Pipe, PipeEnd};
 use sms_driver::{Devices, Dial, SendFault, Sending, Start, StartGate, drive_all};
 use sms_worker::{Clock, Gate, Pause};

@@ -1,4 +1,7 @@
-use Rattle.std.proofs.Common.{◌-◌, ◌∙◌, ap, arith}
+use Rattle.std.proofs.Common.{◌-◌, ◌∙◌, ap, arith, length, rules, subst, sym}
+use Rattle.std.proofs.lemmas.List.{length-map}
+use Rattle.std.specs.List.{AllZip}
+use Rattle.sms_driver.specs.Rings.{IsNewPair}
 use Rattle.sms_window.specs.declared.view.View.{View}
 use Rattle.sms_window.proofs.Names.{can_split}
 use Rattle.sms_driver.proofs.binding.make_bind.Goals as goal
@@ -6,12 +9,22 @@ use Rattle.sms_driver.proofs.binding.make_bind.Goals as goal
 pub split_seats-requires-clause-names : goal.split_seats-requires-clause-names
 split_seats-requires-clause-names g c =
     let few = c.requires.bound in
+    let long = c.requires.rings in
     (64, omega arith, omega arith, c.in_ok-window.ensures.names)
 
 pub split-seat-requires-clause-names : goal.split-seat-requires-clause-names
 split-seat-requires-clause-names g c =
     let few = c.requires.bound in
-    can_split (64 - c.args.workers) _ (omega arith) (omega arith) (c.in-Ok.ensures.names 64 (omega arith) (omega arith) c.in_ok-window.ensures.names)
+    let long = c.requires.rings in
+    can_split (64 - length c.args.rings.consumers.items) _ (omega arith) (omega arith) (c.in-Ok.ensures.names 64 (omega arith) (omega arith) c.in_ok-window.ensures.names)
+
+pub returns-clause-seated : goal.returns-clause-seated
+returns-clause-seated g c = record {
+  keeper = search rules;
+  seats = search rules;
+  all = sym (length-map c.in-Ok.seats.items (λ w. w.consumer)) ∙ ap length c.in-Ok.ensures.consumers ∙ c.requires.rings;
+  pairs = subst (AllZip IsNewPair c.args.rings.producers.items) (sym c.in-Ok.ensures.consumers) c.requires.pairs;
+}
 
 pub returns-clause-set : goal.returns-clause-set
 returns-clause-set g c =

@@ -1,4 +1,4 @@
-use Rattle.std.proofs.Common.{◌*◌, ℕ, List, length, refl, subst, Err, IfOk}
+use Rattle.std.proofs.Common.{◌*◌, ℕ, List, refl, subst, Err, IfOk}
 use Rattle.sms_book.specs.Openings.{credits_of}
 use Rattle.sms_driver.specs.Sendings.{Sent}
 use Rattle.sms_driver.proofs.Books.{book_is_one, book_told, run_told, tells_book, told_one}

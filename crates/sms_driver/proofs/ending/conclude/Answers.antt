@@ -10,11 +10,11 @@ use Rattle.sms_driver.specs.declared.bind_end.BindEnd.{BindEnd}
 use Rattle.sms_driver.specs.BindEnds.{AreBinds}
 use Rattle.sms_driver.specs.Closings.{HaveClosings}
 use Rattle.sms_driver.specs.Numbered.{DrewBelow}
-use Rattle.sms_worker.specs.declared.closure.ClosedBy.{ClosedBy}
+use Rattle.sms_worker.specs.declared.state.closing.ClosedBy.{ClosedBy}
 use Rattle.std.proofs.lemmas.List.{length-map}
 use Rattle.rtrb.specs.Ring.{IsPair}
 use Rattle.sms_bind.specs.declared.ending.ReaderEnd.{ReaderEnd}
-use Rattle.sms_worker.specs.declared.work.WorkerEnd.{WorkerEnd}
+use Rattle.sms_worker.specs.declared.entry.work.WorkerEnd.{WorkerEnd}
 use Rattle.sms_worker.specs.Rests.{HasReceived}
 use Rattle.sms_driver.proofs.Places.{same_length}
 use Rattle.sms_driver.specs.Rings.{flat}

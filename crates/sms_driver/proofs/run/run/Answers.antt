@@ -6,7 +6,7 @@ use Rattle.sms_book.specs.Shares.{opening_shares}
 use Rattle.sms_book.specs.Sums.{IsSumOf}
 use Rattle.sms_message.specs.declared.rules.Rules.{Rules}
 use Rattle.sms_worker.specs.Types.{MessageEnd}
-use Rattle.sms_worker.specs.declared.work.WorkerEnd.{WorkerEnd}
+use Rattle.sms_worker.specs.declared.entry.work.WorkerEnd.{WorkerEnd}
 use Rattle.sms_driver.specs.Deals.{dealt}
 use Rattle.sms_driver.specs.BindEnds.{AreBinds}
 use Rattle.sms_driver.specs.Buffers.{AreBuffersFor}
@@ -14,11 +14,11 @@ use Rattle.sms_driver.specs.Seated.{IsSeated, windows}
 use Rattle.sms_driver.specs.declared.binding.binds.SharedBind.{SharedBind}
 use Rattle.sms_driver.specs.Statements.{AreRows}
 use Rattle.sms_worker.specs.EndOf.{IsEndOf}
-use Rattle.sms_driver.proofs.Sums.{length-opening}
 use Rattle.rtrb.specs.Ring.{received}
 use Rattle.sms_driver.specs.Answered.{Hears, IsHeard, ends_at}
 use Rattle.sms_driver.proofs.Conclusions.{rows_of}
 use Rattle.sms_driver.proofs.Grouping.{are_heard, zip_length, zip_of_all}
+use Rattle.sms_driver.specs.Runs.{IsOutput}
 use Rattle.sms_driver.specs.Numbered.{AllDrewOnce, AreBelow, AreNumbered, HasNumbers}
 use Rattle.sms_driver.proofs.Endings.{have_ended}
 use Rattle.sms_driver.specs.Closings.{AreExplained, SaysWhy}
@@ -93,7 +93,10 @@ returns-clause-sent g c =
     let made = c.in_ok-made.ensures in
     let shared_binds = c.in_ok-made.made.shared_binds.items in
     let parts = c.in_ok-made.made.bind_parts.items in
-    let output = c.in_ok-output.ensures.output in
+    let output =
+    subst (λ (r : Rules). IsOutput r g.N.BookName.book w remaining (map (λ l. l.items) c.in_ok-prepared.prepared.job.batches.items) c.as_slice.result.now parts c.in_ok-made.made.driver_seats.items c.in_ok-output.output)
+    c.context-context.ensures c.in_ok-output.ensures.output
+    in
     let ds = c.in_ok-output.output.done.items in
     let readers = c.in_ok-output.output.readers.items in
     let concluded = c.conclude-ended.ensures.concluded in

@@ -1,15 +1,21 @@
-use Rattle.std.proofs.Common.{◌≡◌, length, map, sym, ap, ◌∙◌, subst, inl}
-use Rattle.std.specs.List.{AllZip}
+use Rattle.std.proofs.Common.{◌≡◌, List, Vec, length, map, rules, sym, ap, ◌∙◌, subst}
+use Rattle.std.specs.List.{AllByRecursion, AllZip}
+use Rattle.std.specs.declared.alloc.Global.{Global}
 use Rattle.atomic_table.specs.Seated.{TableId}
+use denote.Param.Send.{sendable}
 use Rattle.sms_driver.proofs.Sums.{length-opening}
 use Rattle.sms_message.specs.declared.rules.Rules.{Rules}
-use Rattle.sms_worker.specs.declared.work.WorkerEnd.{WorkerEnd}
+use Rattle.sms_worker.specs.declared.entry.work.WorkerEnd.{WorkerEnd}
 use Rattle.sms_worker.specs.ReadyState.{ReadyState}
+use Rattle.sms_bind.specs.declared.ending.ReaderEnd.{ReaderEnd}
+use Rattle.sms_driver.specs.declared.binding.binds.DriverSeat.{DriverSeat}
 use Rattle.sms_driver.specs.declared.threads.task.WorkerTask.{WorkerTask}
 use Rattle.rtrb.specs.Ring.{SameConsumer, SameProducer}
 use Rattle.sms_driver.specs.Reads.{reading_in, HasRead}
 use Rattle.sms_driver.specs.Rings.{flat}
 use Rattle.sms_driver.specs.Buffers.{IsFree}
+use Rattle.sms_driver.specs.Threads.{HaveDriven}
+use Rattle.sms_driver.specs.Unbinds.{AsksEach, HasTried}
 use Rattle.sms_driver.specs.Worked.{IsResultOf, IsWorkOf}
 use Rattle.sms_driver.proofs.Answering.{all_hears}
 use Rattle.sms_driver.proofs.Closings.{all_say}
@@ -19,39 +25,47 @@ use Rattle.std.proofs.lemmas.List.{length-map}
 use Rattle.sms_driver.proofs.Joins.{all_ok, each_ok}
 use Rattle.sms_driver.proofs.Returning.{kept_windows}
 use Rattle.sms_driver.proofs.Conclusions.{all_settled, all_back, map_map, zip_to, zip_map}
-use Rattle.sms_driver.proofs.Starts.{tells_left}
-use Rattle.sms_driver.proofs.Telling.{told_so}
 use Rattle.sms_driver.proofs.run.send_over.Goals as goal
 
-pub make_tasks-made-requires-clause-shares : goal.make_tasks-made-requires-clause-shares
-make_tasks-made-requires-clause-shares g c = ap length c.requires.job.shares ∙ length-opening g.N.BookName.book.accounts g.N.BookName.book.workers ∙ c.requires.count
+pub scoped-started-requires : goal.scoped-started-requires
+scoped-started-requires g c = record {
+  at = λ a.
+      let t = c.type_bounds in
+      let made = c.in_ok-tasks.ensures.tasks in (
+        record { workers = made.same_window; readers = made.reader_tasks; driver = ap (λ (v : Vec DriverSeat Global). map (λ s. s.seat.window) v.items) c.in_ok-tasks.ensures.driver_seats ∙ c.requires.driver_seats },
+        (search rules, (search sendable, search sendable, search sendable, search sendable, search sendable, search sendable, search sendable, search sendable)),
+      );
+}
 
-pub make_tasks-made-requires-clause-batches : goal.make_tasks-made-requires-clause-batches
-make_tasks-made-requires-clause-batches g c = c.requires.job.batches ∙ sym (ap length c.requires.job.shares ∙ length-opening g.N.BookName.book.accounts g.N.BookName.book.workers)
-
-pub returns-clause-output : goal.returns-clause-output
-returns-clause-output g c =
+pub returns-in-Ok-clause-output : goal.returns-in-Ok-clause-output
+returns-in-Ok-clause-output g c =
     let rules : Rules = c.args.context.now.rules.now in
     let w = g.N.BookName.book.workers in
     let accounts = g.N.BookName.book.accounts in
     let remaining = g.Rd.Read.remaining in
-    let made = c.in-Ok.ensures.tasks in
-    let returned = c.in_ok-returned.ensures.returned in
+    let made = c.in_ok-tasks.ensures.tasks in
+    let run = c.in_ok-tasks.field-0 in
+    let driven : HaveDriven rules remaining c.take_trigger-trigger.result.0.now run.tasks.items run.reader_tasks.items c.prepare_threads.new.driver_seats.items c.args.shared_binds.now c.scoped-started.result = search rules in
+    let both = rw c.in-Ok.is at driven.value in
+    let returned = both.1 in
+    let out = c.output_of.ensures in
     let assignment = λ (t : WorkerTask g.row.N.Denot g.row.W.Denot). t.assignment in
-    let tasks = c.in-Ok.made.tasks.items in
+    let tasks = run.tasks.items in
     let assignments = map assignment tasks in
     let parts = c.args.bind_parts.items in
-    let ds = c.all_done-done.result.items in
-    let rs = c.in_ok-returned.returned.readers.items in
-    let results = c.in_ok-returned.returned.worker_results.items in
+    let ds = c.output_of.result.done.items in
+    let rs = c.in-Ok.returned.readers.items in
+    let results = c.in-Ok.returned.worker_results.items in
     -- each worker's end is the work of its assignment
-    let works = all_ok (IsWorkOf rules) (λ j e. ⊥) assignments ds (subst (AllZip (IsResultOf rules) assignments) (sym c.all_done-done.ensures) returned.results) in
+    let works = all_ok (IsWorkOf rules) (λ j e. ⊥) assignments ds (subst (AllZip (IsResultOf rules) assignments) (sym out.done) returned.results) in
+    let same_readers : c.output_of.result.readers.items ≡ rs = ap (λ (v : Vec ReaderEnd Global). v.items) out.readers in
+    let same_seats : c.output_of.result.driver_seats.items ≡ c.in-Ok.returned.driver_seats.items = ap (λ (v : Vec DriverSeat Global). v.items) out.driver_seats in
     let read = subst (λ l. AllZip (HasRead rules.turns remaining) l rs) made.readings returned.read in
     record {
       all =
           let shares : length c.args.job.shares.items ≡ w = ap length c.requires.job.shares ∙ length-opening accounts w in
           let each : length tasks ≡ w = sym (length-map tasks (λ (t : WorkerTask g.row.N.Denot g.row.W.Denot). t.assignment.worker.shares)) ∙ ap length made.shares ∙ shares in
-          all_back assignment (IsWorkOf rules) (λ j e. ⊥) tasks ds results returned.results c.all_done-done.ensures ∙ each;
+          all_back assignment (IsWorkOf rules) (λ j e. ⊥) tasks ds results returned.results out.done ∙ each;
       settled = λ ms batches.
           all_settled
           (λ (j : ReadyState g.row.N.Denot). j.worker.shares)
@@ -59,7 +73,7 @@ returns-clause-output g c =
           (λ (d : WorkerEnd g.row.N.Denot). d.shares)
           (λ (d : WorkerEnd g.row.N.Denot). d.ends.items)
           rules assignment (IsWorkOf rules) (λ j e. ⊥) (λ t d w. (w.worked, w.number)) accounts w ms tasks ds results c.requires.some
-          (made.messages ∙ batches) (made.shares ∙ c.requires.job.shares) returned.results c.all_done-done.ensures;
+          (made.messages ∙ batches) (made.shares ∙ c.requires.job.shares) returned.results out.done;
       seats =
           let given : ReadyState g.row.N.Denot → TableId = λ j. j.worker.seat.window in
           let back : WorkerEnd g.row.N.Denot → TableId = λ d. d.seat.window in
@@ -69,7 +83,7 @@ returns-clause-output g c =
       hears = all_hears rules assignments ds works;
       numbers = all_numbers rules assignments ds works;
       causes = all_say rules assignments ds works;
-      read = read;
+      read = subst (λ (l : List ReaderEnd). AllZip (HasRead rules.turns remaining) (map reading_in parts) l) (sym same_readers) read;
       rings =
           let consumers =
           subst (λ l. AllZip SameConsumer l (map (λ d. d.consumer) ds)) (map_map assignment (λ j. j.worker.consumer) tasks ∙ made.rings)
@@ -79,30 +93,33 @@ returns-clause-output g c =
           subst (λ l. AllZip SameProducer (flat l) (flat (map (λ d. d.producers.items) rs))) (map_map reading_in (λ r. r.rings) parts)
           (flat_zip (λ r. r.rings) (λ d. d.producers.items) SameProducer (map reading_in parts) rs (zip_to (HasRead rules.turns remaining) (λ r d. AllZip SameProducer r.rings d.producers.items) (λ r d h. h.same) (map reading_in parts) rs read))
           in
-          pairs_kept _ _ _ _ (seated_pairs c.args.workers c.args.shared_binds.now parts c.requires.bind_parts) producers consumers;
-      readers = returned.readers ∙ made.keepers;
-      driver_seats = returned.driver;
-      asked = returned.asked;
-      tried = returned.tried;
+          pairs_kept _ _ _ _ (seated_pairs c.args.workers c.args.shared_binds.now parts c.requires.bind_parts)
+          (subst (λ (l : List ReaderEnd). AllZip SameProducer (flat (map (λ p. p.producers.items) parts)) (flat (map (λ (d : ReaderEnd). d.producers.items) l))) (sym same_readers) producers) consumers;
+      readers = ap (map (λ (d : ReaderEnd). d.seat.window)) same_readers ∙ returned.readers ∙ made.keepers;
+      driver_seats = ap (map (λ (s : DriverSeat). s.seat.window)) same_seats ∙ returned.driver;
+      asked =
+          subst (λ (l : List DriverSeat). AsksEach c.args.driver_seats.items l) (sym same_seats)
+          (subst (λ (v : Vec DriverSeat Global). AsksEach v.items c.in-Ok.returned.driver_seats.items) c.in_ok-tasks.ensures.driver_seats returned.asked);
+      tried = subst (λ (l : List DriverSeat). AllByRecursion HasTried l) (sym same_seats) returned.tried;
     }
 
-pub returns-clause-started : goal.returns-clause-started
-returns-clause-started g c = c.in_ok-returned.ensures.command
+pub output_of-requires-clause-worked : goal.output_of-requires-clause-worked
+output_of-requires-clause-worked g c =
+    let rules : Rules = c.args.context.now.rules.now in
+    let run = c.in_ok-tasks.field-0 in
+    let driven : HaveDriven rules g.Rd.Read.remaining c.take_trigger-trigger.result.0.now run.tasks.items run.reader_tasks.items c.prepare_threads.new.driver_seats.items c.args.shared_binds.now c.scoped-started.result = search rules in
+    let both = rw c.in-Ok.is at driven.value in
+    each_ok (IsWorkOf rules) (map (λ t. t.assignment) run.tasks.items) c.in-Ok.returned.worker_results.items both.1.results
 
-pub returns-in-Err-clause-phase : goal.returns-in-Err-clause-phase
-returns-in-Err-clause-phase g c = inl c.requires.not_started
-
-pub returns-in_err-returned-clause-phase : goal.returns-in_err-returned-clause-phase
-returns-in_err-returned-clause-phase g c =
-    told_so c.from_residual.result _ _ c.from_residual.ensures.1 (tells_left _ _ c.in_err-returned.ensures.command c.in_err-returned.ensures.refused)
-
-pub all_done-done-requires-clause-worked : goal.all_done-done-requires-clause-worked
-all_done-done-requires-clause-worked g c = each_ok (IsWorkOf c.args.context.now.rules.now) (map (λ t. t.assignment) c.in-Ok.made.tasks.items) c.in_ok-returned.returned.worker_results.items c.in_ok-returned.ensures.returned.results
-
-pub all_done-done-requires-clause-room : goal.all_done-done-requires-clause-room
-all_done-done-requires-clause-room g c =
+pub output_of-requires-clause-room : goal.output_of-requires-clause-room
+output_of-requires-clause-room g c =
+    let rules : Rules = c.args.context.now.rules.now in
+    let run = c.in_ok-tasks.field-0 in
+    let driven : HaveDriven rules g.Rd.Read.remaining c.take_trigger-trigger.result.0.now run.tasks.items run.reader_tasks.items c.prepare_threads.new.driver_seats.items c.args.shared_binds.now c.scoped-started.result = search rules in
+    let both = rw c.in-Ok.is at driven.value in
     let w = g.N.BookName.book.workers in
+    let made = c.in_ok-tasks.ensures.tasks in
     let shares : length c.args.job.shares.items ≡ w = ap length c.requires.job.shares ∙ length-opening g.N.BookName.book.accounts w in
-    let tasks : length c.in-Ok.made.tasks.items ≡ w = sym (length-map c.in-Ok.made.tasks.items (λ (t : WorkerTask g.row.N.Denot g.row.W.Denot). t.assignment.worker.shares)) ∙ ap length c.in-Ok.ensures.tasks.shares ∙ shares in
-    let long = zip_length (IsResultOf c.args.context.now.rules.now) (map (λ t. t.assignment) c.in-Ok.made.tasks.items) c.in_ok-returned.returned.worker_results.items c.in_ok-returned.ensures.returned.results ∙ length-map c.in-Ok.made.tasks.items (λ (t : WorkerTask g.row.N.Denot g.row.W.Denot). t.assignment) ∙ tasks in
-    subst (IsFree (length c.in_ok-returned.returned.worker_results.items)) (sym c.in-Ok.ensures.tasks.buffer) (subst (λ n. IsFree n c.args.job.done_buffer) (sym long) c.requires.job.room)
+    let tasks : length run.tasks.items ≡ w = sym (length-map run.tasks.items (λ (t : WorkerTask g.row.N.Denot g.row.W.Denot). t.assignment.worker.shares)) ∙ ap length made.shares ∙ shares in
+    let long = zip_length (IsResultOf rules) (map (λ t. t.assignment) run.tasks.items) c.in-Ok.returned.worker_results.items both.1.results ∙ length-map run.tasks.items (λ (t : WorkerTask g.row.N.Denot g.row.W.Denot). t.assignment) ∙ tasks in
+    subst (IsFree (length c.in-Ok.returned.worker_results.items)) (sym made.buffer) (subst (λ n. IsFree n c.args.job.done_buffer) (sym long) c.requires.job.room)

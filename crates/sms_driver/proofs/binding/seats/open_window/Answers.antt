@@ -1,5 +1,5 @@
 use Rattle.std.proofs.Common.{[], inl, inr, refl, subst, arith}
-use Rattle.sms_worker.specs.declared.attempt.Number.{Number}
+use Rattle.sms_worker.specs.declared.steps.attempt.Number.{Number}
 use Rattle.sms_worker.specs.Steps.{Draws}
 use Rattle.sms_driver.proofs.Firsts.{none_seen}
 use Rattle.sms_driver.proofs.binding.seats.open_window.Goals as goal

@@ -3,7 +3,7 @@ use Rattle.std.specs.List.{AllByRecursion, AllZip}
 use Rattle.sms_pdu.proofs.Fronts.{AllByRecursion-append}
 use Rattle.sms_driver.specs.Reads.{reading_in, reading_of}
 use Rattle.sms_driver.specs.Rings.{flat}
-use Rattle.sms_driver.specs.Seated.{all_reader_placements, all_placements, reader_placement_of, placement_at, IsSeated}
+use Rattle.sms_driver.specs.Seated.{all_reader_placements, all_placements, consumers_of, reader_placement_of, placement_at, IsSeated}
 use Rattle.sms_driver.proofs.Placements.{all_kept, all_sat, bind_keeps, bind_sits}
 use Rattle.sms_driver.proofs.Heads.{first_seated, none_seated, none_left}
 use Rattle.sms_driver.proofs.Moves.{moved, none_moved, all_moved, lists_moved}
@@ -18,7 +18,7 @@ loop-bind-init g c = record {
   reader_tasks = search rules;
   windows = search rules;
   keepers = search rules;
-  rings = none_moved (λ p. p.consumer) _ _ _ (search rules) (ap (λ l. flat (map (λ p. p.consumers.items) l)) c.from-bind_parts.ensures.0);
+  rings = none_moved (λ p. p.consumer) _ _ _ (search rules) (ap (λ l. flat (map consumers_of l)) c.from-bind_parts.ensures.0);
   readings = none_moved reading_of _ _ _ (search rules) (ap (map reading_in) c.from-bind_parts.ensures.0);
   placements = none_moved placement_at _ _ _ (search rules) (ap (all_placements c.args.shared_binds.now) c.from-bind_parts.ensures.0);
   reader_placements = none_moved reader_placement_of _ _ _ (search rules) (ap (all_reader_placements c.args.shared_binds.now) c.from-bind_parts.ensures.0);
@@ -34,11 +34,6 @@ seat_workers-requires-clause-seats g c =
     let f = first_seated c.args.workers c.loop-bind.bind c.args.shared_binds.now c.index-shared_binds-bind.result c.loop-bind.bind_parts.items c.in-Some.parts c.pop_front.new.self.items (search rules) c.in-Some.ensures.items c.index-shared_binds-bind.is c.loop-bind.invariant.bind_parts in
     f.0.seats
 
-pub seat_workers-requires-clause-consumers : goal.seat_workers-requires-clause-consumers
-seat_workers-requires-clause-consumers g c =
-    let f = first_seated c.args.workers c.loop-bind.bind c.args.shared_binds.now c.index-shared_binds-bind.result c.loop-bind.bind_parts.items c.in-Some.parts c.pop_front.new.self.items (search rules) c.in-Some.ensures.items c.index-shared_binds-bind.is c.loop-bind.invariant.bind_parts in
-    f.0.rings ∙ sym f.0.all
-
 pub loop-bind-preserved : goal.loop-bind-preserved
 loop-bind-preserved g c =
     let f = first_seated c.args.workers c.loop-bind.bind c.args.shared_binds.now c.index-shared_binds-bind.result c.loop-bind.bind_parts.items c.in-Some.parts c.pop_front.new.self.items (search rules) c.in-Some.ensures.items c.index-shared_binds-bind.is c.loop-bind.invariant.bind_parts in
@@ -47,11 +42,11 @@ loop-bind-preserved g c =
       bind_parts = f.1;
       places = search rules;
       reader_tasks = subst (AllByRecursion (λ t. t.seat.window ≡ t.window.now)) (sym c.push_reserved.ensures.items) (AllByRecursion-append (λ t. t.seat.window ≡ t.window.now) c.loop-bind.reader_tasks.items (_ ∷ []) i.reader_tasks (f.0.keeper, tt));
-      windows = workers_more (λ b. b.window) c.args.workers c.loop-bind.bind c.args.shared_binds.now c.index-shared_binds-bind.result _ _ _ _ (search rules) c.index-shared_binds-bind.is c.in_ok-seat_workers.ensures.windows (bound_seats (λ s. s.window) _ c.args.workers c.in-Some.parts.seats.items f.0.seats f.0.all) i.windows;
+      windows = workers_more (λ b. b.window) c.args.workers c.loop-bind.bind c.args.shared_binds.now c.index-shared_binds-bind.result _ _ _ _ (search rules) c.index-shared_binds-bind.is c.in_ok-seat_workers.ensures.windows (bound_seats (λ w. w.seat.window) _ c.args.workers c.in-Some.parts.workers.items f.0.seats f.0.all) i.windows;
       keepers = keeper_more (λ b. b.window) c.args.workers c.loop-bind.bind c.args.shared_binds.now c.index-shared_binds-bind.result _ _ _ (search rules) c.index-shared_binds-bind.is
           (ap (map (λ t. t.seat.window)) c.push_reserved.ensures.items ∙ map_more (λ t. t.seat.window) c.loop-bind.reader_tasks.items _ ∙ ap (λ w. map (λ t. t.seat.window) c.loop-bind.reader_tasks.items ++ w ∷ []) f.0.keeper)
           i.keepers;
-      rings = lists_moved (λ p. p.consumers.items) (map (λ p. p.consumer) c.loop-bind.places.items) _ c.loop-bind.bind_parts.items _ c.in-Some.parts _ c.in_ok-seat_workers.ensures.rings c.in-Some.ensures.items i.rings;
+      rings = lists_moved consumers_of (map (λ p. p.consumer) c.loop-bind.places.items) _ c.loop-bind.bind_parts.items _ c.in-Some.parts _ c.in_ok-seat_workers.ensures.rings c.in-Some.ensures.items i.rings;
       readings = moved reading_of reading_in c.loop-bind.reader_tasks.items _ c.loop-bind.bind_parts.items _ _ _ _ c.push_reserved.ensures.items c.in-Some.ensures.items refl i.readings;
       placements = bind_sits c.args.shared_binds.now c.loop-bind.bind c.index-shared_binds-bind.result c.loop-bind.bind_parts.items _ c.in-Some.parts (map placement_at c.loop-bind.places.items) _ _ (search rules) c.index-shared_binds-bind.is c.in-Some.ensures.items c.in_ok-seat_workers.ensures.placements i.placements;
       reader_placements = bind_keeps c.args.shared_binds.now c.loop-bind.bind c.index-shared_binds-bind.result c.loop-bind.bind_parts.items _ c.in-Some.parts (map reader_placement_of c.loop-bind.reader_tasks.items) _ _ (search rules) c.index-shared_binds-bind.is c.in-Some.ensures.items (ap (map reader_placement_of) c.push_reserved.ensures.items ∙ map_more reader_placement_of c.loop-bind.reader_tasks.items _) i.reader_placements;
@@ -73,7 +68,7 @@ returns-clause-keepers g c = keepers_all (λ b. b.window) c.args.workers c.loop-
 pub returns-clause-rings : goal.returns-clause-rings
 returns-clause-rings g c =
     let none = none_left c.args.workers c.loop-bind.bind c.args.shared_binds.now c.loop-bind.bind_parts.items (search rules) c.loop-bind.invariant.bind_parts in
-    all_moved _ (flat (map (λ p. p.consumers.items) c.loop-bind.bind_parts.items)) _ (ap (λ l. length (flat (map (λ p. p.consumers.items) l))) none) c.loop-bind.invariant.rings
+    all_moved _ (flat (map consumers_of c.loop-bind.bind_parts.items)) _ (ap (λ l. length (flat (map consumers_of l))) none) c.loop-bind.invariant.rings
 
 pub returns-clause-readings : goal.returns-clause-readings
 returns-clause-readings g c =
