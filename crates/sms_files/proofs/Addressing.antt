@@ -7,7 +7,7 @@ use Rattle.sms_files.specs.Fields.{Field, Record}
 use Rattle.sms_files.specs.Messages.{message_flaw, messages_header_flaw, most_messages}
 use Rattle.sms_files.specs.Rows.{AreRows}
 use Rattle.sms_files.specs.MessageRows.{AreFrom, AreMessages, AreSaid, HasFields, IsMessage, Said}
-use Rattle.sms_files.specs.declared.message_rows.MessageRow.{MessageRow}
+use Rattle.sms_files.specs.declared.tables.message_rows.MessageRow.{MessageRow}
 
 one_message : (names : List Field) (index : ℕ) (r : Record) (row : MessageRow) (m : Message) → HasFields r row → Said names index row m → IsMessage names index r m
 one_message names index r row m h (index_is, account_is, source_is, dest_is, text_is) =

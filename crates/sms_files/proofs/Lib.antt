@@ -5,6 +5,7 @@ pub mod GoodTexts
 pub mod Inputs
 pub mod Keys
 pub mod Left
+pub mod Lists
 pub mod MessageRecords
 pub mod NewAccounts
 pub mod ReadErrors

@@ -7,8 +7,8 @@ use Rattle.csv.specs.Records.{field_at}
 use Rattle.sms_files.specs.Fields.{Field, Record, as_text, text_in}
 use Rattle.sms_files.specs.Messages.{HasText, message_flaw, record_of}
 use Rattle.sms_files.specs.declared.flaw.Flaw.TheVariants.{Fields, NotText}
-use Rattle.sms_files.specs.declared.messages.MessageFields.{MessageFields}
-use Rattle.sms_files.specs.declared.messages.MessageText.{MessageText}
+use Rattle.sms_files.specs.declared.tables.messages.MessageFields.{MessageFields}
+use Rattle.sms_files.specs.declared.tables.messages.MessageText.{MessageText}
 
 -- a field that is text, and one that isn't
 pub some-text : (o : Option Field) (field : Field) → o ≡ Some field → IsUtf8 field → option_and_then as_text o ≡ Some field

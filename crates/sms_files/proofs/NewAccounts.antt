@@ -15,8 +15,8 @@ use Rattle.sms_files.specs.declared.fault.InputFault.{InputFault}
 use Rattle.sms_files.specs.declared.fault.Source.TheVariants.{Accounts}
 use Rattle.sms_files.specs.declared.flaw.Flaw.{Flaw}
 use Rattle.sms_files.specs.declared.flaw.Flaw.TheVariants.{Header, Missing, OneTooMany}
-use Rattle.sms_files.specs.declared.records.RowFault.{RowFault}
-use Rattle.sms_files.specs.declared.records.RowFault.TheVariants.{Flawed}
+use Rattle.sms_files.specs.declared.tables.records.RowFault.{RowFault}
+use Rattle.sms_files.specs.declared.tables.records.RowFault.TheVariants.{Flawed}
 use Rattle.sms_files.proofs.MessageRecords.{text-is}
 use Rattle.sms_files.proofs.Runs.{flaw-read, names-record, was-read}
 

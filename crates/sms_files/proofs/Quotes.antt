@@ -12,8 +12,8 @@ use Rattle.csv.specs.Machine.{step}
 use Rattle.csv.specs.Reading.{default_config, strip_bom}
 use Rattle.csv.specs.declared.parser.State.{State}
 use Rattle.csv.specs.declared.parser.State.TheVariants as st
-use Rattle.sms_files.specs.declared.quoting.Place.{Place}
-use Rattle.sms_files.specs.declared.quoting.Place.TheVariants.{Front, Bare, Quoted, Ended}
+use Rattle.sms_files.specs.declared.tables.quoting.Place.{Place}
+use Rattle.sms_files.specs.declared.tables.quoting.Place.TheVariants.{Front, Bare, Quoted, Ended}
 use Rattle.sms_files.specs.Quoting.{state_behind, after}
 
 -- the place that a state is; csv never comes into two of them, since nothing escapes and nothing is a comment

@@ -22,7 +22,7 @@ use Rattle.sms_files.specs.declared.fault.InputFault.TheVariants as told
 use Rattle.sms_files.specs.declared.fault.Source.TheVariants.{Tariff}
 use Rattle.sms_files.specs.declared.flaw.Flaw.{Flaw}
 use Rattle.sms_files.specs.declared.flaw.Flaw.TheVariants.{Missing, NotDigits, NotNumber, OneTooMany, Taken}
-use Rattle.sms_files.specs.declared.record_flaw.RecordFlaw.{RecordFlaw}
+use Rattle.sms_files.specs.declared.tables.record_flaw.RecordFlaw.{RecordFlaw}
 use Rattle.sms_files.proofs.FirstFlaws.{Found, IsBad, all_fine, first_alone, found, none_some, placed_many, placed_row, same_trouble}
 use Rattle.sms_files.proofs.NewAccounts.{name-read}
 

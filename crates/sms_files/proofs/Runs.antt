@@ -13,9 +13,9 @@ use Rattle.sms_files.specs.declared.fault.InputFault.TheVariants.{OutOfMemory}
 use Rattle.sms_files.specs.declared.fault.Source.{Source}
 use Rattle.sms_files.specs.declared.flaw.Flaw.{Flaw}
 use Rattle.sms_files.specs.declared.flaw.Flaw.TheVariants.{OneTooMany}
-use Rattle.sms_files.specs.declared.records.RowFault.{RowFault}
-use Rattle.sms_files.specs.declared.records.RowFault.TheVariants.{Flawed}
-use Rattle.sms_files.specs.declared.records.RowFault.TheVariants.{OutOfMemory as RowMemory}
+use Rattle.sms_files.specs.declared.tables.records.RowFault.{RowFault}
+use Rattle.sms_files.specs.declared.tables.records.RowFault.TheVariants.{Flawed}
+use Rattle.sms_files.specs.declared.tables.records.RowFault.TheVariants.{OutOfMemory as RowMemory}
 
 -- what holds of a told value, whichever it is
 pub if_known : {A : Type 0} (o : Option A) (P : A → Type 0) → ((x : A) → o ≡ Some x → P x) → IfSome o P

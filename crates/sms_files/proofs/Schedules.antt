@@ -8,8 +8,8 @@ use Rattle.sms_files.specs.Schedule.{MakesWorld, event_flaw, limits_flaw, limits
 use Rattle.sms_files.specs.declared.fault.InputFault.{InputFault}
 use Rattle.sms_files.specs.declared.fault.Source.TheVariants.{Schedule}
 use Rattle.sms_files.specs.declared.flaw.Flaw.{Flaw}
-use Rattle.sms_files.specs.declared.records.RowFault.{RowFault}
-use Rattle.sms_files.specs.declared.records.RowFault.TheVariants.{Flawed, OutOfMemory}
+use Rattle.sms_files.specs.declared.tables.records.RowFault.{RowFault}
+use Rattle.sms_files.specs.declared.tables.records.RowFault.TheVariants.{Flawed, OutOfMemory}
 use Rattle.sms_files.proofs.Files.{bad-first}
 use Rattle.sms_files.proofs.Runs.{if_known}
 

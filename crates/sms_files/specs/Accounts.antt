@@ -43,7 +43,7 @@ taken_flaw number name (n ∷ ns) = if bytes_eq n name then Some (Taken number) 
 abbrev pub new_account_flaw : List Field → Record → Option Flaw
 new_account_flaw names r = first_flaw (account_flaw r) (taken_flaw 2 (name_in r) names)
 
--- the first record that is no new account or is one too many, where these names and so many records stand before
+-- the first record that is no new account or is one too many, where these names and `before` records stand before it
 abbrev pub rest_fault : List Field → ℕ → List Record → Option Trouble
 rest_fault names before [] = None
 rest_fault names before (r ∷ rs) =

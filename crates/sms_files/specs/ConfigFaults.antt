@@ -7,7 +7,7 @@ use Rattle.sms_files.specs.Config.{Key, faulty_key, host_of, port_of, system_id_
 use Rattle.sms_files.specs.ConfigValues.{IsValueAt}
 use Rattle.sms_files.specs.declared.config.Config.{Config}
 use Rattle.sms_files.specs.declared.config.Connection.{Connection}
-use Rattle.sms_files.specs.declared.limits.Limits.{Limits}
+use Rattle.sms_files.specs.declared.config.limits.Limits.{Limits}
 use Rattle.sms_files.specs.declared.config.Retry.{Retry}
 use Rattle.sms_files.specs.declared.config.Flags.{Flags}
 use Rattle.sms_files.specs.declared.config.FileNames.{FileNames}

@@ -5,8 +5,8 @@ use Rattle.toml.specs.Data.{Data, Items, Members, string, integer, float, boolea
 use Rattle.sms_centre.specs.Keys.{strings_in}
 use Rattle.sms_centre.specs.Texts.{IsFirstBad}
 use Rattle.sms_files.specs.Config.{Key}
-use Rattle.sms_files.specs.declared.config_value.ConfigValue.{ConfigValue}
-use Rattle.sms_files.specs.declared.config_value.ConfigValue.TheVariants.{Missing, Number, Flag, Text, Hidden, Texts, BadText, Values, Table, Else}
+use Rattle.sms_files.specs.declared.config.config_value.ConfigValue.{ConfigValue}
+use Rattle.sms_files.specs.declared.config.config_value.ConfigValue.TheVariants.{Missing, Number, Flag, Text, Hidden, Texts, BadText, Values, Table, Else}
 
 -- a text is shown by the octets of its string
 abbrev pub IsTextOf : List ℕ → ConfigValue → Type 0

@@ -13,7 +13,7 @@ use Rattle.sms_files.specs.declared.fault.Source.{Source}
 use Rattle.sms_files.specs.declared.fault.Source.TheVariants.{Schedule, Messages, Accounts, Tariff}
 use Rattle.sms_files.specs.declared.flaw.Flaw.{Flaw}
 use Rattle.sms_files.specs.declared.flaw.Flaw.TheVariants.{Missing, OneTooMany, NotNumber, NotDigits, Taken}
-use Rattle.sms_files.specs.declared.record_flaw.RecordFlaw.{RecordFlaw}
+use Rattle.sms_files.specs.declared.tables.record_flaw.RecordFlaw.{RecordFlaw}
 
 -- what no tariff takes of a rate by itself: its prefix has at most 20 digits, and its credits are 1 to 1,000
 abbrev pub are_digits : List ℕ → Bool

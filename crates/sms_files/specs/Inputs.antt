@@ -15,7 +15,7 @@ use Rattle.sms_files.specs.declared.fault.InputFault.TheVariants.{OutOfMemory}
 use Rattle.sms_files.specs.declared.fault.Source.TheVariants.{Accounts, Messages}
 use Rattle.sms_files.specs.declared.input.Input.{Input}
 
--- the bytes that a reader gives, where they are told
+-- the bytes that a reader gives, where they are known
 abbrev pub Told : Type 0
 Told = Option (List ℕ)
 

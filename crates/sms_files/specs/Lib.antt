@@ -4,7 +4,6 @@ pub mod FieldFlaws
 pub mod Records
 pub mod Rows
 pub mod Messages
-pub mod Names
 pub mod RunRules
 pub mod MessageRows
 pub mod Accounts

@@ -4,7 +4,7 @@ use Rattle.std.specs.Str.{bytes_eq}
 use Rattle.sms_message.specs.declared.message.Message.{Message}
 use Rattle.sms_files.specs.Fields.{Field, Record}
 use Rattle.sms_files.specs.Messages.{messages_fault}
-use Rattle.sms_files.specs.declared.message_rows.MessageRow.{MessageRow}
+use Rattle.sms_files.specs.declared.tables.message_rows.MessageRow.{MessageRow}
 
 -- the row has the record's fields
 abbrev pub HasFields : Record → MessageRow → Type 0

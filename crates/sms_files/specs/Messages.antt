@@ -6,8 +6,8 @@ use Rattle.sms_files.specs.Records.{Trouble, file_fault}
 use Rattle.sms_files.specs.Rows.{AreRows, field_is, header_of}
 use Rattle.sms_files.specs.declared.flaw.Flaw.{Flaw}
 use Rattle.sms_files.specs.declared.flaw.Flaw.TheVariants.{Fields}
-use Rattle.sms_files.specs.declared.messages.MessageFields.{MessageFields}
-use Rattle.sms_files.specs.declared.messages.MessageText.{MessageText}
+use Rattle.sms_files.specs.declared.tables.messages.MessageFields.{MessageFields}
+use Rattle.sms_files.specs.declared.tables.messages.MessageText.{MessageText}
 
 -- how many messages a file has at the most
 abbrev pub most_messages : ℕ

@@ -4,7 +4,7 @@ use Rattle.std.specs.Io.KnownBytes.{Appends}
 use Rattle.sms_files.specs.declared.report.fault.OutputFault.{OutputFault}
 use Rattle.sms_files.specs.declared.report.fault.OutputFault.TheVariants.{Output}
 
--- a front of the text was written, and nothing else
+-- some first octets of the text were written, maybe none, and nothing else
 pub record WritesFront (old new : Option (List ℕ)) (text : List ℕ) : Type 0 where
   pub front : List ℕ
   pub back : List ℕ

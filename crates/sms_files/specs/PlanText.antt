@@ -11,7 +11,7 @@ use Rattle.sms_segment.specs.declared.place.Reference.TheVariants.{Short, Long}
 use Rattle.sms_segment.specs.Message.{parts_of}
 use Rattle.sms_files.specs.Fields.{Record}
 use Rattle.sms_files.specs.Messages.{text_of}
-use Rattle.sms_files.specs.declared.messages.MessageText.{MessageText}
+use Rattle.sms_files.specs.declared.tables.messages.MessageText.{MessageText}
 
 -- the most parts that a header can count
 abbrev pub most_parts : ℕ

@@ -99,8 +99,3 @@ pub record AreQuotes (os : List Opening) (long : Bool) (prices : List Price) (ms
 -- a message that passes has a part, and each of its parts costs something
 abbrev pub IsCounted : Quote → Type 0
 IsCounted q = q.verdict ≡ Passes → (1 ≤ q.parts) × (q.parts ≤ q.cost)
-
--- how many parts a message has, if a header can count them
-abbrev pub IsPartCount : Bool → Message → Option ℕ → Type 0
-IsPartCount long m None = IsTooLong (coded_text m) (reference_for long m)
-IsPartCount long m (Some parts) = IsShort long m × (parts ≡ length (parts_for long m)) × (1 ≤ parts)

@@ -6,7 +6,6 @@ use Rattle.csv.specs.declared.error.ErrorKind.TheVariants as kind
 use Rattle.csv.specs.declared.reader.Reader.{Reader}
 use Rattle.csv.specs.declared.reader.Trim.TheVariants as trim
 use Rattle.sms_pdu.specs.Devices.{device}
-use Rattle.sms_pdu.specs.declared.tap.Tap.{Tap}
 use Rattle.sms_files.specs.Faults.{IsDevice}
 use Rattle.sms_files.specs.Fields.{Record}
 use Rattle.sms_files.specs.declared.fault.InputFault.{InputFault}
@@ -15,9 +14,10 @@ use Rattle.sms_files.specs.declared.fault.InputFault.TheVariants as told
 use Rattle.sms_files.specs.declared.fault.Source.{Source}
 use Rattle.sms_files.specs.declared.flaw.Flaw.{Flaw}
 use Rattle.sms_files.specs.declared.flaw.Flaw.TheVariants.{Missing, OneTooMany}
-use Rattle.sms_files.specs.declared.record_flaw.RecordFlaw.{RecordFlaw}
-use Rattle.sms_files.specs.declared.records.RowFault.{RowFault}
-use Rattle.sms_files.specs.declared.records.RowFault.TheVariants.{Flawed, OutOfMemory}
+use Rattle.sms_files.specs.declared.tables.csv_file.CsvFile.{CsvFile}
+use Rattle.sms_files.specs.declared.tables.record_flaw.RecordFlaw.{RecordFlaw}
+use Rattle.sms_files.specs.declared.tables.records.RowFault.{RowFault}
+use Rattle.sms_files.specs.declared.tables.records.RowFault.TheVariants.{Flawed, OutOfMemory}
 
 -- the reader gives every record as it stands, the first one too, and of whatever length
 pub record ReadsAll {R : Type 0} (a : Reader R) : Type 0 where
@@ -30,13 +30,13 @@ pub record ReadsAll {R : Type 0} (a : Reader R) : Type 0 where
 abbrev pub IsDeviceError : ErrorKind → Type 0
 IsDeviceError k = (is_io k ≡ true) ⊎ (k ≡ kind.OutOfMemory)
 
--- the records that a reader has left, where the bytes underneath are told
+-- the records that a reader has left, where the bytes underneath are known
 abbrev pub reader_left : {R : Type 0} → (R → Option (List ℕ)) → Reader R → Option (List Record)
 reader_left remaining a = option_map (λ bytes. records_from default_config (length bytes + 1) (reader_state a) bytes) (source_of remaining a)
 
 -- the same of a reader of a file whose errors are counted
-abbrev pub records_left : {R : Type 0} → (R → Option (List ℕ)) → Reader (Tap R) → Option (List Record)
-records_left remaining a = reader_left (λ tap. remaining (device tap)) a
+abbrev pub records_left : {R : Type 0} → (R → Option (List ℕ)) → Reader (CsvFile R) → Option (List Record)
+records_left remaining a = reader_left (λ file. remaining (device file.tap)) a
 
 -- a read finds the first of the records that are left, and none where none is left
 abbrev pub GivesFirst : List Record → Bool → Record → Option (List Record) → Type 0
@@ -56,12 +56,12 @@ Trouble = ℕ × Flaw
 abbrev pub some_trouble : ℕ → Flaw → Option Trouble
 some_trouble place flaw = Some (place, flaw)
 
--- the trouble with a record of this flaw, where so many records stand before it; without a flaw that of those after it
+-- the trouble with a record of this flaw, where `before` records stand before it; without a flaw that of those after it
 abbrev pub trouble_by : ℕ → Option Flaw → Option Trouble → Option Trouble
 trouble_by before None later = later
 trouble_by before (Some flaw) later = Some (before + 1, flaw)
 
--- the first record that has a flaw or is one too many, where so many records stand before
+-- the first record that has a flaw or is one too many, where `before` records stand before it
 abbrev pub record_fault : (Record → Option Flaw) → ℕ → ℕ → List Record → Option Trouble
 record_fault flaw most before [] = None
 record_fault flaw most before (r ∷ rs) =

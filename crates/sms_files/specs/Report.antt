@@ -8,7 +8,7 @@ use Rattle.sms_message.specs.declared.ends.MessageEnd.{MessageEnd}
 use Rattle.sms_message.specs.declared.ends.MessageResult.{MessageResult}
 use Rattle.sms_message.specs.declared.ends.SegmentEnd.{SegmentEnd}
 use Rattle.sms_message.specs.declared.ends.MessageRefusal.{MessageRefusal}
-use Rattle.sms_files.specs.Names.{outcome_name, refusal_name}
+use Rattle.sms_message.specs.Names.{outcome_name, refusal_name}
 use Rattle.sms_message.specs.declared.ends.MessageResult.TheVariants as result
 use Rattle.sms_message.specs.declared.ends.Outcome.{Outcome}
 use Rattle.sms_message.specs.declared.ends.Outcome.TheVariants.{Charged, Refused, Unanswered, Unsent}

@@ -12,8 +12,8 @@ use Rattle.sms_files.specs.Fields.{Field, Record}
 use Rattle.sms_files.specs.Records.{Trouble, file_fault}
 use Rattle.sms_files.specs.declared.flaw.Flaw.{Flaw}
 use Rattle.sms_files.specs.declared.flaw.Flaw.TheVariants.{Fields, NotNumber, Word}
-use Rattle.sms_files.specs.declared.records.RowFault.{RowFault}
-use Rattle.sms_files.specs.declared.records.RowFault.TheVariants.{Flawed, OutOfMemory}
+use Rattle.sms_files.specs.declared.tables.records.RowFault.{RowFault}
+use Rattle.sms_files.specs.declared.tables.records.RowFault.TheVariants.{Flawed, OutOfMemory}
 
 -- the greatest numbers of a field's type; a flag is 0 or 1
 abbrev pub most_u32 : ℕ
@@ -38,7 +38,7 @@ abbrev pub and_map : {A B : Type 0} → (A → B) → Result A Flaw → Result B
 and_map f (Ok x) = Ok (f x)
 and_map f (Err flaw) = Err flaw
 
--- the numbers after the word of a record: exactly so many, the last of at most so much, the others below 2^32
+-- the numbers after the word of a record: exactly this many, the last at most `most`, the others below 2^32
 abbrev pub one_number : Record → Result ℕ Flaw
 one_number r = if length r == 2 then number_read most_u32 r 1 else Err (Fields (length r))
 

@@ -44,7 +44,7 @@ Grew old new ms es = (i : ℕ) → ((amounts_at new i).reserved ≡ (amounts_at 
     × ((amounts_at new i).charged ≡ (amounts_at old i).charged + credits charged_of i ms es)
     × ((amounts_at new i).returned ≡ (amounts_at old i).returned + credits returned_of i ms es)
 
--- the account of a message that is refused for want of credit began with fewer credits than the message costs and all that the share ever
+-- the account of a message that is refused as one without credit began with fewer credits than the message costs and all that the share ever
 -- reserved of the account
 abbrev pub LackCredit : BookId → Rules → List Message → List MessageEnd → Share → Type 0
 LackCredit book rules ms es share =

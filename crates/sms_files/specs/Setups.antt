@@ -1,6 +1,6 @@
 -- What the program needs of a config before it sends.
 use Rattle.sms_files.specs.declared.config.Config.{Config}
-use Rattle.sms_files.specs.declared.setup.Setup.{Setup}
+use Rattle.sms_files.specs.declared.config.setup.Setup.{Setup}
 
 abbrev pub setup_in : Config → Setup
 setup_in c = record {

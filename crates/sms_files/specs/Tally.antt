@@ -1,4 +1,4 @@
--- How far the messages of a sending are, and the line that tells it.
+-- How far the messages of a sending are, and the line that says so.
 use Rattle.std.specs.Prelude.{ℕ, ◌+◌, ◌-◌, ◌*◌, ◌/◌, ◌==◌, Bool, true, false, List, ◌++◌, length, Option, Some, None, if◌then◌else◌, codes, decimal, slice_get, sum_by}
 use Rattle.std.specs.List.{list_any}
 use Rattle.sms_message.specs.declared.ends.Attempt.{Attempt}
@@ -78,7 +78,7 @@ one_if false = 0
 abbrev pub count_of : {S : Type 0} → (Standing → Bool) → List (MessageEnd S) → ℕ
 count_of test ends = sum_by (λ end. one_if (test (message_standing end))) ends
 
--- how many have ended, and how: so many unanswered segments still wait for an answer
+-- how many have ended, and how: `open` unanswered segments still wait for an answer
 abbrev pub tally_of : {S : Type 0} → List (MessageEnd S) → ℕ → Tally
 tally_of ends waiting = record {
   charged = capped (count_of is_charged ends);

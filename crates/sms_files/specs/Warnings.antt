@@ -1,4 +1,4 @@
--- What is told of texts that look as if a quote had been left open in the messages file.
+-- The warnings of texts that look as if a quote had been left open in the messages file.
 use Rattle.std.specs.Prelude.{ℕ, ◌+◌, ◌==◌, nat_le, if◌then◌else◌, Bool, List, [], ◌∷◌, ◌++◌, codes, decimal, string_bytes}
 use Rattle.sms_message.specs.declared.message.Message.{Message}
 
@@ -7,12 +7,12 @@ abbrev pub commas : List ℕ → ℕ
 commas [] = 0
 commas (x ∷ xs) = (if x == 44 then 1 else 0) + commas xs
 
--- what stands behind the first line feed; nothing where there is none
+-- what stands after the first line feed; nothing where there is none
 abbrev pub behind_line : List ℕ → List ℕ
 behind_line [] = []
 behind_line (x ∷ xs) = if x == 10 then xs else behind_line xs
 
--- behind a line feed stand at least as many commas as a messages record has between its four fields
+-- after a line feed stand at least as many commas as a messages record has between its four fields
 abbrev pub looks_open : List ℕ → Bool
 looks_open text = nat_le 3 (commas (behind_line text))
 

@@ -1,8 +1,7 @@
 //! Why an input can't be used.
 
-use crate::config_value::ConfigValue;
-use crate::record_flaw::RecordFlaw;
-use crate::toml_flaw::TomlFlaw;
+use crate::config::{ConfigValue, TomlFlaw};
+use crate::tables::RecordFlaw;
 use sms_pdu::DeviceError;
 use std::alloc::{AllocError, AllocFailed};
 use std::fmt;

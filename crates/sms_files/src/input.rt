@@ -3,11 +3,9 @@
 ghost use Rattle.std.specs.Prelude.{◌≡◌, IfErr, IfOk, option_map};
 ghost use Rattle.sms_files.specs.Inputs.{HasFiles, IsFaultOfFiles, IsInput, IsTariffOf, TellsInput, TellsTariffOf};
 
-use crate::accounts::read_accounts;
 use crate::config::{Config, config_of};
 use crate::fault::InputFault;
-use crate::message_rows::read_messages;
-use crate::rates::{read_tariff, tariff_of};
+use crate::tables::{read_accounts, read_messages, read_tariff, tariff_of};
 use sms_book::{Opening, Tariff};
 use sms_message::Message;
 use std::alloc::Global;
@@ -68,7 +66,7 @@ impl Input {
     }
 }
 
-/// Reads the config's octets and then the files, in this order. Of several faults the first is told:
+/// Reads the config's octets and then the files, in this order. Of several faults the first is returned:
 /// `NotToml` or `BadKey` of the config, and of a file `BadRecord` of its first faulty record, or
 /// `Unreadable` where its reader fails. Without a tariff file there are no rates.
 pub fn read_input<A: Read + Drop, M: Read + Drop, T: Read + Drop>(

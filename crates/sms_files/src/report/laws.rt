@@ -9,7 +9,7 @@ pub fn each_message_is_counted_once()
     ensures together { TogetherCountNoMore }
 {}
 
-/// The line on the way leaves one of 80 columns free, so that it stands in one row of a terminal with the cursor behind
+/// The line on the way leaves one of 80 columns free, so that it stands in one row of a terminal with the cursor after
 /// it. So it is with as many messages as a file has at the most, of which any number has ended, where more than 10
 /// milliseconds and no more than a year have passed.
 pub fn the_line_fits_a_row()

@@ -8,8 +8,8 @@ use crate::report::fault::OutputFault;
 use crate::report::unwritten::{Errors, Unwritten};
 use std::io::{ErrorKind, Write};
 
-/// Writes all of the text, and lets it go out. Where the output fails, or takes nothing of its own
-/// accord, that is told, and what went out is a front of the text.
+/// Writes all of the text and flushes it. A fault where the output fails, or takes nothing of its own
+/// accord; then only some first octets of the text went out.
 pub fn write_out<W: Write>(output: &mut W, text: &[u8]) -> Result<(), OutputFault>
     ensures written { OnOk result (Appends (W.contents output.old) (W.contents output.new) text.now) }
     ensures front { WritesFront (W.contents output.old) (W.contents output.new) text.now }

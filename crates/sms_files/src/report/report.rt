@@ -6,12 +6,14 @@ ghost use Rattle.sms_files.specs.Output.{WritesFront, output_failed};
 ghost use Rattle.sms_files.specs.Report.{amount_text, amounts_text, answer_text, end_text, end_texts, field_text, head_text, last_text, needs_quotes as wants_quotes, quoted, refused_text, report_header, report_of, row_text, row_texts, segment_text, segment_texts, shown_id, statement_header};
 ghost use Rattle.sms_files.specs.declared.report.fault.OutputFault.TheVariants.{OutOfMemory};
 
-use crate::names::{outcome_name, refusal_name};
 use crate::report::fault::OutputFault;
 use crate::report::output::write_out;
 use sms_book::{Opening, Statement};
 use sms_core::Row;
-use sms_message::{Attempt, MessageEnd, MessageRefusal, MessageResult, Outcome, SegmentEnd};
+use sms_message::{
+    Attempt, MessageEnd, MessageRefusal, MessageResult, Outcome, SegmentEnd, outcome_name,
+    refusal_name,
+};
 use sms_pdu::{MessageId, Reply};
 use std::alloc::{AllocError, Global};
 use std::fmt::Write;
@@ -273,7 +275,7 @@ pub fn write_rows_report<S, W: io::Write>(
     ensures written { OnOk result (Appends (W.contents output.old) (W.contents output.new) (report_of openings.now ends.now rows.now)) }
     ensures failed { IfErr result (λ fault. (fault ≡ output_failed) ⊎ (fault ≡ OutOfMemory)) }
 
-    // Where the output failed, a front of the text was written, and else nothing.
+    // Where the output failed, the text was written only in part, and otherwise not at all.
     ensures front { IfErr result (λ fault. fault ≡ output_failed → WritesFront (W.contents output.old) (W.contents output.new) (report_of openings.now ends.now rows.now)) }
     ensures quiet { IfErr result (λ fault. fault ≡ OutOfMemory → output.new ≡ output.old) }
 {

@@ -116,7 +116,7 @@ fn message_standing<S>(end: &MessageEnd<S>) -> Standing
     all
 }
 
-/// What has become of these messages, so many segments of which still wait for an answer. Such a
+/// What has become of these messages, `open` of whose segments still wait for an answer. Such a
 /// segment looks like one that had none.
 pub fn tally_of<S>(ends: &[MessageEnd<S>], open: usize) -> Tally
     ensures { result ≡ tally_in ends.now «open» }
@@ -129,7 +129,7 @@ pub fn tally_of<S>(ends: &[MessageEnd<S>], open: usize) -> Tally
     tally
 }
 
-/// The line that tells how far a sending is.
+/// The line that says how far a sending is.
 #[derive(Clone, Copy, Debug, PartialEq, Eq, Drop)]
 pub struct WayLine {
     /// How many messages have ended, and how.

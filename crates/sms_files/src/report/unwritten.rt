@@ -66,7 +66,7 @@ impl Errors {
     }
 }
 
-/// That an output failed: it had answered so many errors by then. Only an output that answered one gives it, so
+/// An output failed: it had answered this many errors by then. Only an output that answered one gives it, so
 /// that no failure is made up. Contracts see no more of it than that it is there.
 #[derive(Debug, Drop)]
 pub struct Unwritten {

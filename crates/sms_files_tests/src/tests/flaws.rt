@@ -11,7 +11,7 @@ use std::process::Abort;
 // A file, and of its fault the record, its flaw, its line (0 for none) and the value.
 type Flawed = (Source, &'static [u8], usize, Flaw, u64, &'static [u8]);
 
-const FLAWED_ACCOUNTS: [Flawed; 11] = [
+const FLAWED_ACCOUNTS: [Flawed; 12] = [
     (Source::Accounts, b"", 1, Flaw::Missing, 0, b""),
     (
         Source::Accounts,
@@ -74,6 +74,15 @@ const FLAWED_ACCOUNTS: [Flawed; 11] = [
     (
         Source::Accounts,
         b"account,credits\n\n\"a\nb\",1\n\nc,\"1,000\"\n",
+        3,
+        Flaw::NotNumber(2),
+        6,
+        b"1,000",
+    ),
+    // The same, and the last line has no end.
+    (
+        Source::Accounts,
+        b"account,credits\n\n\"a\nb\",1\n\nc,\"1,000\"",
         3,
         Flaw::NotNumber(2),
         6,

@@ -1,22 +1,12 @@
 //! The checks of a message.
 
 ghost use Rattle.std.specs.Prelude.{◌≡◌, ◌≤◌, ◌*◌, IfOk};
-ghost use Rattle.sms_files.specs.Quotes.{IsChecked, IsCounted, IsPartCount, IsQuoteOf};
+ghost use Rattle.sms_files.specs.Quotes.{IsChecked, IsCounted, IsQuoteOf};
 
 use crate::report::quote::quote::{Quote, Verdict};
-use sms_alphabet::choose;
 use sms_book::Tariff;
-use sms_message::{Message, has_addresses, is_known, reference_for};
-use sms_segment::parts_in;
+use sms_message::{Message, has_addresses, is_known, part_cost, part_count};
 use std::alloc::{AllocError, Global};
-
-/// How many parts a message has; none where no header can count them.
-fn parts_for(alloc: Global, long: bool, message: &Message) -> Result<Option<u8>, AllocError>
-    ensures { IfOk result (IsPartCount long message.now) }
-{
-    let text = choose(alloc, message.text.as_str())?;
-    Ok(parts_in(&text, reference_for(long, message)))
-}
 
 /// A message that isn't cut.
 fn uncut(verdict: Verdict) -> Quote
@@ -29,7 +19,7 @@ fn uncut(verdict: Verdict) -> Quote
     }
 }
 
-/// What so many parts cost.
+/// What this number of parts costs.
 fn cost_for(parts: u8, price: u32) -> u64
     requires { 1 ≤ price }
     ensures is { result ≡ parts * price }
@@ -55,10 +45,10 @@ fn checked(
     if !has_addresses(message) {
         return Ok(uncut(Verdict::BadAddress));
     }
-    let Some(parts) = parts_for(alloc, long, message)? else {
+    let Some(parts) = part_count(alloc, long, message)? else {
         return Ok(uncut(Verdict::TooLong));
     };
-    let price = tariff.cost(message.dest.as_str());
+    let price = part_cost(tariff, message);
     Ok(Quote {
         verdict: Verdict::Passes,
         parts: u64::from(parts),
@@ -66,7 +56,7 @@ fn checked(
     })
 }
 
-/// The quote of a message whose account has so many credits left.
+/// The quote of a message whose account has `free` credits left.
 pub(crate) fn quote_of(
     alloc: Global,
     accounts: usize,

@@ -17,7 +17,7 @@ pub(crate) struct Total {
     pub(crate) cost: u64,
 }
 
-/// Those of so many accounts before any message.
+/// Those of this number of accounts before any message.
 pub(crate) fn no_totals(alloc: Global, accounts: usize) -> Result<Vec<Total>, AllocError>
     ensures count { IfOk result (λ totals. length totals.items ≡ accounts) }
     ensures each { IfOk result (λ totals. (i : ℕ) (t : TheTotal) → slice_get totals.items i ≡ Some t → t ≡ nothing) }
@@ -33,7 +33,7 @@ pub(crate) fn no_totals(alloc: Global, accounts: usize) -> Result<Vec<Total>, Al
     Ok(totals)
 }
 
-/// With a message that passes, of an account with so many credits.
+/// With a message that passes, of an account that has these credits.
 fn with_message(credits: u64, total: Total, quote: Quote) -> Total
     requires { Fits credits quote total }
     ensures { result ≡ more total quote }

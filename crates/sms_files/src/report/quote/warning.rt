@@ -1,4 +1,4 @@
-//! What is told of texts that look as if a quote had been left open.
+//! Warnings of texts that look as if a quote had been left open.
 
 ghost use Rattle.std.specs.Prelude.{◌≡◌, ◌++◌, IfOk, OnOk, string_bytes};
 ghost use Rattle.sms_files.specs.Warnings.{behind_line as what_is_behind, commas, looks_open as is_open, warning_line, warning_lines};
@@ -8,7 +8,7 @@ use sms_message::Message;
 use std::alloc::{AllocError, Global};
 use std::fmt::Write;
 
-/// How many commas behind a line feed look like records: as many as stand in a messages record.
+/// How many commas after a line feed look like records: as many as stand in a messages record.
 const COMMAS: usize = 3;
 
 /// How many commas there are.
@@ -24,7 +24,7 @@ fn commas_in(text: &[u8]) -> usize
     count
 }
 
-/// What stands behind the first line feed; nothing where there is none.
+/// What stands after the first line feed; nothing where there is none.
 fn behind_line(text: &[u8]) -> &[u8]
     ensures { result.now ≡ what_is_behind text.now }
 {
@@ -36,7 +36,7 @@ fn behind_line(text: &[u8]) -> &[u8]
     &text[text.len()..]
 }
 
-/// Whether the text looks as if it held records behind a line feed.
+/// Whether the text looks as if it held records after a line feed.
 fn looks_open(text: &[u8]) -> bool
     ensures { result ≡ is_open text.now }
 {
@@ -67,9 +67,9 @@ fn write_warnings(text: &mut String, messages: &[Message]) -> Result<(), AllocEr
     Ok(())
 }
 
-/// What is to be told of the messages of an input: a line for each whose text has a line feed and
-/// behind it at least as many commas as stand in a messages record. A quote that is left open in a
-/// messages file makes such a text of the records behind it.
+/// The warnings of the messages of an input: a line for each whose text has a line feed and after it
+/// at least as many commas as stand in a messages record. A quote that is left open in a messages file
+/// makes such a text of the records after it.
 pub fn warnings_text(alloc: Global, input: &Input) -> Result<String, AllocError>
     ensures { IfOk result (λ text. string_bytes text ≡ warning_lines input.now.messages.items) }
 {

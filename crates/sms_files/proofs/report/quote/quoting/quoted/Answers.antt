@@ -1,7 +1,8 @@
 use Rattle.std.proofs.Common.{◌≡◌, ◌+◌, ◌++◌, ◌∷◌, [], length, subst, sym, take, arith, rules}
 use Rattle.sms_files.specs.Quotes.{AreQuotesOf, IsQuoteOf}
 use Rattle.sms_files.specs.Totals.{AreTotals, FitIn, left_in}
-use Rattle.sms_files.proofs.CountingQuotes.{fits, left_is, no_quotes_are, no_totals_are, quotes_more, take_whole, totals_more}
+use Rattle.sms_files.proofs.CountingQuotes.{fits, left_is, no_quotes_are, no_totals_are, quotes_more, totals_more}
+use Rattle.sms_files.proofs.Lists.{take_whole}
 use Rattle.sms_files.proofs.report.quote.quoting.quoted.Goals as goal
 
 pub loop-place-init : goal.loop-place-init

@@ -1,7 +1,7 @@
 use Rattle.std.proofs.Common.{◌≡◌, refl, rules}
 use Rattle.sms_files.specs.declared.report.quote.total.Total.{Total}
 use Rattle.sms_files.specs.Totals.{nothing}
-use Rattle.sms_files.proofs.CountingQuotes.{all_more}
+use Rattle.sms_files.proofs.Lists.{all_more}
 use Rattle.sms_files.proofs.report.quote.total.no_totals.Goals as goal
 
 pub loop-preserved : goal.loop-preserved

@@ -1,5 +1,0 @@
-use Rattle.std.proofs.Common.{refl}
-use Rattle.sms_files.proofs.record_flaw.bad_record.Goals as goal
-
-pub returns : goal.returns
-returns c = (_, refl, refl)
