@@ -12,36 +12,8 @@ use Rattle.sms_message.specs.Ends.{phase_of}
 use Rattle.sms_journal.specs.declared.notes.rows.Sums.{Sums}
 use Rattle.sms_message.specs.declared.ends.SegmentEnd.{SegmentEnd}
 use Rattle.sms_message.specs.declared.ends.MessageEnd.{MessageEnd}
+use Rattle.sms_files.proofs.Lists.{drop_step, drop_whole, get_set_else, get_set_here}
 use Rattle.sms_journal.specs.Sums.{AreCovered, AreFew, AreSums, AreSumsBefore, Fits, FitsAt, HasAdded, HasCredit, IsCovered, IsGrown, IsSmall, credit_of_segment, credits_of_ends, no_sums, over_parts, parts_in, recovered_row, row_with, sum_parts}
-
--- ---- lists
-
-module _ {X : Type 0} where
-  pub drop_step : (xs : List X) (i : ℕ) (x : X) → i < length xs → x ≡ get_or xs i x → drop i xs ≡ x ∷ drop (i + 1) xs
-  drop_step xs i x low is = rw add-one (step xs i x low is)
-    where
-      step : (xs : List X) (i : ℕ) (x : X) → i < length xs → x ≡ get_or xs i x → drop i xs ≡ x ∷ drop (suc i) xs
-      step [] i x low is = absurd (omega (arith, low))
-      step (y ∷ ys) zero x low is = ap (λ z. z ∷ ys) (sym is)
-      step (y ∷ ys) (suc i) x low is = step ys i x (omega (arith, low)) is
-
-  pub drop_whole : (xs : List X) (i : ℕ) → length xs ≤ i → drop i xs ≡ []
-  drop_whole [] zero low = refl
-  drop_whole [] (suc i) low = refl
-  drop_whole (x ∷ xs) zero low = absurd (omega (arith, low))
-  drop_whole (x ∷ xs) (suc i) low = drop_whole xs i (omega (arith, low))
-
-  pub get_set_here : (xs : List X) (k : ℕ) (x y : X) → slice_get xs k ≡ Some x → slice_get (slice_set xs k y) k ≡ Some y
-  get_set_here [] k x y e = absurd (cc)
-  get_set_here (z ∷ xs) zero x y e = refl
-  get_set_here (z ∷ xs) (suc k) x y e = get_set_here xs k x y e
-
-  pub get_set_else : (xs : List X) (k j : ℕ) (y : X) → (k ≡ j → ⊥) → slice_get (slice_set xs k y) j ≡ slice_get xs j
-  get_set_else [] k j y apart = refl
-  get_set_else (z ∷ xs) zero zero y apart = absurd (apart refl)
-  get_set_else (z ∷ xs) zero (suc j) y apart = refl
-  get_set_else (z ∷ xs) (suc k) zero y apart = refl
-  get_set_else (z ∷ xs) (suc k) (suc j) y apart = get_set_else xs k j y (λ e. apart (ap suc e))
 
 -- ---- what a message adds to an account
 

@@ -7,7 +7,7 @@ use Rattle.std.proofs.lemmas.List.Concat.{flat_map-cons}
 use Rattle.sms_journal.specs.declared.notes.note.Note.{Note}
 use Rattle.sms_journal.specs.declared.notes.note.Note.TheVariants.{Begun, Sent, Unsent, Heard, Refused, End}
 use Rattle.sms_journal.specs.Text.{flag, id_text, note_text}
-use Rattle.sms_files.specs.Names.{refusal_name}
+use Rattle.sms_message.specs.Names.{refusal_name}
 use Rattle.sms_journal.specs.Lines.{AreNotes, AreU64, IsNote, IsU64, feed_at, timed_text}
 use Rattle.sms_journal.proofs.Fields.{HasNoEnd, begun_line, end_line, flag_low, heard_line, no_end_id, no_end_number, no_end_refusal, refused_line, sent_line, unsent_line}
 use Rattle.sms_journal.proofs.Records.{line_once}

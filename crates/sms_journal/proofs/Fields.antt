@@ -16,13 +16,13 @@ use Rattle.sms_pdu.specs.declared.reply.Reply.{Reply}
 use Rattle.sms_pdu.specs.Reply.{before, before_zero}
 use Rattle.sms_message.specs.declared.ends.MessageRefusal.{MessageRefusal}
 use Rattle.sms_message.specs.declared.ends.MessageRefusal.TheVariants.{NoAccount, NoCredit, TooLong, BadAddress, BindClosed, OutOfMemory}
+use Rattle.sms_files.proofs.Lists.{take_whole}
 use Rattle.sms_journal.specs.declared.notes.note.RequestId.{RequestId}
 use Rattle.sms_journal.specs.declared.notes.note.Note.{Note}
 use Rattle.sms_journal.specs.declared.notes.note.Note.TheVariants.{Begun, Sent, Unsent, Heard, Refused, End}
 use Rattle.sms_journal.specs.declared.text.note_fields.Escape.TheVariants.{Plain, First}
-use Rattle.sms_journal.proofs.Lists.{take_whole}
 use Rattle.sms_journal.specs.Text.{flag, hex_digit, hex_octet, id_octet, id_text, is_plain, note_text, number_field}
-use Rattle.sms_files.specs.Names.{refusal_name, refusal_named}
+use Rattle.sms_message.specs.Names.{refusal_name, refusal_named}
 use Rattle.sms_journal.specs.Lines.{AreIdOctets, IsId, IsNote, IsU32, IsU64}
 use Rattle.sms_journal.specs.Reading.{begun_in, behind_field, digit_in, end_at, end_in, field_in, flag_in, heard_in, heard_of, id_in, is_end, kind_in, note_in, octets_in, refused_in, refused_of, sent_in, time_in, u32_in, u64_in, u8_in, unsent_in}
 

@@ -11,7 +11,7 @@ use Rattle.sms_journal.specs.Digests.{AreDigests, AreOctets, IsDigest, IsTariffD
 use Rattle.sms_journal.specs.Heads.{digest_in, digests_in, digests_of, head_in, kind_in, octet_at, octet_of, octets_in, tariff_in}
 use Rattle.sms_journal.specs.Reading.{behind_field, field_in}
 use Rattle.sms_journal.specs.Text.{digest_field, header_text, hex_digit, hex_octet, hex_text, kind_word, tariff_field}
-use Rattle.sms_journal.proofs.Lists.{take_whole}
+use Rattle.sms_files.proofs.Lists.{take_whole}
 use Rattle.sms_journal.proofs.Fields.{HasNoEnd, behind_is, comma, digit_back, feed, field_is, no_end_hex}
 
 module _ {A : Type 0} where

@@ -3,7 +3,7 @@ use Rattle.std.proofs.Common.{◌≡◌, ◌≢◌, ◌∙◌, ◌≤◌, ◌<�
 use Rattle.std.specs.Prelude.{Option, option_map, slice_get, slice_set, ◌==◌, ◌&&◌, ◌||◌, not}
 use Rattle.std.proofs.lemmas.Bool.{eqb-false, eqb-true, ne_eqb}
 use Rattle.sms_files.specs.Fields.{Record}
-use Rattle.sms_journal.proofs.Adding.{drop_step, drop_whole}
+use Rattle.sms_files.proofs.Lists.{drop_step, drop_whole}
 use Rattle.sms_journal.specs.declared.rest.report_line.Line.{Line}
 use Rattle.sms_journal.specs.RecordLines.{is_left}
 use Rattle.sms_journal.specs.Rest.{is_unsent, stays, stays_by}

@@ -6,15 +6,9 @@ use Rattle.std.specs.List.{AllZip}
 use Rattle.std.proofs.lemmas.List.{take_more}
 use Rattle.std.proofs.lemmas.Grind.{flat_map-append}
 use Rattle.std.proofs.Common.{append-nil}
+use Rattle.sms_files.proofs.Lists.{got_of_append, take_whole}
 
 module _ {X : Type 0} where
-  -- what stands in a list with one more
-  pub got_of_append : (xs : List X) (y : X) (q : ℕ) (z : X) → slice_get (xs ++ y ∷ []) q ≡ Some z → (slice_get xs q ≡ Some z) ⊎ ((q ≡ length xs) × (z ≡ y))
-  got_of_append [] y zero z e = inr (refl, (cc))
-  got_of_append [] y (suc q) z e = inl e
-  got_of_append (x ∷ xs) y zero z e = inl e
-  got_of_append (x ∷ xs) y (suc q) z e = elim (got_of_append xs y q z e) [ inl h ↦ inl h | inr h ↦ inr (ap suc h.0, h.1) ]
-
   pub got_before : (xs : List X) (y : X) (q : ℕ) (z : X) → slice_get xs q ≡ Some z → slice_get (xs ++ y ∷ []) q ≡ Some z
   got_before [] y q z e = absurd (cc)
   got_before (x ∷ xs) y zero z e = e
@@ -50,13 +44,7 @@ module _ {A B : Type 0} where
       ∙ ap (λ l. flat_map f (take i xs) ++ l) (append-nil (f (get_or xs i x)) ∙ ap f (sym is))
 
 module _ {X : Type 0} where
-  pub take_whole : (xs : List X) (i : ℕ) → length xs ≤ i → take i xs ≡ xs
-  take_whole [] zero low = refl
-  take_whole [] (suc i) low = refl
-  take_whole (x ∷ xs) zero low = absurd (omega arith)
-  take_whole (x ∷ xs) (suc i) low = ap (λ l. x ∷ l) (take_whole xs i (omega arith))
-
-  -- a front with the element behind it
+  -- the first elements with one more
   snoc : (xs : List X) (k : ℕ) (x : X) → slice_get xs k ≡ Some x → take (suc k) xs ≡ take k xs ++ x ∷ []
   snoc [] k x e = absurd (cc)
   snoc (y ∷ ys) zero x e = let same : y ≡ x = cc in ap (λ z. z ∷ []) same

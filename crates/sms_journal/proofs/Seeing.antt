@@ -14,8 +14,9 @@ use Rattle.sms_journal.specs.declared.notes.seen.Seen.{Seen}
 use Rattle.sms_journal.specs.Recovered.{or_else, fate_in, fate_of, start_in, start_of}
 use Rattle.sms_journal.specs.Lawful.{HasParts, IsAbove, IsJournal, IsOver, MayFollow, MayTry, sent_in}
 use Rattle.sms_journal.specs.Seen.{IsCounted, IsCountFor, IsKept, IsGreatest, IsLast, IsLastTry, IsLatest, Sees, count_in, latest_in, attempt_in_note}
+use Rattle.sms_files.proofs.Lists.{got_of_append}
 use Rattle.sms_journal.proofs.Firsts.{first_snoc}
-use Rattle.sms_journal.proofs.Lists.{got_of_append, got_before, got_last, take_before, take_within}
+use Rattle.sms_journal.proofs.Lists.{got_before, got_last, take_before, take_within}
 
 both : (a b : Bool) → (a && b) ≡ true → (a ≡ true) × (b ≡ true)
 both true b e = (refl, e)

@@ -3,6 +3,7 @@ use Rattle.std.proofs.Common.{◌≡◌, ◌≢◌, ◌≤◌, ◌⊎◌, inl, i
 use Rattle.std.specs.Prelude.{Option, slice_get}
 use Rattle.sms_book.specs.declared.opening.Opening.{Opening}
 use Rattle.sms_files.specs.Fields.{Record}
+use Rattle.sms_files.proofs.Lists.{take_whole}
 use Rattle.sms_journal.specs.declared.recovery.fault.RecoveryFault.{RecoveryFault}
 use Rattle.sms_journal.specs.declared.recovery.fault.RecoveryFault.TheVariants.{OutOfMemory, Report}
 use Rattle.sms_journal.specs.declared.rest.stage.Stage.{Stage}
@@ -58,12 +59,6 @@ module _ {A : Type 0} (f : A → Record) where
     front = h;
     stops = rw (got xs k x e) s;
   }
-
-take_whole : {X : Type 0} (xs : List X) (k : ℕ) → length xs ≤ k → take k xs ≡ xs
-take_whole [] zero h = refl
-take_whole [] (suc k) h = refl
-take_whole (x ∷ xs) zero h = absurd (omega (arith, h))
-take_whole {X = X} (x ∷ xs) (suc k) h = ap (λ (l : List X). x ∷ l) (take_whole xs k (omega (arith, h)))
 
 pub stage_of_all : {A : Type 0} (f : A → Record) (counts : List ℕ) (openings : List Opening) (xs : List A) (k : ℕ) (stage : Stage) → after counts openings Start (take k (map f xs)) ≡ Some stage → length xs ≤ k
     → after counts openings Start (map f xs) ≡ Some stage

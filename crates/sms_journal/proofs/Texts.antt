@@ -3,7 +3,7 @@ use Rattle.std.proofs.Common.{◌≡◌, ◌∙◌, ◌≤◌, ◌<◌, sym, ref
 use Rattle.std.proofs.lemmas.List.{append-nil, length-drop, take_all}
 use Rattle.sms_book.specs.declared.opening.Opening.{Opening}
 use Rattle.sms_files.specs.Fields.{Record}
-use Rattle.sms_journal.proofs.Adding.{drop_step, drop_whole}
+use Rattle.sms_files.proofs.Lists.{drop_step, drop_whole}
 use Rattle.sms_journal.proofs.Stages.{as_many}
 use Rattle.sms_journal.specs.Rest.{account_text, account_texts, is_unsent, left_text, left_texts}
 

@@ -8,7 +8,7 @@ use Rattle.sms_journal.specs.Faults.{output_failed}
 use Rattle.sms_journal.specs.declared.recovery.fault.RecoveryFault.TheVariants.{Input, OutOfMemory}
 use Rattle.sms_files.specs.Output.{WritesFront}
 
--- octets that there may be, as a reader tells them
+-- octets that there may be, where a reader's are known
 abbrev pub octets_read : Option (List ℕ) → Option Told
 octets_read file = option_map (λ octets. Some octets) file
 
@@ -20,6 +20,6 @@ Reads config accounts messages tariff input = IsInput config (Some accounts) (So
 abbrev pub IsFaultOfFiles : List ℕ → List ℕ → List ℕ → Option (List ℕ) → RecoveryFault → Type 0
 IsFaultOfFiles config accounts messages tariff fault = (f : InputFault) × TellsInput config (Some accounts) (Some messages) (octets_read tariff) f × (fault ≡ Input f)
 
--- the output failed behind a front of the text, or memory was refused
+-- the output failed after part of the text, or memory was refused
 abbrev pub IsCut : List ℕ → Option (List ℕ) → Option (List ℕ) → RecoveryFault → Type 0
 IsCut text old new fault = (fault ≡ OutOfMemory) ⊎ ((fault ≡ output_failed) × WritesFront old new text)

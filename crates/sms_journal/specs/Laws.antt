@@ -53,7 +53,7 @@ pub record HasChargedPart (parts : List (SegmentEnd (Unit {0}))) (p : ℕ) : Typ
   pub there : slice_get parts p ≡ Some part
   pub charged : part.outcome ≡ Charged
 
--- what a front of a lawful journal tells as charged the whole journal tells as charged
+-- what the first notes of a lawful journal charge, the whole journal charges
 abbrev pub ChargesStayCharges : Type 0
 ChargesStayCharges =
     (rules : Rules) (accounts : ℕ) (ms : List Message) (notes later : List Note) (m : Message) (e f : MessageEnd (Unit {0})) (p : ℕ) → IsJournal rules accounts ms (notes ++ later)
@@ -75,6 +75,6 @@ HeadersAreOfOneJournal =
     (text : List ℕ) (kind other : JournalKind) (digests others : Digests) (behind rest : List ℕ) → AreDigests digests → AreDigests others → text ≡ header_text kind digests ++ behind → text ≡ header_text other others ++ rest
     → (other ≡ kind) × (others ≡ digests)
 
--- each front of a lawful journal is a lawful journal
+-- the first notes of a lawful journal are a lawful journal
 abbrev pub FrontsAreLawful : Type 0
 FrontsAreLawful = (rules : Rules) (accounts : ℕ) (ms : List Message) (notes later : List Note) → IsJournal rules accounts ms (notes ++ later) → IsJournal rules accounts ms notes

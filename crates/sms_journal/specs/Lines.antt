@@ -1,4 +1,4 @@
--- The text of a journal and the notes that it tells: one relation.
+-- The text of a journal and its notes: one relation.
 use Rattle.std.specs.Prelude.{◌≡◌, ◌≢◌, ℕ, ◌+◌, ◌<◌, ◌≤◌, ◌==◌, ◌⊎◌, ⊤, Bool, true, false, List, [], ◌∷◌, ◌++◌, length, map, flat_map, position, Option, Some, None}
 use Rattle.sms_journal.specs.declared.error.JournalError.{JournalError}
 use Rattle.sms_journal.specs.declared.error.JournalError.TheVariants.{BadRecord, OtherFiles, BadNote, Overdrawn, OutOfMemory}
@@ -54,7 +54,7 @@ IsRead line (Some note) = IsLineOf line note
 abbrev pub feed_at : List ℕ → Option ℕ
 feed_at text = position (λ c. c == 10) text
 
--- the text begins with this line, whose last octet is the first line feed, and the rest comes behind it
+-- the text begins with this line, whose last octet is the first line feed, and the rest comes after it
 pub record BeginsWith (line rest text : List ℕ) : Type 0 where
   pub at : ℕ
   pub is : text ≡ line ++ rest
@@ -76,7 +76,7 @@ pub record AreLines (text : List ℕ) (notes : List Note) : Type 0 where
   pub are : map (λ (e : ℕ × Note). e.1) timed ≡ notes
   pub is : text ≡ flat_map timed_text timed
 
--- the text is lines of these notes, and behind them a line that was cut, which doesn't count
+-- the text is lines of these notes, and after them a truncated line, which doesn't count
 pub record AreNotes (text : List ℕ) (notes : List Note) : Type 0 where
   pub lines : List ℕ
   pub cut : List ℕ
@@ -84,7 +84,7 @@ pub record AreNotes (text : List ℕ) (notes : List Note) : Type 0 where
   pub is : text ≡ lines ++ cut
   pub whole : feed_at cut ≡ None
 
--- the record at this place of a journal, of which this text stands behind the header, is the first that isn't the line of a note
+-- the record at this place of a journal, of which this text stands after the header, is the first that isn't the line of a note
 pub record IsBadLine (place : ℕ) (text : List ℕ) : Type 0 where
   pub notes : List Note
   pub lines : List ℕ

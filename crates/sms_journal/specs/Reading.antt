@@ -4,7 +4,7 @@ use Rattle.std.specs.Prelude.{ℕ, suc, ◌+◌, ◌*◌, ◌-◌, ◌%◌, ◌=
 use Rattle.std.specs.Str.{bytes_eq}
 use Rattle.sms_core.specs.Decimal.{decimal_in}
 use Rattle.sms_pdu.specs.Reply.{id_text as id_before_zero}
-use Rattle.sms_files.specs.Names.{refusal_named}
+use Rattle.sms_message.specs.Names.{refusal_named}
 use Rattle.sms_journal.specs.declared.notes.note.Note.{Note}
 use Rattle.sms_journal.specs.declared.notes.note.Note.TheVariants.{Begun, Sent, Unsent, Heard, Refused, End}
 use Rattle.sms_journal.specs.declared.text.note_fields.Escape.{Escape}
@@ -21,7 +21,7 @@ abbrev pub end_at : List ℕ → ℕ
 end_at [] = 0
 end_at (c ∷ cs) = if is_end c then 0 else suc (end_at cs)
 
--- what stands before it, and behind it
+-- what stands before it, and after it
 unfoldable pub field_in : List ℕ → List ℕ
 field_in text = take (end_at text) text
 
@@ -55,7 +55,7 @@ octets_in (Second digit) (c ∷ cs) = (digit % 16 * 16 + digit_in c) ∷ octets_
 unfoldable pub id_in : List ℕ → List ℕ
 id_in field = id_before_zero (octets_in Plain field ++ 0 ∷ [])
 
--- ---- notes, behind their word and time
+-- ---- notes, after their word and time
 
 abbrev pub begun_in : List ℕ → Option Note
 begun_in text = option_map (λ m. Begun m) (u64_in (field_in text))

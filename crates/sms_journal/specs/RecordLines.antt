@@ -5,7 +5,7 @@ use Rattle.sms_core.specs.Decimal.{decimal_in}
 use Rattle.sms_message.specs.declared.ends.MessageRefusal.TheVariants.{NoAccount, NoCredit, TooLong, BadAddress, BindClosed, OutOfMemory}
 use Rattle.sms_message.specs.declared.ends.Outcome.{Outcome}
 use Rattle.sms_message.specs.declared.ends.Outcome.TheVariants.{Charged, Refused, Unanswered, Unsent}
-use Rattle.sms_files.specs.Names.{outcome_named, refusal_named}
+use Rattle.sms_message.specs.Names.{outcome_named, refusal_named}
 use Rattle.sms_files.specs.Fields.{Field, Record, number_at}
 use Rattle.sms_files.specs.Rows.{field_is}
 use Rattle.sms_journal.specs.declared.rest.report_line.Ending.{Ending}

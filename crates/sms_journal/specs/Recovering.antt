@@ -49,7 +49,7 @@ pub record Recovers (rules : Rules) (openings : List Opening) (ms : List Message
   pub written : Appends old new (report_of openings ends rows)
   pub status_is : status ≡ ends_status ends
 
--- the notes are not those of a run: the first that isn't stands in this record, behind the header
+-- the notes are not those of a run: the first that isn't stands in this record, after the header
 abbrev pub IsFaultOfNotes : Rules → ℕ → List Message → List Note → RecoveryFault → Type 0
 IsFaultOfNotes rules accounts ms notes fault = (fault ≡ OutOfMemory) ⊎ ((k : ℕ) × (fault ≡ Journal (k + 2)) × IsFirstFault rules accounts ms notes k)
 
@@ -60,7 +60,7 @@ pub record IsOverdrawn (rules : Rules) (openings : List Opening) (ms : List Mess
   pub tells : AllZip (IsRecoveredEnd rules notes) ms ends
   pub overdrawn : ¬ AreCovered openings ms ends
 
--- the output failed behind a front of the report
+-- the output failed after part of the report
 pub record IsCutOff (rules : Rules) (openings : List Opening) (ms : List Message) (notes : List Note) (old new : Option (List ℕ)) : Type 0 where
   pub ends : List (MessageEnd (Unit {0}))
   pub rows : List Row
@@ -101,7 +101,7 @@ IsFaultOfText digests trial journal fault =
     ⊎ ((file : RunFile) × (fault ≡ OtherFiles file) × IsOfOthers digests journal file)
     ⊎ ((fault ≡ variants.Trial) × (trial ≡ false) × (notes : List Note) × IsJournalText digests journal Trial notes)
 
--- the input was read, and the journal of a run of files with these digests, or of a trial, and what it tells was written
+-- the input was read, and the journal of a run of files with these digests, or of a trial, and what is recovered of it was written
 pub record RecoversJournal (config accounts messages : List ℕ) (tariff : Option (List ℕ)) (journal : List ℕ) (trial : Bool) (old new : Option (List ℕ)) (recovered : Recovered) : Type 0 where
   pub input : TheInput
   pub read : Reads config accounts messages tariff input

@@ -20,7 +20,7 @@ ReportsAgree = (os : List Opening) (ends : List (MessageEnd (List ℕ))) (rows :
 abbrev pub StatusesAgree : Type 0
 StatusesAgree = (ends : List (MessageEnd (List ℕ))) → ends_status (map end_without_evidence ends) ≡ ends_status ends
 
--- where notes tell the ends and the rows of a run, the report that is recovered from them is the run's
+-- where notes give the ends and the rows of a run, the report that is recovered from them is the run's
 abbrev pub RunsAreRecovered : Type 0
 RunsAreRecovered =
     (rules : Rules) (os : List Opening) (ms : List Message) (notes : List Note) (found : List (MessageEnd (Unit {0}))) (rows : List Row) (ends : List (MessageEnd (List ℕ))) (statement : List Row)

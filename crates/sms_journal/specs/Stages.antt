@@ -44,7 +44,7 @@ step counts openings r (Lines begun parts) =
     if begun == length counts && (is_whole counts begun parts && is_statement_header r) then Some (Rows 0) else with_line counts begun parts (line_in r)
 step counts openings r (Rows done) = with_row done (slice_get openings done) r
 
--- how far it is behind these records, if they may stand at its head
+-- how far it is after these records, if they may stand at its head
 abbrev pub after : List ℕ → List Opening → Stage → List Record → Option Stage
 after counts openings stage [] = Some stage
 after counts openings stage (r ∷ rs) = option_and_then (λ next. after counts openings next rs) (step counts openings r stage)

@@ -1,6 +1,6 @@
 -- The text of a journal: a header, and a line for each note. Lines are records of CSV, of which no field wants quotes.
 use Rattle.std.specs.Prelude.{ℕ, ◌+◌, ◌/◌, ◌%◌, ◌==◌, ◌&&◌, not, nat_le, nat_lt, Bool, List, [], ◌∷◌, ◌++◌, Option, Some, None, if◌then◌else◌, codes, decimal, flat_map}
-use Rattle.sms_files.specs.Names.{refusal_name}
+use Rattle.sms_message.specs.Names.{refusal_name}
 use Rattle.sms_journal.specs.declared.text.header.Digests.{Digests}
 use Rattle.sms_journal.specs.declared.text.header.JournalKind.{JournalKind}
 use Rattle.sms_journal.specs.declared.text.header.JournalKind.TheVariants.{Run, Trial}

@@ -13,7 +13,7 @@ pub enum JournalError {
     /// The first record is the header of a journal of other files, of which this is the first that differs.
     #[error("the journal is of other files")]
     OtherFiles(RunFile),
-    /// The note at this place, from 0, can't have been written behind those before it.
+    /// The note at this place, from 0, can't have been written after those before it.
     #[error("note {0} doesn't follow")]
     BadNote(usize),
     /// More is reserved and charged than an account had, or a sum of credits is 2^64 or more.

@@ -8,7 +8,7 @@ ghost use Rattle.sms_message.specs.Ends.{phase_of};
 ghost use Rattle.sms_message.specs.Admission.{IsShort};
 ghost use Rattle.sms_message.specs.Submits.{message_parts};
 ghost use Rattle.sms_message.specs.declared.ends.SegmentEnd.{SegmentEnd as TheSegmentEnd};
-ghost use Rattle.sms_journal.specs.Index.{AreFates, notes_about};
+ghost use Rattle.sms_journal.specs.Index.{AreFates, AreSorted, notes_about};
 ghost use Rattle.sms_journal.specs.Recovered.{start_in, start_of, listed, attempts_in, attempts_of, answers_of, IsRecoveredSegment, IsRecoveredResult, IsRecoveredEnd};
 
 use crate::notes::fates::{fate, fates};
@@ -22,6 +22,19 @@ use sms_message::{
 use sms_pdu::Reply;
 use std::alloc::{AllocError, Global};
 use std::collections::HashMap;
+
+/// What the end of a message is recovered from.
+#[derive(Clone, Copy)]
+struct Evidence<'a> {
+    rules: &'a Rules,
+    /// The notes of the run.
+    notes: &'a [Note],
+    /// What became of their requests.
+    fates: &'a HashMap<u64, Option<Reply>>,
+    /// Those of the notes that name the message.
+    own: &'a [Note],
+    message: &'a Message,
+}
 
 /// What a note says of how a message was begun: `Some(None)` that its credits were reserved, `Some(Some(_))`
 /// that it was refused.
@@ -104,20 +117,14 @@ fn attempt_in(
 }
 
 /// The attempts for a part, in the order of its message's notes.
-fn attempts(
-    alloc: Global,
-    notes: &[Note],
-    fates: &HashMap<u64, Option<Reply>>,
-    message_notes: &[Note],
-    message: u64,
-    part: usize,
-) -> Result<Vec<Attempt<()>>, AllocError>
-    requires fates { AreFates notes.now fates.now }
-    requires notes { message_notes.now ≡ notes_about notes.now message }
-    ensures { IfOk result (λ attempts. attempts.items ≡ attempts_of notes.now message part) }
+fn attempts(alloc: Global, evidence: &Evidence, part: usize) -> Result<Vec<Attempt<()>>, AllocError>
+    requires { AreSorted evidence.now.notes.now evidence.now.fates.now evidence.now.own.now evidence.now.message.now.index }
+    ensures { IfOk result (λ attempts. attempts.items ≡ attempts_of evidence.now.notes.now evidence.now.message.now.index part) }
 {
+    let (notes, fates) = (evidence.notes, evidence.fates);
+    let message = evidence.message.index;
     let mut attempts = Vec::new(alloc);
-    for note in message_notes {
+    for note in evidence.own {
         if let Some(attempt) = attempt_in(notes, fates, message, part, note) {
             attempts.push(attempt)?;
         }
@@ -147,19 +154,14 @@ fn outcome(attempts: &[Attempt<()>]) -> Outcome
 /// The end of the part with this number, from 1.
 fn segment_end(
     alloc: Global,
-    rules: &Rules,
-    notes: &[Note],
-    fates: &HashMap<u64, Option<Reply>>,
-    message_notes: &[Note],
-    message: &Message,
+    evidence: &Evidence,
     part: usize,
 ) -> Result<SegmentEnd<()>, AllocError>
-    requires fates { AreFates notes.now fates.now }
-    requires notes { message_notes.now ≡ notes_about notes.now message.now.index }
-    ensures { IfOk result (λ s. IsRecoveredSegment rules.now notes.now message.now part s) }
+    requires { AreSorted evidence.now.notes.now evidence.now.fates.now evidence.now.own.now evidence.now.message.now.index }
+    ensures { IfOk result (λ s. IsRecoveredSegment evidence.now.rules.now evidence.now.notes.now evidence.now.message.now part s) }
 {
-    let cost = part_cost(&rules.tariff, message);
-    let attempts = attempts(alloc, notes, fates, message_notes, message.index, part)?;
+    let cost = part_cost(&evidence.rules.tariff, evidence.message);
+    let attempts = attempts(alloc, evidence, part)?;
     let outcome = outcome(attempts.as_slice());
     let attempts = Attempts::new(attempts);
     Ok(SegmentEnd {
@@ -172,30 +174,16 @@ fn segment_end(
 /// The ends of the first `count` parts.
 fn segment_ends(
     alloc: Global,
-    rules: &Rules,
-    notes: &[Note],
-    fates: &HashMap<u64, Option<Reply>>,
-    message_notes: &[Note],
-    message: &Message,
+    evidence: &Evidence,
     count: u8,
 ) -> Result<Vec<SegmentEnd<()>>, AllocError>
-    requires fates { AreFates notes.now fates.now }
-    requires notes { message_notes.now ≡ notes_about notes.now message.now.index }
+    requires { AreSorted evidence.now.notes.now evidence.now.fates.now evidence.now.own.now evidence.now.message.now.index }
     ensures count { IfOk result (λ parts. length parts.items ≡ count) }
-    ensures each { IfOk result (λ parts. (p : ℕ) (s : TheSegmentEnd (Unit {0})) → slice_get parts.items p ≡ Some s → IsRecoveredSegment rules.now notes.now message.now (p + 1) s) }
+    ensures each { IfOk result (λ parts. (p : ℕ) (s : TheSegmentEnd (Unit {0})) → slice_get parts.items p ≡ Some s → IsRecoveredSegment evidence.now.rules.now evidence.now.notes.now evidence.now.message.now (p + 1) s) }
 {
     let mut parts = Vec::new(alloc);
     for place in 0..usize::from(count) {
-        let end = segment_end(
-            alloc,
-            rules,
-            notes,
-            fates,
-            message_notes,
-            message,
-            place + 1,
-        )?;
-        parts.push(end)?;
+        parts.push(segment_end(alloc, evidence, place + 1)?)?;
     }
     Ok(parts)
 }
@@ -203,63 +191,43 @@ fn segment_ends(
 /// The result of a message that was begun and has `count` parts.
 fn begun_result(
     alloc: Global,
-    rules: &Rules,
-    notes: &[Note],
-    fates: &HashMap<u64, Option<Reply>>,
-    message_notes: &[Note],
-    message: &Message,
+    evidence: &Evidence,
     count: u8,
 ) -> Result<MessageResult<()>, AllocError>
-    requires fates { AreFates notes.now fates.now }
-    requires notes { message_notes.now ≡ notes_about notes.now message.now.index }
-    requires begun { start_of notes.now message.now.index ≡ Some None }
-    requires short { IsShort rules.now message.now }
-    requires count { count ≡ length (message_parts rules.now message.now) }
-    ensures { IfOk result (λ r. IsRecoveredResult rules.now notes.now message.now r) }
+    requires sorted { AreSorted evidence.now.notes.now evidence.now.fates.now evidence.now.own.now evidence.now.message.now.index }
+    requires begun { start_of evidence.now.notes.now evidence.now.message.now.index ≡ Some None }
+    requires short { IsShort evidence.now.rules.now evidence.now.message.now }
+    requires count { count ≡ length (message_parts evidence.now.rules.now evidence.now.message.now) }
+    ensures { IfOk result (λ r. IsRecoveredResult evidence.now.rules.now evidence.now.notes.now evidence.now.message.now r) }
 {
-    let parts = segment_ends(alloc, rules, notes, fates, message_notes, message, count)?;
+    let parts = segment_ends(alloc, evidence, count)?;
     Ok(MessageResult::Sent(Segments::new(parts)))
 }
 
 /// The result of a message. One that no note begins was not sent when the last connection dropped.
-fn message_result(
-    alloc: Global,
-    rules: &Rules,
-    notes: &[Note],
-    fates: &HashMap<u64, Option<Reply>>,
-    message_notes: &[Note],
-    message: &Message,
-) -> Result<MessageResult<()>, AllocError>
-    requires fates { AreFates notes.now fates.now }
-    requires notes { message_notes.now ≡ notes_about notes.now message.now.index }
-    ensures { IfOk result (λ r. IsRecoveredResult rules.now notes.now message.now r) }
+fn message_result(alloc: Global, evidence: &Evidence) -> Result<MessageResult<()>, AllocError>
+    requires { AreSorted evidence.now.notes.now evidence.now.fates.now evidence.now.own.now evidence.now.message.now.index }
+    ensures { IfOk result (λ r. IsRecoveredResult evidence.now.rules.now evidence.now.notes.now evidence.now.message.now r) }
 {
-    match message_start(notes, message_notes, message.index) {
+    let message = evidence.message;
+    match message_start(evidence.notes, evidence.own, message.index) {
         None => Ok(MessageResult::Refused(MessageRefusal::BindClosed)),
         Some(Some(refusal)) => Ok(MessageResult::Refused(refusal)),
-        Some(None) => match part_count(alloc, rules.long_reference, message)? {
-            Some(count) => begun_result(alloc, rules, notes, fates, message_notes, message, count),
+        Some(None) => match part_count(alloc, evidence.rules.long_reference, message)? {
+            Some(count) => begun_result(alloc, evidence, count),
             None => Ok(MessageResult::Refused(MessageRefusal::TooLong)),
         },
     }
 }
 
 /// The end of a message.
-fn message_end(
-    alloc: Global,
-    rules: &Rules,
-    notes: &[Note],
-    fates: &HashMap<u64, Option<Reply>>,
-    message_notes: &[Note],
-    message: &Message,
-) -> Result<MessageEnd<()>, AllocError>
-    requires fates { AreFates notes.now fates.now }
-    requires notes { message_notes.now ≡ notes_about notes.now message.now.index }
-    ensures { IfOk result (λ e. IsRecoveredEnd rules.now notes.now message.now e) }
+fn message_end(alloc: Global, evidence: &Evidence) -> Result<MessageEnd<()>, AllocError>
+    requires { AreSorted evidence.now.notes.now evidence.now.fates.now evidence.now.own.now evidence.now.message.now.index }
+    ensures { IfOk result (λ e. IsRecoveredEnd evidence.now.rules.now evidence.now.notes.now evidence.now.message.now e) }
 {
-    let result = message_result(alloc, rules, notes, fates, message_notes, message)?;
+    let result = message_result(alloc, evidence)?;
     Ok(MessageEnd {
-        index: message.index,
+        index: evidence.message.index,
         result,
     })
 }
@@ -279,8 +247,14 @@ pub fn recover(
     let groups = groups(alloc, notes)?;
     let mut ends = Vec::new(alloc);
     for message in messages {
-        let message_notes = notes_of_message(notes, &groups, message.index);
-        ends.push(message_end(alloc, rules, notes, &fates, message_notes, message)?)?;
+        let evidence = Evidence {
+            rules,
+            notes,
+            fates: &fates,
+            own: notes_of_message(notes, &groups, message.index),
+            message,
+        };
+        ends.push(message_end(alloc, &evidence)?)?;
     }
     Ok(ends)
 }

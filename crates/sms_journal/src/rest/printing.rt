@@ -113,7 +113,7 @@ fn push_all_left(
     Ok(())
 }
 
-/// The records behind the first.
+/// The records after the first.
 fn behind_first(records: &[ByteRecord]) -> &[ByteRecord]
     ensures { map fields_of result.now ≡ drop 1 (map fields_of records.now) }
 {

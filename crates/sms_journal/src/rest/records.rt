@@ -20,7 +20,7 @@ fn read_all<R: Read>(alloc: Global, input: R) -> Reader<R>
         .from_reader(alloc, input)
 }
 
-/// Reads the next record into `record`, and tells whether there was one. Octets can always be read:
+/// Reads the next record into `record`, and answers whether there was one. Octets can always be read:
 /// the one error is refused memory.
 fn next_record<R: Read>(reader: &mut Reader<R>, record: &mut ByteRecord) -> Result<bool, AllocError>
     requires { ReadsAll reader.old }

@@ -8,8 +8,7 @@ ghost use Rattle.sms_journal.specs.RecordLines.{account_in, amount_in, balances 
 use csv::ByteRecord;
 use sms_book::Opening;
 use sms_core::decimal_of;
-use sms_files::{outcome_named, refusal_named};
-use sms_message::{MessageRefusal, Outcome};
+use sms_message::{MessageRefusal, Outcome, outcome_named, refusal_named};
 
 /// What a line says of a part, or of a message that was refused as a whole.
 #[derive(Clone, Copy, Debug, PartialEq, Eq)]

@@ -123,7 +123,7 @@ fn next_stage(
     }
 }
 
-/// The fault of a record that is faulty or missing behind `before` others.
+/// The fault of a record that is faulty or missing after `before` others.
 fn fault_behind(before: usize) -> RecoveryFault
     ensures { (result ≡ Report (before + 1)) ⊎ (result ≡ OutOfMemory) }
 {

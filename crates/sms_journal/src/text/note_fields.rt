@@ -6,7 +6,7 @@ ghost use Rattle.sms_journal.specs.declared.text.note_fields.Escape.TheVariants.
 
 use crate::notes::{Note, RequestId};
 use sms_core::decimal_of;
-use sms_files::refusal_named;
+use sms_message::refusal_named;
 use sms_pdu::{MessageId, Reply, reply_of};
 use std::alloc::AllocError;
 
@@ -29,7 +29,7 @@ fn end_at(text: &[u8]) -> usize
     at
 }
 
-/// The first field, and what stands behind its end.
+/// The first field, and what stands after its end.
 #[tactic(auto, unfolding(crate::specs::Reading::field_in, crate::specs::Reading::behind_field))]
 pub(crate) fn cut(text: &[u8]) -> (&[u8], &[u8])
     ensures field { result.0.now ≡ field_in text.now }
@@ -224,7 +224,7 @@ fn end_in(text: &[u8]) -> Option<Note>
     Some(Note::End(u8_in(status)?))
 }
 
-/// A note by its word, and what stands behind its time.
+/// A note by its word, and what stands after its time.
 fn kind_in(room: &mut Vec<u8>, word: &[u8], text: &[u8]) -> Result<Option<Note>, AllocError>
     ensures { IfOk result (λ note. note ≡ kind_said word.now text.now) }
 {

@@ -6,8 +6,7 @@ ghost use Rattle.sms_journal.specs.Text.{flag as flag_of, id_octet, id_text, is_
 
 use crate::notes::{Note, RequestId};
 use crate::text::header::write_hex_octet;
-use sms_files::refusal_name;
-use sms_message::MessageRefusal;
+use sms_message::{MessageRefusal, refusal_name};
 use sms_pdu::{MessageId, Reply};
 use std::alloc::AllocError;
 use std::fmt::Write;

@@ -44,7 +44,7 @@ fn read_line(
     }
 }
 
-/// The notes of the lines behind the header.
+/// The notes of the lines after the header.
 fn read_lines(alloc: Global, text: &[u8]) -> Result<Vec<Note>, JournalError>
     ensures notes { IfOk result (λ notes. AreNotes text.now notes.items) }
     ensures faulty { IfErr result (AreFaultyLines text.now) }

@@ -2,7 +2,8 @@ use Rattle.std.proofs.Common.{rules, ◌≡◌, List, subst, sym, take, arith}
 use Rattle.sms_journal.specs.declared.notes.note.Note.{Note}
 use Rattle.sms_journal.specs.Lawful.{IsJournal, IsFirstFault}
 use Rattle.sms_journal.specs.Seen.{Sees}
-use Rattle.sms_journal.proofs.Lists.{got_at, some_of, take_snoc, take_whole}
+use Rattle.sms_files.proofs.Lists.{take_whole}
+use Rattle.sms_journal.proofs.Lists.{got_at, some_of, take_snoc}
 use Rattle.sms_journal.proofs.Seeing.{journal_more, sees_more}
 use Rattle.sms_journal.proofs.notes.checking.check_notes.Goals as goal
 

@@ -2,8 +2,9 @@ use Rattle.std.proofs.Common.{◌≡◌, ◌+◌, ◌==◌, if◌then◌else◌,
 use Rattle.std.specs.HashMap.{get}
 use Rattle.sms_journal.specs.Recovered.{or_else}
 use Rattle.sms_journal.specs.Seen.{IsPlace}
+use Rattle.sms_files.proofs.Lists.{take_whole}
 use Rattle.sms_journal.proofs.Admitting.{place_more}
-use Rattle.sms_journal.proofs.Lists.{got_at, take_whole}
+use Rattle.sms_journal.proofs.Lists.{got_at}
 use Rattle.sms_journal.proofs.notes.checking.places_of.Goals as goal
 
 pub loop-place-preserved : goal.loop-place-preserved

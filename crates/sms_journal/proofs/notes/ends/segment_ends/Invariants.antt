@@ -7,5 +7,5 @@ use Rattle.sms_journal.proofs.notes.ends.segment_ends.Given as goal
 abbrev pub invariant-loop-place : goal.invariant-loop-place
 invariant-loop-place l = record {
   count : length l.parts.items ≡ l.place;
-  each : (p : ℕ) (s : SegmentEnd (Unit {0})) → slice_get l.parts.items p ≡ Some s → IsRecoveredSegment l.rules l.notes l.message (p + 1) s;
+  each : (p : ℕ) (s : SegmentEnd (Unit {0})) → slice_get l.parts.items p ≡ Some s → IsRecoveredSegment l.evidence.rules.now l.evidence.notes.now l.evidence.message.now (p + 1) s;
 }
