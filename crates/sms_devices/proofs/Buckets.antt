@@ -7,13 +7,13 @@ use Rattle.sms_devices.specs.declared.gate.bucket.Bucket.{Bucket}
 use Rattle.sms_devices.specs.Buckets.Asked.{Lend, Send, GiveBack}
 use Rattle.sms_devices.specs.Buckets.{Asked, after, after_all, can_lend, given_back, level_at, new_bucket, room_for, sends, sends_at, sent_at}
 
--- there is room for what is there, and it is enough for the requests that have leave
+-- the level is within the depth, and covers the requests that have a permit
 record Sound (b : Bucket) : Type 0 where
   pub most : b.level ≤ b.depth * 1010
-  pub leaves : b.lent * 1010 ≤ b.level
+  pub covered : b.lent * 1010 ≤ b.level
 
--- what a bucket keeps, where so many requests are sent on the way to another: what these took came by the rate
-record Went (b b' : Bucket) (sent : ℕ) : Type 0 where
+-- a bucket becomes another while this many requests are sent: what these took came at the rate
+record Becomes (b b' : Bucket) (sent : ℕ) : Type 0 where
   pub sound : Sound b'
   pub rate : b'.rate ≡ b.rate
   pub depth : b'.depth ≡ b.depth
@@ -35,10 +35,10 @@ lend_level : (room level come : ℕ) → 0 * 1010 + min room (level + come) ≤ 
 lend_level room level come = omega arith
 
 send_level : (room level come lent : ℕ) → 0 < lent → lent * 1010 ≤ level → level ≤ room → 1 * 1010 + (min room (level + come) - 1010) ≤ level + come
-send_level room level come lent some leaves most = omega (arith, some, leaves, most)
+send_level room level come lent some covered most = omega (arith, some, covered, most)
 
-send_leaves : (room level come lent : ℕ) → 0 < lent → lent * 1010 ≤ level → level ≤ room → (lent - 1) * 1010 ≤ min room (level + come) - 1010
-send_leaves room level come lent some leaves most = omega (arith, some, leaves, most)
+send_covered : (room level come lent : ℕ) → 0 < lent → lent * 1010 ≤ level → level ≤ room → (lent - 1) * 1010 ≤ min room (level + come) - 1010
+send_covered room level come lent some covered most = omega (arith, some, covered, most)
 
 least_room : (room level : ℕ) → min room level ≤ room
 least_room room level = omega arith
@@ -47,14 +47,14 @@ less_room : (room level : ℕ) → min room level - 1010 ≤ room
 less_room room level = omega arith
 
 fewer : (lent level : ℕ) → lent * 1010 ≤ level → (lent - 1) * 1010 ≤ level
-fewer lent level leaves = omega (arith, leaves)
+fewer lent level covered = omega (arith, covered)
 
 whole : (at mid end : ℕ) → at ≤ mid → mid ≤ end → (mid - at) + (end - mid) ≡ end - at
 whole at mid end first second = omega (arith, first, second)
 
 -- ---- a step
 
-stays : (b : Bucket) → Sound b → Went b b 0
+stays : (b : Bucket) → Sound b → Becomes b b 0
 stays b sound = record {
   sound = sound;
   rate = refl;
@@ -63,46 +63,46 @@ stays b sound = record {
   took = omega arith;
 }
 
-lent : (b : Bucket) (now : ℕ) → Sound b → b.lent < level_at b now / 1010 → Went b (record b { level = level_at b now; at_ms = max b.at_ms now; lent = b.lent + 1 }) 0
+lent : (b : Bucket) (now : ℕ) → Sound b → b.lent < level_at b now / 1010 → Becomes b (record b { level = level_at b now; at_ms = max b.at_ms now; lent = b.lent + 1 }) 0
 lent b now sound less = record {
-  sound = record { most = least_room (b.depth * 1010) (b.level + (now - b.at_ms) * b.rate); leaves = enough (level_at b now) b.lent less };
+  sound = record { most = least_room (b.depth * 1010) (b.level + (now - b.at_ms) * b.rate); covered = enough (level_at b now) b.lent less };
   rate = refl;
   depth = refl;
   onward = onto b.at_ms now;
   took = subst (λ d. 0 * 1010 + level_at b now ≤ b.level + d * b.rate) (sym (gap b.at_ms now)) (lend_level (b.depth * 1010) b.level ((now - b.at_ms) * b.rate));
 }
 
-lends : (b : Bucket) (now : ℕ) → Sound b → (can : Bool) → can_lend b now ≡ can → Went b (if can then record b { level = level_at b now; at_ms = max b.at_ms now; lent = b.lent + 1 } else b) 0
+lends : (b : Bucket) (now : ℕ) → Sound b → (can : Bool) → can_lend b now ≡ can → Becomes b (if can then record b { level = level_at b now; at_ms = max b.at_ms now; lent = b.lent + 1 } else b) 0
 lends b now sound false isnt = stays b sound
 lends b now sound true is = lent b now sound (ltb-true b.lent (level_at b now / 1010) is)
 
-sent : (b : Bucket) (now : ℕ) → Sound b → 0 < b.lent → Went b (sent_at b now) 1
+sent : (b : Bucket) (now : ℕ) → Sound b → 0 < b.lent → Becomes b (sent_at b now) 1
 sent b now sound some =
     record {
       sound = record {
         most = less_room (b.depth * 1010) (b.level + (now - b.at_ms) * b.rate);
-        leaves = send_leaves (b.depth * 1010) b.level ((now - b.at_ms) * b.rate) b.lent some sound.leaves sound.most;
+        covered = send_covered (b.depth * 1010) b.level ((now - b.at_ms) * b.rate) b.lent some sound.covered sound.most;
       };
       rate = refl;
       depth = refl;
       onward = onto b.at_ms now;
-      took = subst (λ d. 1 * 1010 + (level_at b now - 1010) ≤ b.level + d * b.rate) (sym (gap b.at_ms now)) (send_level (b.depth * 1010) b.level ((now - b.at_ms) * b.rate) b.lent some sound.leaves sound.most);
+      took = subst (λ d. 1 * 1010 + (level_at b now - 1010) ≤ b.level + d * b.rate) (sym (gap b.at_ms now)) (send_level (b.depth * 1010) b.level ((now - b.at_ms) * b.rate) b.lent some sound.covered sound.most);
     }
 
-is_sent : (b : Bucket) (now : ℕ) → Sound b → (has : Bool) → ltb 0 b.lent ≡ has → Went b (if has then sent_at b now else b) (if has then 1 else 0)
+is_sent : (b : Bucket) (now : ℕ) → Sound b → (has : Bool) → ltb 0 b.lent ≡ has → Becomes b (if has then sent_at b now else b) (if has then 1 else 0)
 is_sent b now sound false isnt = stays b sound
 is_sent b now sound true is = sent b now sound (ltb-true 0 b.lent is)
 
-gives_back : (b : Bucket) → Sound b → Went b (given_back b) 0
+gives_back : (b : Bucket) → Sound b → Becomes b (given_back b) 0
 gives_back b sound = record {
-  sound = record { most = sound.most; leaves = fewer b.lent b.level sound.leaves };
+  sound = record { most = sound.most; covered = fewer b.lent b.level sound.covered };
   rate = refl;
   depth = refl;
   onward = omega arith;
   took = omega arith;
 }
 
-step : (b : Bucket) (asked : Asked) → Sound b → Went b (after b asked) (sends_at b asked)
+step : (b : Bucket) (asked : Asked) → Sound b → Becomes b (after b asked) (sends_at b asked)
 step b (Lend now) sound = lends b now sound (can_lend b now) refl
 step b (Send now) sound = is_sent b now sound (ltb 0 b.lent) refl
 step b GiveBack sound = gives_back b sound
@@ -116,7 +116,7 @@ joined rate at mid end first second = sym (add-mul (mid - at) (end - mid) rate) 
 both : (n m l0 l1 l2 c1 c2 : ℕ) → n * 1010 + l1 ≤ l0 + c1 → m * 1010 + l2 ≤ l1 + c2 → (n + m) * 1010 + l2 ≤ l0 + (c1 + c2)
 both n m l0 l1 l2 c1 c2 one two = omega (arith, one, two)
 
-further : (b b1 b2 : Bucket) (n m : ℕ) → Went b b1 n → Went b1 b2 m → Went b b2 (n + m)
+further : (b b1 b2 : Bucket) (n m : ℕ) → Becomes b b1 n → Becomes b1 b2 m → Becomes b b2 (n + m)
 further b b1 b2 n m one two = record {
   sound = two.sound;
   rate = two.rate ∙ one.rate;
@@ -126,7 +126,7 @@ further b b1 b2 n m one two = record {
       (both n m b.level b1.level b2.level ((b1.at_ms - b.at_ms) * b.rate) ((b2.at_ms - b1.at_ms) * b.rate) one.took (subst (λ r. m * 1010 + b2.level ≤ b1.level + (b2.at_ms - b1.at_ms) * r) one.rate two.took));
 }
 
-all_steps : (asked : List Asked) (b : Bucket) → Sound b → Went b (after_all asked b) (sends asked b)
+all_steps : (asked : List Asked) (b : Bucket) → Sound b → Becomes b (after_all asked b) (sends asked b)
 all_steps [] b sound = stays b sound
 all_steps (a ∷ more) b sound =
     let one = step b a sound in
@@ -135,7 +135,7 @@ all_steps (a ∷ more) b sound =
 -- ---- from one request on
 
 begins : (most now : ℕ) → Sound (new_bucket most now)
-begins most now = record { most = omega arith; leaves = omega arith }
+begins most now = record { most = omega arith; covered = omega arith }
 
 -- so much comes in the time that passes at most
 comes : (passed rate : ℕ) → passed ≤ 1009 → passed * rate ≤ 1009 * rate
@@ -149,7 +149,7 @@ rates most some = omega (arith, some)
 
 -- what is left by the request that is sent
 lower : (room level come lent : ℕ) → 0 < lent → lent * 1010 ≤ level → level ≤ room → (min room (level + come) - 1010) + 1010 ≤ room
-lower room level come lent some leaves most = omega (arith, some, leaves, most)
+lower room level come lent some covered most = omega (arith, some, covered, most)
 
 pub no_more : (most begun now : ℕ) → 1 ≤ most → (before later : List Asked) → (b : Bucket) → b ≡ after_all before (new_bucket most begun) → 0 < b.lent → (after_all later (sent_at b now)).at_ms ≤ (sent_at b now).at_ms + 1009 → 1 + sends later (sent_at b now) ≤ most
 no_more most begun now some before later b e has short =
@@ -163,6 +163,6 @@ no_more most begun now some before later b e has short =
     (((after_all later (sent_at b now)).at_ms - max b.at_ms now) * b.rate)
     (ap₂ (λ d r. d + r) depth rate ∙ rates most some)
     (subst (λ r. 1 ≤ r) (sym rate) (omega arith))
-    (lower (b.depth * 1010) b.level ((now - b.at_ms) * b.rate) b.lent has sound.leaves sound.most)
+    (lower (b.depth * 1010) b.level ((now - b.at_ms) * b.rate) b.lent has sound.covered sound.most)
     rest.took
     (comes ((after_all later (sent_at b now)).at_ms - max b.at_ms now) b.rate (omega (arith, short)))

@@ -122,13 +122,13 @@ header_front header more h =
     let e3 = number_front 12 header more (omega arith) in
     cc
 
--- the octets are a header of so many, and these
+-- the octets are a header, which announces a length, and the octets after it
 record Headed (octets header more : List ℕ) : Type 0 where
   whole : header ++ more ≡ octets
   sixteen : length header ≡ 16
   says : number_at 0 header ≡ announced octets
   same : header_at_front header ≡ header_at_front octets
-  behind : length more ≡ length octets - 16
+  body : length more ≡ length octets - 16
 
 headed : (octets : List ℕ) → 16 ≤ length octets → Headed octets (take 16 octets) (drop 16 octets)
 headed octets h =
@@ -139,13 +139,13 @@ headed octets h =
       sixteen = n;
       says = sym (number_front 0 (take 16 octets) (drop 16 octets) (omega arith)) ∙ ap announced whole;
       same = sym (header_front (take 16 octets) (drop 16 octets) (omega arith)) ∙ ap header_at_front whole;
-      behind = length-drop 16 octets;
+      body = length-drop 16 octets;
     }
 
 -- what comes between frames is a header, and what follows it is of its body where its length is good
-behind_header : (octets header more : List ℕ) (b : PartialFrame) (r : PartialFrame × FrameEvent) → Headed octets header more → b.front ≡ [] → in_header header ≡ r
+after_header : (octets header more : List ℕ) (b : PartialFrame) (r : PartialFrame × FrameEvent) → Headed octets header more → b.front ≡ [] → in_header header ≡ r
     → (after_octets b octets ≡ after_octets r.0 more) × (events_in b octets ≡ events_of r.1 ++ events_in r.0 more)
-behind_header octets header more b r h e i =
+after_header octets header more b r h e i =
     let f = header_first header b e h.sixteen in
     let w : after_octets b header ≡ r.0 = f.0 ∙ ap (λ (q : PartialFrame × FrameEvent). q.0) i in
     let t : events_in b header ≡ events_of r.1 = f.1 ∙ ap (λ (q : PartialFrame × FrameEvent). events_of q.1) i in (
@@ -171,8 +171,8 @@ frame_goes frame b e f =
     let h = headed frame (f.good.least) in
     let header = take 16 frame in
     let left = number_at 0 header - 16 in
-    let g = behind_header frame header (drop 16 frame) b (in_body header left) h e (in_good header h.sixteen (omega (arith, h.says, f.announces, f.good.least))) in
-    let w = body_whole (drop 16 frame) header left (omega (arith, h.sixteen)) (omega (arith, h.says, f.announces, h.behind)) in
+    let g = after_header frame header (drop 16 frame) b (in_body header left) h e (in_good header h.sixteen (omega (arith, h.says, f.announces, f.good.least))) in
+    let w = body_whole (drop 16 frame) header left (omega (arith, h.sixteen)) (omega (arith, h.says, f.announces, h.body)) in
     (g.0 ∙ w.0, g.1 ∙ w.1 ∙ ap (λ p. Frame p ∷ []) h.same)
 
 pub frames_go : (frames : List (List ℕ)) → AllByRecursion IsFrame frames → (after_octets between (concat frames) ≡ between) × (events_in between (concat frames) ≡ map frame_event frames)
@@ -194,8 +194,8 @@ cut_rest rest long least cut =
     let h = headed rest long in
     let header = take 16 rest in
     let left = number_at 0 header - 16 in
-    let g = behind_header rest header (drop 16 rest) between (in_body header left) h refl (in_good header h.sixteen (omega (arith, h.says))) in
-    g.1 ∙ body_part (drop 16 rest) header left (omega (arith, h.sixteen)) (omega (arith, h.says, h.behind))
+    let g = after_header rest header (drop 16 rest) between (in_body header left) h refl (in_good header h.sixteen (omega (arith, h.says))) in
+    g.1 ∙ body_part (drop 16 rest) header left (omega (arith, h.sixteen)) (omega (arith, h.says, h.body))
 
 pub rest_has_no_event : (rest : List ℕ) → IsRest rest → ¬ IsBad rest → events_in between rest ≡ []
 rest_has_no_event rest (inl short) good = short_rest rest (omega (arith, short))
@@ -206,7 +206,7 @@ rest_has_no_event rest (inr (inl cut)) good =
     ]
 rest_has_no_event rest (inr (inr bad)) good = absurd (good bad)
 
--- behind a header with a bad length
+-- after a header with a bad length
 bad_goes_on : (xs header : List ℕ) → 16 ≤ length header → events_in (partial header 0) xs ≡ replicate (length xs) Bad
 bad_goes_on [] header long = refl
 bad_goes_on (x ∷ xs) header long =
@@ -217,11 +217,11 @@ pub bad_events : (rest : List ℕ) → 16 ≤ length rest → announced rest < 1
 bad_events rest long bad =
     let h = headed rest long in
     let header = take 16 rest in
-    let g = behind_header rest header (drop 16 rest) between (partial header 0, Bad) h refl (in_bad header h.sixteen (omega (arith, h.says))) in
-    let n : suc (length (drop 16 rest)) ≡ length rest - 15 = omega (arith, h.behind) in
+    let g = after_header rest header (drop 16 rest) between (partial header 0, Bad) h refl (in_bad header h.sixteen (omega (arith, h.says))) in
+    let n : suc (length (drop 16 rest)) ≡ length rest - 15 = omega (arith, h.body) in
     g.1 ∙ ap (λ l. Bad ∷ l) (bad_goes_on (drop 16 rest) header (omega (arith, h.sixteen))) ∙ ap (λ k. replicate k Bad) n
 
--- a stream that is divided tells its frames, and then what its rest tells
+-- the events of a divided stream are its frames, and then the events of its rest
 pub stream_events : (stream rest : List ℕ) (frames : List (List ℕ)) → Division stream frames rest → events_in between stream ≡ map frame_event frames ++ events_in between rest
 stream_events stream rest frames d =
     let f = frames_go frames d.each in

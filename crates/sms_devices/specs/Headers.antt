@@ -16,7 +16,7 @@ partial front left = record { front = front; left = left }
 abbrev pub between : PartialFrame
 between = partial [] 0
 
--- after a header, when so many octets of its body are to come: with none to come the frame is whole
+-- after a header, with this many octets of its body still to come: with none to come the frame is whole
 abbrev pub in_body : List ℕ → ℕ → PartialFrame × FrameEvent
 in_body header left = if left == 0 then (between, Frame (header_at_front header)) else (partial header left, Part)
 

@@ -18,6 +18,6 @@ put_in contents buffered = writer_contents contents buffered.writer
 abbrev pub outbox_of : {R F : Type 0} → Outboxes R F → ℕ → Option (Outbox R F)
 outbox_of o bind = if bind == 0 then Some o.first else (if bind == 1 then Some o.second else (if bind == 2 then Some o.third else (if bind == 3 then Some o.fourth else None)))
 
--- whether the run of these outboxes has a journal, behind which connections are written to
+-- whether the run of these outboxes has a journal, whose notes are written before any connection is
 abbrev pub has_journal : {R F : Type 0} → Outboxes R F → Bool
 has_journal o = is_some o.journal

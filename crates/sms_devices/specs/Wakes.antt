@@ -70,7 +70,7 @@ pub record Concerns (ps : List FrameEvent) (wake : Wake) : Type 0 where
   pub among : ps ≡ before ++ one ∷ after
   pub whom : wake_for one word ≡ wake
 
--- a front of these octets was looked at, and the others are left: the partial frame and those to be woken, before it and after it
+-- the first of these octets were looked at, and the others are left: the partial frame and those to be woken, before and after
 pub record Scanned (octets left : List ℕ) (was is : PartialFrame) (old new : Wakes) : Type 0 where
   pub front : List ℕ
   pub whole : octets ≡ front ++ left

@@ -1,4 +1,4 @@
-//! The devices that a run stands on in the program.
+//! The devices that a run of the program uses.
 //!
 //! - `transport`: the connections of binds over TCP, and what waits to be written to them;
 //! - `waking`: how workers wait for answers, and how a bind's reader wakes them;

@@ -5,6 +5,7 @@ mod connecting;
 mod ending;
 mod journal;
 mod journal_files;
+mod loopback;
 mod network;
 mod paper;
 mod progress;

@@ -1,6 +1,6 @@
 //! The program `sms-send`: it sends prepaid messages, plans how their texts are coded and cut, says
-//! what they would cost, and replays schedules of events on accounts, requests and slots. What it
-//! does stands in `sms_send`, so that the tests of that prove none of it once more.
+//! what they would cost, and replays schedules of events on accounts, requests and slots. All of that
+//! is in `sms_send`, so that a check of the tests of `sms_send` doesn't prove the program again.
 
 #![tactic(auto)]
 
@@ -10,7 +10,7 @@ use std::io;
 use std::process::ExitCode;
 
 fn main(rt: HostRuntime) -> ExitCode {
-    // They stand in to the end.
+    // They take the place of closed standard streams until the program ends.
     let _kept = stand_ins(&rt);
     let mut output = io::writer(&rt);
     let mut error = StandardError { rt: &rt };
@@ -18,8 +18,8 @@ fn main(rt: HostRuntime) -> ExitCode {
     let status = match run(&rt, &mut context, &mut output, &mut error) {
         Ok(status) => status,
         Err(fault) => {
-            let told = tell(&rt, &fault, &context, &mut output, &mut error);
-            status_after(&told, &fault)
+            let reported = tell(&rt, &fault, &context, &mut output, &mut error);
+            status_after(&reported, &fault)
         }
     };
     ExitCode::from(status)

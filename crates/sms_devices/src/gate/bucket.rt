@@ -61,7 +61,7 @@ impl Bucket {
 
     /// Gives a permit for a request. False if the level isn't high enough yet.
     pub fn lend(&mut self, now_ms: u64) -> bool
-        ensures enough { result ≡ can_lend self.old now_ms }
+        ensures granted { result ≡ can_lend self.old now_ms }
         ensures lent { self.new ≡ lent_at self.old now_ms }
     {
         let level = self.level_at(now_ms);

@@ -31,7 +31,7 @@ impl Silence {
     /// A request goes out at this time. Those beyond the limit aren't counted.
     pub fn send(&mut self, now_ms: u64)
         ensures counted { self.old.sent < self.old.most → self.new ≡ record { most = self.old.most; answer_ms = self.old.answer_ms; sent = self.old.sent + 1; sent_ms = now_ms } }
-        ensures enough { self.old.most ≤ self.old.sent → self.new ≡ self.old }
+        ensures at_most { self.old.most ≤ self.old.sent → self.new ≡ self.old }
     {
         if self.sent < self.most {
             self.sent += 1;

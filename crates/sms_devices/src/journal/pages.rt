@@ -72,9 +72,9 @@ impl<F: Write + OpenFile> Pages<F> {
     pub(crate) fn let_out(&mut self) -> bool
         ensures success { IsTrue result ↔ (self.new.failure ≡ None) }
         ensures synced { self.new.is_synced ≡ self.old.is_synced }
-        ensures gone { result ≡ true → waiting_lines self.new ≡ [] }
+        ensures emptied { result ≡ true → waiting_lines self.new ≡ [] }
         ensures written { result ≡ true → Appends (F.contents self.old.file.file) (F.contents self.new.file.file) (waiting_lines self.old) }
-        ensures front { WritesFront (F.contents self.old.file.file) (F.contents self.new.file.file) (waiting_lines self.old) }
+        ensures partly { WritesFront (F.contents self.old.file.file) (F.contents self.new.file.file) (waiting_lines self.old) }
         ensures failed { IsSome self.old.failure → self.new ≡ self.old }
     {
         if self.failure.is_some() {

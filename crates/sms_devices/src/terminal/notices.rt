@@ -59,7 +59,7 @@ impl<P: Eprint + Drop, T: Display + Drop> Writing<P, T> {
             text,
             is_writing,
         } = self;
-        let _told = pen.eprint(text);
+        let _written = pen.eprint(text);
         is_writing.store(false, Ordering::SeqCst);
     }
 }

@@ -140,7 +140,7 @@ impl<'r, S: Eprint, N: TakesNotices, K: Clock> Progress<'r, S, N, K> {
         if self.telling == Telling::Way {
             self.show_last(Notice::End(line));
         } else {
-            let _told = eprintln!(self.screen; "{line}");
+            let _written = eprintln!(self.screen; "{line}");
         }
     }
 

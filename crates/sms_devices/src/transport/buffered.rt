@@ -54,7 +54,7 @@ impl<W: Write + Shut + Drop> Buffered<W> {
     /// An empty buffer before a connection, in a run with a journal or without. None if memory runs out.
     pub(crate) fn new(alloc: Global, connection: W, has_journal: bool) -> Option<Buffered<W>>
         ensures empty { IfSome result (λ b. waiting_in b ≡ []) }
-        ensures whole { IfSome result (λ b. b.is_broken ≡ false) }
+        ensures unbroken { IfSome result (λ b. b.is_broken ≡ false) }
         ensures first { IfSome result (λ b. b.first_waiting ≡ (if has_journal then 8192 else 1024)) }
         ensures most { IfSome result (λ b. b.most_waiting ≡ b.first_waiting) }
     {
@@ -76,12 +76,15 @@ impl<W: Write + Shut + Drop> Buffered<W> {
         // What was written and what waits after it is what was put, in order.
         ensures bytes { WriteAppends (put_in W.contents self.old) (put_in W.contents self.new) result octets.now }
         ensures broken { self.new.is_broken ≡ is_err result }
-        ensures lost { self.old.is_broken ≡ true → self.new ≡ self.old }
+        ensures ignored { self.old.is_broken ≡ true → self.new ≡ self.old }
     {
         if self.is_broken {
             return Err(Error::from(ErrorKind::BrokenPipe));
         }
-        let put = self.put_after(octets);
+        let put = match self.make_room() {
+            Ok(()) => self.writer.write(octets),
+            Err(error) => Err(error),
+        };
         if put.is_err() {
             self.give_up(Shutdown::Write);
         }
@@ -100,27 +103,27 @@ impl<W: Write + Shut + Drop> Buffered<W> {
         };
     }
 
-    /// Puts octets after those that wait. If as many wait as may, these are written first, and twice as
-    /// many may wait from then on.
-    fn put_after(&mut self, octets: &[u8]) -> io::Result<usize>
-        ensures bound { WritesAtMost result octets.now }
-        ensures bytes { WriteAppends (put_in W.contents self.old) (put_in W.contents self.new) result octets.now }
+    /// Makes room for more octets: if as many wait as may, they are written, and twice as many may wait from
+    /// then on.
+    fn make_room(&mut self) -> io::Result<()>
+        ensures bytes { Keeps (put_in W.contents self.old) (put_in W.contents self.new) }
         ensures unchanged { (self.new.is_broken ≡ self.old.is_broken) × (self.new.first_waiting ≡ self.old.first_waiting) }
-        ensures room { length (waiting_in self.old) < self.old.most_waiting → self.new.most_waiting ≡ self.old.most_waiting }
+        ensures kept { length (waiting_in self.old) < self.old.most_waiting → self.new ≡ self.old }
+        ensures written { self.old.most_waiting ≤ length (waiting_in self.old) → IfOk result (λ _. waiting_in self.new ≡ []) }
         ensures more { self.old.most_waiting ≤ length (waiting_in self.old) → IfOk result (λ _. self.new.most_waiting ≡ min (self.old.most_waiting + self.old.most_waiting) 8192) }
     {
         if self.writer.buffer().len() >= self.most_waiting {
             self.writer.flush()?;
             self.most_waiting = next_waiting(self.most_waiting);
         }
-        self.writer.write(octets)
+        Ok(())
     }
 
     /// Writes what waits.
     pub(crate) fn flush(&mut self)
         ensures bytes { Keeps (put_in W.contents self.old) (put_in W.contents self.new) }
-        ensures gone { self.new.is_broken ≡ false → waiting_in self.new ≡ [] }
-        ensures lost { self.old.is_broken ≡ true → self.new ≡ self.old }
+        ensures emptied { self.new.is_broken ≡ false → waiting_in self.new ≡ [] }
+        ensures ignored { self.old.is_broken ≡ true → self.new ≡ self.old }
     {
         if self.is_broken {
             return;

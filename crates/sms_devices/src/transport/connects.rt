@@ -16,7 +16,7 @@ use std::time::{Clock, Duration};
 /// How many milliseconds a read waits for octets.
 const READ_MS: u64 = 100;
 
-/// Makes connections. Before a connection is written to, the journal of the run is let out, if it has one.
+/// Makes connections. Before a connection is written to, all notes of the run's journal are written, if it has one.
 pub trait Connects: Wait {
     ghost use Rattle.std.specs.Prelude.{◌≡◌, ℕ, Bool, List, Option, None, IfOk, map, string_bytes};
     ghost use Rattle.sms_devices.specs.Centres.{CentreAt};
@@ -26,8 +26,8 @@ pub trait Connects: Wait {
     /// The reading end of a connection.
     type Incoming: Read + Send + Drop;
 
-    // The octets that a connection to this centre will give, behind a journal or not, for the bind with this number, if
-    // they are known.
+    // The octets that a connection to this centre will give, in a run with a journal or without, for the bind with this
+    // number, if they are known.
     ghost tells: { Self → CentreAt → Bool → ℕ → Option (List ℕ) } = { λ _ _ _ _. None };
 
     /// A listener on a free port of the loopback interface.
@@ -43,7 +43,7 @@ pub trait Connects: Wait {
         port: u16,
         deadline: Option<Deadline>,
     ) -> Result<(Self::Incoming, Guarded<'j, TcpStream, Self, F>), Unconnected>
-        ensures told { IfOk result (λ ends. Self.Incoming.remaining ends.0 ≡ tells self.now (Named host.now port) (has_journal outboxes.now) bind) };
+        ensures octets { IfOk result (λ ends. Self.Incoming.remaining ends.0 ≡ tells self.now (Named host.now port) (has_journal outboxes.now) bind) };
 
     /// A connection through the listener to a test centre with this script, or why there is none. The centre is
     /// started for this connection, in a thread of its own.
@@ -57,7 +57,7 @@ pub trait Connects: Wait {
         answers: &[String],
         deadline: Option<Deadline>,
     ) -> Result<(Self::Incoming, Guarded<'j, TcpStream, Self, F>), Unconnected>
-        ensures told { IfOk result (λ ends. Self.Incoming.remaining ends.0 ≡ tells self.now (Own bind_status (map string_bytes answers.now)) (has_journal outboxes.now) bind) };
+        ensures octets { IfOk result (λ ends. Self.Incoming.remaining ends.0 ≡ tells self.now (Own bind_status (map string_bytes answers.now)) (has_journal outboxes.now) bind) };
 }
 
 impl<R: Net<Stream = TcpStream, Listener = TcpListener> + Threads + Clock + Wait> Connects for R {
@@ -99,7 +99,7 @@ impl<R: Net<Stream = TcpStream, Listener = TcpListener> + Threads + Clock + Wait
 }
 
 /// The reading end and the writing end of a stream. What is written isn't delayed to be joined with more. A read
-/// waits for 100 ms at most. A write waits as long as the outboxes say, if the connection takes nothing.
+/// waits for 100 ms at most. If the connection takes nothing, a write waits as long as the outboxes allow.
 fn set_up<'j, R: Wait, F: Write + OpenFile>(
     outboxes: &Outboxes<'j, R, F>,
     stream: TcpStream,

@@ -1,6 +1,6 @@
 //! The connections of binds: to a message centre, or to the program's own test centres.
 
-ghost use Rattle.std.specs.Prelude.{◌≡◌, IfOk, IsOkAnd, map, string_bytes};
+ghost use Rattle.std.specs.Prelude.{◌≡◌, IfOk, IfSome, IsOkAnd, map, string_bytes};
 ghost use Rattle.sms_devices.specs.Centres.CentreAt.{Named, Own};
 ghost use Rattle.sms_devices.specs.Outboxes.{has_journal};
 
@@ -47,7 +47,6 @@ fn answered_by<R: Clock>(rt: &R, deadline: Option<Deadline>) -> Option<Deadline>
 /// The reader and the writer of the connection that was reached, or why there is none. What is written waits in
 /// the outbox.
 fn ends_of<'r, 'j, S: Drop, R: Wait + Clock, F: Write + OpenFile>(
-    rt: &'j R,
     alloc: Global,
     outboxes: &'r Outboxes<'j, R, F>,
     outbox: &'r Outbox<'j, R, F>,
@@ -57,6 +56,7 @@ fn ends_of<'r, 'j, S: Drop, R: Wait + Clock, F: Write + OpenFile>(
 ) -> Result<(WakingReader<'r, 'j, S, R, F>, OutboxWriter<'r, 'j, R, F>), Unconnected>
     ensures { IfOk result (λ ends. IsOkAnd reached.entry (λ both. ends.0.inner ≡ both.0)) }
 {
+    let rt = outboxes.rt();
     let clock = outboxes.clock();
     clock.go_on();
     let (inner, connection) = reached?;
@@ -87,6 +87,21 @@ fn ends_of<'r, 'j, S: Drop, R: Wait + Clock, F: Write + OpenFile>(
         outbox,
     };
     Ok((reader, writer))
+}
+
+/// Ends the dialling of a bind: its reader and its writer. If there is no connection, the outbox keeps why.
+fn finish_dial<'r, 'j, S: Drop, R: Wait + Clock, F: Write + OpenFile>(
+    alloc: Global,
+    outboxes: &'r Outboxes<'j, R, F>,
+    outbox: &'r Outbox<'j, R, F>,
+    bind: u32,
+    deadline: Option<Deadline>,
+    reached: Result<(S, Guarded<'j, TcpStream, R, F>), Unconnected>,
+) -> Option<(WakingReader<'r, 'j, S, R, F>, OutboxWriter<'r, 'j, R, F>)>
+    ensures { IfSome result (λ ends. IsOkAnd reached.entry (λ both. ends.0.inner ≡ both.0)) }
+{
+    let ends = ends_of(alloc, outboxes, outbox, bind, deadline, reached);
+    outbox.dialled(outboxes.rt(), ends)
 }
 
 /// Connects to a message centre.
@@ -120,23 +135,11 @@ impl<'r, 'j, R: Connects + Clock + Sync, F: Write + OpenFile + Send + Drop> Dial
         ),
     > {
         let outbox = self.outboxes.get(bind)?;
-        let deadline = match deadline_of(self.rt, self.connect_ms) {
-            Ok(deadline) => deadline,
-            Err(why) => return outbox.dialled(self.rt, Err(why)),
-        };
+        let deadline = outbox.dialled(self.rt, deadline_of(self.rt, self.connect_ms))?;
         let reached = self
             .rt
             .reach(self.outboxes, bind, self.host, self.port, deadline);
-        let ends = ends_of(
-            self.rt,
-            self.alloc,
-            self.outboxes,
-            outbox,
-            bind,
-            deadline,
-            reached,
-        );
-        outbox.dialled(self.rt, ends)
+        finish_dial(self.alloc, self.outboxes, outbox, bind, deadline, reached)
     }
 }
 
@@ -173,10 +176,7 @@ impl<'r, 'j, R: Connects + Clock + Sync, F: Write + OpenFile + Send + Drop> Dial
         ),
     > {
         let outbox = self.outboxes.get(bind)?;
-        let deadline = match deadline_of(self.rt, self.connect_ms) {
-            Ok(deadline) => deadline,
-            Err(why) => return outbox.dialled(self.rt, Err(why)),
-        };
+        let deadline = outbox.dialled(self.rt, deadline_of(self.rt, self.connect_ms))?;
         let reached = self.rt.reach_own(
             self.alloc,
             self.outboxes,
@@ -186,15 +186,6 @@ impl<'r, 'j, R: Connects + Clock + Sync, F: Write + OpenFile + Send + Drop> Dial
             self.answers,
             deadline,
         );
-        let ends = ends_of(
-            self.rt,
-            self.alloc,
-            self.outboxes,
-            outbox,
-            bind,
-            deadline,
-            reached,
-        );
-        outbox.dialled(self.rt, ends)
+        finish_dial(self.alloc, self.outboxes, outbox, bind, deadline, reached)
     }
 }

@@ -1,4 +1,4 @@
-//! A connection to which nothing is written before the run's journal is in its file.
+//! A connection to which nothing is written before all notes of the run's journal are in its file.
 
 ghost use Rattle.std.specs.Prelude.{◌≡◌, IsErr, false};
 ghost use Rattle.std.specs.Io.{WritesAtMost};
@@ -11,7 +11,7 @@ use std::io::{Error, ErrorKind, Write};
 use std::net::{Shutdown, TcpStream};
 use std::sync::Wait;
 
-/// A connection behind the journal of a run: before each write all notes are written to the journal's
+/// A connection guarded by the journal of a run: before each write all notes are written to the journal's
 /// file. A run without a journal writes at once.
 #[derive(Drop)]
 pub struct Guarded<'j, W, R, F> {
@@ -20,7 +20,7 @@ pub struct Guarded<'j, W, R, F> {
     pub journal: Option<&'j Journal<F>>,
 }
 
-/// Writes to the connection once the journal is let out. If it couldn't be, nothing is written.
+/// Writes to the connection once the notes are written. If they couldn't be, nothing is written.
 fn write_noted<W: Write>(is_let_out: bool, connection: &mut W, octets: &[u8]) -> io::Result<usize>
     ensures bound { WritesAtMost result octets.now }
     ensures bytes { WriteAppends (W.contents connection.old) (W.contents connection.new) result octets.now }

@@ -3,7 +3,6 @@
 
 ghost use Rattle.std.specs.Prelude.{◌≡◌};
 ghost use Rattle.std.specs.Result.{result_ok};
-ghost use Rattle.std.specs.Io.{WritesAtMost};
 
 use crate::transport::buffered::Buffered;
 use crate::transport::connecting::Unconnected;
@@ -11,16 +10,16 @@ use crate::transport::guarded::Guarded;
 use crate::transport::requests::Requests;
 use std::alloc::Global;
 use std::fs::OpenFile;
-use std::io;
-use std::io::{Error, ErrorKind, Write};
+use std::io::Write;
 use std::net::{Shutdown, TcpStream};
 use std::sync::{Mutex, Wait};
 
 /// The outbox of one bind. It has no connection until one is made.
 #[derive(Drop)]
 pub struct Outbox<'j, R: Wait, F: Write + OpenFile> {
-    connection: Mutex<Option<Buffered<Guarded<'j, TcpStream, R, F>>>>,
-    requests: Requests,
+    /// The buffered connection, once there is one. The writer of the bind puts frames into it.
+    pub(super) connection: Mutex<Option<Buffered<Guarded<'j, TcpStream, R, F>>>>,
+    pub(super) requests: Requests,
     /// Why there is no connection, if the last attempt to make one failed.
     unconnected: Mutex<Unconnected>,
 }
@@ -60,25 +59,6 @@ impl<'j, R: Wait, F: Write + OpenFile> Outbox<'j, R, F> {
     /// Why there is no connection, if the last attempt to make one failed.
     pub(crate) fn reason(&self, rt: &R) -> Unconnected {
         *self.unconnected.lock(rt)
-    }
-
-    /// Puts octets into the buffer of the connection. All callers put whole frames.
-    pub(crate) fn put(&self, rt: &R, octets: &[u8]) -> io::Result<usize>
-        ensures bound { WritesAtMost result octets.now }
-    {
-        let mut connection = self.connection.lock(rt);
-        match connection.as_mut() {
-            Some(open) => {
-                let before = open.waiting();
-                let put = open.put(octets);
-                match &put {
-                    Ok(_count) => self.requests.put(octets, before, open.waiting()),
-                    Err(_broken) => self.requests.flush(before, open.waiting()),
-                }
-                put
-            }
-            None => Err(Error::from(ErrorKind::NotConnected)),
-        }
     }
 
     /// One of the bind's requests was answered.

@@ -9,15 +9,15 @@ use crate::transport::outbox::Outbox;
 use crate::waking::Bells;
 use std::fs::OpenFile;
 use std::io;
-use std::io::Write;
+use std::io::{Error, ErrorKind, Write};
 use std::sync::Wait;
 
-/// The writer of a bind. It puts what it is given into the bind's outbox. If that fails, it wakes the
-/// workers of the bind.
+/// The writer of a bind. It puts what it is given into the bind's outbox. All callers give it whole frames. If a
+/// write fails, it wakes the workers of the bind.
 #[derive(Drop)]
 pub struct OutboxWriter<'r, 'j, R: Wait, F: Write + OpenFile> {
     pub rt: &'j R,
-    /// The journal of the run, if it has one: it is let out before the outbox is written.
+    /// The journal of the run, if it has one: the outbox writes all its notes before a frame.
     pub journal: Option<&'j Journal<F>>,
     pub bells: &'r Bells,
     pub bind: usize,
@@ -31,7 +31,21 @@ impl<'r, 'j, R: Wait, F: Write + OpenFile> Write for OutboxWriter<'r, 'j, R, F> 
         ensures bound { WritesAtMost result buf.now }
         ensures bytes { WriteAppends None None result buf.now }
     {
-        let put = self.outbox.put(self.rt, buf);
+        let outbox = self.outbox;
+        let mut connection = outbox.connection.lock(self.rt);
+        let put = match connection.as_mut() {
+            Some(open) => {
+                let before = open.waiting();
+                let put = open.put(buf);
+                match &put {
+                    Ok(_count) => outbox.requests.put(buf, before, open.waiting()),
+                    Err(_broken) => outbox.requests.flush(before, open.waiting()),
+                }
+                put
+            }
+            None => Err(Error::from(ErrorKind::NotConnected)),
+        };
+        drop(connection);
         if put.is_err() {
             self.bells.fail(self.rt, self.bind);
         }

@@ -23,6 +23,7 @@ pub struct Outboxes<'j, R: Wait, F: Write + OpenFile> {
     journal: Option<&'j Journal<F>>,
     bells: Bells,
     clock: Ticks<'j, R>,
+    // The outbox of each bind. They are fields since an array of values that own memory can't be a struct's field.
     first: Outbox<'j, R, F>,
     second: Outbox<'j, R, F>,
     third: Outbox<'j, R, F>,
@@ -138,7 +139,7 @@ impl<'j, R: Wait, F: Write + OpenFile> Outboxes<'j, R, F> {
         self.journal
     }
 
-    /// The connection behind the journal of the run.
+    /// The connection, guarded by the journal of the run.
     pub fn guard<W>(&self, connection: W) -> Guarded<'j, W, R, F> {
         Guarded {
             connection,

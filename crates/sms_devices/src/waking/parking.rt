@@ -29,7 +29,7 @@ fn rest_ms(ms: u32, most: u64, rings_for_all: bool) -> u64
     }
 }
 
-/// Whether a wait of so many microseconds was long.
+/// Whether a wait of this many microseconds was long.
 fn is_long(us: u128) -> bool
     ensures { IsTrue result ↔ (1000 ≤ us) }
 {

@@ -129,7 +129,7 @@ impl Wakes {
 
     /// Whether all workers of the bind were to be woken. They no longer are.
     fn take_all(&mut self) -> bool
-        ensures was { result ≡ self.old.all }
+        ensures before { result ≡ self.old.all }
         ensures left { self.new ≡ record { all = false; workers = self.old.workers } }
     {
         let was = self.all;
@@ -140,7 +140,7 @@ impl Wakes {
     /// Whether this worker was to be woken. It no longer is.
     fn take_worker(&mut self, worker: usize) -> bool
         requires { worker < 32 }
-        ensures was { result ≡ slice_index_or self.old.workers worker false }
+        ensures before { result ≡ slice_index_or self.old.workers worker false }
         ensures left { self.new ≡ record { all = self.old.all; workers = slice_set self.old.workers worker false } }
     {
         let was = self.workers[worker];

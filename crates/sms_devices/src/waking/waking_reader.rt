@@ -27,7 +27,7 @@ use std::{io, time};
 pub struct WakingReader<'r, 'j, S, R: Wait, F: Write + OpenFile> {
     pub inner: S,
     pub rt: &'j R,
-    /// The journal of the run, if it has one: it is let out before the outbox is written.
+    /// The journal of the run, if it has one. Once it has failed nothing more goes out.
     pub journal: Option<&'j Journal<F>>,
     pub bells: &'r Bells,
     pub bind: usize,

@@ -1,15 +1,16 @@
 //! Whom the reader of a bind wakes, over connections to a listener of the test's own. Bind 0 has the
 //! workers 0 and 1, bind 1 the workers 2 and 3.
 
-use super::network::{accepted, listening, no_journal, put, want_nothing};
+use super::loopback::{connected, expect_nothing, no_journal, put};
 use super::paper::{ManualClock, Nowhere, limits, no_progress};
 use super::same::same;
-use sms_devices::{Outboxes, Parking, SendGate, TcpDial};
-use sms_driver::Dial;
+use sms_devices::{Outboxes, Parking, SendGate};
 use sms_worker::{Gate, Pause};
+use std::fs::File;
 use std::io::{Read, Write};
 use std::net::TcpStream;
 use std::process::Abort;
+use std::sync::Wait;
 use std::time;
 use std::time::Instant;
 
@@ -25,7 +26,7 @@ const ENQUIRE: [u8; 16] = [0, 0, 0, 16, 0, 0, 0, 0x15, 0, 0, 0, 0, 0, 0, 0, 7];
 /// A header whose command_length is too small.
 const BAD: [u8; 16] = [0, 0, 0, 15, 0x80, 0, 0, 4, 0, 0, 0, 0, 0, 0, 0, 7];
 
-// How long a worker waited that asked for so many milliseconds.
+// For how many milliseconds a worker waited that asked for `ms`.
 fn waited<R: time::Clock, P: Pause>(rt: &R, parking: &P, worker: usize, ms: u32) -> u64 {
     let Ok(begun) = Instant::now(rt) else {
         return 0;
@@ -37,10 +38,10 @@ fn waited<R: time::Clock, P: Pause>(rt: &R, parking: &P, worker: usize, ms: u32)
     }
 }
 
-// These of the workers 0, 1 and 2 were woken since they waited last, and the others not.
-fn want_woken<R: time::Clock + Abort, P: Pause>(rt: &R, parking: &P, wanted: [bool; 3]) {
+// Which of the workers 0, 1 and 2 were woken since they last waited.
+fn expect_woken<R: time::Clock + Abort, P: Pause>(rt: &R, parking: &P, expected: [bool; 3]) {
     for worker in 0..3usize {
-        if wanted[worker] {
+        if expected[worker] {
             assert!(rt; waited(rt, parking, worker, 20_000) < 10_000);
         } else {
             assert!(rt; waited(rt, parking, worker, 20) >= 20);
@@ -48,56 +49,97 @@ fn want_woken<R: time::Clock + Abort, P: Pause>(rt: &R, parking: &P, wanted: [bo
     }
 }
 
-// The octets come in, in one piece or octet by octet, and the reader asks for more once it has them.
-fn bring<R: Abort>(rt: &R, far: &mut TcpStream, reader: &mut impl Read, octets: &[u8]) {
+// The octets come in, in one piece, and the reader asks for more once it has them.
+fn receive<R: Abort>(rt: &R, far: &mut TcpStream, reader: &mut impl Read, octets: &[u8]) {
     put(rt, far, octets);
     let mut piece = [0u8; 64];
     match reader.read(&mut piece) {
         Ok(count) => same(rt, count, octets.len()),
         Err(_) => panic!(rt; "nothing came"),
     }
-    want_nothing(rt, reader);
+    expect_nothing(rt, reader);
 }
 
-fn bring_singly<R: Abort>(rt: &R, far: &mut TcpStream, reader: &mut impl Read, octets: &[u8]) {
+// The same, octet by octet.
+fn receive_singly<R: Abort>(rt: &R, far: &mut TcpStream, reader: &mut impl Read, octets: &[u8]) {
     put(rt, far, octets);
     let mut one = [0u8; 1];
     for _octet in octets {
         assert!(rt; reader.read_exact(&mut one).is_ok());
     }
-    want_nothing(rt, reader);
+    expect_nothing(rt, reader);
 }
 
-/// What comes behind a bad command_length wakes all workers of the bind, and so do a write that fails
-/// and the reader's end.
+// A worker sends the request with this number, through a gate of its own: the owners of numbers are kept beside it.
+fn send<R: AllocGlobal + Wait + time::Clock + Abort>(
+    rt: &R,
+    outboxes: &Outboxes<'_, R, File>,
+    worker: usize,
+    number: u32,
+) {
+    let clock = ManualClock::new(0);
+    let progress = no_progress(&Nowhere, &clock);
+    let gate = SendGate::new(
+        rt.alloc(),
+        outboxes,
+        &clock,
+        &progress,
+        limits(2, None, None),
+    );
+    assert!(rt; gate.sending(worker, number, 0, 0));
+}
+
+/// An answer wakes only the worker whose request it answers, once all of it has come and the reader asks for
+/// more. A request of the message centre wakes nobody. If it isn't known whose request is answered, since
+/// another number took its place or nobody sent it, all workers of the bind are woken.
+#[test]
+fn wakes_whom_an_answer_is_for(rt: HostRuntime) {
+    let outboxes = Outboxes::new(&rt, no_journal());
+    let (mut reader, _writer, mut far) = connected(&rt, &outboxes, 0, None);
+    let parking = Parking {
+        rt: &rt,
+        outboxes: &outboxes,
+    };
+    send(&rt, &outboxes, 1, 7);
+    send(&rt, &outboxes, 3, 8);
+    receive(&rt, &mut far, &mut reader, &ANSWER[..17]);
+    expect_woken(&rt, &parking, [false, false, false]);
+    receive(&rt, &mut far, &mut reader, &ANSWER[17..]);
+    expect_woken(&rt, &parking, [false, true, false]);
+    receive(&rt, &mut far, &mut reader, &ANSWER);
+    expect_woken(&rt, &parking, [false, true, false]);
+    receive_singly(&rt, &mut far, &mut reader, &ANSWER);
+    expect_woken(&rt, &parking, [false, true, false]);
+    receive(&rt, &mut far, &mut reader, &ENQUIRE);
+    expect_woken(&rt, &parking, [false, false, false]);
+    receive(&rt, &mut far, &mut reader, &NACK);
+    expect_woken(&rt, &parking, [true, true, false]);
+    send(&rt, &outboxes, 0, 8);
+    receive(&rt, &mut far, &mut reader, &NACK);
+    expect_woken(&rt, &parking, [true, false, false]);
+    send(&rt, &outboxes, 0, 263);
+    receive(&rt, &mut far, &mut reader, &ANSWER);
+    expect_woken(&rt, &parking, [true, true, false]);
+}
+
+/// What comes after a bad command_length wakes all workers of the bind. A write that fails and the reader's end
+/// do too.
 #[test]
 fn wakes_all_where_a_line_goes_down(rt: HostRuntime) {
     let outboxes = Outboxes::new(&rt, no_journal());
-    let (listener, port) = listening(&rt);
-    let dial = TcpDial {
-        rt: &rt,
-        alloc: rt.alloc(),
-        outboxes: &outboxes,
-        connect_ms: None,
-        host: "127.0.0.1",
-        port,
-    };
-    let Some((mut reader, mut writer)) = dial.dial(0) else {
-        panic!(rt; "no connection")
-    };
-    let mut far = accepted(&rt, &listener);
+    let (mut reader, mut writer, mut far) = connected(&rt, &outboxes, 0, None);
     let parking = Parking {
         rt: &rt,
         outboxes: &outboxes,
     };
     outboxes.bells().set_workers(2);
-    bring(&rt, &mut far, &mut reader, &BAD);
-    want_woken(&rt, &parking, [true, true, false]);
-    bring(&rt, &mut far, &mut reader, &[0]);
-    want_woken(&rt, &parking, [true, true, false]);
+    receive(&rt, &mut far, &mut reader, &BAD);
+    expect_woken(&rt, &parking, [true, true, false]);
+    receive(&rt, &mut far, &mut reader, &[0]);
+    expect_woken(&rt, &parking, [true, true, false]);
     outboxes.give_up(0);
     assert!(rt; writer.write(b"one").is_err());
-    want_woken(&rt, &parking, [true, true, false]);
+    expect_woken(&rt, &parking, [true, true, false]);
     drop(reader);
-    want_woken(&rt, &parking, [true, true, false]);
+    expect_woken(&rt, &parking, [true, true, false]);
 }

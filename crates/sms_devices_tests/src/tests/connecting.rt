@@ -1,20 +1,25 @@
-//! Why there is no connection: each bind's reason is its own, and the last that was dialled for.
+//! Why there is no connection: each bind keeps its own reason, that of its last dial.
 
-use super::network::{listening, no_journal};
+use super::loopback::{dial_to, listening, no_journal};
 use super::same::same;
 use sms_devices::{LoopDial, Outboxes, TcpDial, Unconnected};
 use sms_driver::Dial;
 use std::process::Abort;
 
-// There is no connection, and why.
-fn want_none<T: Drop>(rt: &impl Abort, ends: Option<T>, reason: Unconnected, wanted: Unconnected) {
+// There is no connection, for this reason.
+fn expect_none<T: Drop>(
+    rt: &impl Abort,
+    ends: Option<T>,
+    reason: Unconnected,
+    expected: Unconnected,
+) {
     assert!(rt; ends.is_none());
-    same(rt, reason, wanted);
+    same(rt, reason, expected);
 }
 
 /// Hosts, ports, milliseconds to connect, and why there is no connection: nobody listens at the port, there is no such
-/// host (RFC 6761 6.4), the address is one of a broadcast, and no time is left.
-const IN_VAIN: [(&str, u16, Option<u32>, Unconnected); 8] = [
+/// host (RFC 6761 6.4), the address is a broadcast address, or no time is left.
+const UNCONNECTED: [(&str, u16, Option<u32>, Unconnected); 8] = [
     ("127.0.0.1", 1, None, Unconnected::Refused),
     ("127.0.0.1", 1, Some(10_000), Unconnected::Refused),
     ("nothing.invalid", 1, None, Unconnected::Unresolved),
@@ -25,21 +30,17 @@ const IN_VAIN: [(&str, u16, Option<u32>, Unconnected); 8] = [
     ("localhost", 1, None, Unconnected::Refused),
 ];
 
-/// What the system says of an address or a name is the reason of the bind that was dialled for.
+/// The system's error for an address or a name gives the reason of the bind that was dialled for.
 #[test]
-fn tells_why_there_is_no_connection(rt: HostRuntime) {
+fn gives_the_reason_of_no_connection(rt: HostRuntime) {
     let outboxes = Outboxes::new(&rt, no_journal());
-    for (host, port, connect_ms, wanted) in &IN_VAIN {
+    for (host, port, connect_ms, expected) in &UNCONNECTED {
         let dial = TcpDial {
-            rt: &rt,
-            alloc: rt.alloc(),
-            outboxes: &outboxes,
-            connect_ms: *connect_ms,
             host,
-            port: *port,
+            ..dial_to(&rt, &outboxes, *port, *connect_ms)
         };
         let ends = dial.dial(3);
-        want_none(&rt, ends, outboxes.reason(3).why, *wanted);
+        expect_none(&rt, ends, outboxes.reason(3).why, *expected);
     }
 }
 
@@ -56,12 +57,8 @@ fn keeps_the_reason_of_each_bind(rt: HostRuntime) {
     ];
     for (bind, (host, port)) in hosts.into_iter().enumerate() {
         let dial = TcpDial {
-            rt: &rt,
-            alloc: rt.alloc(),
-            outboxes: &outboxes,
-            connect_ms: Some(10_000),
             host,
-            port,
+            ..dial_to(&rt, &outboxes, port, Some(10_000))
         };
         let ends = dial.dial(bind as u32);
         same(&rt, ends.is_some(), bind == 2);
@@ -72,9 +69,9 @@ fn keeps_the_reason_of_each_bind(rt: HostRuntime) {
     same(&rt, outboxes.reason(4).why, Unconnected::Other);
 }
 
-/// A test centre without a script can't be started: that is none of the network's reasons.
+/// A test centre without a script can't be started, which isn't a fault of the network.
 #[test]
-fn tells_a_centre_that_is_not_started(rt: HostRuntime) {
+fn gives_another_reason_if_no_centre_is_started(rt: HostRuntime) {
     let outboxes = Outboxes::new(&rt, no_journal());
     let (listener, _port) = listening(&rt);
     let dial = LoopDial {
@@ -87,11 +84,11 @@ fn tells_a_centre_that_is_not_started(rt: HostRuntime) {
         answers: &[],
     };
     let late = dial.dial(0);
-    want_none(&rt, late, outboxes.reason(0).why, Unconnected::TimedOut);
+    expect_none(&rt, late, outboxes.reason(0).why, Unconnected::TimedOut);
     let dial = LoopDial {
         connect_ms: None,
         ..dial
     };
     let unserved = dial.dial(0);
-    want_none(&rt, unserved, outboxes.reason(0).why, Unconnected::Other);
+    expect_none(&rt, unserved, outboxes.reason(0).why, Unconnected::Other);
 }

@@ -1,6 +1,6 @@
 //! What a journal's file takes, and that no request goes out before its note.
 
-use super::network::no_journal;
+use super::loopback::no_journal;
 use super::paper::{
     Line, ManualClock, Nowhere, PaperFile, STILL_MS, Sheet, Still, limits, no_progress,
 };
@@ -11,7 +11,7 @@ use sms_pdu::{MessageId, Reply};
 use sms_worker::{Gate, MessageRefusal};
 use std::alloc::{AllocError, Global};
 use std::fs::OpenFile;
-use std::io::{BufWriter, ErrorKind, Write};
+use std::io::{BufWriter, Write};
 use std::process::Abort;
 use std::str;
 use std::sync::Wait;
@@ -36,7 +36,7 @@ const HEADER: &str =
 const TRIAL_HEADER: &str =
     "trial,1,0101010101010101010101010101010101010101010101010101010101010101,0202020202020202020202020202020202020202020202020202020202020202,abababababababababababababababababababababababababababababababab,\n";
 
-/// What is noted of `told`.
+/// The notes of `send_two`.
 const LINES: &str =
     "begun,1700000000123,4\nsent,1700000000123,7,1,4,1\nsent,1700000000123,31,2,4,255\nunsent,1700000000123,31,2\nheard,1700000000123,7,1,88,1,\nrefused,1700000000123,5,no-credit\n";
 
@@ -53,8 +53,8 @@ fn reply(number: u32) -> Reply {
     }
 }
 
-// Tells the gate of two messages.
-fn tell<G: Gate>(rt: &impl Abort, gate: &G) {
+// A message is sent through the gate, and another is refused.
+fn send_two<G: Gate>(rt: &impl Abort, gate: &G) {
     assert!(rt; gate.ready(7));
     gate.begun(7, 4);
     assert!(rt; gate.pass(7, 1));
@@ -67,8 +67,8 @@ fn tell<G: Gate>(rt: &impl Abort, gate: &G) {
     gate.see_last(7, &[]);
 }
 
-// Tells a journal of two messages.
-fn tell_journal<'j, R: Wait + Clock, F: Write + OpenFile>(
+// The same, noted in a journal.
+fn note_two<'j, R: Wait + Clock, F: Write + OpenFile>(
     rt: &impl Abort,
     alloc: Global,
     still: &'j R,
@@ -78,10 +78,10 @@ fn tell_journal<'j, R: Wait + Clock, F: Write + OpenFile>(
     let clock = ManualClock::new(0);
     let progress = no_progress(&Nowhere, &clock);
     let gate = SendGate::new(alloc, &outboxes, &clock, &progress, limits(8, None, None));
-    tell(rt, &gate);
+    send_two(rt, &gate);
 }
 
-// Whether a request passes behind a journal.
+// Whether a request passes in a run with this journal.
 fn lets_a_request_out<'j, R: Wait + Clock, F: Write + OpenFile>(
     rt: &'j R,
     alloc: Global,
@@ -94,22 +94,22 @@ fn lets_a_request_out<'j, R: Wait + Clock, F: Write + OpenFile>(
     gate.sending(0, 1, 3, 0)
 }
 
-// Whether a journal's file has the note of an end with this status.
+// Whether a journal is closed with the note that its run ended with this status.
 fn closes<R: Clock, F: Write + OpenFile + Drop>(rt: &R, journal: Journal<F>, status: u8) -> bool {
     journal.close(rt, status).is_ok()
 }
 
-// The sheet has this text, and nothing was written since the last look at it.
-fn want<R: Wait + Abort>(rt: &R, alloc: Global, sheet: &Sheet, wanted: &str) {
+// The text that was written to the sheet since the last call.
+fn expect<R: Wait + Abort>(rt: &R, alloc: Global, sheet: &Sheet, expected: &str) {
     let octets = sheet.take(rt, alloc);
     match str::from_utf8(octets.as_slice()) {
-        Ok(text) => same(rt, text, wanted),
+        Ok(text) => same(rt, text, expected),
         Err(_) => panic!(rt; "no text"),
     }
 }
 
-/// Notes are written together when they are let out, in order; only then are they made durable, and
-/// only where that is asked for.
+/// Notes are written together and in order when they are let out. Then they are made durable, if the journal is
+/// synced.
 #[test]
 fn writes_what_was_noted(rt: HostRuntime) {
     let alloc = rt.alloc();
@@ -122,30 +122,24 @@ fn writes_what_was_noted(rt: HostRuntime) {
         (true, 3, JournalKind::Trial, TRIAL_HEADER),
     ] {
         let sheet = Sheet::blank(alloc);
-        let file = PaperFile {
-            rt: &rt,
-            sheet: &sheet,
-            room: ALL,
-            syncs: is_synced,
-            kind: ErrorKind::Other,
-        };
+        let file = PaperFile::new(&rt, &sheet, ALL, is_synced);
         let journal = Journal::new(alloc, file, is_synced);
         journal.begin(&rt, kind, &DIGESTS);
         assert!(rt; journal.let_out(&rt));
-        want(&rt, alloc, &sheet, header);
-        tell_journal(&rt, alloc, &still, &journal);
-        want(&rt, alloc, &sheet, "");
+        expect(&rt, alloc, &sheet, header);
+        note_two(&rt, alloc, &still, &journal);
+        expect(&rt, alloc, &sheet, "");
         assert!(rt; journal.let_out(&rt));
-        want(&rt, alloc, &sheet, LINES);
+        expect(&rt, alloc, &sheet, LINES);
         assert!(rt; journal.let_out(&rt));
         assert!(rt; !journal.has_failed());
         assert!(rt; closes(&still, journal, 4));
-        want(&rt, alloc, &sheet, END);
+        expect(&rt, alloc, &sheet, END);
         same(&rt, sheet.syncs(), syncs);
     }
 }
 
-/// A clock that can't be read gives 0. A number that a note has no room for is as a failure.
+/// A clock that can't be read gives 0. A request whose numbers a note can't hold is refused.
 #[test]
 fn notes_without_a_clock(rt: HostRuntime) {
     let alloc = rt.alloc();
@@ -154,13 +148,7 @@ fn notes_without_a_clock(rt: HostRuntime) {
         can_be_read: false,
     };
     let sheet = Sheet::blank(alloc);
-    let file = PaperFile {
-        rt: &rt,
-        sheet: &sheet,
-        room: ALL,
-        syncs: false,
-        kind: ErrorKind::Other,
-    };
+    let file = PaperFile::new(&rt, &sheet, ALL, false);
     let journal = Journal::new(alloc, file, false);
     let outboxes = Outboxes::new(&still, Some(&journal));
     let clock = ManualClock::new(0);
@@ -169,7 +157,7 @@ fn notes_without_a_clock(rt: HostRuntime) {
     gate.begun(0, 3);
     assert!(rt; !gate.sending(0, 1, 3, 255));
     assert!(rt; journal.let_out(&rt));
-    want(&rt, alloc, &sheet, "begun,0,3\n");
+    expect(&rt, alloc, &sheet, "begun,0,3\n");
 }
 
 /// A request that the journal can't note takes no permit of the rate.
@@ -177,13 +165,7 @@ fn notes_without_a_clock(rt: HostRuntime) {
 fn counts_no_refused_request(rt: HostRuntime) {
     let alloc = rt.alloc();
     let sheet = Sheet::blank(alloc);
-    let file = PaperFile {
-        rt: &rt,
-        sheet: &sheet,
-        room: ALL,
-        syncs: false,
-        kind: ErrorKind::Other,
-    };
+    let file = PaperFile::new(&rt, &sheet, ALL, false);
     let journal = Journal::new(alloc, file, false);
     let outboxes = Outboxes::new(&rt, Some(&journal));
     let clock = ManualClock::new(0);
@@ -196,27 +178,21 @@ fn counts_no_refused_request(rt: HostRuntime) {
     assert!(rt; gate.ready(0));
 }
 
-/// A file that can't be made durable has failed, and nothing is written to it any more.
+/// A file that can't be made durable has failed: nothing more is written to it.
 #[test]
 fn fails_where_it_is_not_durable(rt: HostRuntime) {
     let alloc = rt.alloc();
     let sheet = Sheet::blank(alloc);
-    let file = PaperFile {
-        rt: &rt,
-        sheet: &sheet,
-        room: ALL,
-        syncs: false,
-        kind: ErrorKind::Other,
-    };
+    let file = PaperFile::new(&rt, &sheet, ALL, false);
     let journal = Journal::new(alloc, file, true);
     journal.begin(&rt, JournalKind::Run, &DIGESTS);
     assert!(rt; !journal.let_out(&rt));
-    want(&rt, alloc, &sheet, HEADER);
+    expect(&rt, alloc, &sheet, HEADER);
     assert!(rt; journal.has_failed());
     assert!(rt; !lets_a_request_out(&rt, alloc, &journal));
     assert!(rt; !journal.let_out(&rt));
     assert!(rt; !closes(&rt, journal, 0));
-    want(&rt, alloc, &sheet, "");
+    expect(&rt, alloc, &sheet, "");
     same(&rt, sheet.syncs(), 1);
 }
 
@@ -226,7 +202,7 @@ const FRAME: usize = 4;
 /// How many requests they send.
 const REQUESTS: u32 = 12;
 
-// Sends the requests that pass the gate, and gives how many did.
+// Sends the requests that pass the gate. Gives how many did.
 fn send_requests<G: Gate, W: Write>(gate: &G, writer: &mut W) -> u32 {
     let mut passed = 0u32;
     for number in 1..=REQUESTS {
@@ -243,7 +219,7 @@ fn send_requests<G: Gate, W: Write>(gate: &G, writer: &mut W) -> u32 {
     passed
 }
 
-// Sends them over a connection behind this journal: what that took, and how many passed.
+// Sends them over a connection in a run with this journal. Gives what the connection took, and how many passed.
 fn send_over<'j, R: Wait + Clock, F: Write + OpenFile>(
     rt: &'j R,
     alloc: Global,
@@ -269,9 +245,9 @@ fn send_over<'j, R: Wait + Clock, F: Write + OpenFile>(
     Ok((octets, passed))
 }
 
-// Sends requests behind a journal whose file takes so many octets: what the connection took, and how
+// Sends requests in a run with a journal whose file takes `room` octets. Gives what the connection took, and how
 // many requests passed the gate.
-fn send_behind<'r, R: Wait + Clock + Abort>(
+fn send_noted<'r, R: Wait + Clock + Abort>(
     rt: &'r R,
     alloc: Global,
     sheet: &'r Sheet,
@@ -281,13 +257,7 @@ fn send_behind<'r, R: Wait + Clock + Abort>(
         rt,
         can_be_read: true,
     };
-    let file = PaperFile {
-        rt,
-        sheet,
-        room,
-        syncs: true,
-        kind: ErrorKind::Other,
-    };
+    let file = PaperFile::new(rt, sheet, room, true);
     let journal = Journal::new(alloc, file, room % 2 == 0);
     journal.begin(rt, JournalKind::Run, &DIGESTS);
     let sent = send_over(&still, alloc, &journal)?;
@@ -307,13 +277,13 @@ fn lines_of(text: &str, word: &str) -> usize {
     count
 }
 
-/// Wherever the file fails, it has a front of what was noted, and no octet of a request went to the
-/// connection whose note isn't whole in the file.
+/// Wherever the file fails, it has the first part of the notes. No octet of a request is sent unless the whole
+/// note of that request is in the file.
 #[test]
 fn sends_nothing_that_is_not_noted(rt: HostRuntime) -> Result<(), Fail> {
     let alloc = rt.alloc();
     let sheet = Sheet::blank(alloc);
-    let (octets, passed) = send_behind(&rt, alloc, &sheet, ALL)?;
+    let (octets, passed) = send_noted(&rt, alloc, &sheet, ALL)?;
     same(&rt, passed, REQUESTS);
     same(&rt, octets.len(), REQUESTS as usize * FRAME);
     let whole = sheet.take(&rt, alloc);
@@ -323,7 +293,7 @@ fn sends_nothing_that_is_not_noted(rt: HostRuntime) -> Result<(), Fail> {
     assert!(rt; text.starts_with(HEADER));
     same(&rt, lines_of(text, "sent,"), REQUESTS as usize);
     for room in 0..text.len() {
-        let (octets, passed) = send_behind(&rt, alloc, &sheet, room)?;
+        let (octets, passed) = send_noted(&rt, alloc, &sheet, room)?;
         let written = sheet.take(&rt, alloc);
         let Some(front) = text.get(..room) else {
             return Err("no text".into());
@@ -349,6 +319,6 @@ fn passes_all_without_a_journal(rt: HostRuntime) {
         &progress,
         limits(8, None, None),
     );
-    tell(&rt, &gate);
+    send_two(&rt, &gate);
     assert!(rt; gate.sending(0, 1, 3, 255));
 }

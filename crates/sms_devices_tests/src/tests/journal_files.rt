@@ -13,7 +13,7 @@ use std::rt::Files;
 use std::sync::Wait;
 use std::time::Clock;
 
-// A journal's file of this name, where none was.
+// A new journal's file of this name.
 fn made<R: JournalFiles<JournalFile = File> + Files + Abort>(
     rt: &R,
     name: &str,
@@ -26,7 +26,7 @@ fn made<R: JournalFiles<JournalFile = File> + Files + Abort>(
     }
 }
 
-// Why a journal's file of this name isn't made.
+// Why no journal's file of this name is made.
 fn unmade(rt: &(impl JournalFiles + Abort), name: &str) -> Unmade {
     match rt.create_journal(name, true) {
         Ok(_file) => panic!(rt; "a file"),
@@ -82,7 +82,7 @@ fn holds_nothing_else(rt: HostRuntime) {
     );
 }
 
-/// A file that was made and is no journal yet, and that nobody holds, is no journal that is held.
+/// An empty file that nobody holds isn't taken for a held journal.
 #[test]
 fn holds_no_empty_file(rt: HostRuntime) {
     const NAME: &str = "empty-journal-of-a-test.csv";
@@ -136,10 +136,10 @@ fn says_why_it_failed(rt: HostRuntime) {
     }
 }
 
-/// Details are wanted where the environment says 1, and nothing else.
+/// Details are shown if the environment variable is 1, and not for any other value.
 #[test]
 fn details_by_the_environment(rt: HostRuntime) {
-    for (value, wanted) in [
+    for (value, expected) in [
         ("1", true),
         ("", false),
         ("0", false),
@@ -152,7 +152,7 @@ fn details_by_the_environment(rt: HostRuntime) {
                 name: "SMS_SEND_VERBOSE",
                 value,
             }),
-            wanted,
+            expected,
         );
         same(
             &rt,

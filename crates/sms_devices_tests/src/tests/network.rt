@@ -1,38 +1,21 @@
-//! Connections over TCP to a listener of the test's own: how they are set up, what happens before
-//! someone waits, and who is served.
+//! Connections over TCP to a listener of the test's own: how they are set up, what goes out before a thread
+//! waits, and which sender a test centre serves.
 
+use super::loopback::{
+    connected, dial_to, expect_nothing, expect_octets, listening, no_journal, put,
+};
 use super::same::same;
-use sms_devices::{Connects, Journal, LoopDial, Outboxes, Parking, TcpDial};
+use sms_devices::{LoopDial, Outboxes, Parking};
 use sms_driver::Dial;
 use sms_worker::Pause;
-use std::fs::File;
 use std::io::{Read, Write};
-use std::net::{IpAddr, Ipv4Addr, TcpListener, TcpStream};
+use std::net::{Ipv4Addr, TcpStream};
 use std::process::Abort;
 use std::thread;
 use std::time::{Duration, Instant};
 
-/// A listener, which this machine alone reaches, and its port.
-pub fn listening(rt: &(impl Connects + Abort)) -> (TcpListener, u16) {
-    let Some(listener) = rt.listen() else {
-        panic!(rt; "no listener")
-    };
-    match listener.local_addr() {
-        Ok(address) => {
-            assert!(rt; address.ip() == IpAddr::V4(Ipv4Addr::LOCALHOST));
-            (listener, address.port())
-        }
-        Err(_) => panic!(rt; "no address"),
-    }
-}
-
-// A run without a journal.
-pub fn no_journal() -> Option<&'static Journal<File>> {
-    None
-}
-
-// How a stream was set up, whose writes wait so long.
-fn want_set_up(rt: &impl Abort, stream: &TcpStream, patience: Option<Duration>) {
+// The stream is set up as it has to be. Its writes wait this long.
+fn expect_set_up(rt: &impl Abort, stream: &TcpStream, patience: Option<Duration>) {
     match stream.nodelay() {
         Ok(nodelay) => assert!(rt; nodelay),
         Err(_) => panic!(rt; "no option"),
@@ -48,130 +31,66 @@ fn want_set_up(rt: &impl Abort, stream: &TcpStream, patience: Option<Duration>) 
 }
 
 /// On the connection of each bind no octet waits for others in the system, a read waits for 100 ms at
-/// most, and a write as long as the outboxes say when it is made. There are four binds.
+/// most, and a write as long as the outboxes allowed when the connection was made. There are four binds.
 #[test]
 fn sets_up_each_connection(rt: HostRuntime) {
     let outboxes = Outboxes::new(&rt, no_journal());
     let (_listener, port) = listening(&rt);
-    let dial = TcpDial {
-        rt: &rt,
-        alloc: rt.alloc(),
-        outboxes: &outboxes,
-        connect_ms: None,
-        host: "127.0.0.1",
-        port,
-    };
+    let dial = dial_to(&rt, &outboxes, port, None);
     for (bind, patience) in [(0u32, 0u32), (1, 600_000), (2, 5_000), (3, 1_000)] {
         outboxes.set_patience(patience);
-        let wanted = match patience {
+        let expected = match patience {
             0 => None,
             ms => Some(Duration::from_millis(u64::from(ms))),
         };
         match dial.dial(bind) {
-            Some((reader, _writer)) => want_set_up(&rt, &reader.inner, wanted),
+            Some((reader, _writer)) => expect_set_up(&rt, &reader.inner, expected),
             None => panic!(rt; "no connection"),
         }
     }
     assert!(rt; dial.dial(4).is_none());
 }
 
-// The other end of the connection.
-pub fn accepted(rt: &impl Abort, listener: &TcpListener) -> TcpStream {
-    let Ok((far, _from)) = listener.accept() else {
-        panic!(rt; "no connection")
-    };
-    match far.set_read_timeout(Some(Duration::from_secs(5))) {
-        Ok(()) => far,
-        Err(_) => panic!(rt; "no option"),
-    }
-}
-
-// The octets come in.
-fn want(rt: &impl Abort, far: &mut TcpStream, wanted: &[u8]) {
+// The next read gives these octets.
+fn expect(rt: &impl Abort, far: &mut TcpStream, expected: &[u8]) {
     let mut octets = [0u8; 8];
     match far.read(&mut octets) {
-        Ok(count) if count <= 8 => same(rt, &octets[..count], wanted),
+        Ok(count) if count <= 8 => same(rt, &octets[..count], expected),
         _ => panic!(rt; "nothing came"),
     }
-}
-
-// The octets are written.
-pub fn put(rt: &impl Abort, writer: &mut impl Write, octets: &[u8]) {
-    if writer.write_all(octets).is_err() {
-        panic!(rt; "not written")
-    }
-}
-
-// A read that gives nothing.
-pub fn want_nothing(rt: &impl Abort, reader: &mut impl Read) {
-    let mut octets = [0u8; 8];
-    assert!(rt; reader.read(&mut octets).is_err());
 }
 
 /// What was written goes out when the reader asks for octets. A pause sends what waits too.
 #[test]
 fn writes_before_it_reads(rt: HostRuntime) {
     let outboxes = Outboxes::new(&rt, no_journal());
-    let (listener, port) = listening(&rt);
-    let dial = TcpDial {
-        rt: &rt,
-        alloc: rt.alloc(),
-        outboxes: &outboxes,
-        connect_ms: None,
-        host: "127.0.0.1",
-        port,
-    };
-    let Some((mut reader, mut writer)) = dial.dial(0) else {
-        panic!(rt; "no connection")
-    };
-    let mut far = accepted(&rt, &listener);
+    let (mut reader, mut writer, mut far) = connected(&rt, &outboxes, 0, None);
     put(&rt, &mut writer, b"one");
-    want_nothing(&rt, &mut reader);
-    want(&rt, &mut far, b"one");
+    expect_nothing(&rt, &mut reader);
+    expect(&rt, &mut far, b"one");
     let parking = Parking {
         rt: &rt,
         outboxes: &outboxes,
     };
     put(&rt, &mut writer, b"two");
     parking.pause(1);
-    want(&rt, &mut far, b"two");
+    expect(&rt, &mut far, b"two");
 }
 
-// So many octets come in.
-fn want_octets(rt: &impl Abort, far: &mut TcpStream, wanted: usize) {
-    let mut octets = [0u8; 9_000];
-    match far.read(&mut octets) {
-        Ok(count) => same(rt, count, wanted),
-        Err(_) => panic!(rt; "nothing came"),
-    }
-}
-
-// 512 octets are put so often, and nothing goes out.
+// Puts 512 octets this many times, and nothing goes out.
 fn holds(rt: &impl Abort, writer: &mut impl Write, far: &mut TcpStream, puts: u32) {
     for _put in 0..puts {
         put(rt, writer, &[7u8; 512]);
     }
-    want_nothing(rt, far);
+    expect_nothing(rt, far);
 }
 
-/// What is put waits until there are 8,192 octets of it, and goes out in one piece. Behind a long wait it
-/// goes out by 1,024 octets, then by twice as many each time.
+/// What is put waits until there are 8,192 octets of it, and goes out in one piece. After a long wait it
+/// goes out at 1,024 octets, then at twice as many each time.
 #[test]
 fn keeps_8192_octets(rt: HostRuntime) {
     let outboxes = Outboxes::new(&rt, no_journal());
-    let (listener, port) = listening(&rt);
-    let dial = TcpDial {
-        rt: &rt,
-        alloc: rt.alloc(),
-        outboxes: &outboxes,
-        connect_ms: None,
-        host: "127.0.0.1",
-        port,
-    };
-    let Some((_reader, mut writer)) = dial.dial(0) else {
-        panic!(rt; "no connection")
-    };
-    let mut far = accepted(&rt, &listener);
+    let (_reader, mut writer, mut far) = connected(&rt, &outboxes, 0, None);
     assert!(rt; far.set_nonblocking(true).is_ok());
     let parking = Parking {
         rt: &rt,
@@ -180,33 +99,22 @@ fn keeps_8192_octets(rt: HostRuntime) {
     outboxes.begin(0, false);
     holds(&rt, &mut writer, &mut far, 16);
     put(&rt, &mut writer, &[8u8; 512]);
-    want_octets(&rt, &mut far, 8_192);
+    expect_octets(&rt, &mut far, 8_192);
     parking.wait(0, 5, 0);
-    want_octets(&rt, &mut far, 512);
+    expect_octets(&rt, &mut far, 512);
     holds(&rt, &mut writer, &mut far, 2);
-    for (wanted, puts) in [(1_024, 4), (2_048, 8), (4_096, 16), (8_192, 16)] {
+    for (expected, puts) in [(1_024, 4), (2_048, 8), (4_096, 16), (8_192, 16)] {
         put(&rt, &mut writer, &[8u8; 512]);
-        want_octets(&rt, &mut far, wanted);
+        expect_octets(&rt, &mut far, expected);
         holds(&rt, &mut writer, &mut far, puts - 1);
     }
 }
 
-/// A reader that ends rings, too: a pause behind it ends at once.
+/// A reader that ends rings too: a pause after it ends at once.
 #[test]
 fn rings_at_its_end(rt: HostRuntime) {
     let outboxes = Outboxes::new(&rt, no_journal());
-    let (_listener, port) = listening(&rt);
-    let dial = TcpDial {
-        rt: &rt,
-        alloc: rt.alloc(),
-        outboxes: &outboxes,
-        connect_ms: None,
-        host: "127.0.0.1",
-        port,
-    };
-    let Some((reader, _writer)) = dial.dial(0) else {
-        panic!(rt; "no connection")
-    };
+    let (reader, _writer, _far) = connected(&rt, &outboxes, 0, None);
     drop(reader);
     let parking = Parking {
         rt: &rt,
@@ -227,8 +135,7 @@ const ENQUIRE: [u8; 16] = [0, 0, 0, 16, 0, 0, 0, 0x15, 0, 0, 0, 0, 0, 0, 0, 1];
 
 const ALIVE: [u8; 16] = [0, 0, 0, 16, 0x80, 0, 0, 0x15, 0, 0, 0, 0, 0, 0, 0, 1];
 
-/// A test centre serves the connection that was dialled to it, and not one that came before. That is
-/// hung up.
+/// A test centre serves the connection that was dialled to it. It closes a connection that came before.
 #[test]
 fn serves_its_own_sender(rt: HostRuntime) {
     let outboxes = Outboxes::new(&rt, no_journal());
@@ -257,7 +164,7 @@ fn serves_its_own_sender(rt: HostRuntime) {
     }
     match stranger.read(&mut octets) {
         Ok(count) => same(&rt, count, 0),
-        Err(_) => panic!(rt; "not hung up"),
+        Err(_) => panic!(rt; "not closed"),
     }
 }
 
@@ -269,29 +176,17 @@ fn answering(rt: &(impl AllocGlobal + Abort)) -> String {
     }
 }
 
-/// Where the connection has to be bound in time a read gives nothing more once it is too late, whether
-/// octets come or not, up to the end of the first frame. Behind that frame it doesn't matter.
+/// A bind with a deadline: until its first frame is whole, a read after the deadline fails, whether octets come
+/// or not. After that frame the deadline doesn't matter.
 #[test]
-fn waits_for_the_bind_so_long(rt: HostRuntime) {
+fn waits_for_the_bind_until_its_deadline(rt: HostRuntime) {
     let outboxes = Outboxes::new(&rt, no_journal());
-    let (listener, port) = listening(&rt);
-    let dial = TcpDial {
-        rt: &rt,
-        alloc: rt.alloc(),
-        outboxes: &outboxes,
-        connect_ms: Some(300),
-        host: "127.0.0.1",
-        port,
-    };
-    let (Some((mut late, _one)), Some((mut bound, _two))) = (dial.dial(0), dial.dial(1)) else {
-        panic!(rt; "no connection")
-    };
-    let mut to_late = accepted(&rt, &listener);
-    let mut to_bound = accepted(&rt, &listener);
+    let (mut late, _one, mut to_late) = connected(&rt, &outboxes, 0, Some(300));
+    let (mut bound, _two, mut to_bound) = connected(&rt, &outboxes, 1, Some(300));
     put(&rt, &mut to_late, &ALIVE[..15]);
     put(&rt, &mut to_bound, &ALIVE);
     let mut octets = [0u8; 8];
-    for _part in 0..2 {
+    for _piece in 0..2 {
         assert!(rt; late.read(&mut octets).is_ok());
         assert!(rt; bound.read(&mut octets).is_ok());
     }

@@ -1,5 +1,5 @@
-//! Devices in memory, for the tests of the journal: a file that takes so many octets, a connection, a
-//! clock that stands, and a standard error that drops what it is given.
+//! Devices in memory: a file with little room, a connection, clocks that stand still or are set by hand, and a
+//! standard error that drops what it is given.
 
 use sms_devices::{GateLimits, Notice, Progress, TakesNotices, Telling};
 use std::alloc::Global;
@@ -12,10 +12,10 @@ use std::sync::{Mutex, Wait};
 use std::time::{Clock, Duration};
 use std::{io, mem};
 
-/// The time at which a clock of the tests stands, in milliseconds since 1970.
+/// The time at which a clock of the tests stands still, in milliseconds since 1970.
 pub const STILL_MS: u64 = 1_700_000_000_123;
 
-/// A clock that stands, or can't be read.
+/// A clock that stands still, or can't be read.
 #[derive(Drop)]
 pub struct Still<'r, R> {
     pub rt: &'r R,
@@ -83,7 +83,7 @@ impl Sheet {
     }
 }
 
-/// A file that takes so many octets, and can be made durable or can't.
+/// A file that takes `room` octets and then fails. `syncs` is whether it can be made durable.
 #[derive(Drop)]
 pub struct PaperFile<'r, R> {
     pub rt: &'r R,
@@ -92,6 +92,19 @@ pub struct PaperFile<'r, R> {
     pub syncs: bool,
     /// With what kind of error it fails.
     pub kind: ErrorKind,
+}
+
+impl<'r, R> PaperFile<'r, R> {
+    /// A file that writes to this sheet, and fails once it is full.
+    pub fn new(rt: &'r R, sheet: &'r Sheet, room: usize, syncs: bool) -> PaperFile<'r, R> {
+        PaperFile {
+            rt,
+            sheet,
+            room,
+            syncs,
+            kind: ErrorKind::StorageFull,
+        }
+    }
 }
 
 impl<'r, R: Wait> Write for PaperFile<'r, R> {

@@ -1,4 +1,4 @@
-//! When a person is told how far a sending is.
+//! When the line that shows a run's progress is renewed.
 
 use super::paper::ManualClock;
 use super::same::same;
@@ -92,7 +92,7 @@ fn renews_the_line_in_turns(rt: HostRuntime) -> Result<(), Fail> {
     let clock = ManualClock::new(1000);
     let progress = Progress::new(&paper, &paper, &clock, Telling::Way, 10, false);
     let ends = ends_in_turn(alloc)?;
-    // When a worker is at which place, and what is written then.
+    // The time, the worker, how far it is, and what is written then.
     let steps: [(u64, usize, usize, usize, &str); 7] = [
         (1100, 0, 5, 1, ""),
         (
@@ -114,13 +114,13 @@ fn renews_the_line_in_turns(rt: HostRuntime) -> Result<(), Fail> {
         (1400, 2, 1, 0, ""),
         (1900, 32, 1, 0, ""),
     ];
-    for (ms, worker, begun, open, wanted) in steps {
+    for (ms, worker, begun, open, expected) in steps {
         clock.set(ms);
         let Some(first) = ends.as_slice().get(..begun) else {
-            return Err("no so many ends".into());
+            return Err("too few ends".into());
         };
         progress.see(worker, first, open);
-        same(&rt, paper.take().as_str(), wanted);
+        same(&rt, paper.take().as_str(), expected);
     }
     progress.clear();
     same(&rt, paper.take().as_str(), "\r\x1b[K");

@@ -1,6 +1,6 @@
-//! How many requests the gate lets pass in a time, by a clock that is set by hand.
+//! How many requests the gate lets pass in a second, by a clock that is set by hand.
 
-use super::network::no_journal;
+use super::loopback::no_journal;
 use super::paper::{ManualClock, Nowhere, limits, no_progress};
 use super::same::same;
 use sms_devices::{Outboxes, SendGate};
@@ -20,16 +20,16 @@ fn sends<G: Gate>(gate: &G, worker: usize) -> u32 {
     count
 }
 
-/// Of each bind at most so many requests pass in any second, whichever of its workers sends them, and no
+/// At most the rate's requests of each bind pass in any second, whichever of its workers sends them, and no
 /// more at once than those of a fiftieth of a second.
 #[test]
-fn passes_so_many_in_a_second(rt: HostRuntime) {
+fn passes_the_rate_in_a_second(rt: HostRuntime) {
     let outboxes = Outboxes::new(&rt, no_journal());
     let clock = ManualClock::new(5_000);
     let progress = no_progress(&Nowhere, &clock);
     let wanted = limits(2, Some(200), None);
     let gate = SendGate::new(rt.alloc(), &outboxes, &clock, &progress, wanted);
-    // At which time which worker is ready for how many requests: four at once, and 197 in 1,010 ms.
+    // The time, the worker, and for how many requests it is ready: four at once, and 197 in 1,010 ms.
     let steps: [(u64, usize, u32); 10] = [
         (5_000, 0, 4),
         (5_000, 1, 0),
@@ -54,7 +54,7 @@ fn passes_so_many_in_a_second(rt: HostRuntime) {
     }
 }
 
-// How many requests two workers of a bind send in so many milliseconds that pass one by one.
+// How many requests two workers of a bind send within `ms` milliseconds, which pass one by one.
 fn sends_in<G: Gate>(clock: &ManualClock, gate: &G, from: u64, ms: u64) -> u32 {
     let mut count = 0u32;
     for now in from..from.saturating_add(ms) {
@@ -64,7 +64,7 @@ fn sends_in<G: Gate>(clock: &ManualClock, gate: &G, from: u64, ms: u64) -> u32 {
     count
 }
 
-/// In a second after a while without any at most so many requests pass, and in each that follows nearly as many.
+/// In a second after a pause at most the rate's requests pass, and nearly as many in each second after it.
 #[test]
 fn passes_no_more_in_any_second(rt: HostRuntime) {
     let outboxes = Outboxes::new(&rt, no_journal());
@@ -88,8 +88,8 @@ fn passes_no_more_in_any_second(rt: HostRuntime) {
     }
 }
 
-/// A worker that was ready and sent nothing is still ready in its turn. At its end the permit goes back, and
-/// others get it. One that is used late lets no more requests through.
+/// A worker that was ready and sent nothing stays ready for the rest of its turn. Then its permit goes back and
+/// another worker gets it. A permit that is used late lets no more requests through.
 #[test]
 fn takes_unused_permits_back(rt: HostRuntime) {
     let outboxes = Outboxes::new(&rt, no_journal());

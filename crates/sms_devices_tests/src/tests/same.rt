@@ -3,8 +3,8 @@
 use std::fmt::Debug;
 use std::process::Abort;
 
-/// Both are the same. A test that compares by a call has a short proof: what is printed where they
-/// differ stands here alone.
-pub fn same<T: PartialEq + Debug + Drop>(rt: &impl Abort, got: T, wanted: T) {
-    assert_eq!(rt; got, wanted);
+/// Both are the same. A test that compares by a call has a short proof: the printing of two values that differ is
+/// proved only here.
+pub fn same<T: PartialEq + Debug + Drop>(rt: &impl Abort, got: T, expected: T) {
+    assert_eq!(rt; got, expected);
 }

@@ -1,4 +1,4 @@
-//! A terminal that keeps what it is told, and can be stopped.
+//! What is written to a terminal that can be stopped.
 
 use super::same::same;
 use sms_devices::{Notices, Pen};
@@ -11,10 +11,10 @@ use std::test::Fail;
 use std::time::{Clock, Duration};
 use std::{io, mem, thread};
 
-// How long a stopped terminal takes nothing, in milliseconds, unless it goes on.
+// For how many milliseconds a stopped terminal takes nothing, unless it goes on.
 const STOPPED_MS: u32 = 5_000;
 
-// What a terminal was told, and whether it is stopped.
+// What was written to a terminal, and whether it is stopped.
 #[derive(Drop)]
 struct Sheet {
     text: Mutex<String>,
@@ -40,7 +40,7 @@ impl<R: Clock + Wait> Paper<R> {
         }
     }
 
-    // A terminal that was told nothing.
+    // A terminal to which nothing was written.
     fn blank(rt: R, alloc: Global) -> Paper<R> {
         let sheet = Sheet {
             text: Mutex::new(String::new(alloc)),
@@ -124,7 +124,7 @@ fn nobody_waits_for_a_terminal_that_is_stopped(rt: HostRuntime) -> Result<(), Fa
 }
 
 #[test]
-fn a_terminal_that_is_left_alone_is_told_nothing(rt: HostRuntime) {
+fn nothing_is_written_without_notices(rt: HostRuntime) {
     let paper = Paper::blank(rt, rt.alloc());
     let notices = Notices::none(paper.another());
     same(&rt, notices.tell(&rt, "one"), false);

@@ -1,6 +1,6 @@
-//! What the clock of a sending shows, beside a clock of the system that is set by hand.
+//! What the clock of a run shows, by a system's clock that is set by hand.
 
-use super::network::no_journal;
+use super::loopback::no_journal;
 use super::paper::{SetClock, Still};
 use super::same::same;
 use sms_devices::Outboxes;
@@ -8,7 +8,7 @@ use sms_worker::Clock;
 use std::sync::atomic::{AtomicU64, Ordering};
 
 /// Time passes in a process that runs. More than a second between two readings is a stop: it doesn't count, nor
-/// do 300 ms behind it.
+/// do the 300 ms after it.
 #[test]
 fn stands_still_over_a_stop(rt: HostRuntime) {
     let system = SetClock {
@@ -39,7 +39,7 @@ fn stands_still_over_a_stop(rt: HostRuntime) {
     same(&rt, outboxes.start_clock().now_ms(), 10_200);
 }
 
-/// By a clock of the system that can't be read no time passes.
+/// No time passes if the system's clock can't be read.
 #[test]
 fn stands_without_a_clock(rt: HostRuntime) {
     let still = Still {
