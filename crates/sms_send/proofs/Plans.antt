@@ -9,7 +9,7 @@ use Rattle.sms_files.specs.PlanText.{message_lines, message_plan, plan_of, text_
 use Rattle.sms_files.specs.Inputs.{Told}
 use Rattle.sms_files.specs.declared.fault.InputFault.TheVariants as input
 use Rattle.sms_files.specs.declared.fault.Source.TheVariants.{Messages}
-use Rattle.sms_files.specs.declared.messages.MessageText.{MessageText}
+use Rattle.sms_files.specs.declared.tables.messages.MessageText.{MessageText}
 use Rattle.sms_send.specs.Opened.{OfFile}
 use Rattle.sms_send.specs.Plans.{TellsPlan}
 use Rattle.sms_send.specs.Runs.{TellsUnread}

@@ -14,7 +14,7 @@ use Rattle.sms_files.specs.declared.config.FileNames.{FileNames}
 use Rattle.sms_files.specs.declared.fault.InputFault.{InputFault}
 use Rattle.sms_files.specs.declared.fault.InputFault.TheVariants as input
 use Rattle.sms_files.specs.declared.input.Input.{Input}
-use Rattle.sms_files.specs.declared.setup.Setup.{Setup}
+use Rattle.sms_files.specs.declared.config.setup.Setup.{Setup}
 use Rattle.sms_files.specs.Output.{WritesFront}
 use Rattle.sms_send.specs.Faults.{TellsRead, told_input, output_failed}
 use Rattle.sms_send.specs.Opened.{AreFound, OfFile, TellsUnreadFile}

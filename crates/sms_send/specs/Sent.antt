@@ -35,7 +35,7 @@ use Rattle.sms_driver.specs.declared.start.StartPhase.TheVariants.{Released}
 use Rattle.sms_send.specs.declared.faults.fault.Fault.{Fault}
 use Rattle.sms_send.specs.declared.faults.fault.Fault.TheVariants.{BindFailed, Unreported}
 use Rattle.sms_files.specs.declared.input.Input.{Input}
-use Rattle.sms_files.specs.declared.limits.Limits.{Limits}
+use Rattle.sms_files.specs.declared.config.limits.Limits.{Limits}
 use Rattle.sms_send.specs.declared.sending.sender.Ended.{Ended}
 
 -- all binds have the config's window, follow as it says, and are asked for with what it says (SMPP 3.4 4.1)
