@@ -1,4 +1,4 @@
-"""The pages for engineers: each name in them that stands between backticks is one of the repository's, and READING lists all tools.
+"""The pages for engineers: each name and path in them that stands between backticks is one of the repository's, and READING lists all tools.
 Run by `python3 -m unittest discover tools/tests`."""
 import pathlib
 import re
@@ -40,6 +40,14 @@ class Pages(unittest.TestCase):
         for name in PAGES:
             with self.subTest(page=name):
                 self.assertEqual([it for it in names_in(page(name)) if it not in names], [])
+
+    def test_paths(self):
+        """A module, a file or a folder that is named with its crate is there."""
+        for name in PAGES:
+            with self.subTest(page=name):
+                paths = [(HOME / "crates" / crate, path) for crate, path in re.findall(r"`(sms_\w+)/([\w/.-]+)", page(name))]
+                there = {it for it in paths if any((it[0] / more).exists() for more in (it[1], f"src/{it[1]}", f"src/{it[1]}.rt", f"{it[1]}.edit"))}
+                self.assertEqual([f"{crate.name}/{path}" for crate, path in paths if (crate, path) not in there], [])
 
     def test_tools(self):
         listed = set(re.findall(r"`([\w.-]+)/?`", "\n".join(line.split("|")[1] for line in page("READING").splitlines() if line.startswith("| `"))))
