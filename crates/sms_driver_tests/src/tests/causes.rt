@@ -10,7 +10,7 @@ use sms_driver::{
     BindClosing, Devices, Dial, DownBy, RunSettings, Sending, SkipReason, Start, StartGate,
     UnbindResult, drive_all,
 };
-use sms_worker::{MessageRefusal, MessageResult};
+use sms_worker::{MessageRefusal, MessageResult, Pause};
 use std::alloc::{AllocError, Global};
 use std::test::Fail;
 use std::thread::Threads;
@@ -81,6 +81,18 @@ impl io::Write for Output {
 
     fn flush(&mut self) -> io::Result<()> {
         Ok(())
+    }
+}
+
+// Pauses so long that a reader has taken its few turns before a worker has.
+#[derive(Drop)]
+struct Slow<'a, S> {
+    rt: &'a S,
+}
+
+impl<'a, S: time::Clock> Pause for Slow<'a, S> {
+    fn pause(&self, _ms: u32) {
+        thread::sleep(self.rt, Duration::from_millis(50));
     }
 }
 
@@ -182,7 +194,7 @@ fn bind_told<R: Threads + sync::Wait + time::Clock + Sync>(
             dial: &One { rt, ending },
             gate: &beside,
             clock: &beside,
-            pause: &beside,
+            pause: &Slow { rt },
         },
     );
     match driven {
