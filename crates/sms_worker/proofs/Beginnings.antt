@@ -15,19 +15,20 @@ use Rattle.sms_message.specs.declared.message.Message.{Message}
 use Rattle.sms_worker.specs.declared.state.open.Open.{Open}
 use Rattle.sms_worker.specs.Types.{SegmentEnd, MessageEnd}
 use Rattle.sms_worker.specs.Begins.{fresh, ready, Begins}
-use Rattle.sms_message.specs.Ends.{total_in, credit, uses}
+use Rattle.sms_message.specs.Ends.{segments_in, total_in, credit, uses}
 use Rattle.sms_worker.specs.Start.{Start}
 use Rattle.sms_message.specs.Submits.{HasAddresses}
 use Rattle.sms_message.specs.declared.rules.Rules.{Rules}
 use Rattle.sms_message.specs.declared.ends.MessageRefusal.{MessageRefusal}
 use Rattle.sms_message.specs.declared.ends.MessageRefusal.TheVariants.{NoAccount, NoCredit, TooLong, BadAddress, BindClosed, OutOfMemory}
 use Rattle.sms_message.specs.declared.user_data.UserData.{UserData}
-use Rattle.sms_worker.specs.Told.{IsTold}
+use Rattle.sms_worker.specs.Told.{IsTold, Grew}
 use Rattle.sms_message.specs.Results.{IsResultOf}
 use Rattle.sms_message.specs.Admission.{IsRefusalOf, IsNotCut, IsKnown}
 use Rattle.sms_message.specs.UserData.{message_data}
 use Rattle.sms_worker.specs.Keeps.{Keeps}
-use Rattle.sms_worker.proofs.EndLemmas.{total_append, got_of_more, got_of_append}
+use Rattle.sms_message.specs.declared.ends.MessageResult.TheVariants.{Refused}
+use Rattle.sms_worker.proofs.EndLemmas.{get_last, total_append, got_of_more, got_of_append}
 use Rattle.sms_worker.proofs.Changes.{amounts_there, amounts_other}
 
 -- why a text isn't cut is why its message is refused
@@ -109,6 +110,30 @@ other_ready old a more i low = dite (ℕ_discrete a i)
     (ap (λ (z : Amounts). z.charged) y ∙ xc, ap (λ (z : Amounts). z.returned) y ∙ xr))
     (λ ne. let y = amounts_other old.amounts a i (reserved_more more (amounts_at old.amounts a)) ne in (ap (λ (z : Amounts). z.charged) y, ap (λ (z : Amounts). z.returned) y))
 
+-- the end of a message stands behind the others, and the share reserved for it what its segments count as reserved
+pub grew_begun : (base now now' : List Amounts) (ms : List Message) (es : List MessageEnd) (m : Message) (e : MessageEnd) (cost count : ℕ) → Grew base now ms es → slice_get ms (length es) ≡ Some m → segments_in e.result ≡ ready cost count
+    → ((i : ℕ) → (amounts_at now' i).reserved ≡ (amounts_at now i).reserved + total_in (credit reserved_of i m.account) (segments_in e.result))
+    → ((i : ℕ) → (amounts_at now' i).charged ≡ (amounts_at now i).charged) → ((i : ℕ) → (amounts_at now' i).returned ≡ (amounts_at now i).returned) → Grew base now' ms (es ++ e ∷ [])
+grew_begun base now now' ms es m e cost count grew there segments reserved charged returned i =
+    let g = grew i in
+    let tr = total_append (λ m s. credit reserved_of i m.account s) ms es e m there in
+    let tc = total_append (λ m s. credit charged_of i m.account s) ms es e m there in
+    let tt' = total_append (λ m s. credit returned_of i m.account s) ms es e m there in
+    let unmoved = settled_none i m.account cost in
+    let zc = ap (total_in (λ s. credit charged_of i m.account s)) segments ∙ total_nothing (λ s. credit charged_of i m.account s) cost count unmoved.0 in
+    let zr = ap (total_in (λ s. credit returned_of i m.account s)) segments ∙ total_nothing (λ s. credit returned_of i m.account s) cost count unmoved.1 in
+    let r = reserved i in
+    let c = charged i in
+    let t = returned i in
+    (omega arith, omega arith, omega arith)
+
+same_last : (es : List MessageEnd) (d e : MessageEnd) → es ++ d ∷ [] ≡ es ++ e ∷ [] → d ≡ e
+same_last es d e same = let got : Some d ≡ Some e = sym (get_last es d) ∙ ap (λ l. slice_get l (length es)) same ∙ get_last es e in cc
+
+-- the end that was added is this one
+pub closed_if_begun : (es : List MessageEnd) (d e : MessageEnd) → es ++ d ∷ [] ≡ es ++ e ∷ [] → e.result ≡ Refused BindClosed → d.result ≡ Refused BindClosed
+closed_if_begun es d e same is = ap (λ (x : MessageEnd). x.result) (same_last es d e same) ∙ is
+
 -- a message was begun
 pub keeps_begun : (start : Start) (ms : List Message) (es : List MessageEnd) (pending : List (List UserData)) (os : List Open) (seat : SeatState) (share share' : Share) (replies : List Reply) (m : Message) (content : List UserData) (e : MessageEnd)
     → Keeps start ms es pending os seat share replies → slice_get ms (length es) ≡ Some m → length es < length ms → Begins start.rules m share share' content e
@@ -143,18 +168,7 @@ keeps_begun start ms es pending os seat share share' replies m content e keeps t
         subst (λ (x : SegmentEnd). IsTold start.rules (length start.received) replies m' p x) (sym is) (subst (λ (y : Message). IsTold start.rules (length start.received) replies y p (fresh (cost_of start.rules.tariff (string_bytes m.dest)))) same
         (record { cost = refl; some = b.some (some_ready _ b.count p s (ap (λ l. slice_get l p) (sym b.segments) ∙ h.1)); sent = tt; answered = tt; state = inr (record { outcome = refl; retried = tt; fewer = start.rules.policy.lawful.some_attempt }) })))
   ];
-  money = λ i.
-      let g = keeps.money i in
-      let tr = total_append (λ m s. credit reserved_of i m.account s) start.messages es e m there' in
-      let tc = total_append (λ m s. credit charged_of i m.account s) start.messages es e m there' in
-      let tt' = total_append (λ m s. credit returned_of i m.account s) start.messages es e m there' in
-      let unmoved = settled_none i m.account _ in
-      let zc = ap (total_in (λ s. credit charged_of i m.account s)) b.segments ∙ total_nothing (λ s. credit charged_of i m.account s) _ b.count unmoved.0 in
-      let zr = ap (total_in (λ s. credit returned_of i m.account s)) b.segments ∙ total_nothing (λ s. credit returned_of i m.account s) _ b.count unmoved.1 in
-      let r = b.reserved i in
-      let c = b.charged i in
-      let t = b.returned i in
-      (omega arith, omega arith, omega arith);
+  money = grew_begun start.share.amounts share.amounts share'.amounts start.messages es m e _ b.count keeps.money there' b.segments b.reserved b.charged b.returned;
   pending_kept = λ k m' content' at got. elim (got_of_append pending content k content' got) [
     | inl h ↦ keeps.pending_kept k m' content' at h
     | inr h ↦ (let at' : slice_get start.messages (length es) ≡ Some m' = ap (slice_get start.messages) (sym (h.0 ∙ keeps.pending_long)) ∙ at in

@@ -29,7 +29,7 @@ use Rattle.sms_message.specs.Results.{IsResultOf, AreEnds}
 use Rattle.sms_worker.specs.declared.state.open.Open.{Open}
 use Rattle.sms_worker.specs.Keeps.{slots_of}
 use Rattle.sms_worker.specs.Steps.{move_of, moved_to, settled_to}
-use Rattle.sms_worker.proofs.EndLemmas.{got_of_put, end_of_put, length-put, total_put, part_at_most, end_at}
+use Rattle.sms_worker.proofs.EndLemmas.{got_of_put, end_of_put, length-put, total_put, total_same, part_at_most, end_at}
 
 pub slots-append : (os : List Open) (o : Open) → slots_of (os ++ o ∷ []) ≡ slots_of os ++ o.slot ∷ []
 slots-append [] o = refl
@@ -109,6 +109,16 @@ grew_same base now ms es k p m s s' g there at c o i =
     let cr = credit_like reserved_of i m.account s s' c o in
     let ch = credit_like charged_of i m.account s s' c o in
     let ct = credit_like returned_of i m.account s s' c o in
+    let g' = g i in
+    (omega arith, omega arith, omega arith)
+
+-- one segment end changed that has the same cost and outcome
+pub grew_like : (base now : List Amounts) (ms : List Message) (es : List MessageEnd) (k p : ℕ) (s s' : SegmentEnd) → Grew base now ms es → segment_at es k p ≡ Some s → s'.cost ≡ s.cost → s'.outcome ≡ s.outcome → Grew base now ms (put es k p s')
+grew_like base now ms es k p s s' g at c o i =
+    let same = λ (f : Phase → ℕ → ℕ). total_same (λ m s. credit f i m.account s) ms es k p s s' at (λ m. credit_like f i m.account s s' c o) in
+    let r = same reserved_of in
+    let h = same charged_of in
+    let t = same returned_of in
     let g' = g i in
     (omega arith, omega arith, omega arith)
 
@@ -218,7 +228,8 @@ sums_moved now i a s s' Unanswered low is is' c fits = dite (ℕ_discrete a i)
 sums_none : (x : Amounts) (i : ℕ) (s s' : SegmentEnd) → SameSums x x i None s s'
 sums_none x i s s' = (refl, refl, refl)
 
-grew_at : (base : List Amounts) (now : Share) (ms : List Message) (es : List MessageEnd) (k p : ℕ) (m : Message) (s s' : SegmentEnd) (o : Outcome) (acc : Option ℕ) → m.account ≡ acc → Grew base now.amounts ms es
+-- the credits of one segment end moved as its outcome says
+pub grew_at : (base : List Amounts) (now : Share) (ms : List Message) (es : List MessageEnd) (k p : ℕ) (m : Message) (s s' : SegmentEnd) (o : Outcome) (acc : Option ℕ) → m.account ≡ acc → Grew base now.amounts ms es
     → slice_get ms k ≡ Some m → segment_at es k p ≡ Some s → s.outcome ≡ Unanswered → s'.outcome ≡ o → s'.cost ≡ s.cost → ((a : ℕ) → acc ≡ Some a → a < length now.amounts)
     → Grew base (settled_to o acc s.cost now).amounts ms (put es k p s')
 grew_at base now ms es k p m s s' o (Some a) acc g there at is is' c low =

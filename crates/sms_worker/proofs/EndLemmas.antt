@@ -5,7 +5,7 @@ use Rattle.sms_message.specs.declared.message.Message.{Message}
 use Rattle.sms_worker.specs.Types.{SegmentEnd, MessageEnd, MessageResult}
 use Rattle.sms_message.specs.declared.ends.MessageResult.TheVariants.{Sent, Refused as NotSent}
 use Rattle.sms_message.specs.Ends.{segments_in, segment_at, put_in, with_part, put, total_in, total}
-use Rattle.sms_worker.specs.Steps.{Takes}
+use Rattle.sms_worker.specs.Steps.{Takes, emptied}
 
 module _ {X : Type 0} where
   pub get_set : (xs : List X) (p : ℕ) (x y : X) → slice_get xs p ≡ Some x → slice_get (slice_set xs p y) p ≡ Some y
@@ -120,6 +120,16 @@ total_put f (x ∷ ms) (e ∷ es) zero p m s t there at =
     omega arith
 total_put f (x ∷ ms) (e ∷ es) (suc k) p m s t there at = let h = total_put f ms es k p m s t there at in omega arith
 
+-- one segment end changed that counts as much as before
+pub total_same : (f : Message → SegmentEnd → ℕ) (ms : List Message) (es : List MessageEnd) (k p : ℕ) (s t : SegmentEnd) → segment_at es k p ≡ Some s → ((m : Message) → f m t ≡ f m s) → total f ms (put es k p t) ≡ total f ms es
+total_same f [] es k p s t at same = refl
+total_same f (x ∷ ms) [] k p s t at same = absurd (cc)
+total_same f (x ∷ ms) (e ∷ es) zero p s t at same =
+    let h = in_total (f x) e.result p s t at in
+    let q = same x in
+    omega arith
+total_same f (x ∷ ms) (e ∷ es) (suc k) p s t at same = let h = total_same f ms es k p s t at same in omega arith
+
 pub total_none : (f : Message → SegmentEnd → ℕ) (ms : List Message) → total f ms [] ≡ 0
 total_none f [] = refl
 total_none f (m ∷ ms) = refl
@@ -197,12 +207,16 @@ put_same [] k p s at = refl
 put_same (e ∷ es) zero p s at = ap (λ r. record e { result = r } ∷ es) (same_in e.result p s at)
 put_same (e ∷ es) (suc k) p s at = ap (λ l. e ∷ l) (put_same es k p s at)
 
+-- what stands there while it is taken out
+pub there_taken : (old es : List MessageEnd) (k p : ℕ) (s : SegmentEnd) → Takes old k p s es → segment_at es k p ≡ Some (emptied s)
+there_taken old es k p s (at, is) = ap (λ l. segment_at l k p) is ∙ put_there old k p s (emptied s) at
+
 -- what was taken out is given back, or another in its place
 pub back_there : (old es : List MessageEnd) (k p : ℕ) (s : SegmentEnd) → Takes old k p s es → (x : SegmentEnd) × (segment_at es k p ≡ Some x)
-back_there old es k p s (at, (left, is)) = (left, ap (λ l. segment_at l k p) is ∙ put_there old k p s left at)
+back_there old es k p s takes = (emptied s, there_taken old es k p s takes)
 
 pub given_other : (old es new : List MessageEnd) (k p : ℕ) (s s' : SegmentEnd) → Takes old k p s es → new ≡ put es k p s' → new ≡ put old k p s'
-given_other old es new k p s s' (at, (left, is)) e = e ∙ ap (λ l. put l k p s') is ∙ put_twice old k p left s'
+given_other old es new k p s s' (at, is) e = e ∙ ap (λ l. put l k p s') is ∙ put_twice old k p (emptied s) s'
 
 pub given_same : (old es new : List MessageEnd) (k p : ℕ) (s : SegmentEnd) → Takes old k p s es → new ≡ put es k p s → new ≡ old
 given_same old es new k p s t e = given_other old es new k p s s t e ∙ put_same old k p s t.0

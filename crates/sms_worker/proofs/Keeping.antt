@@ -33,7 +33,7 @@ use Rattle.sms_worker.specs.Steps.{GivesUp, Answers, with_outcome, outcome_after
 use Rattle.sms_worker.specs.declared.steps.attempt.TrySend.{TrySend}
 use Rattle.sms_worker.specs.declared.steps.attempt.TrySend.TheVariants.{Sent, Retry, GiveUp}
 use Rattle.sms_worker.specs.declared.steps.give_up.GiveUpReason.TheVariants.{Over, Numbers, Memory, Gate, Line}
-use Rattle.sms_worker.proofs.Changes.{told_put, ends_put, drew_same, drew_sent, drew_unused, grew_same, grew_settled, credit_held, length-settled, number-settled}
+use Rattle.sms_worker.proofs.Changes.{told_put, ends_put, drew_same, drew_sent, drew_unused, grew_same, grew_settled, credit_held, known_account, length-settled, number-settled}
 use Rattle.sms_worker.proofs.Tries.{all_snoc, all_front, all_map, sent_state}
 use Rattle.sms_worker.proofs.EndLemmas.{get_more, get_last, total_none}
 
@@ -60,6 +60,12 @@ keeps_put start ms es pending os os' seat seat' share share' replies k p m s s' 
 pub told_there : (start : Start) (ms : List Message) (es : List MessageEnd) (pending : List (List UserData)) (os : List Open) (seat : SeatState) (share : Share) (replies : List Reply) (k p : ℕ) (m : Message) (s : SegmentEnd)
     → Keeps start ms es pending os seat share replies → slice_get ms k ≡ Some m → segment_at es k p ≡ Some s → IsTold start.rules (length start.received) replies m p s
 told_there start ms es pending os seat share replies k p m s keeps there at = keeps.ends k p m s (ap (λ l. slice_get l k) (sym keeps.messages) ∙ there) at
+
+-- the account of a message that has segments is one of the share's
+pub known_there : (start : Start) (ms : List Message) (es : List MessageEnd) (pending : List (List UserData)) (os : List Open) (seat : SeatState) (share : Share) (replies : List Reply) (k p : ℕ) (m : Message) (s : SegmentEnd)
+    → Keeps start ms es pending os seat share replies → slice_get ms k ≡ Some m → segment_at es k p ≡ Some s → (a : ℕ) → m.account ≡ Some a → a < length share.amounts
+known_there start ms es pending os seat share replies k p m s keeps there at a acc =
+    subst (λ n. a < n) (sym keeps.accounts) (known_account start.rules (length start.share.amounts) start.messages es k p a m s keeps.shape (ap (λ l. slice_get l k) (sym keeps.messages) ∙ there) at acc)
 
 -- the credits of a segment that isn't settled are in the share
 pub fits_there : (start : Start) (ms : List Message) (es : List MessageEnd) (pending : List (List UserData)) (os : List Open) (seat : SeatState) (share : Share) (replies : List Reply) (k p : ℕ) (m : Message) (s : SegmentEnd)

@@ -23,6 +23,7 @@ pub mod Standing
 pub mod Submits
 pub mod Sweeping
 pub mod TakingTurns
+pub mod Tallying
 pub mod Tries
 pub mod Turning
 pub mod Waiting

@@ -1,6 +1,7 @@
 -- A message that is begun.
-use Rattle.std.specs.Prelude.{◌≡◌, ℕ, zero, suc, ◌+◌, ◌<◌, ◌⊎◌, List, [], ◌∷◌, length, string_bytes}
+use Rattle.std.specs.Prelude.{◌≡◌, ℕ, zero, suc, ◌+◌, ◌<◌, ◌⊎◌, Bool, IsTrue, List, [], ◌∷◌, ◌++◌, length, string_bytes}
 use Rattle.sms_core.specs.Rows.{reserved_of}
+use Rattle.sms_book.specs.Name.{BookId}
 use Rattle.sms_book.specs.Portions.{amounts_at}
 use Rattle.sms_book.specs.Shares.{Share}
 use Rattle.sms_book.specs.Tariffs.{cost_of}
@@ -11,7 +12,13 @@ use Rattle.sms_message.specs.Ends.{segments_in, total_in, credit}
 use Rattle.sms_message.specs.declared.user_data.UserData.{UserData}
 use Rattle.sms_message.specs.Results.{IsResultOf}
 use Rattle.sms_message.specs.UserData.{message_data}
+use Rattle.sms_message.specs.declared.ends.MessageRefusal.{MessageRefusal}
+use Rattle.sms_message.specs.declared.ends.MessageRefusal.TheVariants.{BindClosed, NoCredit}
+use Rattle.sms_message.specs.declared.ends.MessageResult.TheVariants.{Refused, Sent}
 use Rattle.sms_message.specs.declared.ends.Outcome.TheVariants.{Unanswered}
+use Rattle.sms_worker.specs.Credit.{LacksFor}
+use Rattle.sms_worker.specs.PendingState.{PendingState, data_in}
+use Rattle.sms_worker.specs.Tally.{TallyState}
 
 -- a segment that waits for its first attempt
 abbrev pub fresh : ℕ → SegmentEnd
@@ -35,3 +42,20 @@ pub record Begins (rules : Rules) (m : Message) (old new : Share) (pending : Lis
   pub reserved : (i : ℕ) → (amounts_at new.amounts i).reserved ≡ (amounts_at old.amounts i).reserved + total_in (credit reserved_of i m.account) (segments_in e.result)
   pub charged : (i : ℕ) → (amounts_at new.amounts i).charged ≡ (amounts_at old.amounts i).charged
   pub returned : (i : ℕ) → (amounts_at new.amounts i).returned ≡ (amounts_at old.amounts i).returned
+
+-- the end of a message that has these segments, and of one that is refused
+abbrev pub end_sent : Message → List SegmentEnd → MessageEnd
+end_sent m segments = record { index = m.index; result = Sent segments }
+
+abbrev pub end_refused : Message → MessageRefusal → MessageEnd
+end_refused m refusal = record { index = m.index; result = Refused refusal }
+
+-- a message was begun: its end stands behind the others, and it is refused as bind-closed exactly where the line is down
+pub record HasBegun (book : BookId) (rules : Rules) (m : Message) (down : Bool) (old new : TallyState) (pending : PendingState) : Type 0 where
+  pub end : MessageEnd
+  pub ends : new.ends ≡ old.ends ++ end ∷ []
+  pub room : new.room ≡ old.room
+  pub begins : Begins rules m old.share new.share (data_in pending) end
+  pub closed : end.result ≡ Refused BindClosed → IsTrue down
+  pub if_down : IsTrue down → end.result ≡ Refused BindClosed
+  pub credit : end.result ≡ Refused NoCredit → LacksFor book rules old.share m

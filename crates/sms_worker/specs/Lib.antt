@@ -18,6 +18,7 @@ pub mod RunState
 pub mod Start
 pub mod Steps
 pub mod Sweeps
+pub mod Tally
 pub mod Told
 pub mod Turn
 pub mod Turns

@@ -46,9 +46,22 @@ pub record Hears (old : SegmentEnd) (reply : Reply) (new : SegmentEnd) : Type 0 
   pub open_yet : old.outcome ≡ Unanswered
   pub after : new ≡ record old { attempts = front ++ record last { reply = Some reply } ∷ [] }
 
--- the last attempt waits for the answer with this reply's number
+-- the last of the attempts had no answer and gets this one
+pub record Records (old : List Attempt) (reply : Reply) (new : List Attempt) : Type 0 where
+  pub front : List Attempt
+  pub last : Attempt
+  pub before : old ≡ front ++ last ∷ []
+  pub number : reply.number ≡ last.number
+  pub silent : last.reply ≡ None
+  pub after : new ≡ front ++ record last { reply = Some reply } ∷ []
+
+-- the last of the attempts waits for the answer with this reply's number
+abbrev pub Awaits : List Attempt → Reply → Type 0
+Awaits attempts reply = (a : Attempt) × (slice_get attempts (length attempts - 1) ≡ Some a) × (a.number ≡ reply.number) × (a.reply ≡ None)
+
+-- so does that of the segment
 abbrev pub Expects : SegmentEnd → Reply → Type 0
-Expects s reply = (a : Attempt) × (slice_get s.attempts (length s.attempts - 1) ≡ Some a) × (a.number ≡ reply.number) × (a.reply ≡ None)
+Expects s reply = Awaits s.attempts reply
 
 -- that of the segment at the place does
 abbrev pub ExpectsAt : List MessageEnd → SegmentPlace → Reply → Type 0
@@ -141,9 +154,13 @@ moved_to (Some account) (Some move) cost s = changed s account (moved_amounts mo
 abbrev pub settled_to : Outcome → Option ℕ → ℕ → Share → Share
 settled_to outcome account cost s = moved_to account (move_of outcome) cost s
 
--- a segment end is out of its place, where some other stands meanwhile
+-- a segment end without its attempts
+abbrev pub emptied : SegmentEnd → SegmentEnd
+emptied s = record s { attempts = [] }
+
+-- a segment end is out of its place, where its cost and its outcome stand meanwhile
 abbrev pub Takes : List MessageEnd → ℕ → ℕ → SegmentEnd → List MessageEnd → Type 0
-Takes old k p s new = (segment_at old k p ≡ Some s) × ((b : SegmentEnd) × (new ≡ put old k p b))
+Takes old k p s new = (segment_at old k p ≡ Some s) × (new ≡ put old k p (emptied s))
 
 -- a segment that is given up was never sent, or was refused for now by its last answer
 abbrev pub given_outcome : List Attempt → Outcome

@@ -5,6 +5,7 @@ ghost use mathlib.Core.List.{IsPrefix};
 ghost use Rattle.std.specs.List.{AllZip};
 ghost use Rattle.rtrb.specs.Ring.{sent, received, IsPair};
 ghost use Rattle.sms_worker.specs.Laws.{ChargesAreAnswered};
+ghost use Rattle.sms_worker.specs.Tally.{AreSums};
 ghost use Rattle.sms_worker.specs.Rests.{ChargesRestOnFrames, HasReceived};
 ghost use Rattle.sms_worker.specs.Events.{
   ClaimIsEvent,
@@ -17,7 +18,10 @@ ghost use Rattle.sms_worker.specs.Events.{
   LeavingIsNoEvent,
 };
 
+use crate::state::tally::Tally;
+use crate::state::worker_start::WorkerStart;
 use rtrb::{Consumer, Producer};
+use sms_book::BookName;
 use sms_pdu::Reply;
 use std::collections::VecDeque;
 
@@ -26,6 +30,15 @@ use std::collections::VecDeque;
 pub fn charges_are_answered()
     ensures { ChargesAreAnswered }
 {}
+
+/// Of any worker's share and the ends of its messages, as they are whenever the book's lock is free: since the call
+/// began the share has grown by the sums over these ends. Whatever changes the share, or a cost or an outcome
+/// among the ends, is passed the locked book, and hands both back so.
+pub fn a_share_is_its_sums<N: BookName, C: WorkerStart>(tally: &Tally<N, C>)
+    ensures { AreSums C.start tally.now.share tally.now.ends }
+{
+    let _ends = tally.ends();
+}
 
 /// What a worker received is a beginning of what the reader of answers handed to it, in order.
 pub fn received_is_prefix(producer: &mut Producer<Reply>, consumer: &mut Consumer<Reply>)

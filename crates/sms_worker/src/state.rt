@@ -6,5 +6,6 @@ pub mod pending;
 pub mod places;
 pub mod queue;
 pub mod segment;
+pub mod tally;
 pub mod worker_start;
 pub mod worker_state;

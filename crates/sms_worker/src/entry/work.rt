@@ -15,6 +15,7 @@ use crate::entry::ready::{Lists, ReadyWorker};
 use crate::state::closing::{ClosedBy, Closing};
 use crate::state::open::Open;
 use crate::state::queue::Queues;
+use crate::state::tally::Tally;
 use crate::state::worker_start::WorkerStart;
 use crate::state::worker_state::WorkerState;
 use rtrb::Consumer;
@@ -85,14 +86,14 @@ fn into_end<'l, N: BookName, W, G, K, R: Wait, C: WorkerStart>(
     ensures consumer { result.consumer ≡ consumer }
 {
     let WorkerState {
-        ends,
+        tally,
         mut seat,
-        shares,
         opened,
         closed,
         ..
     } = state;
     release_all(context, &mut seat, opened);
+    let (shares, ends) = tally.into_parts();
     let (closed, down) = closed.into_cause();
     *seen = down;
     WorkerEnd {
@@ -138,14 +139,13 @@ fn work<'l, N: BookName, W: Write, G: Gate, K: Clock, P: Pause, R: Wait, C: Work
     let mut consumer = consumer;
     let mut state: WorkerState<'_, N, C> = WorkerState {
         messages,
-        ends,
+        tally: Tally::new(shares, ends),
         pending,
         opened,
         queues: Queues::none(),
         next: 0,
         closed: Closing::not_yet(mark),
         seat,
-        shares,
         replies,
         of: PhantomData,
     };

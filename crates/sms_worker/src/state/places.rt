@@ -2,28 +2,26 @@
 
 ghost use Rattle.std.specs.Prelude.{◌≡◌, Some, None, IfSome, IfNone, slice_get, vec_len, vec_capacity};
 ghost use Rattle.sms_worker.specs.Types.{SegmentEnd};
-ghost use Rattle.sms_worker.specs.Begins.{fresh};
 ghost use Rattle.sms_message.specs.Ends.{segments_in, segment_at, with_part, put};
-ghost use Rattle.sms_worker.specs.Steps.{Takes};
+ghost use Rattle.sms_worker.specs.Steps.{Takes, emptied};
 
 use crate::ends::{Attempts, MessageEnd, MessageResult, SegmentEnd};
 use crate::state::open::SegmentPlace;
-use sms_message::Outcome;
 use std::alloc::Global;
 
-// What stands in the place of a segment end that is taken out.
-fn blank(alloc: Global) -> SegmentEnd
-    ensures { result ≡ fresh 1 }
+// What stands in the place of a segment end that is taken out: its cost and its outcome.
+fn emptied(alloc: Global, segment: &SegmentEnd) -> SegmentEnd
+    ensures { result ≡ emptied segment.now }
 {
     SegmentEnd {
-        cost: 1,
+        cost: segment.cost,
         attempts: Attempts::new(Vec::new(alloc)),
-        outcome: Outcome::Unanswered,
+        outcome: segment.outcome,
     }
 }
 
 fn take_part(alloc: Global, end: &mut MessageEnd, part: usize) -> Option<SegmentEnd>
-    ensures out { IfSome result (λ s. (slice_get (segments_in end.old.result) part ≡ Some s) × ((b : SegmentEnd) × (end.new ≡ with_part end.old part b))) }
+    ensures out { IfSome result (λ s. (slice_get (segments_in end.old.result) part ≡ Some s) × (end.new ≡ with_part end.old part (emptied s))) }
     ensures none { IfNone result ((end.new ≡ end.old) × (slice_get (segments_in end.old.result) part ≡ None)) }
 {
     let MessageResult::Sent(segments) = &mut end.result else {
@@ -32,7 +30,8 @@ fn take_part(alloc: Global, end: &mut MessageEnd, part: usize) -> Option<Segment
     if part >= segments.len() {
         return None;
     }
-    Some(segments.exchange(part, blank(alloc)))
+    let left = emptied(alloc, &segments.as_slice()[part]);
+    Some(segments.exchange(part, left))
 }
 
 fn give_part(end: &mut MessageEnd, part: usize, segment: SegmentEnd)

@@ -4,7 +4,7 @@ ghost use Rattle.std.specs.Prelude.{◌≡◌, ◌⊎◌, ℕ, IsTrue, false, So
 ghost use Rattle.sms_pdu.specs.declared.reply.Reply.{Reply};
 ghost use Rattle.sms_session.specs.Decisions.{decided};
 ghost use Rattle.sms_message.specs.Results.{IsSettled, IsWaiting};
-ghost use Rattle.sms_worker.specs.Steps.{Answers, Expects, GivesUp, given_outcome};
+ghost use Rattle.sms_worker.specs.Steps.{Answers, Awaits, Expects, GivesUp, Records, given_outcome};
 
 use crate::ends::{Attempt, Attempts, SegmentEnd};
 use sms_message::Outcome;
@@ -36,6 +36,28 @@ pub(crate) fn is_waiting(segment: &SegmentEnd) -> bool
     }
 }
 
+/// Records a reply as that of the last attempt, if that waits for its number. Returns whether it does.
+fn record_reply(attempts: &mut Vec<Attempt>, reply: Reply) -> bool
+    ensures recorded { IsTrue result → Records attempts.old.items reply attempts.new.items }
+    ensures unchanged { result ≡ false → attempts.new.items ≡ attempts.old.items }
+    ensures unasked { result ≡ false → ¬ Awaits attempts.old.items reply }
+{
+    let Some(last) = attempts.pop() else {
+        return false;
+    };
+    if last.number != reply.number || is_answered(&last) {
+        attempts.push_reserved(last);
+        return false;
+    }
+    let Attempt { number, sent, .. } = last;
+    attempts.push_reserved(Attempt {
+        number,
+        sent,
+        reply: Some(reply),
+    });
+    true
+}
+
 /// Applies a reply to the last attempt if that waits for its number. Returns the segment, and what the reply
 /// decides; `None` if it wasn't awaited.
 pub(crate) fn answer(
@@ -56,20 +78,7 @@ pub(crate) fn answer(
         outcome,
     } = segment;
     let mut attempts = attempts.into_vec();
-    let Some(last) = attempts.pop() else {
-        let attempts = Attempts::new(attempts);
-        return (
-            SegmentEnd {
-                cost,
-                attempts,
-                outcome,
-            },
-            None,
-        );
-    };
-    let count = attempts.len() + 1;
-    if last.number != reply.number || is_answered(&last) {
-        attempts.push_reserved(last);
+    if !record_reply(&mut attempts, reply) {
         let attempts = Attempts::new(attempts);
         return (
             SegmentEnd {
@@ -80,14 +89,8 @@ pub(crate) fn answer(
             None,
         );
     }
-    let Attempt { number, sent, .. } = last;
-    attempts.push_reserved(Attempt {
-        number,
-        sent,
-        reply: Some(reply),
-    });
+    let decision = decide(&reply, attempts.len() as u32, policy);
     let attempts = Attempts::new(attempts);
-    let decision = decide(&reply, count as u32, policy);
     (
         SegmentEnd {
             cost,

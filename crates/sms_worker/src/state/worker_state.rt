@@ -1,13 +1,13 @@
 //! The state of a worker during one call of `run_worker`.
 
-use crate::ends::MessageEnd;
 use crate::state::closing::Closing;
 use crate::state::open::Open;
 use crate::state::pending::PendingParts;
 use crate::state::queue::Queues;
+use crate::state::tally::Tally;
 use crate::state::worker_start::WorkerStart;
 use rtrb::Consumer;
-use sms_book::{BookName, Shares};
+use sms_book::BookName;
 use sms_message::Message;
 use sms_pdu::Reply;
 use sms_window::WindowSeat;
@@ -21,7 +21,8 @@ use std::snapshot::Snapshot;
 #[derive(Drop)]
 pub struct WorkerState<'l, N: BookName, C: WorkerStart> {
     pub messages: Vec<Message>,
-    pub ends: Vec<MessageEnd>,
+    /// Its share, and the ends so far of the messages that it began.
+    pub tally: Tally<N, C>,
     pub pending: Vec<PendingParts>,
     pub opened: Vec<Open>,
     /// The segments that are to be sent again.
@@ -31,7 +32,6 @@ pub struct WorkerState<'l, N: BookName, C: WorkerStart> {
     /// Whether the line was seen down, or the turns are over.
     pub closed: Closing<'l, C>,
     pub seat: WindowSeat,
-    pub shares: Shares<N>,
     /// The consumer as it was after the last pop.
     pub replies: Snapshot<Consumer<Reply>>,
     pub of: PhantomData<C>,
@@ -49,14 +49,14 @@ impl<'l, N: BookName, C: WorkerStart> Model for WorkerState<'l, N, C> {
 
     ghost Value = { RunState };
 
-    ghost view = { λ r. record { replies = received r.replies.value; ends = r.ends.items; closed = r.closed; next = r.next; opened = r.opened.items; queues = r.queues.all; pending = r.pending.items } };
+    ghost view = { λ r. record { replies = received r.replies.value; ends = r.tally.ends; closed = r.closed; next = r.next; opened = r.opened.items; queues = r.queues.all; pending = r.pending.items } };
 
     ghost invariant = { λ r. record {
-      keeps : Keeps C.start r.messages.items r.ends.items (map data_in r.pending.items) r.opened.items r.seat r.shares (received r.replies.value);
-      closing : Closes r.closed r.ends.items;
-      credit : LackCredit N.book C.start.rules C.start.messages r.ends.items r.shares;
-      order : InOrder r.ends.items r.next r.opened.items r.queues.all r.pending.items;
-      ends_fit : vec_len r.messages ≤ vec_capacity r.ends;
+      keeps : Keeps C.start r.messages.items r.tally.ends (map data_in r.pending.items) r.opened.items r.seat r.tally.share (received r.replies.value);
+      closing : Closes r.closed r.tally.ends;
+      credit : LackCredit N.book C.start.rules C.start.messages r.tally.ends r.tally.share;
+      order : InOrder r.tally.ends r.next r.opened.items r.queues.all r.pending.items;
+      ends_fit : vec_len r.messages ≤ r.tally.room;
       pending_fit : vec_len r.messages ≤ vec_capacity r.pending;
       opened_fit : C.start.rules.depth ≤ vec_capacity r.opened;
     } };

@@ -1,14 +1,7 @@
 //! Beginning a message: its parts, its credits, and its end so far.
 
-ghost use Rattle.std.specs.Prelude.{◌≡◌, ◌≢◌, ℕ, ◌+◌, ◌*◌, ◌<◌, ◌≤◌, ◌↔◌, All, IsTrue, false, Err, IfOk, IfErr, IfSome, OnOk, length, slice_set, vec_len};
-ghost use Rattle.sms_book.specs.Limits.{most_returned};
-ghost use Rattle.sms_book.specs.Money.{reserved_more};
-ghost use Rattle.sms_book.specs.Shares.{changed};
-ghost use Rattle.sms_core.specs.RowMoves.{row_reserved};
-ghost use Rattle.sms_book.specs.Portions.{amounts_at, row_at};
-ghost use Rattle.sms_book.specs.Alone.{opening_at};
-ghost use Rattle.sms_worker.specs.Begins.{ready, Begins};
-ghost use Rattle.sms_worker.specs.Credit.{Lacks, LacksFor};
+ghost use Rattle.std.specs.Prelude.{◌≡◌, ◌≢◌, ℕ, ◌<◌, ◌++◌, ◌∷◌, [], All, IsTrue, false, Err, Some, IfOk, IfErr, IfSome, OnOk, length, slice_get, vec_len};
+ghost use Rattle.sms_worker.specs.Begins.{Begins, HasBegun, end_refused, ready};
 ghost use Rattle.sms_book.specs.Tariffs.{cost_of};
 ghost use Rattle.sms_segment.specs.declared.place.Reference.{Reference as TheReference};
 ghost use Rattle.sms_segment.specs.Message.{IsTooLong, parts_of};
@@ -20,11 +13,12 @@ ghost use Rattle.sms_worker.specs.PendingState.{AreUnlinked, data_in, pending_of
 ghost use Rattle.sms_message.specs.UserData.{message_data};
 ghost use Rattle.std.specs.Prelude.{string_bytes};
 ghost use Rattle.sms_message.specs.declared.ends.MessageRefusal.TheVariants.{BindClosed, NoCredit};
-ghost use Rattle.sms_message.specs.declared.ends.MessageResult.TheVariants.{Refused};
 
-use crate::ends::{Attempts, MessageEnd, MessageResult, SegmentEnd, Segments};
+use crate::ends::{Attempts, SegmentEnd};
 use crate::state::pending::PendingParts;
-use sms_book::{Book, BookName, Shares};
+use crate::state::tally::Tally;
+use crate::state::worker_start::WorkerStart;
+use sms_book::{Book, BookName};
 use sms_message::{
     Message, MessageRefusal, Outcome, Rules, UserData, cut_message, has_addresses, is_known,
     part_cost,
@@ -156,79 +150,56 @@ fn prepare(
     }
 }
 
-/// The end of a message that is refused.
-fn refused<N: BookName>(
+/// Ends a message that is refused.
+fn refused<N: BookName, C: WorkerStart>(
     alloc: Global,
-    shares: &Shares<N>,
+    tally: &mut Tally<N, C>,
     rules: &Rules,
     message: &Message,
     refusal: MessageRefusal,
-) -> (PendingParts, MessageEnd)
-    requires { IsRefusalOf rules.now (length shares.now.amounts) message.now refusal }
-    ensures begins { Begins rules.now message.now shares.now shares.now (data_in result.0) result.1 }
-    ensures unlinked { AreUnlinked result.0 }
-    ensures refused { result.1.result ≡ Refused refusal }
+) -> PendingParts
+    requires next { slice_get C.start.messages (length tally.old.ends) ≡ Some message.now }
+    requires room { length tally.old.ends < tally.old.room }
+    requires reason { IsRefusalOf rules.now (length tally.old.share.amounts) message.now refusal }
+    ensures begins { Begins rules.now message.now tally.old.share tally.new.share (data_in result) (end_refused message.now refusal) }
+    ensures unlinked { AreUnlinked result }
+    ensures only { tally.new ≡ record tally.old { ends = tally.old.ends ++ end_refused message.now refusal ∷ [] } }
 {
-    let pending = PendingParts::none(alloc);
-    let end = MessageEnd {
-        index: message.index,
-        result: MessageResult::Refused(refusal),
-    };
-    (pending, end)
+    tally.refuse(message, refusal);
+    PendingParts::none(alloc)
 }
 
-/// Reserves what the parts of a message cost, where its account has the credits free.
-fn reserve_all<N: BookName>(
-    book: &mut Book<N>,
-    shares: &mut Shares<N>,
-    account: usize,
-    parts: usize,
-    cost: u32,
-) -> bool
-    ensures exact { IsTrue result ↔ ((account < length book.old) × (parts * cost ≤ (row_at book.old account).free) × ((row_at book.old account).returned + (row_at book.old account).reserved + parts * cost ≤ most_returned)) }
-    ensures book { IsTrue result → book.new ≡ slice_set book.old account (row_reserved (parts * cost) (row_at book.old account)) }
-    ensures share { IsTrue result → shares.new ≡ changed shares.old account (reserved_more (parts * cost)) }
-    ensures refused { result ≡ false → (book.new ≡ book.old) × (shares.new ≡ shares.old) }
-    ensures lacks { result ≡ false → N.book.workers ≡ 1 → account < length shares.old.amounts → Lacks (opening_at N.book account) (amounts_at shares.old.amounts account) (parts * cost) }
-{
-    let credits = (parts as u64).saturating_mul(u64::from(cost));
-    book.reserve(shares, account, credits).is_ok()
-}
-
-/// Reserves the credits of a message, and makes its end so far.
-pub(crate) fn begun<N: BookName, R: Wait>(
+/// Begins a message: reserves its credits and adds its end, in one holding of the book's lock, or refuses it.
+/// Returns its parts.
+pub(crate) fn begun<N: BookName, R: Wait, C: WorkerStart>(
     rt: &R,
     alloc: Global,
     book: &Mutex<Book<N>>,
     rules: &Rules,
-    shares: &mut Shares<N>,
+    tally: &mut Tally<N, C>,
     down: bool,
     message: &Message,
-) -> (PendingParts, MessageEnd)
-    ensures begins { Begins rules.now message.now shares.old shares.new (data_in result.0) result.1 }
-    ensures unlinked { AreUnlinked result.0 }
-    ensures closed { result.1.result ≡ Refused BindClosed → IsTrue down }
-    ensures credit { result.1.result ≡ Refused NoCredit → LacksFor N.book rules.now shares.old message.now }
-    ensures down { IsTrue down → result.1.result ≡ Refused BindClosed }
+) -> PendingParts
+    requires next { slice_get C.start.messages (length tally.old.ends) ≡ Some message.now }
+    requires room { length tally.old.ends < tally.old.room }
+    ensures begun { HasBegun N.book rules.now message.now down tally.old tally.new result }
+    ensures unlinked { AreUnlinked result }
 {
-    let accounts = shares.accounts();
+    let accounts = tally.accounts();
     let Prepared {
         pending,
         ends,
         cost,
     } = match prepare(alloc, rules, accounts, down, message) {
         Ok(prepared) => prepared,
-        Err(refusal) => return refused(alloc, shares, rules, message, refusal),
+        Err(refusal) => return refused(alloc, tally, rules, message, refusal),
     };
     let Some(account) = message.account else {
         unreachable!()
     };
-    if !reserve_all(&mut book.lock(rt), shares, account, ends.len(), cost) {
-        return refused(alloc, shares, rules, message, MessageRefusal::NoCredit);
+    if !tally.admit(&mut book.lock(rt), message, account, cost, ends) {
+        drop(pending);
+        return refused(alloc, tally, rules, message, MessageRefusal::NoCredit);
     }
-    let end = MessageEnd {
-        index: message.index,
-        result: MessageResult::Sent(Segments::new(ends)),
-    };
-    (pending, end)
+    pending
 }

@@ -1,13 +1,14 @@
 //! Steps on one segment of a run: an answer, an attempt, the end.
 
 ghost use Rattle.std.specs.Prelude.{◌≡◌, ◌≢◌, ℕ, ◌+◌, ◌-◌, ◌≤◌, ◌<◌, ◌⊎◌, ◌++◌, ◌∷◌, [], true, false, IsTrue, Some, None, IfSome, OnSome, length, slice_get};
-ghost use Rattle.sms_book.specs.Portions.{amounts_at};
 ghost use Rattle.sms_worker.specs.Types.{MessageEnd, SegmentEnd};
 ghost use Rattle.sms_message.specs.declared.ends.MessageRefusal.TheVariants.{BindClosed};
 ghost use Rattle.sms_message.specs.declared.ends.MessageResult.TheVariants.{Refused};
 ghost use Rattle.sms_session.specs.Decisions.{decided};
 ghost use Rattle.sms_session.specs.declared.policy.Decision.TheVariants.{Charge, Refuse, RetryAfter};
-ghost use Rattle.sms_message.specs.Ends.{segment_at};
+ghost use Rattle.sms_message.specs.Ends.{put, segment_at};
+ghost use Rattle.sms_message.specs.declared.ends.Outcome.TheVariants.{Unanswered};
+ghost use Rattle.sms_message.specs.declared.message.Message.{Message as TheMessage};
 ghost use Rattle.sms_worker.specs.Expiry.{without_open};
 ghost use Rattle.sms_worker.specs.Queues.{WaitsLast, due_after, last_in};
 ghost use Rattle.sms_worker.specs.Rising.{HasTurn, WasSent};
@@ -23,15 +24,15 @@ use crate::ends::{Attempts, MessageEnd, MessageResult, SegmentEnd};
 use crate::entry::context::WorkerContext;
 use crate::state::open::SegmentPlace;
 use crate::state::pending::settle_part;
-use crate::state::places::{give, take};
 use crate::state::segment::{answer, given_up, is_waiting};
+use crate::state::tally::Tally;
 use crate::state::worker_start::WorkerStart;
 use crate::state::worker_state::WorkerState;
 use crate::steps::attempt::{TrySend, start};
 use crate::steps::begin::begun;
 use crate::steps::give_up::GiveUpReason;
 use crate::steps::timestamp::Timestamp;
-use sms_book::{Book, BookName, Shares};
+use sms_book::{Book, BookName};
 use sms_message::Outcome;
 use sms_pdu::Reply;
 use sms_session::Decision;
@@ -50,29 +51,26 @@ fn outcome_of(decision: Decision) -> Outcome
     }
 }
 
-/// Moves a segment's credits as its outcome says, if it has an account: they are charged, or given back;
-/// without an answer they stay reserved.
-fn settle<N: BookName, R: Wait>(
+/// Puts a segment end in its place. Where it has its outcome its credits move, in the same holding of the book's
+/// lock; without an answer they stay reserved.
+fn settle<N: BookName, R: Wait, C: WorkerStart>(
     rt: &R,
     book: &Mutex<Book<N>>,
-    shares: &mut Shares<N>,
+    tally: &mut Tally<N, C>,
+    place: SegmentPlace,
     account: Option<usize>,
-    cost: u32,
-    outcome: Outcome,
+    segment: SegmentEnd,
 )
-    requires { (a : ℕ) → account ≡ Some a → (0 < cost) × (cost ≤ (amounts_at shares.old.amounts a).reserved) }
-    ensures { shares.new ≡ settled_to outcome account cost shares.old }
+    requires message { (m : TheMessage) × (slice_get C.start.messages place.message ≡ Some m) × (m.account ≡ account) }
+    requires known { (a : ℕ) → account ≡ Some a → a < length tally.old.share.amounts }
+    requires waits { (s : SegmentEnd) × (segment_at tally.old.ends place.message place.part ≡ Some s) × (s.outcome ≡ Unanswered) × (segment.cost ≡ s.cost) × (0 < s.cost) }
+    ensures { tally.new ≡ record tally.old { share = settled_to segment.outcome account segment.cost tally.old.share; ends = put tally.old.ends place.message place.part segment } }
 {
-    let Some(account) = account else {
+    if segment.outcome == Outcome::Unanswered {
+        tally.give(place, segment);
         return;
-    };
-    let credits = u64::from(cost);
-    match outcome {
-        Outcome::Charged => book.lock(rt).charge(shares, account, credits),
-        Outcome::Refused => book.lock(rt).give_back(shares, account, credits),
-        Outcome::Unsent => book.lock(rt).give_back(shares, account, credits),
-        Outcome::Unanswered => {}
     }
+    tally.settle(&mut book.lock(rt), place, account, segment);
 }
 
 /// Reports to the gate that a message is begun, or refused.
@@ -165,23 +163,22 @@ impl<N: BookName, C: WorkerStart> WorkerState<'_, N, C> {
         }
         let message = &self.messages[place.message];
         let account = message.account;
-        let Some(segment) = take(context.alloc, &mut self.ends, place) else {
+        let Some(segment) = self.tally.take(context.alloc, place) else {
             return false;
         };
         if !is_waiting(&segment) {
-            give(&mut self.ends, place, segment);
+            self.tally.give(place, segment);
             return false;
         }
         let segment = given_up(segment);
         settle(
             context.rt,
             context.book,
-            &mut self.shares,
+            &mut self.tally,
+            place,
             account,
-            segment.cost,
-            segment.outcome,
+            segment,
         );
-        give(&mut self.ends, place, segment);
         true
     }
 
@@ -206,34 +203,33 @@ impl<N: BookName, C: WorkerStart> WorkerState<'_, N, C> {
     {
         let message = &self.messages[place.message];
         let account = message.account;
-        let Some(segment) = take(context.alloc, &mut self.ends, place) else {
+        let Some(segment) = self.tally.take(context.alloc, place) else {
             unreachable!()
         };
         let (segment, decision) = answer(segment, reply, &context.rules.policy);
         let decision = match decision {
             Some(decision) => decision,
             None => {
-                give(&mut self.ends, place, segment);
+                self.tally.give(place, segment);
                 return None;
             }
         };
         let SegmentEnd { cost, attempts, .. } = segment;
         let count = attempts.as_slice().len();
         let outcome = outcome_of(decision);
-        settle(
-            context.rt,
-            context.book,
-            &mut self.shares,
-            account,
-            cost,
-            outcome,
-        );
         let segment = SegmentEnd {
             cost,
             attempts,
             outcome,
         };
-        give(&mut self.ends, place, segment);
+        settle(
+            context.rt,
+            context.book,
+            &mut self.tally,
+            place,
+            account,
+            segment,
+        );
         Some((count, decision))
     }
 
@@ -254,11 +250,11 @@ impl<N: BookName, C: WorkerStart> WorkerState<'_, N, C> {
         let Some(user_data) = self.pending[place.message].part(place.part) else {
             return TrySend::GiveUp(GiveUpReason::Over);
         };
-        let Some(segment) = take(context.alloc, &mut self.ends, place) else {
+        let Some(segment) = self.tally.take(context.alloc, place) else {
             return TrySend::GiveUp(GiveUpReason::Over);
         };
         if !is_waiting(&segment) {
-            give(&mut self.ends, place, segment);
+            self.tally.give(place, segment);
             return TrySend::GiveUp(GiveUpReason::Over);
         }
         let SegmentEnd {
@@ -281,7 +277,7 @@ impl<N: BookName, C: WorkerStart> WorkerState<'_, N, C> {
             attempts: Attempts::new(attempts),
             outcome,
         };
-        give(&mut self.ends, place, segment);
+        self.tally.give(place, segment);
         tried
     }
 
@@ -310,24 +306,23 @@ impl<N: BookName, C: WorkerStart> WorkerState<'_, N, C> {
         ensures next { result ≡ true → (self.new.queues ≡ self.old.queues) × (self.new.next ≡ 0) }
         ensures none { result ≡ false → self.new ≡ self.old }
     {
-        let place = self.ends.len();
+        let place = self.tally.ends().len();
         if place >= self.messages.len() {
             return false;
         }
         let down = self.closed.is_closed();
         let message = &self.messages[place];
-        let (pending, end) = begun(
+        let pending = begun(
             context.rt,
             context.alloc,
             context.book,
             context.rules,
-            &mut self.shares,
+            &mut self.tally,
             down,
             message,
         );
-        report_fate(context.gate, context.worker, &end);
+        report_fate(context.gate, context.worker, &self.tally.ends()[place]);
         self.pending.push_reserved(pending);
-        self.ends.push_reserved(end);
         self.next = 0;
         true
     }

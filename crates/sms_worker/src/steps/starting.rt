@@ -76,7 +76,7 @@ impl<N: BookName, C: WorkerStart> WorkerState<'_, N, C> {
         ensures exists { IfSome result (IsThere self.now.ends) }
         ensures none { result ≡ None → ¬ HasNext self.now.ends self.now.next }
     {
-        let begun = self.ends.len();
+        let begun = self.tally.ends().len();
         if begun == 0 || self.next >= self.count(begun - 1) {
             return None;
         }

@@ -35,10 +35,11 @@ impl<N: BookName, C: WorkerStart> WorkerState<'_, N, C> {
         ensures exact { IfSome (slice_get self.now.ends message) (λ e. result ≡ length (segments_in e.result)) }
         ensures none { slice_get self.now.ends message ≡ None → result ≡ 0 }
     {
-        if message >= self.ends.len() {
+        let ends = self.tally.ends();
+        if message >= ends.len() {
             return 0;
         }
-        let end = &self.ends[message];
+        let end = &ends[message];
         match &end.result {
             MessageResult::Sent(segments) => segments.len(),
             MessageResult::Refused(_) => 0,
@@ -69,7 +70,7 @@ impl<N: BookName, C: WorkerStart> WorkerState<'_, N, C> {
     pub(crate) fn has_more(&self) -> bool
         ensures { IsTrue result ↔ HasMore C.start.messages self.now }
     {
-        self.next_part().is_some() || self.ends.len() < self.messages.len()
+        self.next_part().is_some() || self.tally.ends().len() < self.messages.len()
     }
 
     // Whether nothing is left to do.
@@ -103,7 +104,7 @@ impl<N: BookName, C: WorkerStart> WorkerState<'_, N, C> {
             let started = self.start_all(context, down);
             context
                 .gate
-                .see(context.worker, self.ends.as_slice(), self.opened.len());
+                .see(context.worker, self.tally.ends(), self.opened.len());
             if !replies && !expired && !started {
                 if self.is_done(down) {
                     return;
@@ -167,7 +168,7 @@ impl<N: BookName, C: WorkerStart> WorkerState<'_, N, C> {
         ensures length { length self.new.ends ≡ length self.old.ends }
         ensures settled { SettledTo C.start.rules.policy.attempts (length self.old.ends) 0 self.new.ends }
     {
-        let begun = self.ends.len();
+        let begun = self.tally.ends().len();
         for message in 0..begun {
             self.sweep_message(context, message);
         }

@@ -1,5 +1,5 @@
-use Rattle.std.proofs.Common.{◌≤◌, false, sym, ap, ◌∙◌, subst, map}
-use Rattle.rtrb.specs.Ring.{received, SameConsumer}
+use Rattle.std.proofs.Common.{◌≤◌, [], false, refl, sym, ap, ◌∙◌, subst, map}
+use Rattle.rtrb.specs.Ring.{received}
 use Rattle.sms_worker.specs.PendingState.{data_in}
 use Rattle.sms_worker.specs.Start.{Start}
 use Rattle.sms_worker.proofs.Closing.{closes_none}
@@ -18,14 +18,19 @@ invariant_of-state g c =
     let share = ap (λ r. r.worker.shares) given ∙ ap (λ (s : Start). s.share) start in
     let got = ap received c.of-replies.ensures ∙ ap (λ r. received r.worker.consumer) given ∙ ap (λ (s : Start). s.received) start in
     record {
-      keeps = keeps_opening _ _ _ _ _ _ _ _ messages seat share got r.no_ends (ap (map data_in) r.no_pending) r.none_opened;
-      closing = rw (r.no_ends, c.not_yet.ensures) (closes_none false);
-      credit = credit_none r.no_ends;
-      order = order_opening _ 0 _ _ _ r.no_ends r.no_pending r.none_opened c.none.ensures;
-      ends_fit = r.ends_fit;
+      keeps = rw c.new.ensures (keeps_opening _ _ [] _ _ _ _ _ messages seat share got refl (ap (map data_in) r.no_pending) r.none_opened);
+      closing = rw (c.new.ensures, c.not_yet.ensures) (closes_none false);
+      credit = rw c.new.ensures (credit_none refl);
+      order = rw c.new.ensures (order_opening [] 0 _ _ _ refl r.no_pending r.none_opened c.none.ensures);
+      ends_fit = rw c.new.ensures r.ends_fit;
       pending_fit = r.pending_fit;
       opened_fit = subst (λ n. g.C.WorkerStart.start.rules.depth ≤ n) (sym (ap (λ r. r.room) given)) c.requires.room;
     }
+
+pub new-requires : goal.new-requires
+new-requires g c =
+    let start = c.requires.start in
+    record { share = ap (λ r. r.worker.shares) c.ready.view_is ∙ ap (λ (s : Start). s.share) start; empty = c.ready.invariant.no_ends }
 
 pub not_yet-requires : goal.not_yet-requires
 not_yet-requires g c = record { mark = ap (λ (s : Start). s.mark) c.requires.start }

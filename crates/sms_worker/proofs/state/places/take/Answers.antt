@@ -3,7 +3,7 @@ use Rattle.std.specs.Prelude.{slice_get, slice_set}
 use Rattle.std.proofs.lemmas.Option.{slice_get-get_or}
 use Rattle.sms_worker.specs.Types.{SegmentEnd}
 use Rattle.sms_message.specs.Ends.{segment_at}
-use Rattle.sms_worker.specs.Steps.{Takes}
+use Rattle.sms_worker.specs.Steps.{Takes, emptied}
 use Rattle.sms_worker.proofs.EndLemmas.{if_some, if_none, no_segment, segment_in, set_is_put, set_same}
 use Rattle.sms_worker.proofs.state.places.take.Goals as goal
 
@@ -19,8 +19,8 @@ returns-clause-out c =
     let low : k < length es = search rules in
     let there : slice_get es k ≡ Some e = slice_get-get_or es k e low ∙ ap Some (sym c.index_mut-end.ensures.value) in
     if_some _ (λ (s : SegmentEnd). Takes es k p s (slice_set es k c.take_part.new.end)) c.take_part.result (λ s h.
-    let (at, (taken, out)) = h in
-    (segment_in es k p e there ∙ at, (taken, ap (slice_set es k) out ∙ set_is_put es k p e taken there))) c.take_part.ensures.out
+    let (at, out) = h in
+    (segment_in es k p e there ∙ at, ap (slice_set es k) out ∙ set_is_put es k p e (emptied s) there)) c.take_part.ensures.out
 
 pub returns-clause-none : goal.returns-clause-none
 returns-clause-none c =

@@ -6,13 +6,15 @@ use Rattle.sms_worker.specs.Types.{Attempt, SegmentEnd}
 use Rattle.sms_worker.specs.Steps.{Tries}
 use Rattle.sms_worker.specs.PendingState.{data_in}
 use Rattle.sms_worker.specs.Turns.{IsOver}
-use Rattle.sms_worker.proofs.EndLemmas.{back_there, given_same, given_other}
-use Rattle.sms_worker.proofs.Keeping.{keeps_same, keeps_tried, part_there, told_there}
-use Rattle.sms_worker.specs.Rising.{HasTurn, InOrder}
+use Rattle.sms_message.specs.Ends.{put}
+use Rattle.sms_worker.specs.Tally.{TallyState}
+use Rattle.sms_worker.proofs.EndLemmas.{length-put}
+use Rattle.sms_worker.proofs.Tallying.{like_taken, tally_given, tally_same}
+use Rattle.sms_worker.proofs.Keeping.{keeps_tried, part_there, told_there}
+use Rattle.sms_worker.specs.Rising.{HasTurn}
 use Rattle.sms_worker.specs.RunState.{RunState}
-use Rattle.sms_worker.specs.Closing.{Closes}
 use Rattle.sms_worker.proofs.Closing.{closes_put}
-use Rattle.sms_worker.proofs.Credit.{credit_same, credit_put}
+use Rattle.sms_worker.proofs.Credit.{credit_put}
 use Rattle.sms_worker.proofs.Placed.{has_addresses, turn_kept, turn_message}
 use Rattle.sms_worker.proofs.Rising.{order_tried}
 use Rattle.sms_worker.proofs.Turning.{as_it_was, tried_so}
@@ -30,26 +32,16 @@ index-requires g c =
     omega arith
 
 pub give-requires : goal.give-requires
-give-requires g c = record { exists = back_there c.self.inside.ends.items c.take.new.ends.items c.args.place.message c.args.place.part c.in-Some-take.segment c.in-Some-take.ensures.out }
+give-requires g c = record { like = like_taken c.self.inside.tally.ends c.take.new.self.ends c.args.place c.in-Some-take.segment c.in-Some-take.segment c.in-Some-take.ensures.out refl refl }
 
 pub invariant_of-self-then-not-is_waiting : goal.invariant_of-self-then-not-is_waiting
 invariant_of-self-then-not-is_waiting g c =
     let i = c.self.invariant in
-    let same = given_same c.self.inside.ends.items c.take.new.ends.items c.give.new.ends.items c.args.place.message c.args.place.part c.in-Some-take.segment c.in-Some-take.ensures.out c.give.ensures.now in
-    let room = c.give.ensures.room in
-    let room' = c.take.ensures.room in
-    record {
-      keeps = keeps_same _ _ _ _ _ _ _ _ _ i.keeps same;
-      closing = subst (Closes c.self.inside.closed) (sym same) i.closing;
-      credit = credit_same i.credit same;
-      order = subst (λ l. InOrder l c.self.inside.next c.self.inside.opened.items c.self.inside.queues.all c.self.inside.pending.items) (sym same) i.order;
-      ends_fit = (let r = i.ends_fit in omega arith);
-      pending_fit = i.pending_fit;
-      opened_fit = i.opened_fit;
-    }
+    let back = tally_same c.self.inside.tally c.take.new.self c.give.new.self c.args.place c.in-Some-take.segment c.in-Some-take.segment c.in-Some-take.ensures.out c.take.ensures.only c.give.ensures refl in
+    record { keeps = rw back i.keeps; closing = rw back i.closing; credit = rw back i.credit; order = rw back i.order; ends_fit = rw back i.ends_fit; pending_fit = i.pending_fit; opened_fit = i.opened_fit }
 
 pub give-requires-2 : goal.give-requires-2
-give-requires-2 g c = record { exists = back_there c.self.inside.ends.items c.take.new.ends.items c.args.place.message c.args.place.part c.in-Some-take.segment c.in-Some-take.ensures.out }
+give-requires-2 g c = record { like = like_taken c.self.inside.tally.ends c.take.new.self.ends c.args.place c.in-Some-take.segment (record { cost = c.in-Some-take.segment.cost; attempts = c.new.result; outcome = c.in-Some-take.segment.outcome }) c.in-Some-take.ensures.out refl refl }
 
 pub invariant_of-self-2 : goal.invariant_of-self-2
 invariant_of-self-2 g c =
@@ -68,10 +60,8 @@ invariant_of-self-2 g c =
     let got = c.in-Some.ensures.exists in
     let part = part_there g.C.WorkerStart.start.rules g.C.WorkerStart.start.messages (map data_in c.self.inside.pending.items) k p c.index-message.result.now (data_in c.index.result.now) c.in-Some.user_data.now i.keeps.pending_kept (ap (λ l. slice_get l k) (sym i.keeps.messages) ∙ there) kept got in
     let s' : SegmentEnd = record { cost = s.cost; attempts = c.new.result; outcome = s.outcome } in
-    let is = given_other c.self.inside.ends.items c.take.new.ends.items c.give-2.new.ends.items k p s s' c.in-Some-take.ensures.out c.give-2.ensures.now in
-    let room = c.give-2.ensures.room in
-    let room' = c.take.ensures.room in
-    let long : length c.give-2.new.ends.items ≡ length c.self.inside.ends.items = search rules in
+    let es = c.self.inside.tally.ends in
+    let back = tally_given c.self.inside.tally c.take.new.self c.give-2.new.self c.args.place s s' c.in-Some-take.ensures.out c.take.ensures.only c.give-2.ensures in
     let was = c.into_vec-attempts.ensures in
     let now = c.new.ensures in
     let tries = c.start-tried.ensures.tried part.part part.content in
@@ -79,18 +69,18 @@ invariant_of-self-2 g c =
     (subst (λ (l : List Attempt). Tries c.args.context.now.rules.now c.index-message.result.now part.part c.self.inside.seat.view l c.start-tried.result c.start-tried.new.seat.view c.start-tried.new.attempts.items) was tries) in
     let slots = c.start-tried.ensures.open g.C.WorkerStart.start.seat.view.slots i.keeps.slots in
     record {
-      keeps = keeps_tried _ c.args.context.now.rules.now _ _ _ _ _ c.start-tried.new.opened.items _ c.start-tried.new.seat _ _ k p c.index-message.result.now part.part s s' c.start-tried.result i.keeps c.requires.rules there part.there at waits tried refl refl c.start-tried.ensures.window slots is long;
-      closing = subst (Closes c.self.inside.closed) (sym is) (closes_put c.self.inside.closed c.self.inside.ends.items k p s' i.closing);
-      credit = credit_put k p s' i.credit is;
-      order = order_tried c.args.context.now.rules.now c.index-message.result.now part.part g.C.WorkerStart.start.seat.view c.self.inside.seat.view c.start-tried.new.seat.view g.C.WorkerStart.start.messages c.self.inside.ends.items _ c.args.place s s' c.start-tried.result c.self.inside.next c.self.inside.opened.items c.start-tried.new.opened.items c.self.inside.queues.all c.self.inside.pending.items i.keeps.shape.within i.keeps.numbers at tried turn c.start-tried.ensures.opened is i.order;
-      ends_fit = (let r = i.ends_fit in omega arith);
+      keeps = rw back (keeps_tried _ c.args.context.now.rules.now _ es (put es k p s') _ _ c.start-tried.new.opened.items _ c.start-tried.new.seat c.self.inside.tally.share _ k p c.index-message.result.now part.part s s' c.start-tried.result i.keeps c.requires.rules there part.there at waits tried refl refl c.start-tried.ensures.window slots refl (length-put es k p s'));
+      closing = rw back (closes_put c.self.inside.closed es k p s' i.closing);
+      credit = rw back (credit_put k p s' i.credit refl);
+      order = rw back (order_tried c.args.context.now.rules.now c.index-message.result.now part.part g.C.WorkerStart.start.seat.view c.self.inside.seat.view c.start-tried.new.seat.view g.C.WorkerStart.start.messages es _ c.args.place s s' c.start-tried.result c.self.inside.next c.self.inside.opened.items c.start-tried.new.opened.items c.self.inside.queues.all c.self.inside.pending.items i.keeps.shape.within i.keeps.numbers at tried turn c.start-tried.ensures.opened refl i.order);
+      ends_fit = rw back i.ends_fit;
       pending_fit = i.pending_fit;
       opened_fit = (let r = i.opened_fit in let e = c.start-tried.ensures.fit in omega arith);
     }
 
 pub returns-then-not-is_waiting : goal.returns-then-not-is_waiting
 returns-then-not-is_waiting g c =
-    let same = given_same c.self.inside.ends.items c.take.new.ends.items c.give.new.ends.items c.args.place.message c.args.place.part c.in-Some-take.segment c.in-Some-take.ensures.out c.give.ensures.now in
+    let same = ap (λ (t : TallyState). t.ends) (tally_same c.self.inside.tally c.take.new.self c.give.new.self c.args.place c.in-Some-take.segment c.in-Some-take.segment c.in-Some-take.ensures.out c.take.ensures.only c.give.ensures refl) in
     let i = c.self.invariant in
     let turn = subst (λ (x : RunState). HasTurn x.ends x.next c.args.place) (sym c.self.view_is) c.requires.turn in
     let low : c.args.place.message < length c.self.inside.messages.items = turn_message _ _ _ _ _ _ _ _ c.args.place i.keeps _ turn in
@@ -100,7 +90,7 @@ returns-then-not-is_waiting g c =
     let settled = c.is_waiting.ensures.settled g.C.WorkerStart.start.rules.policy.attempts told.state (search rules) in
     record {
       replies = ap (λ (x : RunState). x.replies) c.self.view_is;
-      tried = (as_it_was _ _ c.self.view_is c.give.new.ends.items same, subst (IsOver g.C.WorkerStart.start.rules.policy.attempts c.args.place) c.self.view_is (inr (inr (c.in-Some-take.segment, at, settled))));
+      tried = (as_it_was _ _ c.self.view_is c.give.new.self.ends same, subst (IsOver g.C.WorkerStart.start.rules.policy.attempts c.args.place) c.self.view_is (inr (inr (c.in-Some-take.segment, at, settled))));
     }
 
 pub returns : goal.returns
@@ -118,7 +108,7 @@ returns g c =
     let got = c.in-Some.ensures.exists in
     let part = part_there g.C.WorkerStart.start.rules g.C.WorkerStart.start.messages (map data_in c.self.inside.pending.items) k p c.index-message.result.now (data_in c.index.result.now) c.in-Some.user_data.now i.keeps.pending_kept (ap (λ l. slice_get l k) (sym i.keeps.messages) ∙ there) kept got in
     let s' : SegmentEnd = record { cost = s.cost; attempts = c.new.result; outcome = s.outcome } in
-    let is = given_other c.self.inside.ends.items c.take.new.ends.items c.give-2.new.ends.items k p s s' c.in-Some-take.ensures.out c.give-2.ensures.now in
+    let is = ap (λ (t : TallyState). t.ends) (tally_given c.self.inside.tally c.take.new.self c.give-2.new.self c.args.place s s' c.in-Some-take.ensures.out c.take.ensures.only c.give-2.ensures) in
     let was = c.into_vec-attempts.ensures in
     let now = c.new.ensures in
     let tries = c.start-tried.ensures.tried part.part part.content in
@@ -126,7 +116,7 @@ returns g c =
     (subst (λ (l : List Attempt). Tries c.args.context.now.rules.now c.index-message.result.now part.part c.self.inside.seat.view l c.start-tried.result c.start-tried.new.seat.view c.start-tried.new.attempts.items) was tries) in
     record {
       replies = ap (λ (x : RunState). x.replies) c.self.view_is;
-      tried = tried_so c.args.context.now.rules.now c.index-message.result.now part.part c.self.inside.seat.view c.start-tried.new.seat.view _ _ c.self.view_is c.give-2.new.ends.items c.start-tried.new.opened.items c.args.place s s' at is refl refl g.C.WorkerStart.start.rules.policy.attempts c.start-tried.result tried c.start-tried.ensures.opened;
+      tried = tried_so c.args.context.now.rules.now c.index-message.result.now part.part c.self.inside.seat.view c.start-tried.new.seat.view _ _ c.self.view_is c.give-2.new.self.ends c.start-tried.new.opened.items c.args.place s s' at is refl refl g.C.WorkerStart.start.rules.policy.attempts c.start-tried.result tried c.start-tried.ensures.opened;
     }
 
 pub start-tried-requires-clause-same_window : goal.start-tried-requires-clause-same_window

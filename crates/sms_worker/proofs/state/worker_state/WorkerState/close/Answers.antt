@@ -26,7 +26,7 @@ invariant_of-self g c =
       keeps = rw c.remove-open.ensures.items done;
       closing = i.closing;
       credit = i.credit;
-      order = rw c.remove-open.ensures.items (order_closed c.self.inside.ends.items c.self.inside.next c.self.inside.opened.items c.self.inside.queues.all c.self.inside.pending.items c.args.i i.order);
+      order = rw c.remove-open.ensures.items (order_closed c.self.inside.tally.ends c.self.inside.next c.self.inside.opened.items c.self.inside.queues.all c.self.inside.pending.items c.args.i i.order);
       ends_fit = i.ends_fit;
       pending_fit = i.pending_fit;
       opened_fit = (let r = i.opened_fit in let e = c.remove-open.ensures.capacity in omega arith);

@@ -1,5 +1,4 @@
-use Rattle.std.proofs.Common.{◌≡◌, ◌∙◌, true, false, rules}
-use Rattle.sms_worker.specs.Turn.{TakesTurn}
+use Rattle.std.proofs.Common.{◌∙◌, true, false, rules}
 use Rattle.sms_worker.proofs.TakingTurns.{last_turn, one_turn, turn_more}
 use Rattle.sms_worker.proofs.state.worker_state.WorkerState.take_turns.Goals as goal
 

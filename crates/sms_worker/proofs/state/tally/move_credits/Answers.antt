@@ -7,7 +7,7 @@ use Rattle.sms_book.specs.declared.money.Move.TheVariants as moves
 use Rattle.sms_message.specs.declared.ends.Outcome.{Outcome}
 use Rattle.sms_message.specs.declared.ends.Outcome.TheVariants.{Charged, Refused, Unsent}
 use Rattle.sms_worker.specs.Steps.{move_of, moved_to, settled_to}
-use Rattle.sms_worker.proofs.steps.settling.settle.Goals as goal
+use Rattle.sms_worker.proofs.state.tally.move_credits.Goals as goal
 
 -- so many credits are reserved
 reserved : (credits cost most : ℕ) → credits ≡ cost → (0 < cost) × (cost ≤ most) → (0 < credits) × (credits ≤ most)

@@ -3,10 +3,10 @@ use Rattle.std.specs.Result.{is_ok}
 use Rattle.sms_book.specs.Alone.{opening_at}
 use Rattle.sms_book.specs.Portions.{amounts_at, row_at}
 use Rattle.sms_worker.proofs.Credit.{lacks, on_refusal}
-use Rattle.sms_worker.proofs.steps.begin.reserve_all.Goals as goal
+use Rattle.sms_worker.proofs.state.tally.reserve_all.Goals as goal
 
-pub returns-clause-lacks : goal.returns-clause-lacks
-returns-clause-lacks g c refused alone low =
+pub returns-clause-short : goal.returns-clause-short
+returns-clause-short g c refused alone low =
     let row = row_at c.args.book.now c.args.account in
     let credits = c.saturating_mul-credits.result in
     let failed : is_ok c.reserve.result ≡ false = search rules in
