@@ -1,23 +1,23 @@
 -- What is found of messages and requests among what is kept.
-use Rattle.std.proofs.Common.{◌≡◌, ℕ, ◌+◌, List, [], ◌∷◌, ◌++◌, length, Some, None, inl, inr, refl, sym, ap, ◌∙◌, subst, Bool, true, false, take, get_or}
-use Rattle.std.specs.Prelude.{Option, IfSome, IsNone, slice_get, if◌then◌else◌, ◌==◌}
+use Rattle.std.proofs.Common.{◌≡◌, ℕ, ◌+◌, ◌-◌, ◌<◌, List, [], ◌∷◌, ◌++◌, length, Some, None, inl, inr, refl, sym, ap, ◌∙◌, subst, Bool, true, false, take, get_or, arith}
+use Rattle.std.specs.Prelude.{Option, IfSome, IsNone, IsSome, nat_eq, slice_get, if◌then◌else◌, ◌==◌}
+use Rattle.std.specs.HashMap.{get}
 use Rattle.std.proofs.lemmas.Option.{get_or_from_slice_get}
 use Rattle.sms_message.specs.declared.message.Message.{Message}
 use Rattle.sms_message.specs.declared.rules.Rules.{Rules}
-use Rattle.sms_message.specs.Submits.{message_parts}
 use Rattle.sms_journal.specs.declared.notes.note.RequestId.{RequestId}
 use Rattle.sms_journal.specs.declared.notes.note.Note.{Note}
-use Rattle.sms_journal.specs.Recovered.{or_else, fate_of}
-use Rattle.sms_journal.specs.Lawful.{HasParts, IsOver, MayTry, message_of, with_index}
-use Rattle.sms_journal.specs.Seen.{IsCounted, IsLastTry, IsPlace}
+use Rattle.sms_journal.specs.Recovered.{or_else, fate_of, start_of}
+use Rattle.sms_journal.specs.RunSize.{all_workers}
+use Rattle.sms_journal.specs.declared.notes.run_size.RunSize.{RunSize}
+use Rattle.sms_journal.specs.declared.notes.seen.Seen.{Seen}
+use Rattle.sms_journal.specs.declared.notes.seen.Tries.{Tries}
+use Rattle.sms_journal.specs.Lawful.{HasParts, HasTurn, IsRetried, MayTry, message_of, requests_of, with_index}
+use Rattle.sms_journal.specs.Seen.{AreTries, IsCounted, IsPlace, Sees}
 use Rattle.sms_journal.proofs.Firsts.{first_snoc}
 use Rattle.sms_journal.proofs.Lists.{got_before, got_last, length_front, take_snoc}
 
 -- ---- places of messages
-
-pub no_place : (rules : Rules) (accounts : ℕ) (ms : List Message) (i : ℕ) (o : Option ℕ) → IsPlace ms i o → o ≡ None → (count : ℕ) → HasParts rules accounts ms i count → ⊥
-no_place rules accounts ms i None here e count h = let is : Some h.message ≡ None = sym h.is ∙ here in absurd (cc)
-no_place rules accounts ms i (Some k) here e count h = absurd (cc)
 
 pub at_place : (ms : List Message) (i : ℕ) (o : Option ℕ) (k : ℕ) (m : Message) → IsPlace ms i o → o ≡ Some k → m ≡ get_or ms k m → message_of ms i ≡ Some m
 at_place ms i None k m here e is = absurd (cc)
@@ -25,11 +25,6 @@ at_place ms i (Some j) k m here e is =
     let same : j ≡ k = cc in
     let at : slice_get ms k ≡ Some here.0 = ap (slice_get ms) (sym same) ∙ here.1 in
     here.2 ∙ ap Some (sym (is ∙ get_or_from_slice_get ms k here.0 m at))
-
-pub parts_once : (rules : Rules) (accounts : ℕ) (ms : List Message) (i a b : ℕ) → HasParts rules accounts ms i a → HasParts rules accounts ms i b → a ≡ b
-parts_once rules accounts ms i a b h g =
-    let same : h.message ≡ g.message = let e : Some h.message ≡ Some g.message = sym h.is ∙ g.is in cc in
-    h.count_is ∙ ap (λ (m : Message). length (message_parts rules m)) same ∙ sym g.count_is
 
 -- one more message
 pub place_snoc : (ms : List Message) (m : Message) (i : ℕ) (o : Option ℕ) → IsPlace ms i o → IsPlace (ms ++ m ∷ []) i (or_else o (if m.index == i then Some (length ms) else None))
@@ -45,28 +40,57 @@ place_snoc ms m i None h = here (m.index == i) refl
 
 -- ---- requests
 
-pub over_try : (notes : List Note) (m p : ℕ) (o : Option RequestId) (request : RequestId) → IsLastTry notes m p o → o ≡ Some request → IsOver (fate_of notes request.worker request.number) → MayTry notes m p
-over_try notes m p None request h e over k other there = absurd (cc)
-over_try notes m p (Some last) request h e over k other there =
-    let same : request ≡ last = cc in
-    elim (h.others k other there) [
-      | inl is ↦ subst (λ (c : RequestId). IsOver (fate_of notes c.worker c.number)) (same ∙ sym is) over
-      | inr done ↦ done
-    ]
+-- a part that was sent may be sent again where it is left, and its latest request was answered by a retry status
+pub again_tries : (rules : Rules) (notes : List Note) (m p : ℕ) (o : Option Tries) (tries : Tries) → AreTries rules notes m p o → o ≡ Some tries → 0 < tries.left → IsRetried (fate_of notes tries.last.worker tries.last.number) → MayTry rules notes m p
+again_tries rules notes m p None tries h e some retried = absurd (cc)
+again_tries rules notes m p (Some kept) tries h e some retried =
+    let same : tries ≡ kept = cc in
+    let left : 0 < kept.left = subst (λ (t : Tries). 0 < t.left) same some in
+    let is : kept.left ≡ rules.policy.attempts - length (requests_of notes m p) = h.1 in
+    record {
+      few = omega (arith, left, is);
+      retried = λ k other there. elim (h.0.others k other there) [
+        | inl is ↦ subst (λ (c : RequestId). IsRetried (fate_of notes c.worker c.number)) (ap (λ (t : Tries). t.last) same ∙ sym is) retried
+        | inr done ↦ done
+      ];
+    }
 
-pub try_over : (notes : List Note) (m p : ℕ) (o : Option RequestId) (request : RequestId) → IsLastTry notes m p o → o ≡ Some request → MayTry notes m p → IsOver (fate_of notes request.worker request.number)
-try_over notes m p None request h e may = absurd (cc)
-try_over notes m p (Some last) request h e may =
-    let same : last ≡ request = cc in
-    subst (λ (c : RequestId). IsOver (fate_of notes c.worker c.number)) same (may h.place last h.there)
+pub tries_again : (rules : Rules) (notes : List Note) (m p : ℕ) (o : Option Tries) (tries : Tries) → AreTries rules notes m p o → o ≡ Some tries → MayTry rules notes m p
+    → (0 < tries.left) × IsRetried (fate_of notes tries.last.worker tries.last.number)
+tries_again rules notes m p None tries h e may = absurd (cc)
+tries_again rules notes m p (Some kept) tries h e may =
+    let same : kept ≡ tries = cc in
+    let few : length (requests_of notes m p) < rules.policy.attempts = may.few in
+    let is : kept.left ≡ rules.policy.attempts - length (requests_of notes m p) = h.1 in
+    let left : 0 < kept.left = omega (arith, few, is) in
+    (subst (λ (t : Tries). 0 < t.left) same left, subst (λ (t : Tries). IsRetried (fate_of notes t.last.worker t.last.number)) same (may.retried h.0.place kept.last h.0.there))
 
-pub counted : (rules : Rules) (accounts : ℕ) (ms : List Message) (i : ℕ) (o : Option ℕ) (count : ℕ) → IsCounted rules accounts ms i o → o ≡ Some count → HasParts rules accounts ms i count
-counted rules accounts ms i None count h e = absurd h
-counted rules accounts ms i (Some k) count h e = let same : k ≡ count = cc in subst (HasParts rules accounts ms i) same h
+-- and one that was not sent may be sent where the rules allow any attempt
+pub first_try : (rules : Rules) (notes : List Note) (m p : ℕ) (o : Option Tries) → AreTries rules notes m p o → o ≡ None → 0 < rules.policy.attempts → MayTry rules notes m p
+first_try rules notes m p None h e some = record { few = subst (λ (l : List RequestId). length l < rules.policy.attempts) (sym h.none) some; retried = λ k request there. absurd (h.nowhere k request there) }
+first_try rules notes m p (Some kept) h e some = absurd (cc)
 
-pub not_counted : (rules : Rules) (accounts : ℕ) (ms : List Message) (i : ℕ) (o : Option ℕ) → IsCounted rules accounts ms i o → o ≡ None → ⊥
-not_counted rules accounts ms i None h e = h
-not_counted rules accounts ms i (Some k) h e = absurd (cc)
+pub some_tries : (rules : Rules) (notes : List Note) (m p : ℕ) → MayTry rules notes m p → 0 < rules.policy.attempts
+some_tries rules notes m p may = let few : length (requests_of notes m p) < rules.policy.attempts = may.few in omega (arith, few)
+
+-- ---- turns
+
+pub some_turn : (rules : Rules) (size : RunSize) (ms : List Message) (notes : List Note) (seen : Seen) (i before : ℕ) → Sees rules size ms notes seen → get nat_eq seen.starts i ≡ None → before + all_workers size ≡ i
+    → IsSome (get nat_eq seen.starts before) → HasTurn size notes i
+some_turn rules size ms notes seen i before sees none is some = record {
+  first = sym (sees.starts i) ∙ none;
+  next = λ b e. let same : before ≡ b = omega (arith, is, e) in subst (λ (k : ℕ). IsSome (start_of notes k)) same (subst IsSome (sees.starts before) some);
+}
+
+pub turn_some : (rules : Rules) (size : RunSize) (ms : List Message) (notes : List Note) (seen : Seen) (i before : ℕ) → Sees rules size ms notes seen → before + all_workers size ≡ i → HasTurn size notes i
+    → IsSome (get nat_eq seen.starts before)
+turn_some rules size ms notes seen i before sees is turn = subst IsSome (sym (sees.starts before)) (turn.next before is)
+
+-- ---- counts
+
+pub counted : (rules : Rules) (size : RunSize) (ms : List Message) (i : ℕ) (o : Option ℕ) (count : ℕ) → IsCounted rules size ms i o → o ≡ Some count → HasParts rules size ms i count
+counted rules size ms i None count h e = absurd h
+counted rules size ms i (Some k) count h e = let same : k ≡ count = cc in subst (HasParts rules size ms i) same h
 
 -- ---- one more
 

@@ -71,7 +71,7 @@ statuses_agree es = rw (some_open es) refl
 
 -- ---- notes tell one report
 
-same_ends : (rules : Rules) (notes : List Note) (ms : List Message) (es fs : List (MessageEnd (Unit {0}))) → AllZip (IsRecoveredEnd rules notes) ms es → AllZip (IsRecoveredEnd rules notes) ms fs → es ≡ fs
+pub same_ends : (rules : Rules) (notes : List Note) (ms : List Message) (es fs : List (MessageEnd (Unit {0}))) → AllZip (IsRecoveredEnd rules notes) ms es → AllZip (IsRecoveredEnd rules notes) ms fs → es ≡ fs
 same_ends rules notes [] [] [] a b = refl
 same_ends rules notes [] [] (f ∷ fs) a b = absurd b
 same_ends rules notes [] (e ∷ es) fs a b = absurd a
@@ -95,7 +95,7 @@ rows_same : (os : List Opening) (ms : List Message) (found : List (MessageEnd (U
 rows_same os ms found rows others a b = same_at_all rows others (a.count ∙ sym b.count) (λ i x y at at'. let o = opening_at rows os i x (sym a.count) at in a.each i x at o.0 o.1 ∙ sym (b.each i y at' o.0 o.1))
 
 pub runs_are_recovered : RunsAreRecovered
-runs_are_recovered rules os ms notes found rows es statement is tells rows_are =
+runs_are_recovered rules size os ms notes found rows es statement is tells rows_are =
     let same = same_ends rules notes ms found (map end_without_evidence es) is.tells tells in
     let its : AreRecoveredRows os ms (map end_without_evidence es) rows = rw (← same) is.rows_are in
     let rows_is = rows_same os ms (map end_without_evidence es) rows statement its rows_are in
@@ -104,7 +104,7 @@ runs_are_recovered rules os ms notes found rows es statement is tells rows_are =
 -- ---- rows
 
 pub none_overdrawn : NoAccountIsOverdrawn
-none_overdrawn rules os ms notes found rows is i row o at at' =
+none_overdrawn rules size os ms notes found rows is i row o at at' =
     let all : row.topped ≡ row.free + row.reserved + row.charged = is.rows_are.balanced i row at in
     let had : row.topped ≡ o.credits = ap (λ (r : Row). r.topped) (is.rows_are.each i row at o at') in
     omega (arith, all, had)

@@ -17,8 +17,9 @@ use Rattle.sms_message.specs.declared.ends.Attempt.{Attempt}
 use Rattle.sms_message.specs.declared.ends.MessageResult.{MessageResult}
 use Rattle.sms_message.specs.declared.ends.MessageResult.TheVariants as result
 use Rattle.sms_journal.specs.Recovered.{AreRecoveredSegments, IsRecoveredRefusal, IsRecoveredResult, answers_of, fate_in, fate_of, start_in, start_of, attempts_with, attempts_in, attempts_of}
+use Rattle.sms_journal.specs.declared.notes.run_size.RunSize.{RunSize}
 use Rattle.sms_journal.specs.Sums.{parts_in}
-use Rattle.sms_journal.specs.Lawful.{IsJournal, IsOver, MayFollow}
+use Rattle.sms_journal.specs.Lawful.{IsJournal, IsRetried, MayFollow}
 use Rattle.sms_journal.specs.Laws.{ChargesStayCharges, FrontsAreLawful, HasChargedPart}
 use Rattle.sms_journal.proofs.Charges.{charges_stay}
 use Rattle.sms_journal.proofs.Firsts.{first_of_front}
@@ -51,22 +52,22 @@ module _ {X : Type 0} where
 -- ---- the front of a lawful journal
 
 pub front_lawful : FrontsAreLawful
-front_lawful rules accounts ms notes later all k n at =
-    subst (λ (l : List Note). MayFollow rules accounts ms l n) (take-append-le k notes later (omega (arith, slice_get_within notes k n at))) (all k n (got_whole notes later k n at))
+front_lawful rules size ms notes later all k n at =
+    subst (λ (l : List Note). MayFollow rules size ms l n) (take-append-le k notes later (omega (arith, slice_get_within notes k n at))) (all k n (got_whole notes later k n at))
 
--- ---- each request for a part but its last is over
+-- ---- each request for a part but its last was answered by a retry status
 
-over_front : (notes : List Note) (k worker number : ℕ) → IsOver (fate_of (take k notes) worker number) → IsOver (fate_of notes worker number)
+over_front : (notes : List Note) (k worker number : ℕ) → IsRetried (fate_of (take k notes) worker number) → IsRetried (fate_of notes worker number)
 over_front notes k worker number h = here (fate_of (take k notes) worker number) refl h
   where
-    here : (o : Option (Option Reply)) → fate_of (take k notes) worker number ≡ o → IsOver o → IsOver (fate_of notes worker number)
+    here : (o : Option (Option Reply)) → fate_of (take k notes) worker number ≡ o → IsRetried o → IsRetried (fate_of notes worker number)
     here None e over = absurd over
-    here (Some f) e over = subst IsOver (sym (first_of_front (fate_in worker number) notes k f e)) over
+    here (Some f) e over = subst IsRetried (sym (first_of_front (fate_in worker number) notes k f e)) over
 
-earlier_over : (rules : Rules) (accounts : ℕ) (ms : List Message) (notes : List Note) (m p : ℕ) → IsJournal rules accounts ms notes → (j k : ℕ) (a b : RequestId) → j < k
-    → slice_get notes j ≡ Some (Sent a m p) → slice_get notes k ≡ Some (Sent b m p) → IsOver (fate_of notes a.worker a.number)
-earlier_over rules accounts ms notes m p all j k a b low first second =
-    over_front notes k a.worker a.number ((all k (Sent b m p) second).again j a (got_front notes j k (Sent a m p) low first))
+earlier_over : (rules : Rules) (size : RunSize) (ms : List Message) (notes : List Note) (m p : ℕ) → IsJournal rules size ms notes → (j k : ℕ) (a b : RequestId) → j < k
+    → slice_get notes j ≡ Some (Sent a m p) → slice_get notes k ≡ Some (Sent b m p) → IsRetried (fate_of notes a.worker a.number)
+earlier_over rules size ms notes m p all j k a b low first second =
+    over_front notes k a.worker a.number ((all k (Sent b m p) second).follows.again.retried j a (got_front notes j k (Sent a m p) low first))
 
 -- the note of each attempt for a part
 sent_of : (notes : List Note) (m p : ℕ) (n : Note) (k : ℕ) (t : Attempt (Unit {0})) → slice_get (attempts_in notes m p n) k ≡ Some t → (request : RequestId) × (n ≡ Sent request m p)
@@ -82,19 +83,19 @@ sent_of notes m p (Refused i r) k t e = absurd (cc)
 sent_of notes m p (End s) k t e = absurd (cc)
 
 -- one request before others
-retried_step : (number : ℕ) (o : Option (Option Reply)) (rest : List (Attempt (Unit {0}))) → AreRetried (answers_of rest) → ((y : Attempt (Unit {0})) (ys : List (Attempt (Unit {0}))) → rest ≡ y ∷ ys → IsOver o) → AreRetried (answers_of (attempts_with number o ++ rest))
+retried_step : (number : ℕ) (o : Option (Option Reply)) (rest : List (Attempt (Unit {0}))) → AreRetried (answers_of rest) → ((y : Attempt (Unit {0})) (ys : List (Attempt (Unit {0}))) → rest ≡ y ∷ ys → IsRetried o) → AreRetried (answers_of (attempts_with number o ++ rest))
 retried_step number None [] all over = tt
 retried_step number None (y ∷ ys) all over = absurd (over y ys refl)
 retried_step number (Some None) rest all over = all
 retried_step number (Some (Some r)) [] all over = tt
 retried_step number (Some (Some r)) (y ∷ ys) all over = (record { reply = record { status = r.status; nack = r.nack }; came = refl; retries = over y ys refl }, all)
 
-all_retried : (notes : List Note) (m p : ℕ) (ns : List Note) → ((j k : ℕ) (a b : RequestId) → j < k → slice_get ns j ≡ Some (Sent a m p) → slice_get ns k ≡ Some (Sent b m p) → IsOver (fate_of notes a.worker a.number))
+all_retried : (notes : List Note) (m p : ℕ) (ns : List Note) → ((j k : ℕ) (a b : RequestId) → j < k → slice_get ns j ≡ Some (Sent a m p) → slice_get ns k ≡ Some (Sent b m p) → IsRetried (fate_of notes a.worker a.number))
     → AreRetried (answers_of (flat_map (attempts_in notes m p) ns))
 all_retried notes m p [] over = tt
 all_retried notes m p (n ∷ ns) over = step n refl (all_retried notes m p ns (λ j k a b low. over (suc j) (suc k) a b (omega (arith, low))))
   where
-    later : (request : RequestId) → n ≡ Sent request m p → (y : Attempt (Unit {0})) (ys : List (Attempt (Unit {0}))) → flat_map (attempts_in notes m p) ns ≡ y ∷ ys → IsOver (fate_of notes request.worker request.number)
+    later : (request : RequestId) → n ≡ Sent request m p → (y : Attempt (Unit {0})) (ys : List (Attempt (Unit {0}))) → flat_map (attempts_in notes m p) ns ≡ y ∷ ys → IsRetried (fate_of notes request.worker request.number)
     later request is y ys rest =
         let first : slice_get (flat_map (attempts_in notes m p) ns) 0 ≡ Some y = ap (λ (l : List (Attempt (Unit {0}))). slice_get l 0) rest in
         let f = from (attempts_in notes m p) ns 0 y first in
@@ -115,18 +116,18 @@ all_retried notes m p (n ∷ ns) over = step n refl (all_retried notes m p ns (�
     step (Refused i r) is all = all
     step (End s) is all = all
 
-pub journal_retried : (rules : Rules) (accounts : ℕ) (ms : List Message) (notes : List Note) (m p : ℕ) → IsJournal rules accounts ms notes → AreRetried (answers_of (attempts_of notes m p))
-journal_retried rules accounts ms notes m p all = all_retried notes m p notes (earlier_over rules accounts ms notes m p all)
+pub journal_retried : (rules : Rules) (size : RunSize) (ms : List Message) (notes : List Note) (m p : ℕ) → IsJournal rules size ms notes → AreRetried (answers_of (attempts_of notes m p))
+journal_retried rules size ms notes m p all = all_retried notes m p notes (earlier_over rules size ms notes m p all)
 
 -- ---- charges
 
-part_stays : (rules : Rules) (accounts : ℕ) (ms : List Message) (notes later : List Note) (m : Message) (p : ℕ) (xs ys : List (SegmentEnd (Unit {0}))) → IsJournal rules accounts ms (notes ++ later)
+part_stays : (rules : Rules) (size : RunSize) (ms : List Message) (notes later : List Note) (m : Message) (p : ℕ) (xs ys : List (SegmentEnd (Unit {0}))) → IsJournal rules size ms (notes ++ later)
     → AreRecoveredSegments rules notes m xs → AreRecoveredSegments rules (notes ++ later) m ys → HasChargedPart xs p → HasChargedPart ys p
-part_stays rules accounts ms notes later m p xs ys lawful h g charged =
+part_stays rules size ms notes later m p xs ys lawful h g charged =
     let found = as_long xs ys p charged.part (g.count ∙ sym h.count) charged.there in
     let before = h.each p charged.part charged.there in
     let after = g.each p found.0 found.1 in
-    let retried = subst (λ (l : List (Attempt (Unit {0}))). AreRetried (answers_of l)) (sym after.attempts) (journal_retried rules accounts ms (notes ++ later) m.index (p + 1) lawful) in
+    let retried = subst (λ (l : List (Attempt (Unit {0}))). AreRetried (answers_of l)) (sym after.attempts) (journal_retried rules size ms (notes ++ later) m.index (p + 1) lawful) in
     record { part = found.0; there = found.1; charged = charges_stay rules notes later m (p + 1) charged.part found.0 before after retried charged.charged }
 
 still_begun : (rules : Rules) (notes later : List Note) (m : Message) (xs : List (SegmentEnd (Unit {0}))) (r : MessageRefusal) → AreRecoveredSegments rules notes m xs → IsRecoveredRefusal rules m (start_of (notes ++ later) m.index) r → ⊥
@@ -135,11 +136,11 @@ still_begun rules notes later m xs r h g =
     let long : IsRecoveredRefusal rules m (Some None) r = subst (λ (o : Option (Option MessageRefusal)). IsRecoveredRefusal rules m o r) begun g in
     h.short long.0
 
-result_stays : (rules : Rules) (accounts : ℕ) (ms : List Message) (notes later : List Note) (m : Message) (p : ℕ) (r s : MessageResult (Unit {0})) → IsJournal rules accounts ms (notes ++ later)
+result_stays : (rules : Rules) (size : RunSize) (ms : List Message) (notes later : List Note) (m : Message) (p : ℕ) (r s : MessageResult (Unit {0})) → IsJournal rules size ms (notes ++ later)
     → IsRecoveredResult rules notes m r → IsRecoveredResult rules (notes ++ later) m s → HasChargedPart (parts_in r) p → HasChargedPart (parts_in s) p
-result_stays rules accounts ms notes later m p (result.Sent xs) (result.Sent ys) lawful h g charged = part_stays rules accounts ms notes later m p xs ys lawful h g charged
-result_stays rules accounts ms notes later m p (result.Sent xs) (result.Refused why) lawful h g charged = absurd (still_begun rules notes later m xs why h g)
-result_stays rules accounts ms notes later m p (result.Refused why) s lawful h g charged = let none = charged.there in absurd (cc)
+result_stays rules size ms notes later m p (result.Sent xs) (result.Sent ys) lawful h g charged = part_stays rules size ms notes later m p xs ys lawful h g charged
+result_stays rules size ms notes later m p (result.Sent xs) (result.Refused why) lawful h g charged = absurd (still_begun rules notes later m xs why h g)
+result_stays rules size ms notes later m p (result.Refused why) s lawful h g charged = let none = charged.there in absurd (cc)
 
 pub charges_stay_charges : ChargesStayCharges
-charges_stay_charges rules accounts ms notes later m e f p lawful h g charged = result_stays rules accounts ms notes later m p e.result f.result lawful h.result g.result charged
+charges_stay_charges rules size ms notes later m e f p lawful h g charged = result_stays rules size ms notes later m p e.result f.result lawful h.result g.result charged

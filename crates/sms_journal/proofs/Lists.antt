@@ -1,12 +1,12 @@
 -- Lists that a loop builds.
-use Rattle.std.proofs.Common.{◌≡◌, ℕ, zero, suc, ◌+◌, ◌<◌, ◌≤◌, List, [], ◌∷◌, ◌++◌, length, take, Some, None, inl, inr, refl, sym, ap, ◌∙◌, subst, get_or, add-one, arith}
-use Rattle.std.specs.Prelude.{◌⊎◌, Option, IfSome, IsNone, slice_get, flat_map}
+use Rattle.std.proofs.Common.{◌≡◌, ℕ, zero, suc, ◌+◌, ◌<◌, List, [], ◌∷◌, ◌++◌, length, take, Some, None, inl, inr, refl, sym, ap, ◌∙◌, subst, get_or, add-one, arith}
+use Rattle.std.specs.Prelude.{Option, IfSome, IsNone, slice_get, flat_map}
 use Rattle.std.proofs.lemmas.Option.{slice_get-get_or}
 use Rattle.std.specs.List.{AllZip}
 use Rattle.std.proofs.lemmas.List.{take_more}
 use Rattle.std.proofs.lemmas.Grind.{flat_map-append}
 use Rattle.std.proofs.Common.{append-nil}
-use Rattle.sms_files.proofs.Lists.{got_of_append, take_whole}
+use Rattle.sms_files.proofs.Lists.{got_of_append}
 
 module _ {X : Type 0} where
   pub got_before : (xs : List X) (y : X) (q : ℕ) (z : X) → slice_get xs q ≡ Some z → slice_get (xs ++ y ∷ []) q ≡ Some z

@@ -1,5 +1,5 @@
 -- What a run of notes comes to, from what its steps come to.
-use Rattle.std.proofs.Common.{◌≡◌, ◌⊎◌, ◌+◌, refl, inl, inr, ℕ, List, Option, Some, None, length}
+use Rattle.std.proofs.Common.{◌≡◌, ◌⊎◌, ◌+◌, refl, inl, inr, ℕ, List, Option, Some, None}
 use Rattle.std.specs.Prelude.{option_copied, option_map}
 use Rattle.std.specs.Borrow.{Bor}
 use Rattle.std.specs.Io.KnownBytes.{Appends}
@@ -9,6 +9,7 @@ use Rattle.sms_book.specs.declared.opening.Opening.{Opening}
 use Rattle.sms_message.specs.declared.message.Message.{Message}
 use Rattle.sms_message.specs.declared.rules.Rules.{Rules}
 use Rattle.sms_journal.specs.declared.notes.note.Note.{Note}
+use Rattle.sms_journal.specs.declared.notes.run_size.RunSize.{RunSize}
 use Rattle.sms_message.specs.declared.ends.MessageEnd.{MessageEnd}
 use Rattle.sms_journal.specs.Lawful.{IsFirstFault, IsJournal}
 use Rattle.sms_journal.specs.Recovered.{IsRecoveredEnd}
@@ -25,19 +26,19 @@ tariff_read None = refl
 tariff_read (Some x) = refl
 
 -- the fault of a note that may not follow
-pub note_fault : (rules : Rules) (accounts : ℕ) (ms : List Message) (notes : List Note) (fault : RecoveryFault) (place : ℕ) → (fault ≡ Journal (place + 2)) ⊎ (fault ≡ OutOfMemory) → IsFirstFault rules accounts ms notes place
-    → IsFaultOfNotes rules accounts ms notes fault
-note_fault rules accounts ms notes fault place (inl ends) h = inr (place, ends, h)
-note_fault rules accounts ms notes fault place (inr memory) h = inl memory
+pub note_fault : (rules : Rules) (size : RunSize) (ms : List Message) (notes : List Note) (fault : RecoveryFault) (place : ℕ) → (fault ≡ Journal (place + 2)) ⊎ (fault ≡ OutOfMemory) → IsFirstFault rules size ms notes place
+    → IsFaultOfNotes rules size ms notes fault
+note_fault rules size ms notes fault place (inl ends) h = inr (place, ends, h)
+note_fault rules size ms notes fault place (inr memory) h = inl memory
 
-module _ (rules : Rules) (os : List Opening) (ms : List Message) (notes : List Note) (ends : List (MessageEnd (Unit {0}))) (old new : Option (List ℕ)) where
-  pub printed : (rows : List Row) → IsRecovered rules os ms notes ends rows → (status : ℕ) → Appends old new (report_of os ends rows) × (status ≡ ends_status ends) → Recovers rules os ms notes old new status
+module _ (rules : Rules) (size : RunSize) (os : List Opening) (ms : List Message) (notes : List Note) (ends : List (MessageEnd (Unit {0}))) (old new : Option (List ℕ)) where
+  pub printed : (rows : List Row) → IsRecovered rules size os ms notes ends rows → (status : ℕ) → Appends old new (report_of os ends rows) × (status ≡ ends_status ends) → Recovers rules size os ms notes old new status
   printed rows is status h = record { ends = ends; rows = rows; is = is; written = h.0; status_is = h.1 }
 
-  pub cut_off : (rows : List Row) → IsRecovered rules os ms notes ends rows → (fault : RecoveryFault) → IsCut (report_of os ends rows) old new fault → IsFaultOfRecovery rules os ms notes old new fault
+  pub cut_off : (rows : List Row) → IsRecovered rules size os ms notes ends rows → (fault : RecoveryFault) → IsCut (report_of os ends rows) old new fault → IsFaultOfRecovery rules size os ms notes old new fault
   cut_off rows is fault (inl memory) = inl (inl memory)
   cut_off rows is fault (inr h) = inr (inr (h.0, record { ends = ends; rows = rows; is = is; front = h.1 }))
 
-  pub overdrawn : IsJournal rules (length os) ms notes → AllZip (IsRecoveredEnd rules notes) ms ends → (fault : RecoveryFault) → (fault ≡ OutOfMemory) ⊎ ((fault ≡ Overdrawn) × ¬ AreCovered os ms ends) → IsFaultOfRecovery rules os ms notes old new fault
+  pub overdrawn : IsJournal rules size ms notes → AllZip (IsRecoveredEnd rules notes) ms ends → (fault : RecoveryFault) → (fault ≡ OutOfMemory) ⊎ ((fault ≡ Overdrawn) × ¬ AreCovered os ms ends) → IsFaultOfRecovery rules size os ms notes old new fault
   overdrawn lawful tells fault (inl memory) = inl (inl memory)
   overdrawn lawful tells fault (inr h) = inr (inl (h.0, record { lawful = lawful; ends = ends; tells = tells; overdrawn = h.1 }))

@@ -1,8 +1,10 @@
 -- What is kept of notes, with one more.
-use Rattle.std.proofs.Common.{◌≡◌, ℕ, ◌+◌, ◌*◌, List, [], ◌∷◌, ◌++◌, length, Some, None, inl, inr, refl, sym, ap, ◌∙◌, subst, Bool, true, false, true≢false, arith}
+use Rattle.std.proofs.Common.{◌≡◌, ℕ, ◌+◌, ◌-◌, ◌*◌, List, [], ◌∷◌, ◌++◌, length, Some, None, inl, inr, refl, sym, ap, ◌∙◌, subst, Bool, true, false, true≢false, arith}
 use Rattle.std.specs.Prelude.{Option, take, if◌then◌else◌, ◌==◌, ◌&&◌, nat_eq}
 use Rattle.std.specs.HashMap.{get}
+use Rattle.std.proofs.Common.{append-nil, length-append}
 use Rattle.std.proofs.lemmas.Bool.{eqb-true, eqb-false, eq-eqb}
+use Rattle.std.proofs.lemmas.Grind.{flat_map-append}
 use Rattle.sms_pdu.specs.declared.reply.Reply.{Reply}
 use Rattle.sms_message.specs.declared.message.Message.{Message}
 use Rattle.sms_message.specs.declared.rules.Rules.{Rules}
@@ -12,8 +14,10 @@ use Rattle.sms_journal.specs.declared.notes.note.Note.{Note}
 use Rattle.sms_journal.specs.declared.notes.note.Note.TheVariants.{Begun, Sent, Unsent, Heard, Refused, End}
 use Rattle.sms_journal.specs.declared.notes.seen.Seen.{Seen}
 use Rattle.sms_journal.specs.Recovered.{or_else, fate_in, fate_of, start_in, start_of}
-use Rattle.sms_journal.specs.Lawful.{HasParts, IsAbove, IsJournal, IsOver, MayFollow, MayTry, sent_in}
-use Rattle.sms_journal.specs.Seen.{IsCounted, IsCountFor, IsKept, IsGreatest, IsLast, IsLastTry, IsLatest, Sees, count_in, latest_in, attempt_in_note}
+use Rattle.sms_journal.specs.declared.notes.seen.Tries.{Tries}
+use Rattle.sms_journal.specs.declared.notes.run_size.RunSize.{RunSize}
+use Rattle.sms_journal.specs.Lawful.{Follows, HasParts, IsAbove, IsJournal, IsRetried, MayFollow, MayTry, end_in, requests_in, requests_of, sent_in, user_in}
+use Rattle.sms_journal.specs.Seen.{AreTries, IsCounted, IsCountFor, IsKept, IsGreatest, IsLast, IsLatest, Sees, count_in, latest_in, left_by, tries_in}
 use Rattle.sms_files.proofs.Lists.{got_of_append}
 use Rattle.sms_journal.proofs.Firsts.{first_snoc}
 use Rattle.sms_journal.proofs.Lists.{got_before, got_last, take_before, take_within}
@@ -73,54 +77,101 @@ latest_more notes (Heard by reply) w o above h = latest_same notes (Heard by rep
 latest_more notes (Refused i r) w o above h = latest_same notes (Refused i r) w o (λ request m p e. absurd (cc)) h
 latest_more notes (End s) w o above h = latest_same notes (End s) w o (λ request m p e. absurd (cc)) h
 
--- ---- the latest request of a part
+-- ---- the requests for a part
 
-over_more : (notes : List Note) (n : Note) (request : RequestId) → IsOver (fate_of notes request.worker request.number) → IsOver (fate_of (notes ++ n ∷ []) request.worker request.number)
-over_more notes n request h = subst IsOver (sym (first_snoc (fate_in request.worker request.number) notes n)) (stays (fate_of notes request.worker request.number) (fate_in request.worker request.number n) h)
+retried_more : (notes : List Note) (n : Note) (request : RequestId) → IsRetried (fate_of notes request.worker request.number) → IsRetried (fate_of (notes ++ n ∷ []) request.worker request.number)
+retried_more notes n request h = subst IsRetried (sym (first_snoc (fate_in request.worker request.number) notes n)) (stays (fate_of notes request.worker request.number) (fate_in request.worker request.number n) h)
   where
-    stays : (o x : Option (Option Reply)) → IsOver o → IsOver (or_else o x)
+    stays : (o x : Option (Option Reply)) → IsRetried o → IsRetried (or_else o x)
     stays None x h = absurd h
     stays (Some f) x h = h
 
-try_same : (notes : List Note) (n : Note) (m p : ℕ) (o : Option RequestId) → ((request : RequestId) → n ≡ Sent request m p → ⊥) → IsLastTry notes m p o → IsLastTry (notes ++ n ∷ []) m p o
-try_same notes n m p None new h = λ k request there. elim (got_of_append notes n k (Sent request m p) there) [
-  | inl before ↦ h k request before
-  | inr last ↦ new request (sym last.1)
-]
-try_same notes n m p (Some request) new h = record {
+-- with one more note
+requests_more : (notes : List Note) (n : Note) (m p : ℕ) → requests_of (notes ++ n ∷ []) m p ≡ requests_of notes m p ++ requests_in m p n
+requests_more notes n m p = flat_map-append (requests_in m p) notes (n ∷ []) ∙ ap (λ l. requests_of notes m p ++ l) (append-nil (requests_in m p n))
+
+no_request : (n : Note) (m p : ℕ) → ((request : RequestId) → n ≡ Sent request m p → ⊥) → requests_in m p n ≡ []
+no_request (Begun i) m p new = refl
+no_request (Sent request i q) m p new = here (i == m && (q == p)) refl
+  where
+    here : (b : Bool) → (i == m && (q == p)) ≡ b → (if b then request ∷ [] else []) ≡ []
+    here true e = let h = both (i == m) (q == p) e in absurd (new request (λ j. Sent request (eqb-true i m h.0 j) (eqb-true q p h.1 j)))
+    here false e = refl
+no_request (Unsent request) m p new = refl
+no_request (Heard by reply) m p new = refl
+no_request (Refused i r) m p new = refl
+no_request (End s) m p new = refl
+
+same_requests : (notes : List Note) (n : Note) (m p : ℕ) → ((request : RequestId) → n ≡ Sent request m p → ⊥) → requests_of (notes ++ n ∷ []) m p ≡ requests_of notes m p
+same_requests notes n m p new = requests_more notes n m p ∙ ap (λ l. requests_of notes m p ++ l) (no_request n m p new) ∙ append-nil (requests_of notes m p)
+
+one_more : (notes : List Note) (request : RequestId) (m p : ℕ) → length (requests_of (notes ++ Sent request m p ∷ []) m p) ≡ length (requests_of notes m p) + 1
+one_more notes request m p =
+    ap length (requests_more notes (Sent request m p) m p ∙ ap (λ b. requests_of notes m p ++ (if b then request ∷ [] else [])) (equal m m refl p p refl)) ∙ length-append (requests_of notes m p) (request ∷ [])
+
+last_same : (notes : List Note) (n : Note) (m p : ℕ) (request : RequestId) → ((other : RequestId) → n ≡ Sent other m p → ⊥) → IsLast notes m p request → IsLast (notes ++ n ∷ []) m p request
+last_same notes n m p request new h = record {
   place = h.place;
   there = got_before notes n h.place (Sent request m p) h.there;
   others = λ k other there. elim (got_of_append notes n k (Sent other m p) there) [
-    | inl before ↦ elim (h.others k other before) [ inl same ↦ inl same | inr over ↦ inr (over_more notes n other over) ]
+    | inl before ↦ elim (h.others k other before) [ inl same ↦ inl same | inr over ↦ inr (retried_more notes n other over) ]
     | inr last ↦ absurd (new other (sym last.1))
   ];
 }
 
-try_new : (notes : List Note) (request : RequestId) (m p : ℕ) → MayTry notes m p → IsLast (notes ++ Sent request m p ∷ []) m p request
-try_new notes request m p again = record {
+tries_same : (rules : Rules) (notes : List Note) (n : Note) (m p : ℕ) (o : Option Tries) → ((request : RequestId) → n ≡ Sent request m p → ⊥) → AreTries rules notes m p o → AreTries rules (notes ++ n ∷ []) m p o
+tries_same rules notes n m p None new h = record {
+  none = same_requests notes n m p new ∙ h.none;
+  nowhere = λ k request there. elim (got_of_append notes n k (Sent request m p) there) [
+    | inl before ↦ h.nowhere k request before
+    | inr last ↦ new request (sym last.1)
+  ];
+}
+tries_same rules notes n m p (Some tries) new h = (last_same notes n m p tries.last new h.0, subst (λ (l : List RequestId). tries.left ≡ rules.policy.attempts - length l) (sym (same_requests notes n m p new)) h.1)
+
+last_new : (rules : Rules) (notes : List Note) (request : RequestId) (m p : ℕ) → MayTry rules notes m p → IsLast (notes ++ Sent request m p ∷ []) m p request
+last_new rules notes request m p may = record {
   place = length notes;
   there = got_last notes (Sent request m p);
   others = λ k other there. elim (got_of_append notes (Sent request m p) k (Sent other m p) there) [
-    | inl before ↦ inr (over_more notes (Sent request m p) other (again k other before))
+    | inl before ↦ inr (retried_more notes (Sent request m p) other (may.retried k other before))
     | inr last ↦ inl (let f = last.1 in cc)
   ];
 }
 
-try_more : (notes : List Note) (n : Note) (m p : ℕ) (o : Option RequestId) → ((request : RequestId) (i q : ℕ) → n ≡ Sent request i q → MayTry notes i q) → IsLastTry notes m p o → IsLastTry (notes ++ n ∷ []) m p (attempt_in_note m p n o)
-try_more notes (Begun i) m p o again h = try_same notes (Begun i) m p o (λ request e. absurd (cc)) h
-try_more notes (Sent request i q) m p o again h = here (i == m && (q == p)) refl
+-- how often the part may be sent is one less
+left_is : (rules : Rules) (notes : List Note) (m p : ℕ) (o : Option Tries) → AreTries rules notes m p o → left_by rules.policy.attempts o ≡ rules.policy.attempts - length (requests_of notes m p)
+left_is rules notes m p None h = let none : length (requests_of notes m p) ≡ 0 = ap length h.none in omega (arith, none)
+left_is rules notes m p (Some tries) h = h.1
+
+left_more : (rules : Rules) (notes : List Note) (request : RequestId) (m p : ℕ) (o : Option Tries) → AreTries rules notes m p o
+    → left_by rules.policy.attempts o - 1 ≡ rules.policy.attempts - length (requests_of (notes ++ Sent request m p ∷ []) m p)
+left_more rules notes request m p o h = let is = left_is rules notes m p o h in let more = one_more notes request m p in omega (arith, is, more)
+
+tries_new : (rules : Rules) (notes : List Note) (request : RequestId) (m p : ℕ) (o : Option Tries) → MayTry rules notes m p → AreTries rules notes m p o
+    → AreTries rules (notes ++ Sent request m p ∷ []) m p (Some (record { last = request; left = left_by rules.policy.attempts o - 1 }))
+tries_new rules notes request m p o may h = (last_new rules notes request m p may, left_more rules notes request m p o h)
+
+tries_more : (rules : Rules) (notes : List Note) (n : Note) (m p : ℕ) (o : Option Tries) → ((request : RequestId) (i q : ℕ) → n ≡ Sent request i q → MayTry rules notes i q) → AreTries rules notes m p o
+    → AreTries rules (notes ++ n ∷ []) m p (tries_in rules.policy.attempts m p n o)
+tries_more rules notes (Begun i) m p o again h = tries_same rules notes (Begun i) m p o (λ request e. absurd (cc)) h
+tries_more rules notes (Sent request i q) m p o again h = here (i == m && (q == p)) refl
   where
-    here : (b : Bool) → (i == m && (q == p)) ≡ b → IsLastTry (notes ++ Sent request i q ∷ []) m p (if b then Some request else o)
+    new : Option Tries
+    new = Some (record { last = request; left = left_by rules.policy.attempts o - 1 })
+
+    here : (b : Bool) → (i == m && (q == p)) ≡ b → AreTries rules (notes ++ Sent request i q ∷ []) m p (if b then new else o)
     here true e =
         let f = both (i == m) (q == p) e in
         let x = eqb-true i m f.0 in
         let y = eqb-true q p f.1 in
-        subst (λ (j : ℕ). IsLast (notes ++ Sent request i q ∷ []) j p request) x (subst (λ (j : ℕ). IsLast (notes ++ Sent request i q ∷ []) i j request) y (try_new notes request i q (again request i q refl)))
-    here false e = try_same notes (Sent request i q) m p o (λ other f. let x : i ≡ m = cc in let y : q ≡ p = cc in true≢false (sym (equal i m x q p y) ∙ e)) h
-try_more notes (Unsent request) m p o again h = try_same notes (Unsent request) m p o (λ request e. absurd (cc)) h
-try_more notes (Heard by reply) m p o again h = try_same notes (Heard by reply) m p o (λ request e. absurd (cc)) h
-try_more notes (Refused i r) m p o again h = try_same notes (Refused i r) m p o (λ request e. absurd (cc)) h
-try_more notes (End s) m p o again h = try_same notes (End s) m p o (λ request e. absurd (cc)) h
+        let may = subst (λ (j : ℕ). MayTry rules notes j p) x (subst (λ (j : ℕ). MayTry rules notes i j) y (again request i q refl)) in
+        subst (λ (j : ℕ). AreTries rules (notes ++ Sent request j q ∷ []) m p new) (sym x) (subst (λ (j : ℕ). AreTries rules (notes ++ Sent request m j ∷ []) m p new) (sym y) (tries_new rules notes request m p o may h))
+    here false e = tries_same rules notes (Sent request i q) m p o (λ other f. let x : i ≡ m = cc in let y : q ≡ p = cc in true≢false (sym (equal i m x q p y) ∙ e)) h
+tries_more rules notes (Unsent request) m p o again h = tries_same rules notes (Unsent request) m p o (λ request e. absurd (cc)) h
+tries_more rules notes (Heard by reply) m p o again h = tries_same rules notes (Heard by reply) m p o (λ request e. absurd (cc)) h
+tries_more rules notes (Refused i r) m p o again h = tries_same rules notes (Refused i r) m p o (λ request e. absurd (cc)) h
+tries_more rules notes (End s) m p o again h = tries_same rules notes (End s) m p o (λ request e. absurd (cc)) h
 
 -- ---- how many parts a message has
 
@@ -132,47 +183,49 @@ refused_first : (o : Option (Option MessageRefusal)) (r : MessageRefusal) → or
 refused_first None r e = absurd (cc)
 refused_first (Some x) r e = e
 
-counted_more : (rules : Rules) (accounts : ℕ) (ms : List Message) (n : Note) (count i : ℕ) (start : Option (Option MessageRefusal)) (o : Option ℕ) → IsCountFor rules accounts ms n count
-    → (start ≡ Some None → IsCounted rules accounts ms i o) → or_else start (start_in i n) ≡ Some None → IsCounted rules accounts ms i (count_in count i n o)
-counted_more rules accounts ms (Begun j) count i start o counts h = here (j == i) refl
+counted_more : (rules : Rules) (size : RunSize) (ms : List Message) (n : Note) (count i : ℕ) (start : Option (Option MessageRefusal)) (o : Option ℕ) → IsCountFor rules size ms n count
+    → (start ≡ Some None → IsCounted rules size ms i o) → or_else start (start_in i n) ≡ Some None → IsCounted rules size ms i (count_in count i n o)
+counted_more rules size ms (Begun j) count i start o counts h = here (j == i) refl
   where
-    here : (b : Bool) → (j == i) ≡ b → or_else start (if b then Some None else None) ≡ Some None → IsCounted rules accounts ms i (if b then Some count else o)
-    here true e begun = subst (λ (k : ℕ). HasParts rules accounts ms k count) (eqb-true j i e) counts
+    here : (b : Bool) → (j == i) ≡ b → or_else start (if b then Some None else None) ≡ Some None → IsCounted rules size ms i (if b then Some count else o)
+    here true e begun = subst (λ (k : ℕ). HasParts rules size ms k count) (eqb-true j i e) counts
     here false e begun = h (none_first start begun)
-counted_more rules accounts ms (Sent request j p) count i start o counts h = λ begun. h (none_first start begun)
-counted_more rules accounts ms (Unsent request) count i start o counts h = λ begun. h (none_first start begun)
-counted_more rules accounts ms (Heard by reply) count i start o counts h = λ begun. h (none_first start begun)
-counted_more rules accounts ms (Refused j r) count i start o counts h = here (j == i)
+counted_more rules size ms (Sent request j p) count i start o counts h = λ begun. h (none_first start begun)
+counted_more rules size ms (Unsent request) count i start o counts h = λ begun. h (none_first start begun)
+counted_more rules size ms (Heard by reply) count i start o counts h = λ begun. h (none_first start begun)
+counted_more rules size ms (Refused j r) count i start o counts h = here (j == i)
   where
-    here : (b : Bool) → or_else start (if b then Some (Some r) else None) ≡ Some None → IsCounted rules accounts ms i o
+    here : (b : Bool) → or_else start (if b then Some (Some r) else None) ≡ Some None → IsCounted rules size ms i o
     here true begun = h (refused_first start r begun)
     here false begun = h (none_first start begun)
-counted_more rules accounts ms (End s) count i start o counts h = λ begun. h (none_first start begun)
+counted_more rules size ms (End s) count i start o counts h = λ begun. h (none_first start begun)
 
 -- ---- all of it
 
-above_of : (rules : Rules) (accounts : ℕ) (ms : List Message) (notes : List Note) (n : Note) → MayFollow rules accounts ms notes n → (request : RequestId) (m p : ℕ) → n ≡ Sent request m p → IsAbove notes request
-above_of rules accounts ms notes n may request m p e = (subst (MayFollow rules accounts ms notes) e may).above
+above_of : (rules : Rules) (size : RunSize) (ms : List Message) (notes : List Note) (n : Note) → Follows rules size ms notes n → (request : RequestId) (m p : ℕ) → n ≡ Sent request m p → IsAbove notes request
+above_of rules size ms notes n may request m p e = (subst (Follows rules size ms notes) e may).number.above
 
-again_of : (rules : Rules) (accounts : ℕ) (ms : List Message) (notes : List Note) (n : Note) → MayFollow rules accounts ms notes n → (request : RequestId) (m p : ℕ) → n ≡ Sent request m p → MayTry notes m p
-again_of rules accounts ms notes n may request m p e = (subst (MayFollow rules accounts ms notes) e may).again
+again_of : (rules : Rules) (size : RunSize) (ms : List Message) (notes : List Note) (n : Note) → Follows rules size ms notes n → (request : RequestId) (m p : ℕ) → n ≡ Sent request m p → MayTry rules notes m p
+again_of rules size ms notes n may request m p e = (subst (Follows rules size ms notes) e may).again
 
-pub sees_more : (rules : Rules) (accounts : ℕ) (ms : List Message) (notes : List Note) (n : Note) (count : ℕ) (old new : Seen) → IsKept n count old new → Sees rules accounts ms notes old
-    → MayFollow rules accounts ms notes n → IsCountFor rules accounts ms n count → Sees rules accounts ms (notes ++ n ∷ []) new
-sees_more rules accounts ms notes n count old new kept sees may counts = record {
+pub sees_more : (rules : Rules) (size : RunSize) (ms : List Message) (notes : List Note) (n : Note) (count : ℕ) (old new : Seen) → IsKept rules size n count old new → Sees rules size ms notes old
+    → MayFollow rules size ms notes n → IsCountFor rules size ms n count → Sees rules size ms (notes ++ n ∷ []) new
+sees_more rules size ms notes n count old new kept sees may counts = record {
   starts = λ i. kept.starts i ∙ ap (λ o. or_else o (start_in i n)) (sees.starts i) ∙ sym (first_snoc (start_in i) notes n);
-  counts = λ i begun. subst (IsCounted rules accounts ms i) (sym (kept.counts i))
-      (counted_more rules accounts ms n count i (start_of notes i) (get nat_eq old.counts i) counts (sees.counts i) (sym (first_snoc (start_in i) notes n) ∙ begun));
+  counts = λ i begun. subst (IsCounted rules size ms i) (sym (kept.counts i))
+      (counted_more rules size ms n count i (start_of notes i) (get nat_eq old.counts i) counts (sees.counts i) (sym (first_snoc (start_in i) notes n) ∙ begun));
   sent = λ w k low. kept.sent w k low ∙ ap (λ o. or_else o (sent_in w k n)) (sees.sent w k low) ∙ sym (first_snoc (sent_in w k) notes n);
   fates = λ w k low. kept.fates w k low ∙ ap (λ o. or_else o (fate_in w k n)) (sees.fates w k low) ∙ sym (first_snoc (fate_in w k) notes n);
-  latest = λ w. subst (IsLatest (notes ++ n ∷ []) w) (sym (kept.latest w)) (latest_more notes n w (get nat_eq old.latest w) (above_of rules accounts ms notes n may) (sees.latest w));
-  attempts = λ m p low. subst (IsLastTry (notes ++ n ∷ []) m p) (sym (kept.attempts m p low)) (try_more notes n m p (get nat_eq old.attempts (m * 256 + p)) (again_of rules accounts ms notes n may) (sees.attempts m p low));
+  latest = λ w. subst (IsLatest (notes ++ n ∷ []) w) (sym (kept.latest w)) (latest_more notes n w (get nat_eq old.latest w) (above_of rules size ms notes n may.follows) (sees.latest w));
+  users = λ b k low. kept.users b k low ∙ ap (λ o. or_else o (user_in size b k n)) (sees.users b k low) ∙ sym (first_snoc (user_in size b k) notes n);
+  tries = λ m p low. subst (AreTries rules (notes ++ n ∷ []) m p) (sym (kept.tries m p low)) (tries_more rules notes n m p (get nat_eq old.tries (m * 256 + p)) (again_of rules size ms notes n may.follows) (sees.tries m p low));
+  end = kept.end ∙ ap (λ o. or_else o (end_in n)) sees.end ∙ sym (first_snoc end_in notes n);
 }
 
-pub journal_more : (rules : Rules) (accounts : ℕ) (ms : List Message) (notes : List Note) (n : Note) → IsJournal rules accounts ms notes → MayFollow rules accounts ms notes n → IsJournal rules accounts ms (notes ++ n ∷ [])
-journal_more rules accounts ms notes n all may k x there = elim (got_of_append notes n k x there) [
-  | inl before ↦ subst (λ (l : List Note). MayFollow rules accounts ms l x) (sym (take_within notes n k x before)) (all k x before)
+pub journal_more : (rules : Rules) (size : RunSize) (ms : List Message) (notes : List Note) (n : Note) → IsJournal rules size ms notes → MayFollow rules size ms notes n → IsJournal rules size ms (notes ++ n ∷ [])
+journal_more rules size ms notes n all may k x there = elim (got_of_append notes n k x there) [
+  | inl before ↦ subst (λ (l : List Note). MayFollow rules size ms l x) (sym (take_within notes n k x before)) (all k x before)
   | inr last ↦
-      subst (λ (j : ℕ). MayFollow rules accounts ms (take j (notes ++ n ∷ [])) x) (sym last.0)
-      (subst (λ (l : List Note). MayFollow rules accounts ms l x) (sym (take_before notes n)) (subst (MayFollow rules accounts ms notes) (sym last.1) may))
+      subst (λ (j : ℕ). MayFollow rules size ms (take j (notes ++ n ∷ [])) x) (sym last.0)
+      (subst (λ (l : List Note). MayFollow rules size ms l x) (sym (take_before notes n)) (subst (MayFollow rules size ms notes) (sym last.1) may))
 ]

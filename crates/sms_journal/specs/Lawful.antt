@@ -1,15 +1,23 @@
 -- Journals that a run can have written: what each note asks of the notes before it.
-use Rattle.std.specs.Prelude.{◌≡◌, ℕ, ◌==◌, ◌&&◌, ◌<◌, ◌≤◌, List, length, Option, Some, None, IsSome, true, slice_get, take, if◌then◌else◌}
+use Rattle.std.specs.Prelude.{◌≡◌, ◌⊎◌, ℕ, ◌+◌, ◌==◌, ◌&&◌, ◌<◌, ◌≤◌, List, [], ◌∷◌, length, Option, Some, None, IsSome, true, false, slice_get, take, flat_map, if◌then◌else◌}
+use Rattle.std.specs.List.{AllZip}
+use Rattle.sms_core.specs.Limits.{top_number}
 use Rattle.sms_core.specs.Replies.{is_retry}
 use Rattle.sms_pdu.specs.declared.reply.Reply.{Reply}
 use Rattle.sms_message.specs.declared.message.Message.{Message}
 use Rattle.sms_message.specs.declared.rules.Rules.{Rules}
-use Rattle.sms_message.specs.Submits.{message_parts}
-use Rattle.sms_message.specs.Admission.{IsKnown, IsShort}
+use Rattle.sms_message.specs.declared.ends.MessageEnd.{MessageEnd}
+use Rattle.sms_message.specs.declared.ends.MessageRefusal.{MessageRefusal}
+use Rattle.sms_message.specs.Submits.{HasAddresses, message_parts}
+use Rattle.sms_message.specs.Admission.{IsKnown, IsRefusalOf, IsShort}
+use Rattle.sms_files.specs.Report.{ends_status}
+use Rattle.sms_files.specs.Whole.{are_whole}
 use Rattle.sms_journal.specs.declared.notes.note.RequestId.{RequestId}
 use Rattle.sms_journal.specs.declared.notes.note.Note.{Note}
 use Rattle.sms_journal.specs.declared.notes.note.Note.TheVariants.{Begun, Sent, Unsent, Heard, Refused, End}
-use Rattle.sms_journal.specs.Recovered.{first_in, fate_of, start_of}
+use Rattle.sms_journal.specs.declared.notes.run_size.RunSize.{RunSize}
+use Rattle.sms_journal.specs.Recovered.{IsRecoveredEnd, first_in, fate_of, start_of}
+use Rattle.sms_journal.specs.RunSize.{IsDealt, all_workers, bind_of}
 
 -- ---- the messages
 
@@ -20,13 +28,25 @@ with_index i m = if m.index == i then Some m else None
 abbrev pub message_of : List Message → ℕ → Option Message
 message_of ms i = first_in (with_index i) ms
 
--- the message with this index has an account and is cut into this number of parts
-pub record HasParts (rules : Rules) (accounts : ℕ) (ms : List Message) (i count : ℕ) : Type 0 where
+-- the message with this index passes each check but that of its credits, and is cut into this number of parts
+pub record HasParts (rules : Rules) (size : RunSize) (ms : List Message) (i count : ℕ) : Type 0 where
   pub message : Message
   pub is : message_of ms i ≡ Some message
-  pub known : IsKnown accounts message.account
+  pub known : IsKnown size.accounts message.account
+  pub addresses : HasAddresses message
   pub short : IsShort rules message
   pub count_is : count ≡ length (message_parts rules message)
+
+-- the message with this index may be refused for this reason
+pub record HasRefusal (rules : Rules) (size : RunSize) (ms : List Message) (i : ℕ) (refusal : MessageRefusal) : Type 0 where
+  pub message : Message
+  pub is : message_of ms i ≡ Some message
+  pub says : IsRefusalOf rules size.accounts message refusal
+
+-- its turn has come: neither was it begun or refused yet, nor is the message left over that its worker was dealt before it
+pub record HasTurn (size : RunSize) (notes : List Note) (i : ℕ) : Type 0 where
+  pub first : start_of notes i ≡ None
+  pub next : (before : ℕ) → before + all_workers size ≡ i → IsSome (start_of notes before)
 
 -- ---- the requests
 
@@ -44,47 +64,112 @@ pub record IsOpen (notes : List Note) (worker number : ℕ) : Type 0 where
   pub sent : IsSome (first_in (sent_in worker number) notes)
   pub open_yet : fate_of notes worker number ≡ None
 
--- a request after which its part may be sent again: it was not handed to the wire, or was answered by a retry status
-abbrev pub IsOver : Option (Option Reply) → Type 0
-IsOver None = ⊥
-IsOver (Some None) = Unit {0}
-IsOver (Some (Some reply)) = is_retry reply.status reply.nack ≡ true
+-- the worker that a note says to have used this number at this bind
+abbrev pub user_in : RunSize → ℕ → ℕ → Note → Option ℕ
+user_in size bind number (Begun m) = None
+user_in size bind number (Sent request m p) = if bind_of size request.worker == bind && (request.number == number) then Some request.worker else None
+user_in size bind number (Unsent request) = None
+user_in size bind number (Heard by reply) = None
+user_in size bind number (Refused m refusal) = None
+user_in size bind number (End status) = None
 
--- so is each request of the part
-abbrev pub MayTry : List Note → ℕ → ℕ → Type 0
-MayTry notes m p = (k : ℕ) (request : RequestId) → slice_get notes k ≡ Some (Sent request m p) → IsOver (fate_of notes request.worker request.number)
+-- what the first such note says
+abbrev pub user_of : RunSize → List Note → ℕ → ℕ → Option ℕ
+user_of size notes bind number = first_in (user_in size bind number) notes
 
 -- the number is above that of each request of its worker
 abbrev pub IsAbove : List Note → RequestId → Type 0
 IsAbove notes request = (k : ℕ) (other : RequestId) (m p : ℕ) → slice_get notes k ≡ Some (Sent other m p) → other.worker ≡ request.worker → other.number < request.number
 
--- ---- the journal
+-- a sequence_number for a new request (SMPP 3.4 5.1.4): above those of its worker, and unused at its bind
+pub record IsNewNumber (size : RunSize) (notes : List Note) (request : RequestId) : Type 0 where
+  pub from : 1 ≤ request.number
+  pub to : request.number ≤ top_number
+  pub above : IsAbove notes request
+  pub unused : user_of size notes (bind_of size request.worker) request.number ≡ None
 
--- a request for a part of a message that was begun
-pub record MaySend (rules : Rules) (accounts : ℕ) (ms : List Message) (notes : List Note) (request : RequestId) (i p : ℕ) : Type 0 where
+-- a request after which its part may be sent again: it was answered by a retry status
+abbrev pub IsRetried : Option (Option Reply) → Type 0
+IsRetried None = ⊥
+IsRetried (Some None) = ⊥
+IsRetried (Some (Some reply)) = is_retry reply.status reply.nack ≡ true
+
+-- the request for this part that a note is of, and all of them
+abbrev pub requests_in : ℕ → ℕ → Note → List RequestId
+requests_in m p (Begun m') = []
+requests_in m p (Sent request m' p') = if m' == m && (p' == p) then request ∷ [] else []
+requests_in m p (Unsent request) = []
+requests_in m p (Heard by reply) = []
+requests_in m p (Refused m' refusal) = []
+requests_in m p (End status) = []
+
+abbrev pub requests_of : List Note → ℕ → ℕ → List RequestId
+requests_of notes m p = flat_map (requests_in m p) notes
+
+-- the part was sent less often than the rules allow, and may be sent again after each request for it
+pub record MayTry (rules : Rules) (notes : List Note) (m p : ℕ) : Type 0 where
+  pub few : length (requests_of notes m p) < rules.policy.attempts
+  pub retried : (k : ℕ) (request : RequestId) → slice_get notes k ≡ Some (Sent request m p) → IsRetried (fate_of notes request.worker request.number)
+
+-- a request for a part of a message that was begun, by the worker that the message was dealt to
+pub record MaySend (rules : Rules) (size : RunSize) (ms : List Message) (notes : List Note) (request : RequestId) (i p : ℕ) : Type 0 where
   pub begun : start_of notes i ≡ Some None
+  pub dealt : IsDealt size i request.worker
   pub count : ℕ
-  pub parts : HasParts rules accounts ms i count
+  pub parts : HasParts rules size ms i count
   pub from : 1 ≤ p
   pub to : p ≤ count
-  pub above : IsAbove notes request
-  pub again : MayTry notes i p
+  pub number : IsNewNumber size notes request
+  pub again : MayTry rules notes i p
 
-abbrev pub MayFollow : Rules → ℕ → List Message → List Note → Note → Type 0
-MayFollow rules accounts ms notes (Begun i) = (start_of notes i ≡ None) × ((count : ℕ) × HasParts rules accounts ms i count)
-MayFollow rules accounts ms notes (Sent request i p) = MaySend rules accounts ms notes request i p
-MayFollow rules accounts ms notes (Unsent request) = IsOpen notes request.worker request.number
-MayFollow rules accounts ms notes (Heard by reply) = IsOpen notes by reply.number
-MayFollow rules accounts ms notes (Refused i refusal) = (start_of notes i ≡ None) × IsSome (message_of ms i)
-MayFollow rules accounts ms notes (End status) = Unit {0}
+-- ---- the end
+
+-- the exit status by a note of the run's end, and by the first
+abbrev pub end_in : Note → Option ℕ
+end_in (Begun m) = None
+end_in (Sent request m p) = None
+end_in (Unsent request) = None
+end_in (Heard by reply) = None
+end_in (Refused m refusal) = None
+end_in (End status) = Some status
+
+abbrev pub end_of : List Note → Option ℕ
+end_of notes = first_in end_in notes
+
+-- the exit status of a run with these ends: 4 where a part is unanswered, else 0, or 5 of a strict run that didn't send each message whole
+abbrev pub IsStatusOf : List (MessageEnd (Unit {0})) → ℕ → Type 0
+IsStatusOf ends status = (status ≡ ends_status ends) ⊎ ((status ≡ 5) × (ends_status ends ≡ 0) × (are_whole ends ≡ false))
+
+-- the run may end with this status: each message was begun or refused, and the status is by what became of them
+pub record MayEnd (rules : Rules) (ms : List Message) (notes : List Note) (status : ℕ) : Type 0 where
+  pub started : (k : ℕ) (m : Message) → slice_get ms k ≡ Some m → IsSome (start_of notes m.index)
+  pub ends : List (MessageEnd (Unit {0}))
+  pub are : AllZip (IsRecoveredEnd rules notes) ms ends
+  pub status_is : IsStatusOf ends status
+
+-- ---- the journal
+
+-- what a note asks while the run goes on
+abbrev pub Follows : Rules → RunSize → List Message → List Note → Note → Type 0
+Follows rules size ms notes (Begun i) = HasTurn size notes i × ((count : ℕ) × HasParts rules size ms i count)
+Follows rules size ms notes (Sent request i p) = MaySend rules size ms notes request i p
+Follows rules size ms notes (Unsent request) = IsOpen notes request.worker request.number
+Follows rules size ms notes (Heard by reply) = IsOpen notes by reply.number
+Follows rules size ms notes (Refused i refusal) = HasTurn size notes i × HasRefusal rules size ms i refusal
+Follows rules size ms notes (End status) = MayEnd rules ms notes status
+
+-- no note stands behind the run's end
+pub record MayFollow (rules : Rules) (size : RunSize) (ms : List Message) (notes : List Note) (n : Note) : Type 0 where
+  pub going_on : end_of notes ≡ None
+  pub follows : Follows rules size ms notes n
 
 -- each note may follow those before it
-abbrev pub IsJournal : Rules → ℕ → List Message → List Note → Type 0
-IsJournal rules accounts ms notes = (k : ℕ) (n : Note) → slice_get notes k ≡ Some n → MayFollow rules accounts ms (take k notes) n
+abbrev pub IsJournal : Rules → RunSize → List Message → List Note → Type 0
+IsJournal rules size ms notes = (k : ℕ) (n : Note) → slice_get notes k ≡ Some n → MayFollow rules size ms (take k notes) n
 
 -- the first that may not has this place
-pub record IsFirstFault (rules : Rules) (accounts : ℕ) (ms : List Message) (notes : List Note) (k : ℕ) : Type 0 where
-  pub front : IsJournal rules accounts ms (take k notes)
+pub record IsFirstFault (rules : Rules) (size : RunSize) (ms : List Message) (notes : List Note) (k : ℕ) : Type 0 where
+  pub front : IsJournal rules size ms (take k notes)
   pub note : Note
   pub there : slice_get notes k ≡ Some note
-  pub refused : ¬ MayFollow rules accounts ms (take k notes) note
+  pub refused : ¬ MayFollow rules size ms (take k notes) note

@@ -12,6 +12,7 @@ use Rattle.sms_journal.specs.declared.notes.note.Note.{Note}
 use Rattle.sms_journal.specs.declared.notes.note.Note.TheVariants.{Sent, Heard}
 use Rattle.sms_message.specs.declared.ends.SegmentEnd.{SegmentEnd}
 use Rattle.sms_message.specs.declared.ends.MessageEnd.{MessageEnd}
+use Rattle.sms_journal.specs.declared.notes.run_size.RunSize.{RunSize}
 use Rattle.sms_journal.specs.Lawful.{IsJournal}
 use Rattle.sms_journal.specs.Recovered.{answers_of, IsRecoveredSegment, IsRecoveredEnd}
 use Rattle.sms_journal.specs.Lines.{AreNotes, IsNote, IsU64}
@@ -56,7 +57,7 @@ pub record HasChargedPart (parts : List (SegmentEnd (Unit {0}))) (p : ℕ) : Typ
 -- what the first notes of a lawful journal charge, the whole journal charges
 abbrev pub ChargesStayCharges : Type 0
 ChargesStayCharges =
-    (rules : Rules) (accounts : ℕ) (ms : List Message) (notes later : List Note) (m : Message) (e f : MessageEnd (Unit {0})) (p : ℕ) → IsJournal rules accounts ms (notes ++ later)
+    (rules : Rules) (size : RunSize) (ms : List Message) (notes later : List Note) (m : Message) (e f : MessageEnd (Unit {0})) (p : ℕ) → IsJournal rules size ms (notes ++ later)
     → IsRecoveredEnd rules notes m e → IsRecoveredEnd rules (notes ++ later) m f → HasChargedPart (parts_in e.result) p → HasChargedPart (parts_in f.result) p
 
 -- the lines of two notes differ, and those of one note at two times
@@ -77,4 +78,4 @@ HeadersAreOfOneJournal =
 
 -- the first notes of a lawful journal are a lawful journal
 abbrev pub FrontsAreLawful : Type 0
-FrontsAreLawful = (rules : Rules) (accounts : ℕ) (ms : List Message) (notes later : List Note) → IsJournal rules accounts ms (notes ++ later) → IsJournal rules accounts ms notes
+FrontsAreLawful = (rules : Rules) (size : RunSize) (ms : List Message) (notes later : List Note) → IsJournal rules size ms (notes ++ later) → IsJournal rules size ms notes

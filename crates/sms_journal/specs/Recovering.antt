@@ -13,6 +13,7 @@ use Rattle.sms_journal.specs.declared.text.header.Digests.{Digests}
 use Rattle.sms_journal.specs.declared.text.header.JournalKind.{JournalKind}
 use Rattle.sms_journal.specs.declared.text.header.JournalKind.TheVariants.{Trial}
 use Rattle.sms_journal.specs.declared.notes.note.Note.{Note}
+use Rattle.sms_journal.specs.declared.notes.run_size.RunSize.{RunSize}
 use Rattle.sms_message.specs.declared.ends.MessageEnd.{MessageEnd}
 use Rattle.sms_journal.specs.Digests.{digests_of}
 use Rattle.sms_journal.specs.Lawful.{IsFirstFault, IsJournal}
@@ -36,56 +37,60 @@ pub record AreRecoveredRows (openings : List Opening) (ms : List Message) (ends 
   pub balanced : (i : ℕ) (row : Row) → slice_get rows i ≡ Some row → IsBalanced row
 
 -- what a run of these messages would have reported that can have noted this, if all its lines had gone down then
-pub record IsRecovered (rules : Rules) (openings : List Opening) (ms : List Message) (notes : List Note) (ends : List (MessageEnd (Unit {0}))) (rows : List Row) : Type 0 where
-  pub lawful : IsJournal rules (length openings) ms notes
+pub record IsRecovered (rules : Rules) (size : RunSize) (openings : List Opening) (ms : List Message) (notes : List Note) (ends : List (MessageEnd (Unit {0}))) (rows : List Row) : Type 0 where
+  pub lawful : IsJournal rules size ms notes
   pub tells : AllZip (IsRecoveredEnd rules notes) ms ends
   pub rows_are : AreRecoveredRows openings ms ends rows
 
 -- the report of that was written, and nothing else, and the status is by it
-pub record Recovers (rules : Rules) (openings : List Opening) (ms : List Message) (notes : List Note) (old new : Option (List ℕ)) (status : ℕ) : Type 0 where
+pub record Recovers (rules : Rules) (size : RunSize) (openings : List Opening) (ms : List Message) (notes : List Note) (old new : Option (List ℕ)) (status : ℕ) : Type 0 where
   pub ends : List (MessageEnd (Unit {0}))
   pub rows : List Row
-  pub is : IsRecovered rules openings ms notes ends rows
+  pub is : IsRecovered rules size openings ms notes ends rows
   pub written : Appends old new (report_of openings ends rows)
   pub status_is : status ≡ ends_status ends
 
 -- the notes are not those of a run: the first that isn't stands in this record, after the header
-abbrev pub IsFaultOfNotes : Rules → ℕ → List Message → List Note → RecoveryFault → Type 0
-IsFaultOfNotes rules accounts ms notes fault = (fault ≡ OutOfMemory) ⊎ ((k : ℕ) × (fault ≡ Journal (k + 2)) × IsFirstFault rules accounts ms notes k)
+abbrev pub IsFaultOfNotes : Rules → RunSize → List Message → List Note → RecoveryFault → Type 0
+IsFaultOfNotes rules size ms notes fault = (fault ≡ OutOfMemory) ⊎ ((k : ℕ) × (fault ≡ Journal (k + 2)) × IsFirstFault rules size ms notes k)
 
 -- the ends that they say are not covered by the accounts
-pub record IsOverdrawn (rules : Rules) (openings : List Opening) (ms : List Message) (notes : List Note) : Type 0 where
-  pub lawful : IsJournal rules (length openings) ms notes
+pub record IsOverdrawn (rules : Rules) (size : RunSize) (openings : List Opening) (ms : List Message) (notes : List Note) : Type 0 where
+  pub lawful : IsJournal rules size ms notes
   pub ends : List (MessageEnd (Unit {0}))
   pub tells : AllZip (IsRecoveredEnd rules notes) ms ends
   pub overdrawn : ¬ AreCovered openings ms ends
 
 -- the output failed after part of the report
-pub record IsCutOff (rules : Rules) (openings : List Opening) (ms : List Message) (notes : List Note) (old new : Option (List ℕ)) : Type 0 where
+pub record IsCutOff (rules : Rules) (size : RunSize) (openings : List Opening) (ms : List Message) (notes : List Note) (old new : Option (List ℕ)) : Type 0 where
   pub ends : List (MessageEnd (Unit {0}))
   pub rows : List Row
-  pub is : IsRecovered rules openings ms notes ends rows
+  pub is : IsRecovered rules size openings ms notes ends rows
   pub front : WritesFront old new (report_of openings ends rows)
 
 -- what a fault says of notes
-abbrev pub IsFaultOfRecovery : Rules → List Opening → List Message → List Note → Option (List ℕ) → Option (List ℕ) → RecoveryFault → Type 0
-IsFaultOfRecovery rules openings ms notes old new fault =
-    IsFaultOfNotes rules (length openings) ms notes fault
-    ⊎ ((fault ≡ Overdrawn) × IsOverdrawn rules openings ms notes)
-    ⊎ ((fault ≡ output_failed) × IsCutOff rules openings ms notes old new)
+abbrev pub IsFaultOfRecovery : Rules → RunSize → List Opening → List Message → List Note → Option (List ℕ) → Option (List ℕ) → RecoveryFault → Type 0
+IsFaultOfRecovery rules size openings ms notes old new fault =
+    IsFaultOfNotes rules size ms notes fault
+    ⊎ ((fault ≡ Overdrawn) × IsOverdrawn rules size openings ms notes)
+    ⊎ ((fault ≡ output_failed) × IsCutOff rules size openings ms notes old new)
 
 -- ---- of an input
+
+-- how large a run of this input is
+abbrev pub size_of : TheInput → RunSize
+size_of input = record { accounts = length input.openings.items; binds = input.config.limits.binds; workers = input.config.limits.workers }
 
 -- the rules are those of the input
 pub record RecoversInput (input : TheInput) (notes : List Note) (old new : Option (List ℕ)) (status : ℕ) : Type 0 where
   pub rules : Rules
   pub says : IsRulesOf input.config.retry input.config.limits input.config.flags input.tariff 0 rules
-  pub recovers : Recovers rules input.openings.items input.messages.items notes old new status
+  pub recovers : Recovers rules (size_of input) input.openings.items input.messages.items notes old new status
 
 pub record IsFaultOfInput (input : TheInput) (notes : List Note) (old new : Option (List ℕ)) (fault : RecoveryFault) : Type 0 where
   pub rules : Rules
   pub says : IsRulesOf input.config.retry input.config.limits input.config.flags input.tariff 0 rules
-  pub tells : IsFaultOfRecovery rules input.openings.items input.messages.items notes old new fault
+  pub tells : IsFaultOfRecovery rules (size_of input) input.openings.items input.messages.items notes old new fault
 
 -- ---- of a journal
 

@@ -6,6 +6,7 @@ use Rattle.sms_book.specs.declared.opening.Opening.{Opening}
 use Rattle.sms_message.specs.declared.message.Message.{Message}
 use Rattle.sms_message.specs.declared.rules.Rules.{Rules}
 use Rattle.sms_journal.specs.declared.notes.note.Note.{Note}
+use Rattle.sms_journal.specs.declared.notes.run_size.RunSize.{RunSize}
 use Rattle.sms_message.specs.declared.ends.MessageEnd.{MessageEnd}
 use Rattle.sms_journal.specs.Recovered.{IsRecoveredEnd}
 use Rattle.sms_journal.specs.Sums.{end_without_evidence}
@@ -23,12 +24,12 @@ StatusesAgree = (ends : List (MessageEnd (List ℕ))) → ends_status (map end_w
 -- where notes give the ends and the rows of a run, the report that is recovered from them is the run's
 abbrev pub RunsAreRecovered : Type 0
 RunsAreRecovered =
-    (rules : Rules) (os : List Opening) (ms : List Message) (notes : List Note) (found : List (MessageEnd (Unit {0}))) (rows : List Row) (ends : List (MessageEnd (List ℕ))) (statement : List Row)
-    → IsRecovered rules os ms notes found rows → AllZip (IsRecoveredEnd rules notes) ms (map end_without_evidence ends) → AreRecoveredRows os ms (map end_without_evidence ends) statement
+    (rules : Rules) (size : RunSize) (os : List Opening) (ms : List Message) (notes : List Note) (found : List (MessageEnd (Unit {0}))) (rows : List Row) (ends : List (MessageEnd (List ℕ))) (statement : List Row)
+    → IsRecovered rules size os ms notes found rows → AllZip (IsRecoveredEnd rules notes) ms (map end_without_evidence ends) → AreRecoveredRows os ms (map end_without_evidence ends) statement
     → report_of os found rows ≡ report_of os ends statement
 
 -- in each row of what is recovered no more is reserved and charged than the account opened with
 abbrev pub NoAccountIsOverdrawn : Type 0
 NoAccountIsOverdrawn =
-    (rules : Rules) (os : List Opening) (ms : List Message) (notes : List Note) (found : List (MessageEnd (Unit {0}))) (rows : List Row) → IsRecovered rules os ms notes found rows
+    (rules : Rules) (size : RunSize) (os : List Opening) (ms : List Message) (notes : List Note) (found : List (MessageEnd (Unit {0}))) (rows : List Row) → IsRecovered rules size os ms notes found rows
     → (i : ℕ) (row : Row) (o : Opening) → slice_get rows i ≡ Some row → slice_get os i ≡ Some o → row.reserved + row.charged ≤ o.credits

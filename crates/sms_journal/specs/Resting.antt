@@ -4,20 +4,22 @@ use Rattle.std.specs.Io.KnownBytes.{Appends}
 use Rattle.sms_files.specs.Fields.{records_of}
 use Rattle.sms_files.specs.declared.input.Input.{Input as TheInput}
 use Rattle.sms_journal.specs.Files.{IsCut, Reads, IsFaultOfFiles}
-use Rattle.sms_journal.specs.Plans.{plans_of}
+use Rattle.sms_journal.specs.Plans.{ArePlans}
 use Rattle.sms_journal.specs.Rest.{rest_accounts_of, rest_of}
 use Rattle.sms_journal.specs.Stages.{IsFirstFaulty, IsReport}
 use Rattle.sms_journal.specs.declared.recovery.fault.RecoveryFault.{RecoveryFault}
+use Rattle.sms_journal.specs.declared.rest.plan.Plan.{Plan}
 use Rattle.sms_journal.specs.declared.recovery.fault.RecoveryFault.TheVariants.{OutOfMemory, Report}
 
 -- the octets are a report of this input's messages and accounts
 abbrev pub IsReportOf : TheInput → List ℕ → Type 0
-IsReportOf input report = IsReport (plans_of input) input.openings.items (records_of report)
+IsReportOf input report = (plans : List Plan) × ArePlans input plans × IsReport input.config.retry.policy.attempts plans input.openings.items (records_of report)
 
 -- they aren't: this record is the first that is faulty or missing
 abbrev pub IsFaultOfReport : TheInput → List ℕ → RecoveryFault → Type 0
 IsFaultOfReport input report fault =
-    (fault ≡ OutOfMemory) ⊎ ((k : ℕ) × (fault ≡ Report k) × IsFirstFaulty (plans_of input) input.openings.items (records_of report) k)
+    (fault ≡ OutOfMemory)
+    ⊎ ((plans : List Plan) × (k : ℕ) × ArePlans input plans × (fault ≡ Report k) × IsFirstFaulty input.config.retry.policy.attempts plans input.openings.items (records_of report) k)
 
 -- the files were read
 abbrev pub IsFaultOfReported : List ℕ → List ℕ → List ℕ → Option (List ℕ) → List ℕ → RecoveryFault → Type 0

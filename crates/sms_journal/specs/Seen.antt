@@ -1,14 +1,16 @@
 -- What a checker of notes keeps of those that it has seen.
-use Rattle.std.specs.Prelude.{◌≡◌, ◌⊎◌, ℕ, ◌+◌, ◌*◌, ◌<◌, ◌≤◌, ◌==◌, ◌&&◌, nat_eq, List, Option, Some, None, slice_get, if◌then◌else◌}
+use Rattle.std.specs.Prelude.{◌≡◌, ◌⊎◌, ℕ, ◌+◌, ◌-◌, ◌*◌, ◌<◌, ◌≤◌, ◌==◌, ◌&&◌, nat_eq, List, [], length, Option, Some, None, slice_get, if◌then◌else◌}
 use Rattle.std.specs.HashMap.{HashMap, get}
 use Rattle.sms_message.specs.declared.message.Message.{Message}
 use Rattle.sms_message.specs.declared.rules.Rules.{Rules}
 use Rattle.sms_journal.specs.declared.notes.note.RequestId.{RequestId}
 use Rattle.sms_journal.specs.declared.notes.note.Note.{Note}
 use Rattle.sms_journal.specs.declared.notes.note.Note.TheVariants.{Begun, Sent, Unsent, Heard, Refused, End}
+use Rattle.sms_journal.specs.declared.notes.run_size.RunSize.{RunSize}
 use Rattle.sms_journal.specs.declared.notes.seen.Seen.{Seen}
+use Rattle.sms_journal.specs.declared.notes.seen.Tries.{Tries}
 use Rattle.sms_journal.specs.Index.{AreFates}
-use Rattle.sms_journal.specs.Lawful.{HasParts, IsOver, message_of, sent_in}
+use Rattle.sms_journal.specs.Lawful.{HasParts, IsRetried, end_in, end_of, message_of, requests_of, sent_in, user_in, user_of}
 use Rattle.sms_journal.specs.Recovered.{or_else, fate_in, fate_of, first_in, start_in, start_of}
 
 -- ---- messages by their indexes
@@ -32,14 +34,19 @@ latest_in worker (Heard by reply) kept = kept
 latest_in worker (Refused m refusal) kept = kept
 latest_in worker (End status) kept = kept
 
--- the latest request of a part
-abbrev pub attempt_in_note : ℕ → ℕ → Note → Option RequestId → Option RequestId
-attempt_in_note m p (Begun m') kept = kept
-attempt_in_note m p (Sent request m' p') kept = if m' == m && (p' == p) then Some request else kept
-attempt_in_note m p (Unsent request) kept = kept
-attempt_in_note m p (Heard by reply) kept = kept
-attempt_in_note m p (Refused m' refusal) kept = kept
-attempt_in_note m p (End status) kept = kept
+-- how often a part may be sent yet, before another request for it
+abbrev pub left_by : ℕ → Option Tries → ℕ
+left_by attempts None = attempts
+left_by attempts (Some tries) = tries.left
+
+-- the latest request of a part, and how often it may be sent after that
+abbrev pub tries_in : ℕ → ℕ → ℕ → Note → Option Tries → Option Tries
+tries_in attempts m p (Begun m') kept = kept
+tries_in attempts m p (Sent request m' p') kept = if m' == m && (p' == p) then Some (record { last = request; left = left_by attempts kept - 1 }) else kept
+tries_in attempts m p (Unsent request) kept = kept
+tries_in attempts m p (Heard by reply) kept = kept
+tries_in attempts m p (Refused m' refusal) kept = kept
+tries_in attempts m p (End status) kept = kept
 
 -- how many parts a message has that was begun
 abbrev pub count_in : ℕ → ℕ → Note → Option ℕ → Option ℕ
@@ -67,43 +74,52 @@ abbrev pub IsLatest : List Note → ℕ → Option ℕ → Type 0
 IsLatest notes worker None = (k : ℕ) (request : RequestId) (m p : ℕ) → slice_get notes k ≡ Some (Sent request m p) → request.worker ≡ worker → ⊥
 IsLatest notes worker (Some number) = IsGreatest notes worker number
 
--- each request of the part but this one is over
+-- there is no request for the part
+pub record IsUntried (notes : List Note) (m p : ℕ) : Type 0 where
+  pub none : requests_of notes m p ≡ []
+  pub nowhere : (k : ℕ) (request : RequestId) → slice_get notes k ≡ Some (Sent request m p) → ⊥
+
+-- each request for the part but this one was answered by a retry status
 pub record IsLast (notes : List Note) (m p : ℕ) (request : RequestId) : Type 0 where
   pub place : ℕ
   pub there : slice_get notes place ≡ Some (Sent request m p)
-  pub others : (k : ℕ) (other : RequestId) → slice_get notes k ≡ Some (Sent other m p) → (other ≡ request) ⊎ IsOver (fate_of notes other.worker other.number)
+  pub others : (k : ℕ) (other : RequestId) → slice_get notes k ≡ Some (Sent other m p) → (other ≡ request) ⊎ IsRetried (fate_of notes other.worker other.number)
 
-abbrev pub IsLastTry : List Note → ℕ → ℕ → Option RequestId → Type 0
-IsLastTry notes m p None = (k : ℕ) (request : RequestId) → slice_get notes k ≡ Some (Sent request m p) → ⊥
-IsLastTry notes m p (Some request) = IsLast notes m p request
+abbrev pub AreTries : Rules → List Note → ℕ → ℕ → Option Tries → Type 0
+AreTries rules notes m p None = IsUntried notes m p
+AreTries rules notes m p (Some tries) = IsLast notes m p tries.last × (tries.left ≡ rules.policy.attempts - length (requests_of notes m p))
 
-abbrev pub IsCounted : Rules → ℕ → List Message → ℕ → Option ℕ → Type 0
-IsCounted rules accounts ms i None = ⊥
-IsCounted rules accounts ms i (Some count) = HasParts rules accounts ms i count
+abbrev pub IsCounted : Rules → RunSize → List Message → ℕ → Option ℕ → Type 0
+IsCounted rules size ms i None = ⊥
+IsCounted rules size ms i (Some count) = HasParts rules size ms i count
 
 -- a worker's number and a part's are below 2^32 and 2^8, so that keys are distinct
-pub record Sees (rules : Rules) (accounts : ℕ) (ms : List Message) (notes : List Note) (seen : Seen) : Type 0 where
+pub record Sees (rules : Rules) (size : RunSize) (ms : List Message) (notes : List Note) (seen : Seen) : Type 0 where
   pub starts : (i : ℕ) → get nat_eq seen.starts i ≡ start_of notes i
-  pub counts : (i : ℕ) → start_of notes i ≡ Some None → IsCounted rules accounts ms i (get nat_eq seen.counts i)
+  pub counts : (i : ℕ) → start_of notes i ≡ Some None → IsCounted rules size ms i (get nat_eq seen.counts i)
   pub sent : (worker number : ℕ) → number < 4294967296 → get nat_eq seen.sent (worker * 4294967296 + number) ≡ first_in (sent_in worker number) notes
   pub fates : AreFates notes seen.fates
   pub latest : (worker : ℕ) → IsLatest notes worker (get nat_eq seen.latest worker)
-  pub attempts : (m p : ℕ) → p < 256 → IsLastTry notes m p (get nat_eq seen.attempts (m * 256 + p))
+  pub users : (bind number : ℕ) → number < 4294967296 → get nat_eq seen.users (bind * 4294967296 + number) ≡ user_of size notes bind number
+  pub tries : (m p : ℕ) → p < 256 → AreTries rules notes m p (get nat_eq seen.tries (m * 256 + p))
+  pub end : seen.end ≡ end_of notes
 
 -- the count that is kept with the note of a message's beginning
-abbrev pub IsCountFor : Rules → ℕ → List Message → Note → ℕ → Type 0
-IsCountFor rules accounts ms (Begun i) count = HasParts rules accounts ms i count
-IsCountFor rules accounts ms (Sent request i p) count = Unit {0}
-IsCountFor rules accounts ms (Unsent request) count = Unit {0}
-IsCountFor rules accounts ms (Heard by reply) count = Unit {0}
-IsCountFor rules accounts ms (Refused i refusal) count = Unit {0}
-IsCountFor rules accounts ms (End status) count = Unit {0}
+abbrev pub IsCountFor : Rules → RunSize → List Message → Note → ℕ → Type 0
+IsCountFor rules size ms (Begun i) count = HasParts rules size ms i count
+IsCountFor rules size ms (Sent request i p) count = Unit {0}
+IsCountFor rules size ms (Unsent request) count = Unit {0}
+IsCountFor rules size ms (Heard by reply) count = Unit {0}
+IsCountFor rules size ms (Refused i refusal) count = Unit {0}
+IsCountFor rules size ms (End status) count = Unit {0}
 
 -- each map as it was with what the note makes of it
-pub record IsKept (n : Note) (count : ℕ) (old new : Seen) : Type 0 where
+pub record IsKept (rules : Rules) (size : RunSize) (n : Note) (count : ℕ) (old new : Seen) : Type 0 where
   pub starts : (i : ℕ) → get nat_eq new.starts i ≡ or_else (get nat_eq old.starts i) (start_in i n)
   pub counts : (i : ℕ) → get nat_eq new.counts i ≡ count_in count i n (get nat_eq old.counts i)
   pub sent : (w k : ℕ) → k < 4294967296 → get nat_eq new.sent (w * 4294967296 + k) ≡ or_else (get nat_eq old.sent (w * 4294967296 + k)) (sent_in w k n)
   pub fates : (w k : ℕ) → k < 4294967296 → get nat_eq new.fates (w * 4294967296 + k) ≡ or_else (get nat_eq old.fates (w * 4294967296 + k)) (fate_in w k n)
   pub latest : (w : ℕ) → get nat_eq new.latest w ≡ latest_in w n (get nat_eq old.latest w)
-  pub attempts : (m p : ℕ) → p < 256 → get nat_eq new.attempts (m * 256 + p) ≡ attempt_in_note m p n (get nat_eq old.attempts (m * 256 + p))
+  pub users : (b k : ℕ) → k < 4294967296 → get nat_eq new.users (b * 4294967296 + k) ≡ or_else (get nat_eq old.users (b * 4294967296 + k)) (user_in size b k n)
+  pub tries : (m p : ℕ) → p < 256 → get nat_eq new.tries (m * 256 + p) ≡ tries_in rules.policy.attempts m p n (get nat_eq old.tries (m * 256 + p))
+  pub end : new.end ≡ or_else old.end (end_in n)

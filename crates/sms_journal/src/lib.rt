@@ -7,11 +7,11 @@ mod error;
 pub mod laws;
 mod notes;
 pub mod recovery;
-mod rest;
+pub mod rest;
 mod text;
 
 pub use error::JournalError;
-pub use notes::{Note, RequestId, check_notes, recover, recovered_rows};
+pub use notes::{Note, RequestId, RunSize, check_notes, recover, recovered_rows};
 pub use recovery::{Recovered, RecoveryFault, run_recover};
 pub use rest::{run_rest, run_rest_accounts};
 pub use text::{

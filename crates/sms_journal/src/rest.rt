@@ -1,6 +1,8 @@
 //! The messages that a run did not send, by its report: a messages file and an accounts file for another
 //! run. Each is formed whole before its first octet is written.
 
+mod account_rows;
+pub mod laws;
 mod left;
 mod plan;
 mod printing;

@@ -5,7 +5,7 @@ mod reading;
 mod recovery;
 
 use sms_book::{Opening, Tariff};
-use sms_journal::{JournalError, Note, RequestId, check_notes, recover, recovered_rows};
+use sms_journal::{JournalError, Note, RequestId, RunSize, check_notes, recover, recovered_rows};
 use sms_message::{Message, MessageEnd, MessageRefusal, MessageResult, Outcome, Rules};
 use sms_pdu::{MessageId, Reply};
 use sms_session::Policy;
@@ -25,7 +25,7 @@ const THROTTLED: u32 = 0x58;
 
 const SYSTEM_ERROR: u32 = 8;
 
-/// A note, as a table can hold it: requests are those of worker 7.
+/// A note, as a table can hold it: requests are those of the one worker.
 #[derive(Clone, Copy)]
 enum Row {
     Begun(u64),
@@ -43,6 +43,13 @@ enum Shown {
     Refused(MessageRefusal),
     Other,
 }
+
+/// One account, and one worker at one bind.
+const SIZE: RunSize = RunSize {
+    accounts: 1,
+    binds: 1,
+    workers: 1,
+};
 
 /// A journal of two messages: the place of the first note that doesn't follow, and the ends of both.
 struct Case {
@@ -81,13 +88,14 @@ const CASES: [Case; 15] = [
     },
     Case {
         rows: &[
+            Row::Refused(0),
             Row::Begun(1),
             Row::Sent(1, 1, 1),
             Row::Heard(1, OK, false),
             Row::End,
         ],
         fault: None,
-        first: CLOSED,
+        first: Shown::Refused(MessageRefusal::NoCredit),
         second: Shown::Part(Outcome::Charged, 1),
     },
     // A generic_nack charges nothing, whatever its status.
@@ -184,7 +192,7 @@ fn note_of(row: Row) -> Note {
         Row::Sent(number, message, part) => Note::Sent(request_of(number), message, part),
         Row::Unsent(number) => Note::Unsent(request_of(number)),
         Row::Heard(number, status, nack) => Note::Heard(
-            7,
+            0,
             Reply {
                 number,
                 status,
@@ -198,7 +206,7 @@ fn note_of(row: Row) -> Note {
 }
 
 fn request_of(number: u32) -> RequestId {
-    RequestId { worker: 7, number }
+    RequestId { worker: 0, number }
 }
 
 fn notes_of(alloc: Global, rows: &[Row]) -> Result<Vec<Note>, AllocError> {
@@ -272,7 +280,7 @@ fn check_case(
     case: &Case,
 ) -> Result<(), AllocError> {
     let notes = notes_of(alloc, case.rows)?;
-    let checked = check_notes(alloc, messages, rules, 1, notes.as_slice());
+    let checked = check_notes(alloc, messages, rules, SIZE, notes.as_slice());
     same(rt, fault_of(rt, checked), case.fault);
     let ends = recover(alloc, messages, rules, notes.as_slice())?;
     same(rt, shown_at(ends.as_slice(), 0), case.first);

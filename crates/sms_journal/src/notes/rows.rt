@@ -30,44 +30,23 @@ fn with_part(sums: Sums, part: &SegmentEnd<()>) -> Option<Sums>
     ensures returned { IfSome result (λ new. new.returned ≡ sums.returned + returned_of (phase_of part.now.outcome) part.now.cost) }
     ensures none { IsNone result → ¬ Fits (part.now ∷ []) sums }
 {
-    let Sums {
-        reserved,
-        charged,
-        returned,
-    } = sums;
     let cost = u64::from(part.cost);
     match part.outcome {
         Outcome::Charged => {
-            let charged = charged.checked_add(cost)?;
-            Some(Sums {
-                reserved,
-                charged,
-                returned,
-            })
+            let charged = sums.charged.checked_add(cost)?;
+            Some(Sums { charged, ..sums })
         }
         Outcome::Unanswered => {
-            let reserved = reserved.checked_add(cost)?;
-            Some(Sums {
-                reserved,
-                charged,
-                returned,
-            })
+            let reserved = sums.reserved.checked_add(cost)?;
+            Some(Sums { reserved, ..sums })
         }
         Outcome::Refused => {
-            let returned = returned.checked_add(cost)?;
-            Some(Sums {
-                reserved,
-                charged,
-                returned,
-            })
+            let returned = sums.returned.checked_add(cost)?;
+            Some(Sums { returned, ..sums })
         }
         Outcome::Unsent => {
-            let returned = returned.checked_add(cost)?;
-            Some(Sums {
-                reserved,
-                charged,
-                returned,
-            })
+            let returned = sums.returned.checked_add(cost)?;
+            Some(Sums { returned, ..sums })
         }
     }
 }

@@ -11,7 +11,7 @@ ghost use Rattle.sms_journal.specs.Faults.{output_failed};
 ghost use Rattle.sms_journal.specs.declared.recovery.fault.RecoveryFault.TheVariants.{Journal, OutOfMemory, Overdrawn};
 
 use crate::error::JournalError;
-use crate::notes::{Note, check_notes, recover, recovered_rows};
+use crate::notes::{Note, RunSize, check_notes, recover, recovered_rows};
 use crate::recovery::fault::RecoveryFault;
 use sms_book::Opening;
 use sms_core::Row;
@@ -34,14 +34,14 @@ fn fault_at(place: usize) -> RecoveryFault
 fn checked(
     alloc: Global,
     rules: &Rules,
-    accounts: usize,
+    size: RunSize,
     messages: &[Message],
     notes: &[Note],
 ) -> Result<(), RecoveryFault>
-    ensures lawful { OnOk result (IsJournal rules.now accounts messages.now notes.now) }
-    ensures refused { IfErr result (IsFaultOfNotes rules.now accounts messages.now notes.now) }
+    ensures lawful { OnOk result (IsJournal rules.now size messages.now notes.now) }
+    ensures refused { IfErr result (IsFaultOfNotes rules.now size messages.now notes.now) }
 {
-    match check_notes(alloc, messages, rules, accounts, notes) {
+    match check_notes(alloc, messages, rules, size, notes) {
         Ok(()) => Ok(()),
         Err(JournalError::BadNote(place)) => Err(fault_at(place)),
         Err(_) => Err(RecoveryFault::OutOfMemory),
@@ -84,21 +84,22 @@ fn print_report<W: Write>(
     }
 }
 
-/// Prints what the run of these messages would have reported if every connection had dropped just after
+/// Prints what the run of this size with these messages would have reported if every connection had dropped just after
 /// the last of these notes, and returns the exit status that it would have had.
 pub fn recover_notes<W: Write>(
     alloc: Global,
     rules: &Rules,
+    size: RunSize,
     openings: &[Opening],
     messages: &[Message],
     notes: &[Note],
     output: &mut W,
 ) -> Result<u8, RecoveryFault>
-    ensures recovered { IfOk result (Recovers rules.now openings.now messages.now notes.now (W.contents output.old) (W.contents output.new)) }
-    ensures refused { IfErr result (IsFaultOfRecovery rules.now openings.now messages.now notes.now (W.contents output.old) (W.contents output.new)) }
+    ensures recovered { IfOk result (Recovers rules.now size openings.now messages.now notes.now (W.contents output.old) (W.contents output.new)) }
+    ensures refused { IfErr result (IsFaultOfRecovery rules.now size openings.now messages.now notes.now (W.contents output.old) (W.contents output.new)) }
     ensures quiet { IfErr result (λ fault. fault ≢ output_failed → output.new ≡ output.old) }
 {
-    if let Err(fault) = checked(alloc, rules, openings.len(), messages, notes) {
+    if let Err(fault) = checked(alloc, rules, size, messages, notes) {
         return Err(fault);
     }
     let Ok(ends) = recover(alloc, messages, rules, notes) else {

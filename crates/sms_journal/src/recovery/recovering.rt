@@ -1,18 +1,19 @@
 //! The report of a run, from its files and its journal.
 
-ghost use Rattle.std.specs.Prelude.{◌≡◌, ◌≢◌, IfErr, IfOk, option_copied};
+ghost use Rattle.std.specs.Prelude.{◌≡◌, ◌≢◌, IfErr, IfOk, length, option_copied};
 ghost use Rattle.sms_journal.specs.Digests.{digests_of as of_files};
 ghost use Rattle.sms_journal.specs.Lines.{IsJournalText};
 ghost use Rattle.sms_journal.specs.Recovering.{IsTaken, RecoversInput, RecoversJournal, IsFaultOfInput, IsFaultOfJournal, IsFaultOfText};
 ghost use Rattle.sms_journal.specs.Faults.{output_failed};
 
 use crate::error::JournalError;
-use crate::notes::Note;
+use crate::notes::{Note, RunSize};
 use crate::recovery::fault::RecoveryFault;
 use crate::recovery::files::input_of;
 use crate::recovery::journaled::recover_notes;
 use crate::text::{JournalKind, JournalNotes, digests_of, read_notes};
-use sms_files::{Config, Input, rules_of};
+use sms_book::Opening;
+use sms_files::{Config, Input, Limits, rules_of};
 use std::alloc::Global;
 use std::io::Write;
 
@@ -51,6 +52,17 @@ fn notes_in(
     }
 }
 
+/// How large a run with these accounts is.
+fn size_by(openings: &[Opening], limits: Limits) -> RunSize
+    ensures { result ≡ record { accounts = length openings.now; binds = limits.binds; workers = limits.workers } }
+{
+    RunSize {
+        accounts: openings.len(),
+        binds: limits.binds,
+        workers: limits.workers,
+    }
+}
+
 /// Prints what a run of this input would have reported if every connection had dropped just after the last
 /// of these notes, and returns its exit status.
 fn recover_input<W: Write>(
@@ -71,10 +83,13 @@ fn recover_input<W: Write>(
         ..
     } = config;
     let rules = rules_of(retry, limits, flags, tariff, 0);
+    let accounts = openings.as_slice();
+    let size = size_by(accounts, limits);
     recover_notes(
         alloc,
         &rules,
-        openings.as_slice(),
+        size,
+        accounts,
         messages.as_slice(),
         notes,
         output,

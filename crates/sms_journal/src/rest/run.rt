@@ -10,7 +10,7 @@ ghost use Rattle.sms_journal.specs.Resting.{IsReportOf, Prints, IsFaultOfPrintin
 ghost use Rattle.sms_journal.specs.Faults.{output_failed};
 
 use crate::recovery::{RecoveryFault, input_of};
-use crate::rest::plan::part_counts;
+use crate::rest::plan::plans_of;
 use crate::rest::printing::{accounts_text, rest_text};
 use crate::rest::records::records_in;
 use crate::rest::stage::check_report;
@@ -34,9 +34,22 @@ fn report_of(alloc: Global, input: &Input, report: &[u8]) -> Result<Vec<ByteReco
     ensures refused { IfErr result (IsFaultOfReport input.now report.now) }
 {
     let records = records_in(alloc, report)?;
-    let long = input.config().flags.long_reference;
-    let counts = part_counts(alloc, long, input.messages())?;
-    check_report(counts.as_slice(), input.openings(), records.as_slice())?;
+    let config = input.config();
+    let openings = input.openings();
+    let plans = plans_of(
+        alloc,
+        config.flags.long_reference,
+        input.tariff(),
+        openings.len(),
+        input.messages(),
+    )?;
+    check_report(
+        alloc,
+        config.retry.policy.attempts,
+        plans.as_slice(),
+        openings,
+        records.as_slice(),
+    )?;
     Ok(records)
 }
 

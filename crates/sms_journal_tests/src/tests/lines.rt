@@ -10,11 +10,11 @@ use std::test::Fail;
 /// Notes and their lines, made at 1,700,000,000,123 ms.
 const LINES: [(Row, &str); 6] = [
     (Row::Begun(0), "begun,1700000000123,0\n"),
-    (Row::Sent(12, 3, 2), "sent,1700000000123,7,12,3,2\n"),
-    (Row::Unsent(12), "unsent,1700000000123,7,12\n"),
+    (Row::Sent(12, 3, 2), "sent,1700000000123,0,12,3,2\n"),
+    (Row::Unsent(12), "unsent,1700000000123,0,12\n"),
     (
         Row::Heard(12, THROTTLED, false),
-        "heard,1700000000123,7,12,88,0,\n",
+        "heard,1700000000123,0,12,88,0,\n",
     ),
     (Row::Refused(9), "refused,1700000000123,9,no-credit\n"),
     (Row::End, "end,1700000000123,0\n"),

@@ -7,7 +7,7 @@ use std::alloc::{AllocError, Global};
 use std::fmt::Write;
 use std::test::Fail;
 
-const CONFIG: &[u8] = b"";
+const CONFIG: &[u8] = b"workers = 2";
 
 const MESSAGES: &[u8] = b"account,source,destination,text\nmain,1,+44,hi\nmain,1,+44,ho\n";
 
@@ -31,7 +31,7 @@ const RUNS: [(&str, &str, &str, u8); 9] = [
         0,
     ),
     (
-        "begun,5,1\nsent,6,0,1,1,1\n",
+        "begun,5,1\nsent,6,1,1,1,1\n",
         "0,0,0,bind-closed,,\n1,1,1,unanswered,,\n",
         "2,1,0,0",
         4,
@@ -61,7 +61,7 @@ const RUNS: [(&str, &str, &str, u8); 9] = [
         4,
     ),
     (
-        "begun,5,0\nbegun,5,1\nsent,6,0,1,0,1\nsent,6,1,1,1,1\nheard,7,1,1,11,0,\nend,8,4\n",
+        "begun,5,0\nbegun,5,1\nsent,6,0,1,0,1\nsent,6,1,2,1,1\nheard,7,1,2,11,0,\nend,8,4\n",
         "0,1,1,unanswered,,\n1,1,1,refused,11,\n",
         "2,1,0,1",
         4,
@@ -199,7 +199,7 @@ fn tells_a_report_of_each_front_of_a_journal(rt: HostRuntime) -> Result<(), Fail
     let alloc = rt.alloc();
     let accounts = accounts_with(alloc, "3")?;
     let records =
-        "begun,5,0\nsent,6,0,1,0,1\nbegun,5,1\nheard,7,0,1,88,0,\nsent,6,1,1,1,1\nsent,6,0,2,0,1\nheard,7,0,2,0,0,m1\n";
+        "begun,5,0\nsent,6,0,1,0,1\nbegun,5,1\nheard,7,0,1,88,0,\nsent,6,1,3,1,1\nsent,6,0,2,0,1\nheard,7,0,2,0,0,m1\n";
     let journal = journal_of(alloc, accounts.as_bytes(), records)?;
     for octets in 0..journal.len() + 1 {
         let front = &journal.as_bytes()[..octets];

@@ -13,7 +13,7 @@ const MESSAGES: &str = concat!(
     "account,source,destination,text\nmain,1,2,",
     "one two three four five six seven eight nine ten one two three four five six seven eight nine ten ",
     "one two three four five six seven eight nine ten one two three four five six seven eight nine ten\r\n",
-    "\"a, \"\"b\"\"\",,+44,\"say \"\"hi\"\", now\nor \r later\"\nnobody,a,b,",
+    "\"a, \"\"b\"\"\",,+44,\"say \"\"hi\"\", now\nor \r later\"\nmain,a,33,",
     "[[[[[[[[[[[[[[[[[[[[[[[[[[[[[[[[[[[[[[[[[[[[[[[[[[[[[[[[[[[[[[[[[[[[[[[[[[[[[[[[",
     "[[[[[[[[[[[[[[[[[[[[[[[[[[[[[[[[[[[[[[[[[[[[[[[[[[[[[[[[[[[[[[[[[[[[[[[[[[[[[[[[\n"
 );
@@ -22,7 +22,8 @@ const HEAD: &str = "message,part,attempts,outcome,status,id\n";
 
 const STATEMENT: &str = "account,topped,free,reserved,charged,returned\n";
 
-const ROWS: &str = "main,10,7,1,2,0\n\"a, \"\"b\"\"\",3,1,1,1,18446744073709551615\n";
+/// The rows of the report GOOD.
+const ROWS: &str = "main,10,10,0,0,0\n\"a, \"\"b\"\"\",3,2,0,1,0\n";
 
 const REST: &str = "account,source,destination,text\n";
 
@@ -35,37 +36,57 @@ const FIRST: &str = concat!(
 const SECOND: &str = "\"a, \"\"b\"\"\",,+44,\"say \"\"hi\"\", now\nor \r later\"\n";
 
 const THIRD: &str = concat!(
-    "nobody,a,b,",
+    "main,a,33,",
     "[[[[[[[[[[[[[[[[[[[[[[[[[[[[[[[[[[[[[[[[[[[[[[[[[[[[[[[[[[[[[[[[[[[[[[[[[[[[[[[[",
     "[[[[[[[[[[[[[[[[[[[[[[[[[[[[[[[[[[[[[[[[[[[[[[[[[[[[[[[[[[[[[[[[[[[[[[[[[[[[[[[[\n"
 );
 
-/// Lines of reports, and what is left by each: of the first message, the second, the third.
-const LEFT: [(&str, [bool; 3]); 6] = [
-    (
-        "0,0,0,bind-closed,,\n1,0,0,out-of-memory,,\n2,0,0,no-credit,,\n",
-        [true, true, true],
-    ),
-    (
-        "0,0,0,no-account,,\n1,0,0,too-long,,\n2,0,0,bad-address,,\n",
-        [false, false, false],
-    ),
-    (
-        "0,1,1,charged,0,m1\n0,2,0,unsent,,\n1,1,0,unsent,,\n2,0,0,bind-closed,,\n",
-        [false, true, true],
-    ),
-    (
-        "0,1,0,unsent,,\n0,2,0,unsent,,\n1,1,1,unsent,88,\n2,1,0,unsent,,\n2,2,3,refused,88,\"a,\"\"b\"\n2,3,0,unsent,,\n",
-        [true, false, false],
-    ),
-    (
-        "0,1,1,unanswered,,\n0,2,0,unsent,,\n1,0,0,bind-closed,,\n2,1,0,unsent,,\n2,2,0,unsent,,\n2,3,1,unanswered,,\n",
-        [false, true, false],
-    ),
-    (
-        "0,1,0,unsent,,\n0,2,0,unsent,,\n1,1,1,refused,11,\n2,1,1,charged,0,x\n2,2,1,charged,0,y\n2,3,1,charged,0,z\n",
-        [true, false, false],
-    ),
+/// A report: its lines, its rows behind the accounts' names, which of the three messages are left by it, and
+/// the credits.
+struct Case {
+    lines: &'static str,
+    rows: [&'static str; 2],
+    left: [bool; 3],
+    free: [u64; 2],
+}
+
+const LEFT: [Case; 6] = [
+    Case {
+        lines: "0,0,0,bind-closed,,\n1,0,0,out-of-memory,,\n2,0,0,no-credit,,\n",
+        rows: ["10,10,0,0,0", "3,3,0,0,0"],
+        left: [true, true, true],
+        free: [10, 3],
+    },
+    Case {
+        lines: "0,1,1,refused,11,\n0,2,1,refused,11,x\n1,1,3,refused,88,\n2,1,1,refused,0,\n2,2,1,refused,1,\n2,3,2,refused,10,\n",
+        rows: ["10,10,0,0,5", "3,3,0,0,1"],
+        left: [false, false, false],
+        free: [10, 3],
+    },
+    Case {
+        lines: "0,1,1,charged,0,m1\n0,2,0,unsent,,\n1,1,0,unsent,,\n2,0,0,bind-closed,,\n",
+        rows: ["10,9,0,1,1", "3,3,0,0,1"],
+        left: [false, true, true],
+        free: [9, 3],
+    },
+    Case {
+        lines: "0,1,0,unsent,,\n0,2,0,unsent,,\n1,1,1,unanswered,,\n2,1,0,unsent,,\n2,2,3,refused,88,\"a,\"\"b\"\n2,3,0,unsent,,\n",
+        rows: ["10,10,0,0,5", "3,2,1,0,0"],
+        left: [true, false, false],
+        free: [10, 2],
+    },
+    Case {
+        lines: "0,1,1,unanswered,,\n0,2,0,unsent,,\n1,0,0,bind-closed,,\n2,1,0,unsent,,\n2,2,0,unsent,,\n2,3,1,unanswered,,\n",
+        rows: ["10,8,2,0,3", "3,3,0,0,0"],
+        left: [false, true, false],
+        free: [8, 3],
+    },
+    Case {
+        lines: "0,1,0,unsent,,\n0,2,0,unsent,,\n1,1,1,refused,11,\n2,1,1,charged,0,x\n2,2,1,charged,0,y\n2,3,1,charged,0,z\n",
+        rows: ["10,7,0,3,2", "3,3,0,0,1"],
+        left: [true, false, false],
+        free: [7, 3],
+    },
 ];
 
 const GOOD: &str = "0,0,0,no-credit,,\n1,1,1,charged,0,m\n2,0,0,bind-closed,,\n";
@@ -119,26 +140,36 @@ fn wanted(alloc: Global, left: [bool; 3]) -> Result<String, AllocError> {
     Ok(text)
 }
 
+/// The report of a case.
+fn report_of(alloc: Global, case: &Case) -> Result<String, AllocError> {
+    let lines = case.lines;
+    let [main, other] = case.rows;
+    format!(in alloc; "{HEAD}{lines}{STATEMENT}main,{main}\n\"a, \"\"b\"\"\",{other}\n")
+}
+
+/// The accounts file that goes with it.
+fn credits_of(alloc: Global, case: &Case) -> Result<String, AllocError> {
+    let [main, other] = case.free;
+    format!(in alloc; "account,credits\nmain,{main}\n\"a, \"\"b\"\"\",{other}\n")
+}
+
 #[test]
 fn prints_the_messages_that_did_not_go_out(rt: HostRuntime) -> Result<(), Fail> {
     let alloc = rt.alloc();
-    for (lines, left) in LEFT {
-        let report = format!(in alloc; "{HEAD}{lines}{STATEMENT}{ROWS}")?;
+    for case in &LEFT {
+        let report = report_of(alloc, case)?;
         let got = rest_by(alloc, report.as_bytes())?;
-        let text = wanted(alloc, left)?;
+        let text = wanted(alloc, case.left)?;
         same(&rt, got.as_str(), text.as_str());
         let accounts = accounts_by(alloc, report.as_bytes())?;
-        same(
-            &rt,
-            accounts.as_str(),
-            "account,credits\nmain,7\n\"a, \"\"b\"\"\",1\n",
-        );
+        let credits = credits_of(alloc, case)?;
+        same(&rt, accounts.as_str(), credits.as_str());
     }
     Ok(())
 }
 
 /// Reports that are none of these messages and accounts, each with the record that shows it.
-const FAULTY: [(&str, &str); 28] = [
+const FAULTY: [(&str, &str); 36] = [
     ("", "report record 1"),
     ("message,part,attempts,outcome,status\n", "report record 1"),
     (
@@ -159,8 +190,8 @@ const FAULTY: [(&str, &str); 28] = [
     ("H0,1,0,unsent,,\n2,0,0,no-credit,,\n", "report record 3"),
     ("HGS", "report record 6"),
     ("HG3,0,0,no-credit,,\n", "report record 5"),
-    ("HGSmain,10,7,1,2,0\nother,3,3,0,0,3\n", "report record 7"),
-    ("HGSmain,10,7,1,2\n", "report record 6"),
+    ("HGSmain,10,10,0,0,0\nother,3,2,0,1,0\n", "report record 7"),
+    ("HGSmain,10,10,0,0\n", "report record 6"),
     ("HGSR0,1,0,unsent,,\n", "report record 8"),
     // A message that lacks a part, or has one too many.
     ("H0,1,0,unsent,,\n1,0,0,no-credit,,\n", "report record 3"),
@@ -177,10 +208,59 @@ const FAULTY: [(&str, &str); 28] = [
         "report record 6",
     ),
     // Credits that the account didn't open with, and such as are lost, made up, or come round.
-    ("HGSmain,11,8,1,2,0\n", "report record 6"),
-    ("HGSmain,10,7,1,1,0\n", "report record 6"),
-    ("HGSmain,10,999999,1,2,0\n", "report record 6"),
-    ("HGSmain,10,18446744073709551615,9,2,0\n", "report record 6"),
+    ("HGSmain,11,11,0,0,0\n", "report record 6"),
+    ("HGSmain,10,9,0,0,0\n", "report record 6"),
+    ("HGSmain,10,99,0,0,0\n", "report record 6"),
+    (
+        "HGSmain,10,18446744073709551615,1,10,0\n",
+        "report record 6",
+    ),
+    // Rows that balance and aren't the sums of the parts.
+    ("HGSmain,10,9,0,1,0\n", "report record 6"),
+    ("HGSmain,10,9,1,0,0\n", "report record 6"),
+    ("HGSmain,10,10,0,0,1\n", "report record 6"),
+    (
+        "HGSmain,10,10,0,0,0\n\"a, \"\"b\"\"\",3,3,0,0,0\n",
+        "report record 7",
+    ),
+    (
+        "HGSmain,10,10,0,0,0\n\"a, \"\"b\"\"\",3,2,1,0,0\n",
+        "report record 7",
+    ),
+    // A charged message whose second part has no line, and a message that has two.
+    ("H0,1,1,charged,0,m\n1,1,1,charged,0,m\n", "report record 3"),
+    ("H0,0,0,no-credit,,\n0,0,0,no-credit,,\n", "report record 3"),
+    ("H0,1,0,unsent,,\n0,1,0,unsent,,\n", "report record 3"),
+];
+
+/// Lines that no part and no message of a run can have; the first message is admitted and sent in two parts, at
+/// most three times.
+const FORGED: [&str; 25] = [
+    "0,1,0,charged,0,m",
+    "0,1,1,charged,1,m",
+    "0,1,1,charged,,",
+    "0,1,0,refused,88,",
+    "0,1,1,refused,,",
+    "0,1,0,unanswered,,",
+    "0,1,1,unanswered,88,",
+    "0,1,1,unanswered,0,m",
+    "0,1,1,unsent,,",
+    "0,1,1,unsent,88,",
+    "0,1,0,unsent,88,",
+    "0,1,4,charged,0,m",
+    "0,1,4,refused,88,",
+    "0,1,4,unanswered,,",
+    "0,1,1,unanswered,,m",
+    "0,1,0,unsent,,m",
+    "0,1,1,charged,0,a b",
+    "0,1,1,charged,0,12345678901234567890123456789012345678901234567890123456789012345",
+    "0,0,0,no-account,,",
+    "0,0,0,bad-address,,",
+    "0,0,0,too-long,,",
+    "0,0,0,no-credit,0,",
+    "0,0,0,no-credit,,m",
+    "0,0,1,bind-closed,,",
+    "0,0,0,charged,0,m",
 ];
 
 /// The report, of which letters stand for whole lines.
@@ -207,6 +287,85 @@ fn tells_the_first_record_that_is_none_of_a_report(rt: HostRuntime) -> Result<()
         same(&rt, got.as_str(), fault);
         let accounts = accounts_by(alloc, report.as_bytes())?;
         same(&rt, accounts.as_str(), fault);
+    }
+    Ok(())
+}
+
+#[test]
+fn refuses_a_line_that_no_run_prints(rt: HostRuntime) -> Result<(), Fail> {
+    let alloc = rt.alloc();
+    for line in FORGED {
+        let report = format!(in alloc; "{HEAD}{line}\n")?;
+        let got = rest_by(alloc, report.as_bytes())?;
+        same(&rt, got.as_str(), "report record 2");
+    }
+    Ok(())
+}
+
+/// Messages of which only the last may be sent; it costs four credits of an account that has five.
+const REFUSED: &[u8] =
+    b"account,source,destination,text\nnobody,1,44,hi\nmain,1,abc,hi\nmain,1,44,hi\nmain,1,44,hi\n";
+
+/// Lines of these messages, and what is said of the report that begins so.
+const REASONS: [(&str, &str); 12] = [
+    (
+        "0,0,0,no-account,,\n1,0,0,bad-address,,\n2,1,1,charged,0,m\n",
+        "report record 5",
+    ),
+    (
+        "0,0,0,bind-closed,,\n1,0,0,bind-closed,,\n",
+        "report record 4",
+    ),
+    ("0,0,0,bad-address,,\n", "report record 2"),
+    ("0,0,0,no-credit,,\n", "report record 2"),
+    ("0,0,0,out-of-memory,,\n", "report record 2"),
+    ("0,1,1,charged,0,m\n", "report record 2"),
+    (
+        "0,0,0,no-account,,\n1,0,0,no-account,,\n",
+        "report record 3",
+    ),
+    ("0,0,0,no-account,,\n1,0,0,no-credit,,\n", "report record 3"),
+    (
+        "0,0,0,no-account,,\n1,0,0,out-of-memory,,\n",
+        "report record 3",
+    ),
+    ("0,0,0,no-account,,\n1,1,0,unsent,,\n", "report record 3"),
+    // More is charged, or reserved, than the account has.
+    (
+        "0,0,0,no-account,,\n1,0,0,bad-address,,\n2,1,1,charged,0,m\n3,1,1,charged,0,m\n",
+        "report record 5",
+    ),
+    (
+        "0,0,0,no-account,,\n1,0,0,bad-address,,\n2,1,1,charged,0,m\n3,1,1,unanswered,,\n",
+        "report record 5",
+    ),
+];
+
+/// What is said of a report of these messages.
+fn said_of(alloc: Global, report: &[u8]) -> Result<String, Fail> {
+    let mut out = Vec::new(alloc);
+    let said = run_rest(
+        alloc,
+        b"attempts = 1\n",
+        b"account,credits\nmain,5\n",
+        REFUSED,
+        Some(b"prefix,credits\n44,4\n"),
+        report,
+        &mut out,
+    );
+    match said {
+        Ok(()) => Ok(String::from_str(alloc, "taken")?),
+        Err(fault) => fault_text(alloc, fault),
+    }
+}
+
+#[test]
+fn refuses_a_reason_or_a_charge_that_the_files_rule_out(rt: HostRuntime) -> Result<(), Fail> {
+    let alloc = rt.alloc();
+    for (lines, fault) in REASONS {
+        let report = format!(in alloc; "{HEAD}{lines}")?;
+        let got = said_of(alloc, report.as_bytes())?;
+        same(&rt, got.as_str(), fault);
     }
     Ok(())
 }

@@ -12,24 +12,24 @@ loop-place-preserved c =
     let there = got_at c.args.notes.now c.loop-place.place c.index-notes-place.result (omega arith) c.index-notes-place.is in
     let front = take c.loop-place.place c.args.notes.now in
     let more = take_snoc c.args.notes.now c.loop-place.place c.index-notes-place.result there in
-    let may = some_of _ c.in_ok-found.found c.in-Some.count c.in-Some.is c.in_ok-found.ensures.admitted front c.loop-place.invariant.sees in
+    let may = some_of _ c.in_ok-found.found c.in-Some.count c.in-Some.is (c.in_ok-found.ensures.admitted) in
     let counts = some_of _ c.in_ok-found.found c.in-Some.count c.in-Some.is c.in_ok-found.ensures.count in
     record {
-      sees = subst (λ (l : List Note). Sees c.args.rules.now c.args.accounts c.args.messages.now l c.keep.new.seen) (sym more)
-          (sees_more c.args.rules.now c.args.accounts c.args.messages.now front c.index-notes-place.result c.in-Some.count c.loop-place.seen c.keep.new.seen c.in_ok-keep.ensures c.loop-place.invariant.sees may counts);
-      journal = subst (λ (l : List Note). IsJournal c.args.rules.now c.args.accounts c.args.messages.now l) (sym more)
-          (journal_more c.args.rules.now c.args.accounts c.args.messages.now front c.index-notes-place.result c.loop-place.invariant.journal may);
+      sees = subst (λ (l : List Note). Sees c.args.rules.now c.args.size c.args.messages.now l c.keep.new.seen) (sym more)
+          (sees_more c.args.rules.now c.args.size c.args.messages.now front c.index-notes-place.result c.in-Some.count c.loop-place.seen c.keep.new.seen c.in_ok-keep.ensures c.loop-place.invariant.sees may counts);
+      journal = subst (λ (l : List Note). IsJournal c.args.rules.now c.args.size c.args.messages.now l) (sym more)
+          (journal_more c.args.rules.now c.args.size c.args.messages.now front c.index-notes-place.result c.loop-place.invariant.journal may);
     }
 
 pub returns-in_default-clause-faulty : goal.returns-in_default-clause-faulty
 returns-in_default-clause-faulty c = λ k is.
     let there = got_at c.args.notes.now c.loop-place.place c.index-notes-place.result (omega arith) c.index-notes-place.is in
     let same : c.loop-place.place ≡ k = cc in
-    subst (IsFirstFault c.args.rules.now c.args.accounts c.args.messages.now c.args.notes.now) same
-    (record { front = c.loop-place.invariant.journal; note = c.index-notes-place.result; there = there; refused = c.in_ok-found.ensures.refused (search rules) (take c.loop-place.place c.args.notes.now) c.loop-place.invariant.sees })
+    subst (IsFirstFault c.args.rules.now c.args.size c.args.messages.now c.args.notes.now) same
+    (record { front = c.loop-place.invariant.journal; note = c.index-notes-place.result; there = there; refused = c.in_ok-found.ensures.refused (search rules) })
 
 pub returns-clause-lawful : goal.returns-clause-lawful
-returns-clause-lawful c = subst (λ (l : List Note). IsJournal c.args.rules.now c.args.accounts c.args.messages.now l) (take_whole c.args.notes.now c.loop-place.place (omega arith)) c.loop-place.invariant.journal
+returns-clause-lawful c = subst (λ (l : List Note). IsJournal c.args.rules.now c.args.size c.args.messages.now l) (take_whole c.args.notes.now c.loop-place.place (omega arith)) c.loop-place.invariant.journal
 
 pub loop-place-init : goal.loop-place-init
-loop-place-init c = record { sees = c.nothing_seen-seen.ensures c.args.rules.now c.args.accounts c.args.messages.now; journal = λ k n there. absurd (cc) }
+loop-place-init c = record { sees = c.nothing_seen-seen.ensures c.args.rules.now c.args.size c.args.messages.now; journal = λ k n there. absurd (cc) }

@@ -4,5 +4,5 @@ use Rattle.sms_journal.proofs.recovery.journaled.checked.Goals as goal
 
 pub returns-in-Err-BadNote-clause-refused : goal.returns-in-Err-BadNote-clause-refused
 returns-in-Err-BadNote-clause-refused c =
-    note_fault c.args.rules.now c.args.accounts c.args.messages.now c.args.notes.now c.fault_at.result c.in-Err-BadNote.place c.fault_at.ensures
+    note_fault c.args.rules.now c.args.size c.args.messages.now c.args.notes.now c.fault_at.result c.in-Err-BadNote.place c.fault_at.ensures
     (c.check_notes.ensures.faulty c.in-Err-BadNote.place (search rules))

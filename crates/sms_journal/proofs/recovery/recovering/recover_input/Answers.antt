@@ -1,11 +1,12 @@
-use Rattle.std.proofs.Common.{◌≡◌, ◌∙◌, ap, subst, List, Vec, Global}
+use Rattle.std.proofs.Common.{◌≡◌, ◌∙◌, ap, subst, List, Vec, Global, length}
 use Rattle.std.proofs.lemmas.Result.{IfErr-weaker, IfOk-weaker}
 use Rattle.sms_book.specs.Tariffs.{Price}
 use Rattle.sms_book.specs.declared.opening.Opening.{Opening}
 use Rattle.sms_message.specs.declared.message.Message.{Message}
 use Rattle.sms_files.specs.declared.config.Config.{Config}
-use Rattle.sms_journal.specs.Recovering.{Recovers, RecoversInput, IsFaultOfInput, IsFaultOfRecovery}
+use Rattle.sms_journal.specs.Recovering.{Recovers, RecoversInput, IsFaultOfInput, IsFaultOfRecovery, size_of}
 use Rattle.sms_files.specs.RunRules.{IsRulesOf}
+use Rattle.sms_journal.specs.declared.notes.run_size.RunSize.{RunSize}
 use Rattle.sms_journal.proofs.NoteLists.{recovers_input, tells_input}
 use Rattle.sms_journal.proofs.recovery.recovering.recover_input.Goals as goal
 
@@ -18,10 +19,13 @@ returns-clause-recovered g c =
     let e = c.into_parts-config.ensures in
     let says = subst (λ (t : List Price). IsRulesOf input.config.retry input.config.limits input.config.flags t 0 rules) e.tariff
     (subst (λ (k : Config). IsRulesOf k.retry k.limits k.flags c.into_parts-config.result.3 0 rules) e.config c.rules_of-rules.ensures) in
-    let os : c.as_slice.result.now ≡ input.openings.items = c.as_slice.ensures.value ∙ ap (λ (v : Vec Opening Global). v.items) e.openings in
-    let ms : c.as_slice-2.result.now ≡ input.messages.items = c.as_slice-2.ensures.value ∙ ap (λ (v : Vec Message Global). v.items) e.messages in
-    IfOk-weaker c.recover_notes.result (Recovers rules c.as_slice.result.now c.as_slice-2.result.now c.args.notes.now old new) (RecoversInput input c.args.notes.now old new)
-    (recovers_input input c.args.notes.now old new rules c.as_slice.result.now c.as_slice-2.result.now says os ms) c.recover_notes.ensures.recovered
+    let size : RunSize = c.size_by-size.result in
+    let limits : c.into_parts-config.result.0.limits ≡ input.config.limits = ap (λ (k : Config). k.limits) e.config in
+    let os : c.as_slice-accounts.result.now ≡ input.openings.items = c.as_slice-accounts.ensures.value ∙ ap (λ (v : Vec Opening Global). v.items) e.openings in
+    let sized : size ≡ size_of input = c.size_by-size.ensures ∙ (λ i. record { accounts = length (os i); binds = (limits i).binds; workers = (limits i).workers }) in
+    let ms : c.as_slice.result.now ≡ input.messages.items = c.as_slice.ensures.value ∙ ap (λ (v : Vec Message Global). v.items) e.messages in
+    IfOk-weaker c.recover_notes.result (Recovers rules size c.as_slice-accounts.result.now c.as_slice.result.now c.args.notes.now old new) (RecoversInput input c.args.notes.now old new)
+    (recovers_input input c.args.notes.now old new rules size c.as_slice-accounts.result.now c.as_slice.result.now says os ms sized) c.recover_notes.ensures.recovered
 
 pub returns-clause-refused : goal.returns-clause-refused
 returns-clause-refused g c =
@@ -32,7 +36,10 @@ returns-clause-refused g c =
     let e = c.into_parts-config.ensures in
     let says = subst (λ (t : List Price). IsRulesOf input.config.retry input.config.limits input.config.flags t 0 rules) e.tariff
     (subst (λ (k : Config). IsRulesOf k.retry k.limits k.flags c.into_parts-config.result.3 0 rules) e.config c.rules_of-rules.ensures) in
-    let os : c.as_slice.result.now ≡ input.openings.items = c.as_slice.ensures.value ∙ ap (λ (v : Vec Opening Global). v.items) e.openings in
-    let ms : c.as_slice-2.result.now ≡ input.messages.items = c.as_slice-2.ensures.value ∙ ap (λ (v : Vec Message Global). v.items) e.messages in
-    IfErr-weaker c.recover_notes.result (IsFaultOfRecovery rules c.as_slice.result.now c.as_slice-2.result.now c.args.notes.now old new) (IsFaultOfInput input c.args.notes.now old new)
-    (tells_input input c.args.notes.now old new rules c.as_slice.result.now c.as_slice-2.result.now says os ms) c.recover_notes.ensures.refused
+    let size : RunSize = c.size_by-size.result in
+    let limits : c.into_parts-config.result.0.limits ≡ input.config.limits = ap (λ (k : Config). k.limits) e.config in
+    let os : c.as_slice-accounts.result.now ≡ input.openings.items = c.as_slice-accounts.ensures.value ∙ ap (λ (v : Vec Opening Global). v.items) e.openings in
+    let sized : size ≡ size_of input = c.size_by-size.ensures ∙ (λ i. record { accounts = length (os i); binds = (limits i).binds; workers = (limits i).workers }) in
+    let ms : c.as_slice.result.now ≡ input.messages.items = c.as_slice.ensures.value ∙ ap (λ (v : Vec Message Global). v.items) e.messages in
+    IfErr-weaker c.recover_notes.result (IsFaultOfRecovery rules size c.as_slice-accounts.result.now c.as_slice.result.now c.args.notes.now old new) (IsFaultOfInput input c.args.notes.now old new)
+    (tells_input input c.args.notes.now old new rules size c.as_slice-accounts.result.now c.as_slice.result.now says os ms sized) c.recover_notes.ensures.refused

@@ -1,0 +1,15 @@
+-- The workers of a run. They are numbered through, bind by bind, and the messages are dealt out to all of them in turn.
+use Rattle.std.specs.Prelude.{◌≡◌, ℕ, ◌*◌, ◌/◌, ◌%◌, ◌<◌, max}
+use Rattle.sms_journal.specs.declared.notes.run_size.RunSize.{RunSize}
+
+abbrev pub all_workers : RunSize → ℕ
+all_workers size = size.binds * size.workers
+
+-- the bind of a worker
+abbrev pub bind_of : RunSize → ℕ → ℕ
+bind_of size worker = worker / max size.workers 1
+
+-- the message with this index is this worker's
+pub record IsDealt (size : RunSize) (i worker : ℕ) : Type 0 where
+  pub exists : worker < all_workers size
+  pub turn : i % all_workers size ≡ worker
