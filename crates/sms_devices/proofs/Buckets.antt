@@ -1,24 +1,23 @@
 -- What a bucket lets through from one request on.
-use Rattle.std.proofs.Common.{◌≡◌, ℕ, ◌+◌, ◌-◌, ◌*◌, ◌/◌, ◌<◌, ◌≤◌, max, min, Bool, true, false, ltb, List, [], ◌∷◌, refl, sym, ap, ap₂, subst, ◌∙◌, arith}
+use Rattle.std.proofs.Common.{◌≡◌, ℕ, ◌+◌, ◌-◌, ◌*◌, ◌/◌, ◌<◌, ◌≤◌, max, min, Bool, true, false, ltb, List, [], ◌∷◌, refl, sym, ap, subst, ◌∙◌, arith}
 use Rattle.std.proofs.Math.Nat.{add-mul, mul-le-mul_right}
 use Rattle.std.proofs.lemmas.Bool.{ltb-true}
 use Rattle.std.specs.Prelude.{if◌then◌else◌}
 use Rattle.sms_devices.specs.declared.gate.bucket.Bucket.{Bucket}
+use Rattle.sms_devices.specs.declared.gate.bucket.Rate.{Rate}
 use Rattle.sms_devices.specs.Buckets.Asked.{Lend, Send, GiveBack}
-use Rattle.sms_devices.specs.Buckets.{Asked, after, after_all, can_lend, given_back, level_at, new_bucket, room_for, sends, sends_at, sent_at}
+use Rattle.sms_devices.specs.Buckets.{Asked, after, after_all, can_lend, full, given_back, level_at, rate_for, room_for, sends, sends_at, sent_at}
 
 -- the level is within the depth, and covers the requests that have a permit
-record Sound (b : Bucket) : Type 0 where
-  pub most : b.level ≤ b.depth * 1010
+record Sound (r : Rate) (b : Bucket) : Type 0 where
+  pub most : b.level ≤ r.depth * 1010
   pub covered : b.lent * 1010 ≤ b.level
 
 -- a bucket becomes another while this many requests are sent: what these took came at the rate
-record Becomes (b b' : Bucket) (sent : ℕ) : Type 0 where
-  pub sound : Sound b'
-  pub rate : b'.rate ≡ b.rate
-  pub depth : b'.depth ≡ b.depth
+record Becomes (r : Rate) (b b' : Bucket) (sent : ℕ) : Type 0 where
+  pub sound : Sound r b'
   pub onward : b.at_ms ≤ b'.at_ms
-  pub took : sent * 1010 + b'.level ≤ b.level + (b'.at_ms - b.at_ms) * b.rate
+  pub took : sent * 1010 + b'.level ≤ b.level + (b'.at_ms - b.at_ms) * r.rate
 
 gap : (at now : ℕ) → max at now - at ≡ now - at
 gap at now = omega arith
@@ -54,58 +53,50 @@ whole at mid end first second = omega (arith, first, second)
 
 -- ---- a step
 
-stays : (b : Bucket) → Sound b → Becomes b b 0
-stays b sound = record {
+stays : (r : Rate) (b : Bucket) → Sound r b → Becomes r b b 0
+stays r b sound = record {
   sound = sound;
-  rate = refl;
-  depth = refl;
   onward = omega arith;
   took = omega arith;
 }
 
-lent : (b : Bucket) (now : ℕ) → Sound b → b.lent < level_at b now / 1010 → Becomes b (record b { level = level_at b now; at_ms = max b.at_ms now; lent = b.lent + 1 }) 0
-lent b now sound less = record {
-  sound = record { most = least_room (b.depth * 1010) (b.level + (now - b.at_ms) * b.rate); covered = enough (level_at b now) b.lent less };
-  rate = refl;
-  depth = refl;
+lent : (r : Rate) (b : Bucket) (now : ℕ) → Sound r b → b.lent < level_at r b now / 1010 → Becomes r b (record b { level = level_at r b now; at_ms = max b.at_ms now; lent = b.lent + 1 }) 0
+lent r b now sound less = record {
+  sound = record { most = least_room (r.depth * 1010) (b.level + (now - b.at_ms) * r.rate); covered = enough (level_at r b now) b.lent less };
   onward = onto b.at_ms now;
-  took = subst (λ d. 0 * 1010 + level_at b now ≤ b.level + d * b.rate) (sym (gap b.at_ms now)) (lend_level (b.depth * 1010) b.level ((now - b.at_ms) * b.rate));
+  took = subst (λ d. 0 * 1010 + level_at r b now ≤ b.level + d * r.rate) (sym (gap b.at_ms now)) (lend_level (r.depth * 1010) b.level ((now - b.at_ms) * r.rate));
 }
 
-lends : (b : Bucket) (now : ℕ) → Sound b → (can : Bool) → can_lend b now ≡ can → Becomes b (if can then record b { level = level_at b now; at_ms = max b.at_ms now; lent = b.lent + 1 } else b) 0
-lends b now sound false isnt = stays b sound
-lends b now sound true is = lent b now sound (ltb-true b.lent (level_at b now / 1010) is)
+lends : (r : Rate) (b : Bucket) (now : ℕ) → Sound r b → (can : Bool) → can_lend r b now ≡ can → Becomes r b (if can then record b { level = level_at r b now; at_ms = max b.at_ms now; lent = b.lent + 1 } else b) 0
+lends r b now sound false isnt = stays r b sound
+lends r b now sound true is = lent r b now sound (ltb-true b.lent (level_at r b now / 1010) is)
 
-sent : (b : Bucket) (now : ℕ) → Sound b → 0 < b.lent → Becomes b (sent_at b now) 1
-sent b now sound some =
+sent : (r : Rate) (b : Bucket) (now : ℕ) → Sound r b → 0 < b.lent → Becomes r b (sent_at r b now) 1
+sent r b now sound some =
     record {
       sound = record {
-        most = less_room (b.depth * 1010) (b.level + (now - b.at_ms) * b.rate);
-        covered = send_covered (b.depth * 1010) b.level ((now - b.at_ms) * b.rate) b.lent some sound.covered sound.most;
+        most = less_room (r.depth * 1010) (b.level + (now - b.at_ms) * r.rate);
+        covered = send_covered (r.depth * 1010) b.level ((now - b.at_ms) * r.rate) b.lent some sound.covered sound.most;
       };
-      rate = refl;
-      depth = refl;
       onward = onto b.at_ms now;
-      took = subst (λ d. 1 * 1010 + (level_at b now - 1010) ≤ b.level + d * b.rate) (sym (gap b.at_ms now)) (send_level (b.depth * 1010) b.level ((now - b.at_ms) * b.rate) b.lent some sound.covered sound.most);
+      took = subst (λ d. 1 * 1010 + (level_at r b now - 1010) ≤ b.level + d * r.rate) (sym (gap b.at_ms now)) (send_level (r.depth * 1010) b.level ((now - b.at_ms) * r.rate) b.lent some sound.covered sound.most);
     }
 
-is_sent : (b : Bucket) (now : ℕ) → Sound b → (has : Bool) → ltb 0 b.lent ≡ has → Becomes b (if has then sent_at b now else b) (if has then 1 else 0)
-is_sent b now sound false isnt = stays b sound
-is_sent b now sound true is = sent b now sound (ltb-true 0 b.lent is)
+is_sent : (r : Rate) (b : Bucket) (now : ℕ) → Sound r b → (has : Bool) → ltb 0 b.lent ≡ has → Becomes r b (if has then sent_at r b now else b) (if has then 1 else 0)
+is_sent r b now sound false isnt = stays r b sound
+is_sent r b now sound true is = sent r b now sound (ltb-true 0 b.lent is)
 
-gives_back : (b : Bucket) → Sound b → Becomes b (given_back b) 0
-gives_back b sound = record {
+gives_back : (r : Rate) (b : Bucket) → Sound r b → Becomes r b (given_back b) 0
+gives_back r b sound = record {
   sound = record { most = sound.most; covered = fewer b.lent b.level sound.covered };
-  rate = refl;
-  depth = refl;
   onward = omega arith;
   took = omega arith;
 }
 
-step : (b : Bucket) (asked : Asked) → Sound b → Becomes b (after b asked) (sends_at b asked)
-step b (Lend now) sound = lends b now sound (can_lend b now) refl
-step b (Send now) sound = is_sent b now sound (ltb 0 b.lent) refl
-step b GiveBack sound = gives_back b sound
+step : (r : Rate) (b : Bucket) (asked : Asked) → Sound r b → Becomes r b (after r b asked) (sends_at b asked)
+step r b (Lend now) sound = lends r b now sound (can_lend r b now) refl
+step r b (Send now) sound = is_sent r b now sound (ltb 0 b.lent) refl
+step r b GiveBack sound = gives_back r b sound
 
 -- ---- all steps
 
@@ -116,26 +107,24 @@ joined rate at mid end first second = sym (add-mul (mid - at) (end - mid) rate) 
 both : (n m l0 l1 l2 c1 c2 : ℕ) → n * 1010 + l1 ≤ l0 + c1 → m * 1010 + l2 ≤ l1 + c2 → (n + m) * 1010 + l2 ≤ l0 + (c1 + c2)
 both n m l0 l1 l2 c1 c2 one two = omega (arith, one, two)
 
-further : (b b1 b2 : Bucket) (n m : ℕ) → Becomes b b1 n → Becomes b1 b2 m → Becomes b b2 (n + m)
-further b b1 b2 n m one two = record {
+further : (r : Rate) (b b1 b2 : Bucket) (n m : ℕ) → Becomes r b b1 n → Becomes r b1 b2 m → Becomes r b b2 (n + m)
+further r b b1 b2 n m one two = record {
   sound = two.sound;
-  rate = two.rate ∙ one.rate;
-  depth = two.depth ∙ one.depth;
   onward = omega (arith, one.onward, two.onward);
-  took = subst (λ c. (n + m) * 1010 + b2.level ≤ b.level + c) (joined b.rate b.at_ms b1.at_ms b2.at_ms one.onward two.onward)
-      (both n m b.level b1.level b2.level ((b1.at_ms - b.at_ms) * b.rate) ((b2.at_ms - b1.at_ms) * b.rate) one.took (subst (λ r. m * 1010 + b2.level ≤ b1.level + (b2.at_ms - b1.at_ms) * r) one.rate two.took));
+  took = subst (λ c. (n + m) * 1010 + b2.level ≤ b.level + c) (joined r.rate b.at_ms b1.at_ms b2.at_ms one.onward two.onward)
+      (both n m b.level b1.level b2.level ((b1.at_ms - b.at_ms) * r.rate) ((b2.at_ms - b1.at_ms) * r.rate) one.took two.took);
 }
 
-all_steps : (asked : List Asked) (b : Bucket) → Sound b → Becomes b (after_all asked b) (sends asked b)
-all_steps [] b sound = stays b sound
-all_steps (a ∷ more) b sound =
-    let one = step b a sound in
-    further b (after b a) (after_all more (after b a)) (sends_at b a) (sends more (after b a)) one (all_steps more (after b a) one.sound)
+all_steps : (r : Rate) (asked : List Asked) (b : Bucket) → Sound r b → Becomes r b (after_all r asked b) (sends r asked b)
+all_steps r [] b sound = stays r b sound
+all_steps r (a ∷ more) b sound =
+    let one = step r b a sound in
+    further r b (after r b a) (after_all r more (after r b a)) (sends_at b a) (sends r more (after r b a)) one (all_steps r more (after r b a) one.sound)
 
 -- ---- from one request on
 
-begins : (most now : ℕ) → Sound (new_bucket most now)
-begins most now = record { most = omega arith; covered = omega arith }
+begins : (r : Rate) (now : ℕ) → Sound r (full r now)
+begins r now = record { most = omega arith; covered = omega arith }
 
 -- so much comes in the time that passes at most
 comes : (passed rate : ℕ) → passed ≤ 1009 → passed * rate ≤ 1009 * rate
@@ -151,18 +140,21 @@ rates most some = omega (arith, some)
 lower : (room level come lent : ℕ) → 0 < lent → lent * 1010 ≤ level → level ≤ room → (min room (level + come) - 1010) + 1010 ≤ room
 lower room level come lent some covered most = omega (arith, some, covered, most)
 
-pub no_more : (most begun now : ℕ) → 1 ≤ most → (before later : List Asked) → (b : Bucket) → b ≡ after_all before (new_bucket most begun) → 0 < b.lent → (after_all later (sent_at b now)).at_ms ≤ (sent_at b now).at_ms + 1009 → 1 + sends later (sent_at b now) ≤ most
-no_more most begun now some before later b e has short =
-    let first = all_steps before (new_bucket most begun) (begins most begun) in
-    let sound : Sound b = subst (λ x. Sound x) (sym e) first.sound in
-    let depth : b.depth ≡ room_for most = ap (λ (x : Bucket). x.depth) e ∙ first.depth in
-    let rate : b.rate ≡ most - room_for most + 1 = ap (λ (x : Bucket). x.rate) e ∙ first.rate in
-    let one = sent b now sound has in
-    let rest = all_steps later (sent_at b now) one.sound in
-    count (sends later (sent_at b now)) b.depth b.rate most (level_at b now - 1010) (after_all later (sent_at b now)).level
-    (((after_all later (sent_at b now)).at_ms - max b.at_ms now) * b.rate)
-    (ap₂ (λ d r. d + r) depth rate ∙ rates most some)
-    (subst (λ r. 1 ≤ r) (sym rate) (omega arith))
-    (lower (b.depth * 1010) b.level ((now - b.at_ms) * b.rate) b.lent has sound.covered sound.most)
+-- a request of a bucket whose level covers its permits, and those after it
+no_more_from : (most now : ℕ) → 1 ≤ most → (later : List Asked) (b : Bucket) → let r = rate_for most in Sound r b → 0 < b.lent → (after_all r later (sent_at r b now)).at_ms ≤ (sent_at r b now).at_ms + 1009 → 1 + sends r later (sent_at r b now) ≤ most
+no_more_from most now some later b sound has short =
+    let r = rate_for most in
+    let one = sent r b now sound has in
+    let rest = all_steps r later (sent_at r b now) one.sound in
+    count (sends r later (sent_at r b now)) r.depth r.rate most (level_at r b now - 1010) (after_all r later (sent_at r b now)).level
+    (((after_all r later (sent_at r b now)).at_ms - max b.at_ms now) * r.rate)
+    (rates most some)
+    (omega arith)
+    (lower (r.depth * 1010) b.level ((now - b.at_ms) * r.rate) b.lent has sound.covered sound.most)
     rest.took
-    (comes ((after_all later (sent_at b now)).at_ms - max b.at_ms now) b.rate (omega (arith, short)))
+    (comes ((after_all r later (sent_at r b now)).at_ms - max b.at_ms now) r.rate (omega (arith, short)))
+
+pub no_more : (most begun now : ℕ) → 1 ≤ most → (before later : List Asked) → let r = rate_for most in (b : Bucket) → b ≡ after_all r before (full r begun) → 0 < b.lent → (after_all r later (sent_at r b now)).at_ms ≤ (sent_at r b now).at_ms + 1009 → 1 + sends r later (sent_at r b now) ≤ most
+no_more most begun now some before later b e has short =
+    let r = rate_for most in
+    no_more_from most now some later b (subst (λ x. Sound r x) (sym e) (all_steps r before (full r begun) (begins r begun)).sound) has short

@@ -4,3 +4,4 @@ pub mod Scanning
 pub mod Woken
 pub mod Buckets
 pub mod Stops
+pub mod Grown

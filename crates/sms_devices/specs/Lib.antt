@@ -11,3 +11,6 @@ pub mod Rests
 pub mod Connecting
 pub mod Incomings
 pub mod Steady
+pub mod Places
+pub mod Limiters
+pub mod Gates

@@ -1,20 +1,32 @@
 //! The gate of a run: what each worker asks before it sends a request, and what it reports.
 
-ghost use Rattle.std.specs.Prelude.{◌≡◌, true};
+ghost use Rattle.std.specs.Prelude.{◌≡◌, ◌≤◌, Bool, IfSome, MatchOption, None, Some, true};
+ghost use Rattle.sms_journal.specs.declared.notes.note.Note.TheVariants.{Begun, Heard, Refused};
+ghost use Rattle.sms_devices.specs.Gates.{LimitsTo, StopsAfter};
+ghost use Rattle.sms_devices.specs.Journals.{HasRoom, request_note, unsent_note};
+ghost use Rattle.sms_devices.specs.Places.{place_of};
+ghost use Rattle.sms_devices.specs.declared.gate.timestamp.Timestamp.{Timestamp};
 
 mod arena_warmup;
 mod bucket;
 mod notes;
+mod parts;
 mod rate_limiter;
 mod silence;
+mod timestamp;
 mod watchdog;
 
 use crate::gate::arena_warmup::warm_up;
 use crate::gate::bucket::Bucket;
-use crate::gate::notes::{make_note, note_of_reply, note_of_request, note_of_unsent};
-use crate::gate::rate_limiter::RateLimiter;
-use crate::gate::silence::Silence;
+pub(crate) use crate::gate::notes::make_note;
+use crate::gate::notes::{note_of_reply, note_of_request, note_of_unsent};
+pub(crate) use crate::gate::parts::Connections;
+use crate::gate::parts::{FindsSilence, LimitsRate};
+use crate::gate::rate_limiter::{PermitFlags, RateLimiter};
+use crate::gate::silence::{Silence, SilenceLimit};
+use crate::gate::timestamp::Timestamp;
 use crate::gate::watchdog::Watchdog;
+use crate::places::WorkerPlace;
 use crate::terminal::{Progress, TakesNotices};
 use crate::transport::Outboxes;
 use sms_journal::Note;
@@ -23,14 +35,12 @@ use sms_worker::{Clock, Gate, MessageEnd, MessageRefusal};
 use std::alloc::Global;
 use std::fs::OpenFile;
 use std::io::{Eprint, Write};
-use std::sync::Wait;
+use std::sync::{Mutex, Wait};
 use std::time;
 
 /// How fast a run sends, and when it gives a bind up.
 #[derive(Clone, Copy, Debug, PartialEq, Eq)]
 pub struct GateLimits {
-    /// How many workers each bind has.
-    pub workers: u32,
     /// How many milliseconds an answer is waited for.
     pub answer_ms: u32,
     /// How many requests each bind sends in any second at most; None is without a limit.
@@ -56,94 +66,116 @@ pub struct GateLimits {
 /// - At the end of a turn (`see`) a person sees how far the run is, the watchdog gives the bind up if it has
 ///   been silent for too long, and the rate limiter takes an unused permit back.
 #[derive(Drop)]
-pub struct SendGate<'r, 'j, S, N, K, R: Wait, F: Write + OpenFile> {
+pub struct SendGate<'r, S, N, K, C, L, W> {
     alloc: Global,
-    /// Their journal is noted in, and their bells keep the owners of numbers.
-    outboxes: &'r Outboxes<'j, R, F>,
+    connections: &'r C,
     clock: &'r K,
     progress: &'r Progress<'r, S, N, K>,
-    rate_limiter: Option<RateLimiter>,
-    watchdog: Option<Watchdog>,
+    rate_limiter: Option<L>,
+    watchdog: Option<W>,
 }
 
-impl<'r, 'j, S, N, K: Clock, R: Wait, F: Write + OpenFile> SendGate<'r, 'j, S, N, K, R, F> {
-    /// The gate of a run that begins. It sets how many workers share each bind's bells.
+/// The gate over the outboxes of a run.
+pub type RunGate<'r, 'j, S, N, K, R, F> = SendGate<
+    'r,
+    S,
+    N,
+    K,
+    Outboxes<'j, R, F>,
+    RateLimiter<'j, R, Mutex<Bucket>, PermitFlags>,
+    Watchdog<'j, R, Mutex<Silence>>,
+>;
+
+impl<'r, 'j, S, N, K: Clock, R: Wait, F: Write + OpenFile> RunGate<'r, 'j, S, N, K, R, F> {
+    /// The gate of a run that begins.
     pub fn new(
         alloc: Global,
         outboxes: &'r Outboxes<'j, R, F>,
         clock: &'r K,
         progress: &'r Progress<'r, S, N, K>,
         limits: GateLimits,
-    ) -> SendGate<'r, 'j, S, N, K, R, F> {
-        outboxes.bells().set_workers(limits.workers);
+    ) -> RunGate<'r, 'j, S, N, K, R, F>
+        ensures rate { LimitsTo limits.rate result.rate_limiter }
+        ensures stop { StopsAfter limits.stop_after limits.answer_ms result.watchdog }
+    {
         let rate_limiter = match limits.rate {
-            Some(rate) => {
-                let full = Bucket::new(rate, clock.now_ms());
-                Some(RateLimiter::new(limits.workers, full))
+            Some(most) => {
+                let now = Timestamp::of(clock);
+                Some(RateLimiter::new(outboxes.rt(), most, now))
             }
             None => None,
         };
         let watchdog = match limits.stop_after {
             Some(most) => {
-                let none = Silence::new(most, limits.answer_ms);
-                Some(Watchdog::new(limits.workers, none))
+                let answer_ms = limits.answer_ms;
+                let limit = SilenceLimit { most, answer_ms };
+                Some(Watchdog::new(outboxes.rt(), limit))
             }
             None => None,
         };
         SendGate {
             alloc,
-            outboxes,
+            connections: outboxes,
             clock,
             progress,
             rate_limiter,
             watchdog,
         }
     }
+}
 
-    /// Keeps whose request a number is.
-    fn keep_owner(&self, worker: usize, number: u32) {
-        let bells = self.outboxes.bells();
-        if let Some(owners) = bells.owners(bells.bind_of(worker)) {
-            owners.put(number, worker);
-        }
-    }
-
+impl<'r, S, N, K: Clock, C: Connections, L: LimitsRate, W: FindsSilence> SendGate<
+    'r,
+    S,
+    N,
+    K,
+    C,
+    L,
+    W,
+> {
     /// A request of the worker goes out: the watchdog counts it, and the worker's permit is used.
-    fn count_request(&self, worker: usize) {
-        let rt = self.outboxes.rt();
+    fn count_request(&self, place: WorkerPlace)
+        ensures counted { IfSome self.now.watchdog (λ w. (now : Timestamp) × W.counts w place now) }
+        ensures used { IfSome self.now.rate_limiter (λ l. (now : Timestamp) × L.counts l place now) }
+    {
         if let Some(watchdog) = &self.watchdog {
-            watchdog.send(rt, worker, self.clock.now_ms());
+            watchdog.count(place, Timestamp::of(self.clock));
         }
         if let Some(rate_limiter) = &self.rate_limiter {
-            rate_limiter.send(rt, worker, self.clock.now_ms());
+            rate_limiter.count(place, Timestamp::of(self.clock));
         }
     }
 
     /// Gives the worker's bind up if it has been silent for too long.
-    fn watch(&self, worker: usize) {
-        let Some(watchdog) = &self.watchdog else {
-            return;
-        };
-        let now_ms = self.clock.now_ms();
-        if let Some(bind) = watchdog.silent_bind(self.outboxes.rt(), worker, now_ms) {
-            self.outboxes.give_up(bind);
+    fn watch(&self, place: WorkerPlace)
+        ensures { IfSome self.now.watchdog (λ w. (now : Timestamp) × (found : Bool) × W.finds w place now found × (found ≡ true → C.gives_up self.now.connections.now place)) }
+    {
+        if let Some(watchdog) = &self.watchdog {
+            if watchdog.is_silent(place, Timestamp::of(self.clock)) {
+                self.connections.give_up(place);
+            }
         }
     }
 
     /// Takes the worker's permit back if it didn't use it.
-    fn take_back(&self, worker: usize) {
+    fn take_back(&self, place: WorkerPlace)
+        ensures { IfSome self.now.rate_limiter (λ l. L.returns l place) }
+    {
         if let Some(rate_limiter) = &self.rate_limiter {
-            rate_limiter.take_back(self.outboxes.rt(), worker);
+            rate_limiter.take_back(place);
         }
     }
 }
 
-impl<'r, 'j, S: Eprint, N: TakesNotices, K: Clock, R: Wait + time::Clock, F: Write + OpenFile> Gate
-    for SendGate<'r, 'j, S, N, K, R, F> {
-    fn ready(&self, worker: usize) -> bool {
+impl<'r, S: Eprint, N: TakesNotices, K: Clock, C: Connections, L: LimitsRate, W: FindsSilence> Gate
+    for SendGate<'r, S, N, K, C, L, W> {
+    fn ready(&self, worker: usize) -> bool
+        ensures { MatchOption self.now.rate_limiter (result ≡ true) (λ l. (now : Timestamp) × L.permits l (place_of (C.workers self.now.connections.now) worker) now result) }
+    {
         match &self.rate_limiter {
             Some(rate_limiter) => {
-                rate_limiter.permit(self.outboxes.rt(), worker, self.clock.now_ms())
+                let place = self.connections.place_of(worker);
+                rate_limiter.permit(place, Timestamp::of(self.clock))
             }
             None => true,
         }
@@ -155,46 +187,69 @@ impl<'r, 'j, S: Eprint, N: TakesNotices, K: Clock, R: Wait + time::Clock, F: Wri
         true
     }
 
-    fn sending(&self, worker: usize, number: u32, message: u64, part: usize) -> bool {
-        self.keep_owner(worker, number);
+    fn sending(&self, worker: usize, number: u32, message: u64, part: usize) -> bool
+        ensures owner { C.keeps self.now.connections.now (place_of (C.workers self.now.connections.now) worker) number }
+        ensures noted { HasRoom worker part → C.notes self.now.connections.now (Some (request_note worker number message part)) result }
+        ensures unnoted { ¬ HasRoom worker part → C.notes self.now.connections.now None result }
+        ensures counted { result ≡ true → IfSome self.now.watchdog (λ w. (now : Timestamp) × W.counts w (place_of (C.workers self.now.connections.now) worker) now) }
+        ensures used { result ≡ true → IfSome self.now.rate_limiter (λ l. (now : Timestamp) × L.counts l (place_of (C.workers self.now.connections.now) worker) now) }
+    {
+        let place = self.connections.place_of(worker);
+        self.connections.keep_owner(place, number);
         let note = note_of_request(worker, number, message, part);
-        let is_noted = make_note(self.outboxes, note);
+        let is_noted = self.connections.note(note);
         if is_noted {
-            self.count_request(worker);
+            self.count_request(place);
         }
         is_noted
     }
 
-    fn unsent(&self, worker: usize, number: u32) {
-        let _noted = make_note(self.outboxes, note_of_unsent(worker, number));
+    fn unsent(&self, worker: usize, number: u32)
+        ensures { worker ≤ 4294967295 → (made : Bool) × C.notes self.now.connections.now (Some (unsent_note worker number)) made }
+    {
+        let _noted = self.connections.note(note_of_unsent(worker, number));
     }
 
-    fn heard(&self, worker: usize, reply: &Reply) {
-        let _noted = make_note(self.outboxes, note_of_reply(worker, reply));
-        let outboxes = self.outboxes;
-        outboxes.answer(outboxes.bells().bind_of(worker));
+    fn heard(&self, worker: usize, reply: &Reply)
+        ensures noted { worker ≤ 4294967295 → (made : Bool) × C.notes self.now.connections.now (Some (Heard worker reply.now)) made }
+        ensures answered { C.answers self.now.connections.now (place_of (C.workers self.now.connections.now) worker) }
+        ensures watched { IfSome self.now.watchdog (λ w. W.ends w (place_of (C.workers self.now.connections.now) worker)) }
+    {
+        let _noted = self.connections.note(note_of_reply(worker, reply));
+        let place = self.connections.place_of(worker);
+        self.connections.count_answer(place);
         if let Some(watchdog) = &self.watchdog {
-            watchdog.answer(outboxes.rt(), worker);
+            watchdog.answer(place);
         }
     }
 
-    fn begun(&self, _worker: usize, message: u64) {
+    fn begun(&self, _worker: usize, message: u64)
+        ensures { (made : Bool) × C.notes self.now.connections.now (Some (Begun message)) made }
+    {
         warm_up(self.alloc, message);
-        let _noted = make_note(self.outboxes, Some(Note::Begun(message)));
+        let _noted = self.connections.note(Some(Note::Begun(message)));
     }
 
-    fn refused(&self, _worker: usize, message: u64, why: MessageRefusal) {
-        let _noted = make_note(self.outboxes, Some(Note::Refused(message, why)));
+    fn refused(&self, _worker: usize, message: u64, why: MessageRefusal)
+        ensures { (made : Bool) × C.notes self.now.connections.now (Some (Refused message why)) made }
+    {
+        let _noted = self.connections.note(Some(Note::Refused(message, why)));
     }
 
-    fn see(&self, worker: usize, ends: &[MessageEnd], open: usize) {
+    fn see(&self, worker: usize, ends: &[MessageEnd], open: usize)
+        ensures watched { let place = place_of (C.workers self.now.connections.now) worker in IfSome self.now.watchdog (λ w. (now : Timestamp) × (found : Bool) × W.finds w place now found × (found ≡ true → C.gives_up self.now.connections.now place)) }
+        ensures returned { IfSome self.now.rate_limiter (λ l. L.returns l (place_of (C.workers self.now.connections.now) worker)) }
+    {
         self.progress.see(worker, ends, open);
-        self.watch(worker);
-        self.take_back(worker);
+        let place = self.connections.place_of(worker);
+        self.watch(place);
+        self.take_back(place);
     }
 
-    fn see_last(&self, worker: usize, ends: &[MessageEnd]) {
+    fn see_last(&self, worker: usize, ends: &[MessageEnd])
+        ensures { IfSome self.now.rate_limiter (λ l. L.returns l (place_of (C.workers self.now.connections.now) worker)) }
+    {
         self.progress.see_last(worker, ends);
-        self.take_back(worker);
+        self.take_back(self.connections.place_of(worker));
     }
 }

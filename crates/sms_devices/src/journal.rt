@@ -7,11 +7,13 @@ ghost use Rattle.sms_devices.specs.Journals.{HasEnded};
 
 mod failure;
 mod files;
+mod made_file;
 mod pages;
 
 use crate::journal::pages::Pages;
 pub use failure::JournalFailure;
 pub use files::{JournalFiles, Unmade};
+pub use made_file::{MadeFile, Origin};
 use sms_journal::{Digests, JournalKind, Note};
 use std::alloc::Global;
 use std::fs::OpenFile;

@@ -14,6 +14,7 @@ mod gate;
 mod host;
 mod journal;
 mod limits;
+mod places;
 mod terminal;
 mod transport;
 mod waking;
@@ -21,7 +22,7 @@ mod waking;
 pub use clock::Ticks;
 pub use gate::{GateLimits, SendGate};
 pub use host::Host;
-pub use journal::{Journal, JournalFailure, JournalFiles, Unmade};
+pub use journal::{Journal, JournalFailure, JournalFiles, MadeFile, Origin, Unmade};
 pub use terminal::{
     Notice, Notices, Pen, Progress, Screen, TakesNotices, Telling, Terminal, is_verbose, stand_ins,
 };

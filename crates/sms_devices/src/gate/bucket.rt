@@ -5,7 +5,7 @@
 //! when it is sent: a permit that is used late lets no more requests through.
 
 ghost use Rattle.std.specs.Prelude.{◌≡◌, ◌≤◌, ◌<◌, ◌+◌, ℕ, List};
-ghost use Rattle.sms_devices.specs.Buckets.{Asked, after_all, can_lend, given_back, lent_at, level_at, new_bucket, room_for, sends, sent_at};
+ghost use Rattle.sms_devices.specs.Buckets.{Asked, after_all, can_lend, full, given_back, lent_at, level_at, rate_for, room_for, sends, sent_at};
 ghost use Rattle.sms_devices.specs.declared.gate.bucket.Bucket.{Bucket};
 
 /// What a request takes from the level. A rate of one adds one each millisecond.
@@ -19,13 +19,31 @@ fn room_for(most: u32) -> u32
     (most / 50).max(1)
 }
 
-/// What has come at a steady rate and isn't used yet. What exceeds `depth` requests is lost.
+/// How fast a bind may send.
 #[derive(Clone, Copy, Debug, PartialEq, Eq)]
-pub struct Bucket {
+pub struct Rate {
     /// How many requests come in 1,010 ms.
     rate: u32,
     /// How many requests may be saved up.
     depth: u32,
+}
+
+impl Rate {
+    /// The rate of at most `most` requests in a second.
+    pub fn new(most: u32) -> Rate
+        ensures { result ≡ rate_for most }
+    {
+        let depth = room_for(most);
+        Rate {
+            rate: most.saturating_sub(depth).saturating_add(1),
+            depth,
+        }
+    }
+}
+
+/// What has come at a steady rate and isn't used yet. What exceeds the rate's depth is lost.
+#[derive(Clone, Copy, Debug, PartialEq, Eq)]
+pub struct Bucket {
     /// What is saved up, in 1,010ths of a request.
     level: u64,
     /// The time of that level, in milliseconds.
@@ -35,36 +53,33 @@ pub struct Bucket {
 }
 
 impl Bucket {
-    /// A full bucket, for at most `most` requests in a second.
-    pub fn new(most: u32, now_ms: u64) -> Bucket
-        ensures { result ≡ new_bucket most now_ms }
+    /// A full bucket of this rate.
+    pub fn full(rate: Rate, now_ms: u64) -> Bucket
+        ensures { result ≡ full rate now_ms }
     {
-        let depth = room_for(most);
         Bucket {
-            rate: most.saturating_sub(depth).saturating_add(1),
-            depth,
-            level: u64::from(depth) * REQUEST,
+            level: u64::from(rate.depth) * REQUEST,
             at_ms: now_ms,
             lent: 0,
         }
     }
 
     /// The level at this time. If the clock goes back it stands still.
-    fn level_at(&self, now_ms: u64) -> u64
-        ensures { result ≡ level_at self.now now_ms }
+    fn level_at(&self, rate: Rate, now_ms: u64) -> u64
+        ensures { result ≡ level_at rate self.now now_ms }
     {
         let passed = now_ms.saturating_sub(self.at_ms);
-        let come = passed.saturating_mul(u64::from(self.rate));
-        let most = u64::from(self.depth) * REQUEST;
+        let come = passed.saturating_mul(u64::from(rate.rate));
+        let most = u64::from(rate.depth) * REQUEST;
         self.level.saturating_add(come).min(most)
     }
 
     /// Gives a permit for a request. False if the level isn't high enough yet.
-    pub fn lend(&mut self, now_ms: u64) -> bool
-        ensures granted { result ≡ can_lend self.old now_ms }
-        ensures lent { self.new ≡ lent_at self.old now_ms }
+    pub fn lend(&mut self, rate: Rate, now_ms: u64) -> bool
+        ensures granted { result ≡ can_lend rate self.old now_ms }
+        ensures lent { self.new ≡ lent_at rate self.old now_ms }
     {
-        let level = self.level_at(now_ms);
+        let level = self.level_at(rate, now_ms);
         if self.lent >= level / REQUEST {
             return false;
         }
@@ -75,10 +90,10 @@ impl Bucket {
     }
 
     /// A request with a permit is sent.
-    pub fn send(&mut self, now_ms: u64)
-        ensures { self.new ≡ sent_at self.old now_ms }
+    pub fn send(&mut self, rate: Rate, now_ms: u64)
+        ensures { self.new ≡ sent_at rate self.old now_ms }
     {
-        self.level = self.level_at(now_ms).saturating_sub(REQUEST);
+        self.level = self.level_at(rate, now_ms).saturating_sub(REQUEST);
         self.at_ms = self.at_ms.max(now_ms);
         self.lent = self.lent.saturating_sub(1);
     }
@@ -94,5 +109,5 @@ impl Bucket {
 /// Whatever is asked of a bucket for `most` requests in a second, and when: from any request on that is sent, no more
 /// than `most` are sent, itself included, until more than 1,009 ms have passed.
 pub fn no_more_go_in_any_second()
-    ensures { (most begun now : ℕ) → 1 ≤ most → (before later : List Asked) → (b : Bucket) → b ≡ after_all before (new_bucket most begun) → 0 < b.lent → (after_all later (sent_at b now)).at_ms ≤ (sent_at b now).at_ms + 1009 → 1 + sends later (sent_at b now) ≤ most }
+    ensures { (most begun now : ℕ) → 1 ≤ most → (before later : List Asked) → let r = rate_for most in (b : Bucket) → b ≡ after_all r before (full r begun) → 0 < b.lent → (after_all r later (sent_at r b now)).at_ms ≤ (sent_at r b now).at_ms + 1009 → 1 + sends r later (sent_at r b now) ≤ most }
 {}

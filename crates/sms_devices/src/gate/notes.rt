@@ -1,11 +1,10 @@
 //! The notes that a gate makes in the journal of a run.
 
-ghost use Rattle.std.specs.Prelude.{◌≡◌, ◌≤◌, ◌↔◌, IfSome, IsSome, None, false, true};
-ghost use Rattle.sms_journal.specs.declared.notes.note.Note.TheVariants.{Heard, Unsent};
-ghost use Rattle.sms_devices.specs.Journals.{HasRoom, request_note};
-ghost use Rattle.sms_devices.specs.Outboxes.{has_journal};
+ghost use Rattle.std.specs.Prelude.{◌≡◌, ◌≤◌, ◌<◌, None, Some, option_copied};
+ghost use Rattle.sms_journal.specs.declared.notes.note.Note.TheVariants.{Heard};
+ghost use Rattle.sms_devices.specs.Journals.{HasRoom, IsMadeIn, request_note, unsent_note};
 
-use crate::transport::Outboxes;
+use crate::journal::Journal;
 use sms_journal::{Note, RequestId};
 use sms_pdu::Reply;
 use std::fs::OpenFile;
@@ -15,8 +14,8 @@ use std::time::Clock;
 
 /// The request of a worker; None if a note can't hold the worker's number.
 fn request_of(worker: usize, number: u32) -> Option<RequestId>
-    ensures exists { IsSome result ↔ (worker ≤ 4294967295) }
-    ensures request { IfSome result (λ request. request ≡ record { worker = worker; number = number }) }
+    ensures request { worker ≤ 4294967295 → result ≡ Some (record { worker = worker; number = number }) }
+    ensures none { 4294967295 < worker → result ≡ None }
 {
     match u32::try_from(worker) {
         Ok(worker) => Some(RequestId { worker, number }),
@@ -32,8 +31,8 @@ pub(crate) fn note_of_request(
     message: u64,
     place: usize,
 ) -> Option<Note>
-    ensures exists { IsSome result ↔ HasRoom worker place }
-    ensures note { IfSome result (λ note. note ≡ request_note worker number message place) }
+    ensures note { HasRoom worker place → result ≡ Some (request_note worker number message place) }
+    ensures none { ¬ HasRoom worker place → result ≡ None }
 {
     if place >= usize::from(u8::MAX) {
         return None;
@@ -45,8 +44,8 @@ pub(crate) fn note_of_request(
 
 /// The note of a reply to a worker's request.
 pub(crate) fn note_of_reply(worker: usize, reply: &Reply) -> Option<Note>
-    ensures exists { IsSome result ↔ (worker ≤ 4294967295) }
-    ensures note { IfSome result (λ note. note ≡ Heard worker reply.now) }
+    ensures note { worker ≤ 4294967295 → result ≡ Some (Heard worker reply.now) }
+    ensures none { 4294967295 < worker → result ≡ None }
 {
     match u32::try_from(worker) {
         Ok(worker) => Some(Note::Heard(worker, *reply)),
@@ -56,8 +55,8 @@ pub(crate) fn note_of_reply(worker: usize, reply: &Reply) -> Option<Note>
 
 /// The note of a request that wasn't sent after all.
 pub(crate) fn note_of_unsent(worker: usize, number: u32) -> Option<Note>
-    ensures exists { IsSome result ↔ (worker ≤ 4294967295) }
-    ensures note { IfSome result (λ note. note ≡ Unsent (record { worker = worker; number = number })) }
+    ensures note { worker ≤ 4294967295 → result ≡ Some (unsent_note worker number) }
+    ensures none { 4294967295 < worker → result ≡ None }
 {
     match request_of(worker, number) {
         Some(request) => Some(Note::Unsent(request)),
@@ -65,17 +64,36 @@ pub(crate) fn note_of_unsent(worker: usize, number: u32) -> Option<Note>
     }
 }
 
+/// A journal that takes notes.
+pub trait TakesNotes {
+    ghost use Rattle.std.specs.Prelude.{Bool, ⊤};
+    ghost use Rattle.sms_journal.specs.declared.notes.note.Note.{Note};
+
+    // Whether a note was made.
+    ghost makes: { Self → Note → Bool → Type 0 } = { λ _ _ _. ⊤ };
+
+    /// Makes a note. False if the journal has failed.
+    fn make<R: Wait + Clock>(&self, rt: &R, note: &Note) -> bool
+        ensures { makes self.now note.now result };
+}
+
+impl<F: Write + OpenFile> TakesNotes for Journal<F> {
+    fn make<R: Wait + Clock>(&self, rt: &R, note: &Note) -> bool {
+        self.note(rt, note)
+    }
+}
+
 /// Makes a note in the journal of the run, if it has one. A note that can't hold its numbers is None. False if
 /// there is a journal and the note isn't made.
-pub(crate) fn make_note<R: Wait + Clock, F: Write + OpenFile>(
-    outboxes: &Outboxes<'_, R, F>,
+pub(crate) fn make_note<R: Wait + Clock, J: TakesNotes>(
+    rt: &R,
+    journal: Option<&J>,
     note: Option<Note>,
 ) -> bool
-    ensures without { has_journal outboxes.now ≡ false → result ≡ true }
-    ensures unmade { has_journal outboxes.now ≡ true → note ≡ None → result ≡ false }
+    ensures { IsMadeIn J.makes (option_copied journal.entry) note result }
 {
-    match (outboxes.journal(), note) {
-        (Some(journal), Some(note)) => journal.note(outboxes.rt(), &note),
+    match (journal, note) {
+        (Some(journal), Some(note)) => journal.make(rt, &note),
         (Some(_), None) => false,
         (None, _) => true,
     }

@@ -1,59 +1,104 @@
 //! When a bind is given up to which requests go out and no answer comes.
 
-ghost use Rattle.std.specs.Prelude.{◌≡◌, ◌<◌, ◌/◌, ◌↔◌, IfSome, IsSome, max};
+ghost use Rattle.std.specs.Prelude.{◌≡◌, IfSome, MatchOption, false};
+ghost use Rattle.sms_devices.specs.Places.{of_bind};
 
-use crate::gate::silence::Silence;
-use crate::limits::{MOST_BINDS, bind_of};
-use std::array;
+use crate::gate::parts::FindsSilence;
+use crate::gate::silence::{Silence, SilenceLimit};
+use crate::gate::timestamp::Timestamp;
+use crate::places::{PerBind, WorkerPlace};
 use std::sync::{Mutex, Wait};
+
+/// The requests of a bind since the last answer, which its workers count together.
+pub trait SharedSilence {
+    ghost use Rattle.std.specs.Prelude.{Bool, ⊤};
+    ghost use Rattle.sms_devices.specs.declared.gate.silence.SilenceLimit.{SilenceLimit};
+    ghost use Rattle.sms_devices.specs.declared.gate.timestamp.Timestamp.{Timestamp};
+
+    // That a request was counted; that an answer came; whether it is too long.
+    ghost counts: { Self → SilenceLimit → Timestamp → Type 0 } = { λ _ _ _. ⊤ };
+
+    ghost ends: { Self → Type 0 } = { λ _. ⊤ };
+
+    ghost finds: { Self → SilenceLimit → Timestamp → Bool → Type 0 } = { λ _ _ _ _. ⊤ };
+
+    /// A request goes out.
+    fn send<R: Wait>(&self, rt: &R, limit: SilenceLimit, now: Timestamp)
+        ensures { counts self.now limit now };
+
+    /// An answer came.
+    fn answer<R: Wait>(&self, rt: &R)
+        ensures { ends self.now };
+
+    /// Whether as many requests as the limit went out without an answer, and the last of them was waited for.
+    fn is_too_long<R: Wait>(&self, rt: &R, limit: SilenceLimit, now: Timestamp) -> bool
+        ensures { finds self.now limit now result };
+}
+
+impl SharedSilence for Mutex<Silence> {
+    fn send<R: Wait>(&self, rt: &R, limit: SilenceLimit, now: Timestamp) {
+        self.lock(rt).send(limit, now.ms());
+    }
+
+    fn answer<R: Wait>(&self, rt: &R) {
+        self.lock(rt).answer();
+    }
+
+    fn is_too_long<R: Wait>(&self, rt: &R, limit: SilenceLimit, now: Timestamp) -> bool {
+        self.lock(rt).is_too_long(limit, now.ms())
+    }
+}
 
 /// For each bind the requests since the last answer.
 #[derive(Drop)]
-pub(crate) struct Watchdog {
-    /// How many workers each bind has.
-    workers: usize,
-    silences: [Mutex<Silence>; MOST_BINDS],
+pub struct Watchdog<'j, R, C> {
+    rt: &'j R,
+    /// It stands beside the locks, so that contracts know it.
+    limit: SilenceLimit,
+    silences: PerBind<C>,
 }
 
-impl Watchdog {
-    /// Silences like this one, for binds with this many workers each.
-    pub(crate) fn new(workers: u32, none: Silence) -> Watchdog {
+impl<'j, R: Wait> Watchdog<'j, R, Mutex<Silence>> {
+    /// Finds a bind silent by this limit. Nothing went out yet.
+    pub(crate) fn new(rt: &'j R, limit: SilenceLimit) -> Watchdog<'j, R, Mutex<Silence>>
+        ensures { result.limit ≡ limit }
+    {
         Watchdog {
-            workers: workers as usize,
-            silences: array::from_fn(|_| Mutex::new(none)),
+            rt,
+            limit,
+            silences: PerBind {
+                first: Mutex::new(Silence::new()),
+                second: Mutex::new(Silence::new()),
+                third: Mutex::new(Silence::new()),
+                fourth: Mutex::new(Silence::new()),
+            },
+        }
+    }
+}
+
+impl<'j, R: Wait, C: SharedSilence> FindsSilence for Watchdog<'j, R, C> {
+    ghost counts = { λ s place now. IfSome (of_bind s.silences place.bind) (λ c. C.counts c s.limit now) };
+
+    ghost ends = { λ s place. IfSome (of_bind s.silences place.bind) (λ c. C.ends c) };
+
+    ghost finds = { λ s place now found. MatchOption (of_bind s.silences place.bind) (found ≡ false) (λ c. C.finds c s.limit now found) };
+
+    fn count(&self, place: WorkerPlace, now: Timestamp) {
+        if let Some(silence) = self.silences.of(place) {
+            silence.send(self.rt, self.limit, now);
         }
     }
 
-    /// The silence of the worker's bind; None beyond the last bind.
-    fn of_worker(&self, worker: usize) -> Option<&Mutex<Silence>>
-        ensures { IsSome result ↔ (worker / max self.now.workers 1 < 4) }
-    {
-        self.silences.get(bind_of(worker, self.workers))
-    }
-
-    /// A request of the worker goes out.
-    pub(crate) fn send<R: Wait>(&self, rt: &R, worker: usize, now_ms: u64) {
-        if let Some(silence) = self.of_worker(worker) {
-            silence.lock(rt).send(now_ms);
+    fn answer(&self, place: WorkerPlace) {
+        if let Some(silence) = self.silences.of(place) {
+            silence.answer(self.rt);
         }
     }
 
-    /// An answer to the worker came.
-    pub(crate) fn answer<R: Wait>(&self, rt: &R, worker: usize) {
-        if let Some(silence) = self.of_worker(worker) {
-            silence.lock(rt).answer();
-        }
-    }
-
-    /// The worker's bind, if it has been silent for too long.
-    pub(crate) fn silent_bind<R: Wait>(&self, rt: &R, worker: usize, now_ms: u64) -> Option<u32>
-        ensures { IfSome result (λ bind. bind ≡ worker / max self.now.workers 1) }
-    {
-        let silence = self.of_worker(worker)?;
-        if silence.lock(rt).is_too_long(now_ms) {
-            Some(bind_of(worker, self.workers) as u32)
-        } else {
-            None
+    fn is_silent(&self, place: WorkerPlace, now: Timestamp) -> bool {
+        match self.silences.of(place) {
+            Some(silence) => silence.is_too_long(self.rt, self.limit, now),
+            None => false,
         }
     }
 }

@@ -53,7 +53,13 @@ fn ends_of<'r, 'j, S: Drop, R: Wait + Clock, F: Write + OpenFile>(
     bind: u32,
     deadline: Option<Deadline>,
     reached: Result<(S, Guarded<'j, TcpStream, R, F>), Unconnected>,
-) -> Result<(WakingReader<'r, 'j, S, R, F>, OutboxWriter<'r, 'j, R, F>), Unconnected>
+) -> Result<
+    (
+        WakingReader<'r, 'j, S, R, F>,
+        OutboxWriter<'r, 'j, R, Outbox<'j, R, F>>,
+    ),
+    Unconnected,
+>
     ensures { IfOk result (λ ends. IsOkAnd reached.entry (λ both. ends.0.inner ≡ both.0)) }
 {
     let rt = outboxes.rt();
@@ -81,7 +87,6 @@ fn ends_of<'r, 'j, S: Drop, R: Wait + Clock, F: Write + OpenFile>(
     };
     let writer = OutboxWriter {
         rt,
-        journal,
         bells,
         bind,
         outbox,
@@ -97,7 +102,12 @@ fn finish_dial<'r, 'j, S: Drop, R: Wait + Clock, F: Write + OpenFile>(
     bind: u32,
     deadline: Option<Deadline>,
     reached: Result<(S, Guarded<'j, TcpStream, R, F>), Unconnected>,
-) -> Option<(WakingReader<'r, 'j, S, R, F>, OutboxWriter<'r, 'j, R, F>)>
+) -> Option<
+    (
+        WakingReader<'r, 'j, S, R, F>,
+        OutboxWriter<'r, 'j, R, Outbox<'j, R, F>>,
+    ),
+>
     ensures { IfSome result (λ ends. IsOkAnd reached.entry (λ both. ends.0.inner ≡ both.0)) }
 {
     let ends = ends_of(alloc, outboxes, outbox, bind, deadline, reached);
@@ -123,7 +133,7 @@ impl<'r, 'j, R: Connects + Clock + Sync, F: Write + OpenFile + Send + Drop> Dial
 
     type Reader = WakingReader<'r, 'j, R::Incoming, R, F>;
 
-    type Writer = OutboxWriter<'r, 'j, R, F>;
+    type Writer = OutboxWriter<'r, 'j, R, Outbox<'j, R, F>>;
 
     fn dial(
         &self,
@@ -131,7 +141,7 @@ impl<'r, 'j, R: Connects + Clock + Sync, F: Write + OpenFile + Send + Drop> Dial
     ) -> Option<
         (
             WakingReader<'r, 'j, R::Incoming, R, F>,
-            OutboxWriter<'r, 'j, R, F>,
+            OutboxWriter<'r, 'j, R, Outbox<'j, R, F>>,
         ),
     > {
         let outbox = self.outboxes.get(bind)?;
@@ -164,7 +174,7 @@ impl<'r, 'j, R: Connects + Clock + Sync, F: Write + OpenFile + Send + Drop> Dial
 
     type Reader = WakingReader<'r, 'j, R::Incoming, R, F>;
 
-    type Writer = OutboxWriter<'r, 'j, R, F>;
+    type Writer = OutboxWriter<'r, 'j, R, Outbox<'j, R, F>>;
 
     fn dial(
         &self,
@@ -172,7 +182,7 @@ impl<'r, 'j, R: Connects + Clock + Sync, F: Write + OpenFile + Send + Drop> Dial
     ) -> Option<
         (
             WakingReader<'r, 'j, R::Incoming, R, F>,
-            OutboxWriter<'r, 'j, R, F>,
+            OutboxWriter<'r, 'j, R, Outbox<'j, R, F>>,
         ),
     > {
         let outbox = self.outboxes.get(bind)?;

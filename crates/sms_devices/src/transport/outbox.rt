@@ -1,25 +1,69 @@
 //! What the wire of a bind has written and its connection has not taken yet. The requests of a turn go
 //! out together, not by a write each.
 
-ghost use Rattle.std.specs.Prelude.{◌≡◌};
+ghost use Rattle.std.specs.Prelude.{◌≡◌, ⊤};
+ghost use Rattle.std.specs.Io.{WritesAtMost};
 ghost use Rattle.std.specs.Result.{result_ok};
+ghost use Rattle.sms_devices.specs.Outboxes.{PutsInto};
 
 use crate::transport::buffered::Buffered;
 use crate::transport::connecting::Unconnected;
-use crate::transport::guarded::Guarded;
+use crate::transport::guarded::{Guarded, Shut};
 use crate::transport::requests::Requests;
 use std::alloc::Global;
 use std::fs::OpenFile;
-use std::io::Write;
+use std::io;
+use std::io::{Error, ErrorKind, Write};
 use std::net::{Shutdown, TcpStream};
 use std::sync::{Mutex, Wait};
+
+/// What the writer of a bind puts frames into.
+pub trait TakesFrames<R> {
+    ghost use Rattle.std.specs.Prelude.{ℕ, List, Result, ⊤};
+    ghost use Rattle.std.specs.Io.{WritesAtMost};
+    ghost use Rattle.std.specs.declared.io.Error.{Error};
+
+    // What became of octets that were put.
+    ghost puts: { Self → List ℕ → Result ℕ Error → Type 0 } = { λ _ _ _. ⊤ };
+
+    /// Puts the octets of a frame. It is an error if there is no connection, or if a write to it failed, now or before.
+    fn put(&self, rt: &R, octets: &[u8]) -> io::Result<usize>
+        ensures bound { WritesAtMost result octets.now }
+        ensures put { puts self.now octets.now result };
+
+    /// Writes what waits. If another thread uses the outbox, it is left to that thread.
+    fn write_out(&self);
+}
+
+/// Puts the octets of a frame into the buffer of a connection, if there is one, and counts the bind's requests.
+fn put_into<W: Write + Shut + Drop>(
+    connection: &mut Option<Buffered<W>>,
+    requests: &Requests,
+    octets: &[u8],
+) -> io::Result<usize>
+    ensures bound { WritesAtMost result octets.now }
+    ensures put { PutsInto W.contents octets.now connection.old connection.new result }
+{
+    match connection.as_mut() {
+        Some(open) => {
+            let before = open.waiting();
+            let put = open.put(octets);
+            match &put {
+                Ok(_count) => requests.put(octets, before, open.waiting()),
+                Err(_broken) => requests.flush(before, open.waiting()),
+            }
+            put
+        }
+        None => Err(Error::from(ErrorKind::NotConnected)),
+    }
+}
 
 /// The outbox of one bind. It has no connection until one is made.
 #[derive(Drop)]
 pub struct Outbox<'j, R: Wait, F: Write + OpenFile> {
     /// The buffered connection, once there is one. The writer of the bind puts frames into it.
-    pub(super) connection: Mutex<Option<Buffered<Guarded<'j, TcpStream, R, F>>>>,
-    pub(super) requests: Requests,
+    connection: Mutex<Option<Buffered<Guarded<'j, TcpStream, R, F>>>>,
+    requests: Requests,
     /// Why there is no connection, if the last attempt to make one failed.
     unconnected: Mutex<Unconnected>,
 }
@@ -105,5 +149,15 @@ impl<'j, R: Wait, F: Write + OpenFile> Outbox<'j, R, F> {
                 self.requests.flush(before, open.waiting());
             }
         }
+    }
+}
+
+impl<'j, R: Wait, F: Write + OpenFile> TakesFrames<R> for Outbox<'j, R, F> {
+    fn put(&self, rt: &R, octets: &[u8]) -> io::Result<usize> {
+        put_into(&mut *self.connection.lock(rt), &self.requests, octets)
+    }
+
+    fn write_out(&self) {
+        self.flush();
     }
 }

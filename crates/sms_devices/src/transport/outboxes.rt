@@ -1,15 +1,19 @@
 //! The outboxes of all binds, with what their connections share: the journal, the bells and the clock.
 
-ghost use Rattle.std.specs.Prelude.{◌≡◌, option_copied};
+ghost use Rattle.std.specs.Prelude.{◌≡◌, option_copied, ⊤};
 ghost use Rattle.std.specs.Option.{is_some};
-ghost use Rattle.sms_devices.specs.Outboxes.{has_journal, outbox_of};
+ghost use Rattle.sms_devices.specs.Journals.{IsMadeIn};
+ghost use Rattle.sms_devices.specs.Outboxes.{has_journal, outbox_of, workers_of};
 
 use crate::clock::Ticks;
+use crate::gate::{Connections, make_note};
 use crate::journal::{Journal, let_out_of};
+use crate::places::{PerBind, WorkerPlace};
 use crate::transport::connecting::{Reason, Unconnected};
 use crate::transport::guarded::Guarded;
 use crate::transport::outbox::Outbox;
 use crate::waking::Bells;
+use sms_journal::Note;
 use std::fs::OpenFile;
 use std::io::Write;
 use std::sync::Wait;
@@ -23,29 +27,28 @@ pub struct Outboxes<'j, R: Wait, F: Write + OpenFile> {
     journal: Option<&'j Journal<F>>,
     bells: Bells,
     clock: Ticks<'j, R>,
-    // The outbox of each bind. They are fields since an array of values that own memory can't be a struct's field.
-    first: Outbox<'j, R, F>,
-    second: Outbox<'j, R, F>,
-    third: Outbox<'j, R, F>,
-    fourth: Outbox<'j, R, F>,
+    each: PerBind<Outbox<'j, R, F>>,
     /// How many milliseconds a write may wait for a connection that takes no octet; 0 is without a limit.
     patience_ms: AtomicU32,
 }
 
 impl<'j, R: Wait + Clock, F: Write + OpenFile> Outboxes<'j, R, F> {
-    /// Outboxes without connections, in a run with a journal or without.
-    pub fn new(rt: &'j R, journal: Option<&'j Journal<F>>) -> Outboxes<'j, R, F>
-        ensures { has_journal result ≡ is_some journal.entry }
+    /// Outboxes without connections, in a run with a journal or without, whose binds have this many workers each.
+    pub fn new(rt: &'j R, journal: Option<&'j Journal<F>>, workers: u32) -> Outboxes<'j, R, F>
+        ensures journal { has_journal result ≡ is_some journal.entry }
+        ensures workers { workers_of result ≡ workers }
     {
         Outboxes {
             rt,
             journal,
-            bells: Bells::new(),
+            bells: Bells::new(workers),
             clock: Ticks::new(rt),
-            first: Outbox::new(),
-            second: Outbox::new(),
-            third: Outbox::new(),
-            fourth: Outbox::new(),
+            each: PerBind {
+                first: Outbox::new(),
+                second: Outbox::new(),
+                third: Outbox::new(),
+                fourth: Outbox::new(),
+            },
             patience_ms: AtomicU32::new(0),
         }
     }
@@ -67,20 +70,7 @@ impl<'j, R: Wait, F: Write + OpenFile> Outboxes<'j, R, F> {
     pub fn get(&self, bind: u32) -> Option<&Outbox<'j, R, F>>
         ensures { option_copied result ≡ outbox_of self.now bind }
     {
-        self.at(bind as usize)
-    }
-
-    /// The outbox of the bind at this place; None beyond the last bind.
-    fn at(&self, bind: usize) -> Option<&Outbox<'j, R, F>>
-        ensures { option_copied result ≡ outbox_of self.now bind }
-    {
-        match bind {
-            0 => Some(&self.first),
-            1 => Some(&self.second),
-            2 => Some(&self.third),
-            3 => Some(&self.fourth),
-            _ => None,
-        }
+        self.each.at(bind as usize)
     }
 
     /// Why a bind has no connection, if the last attempt to make one failed.
@@ -98,13 +88,6 @@ impl<'j, R: Wait, F: Write + OpenFile> Outboxes<'j, R, F> {
     pub fn give_up(&self, bind: u32) {
         if let Some(outbox) = self.get(bind) {
             outbox.give_up(self.rt);
-        }
-    }
-
-    /// One of the bind's requests was answered.
-    pub(crate) fn answer(&self, bind: usize) {
-        if let Some(outbox) = self.at(bind) {
-            outbox.answer();
         }
     }
 
@@ -128,7 +111,9 @@ impl<'j, R: Wait, F: Write + OpenFile> Outboxes<'j, R, F> {
     }
 
     /// The bells of the binds' workers.
-    pub fn bells(&self) -> &Bells {
+    pub fn bells(&self) -> &Bells
+        ensures { result.now ≡ self.now.bells }
+    {
         &self.bells
     }
 
@@ -150,7 +135,7 @@ impl<'j, R: Wait, F: Write + OpenFile> Outboxes<'j, R, F> {
 
     /// Writes what waits for the connection of this bind, and then the notes that are still in memory.
     pub fn flush_bind(&self, bind: usize) {
-        if let Some(outbox) = self.at(bind) {
+        if let Some(outbox) = self.each.at(bind) {
             outbox.flush();
         }
         let _let_out = let_out_of(self.rt, self.journal);
@@ -158,17 +143,55 @@ impl<'j, R: Wait, F: Write + OpenFile> Outboxes<'j, R, F> {
 
     /// Starts a burst at this bind after a pause, a long one or not.
     pub fn begin(&self, bind: usize, waited_long: bool) {
-        if let Some(outbox) = self.at(bind) {
+        if let Some(outbox) = self.each.at(bind) {
             outbox.begin(waited_long);
         }
     }
 
     /// Writes what waits for any connection, and then the notes that are still in memory.
     pub fn flush(&self) {
-        self.first.flush();
-        self.second.flush();
-        self.third.flush();
-        self.fourth.flush();
+        self.each.first.flush();
+        self.each.second.flush();
+        self.each.third.flush();
+        self.each.fourth.flush();
         let _let_out = let_out_of(self.rt, self.journal);
+    }
+}
+
+impl<'j, R: Wait + Clock, F: Write + OpenFile> Connections for Outboxes<'j, R, F> {
+    ghost workers = { λ o. workers_of o };
+
+    ghost keeps = { λ _ _ _. ⊤ };
+
+    ghost notes = { λ o note made. IsMadeIn (λ _ _ _. ⊤) (option_copied o.journal) note made };
+
+    ghost answers = { λ _ _. ⊤ };
+
+    ghost gives_up = { λ _ _. ⊤ };
+
+    fn place_of(&self, worker: usize) -> WorkerPlace {
+        self.bells.place_of(worker)
+    }
+
+    fn keep_owner(&self, place: WorkerPlace, number: u32) {
+        if let Some(owners) = self.bells.owners(place.bind()) {
+            owners.put(number, place.worker());
+        }
+    }
+
+    fn note(&self, note: Option<Note>) -> bool {
+        make_note(self.rt, self.journal, note)
+    }
+
+    fn count_answer(&self, place: WorkerPlace) {
+        if let Some(outbox) = self.each.of(place) {
+            outbox.answer();
+        }
+    }
+
+    fn give_up(&self, place: WorkerPlace) {
+        if let Some(outbox) = self.each.of(place) {
+            outbox.give_up(self.rt);
+        }
     }
 }

@@ -13,12 +13,14 @@
 
 ghost use Rattle.std.specs.Prelude.{◌≡◌, nat_lt};
 ghost use Rattle.std.specs.Option.{is_some};
+ghost use Rattle.sms_devices.specs.Places.{bind_of, place_of};
 
-use crate::limits::{MOST_BINDS, bind_of};
+use crate::limits::MOST_BINDS;
+use crate::places::WorkerPlace;
 use crate::waking::owners::Owners;
 use sms_book::MOST_WORKERS;
 use std::array;
-use std::sync::atomic::{AtomicBool, AtomicU32, Ordering};
+use std::sync::atomic::{AtomicBool, Ordering};
 use std::sync::{Condvar, Mutex, Wait};
 use std::time::{Clock, Duration};
 
@@ -65,7 +67,7 @@ impl Bell {
 #[derive(Drop)]
 pub struct Bells {
     /// How many workers each bind has.
-    workers: AtomicU32,
+    workers: u32,
     of_workers: [Bell; MOST_WORKERS],
     of_driver: Bell,
     /// Whether a write to the bind's connection failed.
@@ -74,10 +76,12 @@ pub struct Bells {
 }
 
 impl Bells {
-    /// Bells that have not rung, of binds with one worker each.
-    pub fn new() -> Bells {
+    /// Bells that have not rung, of binds with this many workers each.
+    pub fn new(workers: u32) -> Bells
+        ensures { result.workers ≡ workers }
+    {
         Bells {
-            workers: AtomicU32::new(1),
+            workers,
             of_workers: array::from_fn(|_| Bell::new()),
             of_driver: Bell::new(),
             has_failed: array::from_fn(|_| AtomicBool::new(false)),
@@ -85,14 +89,18 @@ impl Bells {
         }
     }
 
-    /// Sets how many workers each bind has.
-    pub fn set_workers(&self, workers: u32) {
-        self.workers.store(workers, Ordering::SeqCst);
+    /// Where the worker with this number stands.
+    pub fn place_of(&self, worker: usize) -> WorkerPlace
+        ensures { result ≡ place_of self.now.workers worker }
+    {
+        WorkerPlace::new(self.workers, worker)
     }
 
     /// The bind of a worker.
-    pub fn bind_of(&self, worker: usize) -> usize {
-        bind_of(worker, self.workers.load(Ordering::SeqCst) as usize)
+    pub fn bind_of(&self, worker: usize) -> usize
+        ensures { result ≡ bind_of self.now.workers worker }
+    {
+        self.place_of(worker).bind()
     }
 
     /// The owners of this bind's numbers; None beyond the last bind.

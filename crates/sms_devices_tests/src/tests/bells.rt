@@ -79,13 +79,7 @@ fn send<R: AllocGlobal + Wait + time::Clock + Abort>(
 ) {
     let clock = ManualClock::new(0);
     let progress = no_progress(&Nowhere, &clock);
-    let gate = SendGate::new(
-        rt.alloc(),
-        outboxes,
-        &clock,
-        &progress,
-        limits(2, None, None),
-    );
+    let gate = SendGate::new(rt.alloc(), outboxes, &clock, &progress, limits(None, None));
     assert!(rt; gate.sending(worker, number, 0, 0));
 }
 
@@ -94,7 +88,7 @@ fn send<R: AllocGlobal + Wait + time::Clock + Abort>(
 /// another number took its place or nobody sent it, all workers of the bind are woken.
 #[test]
 fn wakes_whom_an_answer_is_for(rt: HostRuntime) {
-    let outboxes = Outboxes::new(&rt, no_journal());
+    let outboxes = Outboxes::new(&rt, no_journal(), 2);
     let (mut reader, _writer, mut far) = connected(&rt, &outboxes, 0, None);
     let parking = Parking {
         rt: &rt,
@@ -126,13 +120,12 @@ fn wakes_whom_an_answer_is_for(rt: HostRuntime) {
 /// do too.
 #[test]
 fn wakes_all_where_a_line_goes_down(rt: HostRuntime) {
-    let outboxes = Outboxes::new(&rt, no_journal());
+    let outboxes = Outboxes::new(&rt, no_journal(), 2);
     let (mut reader, mut writer, mut far) = connected(&rt, &outboxes, 0, None);
     let parking = Parking {
         rt: &rt,
         outboxes: &outboxes,
     };
-    outboxes.bells().set_workers(2);
     receive(&rt, &mut far, &mut reader, &BAD);
     expect_woken(&rt, &parking, [true, true, false]);
     receive(&rt, &mut far, &mut reader, &[0]);

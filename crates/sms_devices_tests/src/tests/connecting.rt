@@ -33,7 +33,7 @@ const UNCONNECTED: [(&str, u16, Option<u32>, Unconnected); 8] = [
 /// The system's error for an address or a name gives the reason of the bind that was dialled for.
 #[test]
 fn gives_the_reason_of_no_connection(rt: HostRuntime) {
-    let outboxes = Outboxes::new(&rt, no_journal());
+    let outboxes = Outboxes::new(&rt, no_journal(), 1);
     for (host, port, connect_ms, expected) in &UNCONNECTED {
         let dial = TcpDial {
             host,
@@ -47,7 +47,7 @@ fn gives_the_reason_of_no_connection(rt: HostRuntime) {
 /// Each bind has a reason of its own, and a connection that is made leaves those of the others.
 #[test]
 fn keeps_the_reason_of_each_bind(rt: HostRuntime) {
-    let outboxes = Outboxes::new(&rt, no_journal());
+    let outboxes = Outboxes::new(&rt, no_journal(), 1);
     let (_listener, open) = listening(&rt);
     let hosts = [
         ("127.0.0.1", 1u16),
@@ -72,7 +72,7 @@ fn keeps_the_reason_of_each_bind(rt: HostRuntime) {
 /// A test centre without a script can't be started, which isn't a fault of the network.
 #[test]
 fn gives_another_reason_if_no_centre_is_started(rt: HostRuntime) {
-    let outboxes = Outboxes::new(&rt, no_journal());
+    let outboxes = Outboxes::new(&rt, no_journal(), 1);
     let (listener, _port) = listening(&rt);
     let dial = LoopDial {
         rt: &rt,

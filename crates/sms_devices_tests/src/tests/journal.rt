@@ -74,10 +74,10 @@ fn note_two<'j, R: Wait + Clock, F: Write + OpenFile>(
     still: &'j R,
     journal: &'j Journal<F>,
 ) {
-    let outboxes = Outboxes::new(still, Some(journal));
+    let outboxes = Outboxes::new(still, Some(journal), 8);
     let clock = ManualClock::new(0);
     let progress = no_progress(&Nowhere, &clock);
-    let gate = SendGate::new(alloc, &outboxes, &clock, &progress, limits(8, None, None));
+    let gate = SendGate::new(alloc, &outboxes, &clock, &progress, limits(None, None));
     send_two(rt, &gate);
 }
 
@@ -87,10 +87,10 @@ fn lets_a_request_out<'j, R: Wait + Clock, F: Write + OpenFile>(
     alloc: Global,
     journal: &'j Journal<F>,
 ) -> bool {
-    let outboxes = Outboxes::new(rt, Some(journal));
+    let outboxes = Outboxes::new(rt, Some(journal), 1);
     let clock = ManualClock::new(0);
     let progress = no_progress(&Nowhere, &clock);
-    let gate = SendGate::new(alloc, &outboxes, &clock, &progress, limits(1, None, None));
+    let gate = SendGate::new(alloc, &outboxes, &clock, &progress, limits(None, None));
     gate.sending(0, 1, 3, 0)
 }
 
@@ -150,10 +150,10 @@ fn notes_without_a_clock(rt: HostRuntime) {
     let sheet = Sheet::blank(alloc);
     let file = PaperFile::new(&rt, &sheet, ALL, false);
     let journal = Journal::new(alloc, file, false);
-    let outboxes = Outboxes::new(&still, Some(&journal));
+    let outboxes = Outboxes::new(&still, Some(&journal), 1);
     let clock = ManualClock::new(0);
     let progress = no_progress(&Nowhere, &clock);
-    let gate = SendGate::new(alloc, &outboxes, &clock, &progress, limits(1, None, None));
+    let gate = SendGate::new(alloc, &outboxes, &clock, &progress, limits(None, None));
     gate.begun(0, 3);
     assert!(rt; !gate.sending(0, 1, 3, 255));
     assert!(rt; journal.let_out(&rt));
@@ -167,10 +167,10 @@ fn counts_no_refused_request(rt: HostRuntime) {
     let sheet = Sheet::blank(alloc);
     let file = PaperFile::new(&rt, &sheet, ALL, false);
     let journal = Journal::new(alloc, file, false);
-    let outboxes = Outboxes::new(&rt, Some(&journal));
+    let outboxes = Outboxes::new(&rt, Some(&journal), 1);
     let clock = ManualClock::new(0);
     let progress = no_progress(&Nowhere, &clock);
-    let wanted = limits(1, Some(1), None);
+    let wanted = limits(Some(1), None);
     let gate = SendGate::new(alloc, &outboxes, &clock, &progress, wanted);
     assert!(rt; gate.ready(0));
     assert!(rt; !gate.sending(0, 1, 3, 255));
@@ -225,10 +225,10 @@ fn send_over<'j, R: Wait + Clock, F: Write + OpenFile>(
     alloc: Global,
     journal: &'j Journal<F>,
 ) -> Result<(Vec<u8>, u32), AllocError> {
-    let outboxes = Outboxes::new(rt, Some(journal));
+    let outboxes = Outboxes::new(rt, Some(journal), 1);
     let clock = ManualClock::new(0);
     let progress = no_progress(&Nowhere, &clock);
-    let gate = SendGate::new(alloc, &outboxes, &clock, &progress, limits(1, None, None));
+    let gate = SendGate::new(alloc, &outboxes, &clock, &progress, limits(None, None));
     let guarded = Guarded {
         connection: Line {
             octets: Vec::new(alloc),
@@ -309,16 +309,10 @@ fn sends_nothing_that_is_not_noted(rt: HostRuntime) -> Result<(), Fail> {
 /// Without a journal a gate notes nothing and lets everything pass.
 #[test]
 fn passes_all_without_a_journal(rt: HostRuntime) {
-    let outboxes = Outboxes::new(&rt, no_journal());
+    let outboxes = Outboxes::new(&rt, no_journal(), 8);
     let clock = ManualClock::new(0);
     let progress = no_progress(&Nowhere, &clock);
-    let gate = SendGate::new(
-        rt.alloc(),
-        &outboxes,
-        &clock,
-        &progress,
-        limits(8, None, None),
-    );
+    let gate = SendGate::new(rt.alloc(), &outboxes, &clock, &progress, limits(None, None));
     send_two(&rt, &gate);
     assert!(rt; gate.sending(0, 1, 3, 255));
 }

@@ -1,7 +1,7 @@
 //! Connections of binds to a listener of the test's own, on the loopback interface.
 
 use super::same::same;
-use sms_devices::{Connects, Journal, OutboxWriter, Outboxes, TcpDial, WakingReader};
+use sms_devices::{Connects, Journal, Outbox, OutboxWriter, Outboxes, TcpDial, WakingReader};
 use sms_driver::Dial;
 use std::fs::{File, OpenFile};
 use std::io::{Read, Write};
@@ -70,7 +70,7 @@ pub fn connected<
     connect_ms: Option<u32>,
 ) -> (
     WakingReader<'r, 'j, R::Incoming, R, F>,
-    OutboxWriter<'r, 'j, R, F>,
+    OutboxWriter<'r, 'j, R, Outbox<'j, R, F>>,
     TcpStream,
 ) {
     let (listener, port) = listening(rt);

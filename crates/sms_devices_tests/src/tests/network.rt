@@ -34,7 +34,7 @@ fn expect_set_up(rt: &impl Abort, stream: &TcpStream, patience: Option<Duration>
 /// most, and a write as long as the outboxes allowed when the connection was made. There are four binds.
 #[test]
 fn sets_up_each_connection(rt: HostRuntime) {
-    let outboxes = Outboxes::new(&rt, no_journal());
+    let outboxes = Outboxes::new(&rt, no_journal(), 1);
     let (_listener, port) = listening(&rt);
     let dial = dial_to(&rt, &outboxes, port, None);
     for (bind, patience) in [(0u32, 0u32), (1, 600_000), (2, 5_000), (3, 1_000)] {
@@ -63,7 +63,7 @@ fn expect(rt: &impl Abort, far: &mut TcpStream, expected: &[u8]) {
 /// What was written goes out when the reader asks for octets. A pause sends what waits too.
 #[test]
 fn writes_before_it_reads(rt: HostRuntime) {
-    let outboxes = Outboxes::new(&rt, no_journal());
+    let outboxes = Outboxes::new(&rt, no_journal(), 1);
     let (mut reader, mut writer, mut far) = connected(&rt, &outboxes, 0, None);
     put(&rt, &mut writer, b"one");
     expect_nothing(&rt, &mut reader);
@@ -89,7 +89,7 @@ fn holds(rt: &impl Abort, writer: &mut impl Write, far: &mut TcpStream, puts: u3
 /// goes out at 1,024 octets, then at twice as many each time.
 #[test]
 fn keeps_8192_octets(rt: HostRuntime) {
-    let outboxes = Outboxes::new(&rt, no_journal());
+    let outboxes = Outboxes::new(&rt, no_journal(), 1);
     let (_reader, mut writer, mut far) = connected(&rt, &outboxes, 0, None);
     assert!(rt; far.set_nonblocking(true).is_ok());
     let parking = Parking {
@@ -113,7 +113,7 @@ fn keeps_8192_octets(rt: HostRuntime) {
 /// A reader that ends rings too: a pause after it ends at once.
 #[test]
 fn rings_at_its_end(rt: HostRuntime) {
-    let outboxes = Outboxes::new(&rt, no_journal());
+    let outboxes = Outboxes::new(&rt, no_journal(), 1);
     let (reader, _writer, _far) = connected(&rt, &outboxes, 0, None);
     drop(reader);
     let parking = Parking {
@@ -138,7 +138,7 @@ const ALIVE: [u8; 16] = [0, 0, 0, 16, 0x80, 0, 0, 0x15, 0, 0, 0, 0, 0, 0, 0, 1];
 /// A test centre serves the connection that was dialled to it. It closes a connection that came before.
 #[test]
 fn serves_its_own_sender(rt: HostRuntime) {
-    let outboxes = Outboxes::new(&rt, no_journal());
+    let outboxes = Outboxes::new(&rt, no_journal(), 1);
     let (listener, port) = listening(&rt);
     let Ok(mut stranger) = TcpStream::connect(&rt, (Ipv4Addr::LOCALHOST, port)) else {
         panic!(rt; "no connection")
@@ -180,7 +180,7 @@ fn answering(rt: &(impl AllocGlobal + Abort)) -> String {
 /// or not. After that frame the deadline doesn't matter.
 #[test]
 fn waits_for_the_bind_until_its_deadline(rt: HostRuntime) {
-    let outboxes = Outboxes::new(&rt, no_journal());
+    let outboxes = Outboxes::new(&rt, no_journal(), 1);
     let (mut late, _one, mut to_late) = connected(&rt, &outboxes, 0, Some(300));
     let (mut bound, _two, mut to_bound) = connected(&rt, &outboxes, 1, Some(300));
     put(&rt, &mut to_late, &ALIVE[..15]);

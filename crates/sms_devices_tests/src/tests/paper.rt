@@ -228,9 +228,8 @@ pub fn no_progress<'r, K: sms_worker::Clock>(
 }
 
 /// The limits of a gate that waits 500 ms for an answer.
-pub fn limits(workers: u32, rate: Option<u32>, stop_after: Option<u32>) -> GateLimits {
+pub fn limits(rate: Option<u32>, stop_after: Option<u32>) -> GateLimits {
     GateLimits {
-        workers,
         answer_ms: 500,
         rate,
         stop_after,

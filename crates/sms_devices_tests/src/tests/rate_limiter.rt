@@ -24,10 +24,10 @@ fn sends<G: Gate>(gate: &G, worker: usize) -> u32 {
 /// more at once than those of a fiftieth of a second.
 #[test]
 fn passes_the_rate_in_a_second(rt: HostRuntime) {
-    let outboxes = Outboxes::new(&rt, no_journal());
+    let outboxes = Outboxes::new(&rt, no_journal(), 2);
     let clock = ManualClock::new(5_000);
     let progress = no_progress(&Nowhere, &clock);
-    let wanted = limits(2, Some(200), None);
+    let wanted = limits(Some(200), None);
     let gate = SendGate::new(rt.alloc(), &outboxes, &clock, &progress, wanted);
     // The time, the worker, and for how many requests it is ready: four at once, and 197 in 1,010 ms.
     let steps: [(u64, usize, u32); 10] = [
@@ -46,7 +46,7 @@ fn passes_the_rate_in_a_second(rt: HostRuntime) {
         clock.set(ms);
         same(&rt, sends(&gate, worker), wanted);
     }
-    let slowest = limits(1, Some(1), None);
+    let slowest = limits(Some(1), None);
     let slow = SendGate::new(rt.alloc(), &outboxes, &clock, &progress, slowest);
     for (ms, wanted) in [(9_000, 1), (9_999, 0), (10_009, 0), (10_010, 1)] {
         clock.set(ms);
@@ -67,7 +67,7 @@ fn sends_in<G: Gate>(clock: &ManualClock, gate: &G, from: u64, ms: u64) -> u32 {
 /// In a second after a pause at most the rate's requests pass, and nearly as many in each second after it.
 #[test]
 fn passes_no_more_in_any_second(rt: HostRuntime) {
-    let outboxes = Outboxes::new(&rt, no_journal());
+    let outboxes = Outboxes::new(&rt, no_journal(), 2);
     for (rate, least) in [
         (1, 0),
         (2, 1),
@@ -78,7 +78,7 @@ fn passes_no_more_in_any_second(rt: HostRuntime) {
     ] {
         let clock = ManualClock::new(7_000);
         let progress = no_progress(&Nowhere, &clock);
-        let wanted = limits(2, Some(rate), None);
+        let wanted = limits(Some(rate), None);
         let gate = SendGate::new(rt.alloc(), &outboxes, &clock, &progress, wanted);
         for second in [7_000, 8_001, 9_002] {
             let count = sends_in(&clock, &gate, second, 1_001);
@@ -92,10 +92,10 @@ fn passes_no_more_in_any_second(rt: HostRuntime) {
 /// another worker gets it. A permit that is used late lets no more requests through.
 #[test]
 fn takes_unused_permits_back(rt: HostRuntime) {
-    let outboxes = Outboxes::new(&rt, no_journal());
+    let outboxes = Outboxes::new(&rt, no_journal(), 2);
     let clock = ManualClock::new(0);
     let progress = no_progress(&Nowhere, &clock);
-    let wanted = limits(2, Some(100), None);
+    let wanted = limits(Some(100), None);
     let gate = SendGate::new(rt.alloc(), &outboxes, &clock, &progress, wanted);
     for _turn in 0..5 {
         assert!(rt; gate.ready(0));
@@ -116,10 +116,10 @@ fn takes_unused_permits_back(rt: HostRuntime) {
 /// Without a rate every worker is ready.
 #[test]
 fn passes_all_without_a_rate(rt: HostRuntime) {
-    let outboxes = Outboxes::new(&rt, no_journal());
+    let outboxes = Outboxes::new(&rt, no_journal(), 1);
     let clock = ManualClock::new(0);
     let progress = no_progress(&Nowhere, &clock);
-    let wanted = limits(1, None, None);
+    let wanted = limits(None, None);
     let gate = SendGate::new(rt.alloc(), &outboxes, &clock, &progress, wanted);
     same(&rt, sends(&gate, 0), 1_000);
 }

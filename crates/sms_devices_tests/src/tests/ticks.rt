@@ -15,7 +15,7 @@ fn stands_still_over_a_stop(rt: HostRuntime) {
         rt: &rt,
         ms: AtomicU64::new(50_000),
     };
-    let outboxes = Outboxes::new(&system, no_journal());
+    let outboxes = Outboxes::new(&system, no_journal(), 1);
     let clock = outboxes.start_clock();
     let steps: [(u64, u64); 12] = [
         (50_000, 0),
@@ -46,6 +46,6 @@ fn stands_without_a_clock(rt: HostRuntime) {
         rt: &rt,
         can_be_read: false,
     };
-    let outboxes = Outboxes::new(&still, no_journal());
+    let outboxes = Outboxes::new(&still, no_journal(), 1);
     same(&rt, outboxes.start_clock().now_ms(), 0);
 }

@@ -29,12 +29,12 @@ fn answer<G: Gate>(gate: &G, worker: usize) {
 /// last of them is overdue. An answer to any of its workers starts the count anew. The other bind goes on.
 #[test]
 fn gives_up_a_silent_bind(rt: HostRuntime) {
-    let outboxes = Outboxes::new(&rt, no_journal());
+    let outboxes = Outboxes::new(&rt, no_journal(), 2);
     let (mut first, _one, _far) = connected(&rt, &outboxes, 0, None);
     let (mut second, _two, _further) = connected(&rt, &outboxes, 1, None);
     let clock = ManualClock::new(1_000);
     let progress = no_progress(&Nowhere, &clock);
-    let wanted = limits(2, None, Some(3));
+    let wanted = limits(None, Some(3));
     let gate = SendGate::new(rt.alloc(), &outboxes, &clock, &progress, wanted);
     send(&rt, &gate, 2);
     send(&rt, &gate, 3);
@@ -59,11 +59,11 @@ fn gives_up_a_silent_bind(rt: HostRuntime) {
 /// Without a limit no bind is given up.
 #[test]
 fn gives_up_no_bind(rt: HostRuntime) {
-    let outboxes = Outboxes::new(&rt, no_journal());
+    let outboxes = Outboxes::new(&rt, no_journal(), 1);
     let (mut reader, _writer, _far) = connected(&rt, &outboxes, 0, None);
     let clock = ManualClock::new(0);
     let progress = no_progress(&Nowhere, &clock);
-    let wanted = limits(1, None, None);
+    let wanted = limits(None, None);
     let gate = SendGate::new(rt.alloc(), &outboxes, &clock, &progress, wanted);
     send(&rt, &gate, 0);
     clock.set(1 << 60);
