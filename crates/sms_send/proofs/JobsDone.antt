@@ -7,7 +7,7 @@ use Rattle.clap.specs.declared.builder.Arg.{Arg}
 use Rattle.clap.specs.declared.builder.Command.{Command}
 use Rattle.clap.specs.declared.parser.matches.ArgMatches.TheViews.{out-SubCommand}
 use Rattle.clap.specs.declared.parser.matches.SubCommand.{SubCommand}
-use Rattle.sms_send.specs.CommandLine.{IsLine, TellsFor}
+use Rattle.sms_send.specs.CommandLine.{IsLine, RefusesFor}
 use Rattle.sms_send.specs.declared.faults.fault.Fault.{Fault}
 
 -- the name that stands with a subcommand's matches is the subcommand's
@@ -37,6 +37,6 @@ argument-added command joined a line rule adds local is was =
     (adds.shape local ∙ ap₂ with_rule was.0 is, adds.globals ∙ ap₂ (λ x y. x || y) was.1 local)
 
 -- a fault that refuses words for one reason refuses them for each that it gives
-pub tells-weaker : {A B : Type 0} (fault : Fault) → (A → B) → TellsFor A fault → TellsFor B fault
+pub tells-weaker : {A B : Type 0} (fault : Fault) → (A → B) → RefusesFor A fault → RefusesFor B fault
 tells-weaker fault gives (inl memory) = inl memory
 tells-weaker fault gives (inr tells) = inr (tells.0, gives tells.1)

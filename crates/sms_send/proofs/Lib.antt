@@ -1,6 +1,7 @@
 pub mod Accepting
 pub mod Asking
 pub mod Charging
+pub mod ConfigFiles
 pub mod Covering
 pub mod JobsDone
 pub mod Lines

@@ -11,8 +11,8 @@ use Rattle.sms_files.specs.declared.fault.InputFault.TheVariants as input
 use Rattle.sms_files.specs.declared.fault.Source.TheVariants.{Messages}
 use Rattle.sms_files.specs.declared.tables.messages.MessageText.{MessageText}
 use Rattle.sms_send.specs.Opened.{OfFile}
-use Rattle.sms_send.specs.Plans.{TellsPlan}
-use Rattle.sms_send.specs.Runs.{TellsUnread}
+use Rattle.sms_send.specs.Plans.{FailsPlan}
+use Rattle.sms_send.specs.Runs.{IsUnreadable}
 use Rattle.sms_send.specs.declared.faults.fault.Fault.{Fault}
 use Rattle.sms_send.specs.declared.faults.fault.Fault.TheVariants.{OutOfMemory}
 
@@ -59,7 +59,7 @@ one-record-each None ms count is h = tt
 one-record-each (Some bytes) ms count is h = ap (λ (n : ℕ). n + 1) is ∙ sym (counted (records_of bytes) ms h)
 
 -- a file that is found and can't be read to its end, or memory for it, is a fault of a plan of it
-pub unread-plan : (finds : List ℕ → Option Told → Type 0) (name : List ℕ) (told : Told) (fault : Fault) → finds name (Some told) → (fault ≡ OutOfMemory) ⊎ TellsUnread Messages fault → OfFile finds name (λ bytes. TellsPlan (records_of bytes) fault)
+pub unread-plan : (finds : List ℕ → Option Told → Type 0) (name : List ℕ) (told : Told) (fault : Fault) → finds name (Some told) → (fault ≡ OutOfMemory) ⊎ IsUnreadable Messages fault → OfFile finds name (λ bytes. FailsPlan (records_of bytes) fault)
 unread-plan finds name None fault found tells = (None, found, tt)
 unread-plan finds name (Some bytes) fault found (inl is) = (Some bytes, found, inl (input.OutOfMemory, inl (inr refl), is))
 unread-plan finds name (Some bytes) fault found (inr (error, is)) = (Some bytes, found, inl (input.Unreadable Messages error, inl (inl (error, refl)), is))

@@ -7,14 +7,14 @@ use Rattle.sms_driver.specs.declared.start.StartPhase.{StartPhase}
 use Rattle.sms_files.specs.Inputs.{Told}
 use Rattle.sms_files.specs.declared.input.Input.{Input}
 use Rattle.sms_send.specs.Faults.{with_reason, output_failed}
-use Rattle.sms_send.specs.Sent.{FailsSending, SendingEnd, TellsSending, unknown}
+use Rattle.sms_send.specs.Sent.{FailsSending, FailsOver, SendingEnd, SendsInput, unknown}
 use Rattle.sms_send.specs.declared.faults.fault.Fault.{Fault}
 use Rattle.sms_send.proofs.Starts.{IsOf, reason_at}
 
 -- the sending ended so, and the fault has a reason
 pub reasoned_end : {W : Type 0} (r x : Result ℕ Fault) (centre : CentreAt) (told : ℕ → Told) (strict : Bool) (given : Input) (begun : StartPhase) (before after : W) (old new : Option (List ℕ))
-    → IfOk r (λ s. x ≡ Ok s) → IfErr r (IsOf x) → SendingEnd told strict given (TellsSending unknown told given old new) begun before after old new x
-    → SendingEnd told strict given (FailsSending centre told given old new) begun before after old new r
+    → IfOk r (λ s. x ≡ Ok s) → IfErr r (IsOf x) → SendingEnd strict (SendsInput told strict given old new) (FailsOver unknown told given old new) begun before after x
+    → SendingEnd strict (SendsInput told strict given old new) (FailsSending centre told given old new) begun before after r
 reasoned_end (Ok s) x centre told strict given begun before after old new same of end = record {
   sent = rw same at end.sent;
   status = rw same at end.status;
@@ -29,5 +29,5 @@ reasoned_end (Err e) x centre told strict given begun before after old new same 
   started = tt;
   refused = inr (f, rw is at end.refused, why, with_why);
   phase = reason_at begun why f e with_why (rw is at end.phase);
-  unwritten = λ other. (rw is at end.unwritten) (λ out. other (with_why ∙ ap (with_reason why) out));
+  unwritten = λ other kept. (rw is at end.unwritten) (λ out. other (with_why ∙ ap (with_reason why) out)) (λ lost. kept (lost.0, with_why ∙ ap (with_reason why) lost.1));
 }

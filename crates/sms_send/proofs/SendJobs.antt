@@ -1,22 +1,22 @@
 -- What was sent by a config, or why nothing was.
-use Rattle.std.proofs.Common.{◌≡◌, inl, inr, refl, sym, subst, ℕ, Bool, true, false, List, Option}
+use Rattle.std.proofs.Common.{◌≡◌, inl, inr, refl, sym, subst, Bool, true, false, List, ℕ, Option}
 use Rattle.std.specs.Prelude.{◌||◌, is_some, string_bytes}
 use Rattle.sms_devices.specs.Centres.{CentreAt}
-use Rattle.sms_files.specs.ConfigFaults.{IsConfig, TellsConfig}
 use Rattle.sms_files.specs.Inputs.{Told}
 use Rattle.sms_files.specs.declared.config.Config.{Config}
 use Rattle.sms_files.specs.declared.input.Input.{Input}
-use Rattle.sms_send.specs.Faults.{TellsRead}
-use Rattle.sms_send.specs.Opened.{AreFound, OfFile, TellsMissing}
+use Rattle.sms_send.specs.ConfigFiles.{IsConfigFile, OfConfig}
+use Rattle.sms_send.specs.Opened.{FailsOpeningFiles}
 use Rattle.sms_send.specs.Reached.{centre_in}
-use Rattle.sms_send.specs.Reading.{FailsReading, IsReadFrom}
+use Rattle.sms_send.specs.Reading.{FailsReading, IsRead, IsReadFrom}
 use Rattle.sms_send.specs.SendJobs.{FailsBy, FailsInput, FailsSendJob, SendsBy}
 use Rattle.sms_send.specs.Sent.{SendsInput}
 use Rattle.sms_send.specs.declared.args.send_args.JournalFile.{JournalFile}
 use Rattle.sms_send.specs.declared.args.send_args.SendArgs.{SendArgs}
 use Rattle.sms_send.specs.declared.faults.fault.Fault.{Fault}
+use Rattle.sms_send.specs.declared.files.config_file.ConfigFile.{ConfigFile}
 use Rattle.sms_send.specs.declared.sending.target.TargetKind.{TargetKind}
-use Rattle.sms_send.proofs.Sendings.{beside}
+use Rattle.sms_send.proofs.ConfigFiles.{AreOpen, of_config, read_open, unread_open}
 
 pub or_false : (b : Bool) → b ≡ (b || false)
 or_false true = refl
@@ -26,93 +26,47 @@ pub or_true : (b : Bool) → true ≡ (b || true)
 or_true true = refl
 or_true false = refl
 
--- the config was read, and the files that it names were opened
-pub record IsOpened (finds : List ℕ → Option Told → Type 0) (name items read : List ℕ) (kind : TargetKind) (centre : CentreAt) (parsed config : Config) (accounts messages : Told) (tariff : Option Told) : Type 0 where
-  pub input : OfFile finds name (λ bytes. items ≡ bytes)
-  pub same : read ≡ items
-  pub says : IsConfig read parsed
-  pub reaches : centre ≡ centre_in kind parsed
-  pub config_is : config ≡ parsed
-  pub found : AreFound finds parsed.files accounts messages tariff
-
-read_from : (whole wanted strict : Bool) (parsed config : Config) (accounts messages : Told) (tariff : Option Told) (given : Input) → whole ≡ wanted → config ≡ parsed
-    → IsReadFrom whole strict config accounts messages tariff given → IsReadFrom wanted strict parsed accounts messages tariff given
-read_from whole wanted strict parsed config accounts messages tariff given one two read =
-    subst (λ (w : Bool). IsReadFrom w strict parsed accounts messages tariff given) one (subst (λ (k : Config). IsReadFrom whole strict k accounts messages tariff given) two read)
-
--- what they say was sent
-pub sends_by : (finds : List ℕ → Option Told → Type 0) (tells : CentreAt → Bool → ℕ → Told) (name items read : List ℕ) (kind : TargetKind) (centre : CentreAt) (parsed config : Config) (accounts messages : Told) (tariff : Option Told)
+-- what the files say was sent
+pub sends_by : (finds : List ℕ → Option Told → Type 0) (tells : CentreAt → Bool → ℕ → Told) (name : List ℕ) (kind : TargetKind) (file : ConfigFile) (centre : CentreAt) (config : Config) (accounts messages : Told) (tariff : Option Told)
     (whole strict noted has : Bool) (given : Input) (old new : Option (List ℕ)) (status : ℕ)
-    → IsOpened finds name items read kind centre parsed config accounts messages tariff → whole ≡ (strict || noted) → has ≡ noted → IsReadFrom whole strict config accounts messages tariff given
-    → SendsInput (tells centre noted) strict given old new status → OfFile finds name (λ octets. SendsBy finds tells kind strict has octets old new status)
-sends_by finds tells name items read kind centre parsed config accounts messages tariff whole strict noted has given old new status opened wholly same from sends =
-    subst (λ (n : Bool). OfFile finds name (λ octets. SendsBy finds tells kind strict n octets old new status)) (sym same)
-    (beside finds name items read (λ octets. SendsBy finds tells kind strict noted octets old new status) opened.input opened.same
+    → IsConfigFile finds name file → AreOpen finds file.config config accounts messages tariff → centre ≡ centre_in kind file.config → whole ≡ (strict || noted) → has ≡ noted
+    → IsReadFrom whole strict config accounts messages tariff given → SendsInput (tells centre noted) strict given old new status
+    → OfConfig finds name (SendsBy finds tells kind strict has old new status)
+sends_by finds tells name kind file centre config accounts messages tariff whole strict noted has given old new status is opened reaches wholly same read sends =
+    subst (λ (n : Bool). OfConfig finds name (SendsBy finds tells kind strict n old new status)) (sym same)
+    (of_config finds name file (SendsBy finds tells kind strict noted old new status) is
     (record {
-      config = parsed;
-      says = opened.says;
       input = given;
-      read = record {
-        accounts = accounts;
-        messages = messages;
-        tariff = tariff;
-        found = opened.found;
-        read = read_from whole (strict || noted) strict parsed config accounts messages tariff given wholly opened.config_is from;
-      };
-      sends = subst (λ (c : CentreAt). SendsInput (tells c noted) strict given old new status) opened.reaches sends;
+      read = subst (λ (w : Bool). IsRead finds w strict file.config given) wholly (read_open finds whole strict file.config config accounts messages tariff given opened read);
+      sends = subst (λ (c : CentreAt). SendsInput (tells c noted) strict given old new status) reaches sends;
     }))
 
--- a fault of the config's octets
-pub config_fails : (begins : JournalFile → Fault → Type 0) (finds : List ℕ → Option Told → Type 0) (tells : CentreAt → Bool → ℕ → Told) (kind : TargetKind) (order : SendArgs) (old new : Option (List ℕ)) (fault : Fault) (items read : List ℕ)
-    → OfFile finds (string_bytes order.config) (λ bytes. items ≡ bytes) → read ≡ items → TellsRead (TellsConfig read) fault → FailsSendJob begins finds tells kind order old new fault
-config_fails begins finds tells kind order old new fault items read input same fails =
-    inr (inr (beside finds (string_bytes order.config) items read (λ bytes. FailsBy begins finds tells kind order.strict order.journal bytes old new fault) input same (inl fails)))
-
 -- a file isn't there
-pub missing_fails : (begins : JournalFile → Fault → Type 0) (finds : List ℕ → Option Told → Type 0) (tells : CentreAt → Bool → ℕ → Told) (kind : TargetKind) (order : SendArgs) (old new : Option (List ℕ)) (fault : Fault) (items read : List ℕ) (parsed : Config)
-    → OfFile finds (string_bytes order.config) (λ bytes. items ≡ bytes) → read ≡ items → IsConfig read parsed → TellsMissing finds parsed.files fault → FailsSendJob begins finds tells kind order old new fault
-missing_fails begins finds tells kind order old new fault items read parsed input same says missing =
-    inr (inr (beside finds (string_bytes order.config) items read (λ bytes. FailsBy begins finds tells kind order.strict order.journal bytes old new fault) input same (inr (parsed, says, inl (inl missing)))))
+pub missing_fails : (begins : JournalFile → Fault → Type 0) (finds : List ℕ → Option Told → Type 0) (tells : CentreAt → Bool → ℕ → Told) (kind : TargetKind) (order : SendArgs) (old new : Option (List ℕ)) (fault : Fault) (file : ConfigFile)
+    → IsConfigFile finds (string_bytes order.config) file → FailsOpeningFiles finds file.config.files fault → FailsSendJob begins finds tells kind order old new fault
+missing_fails begins finds tells kind order old new fault file is missing =
+    inr (of_config finds (string_bytes order.config) file (FailsBy begins finds tells kind order.strict order.journal old new fault) is (inl (inl missing)))
 
 -- the files can't be read
-pub reading_fails : (begins : JournalFile → Fault → Type 0) (finds : List ℕ → Option Told → Type 0) (tells : CentreAt → Bool → ℕ → Told) (kind : TargetKind) (order : SendArgs) (old new : Option (List ℕ)) (fault : Fault)
-    (items read : List ℕ) (centre : CentreAt) (parsed config : Config) (accounts messages : Told) (tariff : Option Told) (whole : Bool)
-    → IsOpened finds (string_bytes order.config) items read kind centre parsed config accounts messages tariff → whole ≡ (order.strict || is_some order.journal)
+pub reading_fails : (begins : JournalFile → Fault → Type 0) (finds : List ℕ → Option Told → Type 0) (tells : CentreAt → Bool → ℕ → Told) (kind : TargetKind) (order : SendArgs) (old new : Option (List ℕ)) (fault : Fault) (file : ConfigFile)
+    (config : Config) (accounts messages : Told) (tariff : Option Told) (whole : Bool)
+    → IsConfigFile finds (string_bytes order.config) file → AreOpen finds file.config config accounts messages tariff → whole ≡ (order.strict || is_some order.journal)
     → FailsReading whole order.strict config accounts messages tariff fault → FailsSendJob begins finds tells kind order old new fault
-reading_fails begins finds tells kind order old new fault items read centre parsed config accounts messages tariff whole opened wholly fails =
-    inr (inr (beside finds (string_bytes order.config) items read (λ bytes. FailsBy begins finds tells kind order.strict order.journal bytes old new fault) opened.input opened.same
-    (inr (
-      parsed,
-      opened.says,
-      inl (inr (
-        accounts,
-        messages,
-        tariff,
-        opened.found,
-        subst (λ (w : Bool). FailsReading w order.strict parsed accounts messages tariff fault) wholly (subst (λ (k : Config). FailsReading whole order.strict k accounts messages tariff fault) opened.config_is fails),
-      )),
-    ))))
+reading_fails begins finds tells kind order old new fault file config accounts messages tariff whole is opened wholly fails =
+    inr (of_config finds (string_bytes order.config) file (FailsBy begins finds tells kind order.strict order.journal old new fault) is
+    (inl (unread_open finds (order.strict || is_some order.journal) order.strict file.config config accounts messages tariff fault opened
+    (subst (λ (w : Bool). FailsReading w order.strict config accounts messages tariff fault) wholly fails))))
 
 -- what they say wasn't sent
-pub input_fails : (begins : JournalFile → Fault → Type 0) (finds : List ℕ → Option Told → Type 0) (tells : CentreAt → Bool → ℕ → Told) (kind : TargetKind) (order : SendArgs) (old new : Option (List ℕ)) (fault : Fault)
-    (items read : List ℕ) (centre : CentreAt) (parsed config : Config) (accounts messages : Told) (tariff : Option Told) (whole : Bool) (journal : Option JournalFile) (given : Input)
-    → IsOpened finds (string_bytes order.config) items read kind centre parsed config accounts messages tariff → order.journal ≡ journal → whole ≡ (order.strict || is_some journal)
+pub input_fails : (begins : JournalFile → Fault → Type 0) (finds : List ℕ → Option Told → Type 0) (tells : CentreAt → Bool → ℕ → Told) (kind : TargetKind) (order : SendArgs) (old new : Option (List ℕ)) (fault : Fault) (file : ConfigFile)
+    (centre : CentreAt) (config : Config) (accounts messages : Told) (tariff : Option Told) (whole : Bool) (journal : Option JournalFile) (given : Input)
+    → IsConfigFile finds (string_bytes order.config) file → AreOpen finds file.config config accounts messages tariff → centre ≡ centre_in kind file.config → order.journal ≡ journal → whole ≡ (order.strict || is_some journal)
     → IsReadFrom whole order.strict config accounts messages tariff given → FailsInput begins centre (tells centre) order.strict journal given old new fault → FailsSendJob begins finds tells kind order old new fault
-input_fails begins finds tells kind order old new fault items read centre parsed config accounts messages tariff whole journal given opened is wholly from fails =
-    inr (inr (beside finds (string_bytes order.config) items read (λ bytes. FailsBy begins finds tells kind order.strict order.journal bytes old new fault) opened.input opened.same
-    (subst (λ (j : Option JournalFile). FailsBy begins finds tells kind order.strict j read old new fault) (sym is)
+input_fails begins finds tells kind order old new fault file centre config accounts messages tariff whole journal given is opened reaches is_journal wholly read fails =
+    inr (of_config finds (string_bytes order.config) file (FailsBy begins finds tells kind order.strict order.journal old new fault) is
+    (subst (λ (j : Option JournalFile). FailsBy begins finds tells kind order.strict j old new fault file.config) (sym is_journal)
     (inr (
-      parsed,
-      opened.says,
-      inr (
-        given,
-        record {
-          accounts = accounts;
-          messages = messages;
-          tariff = tariff;
-          found = opened.found;
-          read = read_from whole (order.strict || is_some journal) order.strict parsed config accounts messages tariff given wholly opened.config_is from;
-        },
-        subst (λ (c : CentreAt). FailsInput begins c (tells c) order.strict journal given old new fault) opened.reaches fails,
-      ),
-    )))))
+      given,
+      subst (λ (w : Bool). IsRead finds w order.strict file.config given) wholly (read_open finds whole order.strict file.config config accounts messages tariff given opened read),
+      subst (λ (c : CentreAt). FailsInput begins c (tells c) order.strict journal given old new fault) reaches fails,
+    ))))

@@ -5,14 +5,17 @@ use Rattle.std.specs.Prelude.{◌≢◌}
 use Rattle.sms_files.specs.Inputs.{Told}
 use Rattle.sms_send.specs.Opened.{OfFile}
 use Rattle.sms_files.specs.Output.{WritesFront}
-use Rattle.sms_send.specs.Sent.{IsSent, TellsSending, report_in}
+use Rattle.sms_send.specs.Sent.{AreRunSettings, IsSent, FailsOver, report_in}
 use Rattle.sms_driver.specs.Starts.{TellsStart}
 use Rattle.sms_driver.specs.declared.fault.SendFault.{SendFault}
 use Rattle.sms_driver.specs.declared.fault.SendFault.TheVariants as send
 use Rattle.sms_driver.specs.declared.start.StartPhase.{StartPhase}
-use Rattle.sms_send.specs.Faults.{IsToldAt, told_sending, output_failed}
+use Rattle.sms_driver.specs.declared.settings.RunSettings.{RunSettings}
+use Rattle.sms_book.specs.Tariffs.{Price}
+use Rattle.sms_send.specs.Faults.{ComesAt, fault_of_sending, output_failed}
 use Rattle.sms_send.specs.declared.faults.fault.Fault.{Fault}
 use Rattle.sms_send.specs.declared.faults.fault.Fault.TheVariants.{Unreported}
+use Rattle.sms_files.specs.declared.config.Config.{Config}
 use Rattle.sms_files.specs.declared.input.Input.{Input}
 use Rattle.sms_send.specs.declared.sending.sender.Ended.{Ended}
 
@@ -23,17 +26,21 @@ beside finds name items octets P (told, found, are) same holds = (told, found, I
 
 -- the report wasn't written: the output failed behind a front of it, or memory was refused for it
 pub unwritten_told : (refuses : ℕ → Type 0) (told : ℕ → Told) (input : Input) (ended : Ended) (old new : Option (List ℕ)) (fault : Fault) → IsSent told input ended
-    → (fault ≡ output_failed) ⊎ (fault ≡ Unreported) → (fault ≡ output_failed → WritesFront old new (report_in ended)) → (fault ≡ Unreported → new ≡ old) → TellsSending refuses told input old new fault
+    → (fault ≡ output_failed) ⊎ (fault ≡ Unreported) → (fault ≡ output_failed → WritesFront old new (report_in ended)) → (fault ≡ Unreported → new ≡ old) → FailsOver refuses told input old new fault
 unwritten_told refuses told input ended old new fault sent (inl out) front quiet = inr (inl (out, ended, sent, front out))
 unwritten_told refuses told input ended old new fault sent (inr memory) front quiet = inr (inr (memory, ended, sent, quiet memory))
 
--- a fault is told by how far the sending came
-pub told_at : (b : StartPhase) (f : SendFault) → TellsStart b f → IsToldAt b (told_sending f)
-told_at b (send.BindRefused bind status) h = h
-told_at b (send.BindFailed bind why) h = h
-told_at b (send.BookRefused why) h = inl h
-told_at b send.ThreadRefused h = inr h
-told_at b send.OutOfMemory h = h
+-- a fault of the driver comes in the phase in which the program's fault for it does
+pub fault_at : (b : StartPhase) (f : SendFault) → TellsStart b f → ComesAt b (fault_of_sending f)
+fault_at b (send.BindRefused bind status) h = h
+fault_at b (send.BindFailed bind why) h = h
+fault_at b (send.BookRefused why) h = inl h
+fault_at b send.ThreadRefused h = inr h
+fault_at b send.OutOfMemory h = h
+
+-- what holds of as many binds and workers as a sending has holds of as many as its config says
+pub for_settings : (config : Config) (tariff : List Price) (run : RunSettings) → AreRunSettings config tariff run → (P : ℕ → ℕ → Type 0) → P run.binds run.workers → P config.limits.binds config.limits.workers
+for_settings config tariff run is P holds = subst (λ (b : ℕ). P b config.limits.workers) is.binds (subst (λ (w : ℕ). P run.binds w) is.workers holds)
 
 -- one of three, from two of them
 pub of_two : {A B C : Type 0} → A ⊎ B → A ⊎ (B ⊎ C)

@@ -8,8 +8,8 @@ use Rattle.sms_files.specs.declared.fault.InputFault.TheVariants as input
 use Rattle.sms_files.specs.declared.fault.Source.{Source}
 use Rattle.sms_files.specs.declared.report.fault.OutputFault.{OutputFault}
 use Rattle.sms_files.specs.Output.{output_failed as writing_failed}
-use Rattle.sms_send.specs.Faults.{TellsRead, told_input, told_output, output_failed}
-use Rattle.sms_send.specs.Opened.{TellsFile}
+use Rattle.sms_send.specs.Faults.{IsReadFault, fault_of_input, fault_of_output, output_failed}
+use Rattle.sms_send.specs.Opened.{FailsFileJob}
 use Rattle.sms_send.specs.declared.faults.fault.Fault.{Fault}
 use Rattle.sms_send.specs.declared.faults.fault.Fault.TheVariants.{OutOfMemory}
 
@@ -33,34 +33,34 @@ at_known o P x h e = rw e at h
 -- what a fault of a job says of its source: one in reading it, want of memory, and one in writing
 
 pub told-reading : (source : Source) (o : Option (List ℕ)) (faulty : List Record → Option Trouble) (f : InputFault)
-    → IfSome o (λ bytes. TellsRecords source (faulty (records_of bytes)) f) → IfSome o (λ bytes. TellsFile source (faulty (records_of bytes)) (told_input f))
+    → IfSome o (λ bytes. TellsRecords source (faulty (records_of bytes)) f) → IfSome o (λ bytes. FailsFileJob source (faulty (records_of bytes)) (fault_of_input f))
 told-reading source None faulty f h = tt
 told-reading source (Some bytes) faulty f h = inl (f, h, refl)
 
 -- one that was told already
 pub told-read : (source : Source) (o : Option (List ℕ)) (faulty : List Record → Option Trouble) (f : Fault)
-    → IfSome o (λ bytes. TellsRead (TellsRecords source (faulty (records_of bytes))) f) → IfSome o (λ bytes. TellsFile source (faulty (records_of bytes)) f)
+    → IfSome o (λ bytes. IsReadFault (TellsRecords source (faulty (records_of bytes))) f) → IfSome o (λ bytes. FailsFileJob source (faulty (records_of bytes)) f)
 told-read source None faulty f h = tt
 told-read source (Some bytes) faulty f h = inl h
 
 -- one of a read whose text is not made yet
 pub told-first : (source : Source) (o : Option (List ℕ)) (faulty : List Record → Option Trouble) (f : InputFault)
-    → IfSome o (λ bytes. TellsRecords source (faulty (records_of bytes)) f) → IfSome o (λ bytes. TellsRead (TellsRecords source (faulty (records_of bytes))) (told_input f))
+    → IfSome o (λ bytes. TellsRecords source (faulty (records_of bytes)) f) → IfSome o (λ bytes. IsReadFault (TellsRecords source (faulty (records_of bytes))) (fault_of_input f))
 told-first source None faulty f h = tt
 told-first source (Some bytes) faulty f h = (f, h, refl)
 
-pub no-memory : (source : Source) (o : Option (List ℕ)) (faulty : List Record → Option Trouble) → IfSome o (λ bytes. TellsRead (TellsRecords source (faulty (records_of bytes))) OutOfMemory)
+pub no-memory : (source : Source) (o : Option (List ℕ)) (faulty : List Record → Option Trouble) → IfSome o (λ bytes. IsReadFault (TellsRecords source (faulty (records_of bytes))) OutOfMemory)
 no-memory source None faulty = tt
 no-memory source (Some bytes) faulty = (input.OutOfMemory, inl (inr refl), refl)
 
-pub told-memory : (source : Source) (o : Option (List ℕ)) (faulty : List Record → Option Trouble) → IfSome o (λ bytes. TellsFile source (faulty (records_of bytes)) OutOfMemory)
+pub told-memory : (source : Source) (o : Option (List ℕ)) (faulty : List Record → Option Trouble) → IfSome o (λ bytes. FailsFileJob source (faulty (records_of bytes)) OutOfMemory)
 told-memory source None faulty = tt
 told-memory source (Some bytes) faulty = inl (input.OutOfMemory, inl (inr refl), refl)
 
 pub told-writing : (source : Source) (o : Option (List ℕ)) (faulty : List Record → Option Trouble) (f : OutputFault)
-    → IfSome o (λ bytes. faulty (records_of bytes) ≡ None) → f ≡ writing_failed → IfSome o (λ bytes. TellsFile source (faulty (records_of bytes)) (told_output f))
+    → IfSome o (λ bytes. faulty (records_of bytes) ≡ None) → f ≡ writing_failed → IfSome o (λ bytes. FailsFileJob source (faulty (records_of bytes)) (fault_of_output f))
 told-writing source None faulty f h e = tt
-told-writing source (Some bytes) faulty f h e = inr (ap told_output e, h)
+told-writing source (Some bytes) faulty f h e = inr (ap fault_of_output e, h)
 
 -- what holds where the output failed, whatever the fault
 pub where-output : {T : Type 0} (r : Result T Fault) (P : Type 0) → P → IfErr r (λ fault. fault ≡ output_failed → P)

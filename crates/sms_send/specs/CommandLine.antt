@@ -46,7 +46,7 @@ value_rule name = record (new_rule name) { long = Some name; value_names = 1 }
 abbrev pub flag_rule : Text → Rule
 flag_rule name = record (new_rule name) { long = Some name; action = Some SetTrue }
 
--- every subcommand may be asked to tell more of a fault
+-- every subcommand may be asked for the detail lines of a fault
 abbrev pub verbose_rule : Rule
 verbose_rule = flag_rule (codes "verbose")
 
@@ -178,8 +178,8 @@ IsJob None _ = ⊥
 IsJob (Some found) job = (s : Subcommand) × (subcommand_named found.0 ≡ Some s) × AsksFor s found.1 job
 
 -- a fault refuses words for this reason, or memory ran out
-abbrev pub TellsFor : Type 0 → Fault → Type 0
-TellsFor reason fault = (fault ≡ OutOfMemory) ⊎ (IsWords fault × reason)
+abbrev pub RefusesFor : Type 0 → Fault → Type 0
+RefusesFor reason fault = (fault ≡ OutOfMemory) ⊎ (IsWords fault × reason)
 
 -- the disk is to have a journal that isn't asked for
 abbrev pub IsWrongSync : List Row → Type 0
@@ -213,26 +213,26 @@ IsRefused sub.Send rows = AreRefusedArgs rows
 IsRefused sub.Recover rows = LacksName (codes "journal") rows
 IsRefused sub.Rest rows = LacksName (codes "report") rows
 
--- what a fault says of the subcommand that the parser met, where it took the words: there is none of the name, or its
--- matches ask for no job
-abbrev pub TellsMet : Option (Text × List Row) → Fault → Type 0
-TellsMet None fault = ⊥
-TellsMet (Some found) fault = TellsFor ((subcommand_named found.0 ≡ None) ⊎ ((s : Subcommand) × (subcommand_named found.0 ≡ Some s) × IsRefused s found.1)) fault
+-- why the subcommand that the parser met asks for no job, where it took the words: there is none of the name, or its
+-- matches ask for none
+abbrev pub RefusesMatch : Option (Text × List Row) → Fault → Type 0
+RefusesMatch None fault = ⊥
+RefusesMatch (Some found) fault = RefusesFor ((subcommand_named found.0 ≡ None) ⊎ ((s : Subcommand) × (subcommand_named found.0 ≡ Some s) × IsRefused s found.1)) fault
 
--- what a fault says of the words that the parser refuses: help or the version was asked for, or neither
-abbrev pub TellsRefusal : Kinds → Fault → Type 0
-TellsRefusal kinds (Help text) = IsAmong kind.DisplayHelp kinds
-TellsRefusal kinds (Version text) = IsAmong kind.DisplayVersion kinds
-TellsRefusal kinds (Words why) = (k : ErrorKind) × (k ≢ kind.DisplayHelp) × (k ≢ kind.DisplayVersion) × IsAmong k kinds
-TellsRefusal kinds OutOfMemory = Unit {0}
-TellsRefusal kinds _ = ⊥
+-- the fault of words that the parser refuses: help or the version was asked for, or neither
+abbrev pub RefusesAs : Kinds → Fault → Type 0
+RefusesAs kinds (Help text) = IsAmong kind.DisplayHelp kinds
+RefusesAs kinds (Version text) = IsAmong kind.DisplayVersion kinds
+RefusesAs kinds (Words why) = (k : ErrorKind) × (k ≢ kind.DisplayHelp) × (k ≢ kind.DisplayVersion) × IsAmong k kinds
+RefusesAs kinds OutOfMemory = Unit {0}
+RefusesAs kinds _ = ⊥
 
--- what a fault says of the words: the parser refuses them, or takes them and they ask for no job
-abbrev pub TellsWords : List Text → Fault → Type 0
-TellsWords words fault =
-    TellsRefusal (refusals_of words) fault ⊎ ((refusals_of words ≡ []) × TellsMet (subcommand_in words) fault)
+-- why words are refused: the parser refuses them, or takes them and they ask for no job
+abbrev pub RefusesWords : List Text → Fault → Type 0
+RefusesWords words fault =
+    RefusesAs (refusals_of words) fault ⊎ ((refusals_of words ≡ []) × RefusesMatch (subcommand_in words) fault)
 
--- one of the words asks for more to be told of a fault, also where they are refused
+-- one of the arguments asks for the detail lines of a fault, also where they are refused
 abbrev pub asks_for_more : List Text → Bool
 asks_for_more [] = false
 asks_for_more (word ∷ words) = bytes_eq word (codes "--verbose") || asks_for_more words

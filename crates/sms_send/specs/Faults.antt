@@ -70,69 +70,73 @@ status_of (BindFailed bind why) = 3
 status_of (Unconnected reason) = 3
 status_of _ = 1
 
--- what is wrong with what was read, as the program tells it
-abbrev pub told_input : InputFault → Fault
-told_input (input.Unreadable source error) = Unreadable source error
-told_input (input.BadRecord source place record_flaw) = BadRecord source place record_flaw
-told_input (input.NotToml flaw) = NotToml flaw
-told_input (input.BadKey key found) = BadKey key found
-told_input input.OutOfMemory = OutOfMemory
+-- the program's fault for what is wrong with what was read
+abbrev pub fault_of_input : InputFault → Fault
+fault_of_input (input.Unreadable source error) = Unreadable source error
+fault_of_input (input.BadRecord source place record_flaw) = BadRecord source place record_flaw
+fault_of_input (input.NotToml flaw) = NotToml flaw
+fault_of_input (input.BadKey key found) = BadKey key found
+fault_of_input input.OutOfMemory = OutOfMemory
 
--- why nothing is sent; a thread that is refused is told as want of memory, and so are accounts that no book opens with
-abbrev pub told_sending : SendFault → Fault
-told_sending (send.BindRefused bind status) = BindRefused bind status
-told_sending (send.BindFailed bind why) = BindFailed bind why
-told_sending (send.BookRefused why) = OutOfMemory
-told_sending send.ThreadRefused = OutOfMemory
-told_sending send.OutOfMemory = OutOfMemory
+-- for why nothing is sent; a thread that is refused counts as memory, and so do accounts that no book opens with
+abbrev pub fault_of_sending : SendFault → Fault
+fault_of_sending (send.BindRefused bind status) = BindRefused bind status
+fault_of_sending (send.BindFailed bind why) = BindFailed bind why
+fault_of_sending (send.BookRefused why) = OutOfMemory
+fault_of_sending send.ThreadRefused = OutOfMemory
+fault_of_sending send.OutOfMemory = OutOfMemory
 
--- how far a sending came of which this fault is told: messages may have been sent just where all workers were told to go. A fault of what is read, or of a bind,
--- comes before a word is said, and memory is refused, as such, there or where all were told to leave; behind the word to go the output fails, or nothing is told
--- of the messages. No other fault is told of a sending without a journal
-abbrev pub IsToldAt : StartPhase → Fault → Type 0
-IsToldAt begun (File name kind) = begun ≡ Idle
-IsToldAt begun (UnreadFile name error kind) = begun ≡ Idle
-IsToldAt begun (Unreadable source error) = begun ≡ Idle
-IsToldAt begun (BadRecord source place record_flaw) = begun ≡ Idle
-IsToldAt begun (NotToml flaw) = begun ≡ Idle
-IsToldAt begun (BadKey key found) = begun ≡ Idle
-IsToldAt begun (BindRefused bind status) = begun ≡ Idle
-IsToldAt begun (BindFailed bind why) = begun ≡ Idle
-IsToldAt begun (Unconnected reason) = begun ≡ Idle
-IsToldAt begun (Output unwritten) = begun ≡ Released Go
-IsToldAt begun OutOfMemory = (begun ≡ Idle) ⊎ (begun ≡ Released Leave)
-IsToldAt begun Unreported = begun ≡ Released Go
-IsToldAt begun _ = ⊥
+-- the phase of a sending in which a fault comes, so that it says whether messages may have been sent: files, journal and binds are had before a worker is started; if
+-- memory or a thread is refused none was started, or all were ordered to leave; the report, and the end of the journal, come after all were started. No other fault
+-- is a sending's
+abbrev pub ComesAt : StartPhase → Fault → Type 0
+ComesAt begun (File name kind) = begun ≡ Idle
+ComesAt begun (UnreadFile name error kind) = begun ≡ Idle
+ComesAt begun (Unreadable source error) = begun ≡ Idle
+ComesAt begun (BadRecord source place record_flaw) = begun ≡ Idle
+ComesAt begun (NotToml flaw) = begun ≡ Idle
+ComesAt begun (BadKey key found) = begun ≡ Idle
+ComesAt begun (BindRefused bind status) = begun ≡ Idle
+ComesAt begun (BindFailed bind why) = begun ≡ Idle
+ComesAt begun (Unconnected reason) = begun ≡ Idle
+ComesAt begun JournalHeld = begun ≡ Idle
+ComesAt begun (Unmade name kind) = begun ≡ Idle
+ComesAt begun (Unbegun why) = begun ≡ Idle
+ComesAt begun (Journal why) = begun ≡ Released Go
+ComesAt begun (Output unwritten) = begun ≡ Released Go
+ComesAt begun OutOfMemory = (begun ≡ Idle) ⊎ (begun ≡ Released Leave)
+ComesAt begun Unreported = begun ≡ Released Go
+ComesAt begun _ = ⊥
 
--- the fault of a bind without a connection is told with the reason of that bind, and each other as it is
+-- the fault of a bind without a connection gets the reason of that bind, and each other stays as it is
 abbrev pub with_reason : Why → Fault → Fault
 with_reason why (BindFailed bind failure.NoConnection) = Unconnected (record { bind = bind; why = why })
 with_reason why fault = fault
 
--- the fault is told so of one of which this holds
-abbrev pub IsTold : (Fault → Type 0) → Fault → Type 0
-IsTold P fault = (f : Fault) × P f × (why : Why) × (fault ≡ with_reason why f)
+-- the fault is one of which this holds, with its reason
+abbrev pub HasReason : (Fault → Type 0) → Fault → Type 0
+HasReason P fault = (f : Fault) × P f × (why : Why) × (fault ≡ with_reason why f)
 
--- why nothing is recovered
-abbrev pub told_recovery : RecoveryFault → Fault
-told_recovery (recovery.Input fault) = told_input fault
-told_recovery (recovery.Journal place) = BadNote place
-told_recovery (recovery.OtherFiles file) = BadNote 1
-told_recovery recovery.Trial = Trial
-told_recovery recovery.Overdrawn = Overdrawn
-told_recovery (recovery.Report place) = BadReport place
-told_recovery (recovery.Output unwritten) = Output unwritten
-told_recovery recovery.OutOfMemory = OutOfMemory
+-- for why nothing is recovered
+abbrev pub fault_of_recovery : RecoveryFault → Fault
+fault_of_recovery (recovery.Input fault) = fault_of_input fault
+fault_of_recovery (recovery.Journal place) = BadNote place
+fault_of_recovery (recovery.OtherFiles file) = BadNote 1
+fault_of_recovery recovery.Trial = Trial
+fault_of_recovery recovery.Overdrawn = Overdrawn
+fault_of_recovery (recovery.Report place) = BadReport place
+fault_of_recovery (recovery.Output unwritten) = Output unwritten
+fault_of_recovery recovery.OutOfMemory = OutOfMemory
 
--- and so it is told, or by the name of the file of which the journal isn't
-abbrev pub IsToldOfFiles : RecoveryFault → Fault → Type 0
-IsToldOfFiles f fault = (fault ≡ told_recovery f) ⊎ ((file : RunFile) × (f ≡ recovery.OtherFiles file) × (name : String Global) × (fault ≡ OtherFile name))
+-- it is that fault, or has the name of the file of which the journal isn't
+abbrev pub IsFaultOfRecovery : RecoveryFault → Fault → Type 0
+IsFaultOfRecovery f fault = (fault ≡ fault_of_recovery f) ⊎ ((file : RunFile) × (f ≡ recovery.OtherFiles file) × (name : String Global) × (fault ≡ OtherFile name))
 
--- why a text isn't written
-abbrev pub told_output : OutputFault → Fault
-told_output (output.Output unwritten) = Output unwritten
-told_output output.OutOfMemory = OutOfMemory
+-- for why a text isn't written
+abbrev pub fault_of_output : OutputFault → Fault
+fault_of_output (output.Output unwritten) = Output unwritten
+fault_of_output output.OutOfMemory = OutOfMemory
 
--- the fault tells one of what is read, and this holds of that
-abbrev pub TellsRead : (InputFault → Type 0) → Fault → Type 0
-TellsRead P fault = (f : InputFault) × P f × (fault ≡ told_input f)
+-- the fault is of something read, and this holds of that
+abbrev pub IsReadFault : (InputFault → Type 0) → Fault → Type 0
+IsReadFault P fault = (f : InputFault) × P f × (fault ≡ fault_of_input f)

@@ -1,4 +1,4 @@
--- What is told of the files that were read.
+-- The lines of the files that were read.
 use Rattle.std.specs.Prelude.{ℕ, List, [], Option, None, Some, ◌++◌, codes, option_map}
 use Rattle.sms_send.specs.Shown.{shown}
 use Rattle.sms_send.specs.declared.faults.details.files_read.FilesRead.{FilesRead}

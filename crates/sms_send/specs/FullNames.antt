@@ -1,4 +1,4 @@
--- What is told of the files that a quote reads, by what may be the full name of the file of a name.
+-- The lines of the files that a quote reads, by what may be the full name of the file of a name.
 use Rattle.std.specs.Prelude.{◌≡◌, ◌≢◌, ℕ, List, [], Option, None, Some, string_bytes}
 use Rattle.sms_send.specs.FilesRead.{file_lines}
 use Rattle.sms_files.specs.declared.config.FileNames.{FileNames}
@@ -9,7 +9,7 @@ IsFullIfNamed is_full name None = name ≡ []
 IsFullIfNamed is_full name (Some full) = (name ≢ []) × is_full name full
 
 -- the lines of the config of a name and of the files that it names, in the order config, accounts, messages, tariff
-pub record TellsFiles (is_full : List ℕ → List ℕ → Type 0) (name : List ℕ) (names : FileNames) (lines : List ℕ) : Type 0 where
+pub record AreFileLines (is_full : List ℕ → List ℕ → Type 0) (name : List ℕ) (names : FileNames) (lines : List ℕ) : Type 0 where
   pub config : List ℕ
   pub accounts : List ℕ
   pub messages : List ℕ
@@ -21,6 +21,6 @@ pub record TellsFiles (is_full : List ℕ → List ℕ → Type 0) (name : List 
   pub told : lines ≡ file_lines config accounts messages tariff
 
 -- so where the name of the config is kept; else nothing
-abbrev pub TellsIfKept : (List ℕ → List ℕ → Type 0) → Option (List ℕ) → FileNames → List ℕ → Type 0
-TellsIfKept is_full None names lines = lines ≡ []
-TellsIfKept is_full (Some name) names lines = TellsFiles is_full name names lines
+abbrev pub AreLinesIfKept : (List ℕ → List ℕ → Type 0) → Option (List ℕ) → FileNames → List ℕ → Type 0
+AreLinesIfKept is_full None names lines = lines ≡ []
+AreLinesIfKept is_full (Some name) names lines = AreFileLines is_full name names lines

@@ -37,7 +37,7 @@ pub record ChargedPart (es : List MessageEnd) : Type 0 where
   pub there : segment_at es message part ≡ Some segment
   pub charged : segment.outcome ≡ Charged
 
--- what was read of a bind, of which the octets were told, and the answers in it (submit_sm_resp and generic_nack), in order
+-- what was read of a bind, where the octets are known, and the answers in it (submit_sm_resp and generic_nack), in order
 pub record HasAnswers (told : Told) : Type 0 where
   pub left : Told
   pub octets : List ℕ

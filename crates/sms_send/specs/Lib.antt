@@ -5,6 +5,7 @@ pub mod FaultReports
 pub mod FullNames
 pub mod Opened
 pub mod CommandLine
+pub mod ConfigFiles
 pub mod Plans
 pub mod Quoted
 pub mod Reached

@@ -5,18 +5,15 @@ use Rattle.std.specs.String.{string_bytes}
 use Rattle.sms_devices.specs.Centres.{CentreAt}
 use Rattle.sms_devices.specs.Journals.{HasEnded}
 use Rattle.sms_devices.specs.declared.journal.failure.JournalFailure.{JournalFailure}
-use Rattle.sms_driver.specs.declared.start_gate.Command.TheVariants.{Go}
-use Rattle.sms_driver.specs.declared.start.StartPhase.{StartPhase}
-use Rattle.sms_driver.specs.declared.start.StartPhase.TheVariants.{Idle, Released}
 use Rattle.sms_files.specs.Inputs.{Told}
 use Rattle.sms_files.specs.declared.input.Input.{Input}
 use Rattle.sms_journal.specs.declared.text.header.JournalKind.{JournalKind}
 use Rattle.sms_journal.specs.declared.text.header.JournalKind.TheVariants.{Run, Trial}
-use Rattle.sms_send.specs.Faults.{HasLostJournal, IsToldAt}
+use Rattle.sms_send.specs.Faults.{HasLostJournal}
 use Rattle.sms_send.specs.Sent.{FailsSending, SendsInput}
 use Rattle.sms_send.specs.declared.args.send_args.JournalFile.{JournalFile}
 use Rattle.sms_send.specs.declared.faults.fault.Fault.{Fault}
-use Rattle.sms_send.specs.declared.faults.fault.Fault.TheVariants.{Journal, JournalHeld, Unbegun, Unmade}
+use Rattle.sms_send.specs.declared.faults.fault.Fault.TheVariants.{JournalHeld, Unbegun, Unmade}
 use Rattle.sms_send.specs.declared.sending.target.Target.{Target}
 use Rattle.sms_send.specs.declared.sending.target.Target.TheVariants.{Loopback, Remote}
 
@@ -30,21 +27,21 @@ kind_of (Loopback bind_status answers) = Trial
 kind_of (Remote host port) = Run
 
 -- a process holds the journal of this name, as the system says
-abbrev pub TellsHeld : (List ℕ → Type 0) → List ℕ → Fault → Type 0
-TellsHeld holds name fault = (fault ≡ JournalHeld) × holds name
+abbrev pub IsHeld : (List ℕ → Type 0) → List ℕ → Fault → Type 0
+IsHeld holds name fault = (fault ≡ JournalHeld) × holds name
 
 -- none could be made, for this reason
-abbrev pub TellsUnmade : (List ℕ → Type 0) → JournalFile → Fault → Type 0
-TellsUnmade refuses journal fault = (kind : ErrorKind) × (fault ≡ Unmade journal.name kind) × refuses (string_bytes journal.name)
+abbrev pub IsUnmade : (List ℕ → Type 0) → JournalFile → Fault → Type 0
+IsUnmade refuses journal fault = (kind : ErrorKind) × (fault ≡ Unmade journal.name kind) × refuses (string_bytes journal.name)
 
 -- what was made didn't take the first line, for this reason
-abbrev pub TellsUnbegun : {F : Type 0} → (List ℕ → F → Type 0) → JournalFile → Fault → Type 0
-TellsUnbegun makes journal fault = (why : JournalFailure) × (fault ≡ Unbegun why) × IsMade makes journal
+abbrev pub IsUnbegun : {F : Type 0} → (List ℕ → F → Type 0) → JournalFile → Fault → Type 0
+IsUnbegun makes journal fault = (why : JournalFailure) × (fault ≡ Unbegun why) × IsMade makes journal
 
 -- why a journal isn't begun: one of its name is held, none could be made, or what was made didn't take the first line
-abbrev pub TellsBegin : {F : Type 0} → (List ℕ → F → Type 0) → (List ℕ → Type 0) → (List ℕ → Type 0) → JournalFile → Fault → Type 0
-TellsBegin makes refuses holds journal fault =
-    TellsHeld holds (string_bytes journal.name) fault ⊎ TellsUnmade refuses journal fault ⊎ TellsUnbegun makes journal fault
+abbrev pub FailsBegin : {F : Type 0} → (List ℕ → F → Type 0) → (List ℕ → Type 0) → (List ℕ → Type 0) → JournalFile → Fault → Type 0
+FailsBegin makes refuses holds journal fault =
+    IsHeld holds (string_bytes journal.name) fault ⊎ IsUnmade refuses journal fault ⊎ IsUnbegun makes journal fault
 
 -- a file ends with the note that a run has ended with this status
 abbrev pub IsNoted : {F : Type 0} → (F → Option (List ℕ)) → ℕ → Type 0
@@ -55,13 +52,3 @@ abbrev pub FailsNoted : (JournalFile → Fault → Type 0) → CentreAt → (ℕ
 FailsNoted begins centre told strict journal input old new fault =
     (begins journal fault × (new ≡ old))
     ⊎ (FailsSending centre told input old new fault ⊎ (HasLostJournal fault × (status : ℕ) × SendsInput told strict input old new status))
-
--- how far a sending with a journal came that failed so: before a worker was started no journal could be made or begun, or it was held; all was sent
--- and the whole report was written before a journal failed; else as of one without
-abbrev pub IsToldNoted : (CentreAt → Bool → ℕ → Told) → Bool → StartPhase → Option (List ℕ) → Option (List ℕ) → Fault → Type 0
-IsToldNoted tells strict begun old new JournalHeld = begun ≡ Idle
-IsToldNoted tells strict begun old new (Unmade name kind) = begun ≡ Idle
-IsToldNoted tells strict begun old new (Unbegun why) = (begun ≡ Idle) × (new ≡ old)
-IsToldNoted tells strict begun old new (Journal why) =
-    (begun ≡ Released Go) × (centre : CentreAt) × (input : Input) × (status : ℕ) × SendsInput (tells centre true) strict input old new status
-IsToldNoted tells strict begun old new fault = IsToldAt begun fault

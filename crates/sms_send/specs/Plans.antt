@@ -1,4 +1,4 @@
--- What a plan warns of, and what a fault of it says of the messages file.
+-- What a plan warns of, and why it fails.
 use Rattle.std.specs.Prelude.{◌≡◌, ◌⊎◌, ◌++◌, ℕ, List, [], Option, codes, decimal, length}
 use Rattle.std.specs.Io.KnownBytes.{Appends}
 use Rattle.sms_files.specs.Fields.{Record, records_of}
@@ -6,12 +6,12 @@ use Rattle.sms_files.specs.Messages.{messages_fault}
 use Rattle.sms_files.specs.Quoting.{EndsQuoted}
 use Rattle.sms_files.specs.declared.fault.Source.TheVariants.{Messages}
 use Rattle.sms_files.specs.Output.{WritesFront}
-use Rattle.sms_send.specs.Opened.{TellsFile}
+use Rattle.sms_send.specs.Opened.{FailsFileJob}
 use Rattle.sms_send.specs.declared.faults.fault.Fault.{Fault}
 
 -- the record that a fault names is the first faulty one; where the output failed, none was
-abbrev pub TellsPlan : List Record → Fault → Type 0
-TellsPlan rs = TellsFile Messages (messages_fault rs)
+abbrev pub FailsPlan : List Record → Fault → Type 0
+FailsPlan rs = FailsFileJob Messages (messages_fault rs)
 
 -- the quote of a record is open: all that stands behind it is read as that record
 abbrev pub quote_line : ℕ → List ℕ
@@ -21,10 +21,10 @@ quote_line place = codes "warning: messages record " ++ decimal place ++ codes "
 abbrev pub IsWarning : List ℕ → List ℕ → Type 0
 IsWarning bytes text = (EndsQuoted bytes × (text ≡ quote_line (length (records_of bytes)))) ⊎ ((¬ EndsQuoted bytes) × (text ≡ []))
 
--- it was warned of that, and nothing else was told
+-- that was written to standard error, and nothing else
 abbrev pub Warns : List ℕ → Option (List ℕ) → Option (List ℕ) → Type 0
-Warns bytes told_old told_new = (text : List ℕ) × IsWarning bytes text × Appends told_old told_new text
+Warns bytes error_old error_new = (text : List ℕ) × IsWarning bytes text × Appends error_old error_new text
 
--- a front of that was told
+-- a front of that was written
 abbrev pub WarnsFront : List ℕ → Option (List ℕ) → Option (List ℕ) → Type 0
-WarnsFront bytes told_old told_new = (text : List ℕ) × IsWarning bytes text × WritesFront told_old told_new text
+WarnsFront bytes error_old error_new = (text : List ℕ) × IsWarning bytes text × WritesFront error_old error_new text

@@ -12,9 +12,9 @@ use Rattle.sms_files.specs.declared.input.Input.{Input}
 use Rattle.sms_journal.specs.Digests.{digests_of}
 use Rattle.sms_journal.specs.Files.{octets_read}
 use Rattle.sms_journal.specs.declared.text.header.Digests.{Digests}
-use Rattle.sms_send.specs.Faults.{TellsRead}
-use Rattle.sms_send.specs.Opened.{AreFound, TellsMissing}
-use Rattle.sms_send.specs.Runs.{AreOpened, TellsOpened, tariff_in}
+use Rattle.sms_send.specs.Faults.{IsReadFault}
+use Rattle.sms_send.specs.Opened.{AreFound, FailsOpeningFiles}
+use Rattle.sms_send.specs.Runs.{AreOpened, FailsReadingOpened, tariff_in}
 use Rattle.sms_send.specs.declared.faults.fault.Fault.{Fault}
 use Rattle.sms_send.specs.declared.files.named_files.NamedFiles.{NamedFiles}
 
@@ -33,11 +33,11 @@ abbrev pub IsOpenQuoteOf : NamedFiles → Input → InputFault → Type 0
 IsOpenQuoteOf named input fault = EndsQuoted named.messages.items × IsBadRecord Messages (length input.messages.items + 1) OpenQuote fault
 
 abbrev pub IsOpenQuote : Config → NamedFiles → Fault → Type 0
-IsOpenQuote config named fault = (input : Input) × IsInputOf config named input × TellsRead (IsOpenQuoteOf named input) fault
+IsOpenQuote config named fault = (input : Input) × IsInputOf config named input × IsReadFault (IsOpenQuoteOf named input) fault
 
--- what a fault of their records says
+-- the fault is of their records
 abbrev pub IsFaultOfRecords : NamedFiles → Fault → Type 0
-IsFaultOfRecords named fault = TellsRead (IsFaultOfFiles (Some named.accounts.items) (Some named.messages.items) (octets_read (tariff_in named))) fault
+IsFaultOfRecords named fault = IsReadFault (IsFaultOfFiles (Some named.accounts.items) (Some named.messages.items) (octets_read (tariff_in named))) fault
 
 -- and strictly that the messages file ends within a quote
 abbrev pub IsFaultOfOctets : Bool → Config → NamedFiles → Fault → Type 0
@@ -61,8 +61,8 @@ IsReadFrom false strict config accounts messages tariff input = IsInputBy config
 -- why there is none
 abbrev pub FailsReading : (whole strict : Bool) → Config → Told → Told → Option Told → Fault → Type 0
 FailsReading true strict config accounts messages tariff fault =
-    TellsOpened tariff fault ⊎ ((named : NamedFiles) × AreOpened accounts messages tariff named × IsFaultOfOctets strict config named fault)
-FailsReading false strict config accounts messages tariff fault = TellsRead (IsFaultOfFiles accounts messages tariff) fault
+    FailsReadingOpened tariff fault ⊎ ((named : NamedFiles) × AreOpened accounts messages tariff named × IsFaultOfOctets strict config named fault)
+FailsReading false strict config accounts messages tariff fault = IsReadFault (IsFaultOfFiles accounts messages tariff) fault
 
 -- the digests are those of the config's octets and of the octets of these files
 abbrev pub AreDigestsOf : List ℕ → Told → Told → Option Told → Digests → Type 0
@@ -82,5 +82,5 @@ pub record IsRead (finds : List ℕ → Option Told → Type 0) (whole strict : 
 -- why there is none: a file can't be opened, or the fault is of those that were opened
 abbrev pub IsUnread : (List ℕ → Option Told → Type 0) → (whole strict : Bool) → Config → Fault → Type 0
 IsUnread finds whole strict config fault =
-    TellsMissing finds config.files fault
+    FailsOpeningFiles finds config.files fault
     ⊎ ((accounts : Told) × (messages : Told) × (tariff : Option Told) × AreFound finds config.files accounts messages tariff × FailsReading whole strict config accounts messages tariff fault)

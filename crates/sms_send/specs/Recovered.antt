@@ -1,4 +1,4 @@
--- What `recover` and `rest` print of a run, and what a fault of them says.
+-- What `recover` and `rest` print of a run, and why they fail.
 use Rattle.std.specs.Prelude.{◌≡◌, ◌⊎◌, ℕ, Bool, true, false, List, Option, String, codes, string_bytes}
 use Rattle.std.specs.declared.alloc.Global.{Global}
 use Rattle.std.specs.Io.KnownBytes.{Appends}
@@ -13,16 +13,16 @@ use Rattle.sms_journal.specs.Recovering.{RecoversJournal, IsFaultOfJournal}
 use Rattle.sms_journal.specs.Resting.{Prints, IsFaultOfPrinting, accounts_by, rest_by}
 use Rattle.sms_journal.specs.declared.recovery.fault.RecoveryFault.{RecoveryFault}
 use Rattle.sms_journal.specs.declared.recovery.recovering.Recovered.{Recovered}
-use Rattle.sms_send.specs.Faults.{IsToldOfFiles, output_failed}
-use Rattle.sms_send.specs.Noted.{TellsHeld}
-use Rattle.sms_send.specs.Runs.{IsRun, TellsRunFiles, tariff_in}
+use Rattle.sms_send.specs.Faults.{IsFaultOfRecovery, output_failed}
+use Rattle.sms_send.specs.Noted.{IsHeld}
+use Rattle.sms_send.specs.Runs.{IsRun, FailsRunFiles, tariff_in}
 use Rattle.sms_send.specs.declared.faults.fault.Fault.{Fault}
 use Rattle.sms_send.specs.declared.faults.fault.Fault.TheVariants.{BadNote, OtherFile}
 use Rattle.sms_send.specs.declared.args.send_args.RecoverArgs.{RecoverArgs}
 use Rattle.sms_send.specs.declared.args.send_args.RestArgs.{RestArgs}
 use Rattle.sms_send.specs.declared.files.run_files.RunFiles.{RunFiles}
 
--- what the journal of the run, or of a trial where one is asked for, tells was written
+-- what the journal of the run says, or of a trial where one is asked for, was written
 abbrev pub RecoversRun : RunFiles → Bool → Option (List ℕ) → Option (List ℕ) → Recovered → Type 0
 RecoversRun run trial old new recovered =
     RecoversJournal run.config.items run.named.accounts.items run.named.messages.items (tariff_in run.named) run.written.items trial old new recovered
@@ -31,9 +31,9 @@ RecoversRun run trial old new recovered =
 abbrev pub trial_line : List ℕ
 trial_line = codes "trial: no message centre saw any of it\n"
 
-abbrev pub TellsKind : JournalKind → Option (List ℕ) → Option (List ℕ) → Type 0
-TellsKind Run told_old told_new = told_new ≡ told_old
-TellsKind Trial told_old told_new = Appends told_old told_new trial_line
+abbrev pub WritesKind : JournalKind → Option (List ℕ) → Option (List ℕ) → Type 0
+WritesKind Run error_old error_new = error_new ≡ error_old
+WritesKind Trial error_old error_new = Appends error_old error_new trial_line
 
 -- what by its report was not sent at all: the accounts for it, or its messages
 abbrev pub left_of : Bool → RunFiles → Input → List ℕ
@@ -53,20 +53,20 @@ name_of config names Messages = string_bytes names.messages
 name_of config names Tariff = string_bytes names.tariff
 
 -- the journal is of other files, with the name of one of them where there was memory for it
-abbrev pub TellsOther : Fault → Type 0
-TellsOther fault = (fault ≡ BadNote 1) ⊎ ((name : String Global) × (fault ≡ OtherFile name))
+abbrev pub IsOfOtherFile : Fault → Type 0
+IsOfOtherFile fault = (fault ≡ BadNote 1) ⊎ ((name : String Global) × (fault ≡ OtherFile name))
 
--- a fault tells one of recovering, of which this holds
-abbrev pub TellsOf : (RecoveryFault → Type 0) → Fault → Type 0
-TellsOf P fault = (f : RecoveryFault) × P f × IsToldOfFiles f fault
+-- the fault is of recovering, and this holds of it
+abbrev pub FailsWith : (RecoveryFault → Type 0) → Fault → Type 0
+FailsWith P fault = (f : RecoveryFault) × P f × IsFaultOfRecovery f fault
 
-abbrev pub TellsRecovered : RunFiles → Bool → Option (List ℕ) → Option (List ℕ) → Fault → Type 0
-TellsRecovered run trial old new =
-    TellsOf (IsFaultOfJournal run.config.items run.named.accounts.items run.named.messages.items (tariff_in run.named) run.written.items trial old new)
+abbrev pub FailsRecovering : RunFiles → Bool → Option (List ℕ) → Option (List ℕ) → Fault → Type 0
+FailsRecovering run trial old new =
+    FailsWith (IsFaultOfJournal run.config.items run.named.accounts.items run.named.messages.items (tariff_in run.named) run.written.items trial old new)
 
-abbrev pub TellsLeft : Bool → RunFiles → Option (List ℕ) → Option (List ℕ) → Fault → Type 0
-TellsLeft accounts run old new =
-    TellsOf (IsFaultOfPrinting run.config.items run.named.accounts.items run.named.messages.items (tariff_in run.named) run.written.items (left_of accounts run) old new)
+abbrev pub FailsRest : Bool → RunFiles → Option (List ℕ) → Option (List ℕ) → Fault → Type 0
+FailsRest accounts run old new =
+    FailsWith (IsFaultOfPrinting run.config.items run.named.accounts.items run.named.messages.items (tariff_in run.named) run.written.items (left_of accounts run) old new)
 
 -- ---- the jobs
 
@@ -75,28 +75,28 @@ abbrev pub RecoversBy : (List ℕ → Option Told → Type 0) → RecoverArgs �
 RecoversBy finds order old new status =
     (run : RunFiles) × IsRun finds (string_bytes order.config) (string_bytes order.journal) run × (recovered : Recovered) × RecoversRun run order.trial old new recovered × (status ≡ recovered.status)
 
--- and what it is of was told on standard error
-pub record RecoversAndTells (finds : List ℕ → Option Told → Type 0) (order : RecoverArgs) (old new told_old told_new : Option (List ℕ)) : Type 0 where
+-- and standard error has what it is of
+pub record RecoversAndWarns (finds : List ℕ → Option Told → Type 0) (order : RecoverArgs) (old new error_old error_new : Option (List ℕ)) : Type 0 where
   pub run : RunFiles
   pub is : IsRun finds (string_bytes order.config) (string_bytes order.journal) run
   pub recovered : Recovered
   pub recovers : RecoversRun run order.trial old new recovered
-  pub told : TellsKind recovered.kind told_old told_new
+  pub told : WritesKind recovered.kind error_old error_new
 
--- a trial was recovered so, and that couldn't be told
+-- a trial was recovered so, and that couldn't be written
 abbrev pub LosesTrial : RunFiles → Bool → Option (List ℕ) → Option (List ℕ) → Fault → Type 0
 LosesTrial run trial old new fault = (fault ≡ output_failed) × (recovered : Recovered) × RecoversRun run trial old new recovered × (recovered.kind ≡ Trial)
 
--- what a fault of the jobs says: it is of the files, or of what they say; and before that, that the journal is held, as the system says
-abbrev pub TellsRecoverFree : (List ℕ → Option Told → Type 0) → RecoverArgs → Option (List ℕ) → Option (List ℕ) → Fault → Type 0
-TellsRecoverFree finds order old new fault =
-    TellsRunFiles finds order.config order.journal fault
-    ⊎ ((run : RunFiles) × IsRun finds (string_bytes order.config) (string_bytes order.journal) run × (TellsRecovered run order.trial old new fault ⊎ LosesTrial run order.trial old new fault))
+-- why the jobs fail: the fault is of the files, or of what they say; and before that, the journal is held, as the system says
+abbrev pub FailsRecoverFree : (List ℕ → Option Told → Type 0) → RecoverArgs → Option (List ℕ) → Option (List ℕ) → Fault → Type 0
+FailsRecoverFree finds order old new fault =
+    FailsRunFiles finds order.config order.journal fault
+    ⊎ ((run : RunFiles) × IsRun finds (string_bytes order.config) (string_bytes order.journal) run × (FailsRecovering run order.trial old new fault ⊎ LosesTrial run order.trial old new fault))
 
-abbrev pub TellsRecoverJob : (List ℕ → Type 0) → (List ℕ → Option Told → Type 0) → RecoverArgs → Option (List ℕ) → Option (List ℕ) → Fault → Type 0
-TellsRecoverJob holds finds order old new fault = TellsHeld holds (string_bytes order.journal) fault ⊎ TellsRecoverFree finds order old new fault
+abbrev pub FailsRecoverJob : (List ℕ → Type 0) → (List ℕ → Option Told → Type 0) → RecoverArgs → Option (List ℕ) → Option (List ℕ) → Fault → Type 0
+FailsRecoverJob holds finds order old new fault = IsHeld holds (string_bytes order.journal) fault ⊎ FailsRecoverFree finds order old new fault
 
-abbrev pub TellsRestJob : (List ℕ → Option Told → Type 0) → RestArgs → Option (List ℕ) → Option (List ℕ) → Fault → Type 0
-TellsRestJob finds order old new fault =
-    TellsRunFiles finds order.config order.report fault
-    ⊎ ((run : RunFiles) × IsRun finds (string_bytes order.config) (string_bytes order.report) run × TellsLeft order.accounts run old new fault)
+abbrev pub FailsRestJob : (List ℕ → Option Told → Type 0) → RestArgs → Option (List ℕ) → Option (List ℕ) → Fault → Type 0
+FailsRestJob finds order old new fault =
+    FailsRunFiles finds order.config order.report fault
+    ⊎ ((run : RunFiles) × IsRun finds (string_bytes order.config) (string_bytes order.report) run × FailsRest order.accounts run old new fault)

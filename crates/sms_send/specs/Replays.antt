@@ -8,8 +8,8 @@ use Rattle.sms_core.specs.State.{State}
 use Rattle.sms_files.specs.Fields.{Record, records_of}
 use Rattle.sms_files.specs.Output.{WritesFront}
 use Rattle.sms_files.specs.Records.{TellsRecords}
-use Rattle.sms_send.specs.Faults.{TellsRead}
-use Rattle.sms_send.specs.Opened.{TellsFile}
+use Rattle.sms_send.specs.Faults.{IsReadFault}
+use Rattle.sms_send.specs.Opened.{FailsFileJob}
 use Rattle.sms_files.specs.Schedule.{AreSchedule, schedule_fault}
 use Rattle.sms_files.specs.ReplayText.{replay_text}
 use Rattle.sms_send.specs.declared.faults.fault.Fault.{Fault}
@@ -33,11 +33,11 @@ Replays bytes old new = OfReplay (Appends old new) bytes
 abbrev pub ReplaysFront : List ℕ → Option (List ℕ) → Option (List ℕ) → Type 0
 ReplaysFront bytes old new = OfReplay (WritesFront old new) bytes
 
--- what a fault says of the input before anything is written: a record that it names is the first that may not stand where it stands
-abbrev pub TellsSchedule : List Record → Fault → Type 0
-TellsSchedule rs = TellsRead (TellsRecords Schedule (schedule_fault rs))
+-- why an input isn't replayed before anything is written: a record that the fault names is the first that may not stand where it stands
+abbrev pub FailsSchedule : List Record → Fault → Type 0
+FailsSchedule rs = IsReadFault (TellsRecords Schedule (schedule_fault rs))
 
--- what a fault of a replay says of the input: a record that it names is the first that may not stand where it stands, and only the
+-- why a replay fails: a record that the fault names is the first that may not stand where it stands, and only the
 -- output of a schedule can fail
-abbrev pub TellsReplay : List Record → Fault → Type 0
-TellsReplay rs = TellsFile Schedule (schedule_fault rs)
+abbrev pub FailsReplay : List Record → Fault → Type 0
+FailsReplay rs = FailsFileJob Schedule (schedule_fault rs)

@@ -1,15 +1,15 @@
--- The files of a run, as octets, what `recover` and `rest` do with them, and what a fault of them says.
+-- The files of a run as octets, and why they can't be had.
 use Rattle.std.specs.Prelude.{◌≡◌, ◌≢◌, ◌⊎◌, ℕ, String, List, Option, Some, None, IfSome, option_map, string_bytes}
 use Rattle.std.specs.declared.alloc.Global.{Global}
-use Rattle.sms_files.specs.ConfigFaults.{IsConfig, TellsConfig}
+use Rattle.sms_files.specs.ConfigFaults.{IsConfig}
 use Rattle.sms_files.specs.Inputs.{Told}
 use Rattle.sms_files.specs.declared.config.Config.{Config}
 use Rattle.sms_files.specs.declared.config.FileNames.{FileNames}
 use Rattle.sms_files.specs.declared.fault.Source.{Source}
 use Rattle.sms_files.specs.declared.fault.Source.TheVariants.{Accounts, Messages, Tariff}
 use Rattle.sms_pdu.specs.declared.device_error.DeviceError.{DeviceError}
-use Rattle.sms_send.specs.Faults.{TellsRead}
-use Rattle.sms_send.specs.Opened.{AreFound, OfFile, TellsMissing, TellsUnreadFile}
+use Rattle.sms_send.specs.ConfigFiles.{FailsReadingConfig, OfConfig}
+use Rattle.sms_send.specs.Opened.{AreFound, OfFile, FailsOpeningFiles, FailsReadingFile}
 use Rattle.sms_send.specs.declared.faults.fault.Fault.{Fault}
 use Rattle.sms_send.specs.declared.faults.fault.Fault.TheVariants.{OutOfMemory, Unreadable}
 use Rattle.sms_send.specs.declared.files.named_files.NamedFiles.{NamedFiles}
@@ -24,7 +24,7 @@ abbrev pub AreOfOne : Option Told → Option (List ℕ) → Type 0
 AreOfOne None octets = octets ≡ None
 AreOfOne (Some told) octets = (read : List ℕ) × (octets ≡ Some read) × IfSome told (λ bytes. read ≡ bytes)
 
--- the octets are those of opened files of which so much is told
+-- the octets are those of opened files, as far as these are known
 pub record AreOpened (accounts messages : Told) (tariff : Option Told) (files : NamedFiles) : Type 0 where
   pub accounts_are : IfSome accounts (λ bytes. files.accounts.items ≡ bytes)
   pub messages_are : IfSome messages (λ bytes. files.messages.items ≡ bytes)
@@ -43,31 +43,25 @@ pub record IsRun (finds : List ℕ → Option Told → Type 0) (name written : L
   pub named : AreNamed finds config.files run.named
   pub written_is : OfFile finds written (λ bytes. run.written.items ≡ bytes)
 
--- a fault tells that this source can't be read; only a device that answered an error gives a `DeviceError`
-abbrev pub TellsUnread : Source → Fault → Type 0
-TellsUnread source fault = (error : DeviceError) × (fault ≡ Unreadable source error)
+-- this source can't be read; only a device that answered an error gives a `DeviceError`
+abbrev pub IsUnreadable : Source → Fault → Type 0
+IsUnreadable source fault = (error : DeviceError) × (fault ≡ Unreadable source error)
 
--- what a fault says of opened files: one can't be read, or memory ran out
-abbrev pub TellsOpened : Option Told → Fault → Type 0
-TellsOpened tariff fault =
+-- why opened files have no octets: one can't be read, or memory ran out
+abbrev pub FailsReadingOpened : Option Told → Fault → Type 0
+FailsReadingOpened tariff fault =
     (fault ≡ OutOfMemory)
-    ⊎ TellsUnread Accounts fault
-    ⊎ TellsUnread Messages fault
-    ⊎ (TellsUnread Tariff fault × (tariff ≢ None))
+    ⊎ IsUnreadable Accounts fault
+    ⊎ IsUnreadable Messages fault
+    ⊎ (IsUnreadable Tariff fault × (tariff ≢ None))
 
--- what a fault says of files of these names: one can't be opened, or what it says of them once they are
-abbrev pub TellsNamedFiles : (List ℕ → Option Told → Type 0) → FileNames → Fault → Type 0
-TellsNamedFiles finds names fault =
-    TellsMissing finds names fault ⊎ ((accounts : Told) × (messages : Told) × (tariff : Option Told) × AreFound finds names accounts messages tariff × TellsOpened tariff fault)
+-- why files of these names have none: one can't be opened, or one that was can't be read
+abbrev pub FailsNamedFiles : (List ℕ → Option Told → Type 0) → FileNames → Fault → Type 0
+FailsNamedFiles finds names fault =
+    FailsOpeningFiles finds names fault ⊎ ((accounts : Told) × (messages : Told) × (tariff : Option Told) × AreFound finds names accounts messages tariff × FailsReadingOpened tariff fault)
 
--- what a fault says of a config's octets: they are none, or what it says of the files that the config names and of the one
--- that is read behind them
-abbrev pub TellsConfigured : (List ℕ → Option Told → Type 0) → String Global → List ℕ → Fault → Type 0
-TellsConfigured finds written octets fault =
-    TellsRead (TellsConfig octets) fault
-    ⊎ ((config : Config) × IsConfig octets config × (TellsNamedFiles finds config.files fault ⊎ TellsUnreadFile finds written fault))
-
--- what a fault says of a run by the config of this name, of which the file of this name was written
-abbrev pub TellsRunFiles : (List ℕ → Option Told → Type 0) → String Global → String Global → Fault → Type 0
-TellsRunFiles finds config written fault =
-    (fault ≡ OutOfMemory) ⊎ TellsUnreadFile finds config fault ⊎ OfFile finds (string_bytes config) (λ octets. TellsConfigured finds written octets fault)
+-- why a run has no files: its config can't be read, one of those that it names, or the one that was written of it
+abbrev pub FailsRunFiles : (List ℕ → Option Told → Type 0) → String Global → String Global → Fault → Type 0
+FailsRunFiles finds config written fault =
+    FailsReadingConfig finds config fault
+    ⊎ OfConfig finds (string_bytes config) (λ read. FailsNamedFiles finds read.files fault ⊎ FailsReadingFile finds written fault)

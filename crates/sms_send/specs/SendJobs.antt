@@ -1,27 +1,22 @@
 -- What `loop` and `send` do, and why they fail.
--- What connections to a centre will give, written to behind a journal or not, is told of the world that the program runs in: `tells`.
-use Rattle.std.specs.Prelude.{◌≡◌, ◌⊎◌, ◌||◌, ℕ, Bool, true, false, List, Option, Some, None, is_some, string_bytes}
+-- What connections to a centre will give, written to behind a journal or not, is a relation of the world that the program runs in: `tells`.
+use Rattle.std.specs.Prelude.{◌⊎◌, ◌||◌, ℕ, Bool, true, false, List, Option, Some, None, is_some, string_bytes}
 use Rattle.sms_devices.specs.Centres.{CentreAt}
-use Rattle.sms_files.specs.ConfigFaults.{IsConfig, TellsConfig}
 use Rattle.sms_files.specs.Inputs.{Told}
 use Rattle.sms_files.specs.declared.config.Config.{Config}
 use Rattle.sms_files.specs.declared.input.Input.{Input}
-use Rattle.sms_send.specs.Faults.{TellsRead}
+use Rattle.sms_send.specs.ConfigFiles.{FailsReadingConfig, OfConfig}
 use Rattle.sms_send.specs.Noted.{FailsNoted}
-use Rattle.sms_send.specs.Opened.{OfFile, TellsUnreadFile}
 use Rattle.sms_send.specs.Reached.{centre_in}
 use Rattle.sms_send.specs.Reading.{IsRead, IsUnread}
 use Rattle.sms_send.specs.Sent.{FailsSending, SendsInput}
 use Rattle.sms_send.specs.declared.args.send_args.JournalFile.{JournalFile}
 use Rattle.sms_send.specs.declared.args.send_args.SendArgs.{SendArgs}
 use Rattle.sms_send.specs.declared.faults.fault.Fault.{Fault}
-use Rattle.sms_send.specs.declared.faults.fault.Fault.TheVariants.{OutOfMemory}
 use Rattle.sms_send.specs.declared.sending.target.TargetKind.{TargetKind}
 
--- the octets are a config's; the files that it names were read, to their ends first where that is strict or for a journal, and what they say was sent to the centre that it names
-pub record SendsBy (finds : List ℕ → Option Told → Type 0) (tells : CentreAt → Bool → ℕ → Told) (kind : TargetKind) (strict noted : Bool) (octets : List ℕ) (old new : Option (List ℕ)) (status : ℕ) : Type 0 where
-  pub config : Config
-  pub says : IsConfig octets config
+-- the files that the config names were read, to their ends first where that is strict or for a journal, and what they say was sent to the centre that it names
+pub record SendsBy (finds : List ℕ → Option Told → Type 0) (tells : CentreAt → Bool → ℕ → Told) (kind : TargetKind) (strict noted : Bool) (old new : Option (List ℕ)) (status : ℕ) (config : Config) : Type 0 where
   pub input : Input
   pub read : IsRead finds (strict || noted) strict config input
   pub sends : SendsInput (tells (centre_in kind config) noted) strict input old new status
@@ -32,20 +27,12 @@ FailsInput begins centre told strict None input old new fault = FailsSending cen
 FailsInput begins centre told strict (Some journal) input old new fault = FailsNoted begins centre (told true) strict journal input old new fault
 
 -- why nothing was sent by this config: a file isn't there or is faulty, or the sending failed
-abbrev pub FailsConfig : (JournalFile → Fault → Type 0) → (List ℕ → Option Told → Type 0) → CentreAt → (Bool → ℕ → Told) → Bool → Option JournalFile → Config → Option (List ℕ) → Option (List ℕ) → Fault → Type 0
-FailsConfig begins finds centre told strict journal config old new fault =
+abbrev pub FailsBy : (JournalFile → Fault → Type 0) → (List ℕ → Option Told → Type 0) → (CentreAt → Bool → ℕ → Told) → TargetKind → Bool → Option JournalFile → Option (List ℕ) → Option (List ℕ) → Fault → Config → Type 0
+FailsBy begins finds tells kind strict journal old new fault config =
     IsUnread finds (strict || is_some journal) strict config fault
-    ⊎ ((input : Input) × IsRead finds (strict || is_some journal) strict config input × FailsInput begins centre told strict journal input old new fault)
+    ⊎ ((input : Input) × IsRead finds (strict || is_some journal) strict config input × FailsInput begins (centre_in kind config) (tells (centre_in kind config)) strict journal input old new fault)
 
--- by a config of these octets: it is faulty, or it failed so
-abbrev pub FailsBy : (JournalFile → Fault → Type 0) → (List ℕ → Option Told → Type 0) → (CentreAt → Bool → ℕ → Told) → TargetKind → Bool → Option JournalFile → List ℕ → Option (List ℕ) → Option (List ℕ) → Fault → Type 0
-FailsBy begins finds tells kind strict journal octets old new fault =
-    TellsRead (TellsConfig octets) fault
-    ⊎ ((config : Config) × IsConfig octets config × FailsConfig begins finds (centre_in kind config) (tells (centre_in kind config)) strict journal config old new fault)
-
--- by these arguments: the config's file can't be opened or read, memory ran out, or it failed so
+-- by these arguments: the config can't be read, memory ran out, or it failed so
 abbrev pub FailsSendJob : (JournalFile → Fault → Type 0) → (List ℕ → Option Told → Type 0) → (CentreAt → Bool → ℕ → Told) → TargetKind → SendArgs → Option (List ℕ) → Option (List ℕ) → Fault → Type 0
 FailsSendJob begins finds tells kind order old new fault =
-    (fault ≡ OutOfMemory)
-    ⊎ (TellsUnreadFile finds order.config fault
-    ⊎ OfFile finds (string_bytes order.config) (λ octets. FailsBy begins finds tells kind order.strict order.journal octets old new fault))
+    FailsReadingConfig finds order.config fault ⊎ OfConfig finds (string_bytes order.config) (FailsBy begins finds tells kind order.strict order.journal old new fault)

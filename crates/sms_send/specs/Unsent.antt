@@ -1,4 +1,4 @@
--- How many messages were not sent since their bind was closed, or for want of memory.
+-- How many messages were not sent since their bind was closed, or since memory was refused.
 use Rattle.std.specs.Prelude.{ℕ, ◌+◌, ◌/◌, ◌%◌, ◌==◌, ◌&&◌, nat_lt, if◌then◌else◌, Bool, true, false, List, [], ◌∷◌}
 use Rattle.sms_worker.specs.Types.{MessageEnd, MessageResult}
 use Rattle.sms_message.specs.declared.ends.MessageRefusal.{MessageRefusal}
@@ -35,7 +35,7 @@ abbrev pub unsent_from : ℕ → ℕ → ℕ → ℕ → List MessageEnd → ℕ
 unsent_from workers binds bind place [] = 0
 unsent_from workers binds bind place (e ∷ es) = (if is_kept_by workers binds bind place e then 1 else 0) + unsent_from workers binds bind (place + 1) es
 
--- how many messages were refused for want of memory
+-- how many messages were refused since memory was
 abbrev pub without_memory : List MessageEnd → ℕ
 without_memory [] = 0
 without_memory (e ∷ es) = (if kept_by_memory e.result then 1 else 0) + without_memory es

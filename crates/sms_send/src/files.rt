@@ -1,5 +1,6 @@
 //! The files that the program reads, by their names.
 
+pub mod config_file;
 pub mod named_files;
 pub mod open_input;
 pub mod opened;

@@ -1,14 +1,14 @@
 //! The program over its arguments: the job that they ask for, and what is printed of a fault.
 
-ghost use Rattle.std.specs.Prelude.{◌≡◌, ◌≢◌, None, Some, IfErr, IfOk, IfSome, OnOk, is_ok, is_some, map, string_bytes, true, if◌then◌else◌};
+ghost use Rattle.std.specs.Prelude.{◌≡◌, ◌≢◌, None, Some, IfErr, IfOk, IfSome, OnOk, is_ok, is_some, true, if◌then◌else◌};
 ghost use Rattle.std.specs.Io.KnownBytes.{Appends};
 ghost use Rattle.sms_driver.specs.declared.start.StartPhase.TheVariants.{Idle};
 ghost use Rattle.sms_files.specs.Output.{WritesFront};
-ghost use Rattle.sms_send.specs.Asked.{AsksForDetails, IsUntold, OfAsked, TellsAsAsked, WorksAsAsked, printed_of};
+ghost use Rattle.sms_send.specs.Asked.{AsksForDetails, AsksForJob, FailsAsAsked, IsUntold, LacksJob, OfAsked, WorksAsAsked, printed_of};
 ghost use Rattle.sms_send.specs.FaultReports.{ReportsFault};
 ghost use Rattle.sms_send.specs.Faults.{HasLostJournal, status_of, output_failed};
-ghost use Rattle.sms_send.specs.Jobs.{Does, HasBegun, IsStatusOf, IsToldOf, IsToldSo, OfJob, TellsBeside, TellsBesideFront, TellsJob, TellsRun, WentSo, Works};
-ghost use Rattle.sms_send.specs.Noted.{TellsBegin};
+ghost use Rattle.sms_send.specs.Jobs.{ComesIn, Does, FailsJob, HasBegun, IsStatusOf, WritesBeside, WritesBesideFront};
+ghost use Rattle.sms_send.specs.Noted.{FailsBegin};
 
 use crate::args::job::{Job, job_of};
 use crate::args::program_args::ProgramWords;
@@ -31,66 +31,55 @@ use sms_driver::{Start, StartGate};
 use sms_files::write_out;
 use std::io::{self, Write};
 
-/// The exit status where a fault can't be told: that of a fault of the output.
+/// The exit status where a fault can't be written: that of a fault of the output.
 const UNTOLD: u8 = 1;
 
-/// Does the job that the program's words ask for, and gives the exit status. What there is to say beside
-/// a quote goes to standard error.
+/// The job that the program's arguments ask for. The context notes it, and whether they ask for the detail lines of a fault.
+fn asked_job<R: AllocGlobal + ProgramWords>(
+    rt: &R,
+    context: &mut FaultContext,
+) -> Result<Job, Fault>
+    ensures asked { IfOk result (AsksForJob (R.has rt.now) context.new.verbose) }
+    ensures refused { IfErr result (LacksJob (R.has rt.now)) }
+    ensures verbose { IfErr result (AsksForDetails (R.has rt.now) context.new.verbose) }
+{
+    context.verbose = false;
+    let words = match rt.words() {
+        Ok(words) => words,
+        Err(fault) => return Err(fault),
+    };
+    context.verbose = is_verbose(words.as_slice());
+    match job_of(rt.alloc(), words.as_slice()) {
+        Ok(job) => {
+            context.job.note_job(rt.alloc(), &job);
+            Ok(job)
+        }
+        Err(fault) => Err(fault),
+    }
+}
+
+/// Does the job that the program's arguments ask for, and gives the exit status. Warnings of a plan or a quote go to
+/// standard error.
 pub fn run<R: FileModes + FullNames + Host + InputFiles + ProgramWords, W: Write, E: Write>(
     rt: &R,
     context: &mut FaultContext,
     output: &mut W,
     error: &mut E,
 ) -> Result<u8, Fault>
-    ensures done { IfOk result (WorksAsAsked (R.has rt.now) R.Reader.remaining (R.finds rt.now) (R.tells rt.now) (λ job. TellsBeside (R.finds rt.now) (R.is_full rt.now) (R.details rt.now) job (W.contents output.old) (W.contents output.new) (E.contents error.old) (E.contents error.new)) (W.contents output.old) (W.contents output.new)) }
-    ensures refused { IfErr result (TellsAsAsked (R.has rt.now) (TellsBegin (R.makes rt.now) (R.refuses rt.now) (R.holds rt.now)) (R.holds rt.now) R.Reader.remaining (R.finds rt.now) (R.tells rt.now) (W.contents output.old) (W.contents output.new)) }
+    ensures done { IfOk result (WorksAsAsked (R.has rt.now) R.Reader.remaining (R.finds rt.now) (R.tells rt.now) (λ job. WritesBeside (R.finds rt.now) (R.is_full rt.now) (R.details rt.now) job (W.contents output.old) (W.contents output.new) (E.contents error.old) (E.contents error.new)) (W.contents output.old) (W.contents output.new)) }
+    ensures refused { IfErr result (FailsAsAsked (R.has rt.now) (FailsBegin (R.makes rt.now) (R.refuses rt.now) (R.holds rt.now)) (R.holds rt.now) R.Reader.remaining (R.finds rt.now) (R.tells rt.now) (W.contents output.old) (W.contents output.new)) }
     ensures unwritten { IfErr result (λ fault. fault ≢ output_failed → ¬ HasLostJournal fault → output.new ≡ output.old) }
-    ensures front { IfErr result (λ fault. fault ≡ output_failed → OfAsked (R.has rt.now) (λ job. TellsBesideFront (R.finds rt.now) (R.is_full rt.now) (R.details rt.now) job (E.contents error.old) (E.contents error.new))) }
+    ensures front { IfErr result (λ fault. fault ≡ output_failed → OfAsked (R.has rt.now) (λ job. WritesBesideFront (R.finds rt.now) (R.is_full rt.now) (R.details rt.now) job (E.contents error.old) (E.contents error.new))) }
     ensures untold { IfErr result (λ fault. fault ≢ output_failed → error.new ≡ error.old) }
     ensures verbose { IfErr result (AsksForDetails (R.has rt.now) context.new.verbose) }
 {
-    context.verbose = false;
-    let words = rt.words()?;
-    context.verbose = is_verbose(words.as_slice());
-    let (latch, unsaid) = StartGate::new();
-    let mut start = Start::new(&latch, unsaid);
-    do_words(
-        rt,
-        &mut context.job,
-        &mut start,
-        words.as_slice(),
-        output,
-        error,
-    )
-}
-
-/// Does the job that these words ask for, and gives the exit status.
-fn do_words<R: FileModes + FullNames + Host + InputFiles, W: Write, E: Write>(
-    rt: &R,
-    context: &mut JobContext,
-    start: &mut Start<'_>,
-    words: &[String],
-    output: &mut W,
-    error: &mut E,
-) -> Result<u8, Fault>
-    requires not_started { start.old.begun ≡ Idle }
-    ensures latch { start.new.latch ≡ start.old.latch }
-    ensures started { OnOk result (WentSo (map string_bytes words.now) start.new.begun) }
-    ensures done { IfOk result (λ status. Works R.Reader.remaining (R.finds rt.now) (R.tells rt.now) (map string_bytes words.now) status (W.contents output.old) (W.contents output.new)) }
-    ensures beside { OnOk result (OfJob (map string_bytes words.now) (λ job. TellsBeside (R.finds rt.now) (R.is_full rt.now) (R.details rt.now) job (W.contents output.old) (W.contents output.new) (E.contents error.old) (E.contents error.new))) }
-    ensures front { IfErr result (λ fault. fault ≡ output_failed → OfJob (map string_bytes words.now) (λ job. TellsBesideFront (R.finds rt.now) (R.is_full rt.now) (R.details rt.now) job (E.contents error.old) (E.contents error.new))) }
-    ensures refused { IfErr result (TellsRun (TellsBegin (R.makes rt.now) (R.refuses rt.now) (R.holds rt.now)) (R.holds rt.now) R.Reader.remaining (R.finds rt.now) (R.tells rt.now) (map string_bytes words.now) (W.contents output.old) (W.contents output.new)) }
-    ensures told { IfErr result (IsToldSo (R.tells rt.now) (map string_bytes words.now) start.new.begun (W.contents output.old) (W.contents output.new)) }
-    ensures unwritten { IfErr result (λ fault. fault ≢ output_failed → ¬ HasLostJournal fault → output.new ≡ output.old) }
-    ensures untold { IfErr result (λ fault. fault ≢ output_failed → error.new ≡ error.old) }
-{
-    match job_of(rt.alloc(), words) {
-        Ok(job) => {
-            context.note_job(rt.alloc(), &job);
-            do_job(rt, context, start, job, output, error)
-        }
-        Err(fault) => Err(fault),
-    }
+    let job = match asked_job(rt, context) {
+        Ok(job) => job,
+        Err(fault) => return Err(fault),
+    };
+    let (latch, trigger) = StartGate::new();
+    let mut start = Start::new(&latch, trigger);
+    do_job(rt, &mut context.job, &mut start, job, output, error)
 }
 
 /// Does a job, and gives the exit status. Where the job sends, the start says how far the sending came. The context
@@ -108,10 +97,10 @@ pub fn do_job<R: FileModes + FullNames + Host + InputFiles, W: Write, E: Write>(
     ensures started { OnOk result (HasBegun job start.new.begun) }
     ensures status { IfOk result (IsStatusOf job) }
     ensures done { IfOk result (Does R.Reader.remaining (R.finds rt.now) (R.tells rt.now) job (W.contents output.old) (W.contents output.new)) }
-    ensures beside { OnOk result (TellsBeside (R.finds rt.now) (R.is_full rt.now) (R.details rt.now) job (W.contents output.old) (W.contents output.new) (E.contents error.old) (E.contents error.new)) }
-    ensures front { IfErr result (λ fault. fault ≡ output_failed → TellsBesideFront (R.finds rt.now) (R.is_full rt.now) (R.details rt.now) job (E.contents error.old) (E.contents error.new)) }
-    ensures refused { IfErr result (TellsJob (TellsBegin (R.makes rt.now) (R.refuses rt.now) (R.holds rt.now)) (R.holds rt.now) R.Reader.remaining (R.finds rt.now) (R.tells rt.now) job (W.contents output.old) (W.contents output.new)) }
-    ensures told { IfErr result (IsToldOf (R.tells rt.now) job start.new.begun (W.contents output.old) (W.contents output.new)) }
+    ensures beside { OnOk result (WritesBeside (R.finds rt.now) (R.is_full rt.now) (R.details rt.now) job (W.contents output.old) (W.contents output.new) (E.contents error.old) (E.contents error.new)) }
+    ensures front { IfErr result (λ fault. fault ≡ output_failed → WritesBesideFront (R.finds rt.now) (R.is_full rt.now) (R.details rt.now) job (E.contents error.old) (E.contents error.new)) }
+    ensures refused { IfErr result (FailsJob (FailsBegin (R.makes rt.now) (R.refuses rt.now) (R.holds rt.now)) (R.holds rt.now) R.Reader.remaining (R.finds rt.now) (R.tells rt.now) job (W.contents output.old) (W.contents output.new)) }
+    ensures phase { IfErr result (ComesIn job start.new.begun) }
     ensures unwritten { IfErr result (λ fault. fault ≢ output_failed → ¬ HasLostJournal fault → output.new ≡ output.old) }
     ensures untold { IfErr result (λ fault. fault ≢ output_failed → error.new ≡ error.old) }
 {
@@ -127,7 +116,7 @@ pub fn do_job<R: FileModes + FullNames + Host + InputFiles, W: Write, E: Write>(
     }
 }
 
-/// Why something that was to be told could not be told.
+/// Why a fault, help or the version could not be written.
 #[derive(Debug, Drop)]
 pub enum Untold {
     /// The output of help or of the version failed, with this fault.

@@ -3,7 +3,7 @@
 ghost use Rattle.std.specs.Prelude.{◌≡◌, is_some};
 ghost use Rattle.sms_driver.specs.declared.start.StartPhase.TheVariants.{Idle};
 ghost use Rattle.sms_send.specs.Reached.{centre_of};
-ghost use Rattle.sms_send.specs.Sent.{FailsSending, SendingEnd, TellsSending};
+ghost use Rattle.sms_send.specs.Sent.{FailsOver, FailsSending, SendingEnd, SendsInput, limits_by};
 
 pub mod noted;
 pub mod remarks;
@@ -14,7 +14,7 @@ pub mod target;
 use crate::args::send_args::Throttle;
 use crate::faults::fault::Fault;
 use crate::faults::unconnected::reasoned;
-use crate::faults::unsent::tell_unsent;
+use crate::faults::unsent::report_unsent;
 use crate::sending::remarks::Remarks;
 use crate::sending::sender::{send_all, write_report};
 use crate::sending::target::Target;
@@ -22,7 +22,7 @@ use sms_devices::{
     GateLimits, Host, Journal, LoopDial, Outboxes, Parking, Progress, SendGate, TcpDial, Terminal,
 };
 use sms_driver::{BindFailure, Dial, Start};
-use sms_files::Input;
+use sms_files::{Config, Input};
 use sms_worker::Pause;
 use std::fs::OpenFile;
 use std::io::Write;
@@ -41,6 +41,17 @@ pub struct Sending<'r, R> {
     pub remarks: Remarks,
     /// Whether the exit status says that a message was not sent whole.
     pub strict: bool,
+}
+
+/// What bounds a sending by this config.
+fn gate_limits(config: &Config, throttle: Throttle) -> GateLimits
+    ensures { result ≡ limits_by config.now throttle }
+{
+    GateLimits {
+        answer_ms: config.retry.answer_ms,
+        rate: throttle.rate,
+        stop_after: throttle.stop_after,
+    }
 }
 
 /// Whether the journal of a run has failed, where it has one.
@@ -63,10 +74,11 @@ impl<'r, R: Host> Sending<'r, R> {
     ) -> Result<u8, Fault>
         requires not_started { start.old.begun ≡ Idle }
         ensures latch { start.new.latch ≡ start.old.latch }
-        ensures ended { SendingEnd (R.tells self.now.rt.now (centre_of self.now.target) (is_some journal.entry)) self.now.strict input (FailsSending (centre_of self.now.target) (R.tells self.now.rt.now (centre_of self.now.target) (is_some journal.entry)) input (W.contents output.old) (W.contents output.new)) start.new.begun output.old output.new (W.contents output.old) (W.contents output.new) result }
+        ensures ended { SendingEnd self.now.strict (SendsInput (R.tells self.now.rt.now (centre_of self.now.target) (is_some journal.entry)) self.now.strict input (W.contents output.old) (W.contents output.new)) (FailsSending (centre_of self.now.target) (R.tells self.now.rt.now (centre_of self.now.target) (is_some journal.entry)) input (W.contents output.old) (W.contents output.new)) start.new.begun output.old output.new result }
     {
         let rt = self.rt;
-        let outboxes = Outboxes::new(rt, journal);
+        let workers = input.config().limits.workers;
+        let outboxes = Outboxes::new(rt, journal, workers);
         let pause = Parking {
             rt,
             outboxes: &outboxes,
@@ -117,12 +129,11 @@ impl<'r, R: Host> Sending<'r, R> {
     ) -> Result<u8, Fault>
         requires not_started { start.old.begun ≡ Idle }
         ensures latch { start.new.latch ≡ start.old.latch }
-        ensures ended { SendingEnd (D.told dial.now) self.now.strict input (TellsSending (D.refuses dial.now) (D.told dial.now) input (W.contents output.old) (W.contents output.new)) start.new.begun output.old output.new (W.contents output.old) (W.contents output.new) result }
+        ensures ended { SendingEnd self.now.strict (SendsInput (D.told dial.now) self.now.strict input (W.contents output.old) (W.contents output.new)) (FailsOver (D.refuses dial.now) (D.told dial.now) input (W.contents output.old) (W.contents output.new)) start.new.begun output.old output.new result }
     {
         let rt = self.rt;
-        let workers = input.config().limits.workers;
-        let answer_ms = input.config().retry.answer_ms;
-        outboxes.set_patience(answer_ms);
+        let limits = gate_limits(input.config(), self.throttle);
+        outboxes.set_patience(limits.answer_ms);
         let clock = outboxes.start_clock();
         let progress = Progress::new(
             rt,
@@ -132,12 +143,6 @@ impl<'r, R: Host> Sending<'r, R> {
             input.messages().len(),
             self.remarks.trial,
         );
-        let limits = GateLimits {
-            workers,
-            answer_ms,
-            rate: self.throttle.rate,
-            stop_after: self.throttle.stop_after,
-        };
         let gate = SendGate::new(rt.alloc(), &*outboxes, clock, &progress, limits);
         let sent = send_all(rt, rt.alloc(), start, input, dial, &gate, clock, pause);
         outboxes.flush();
@@ -149,7 +154,7 @@ impl<'r, R: Host> Sending<'r, R> {
         let written = write_report(rt.alloc(), &ended, output);
         progress.sum_up(ended.ends(), ended.statement());
         let is_lost = has_failed(outboxes.journal());
-        tell_unsent(rt, &ended, self.remarks.at_length, self.throttle, is_lost);
+        report_unsent(rt, &ended, self.remarks.at_length, self.throttle, is_lost);
         match written {
             Ok(()) => {}
             Err(fault) => return Err(fault),

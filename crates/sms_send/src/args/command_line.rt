@@ -13,7 +13,7 @@ const NAME: &str = "sms-send";
 /// The program's version.
 const VERSION: &str = "0.1.0";
 
-/// What the parser is told of the command line.
+/// The command line, as the parser takes it.
 pub fn command_line<'a>(alloc: Global) -> Result<Command<'a>, AllocError>
     ensures { IfOk result (λ command. app_of command ≡ words_allowed) }
 {
@@ -56,7 +56,7 @@ fn with_subcommand<'a>(
     }
 }
 
-/// What the parser is told of the program before its subcommands.
+/// The program before its subcommands.
 fn program_command<'a>(alloc: Global) -> Result<Command<'a>, AllocError>
     ensures { IfOk result (λ command. app_of command ≡ program_line) }
 {
@@ -81,7 +81,7 @@ fn verbose_flag<'a>(alloc: Global) -> Arg<'a>
     )
 }
 
-/// What the parser is told of `replay`.
+/// The subcommand `replay`.
 fn replay_command<'a>(alloc: Global) -> Result<Command<'a>, AllocError>
     ensures { IfOk result (IsLine replay_line) }
 {
@@ -97,7 +97,7 @@ fn replay_command<'a>(alloc: Global) -> Result<Command<'a>, AllocError>
     with_argument(named, verbose_flag(alloc))
 }
 
-/// What the parser is told of `plan`.
+/// The subcommand `plan`.
 fn plan_command<'a>(alloc: Global) -> Result<Command<'a>, AllocError>
     ensures { IfOk result (IsLine plan_line) }
 {
@@ -117,7 +117,7 @@ fn plan_command<'a>(alloc: Global) -> Result<Command<'a>, AllocError>
     with_argument(longer, verbose_flag(alloc))
 }
 
-/// What the parser is told of `quote`.
+/// The subcommand `quote`.
 fn quote_command<'a>(alloc: Global) -> Result<Command<'a>, AllocError>
     ensures { IfOk result (IsLine quote_line) }
 {
@@ -131,7 +131,7 @@ fn quote_command<'a>(alloc: Global) -> Result<Command<'a>, AllocError>
     with_argument(configured, verbose_flag(alloc))
 }
 
-/// What the parser is told of `recover`.
+/// The subcommand `recover`.
 fn recover_command<'a>(alloc: Global) -> Result<Command<'a>, AllocError>
     ensures { IfOk result (IsLine recover_line) }
 {
@@ -153,7 +153,7 @@ fn recover_command<'a>(alloc: Global) -> Result<Command<'a>, AllocError>
     with_argument(tried, verbose_flag(alloc))
 }
 
-/// What the parser is told of `rest`.
+/// The subcommand `rest`.
 fn rest_command<'a>(alloc: Global) -> Result<Command<'a>, AllocError>
     ensures { IfOk result (IsLine rest_line) }
 {
@@ -175,7 +175,7 @@ fn rest_command<'a>(alloc: Global) -> Result<Command<'a>, AllocError>
     with_argument(counted, verbose_flag(alloc))
 }
 
-/// What the parser is told of `loop` or of `send`.
+/// The subcommand `loop` or `send`.
 fn sender_command<'a>(
     alloc: Global,
     name: &'a str,

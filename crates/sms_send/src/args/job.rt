@@ -2,7 +2,7 @@
 
 ghost use Rattle.std.specs.Prelude.{◌≡◌, ◌≢◌, ◌↔◌, [], None, Some, IfErr, IfOk, OnOk, map, string_bytes};
 ghost use Rattle.clap.specs.Words.{HasKind, Kinds, found_of, kind_of, rows_of, subcommand_rows_of};
-ghost use Rattle.sms_send.specs.CommandLine.{AsksFor, AsksToNote, AsksToSend, HasNames, HasThrottle, IsJob, IsRefused, AreRefusedArgs, IsWrongNumber, IsWrongSync, LacksName, TellsFor, TellsMet, TellsRefusal, TellsWords, bytes_of, file_named, refusals_of, subcommand_in, subcommand_named as named};
+ghost use Rattle.sms_send.specs.CommandLine.{AsksFor, AsksToNote, AsksToSend, HasNames, HasThrottle, IsJob, IsRefused, AreRefusedArgs, IsWrongNumber, IsWrongSync, LacksName, RefusesFor, RefusesMatch, RefusesAs, RefusesWords, bytes_of, file_named, refusals_of, subcommand_in, subcommand_named as named};
 ghost use Rattle.sms_send.specs.Faults.{IsWords};
 ghost use Rattle.sms_send.specs.declared.faults.fault.Fault.TheVariants.{OutOfMemory};
 
@@ -31,7 +31,7 @@ pub enum Job {
     Replay(Option<String>),
     /// To plan the messages in the file of this name; with references of 16 bits where it is true.
     Plan(String, bool),
-    /// To print what a sending by the config of this name would come to; where it is true, more is told.
+    /// To print what a sending by the config of this name would come to; where it is true, with details.
     Quote(String, bool),
     /// To send through a test centre in the same process.
     Loop(SendArgs),
@@ -59,7 +59,7 @@ enum Subcommand {
 pub fn job_of(alloc: Global, words: &[String]) -> Result<Job, Fault>
     ensures job { IfOk result (IsJob (subcommand_in (map string_bytes words.now))) }
     ensures taken { OnOk result (refusals_of (map string_bytes words.now) ≡ []) }
-    ensures refused { IfErr result (TellsWords (map string_bytes words.now)) }
+    ensures refused { IfErr result (RefusesWords (map string_bytes words.now)) }
 {
     match command_line(alloc)?.try_get_matches_from(words) {
         Ok(matches) => job_in(alloc, &matches),
@@ -70,7 +70,7 @@ pub fn job_of(alloc: Global, words: &[String]) -> Result<Job, Fault>
 /// The job of the subcommand that the parser met, and without one to replay standard input.
 fn job_in(alloc: Global, matches: &ArgMatches<'_>) -> Result<Job, Fault>
     ensures job { IfOk result (IsJob (subcommand_rows_of matches.now)) }
-    ensures refused { IfErr result (TellsMet (subcommand_rows_of matches.now)) }
+    ensures refused { IfErr result (RefusesMatch (subcommand_rows_of matches.now)) }
 {
     let Some((name, found)) = matches.subcommand() else {
         return Ok(Job::Replay(None));
@@ -81,7 +81,7 @@ fn job_in(alloc: Global, matches: &ArgMatches<'_>) -> Result<Job, Fault>
 /// The job of the subcommand of this name with its matches. The parser knows no other.
 fn job_named(alloc: Global, name: &str, found: &ArgMatches<'_>) -> Result<Job, Fault>
     ensures job { IfOk result (IsJob (Some (name.now, rows_of (found_of found.now)))) }
-    ensures refused { IfErr result (TellsMet (Some (name.now, rows_of (found_of found.now)))) }
+    ensures refused { IfErr result (RefusesMatch (Some (name.now, rows_of (found_of found.now)))) }
 {
     match subcommand_named(name) {
         Some(subcommand) => job_asked(alloc, subcommand, found),
@@ -116,7 +116,7 @@ fn subcommand_named(name: &str) -> Option<Subcommand>
 /// refused all the same.
 fn job_asked(alloc: Global, subcommand: Subcommand, found: &ArgMatches<'_>) -> Result<Job, Fault>
     ensures job { IfOk result (AsksFor subcommand (rows_of (found_of found.now))) }
-    ensures refused { IfErr result (TellsFor (IsRefused subcommand (rows_of (found_of found.now)))) }
+    ensures refused { IfErr result (RefusesFor (IsRefused subcommand (rows_of (found_of found.now)))) }
 {
     match subcommand {
         Subcommand::Replay => match text_given(alloc, found, "FILE") {
@@ -161,7 +161,7 @@ fn job_asked(alloc: Global, subcommand: Subcommand, found: &ArgMatches<'_>) -> R
 /// The names of the config and of the file of this other option.
 fn names_of(alloc: Global, found: &ArgMatches<'_>, other: &str) -> Result<(String, String), Fault>
     ensures names { IfOk result (λ names. HasNames other.now (rows_of (found_of found.now)) names.0 names.1) }
-    ensures refused { IfErr result (TellsFor (LacksName other.now (rows_of (found_of found.now)))) }
+    ensures refused { IfErr result (RefusesFor (LacksName other.now (rows_of (found_of found.now)))) }
 {
     let config = match text_given(alloc, found, "config") {
         Ok(config) => config,
@@ -179,7 +179,7 @@ fn names_of(alloc: Global, found: &ArgMatches<'_>, other: &str) -> Result<(Strin
 /// What `loop` or `send` is asked for.
 fn send_args_of(alloc: Global, found: &ArgMatches<'_>) -> Result<SendArgs, Fault>
     ensures order { IfOk result (AsksToSend (rows_of (found_of found.now))) }
-    ensures refused { IfErr result (TellsFor (AreRefusedArgs (rows_of (found_of found.now)))) }
+    ensures refused { IfErr result (RefusesFor (AreRefusedArgs (rows_of (found_of found.now)))) }
 {
     let throttle = match throttle_of(found) {
         Ok(throttle) => throttle,
@@ -208,7 +208,7 @@ fn send_args_of(alloc: Global, found: &ArgMatches<'_>) -> Result<SendArgs, Fault
 /// The journal that is asked for. That the disk has it can't be asked of none.
 fn journal_of(alloc: Global, found: &ArgMatches<'_>) -> Result<Option<JournalFile>, Fault>
     ensures journal { IfOk result (AsksToNote (rows_of (found_of found.now))) }
-    ensures refused { IfErr result (TellsFor (IsWrongSync (rows_of (found_of found.now)))) }
+    ensures refused { IfErr result (RefusesFor (IsWrongSync (rows_of (found_of found.now)))) }
 {
     let sync = is_given(found, "sync");
     match text_if_given(alloc, found, "journal") {
@@ -261,7 +261,7 @@ fn text_of(alloc: Global, error: &Error) -> String {
 
 /// The fault that the parser's error is.
 fn fault_of(alloc: Global, error: &Error) -> Fault
-    ensures refused { (kinds : Kinds) → HasKind kinds error.now → TellsRefusal kinds result }
+    ensures refused { (kinds : Kinds) → HasKind kinds error.now → RefusesAs kinds result }
     ensures memory { kind_of error.now ≡ ErrorKind.OutOfMemory → result ≡ OutOfMemory }
     ensures words { IsWords result ↔ ((kind_of error.now ≢ ErrorKind.OutOfMemory) × (kind_of error.now ≢ ErrorKind.DisplayHelp) × (kind_of error.now ≢ ErrorKind.DisplayVersion)) }
 {

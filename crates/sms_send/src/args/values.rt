@@ -3,7 +3,7 @@
 ghost use Rattle.std.specs.Prelude.{◌≡◌, ◌≤◌, None, Some, IfErr, IfOk, map, string_bytes};
 ghost use Rattle.sms_send.specs.declared.faults.fault.Fault.TheVariants.{OutOfMemory};
 ghost use Rattle.clap.specs.Words.{first_of, found_of, rows_of};
-ghost use Rattle.sms_send.specs.CommandLine.{TellsFor, asks_for_more, bytes_of, is_set, number_of};
+ghost use Rattle.sms_send.specs.CommandLine.{RefusesFor, asks_for_more, bytes_of, is_set, number_of};
 
 use crate::faults::argument_error::ArgumentError;
 use crate::faults::fault::Fault;
@@ -14,7 +14,7 @@ use std::alloc::Global;
 /// The text that an argument was given, which has to have one.
 pub fn text_given(alloc: Global, matches: &ArgMatches<'_>, word: &str) -> Result<String, Fault>
     ensures given { IfOk result (λ text. first_of word.now (rows_of (found_of matches.now)) ≡ Some (string_bytes text)) }
-    ensures missing { IfErr result (TellsFor (first_of word.now (rows_of (found_of matches.now)) ≡ None)) }
+    ensures missing { IfErr result (RefusesFor (first_of word.now (rows_of (found_of matches.now)) ≡ None)) }
 {
     match matches.get_str(word) {
         Some(text) => Ok(String::from_str(alloc, text)?),
@@ -72,7 +72,7 @@ pub fn is_given(matches: &ArgMatches<'_>, flag: &str) -> bool
     }
 }
 
-/// Whether one of the words asks for more to be told of a fault.
+/// Whether one of the arguments asks for the detail lines of a fault.
 pub fn is_verbose(words: &[String]) -> bool
     ensures { result ≡ asks_for_more (map string_bytes words.now) }
 {

@@ -1,27 +1,29 @@
 //! A config with a password that others can read.
 
-ghost use Rattle.std.specs.Prelude.{◌≡◌, ◌⊎◌, IfErr, IfOk, codes, option_and_then, option_map, string_bytes};
+ghost use Rattle.std.specs.Prelude.{◌≡◌, IfErr, IfOk, codes, option_and_then, option_map, string_bytes};
 ghost use Rattle.toml.specs.Data.{as_str, get_member};
 ghost use Rattle.toml.specs.View.{table_view};
-ghost use Rattle.sms_files.specs.ConfigFaults.{toml_of};
+ghost use Rattle.sms_driver.specs.declared.start.StartPhase.TheVariants.{Idle};
+ghost use Rattle.sms_files.specs.ConfigFaults.{IsConfig, TellsConfig};
+ghost use Rattle.sms_send.specs.ConfigFiles.{FailsReadingConfig, IsConfigFile};
 ghost use Rattle.sms_send.specs.Exposed.{IsReadable, is_some_text as is_text, says_password, warning_for};
-ghost use Rattle.sms_send.specs.Opened.{OfFile, TellsUnreadFile};
-ghost use Rattle.sms_send.specs.declared.faults.fault.Fault.TheVariants.{OutOfMemory};
+ghost use Rattle.sms_send.specs.Faults.{ComesAt};
 
 use crate::faults::details::mode::is_open_to_others;
 use crate::faults::fault::Fault;
+use crate::files::config_file::ConfigFile;
 use crate::files::opened::{InputFiles, octets_of};
-use crate::terminal::standard_error::tell_beside;
+use crate::terminal::standard_error::write_beside;
 use sms_devices::Screen;
-use std::alloc::{AllocError, Global};
+use sms_files::{Config, InputFault, config_in, table_of};
+use std::fs;
 use std::io::Eprint;
 use std::os::unix::fs::PermissionsExt;
 use std::thread::Threads;
 use std::time::Clock;
-use std::{fs, str};
 use toml::Table;
 
-/// What is told of such a config.
+/// The warning of such a config.
 const EXPOSED: &str = "warning: others can read the config, which has a password\n";
 
 /// The text at the key `password` of a config.
@@ -44,19 +46,11 @@ fn is_some_text(text: Option<&str>) -> bool
     }
 }
 
-/// Whether these octets of a config have a password that isn't empty.
-fn has_password(alloc: Global, config: &[u8]) -> Result<bool, AllocError>
-    ensures { IfOk result (λ has. has ≡ says_password (toml_of config.now)) }
+/// Whether the table of a config has a password that isn't empty.
+fn has_password(table: &Table) -> bool
+    ensures { result ≡ says_password (table_view table.now) }
 {
-    let text = match str::from_utf8(config) {
-        Ok(text) => text,
-        Err(_) => return Ok(false),
-    };
-    match toml::table_from_str(alloc, text) {
-        Ok(table) => Ok(is_some_text(password_in(&table))),
-        Err(error) if error.is_memory() => Err(AllocError),
-        Err(_) => Ok(false),
-    }
+    is_some_text(password_in(table))
 }
 
 /// Who knows the modes of files.
@@ -90,48 +84,53 @@ pub fn is_readable_by_others<R: FileModes>(rt: &R, name: &str) -> bool
     }
 }
 
-/// What is told of a config that others can read or not: the warning where they can and it has a password,
-/// else nothing.
-fn warning_of(alloc: Global, is_open: bool, config: &[u8]) -> Result<&'static str, AllocError>
-    ensures { IfOk result (λ text. text.now ≡ warning_for is_open config.now) }
+/// The warning of a config that others can read and that has a password; else nothing.
+fn warning_of(is_open: bool, table: &Table) -> &'static str
+    ensures { result.now ≡ warning_for is_open (table_view table.now) }
 {
-    if !is_open {
-        return Ok("");
-    }
-    match has_password(alloc, config) {
-        Ok(true) => Ok(EXPOSED),
-        Ok(false) => Ok(""),
-        Err(error) => Err(error),
+    if is_open && has_password(table) {
+        EXPOSED
+    } else {
+        ""
     }
 }
 
-/// Tells on standard error what is to be told of a config.
-fn warn_if_exposed<R: AllocGlobal + Threads + Clock + Eprint + Screen>(
+/// Warns on standard error where others can read a password in a config of these octets, and gives what they say. A
+/// config that is faulty elsewhere is warned of too.
+fn parse_warned<R: AllocGlobal + Threads + Clock + Eprint + Screen>(
     rt: &R,
+    octets: &[u8],
     is_open: bool,
-    config: &[u8],
-) {
-    match warning_of(rt.alloc(), is_open, config) {
-        Ok(warning) if !warning.is_empty() => tell_beside(rt, &warning),
-        _ => {}
+) -> Result<Config, InputFault>
+    ensures config { IfOk result (IsConfig octets.now) }
+    ensures refused { IfErr result (TellsConfig octets.now) }
+{
+    let table = table_of(rt.alloc(), octets)?;
+    let warning = warning_of(is_open, &table);
+    if !warning.is_empty() {
+        write_beside(rt, &warning);
     }
+    config_in(rt.alloc(), &table)
 }
 
-/// The octets of the config of this name. At length it is told where others can read a password there.
-pub fn config_of<R: AllocGlobal + FileModes + InputFiles + Threads + Clock + Eprint + Screen>(
+/// Reads the config of this name. Where details are wanted, standard error is warned if others can read a password there.
+pub fn read_warned<R: AllocGlobal + FileModes + InputFiles + Threads + Clock + Eprint + Screen>(
     rt: &R,
     name: String,
     at_length: bool,
-) -> Result<Vec<u8>, Fault>
-    ensures octets { IfOk result (λ octets. OfFile (R.finds rt.now) (string_bytes name) (λ bytes. octets.items ≡ bytes)) }
-    ensures refused { IfErr result (λ fault. (fault ≡ OutOfMemory) ⊎ TellsUnreadFile (R.finds rt.now) name fault) }
+) -> Result<ConfigFile, Fault>
+    ensures read { IfOk result (IsConfigFile (R.finds rt.now) (string_bytes name)) }
+    ensures refused { IfErr result (FailsReadingConfig (R.finds rt.now) name) }
+    // The fault comes before a worker is started.
+    ensures early { IfErr result (ComesAt Idle) }
 {
     let is_open = at_length && is_readable_by_others(rt, name.as_str());
-    match octets_of(rt, name) {
-        Ok(octets) => {
-            warn_if_exposed(rt, is_open, octets.as_slice());
-            Ok(octets)
-        }
-        Err(fault) => Err(fault),
+    let octets = match octets_of(rt, name) {
+        Ok(octets) => octets,
+        Err(fault) => return Err(fault),
+    };
+    match parse_warned(rt, octets.as_slice(), is_open) {
+        Ok(config) => Ok(ConfigFile { octets, config }),
+        Err(fault) => Err(Fault::from(fault)),
     }
 }

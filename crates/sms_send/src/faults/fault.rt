@@ -66,7 +66,7 @@ pub enum Fault {
     Output(Unwritten),
     /// Memory was refused, or a thread, and nothing was sent.
     OutOfMemory,
-    /// Memory was refused for the report of a sending, once its messages had ended: nothing is told of them.
+    /// Memory was refused for the report of a sending, once its messages had ended, so there is none.
     Unreported,
 }
 
@@ -178,9 +178,9 @@ impl<T: Drop> From<AllocFailed<T>> for Fault {
 }
 
 impl From<InputFault> for Fault {
-    ghost use Rattle.sms_send.specs.Faults.{told_input};
+    ghost use Rattle.sms_send.specs.Faults.{fault_of_input};
 
-    ghost from_gives = { λ fault f. f ≡ told_input fault };
+    ghost from_gives = { λ fault f. f ≡ fault_of_input fault };
 
     fn from(fault: InputFault) -> Fault {
         match fault {
@@ -194,9 +194,9 @@ impl From<InputFault> for Fault {
 }
 
 impl From<SendFault> for Fault {
-    ghost use Rattle.sms_send.specs.Faults.{told_sending};
+    ghost use Rattle.sms_send.specs.Faults.{fault_of_sending};
 
-    ghost from_gives = { λ fault f. f ≡ told_sending fault };
+    ghost from_gives = { λ fault f. f ≡ fault_of_sending fault };
 
     fn from(fault: SendFault) -> Fault {
         match fault {
@@ -209,9 +209,9 @@ impl From<SendFault> for Fault {
 }
 
 impl From<OutputFault> for Fault {
-    ghost use Rattle.sms_send.specs.Faults.{told_output};
+    ghost use Rattle.sms_send.specs.Faults.{fault_of_output};
 
-    ghost from_gives = { λ fault f. f ≡ told_output fault };
+    ghost from_gives = { λ fault f. f ≡ fault_of_output fault };
 
     fn from(fault: OutputFault) -> Fault {
         match fault {
@@ -222,9 +222,9 @@ impl From<OutputFault> for Fault {
 }
 
 impl From<RecoveryFault> for Fault {
-    ghost use Rattle.sms_send.specs.Faults.{told_recovery};
+    ghost use Rattle.sms_send.specs.Faults.{fault_of_recovery};
 
-    ghost from_gives = { λ fault f. f ≡ told_recovery fault };
+    ghost from_gives = { λ fault f. f ≡ fault_of_recovery fault };
 
     fn from(fault: RecoveryFault) -> Fault {
         match fault {

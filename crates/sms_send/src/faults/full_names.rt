@@ -4,7 +4,7 @@
 ghost use Rattle.std.specs.Prelude.{◌≡◌, None, Some, IfErr, IfOk, option_map, string_bytes, if◌then◌else◌};
 ghost use Rattle.sms_send.specs.FilesRead.{file_lines};
 ghost use Rattle.sms_send.specs.CommandLine.{bytes_of};
-ghost use Rattle.sms_send.specs.FullNames.{IsFullIfNamed, TellsFiles, TellsIfKept};
+ghost use Rattle.sms_send.specs.FullNames.{IsFullIfNamed, AreFileLines, AreLinesIfKept};
 ghost use Rattle.sms_send.specs.declared.faults.fault.Fault.TheVariants.{OutOfMemory};
 
 use crate::faults::details::files_read::FilesRead;
@@ -74,14 +74,14 @@ fn lines_of(
     files.to_string(alloc)
 }
 
-/// The lines that tell of the config of this name and of the files that it names, by their full names.
+/// The lines of the config of this name and of the files that it names, by their full names.
 pub fn files_told<N: FullNames>(
     alloc: Global,
     known: &N,
     config: &str,
     names: &FileNames,
 ) -> Result<String, AllocError>
-    ensures { IfOk result (λ lines. TellsFiles (N.is_full known.now) config.now names.now (string_bytes lines)) }
+    ensures { IfOk result (λ lines. AreFileLines (N.is_full known.now) config.now names.now (string_bytes lines)) }
 {
     let config = known.full_name(alloc, config)?;
     let accounts = known.full_name(alloc, names.accounts.as_str())?;
@@ -96,7 +96,7 @@ pub fn files_told<N: FullNames>(
     )
 }
 
-/// The name of a config, which is kept where more is told.
+/// The name of a config, which is kept where details are wanted.
 pub fn name_at(alloc: Global, config: &str, at_length: bool) -> Result<Option<String>, Fault>
     ensures kept { IfOk result (λ kept. bytes_of kept ≡ (if at_length then Some config.now else None)) }
     ensures refused { IfErr result (λ fault. fault ≡ OutOfMemory) }
@@ -110,15 +110,14 @@ pub fn name_at(alloc: Global, config: &str, at_length: bool) -> Result<Option<St
     }
 }
 
-/// The lines that tell of the config of this name and of the files that it names; empty where the name
-/// isn't kept.
+/// The lines of the config of this name and of the files that it names; empty where the name isn't kept.
 pub fn lines_at<N: FullNames>(
     alloc: Global,
     known: &N,
     config: &Option<String>,
     names: &FileNames,
 ) -> Result<String, Fault>
-    ensures told { IfOk result (λ lines. TellsIfKept (N.is_full known.now) (bytes_of config.now) names.now (string_bytes lines)) }
+    ensures told { IfOk result (λ lines. AreLinesIfKept (N.is_full known.now) (bytes_of config.now) names.now (string_bytes lines)) }
     ensures refused { IfErr result (λ fault. fault ≡ OutOfMemory) }
 {
     let Some(config) = config else {

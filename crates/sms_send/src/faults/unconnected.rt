@@ -12,8 +12,8 @@ use std::fs::OpenFile;
 use std::io::Write;
 use std::sync::Wait;
 
-/// What a sending ended with. The fault of a bind that has no connection is told with what was kept of that bind
-/// where it was dialled for.
+/// What a sending ended with. The fault of a bind without a connection gets the reason that was kept when the
+/// bind was dialled.
 pub fn reasoned<R: Wait, F: Write + OpenFile>(
     outboxes: &Outboxes<'_, R, F>,
     sent: Result<u8, Fault>,

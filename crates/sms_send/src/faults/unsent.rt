@@ -6,7 +6,7 @@ ghost use Rattle.sms_send.specs.Unsent.{is_bind_closed as is_closed, is_kept_by,
 use crate::args::send_args::Throttle;
 use crate::faults::details::unsent::{Ender, UnsentLine, closing_text};
 use crate::sending::sender::Ended;
-use crate::terminal::standard_error::tell_beside;
+use crate::terminal::standard_error::write_beside;
 use sms_devices::Screen;
 use sms_worker::{MessageEnd, MessageRefusal, MessageResult};
 use std::io::Eprint;
@@ -92,15 +92,15 @@ fn unsent_for_memory(ends: &[MessageEnd]) -> usize
 }
 
 /// Prints the line, where there are some.
-fn tell_line<R: AllocGlobal + Threads + Clock + Eprint + Screen>(rt: &R, line: UnsentLine) {
+fn write_line<R: AllocGlobal + Threads + Clock + Eprint + Screen>(rt: &R, line: UnsentLine) {
     if line.count > 0 {
-        tell_beside(rt, &line);
+        write_beside(rt, &line);
     }
 }
 
 /// At length, prints of each bind how many of its messages were not sent since it was closed, and why it
 /// was; and how many were not sent since memory was refused. The journal may have failed.
-pub fn tell_unsent<R: AllocGlobal + Threads + Clock + Eprint + Screen>(
+pub fn report_unsent<R: AllocGlobal + Threads + Clock + Eprint + Screen>(
     rt: &R,
     ended: &Ended,
     at_length: bool,
@@ -119,12 +119,12 @@ pub fn tell_unsent<R: AllocGlobal + Threads + Clock + Eprint + Screen>(
             bind: Some(bind),
             why: closing_text(end, ender),
         };
-        tell_line(rt, line);
+        write_line(rt, line);
     }
     let line = UnsentLine {
         count: unsent_for_memory(ends),
         bind: None,
         why: "memory was refused",
     };
-    tell_line(rt, line);
+    write_line(rt, line);
 }

@@ -1,7 +1,7 @@
 //! The octets of the files that a config names.
 
 ghost use Rattle.std.specs.Prelude.{◌≡◌, ◌⊎◌, IfErr, IfOk, IfSome, option_copied, option_map};
-ghost use Rattle.sms_send.specs.Runs.{AreOpened, TellsOpened, TellsUnread};
+ghost use Rattle.sms_send.specs.Runs.{AreOpened, FailsReadingOpened, IsUnreadable};
 ghost use Rattle.sms_send.specs.declared.faults.fault.Fault.TheVariants.{OutOfMemory};
 
 use crate::faults::fault::Fault;
@@ -39,7 +39,7 @@ pub fn read_opened<F: Read + Drop>(
     tariff: Option<F>,
 ) -> Result<NamedFiles, Fault>
     ensures read { IfOk result (AreOpened (F.remaining accounts) (F.remaining messages) (option_map F.remaining tariff)) }
-    ensures refused { IfErr result (TellsOpened (option_map F.remaining tariff)) }
+    ensures refused { IfErr result (FailsReadingOpened (option_map F.remaining tariff)) }
 {
     let accounts = match whole_of(alloc, accounts, Source::Accounts) {
         Ok(octets) => octets,
@@ -66,10 +66,10 @@ pub fn read_opened<F: Read + Drop>(
     }
 }
 
-/// The octets of a file that was opened. That it can't be read is told by the errors that it answered.
+/// The octets of a file that was opened. That it can't be read is known by the errors that it answered.
 pub fn whole_of<F: Read + Drop>(alloc: Global, file: F, source: Source) -> Result<Vec<u8>, Fault>
     ensures octets { IfOk result (λ octets. IfSome (F.remaining file) (λ bytes. octets.items ≡ bytes)) }
-    ensures refused { IfErr result (λ fault. (fault ≡ OutOfMemory) ⊎ TellsUnread source fault) }
+    ensures refused { IfErr result (λ fault. (fault ≡ OutOfMemory) ⊎ IsUnreadable source fault) }
 {
     let mut device = Tap::new(file);
     match read_through(alloc, &mut device) {

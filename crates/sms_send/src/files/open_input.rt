@@ -1,7 +1,7 @@
 //! The files that a config names, opened to be read.
 
 ghost use Rattle.std.specs.Prelude.{◌≡◌, ◌≢◌, [], None, IfErr, IfOk, option_map};
-ghost use Rattle.sms_send.specs.Opened.{AreFound, IsNamed, TellsMissing};
+ghost use Rattle.sms_send.specs.Opened.{AreFound, IsNamed, FailsOpeningFiles};
 
 use crate::faults::fault::Fault;
 use crate::files::opened::InputFiles;
@@ -35,26 +35,26 @@ fn open_if_named<R: InputFiles>(rt: &R, name: &str) -> Result<Option<R::InputFil
     }
 }
 
-/// Opens the files that a config names: accounts, messages, tariff. The first that can't be opened is the
-/// fault.
-pub fn open_input<R: InputFiles>(rt: &R, config: Config) -> Result<OpenInput<R::InputFile>, Fault>
-    ensures config { IfOk result (λ opened. opened.config ≡ config) }
-    ensures found { IfOk result (λ opened. AreFound (R.finds rt.now) config.files (R.InputFile.remaining opened.accounts) (R.InputFile.remaining opened.messages) (option_map R.InputFile.remaining opened.tariff)) }
-    ensures refused { IfErr result (TellsMissing (R.finds rt.now) config.files) }
+/// Files of a sending, opened to be read, with their names.
+#[derive(Drop)]
+struct OpenFiles<F> {
+    names: FileNames,
+    accounts: F,
+    messages: F,
+    tariff: Option<F>,
+}
+
+/// Opens the files of these names in this order. The first that can't be opened is the fault.
+fn open_files<R: InputFiles>(rt: &R, names: FileNames) -> Result<OpenFiles<R::InputFile>, Fault>
+    ensures names { IfOk result (λ opened. opened.names ≡ names) }
+    ensures found { IfOk result (λ opened. AreFound (R.finds rt.now) names (R.InputFile.remaining opened.accounts) (R.InputFile.remaining opened.messages) (option_map R.InputFile.remaining opened.tariff)) }
+    ensures refused { IfErr result (FailsOpeningFiles (R.finds rt.now) names) }
 {
-    let Config {
-        connection,
-        limits,
-        retry,
-        flags,
-        files,
-        answers,
-    } = config;
     let FileNames {
         accounts,
         messages,
         tariff,
-    } = files;
+    } = names;
     let accounts_file = match rt.open_input(accounts.as_str()) {
         Ok(file) => file,
         Err(error) => return Err(Fault::File(accounts, error.kind())),
@@ -67,21 +67,53 @@ pub fn open_input<R: InputFiles>(rt: &R, config: Config) -> Result<OpenInput<R::
         Ok(file) => file,
         Err(kind) => return Err(Fault::File(tariff, kind)),
     };
+    Ok(OpenFiles {
+        names: FileNames {
+            accounts,
+            messages,
+            tariff,
+        },
+        accounts: accounts_file,
+        messages: messages_file,
+        tariff: tariff_file,
+    })
+}
+
+/// Opens the files that a config names: accounts, messages, tariff. The first that can't be opened is the
+/// fault.
+pub fn open_input<R: InputFiles>(rt: &R, config: Config) -> Result<OpenInput<R::InputFile>, Fault>
+    ensures config { IfOk result (λ opened. opened.config ≡ config) }
+    ensures found { IfOk result (λ opened. AreFound (R.finds rt.now) config.files (R.InputFile.remaining opened.accounts) (R.InputFile.remaining opened.messages) (option_map R.InputFile.remaining opened.tariff)) }
+    ensures refused { IfErr result (FailsOpeningFiles (R.finds rt.now) config.files) }
+{
+    let Config {
+        connection,
+        limits,
+        retry,
+        flags,
+        files,
+        answers,
+    } = config;
+    let OpenFiles {
+        names,
+        accounts,
+        messages,
+        tariff,
+    } = match open_files(rt, files) {
+        Ok(opened) => opened,
+        Err(fault) => return Err(fault),
+    };
     Ok(OpenInput {
         config: Config {
             connection,
             limits,
             retry,
             flags,
-            files: FileNames {
-                accounts,
-                messages,
-                tariff,
-            },
+            files: names,
             answers,
         },
-        accounts: accounts_file,
-        messages: messages_file,
-        tariff: tariff_file,
+        accounts,
+        messages,
+        tariff,
     })
 }

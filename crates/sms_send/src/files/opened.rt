@@ -1,7 +1,7 @@
 //! The files that the program reads, by their names.
 
-ghost use Rattle.std.specs.Prelude.{◌≡◌, ◌≢◌, ◌⊎◌, [], Some, IfErr, IfOk, IfSome, option_map, string_bytes};
-ghost use Rattle.sms_send.specs.Opened.{IsNamed, OfFile, TellsLost, TellsUnreadFile};
+ghost use Rattle.std.specs.Prelude.{◌≡◌, ◌⊎◌, Some, IfErr, IfOk, IfSome, string_bytes};
+ghost use Rattle.sms_send.specs.Opened.{FailsOpening, FailsReadingFile, OfFile};
 ghost use Rattle.sms_send.specs.declared.faults.fault.Fault.TheVariants.{OutOfMemory};
 
 use crate::faults::fault::Fault;
@@ -17,7 +17,7 @@ pub trait InputFiles {
 
     type InputFile: Read + Drop;
 
-    // What may be found by a name: no file that can be opened, or one of which so much is told.
+    // What may be found by a name: no file that can be opened, or one of which the octets are known so far.
     ghost finds: { Self → List ℕ → Option Told → Type 0 } = { λ _ _ _. ⊤ };
 
     /// The file of this name, opened to be read from its first octet on.
@@ -37,7 +37,7 @@ impl InputFiles for HostRuntime {
 /// The file of this name, opened to be read.
 pub fn open<R: InputFiles>(rt: &R, name: String) -> Result<R::InputFile, Fault>
     ensures found { IfOk result (λ file. R.finds rt.now (string_bytes name) (Some (R.InputFile.remaining file))) }
-    ensures lost { IfErr result (TellsLost (R.finds rt.now) name) }
+    ensures lost { IfErr result (FailsOpening (R.finds rt.now) name) }
 {
     match rt.open_input(name.as_str()) {
         Ok(file) => Ok(file),
@@ -45,24 +45,10 @@ pub fn open<R: InputFiles>(rt: &R, name: String) -> Result<R::InputFile, Fault>
     }
 }
 
-/// The file of this name, opened to be read; none where the name is empty.
-pub fn open_named<R: InputFiles>(rt: &R, name: String) -> Result<Option<R::InputFile>, Fault>
-    ensures named { IfOk result (λ file. IsNamed (R.finds rt.now) (string_bytes name) (option_map R.InputFile.remaining file)) }
-    ensures refused { IfErr result (λ fault. TellsLost (R.finds rt.now) name fault × (string_bytes name ≢ [])) }
-{
-    if name.is_empty() {
-        return Ok(None);
-    }
-    match open(rt, name) {
-        Ok(file) => Ok(Some(file)),
-        Err(fault) => Err(fault),
-    }
-}
-
 /// The octets of the file of this name.
 pub fn octets_of<R: AllocGlobal + InputFiles>(rt: &R, name: String) -> Result<Vec<u8>, Fault>
     ensures octets { IfOk result (λ octets. OfFile (R.finds rt.now) (string_bytes name) (λ bytes. octets.items ≡ bytes)) }
-    ensures refused { IfErr result (λ fault. (fault ≡ OutOfMemory) ⊎ TellsUnreadFile (R.finds rt.now) name fault) }
+    ensures refused { IfErr result (λ fault. (fault ≡ OutOfMemory) ⊎ FailsReadingFile (R.finds rt.now) name fault) }
 {
     let file = match rt.open_input(name.as_str()) {
         Ok(file) => file,

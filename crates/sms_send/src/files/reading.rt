@@ -5,7 +5,7 @@ ghost use Rattle.sms_files.specs.ConfigFaults.{IsConfig, TellsConfig};
 ghost use Rattle.sms_files.specs.Inputs.{IsFaultOfFiles, IsInput, TellsInput};
 ghost use Rattle.sms_files.specs.Setups.{setup_in};
 ghost use Rattle.sms_files.specs.declared.config.Config.{Config as ConfigRecord};
-ghost use Rattle.sms_send.specs.Faults.{TellsRead};
+ghost use Rattle.sms_send.specs.Faults.{IsReadFault};
 ghost use Rattle.sms_send.specs.Reading.{IsInputBy};
 
 use crate::faults::fault::Fault;
@@ -16,7 +16,7 @@ use std::io::Read;
 /// What the program needs of a config before it sends. The whole of its octets is checked.
 pub fn setup_of(alloc: Global, config: &[u8]) -> Result<Setup, Fault>
     ensures setup { IfOk result (λ setup. (c : ConfigRecord) × IsConfig config.now c × (setup ≡ setup_in c)) }
-    ensures refused { IfErr result (TellsRead (TellsConfig config.now)) }
+    ensures refused { IfErr result (IsReadFault (TellsConfig config.now)) }
 {
     match sms_files::setup_of(alloc, config) {
         Ok(setup) => Ok(setup),
@@ -27,7 +27,7 @@ pub fn setup_of(alloc: Global, config: &[u8]) -> Result<Setup, Fault>
 /// What a config of these octets says. All of it is checked.
 pub fn parse_config(alloc: Global, octets: &[u8]) -> Result<Config, Fault>
     ensures config { IfOk result (IsConfig octets.now) }
-    ensures refused { IfErr result (TellsRead (TellsConfig octets.now)) }
+    ensures refused { IfErr result (IsReadFault (TellsConfig octets.now)) }
 {
     match sms_files::config_of(alloc, octets) {
         Ok(config) => Ok(config),
@@ -45,7 +45,7 @@ pub fn read_files<A: Read + Drop, M: Read + Drop, T: Read + Drop>(
     tariff: Option<T>,
 ) -> Result<Input, Fault>
     ensures read { IfOk result (IsInputBy config (A.remaining accounts) (M.remaining messages) (option_map T.remaining tariff)) }
-    ensures refused { IfErr result (TellsRead (IsFaultOfFiles (A.remaining accounts) (M.remaining messages) (option_map T.remaining tariff))) }
+    ensures refused { IfErr result (IsReadFault (IsFaultOfFiles (A.remaining accounts) (M.remaining messages) (option_map T.remaining tariff))) }
 {
     match sms_files::read_files(alloc, config, accounts, messages, tariff) {
         Ok(input) => Ok(input),
@@ -65,7 +65,7 @@ pub fn read_input<A: Read + Drop, M: Read + Drop, T: Read + Drop>(
     ensures read { IfOk result (IsInput config.now (A.remaining accounts) (M.remaining messages) (option_map T.remaining tariff)) }
 
     // A fault is of the first that has one.
-    ensures refused { IfErr result (TellsRead (TellsInput config.now (A.remaining accounts) (M.remaining messages) (option_map T.remaining tariff))) }
+    ensures refused { IfErr result (IsReadFault (TellsInput config.now (A.remaining accounts) (M.remaining messages) (option_map T.remaining tariff))) }
 {
     match sms_files::read_input(alloc, config, accounts, messages, tariff) {
         Ok(input) => Ok(input),

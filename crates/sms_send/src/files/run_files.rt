@@ -1,14 +1,14 @@
 //! The files of a run as octets: those that its config names, and one that was written of it.
 
 ghost use Rattle.std.specs.Prelude.{◌≡◌, IfErr, IfOk, string_bytes};
-ghost use Rattle.sms_send.specs.Runs.{IsRun, TellsRunFiles};
+ghost use Rattle.sms_send.specs.Runs.{IsRun, FailsRunFiles};
 
 use crate::faults::context::JobContext;
 use crate::faults::fault::Fault;
+use crate::files::config_file::{ConfigFile, read_config};
 use crate::files::named_files::{NamedFiles, read_opened};
 use crate::files::open_input::{OpenInput, open_input};
 use crate::files::opened::{InputFiles, octets_of};
-use crate::files::reading::parse_config;
 use sms_files::FileNames;
 
 /// The octets of a run's config, of the files that it names, and of what was written of the run: its
@@ -30,12 +30,12 @@ pub fn read_run<R: AllocGlobal + InputFiles>(
     written: String,
 ) -> Result<RunFiles, Fault>
     ensures read { IfOk result (IsRun (R.finds rt.now) (string_bytes config) (string_bytes written)) }
-    ensures refused { IfErr result (TellsRunFiles (R.finds rt.now) config written) }
+    ensures refused { IfErr result (FailsRunFiles (R.finds rt.now) config written) }
 {
-    let octets = octets_of(rt, config)?;
-    let parsed = parse_config(rt.alloc(), octets.as_slice())?;
-    context.note_config(rt.alloc(), &parsed);
-    let opened = open_input(rt, parsed)?;
+    let read = read_config(rt, config)?;
+    context.note_config(rt.alloc(), &read.config);
+    let ConfigFile { octets, config } = read;
+    let opened = open_input(rt, config)?;
     let OpenInput {
         config,
         accounts,

@@ -3,7 +3,7 @@
 ghost use Rattle.std.specs.Prelude.{◌≡◌, IfErr, IfOk, OnOk, option_map, true};
 ghost use Rattle.sms_files.specs.Quoting.{EndsQuoted};
 ghost use Rattle.sms_journal.specs.Digests.{digests_of as of_files};
-ghost use Rattle.sms_send.specs.Faults.{TellsRead};
+ghost use Rattle.sms_send.specs.Faults.{IsReadFault};
 ghost use Rattle.sms_send.specs.Reading.{AreDigestsOf, FailsReading, IsFaultOfOctets, IsFaultOfRecords, IsInputOf, IsOpenQuoteOf, IsReadFrom};
 ghost use Rattle.sms_send.specs.Runs.{tariff_in};
 
@@ -19,7 +19,7 @@ use std::io::Read;
 /// Refuses a messages file that ends within a quote, of which this input was read.
 fn check_open(alloc: Global, named: &NamedFiles, input: &Input) -> Result<(), Fault>
     ensures closed { OnOk result (¬ EndsQuoted named.now.messages.items) }
-    ensures refused { IfErr result (TellsRead (IsOpenQuoteOf named.now input.now)) }
+    ensures refused { IfErr result (IsReadFault (IsOpenQuoteOf named.now input.now)) }
 {
     match check_quotes(alloc, named.messages.as_slice(), input) {
         Ok(()) => Ok(()),

@@ -8,8 +8,8 @@ ghost use Rattle.sms_files.specs.Records.{TellsRecords};
 ghost use Rattle.sms_files.specs.declared.fault.Source.TheVariants.{Messages};
 ghost use Rattle.sms_files.specs.Output.{WritesFront};
 ghost use Rattle.sms_files.specs.PlanText.{kind_of, plan_of};
-ghost use Rattle.sms_send.specs.Plans.{TellsPlan};
-ghost use Rattle.sms_send.specs.Faults.{TellsRead, output_failed};
+ghost use Rattle.sms_send.specs.Plans.{FailsPlan};
+ghost use Rattle.sms_send.specs.Faults.{IsReadFault, output_failed};
 
 use crate::faults::fault::Fault;
 use sms_files::{plan_text, read_texts, write_out};
@@ -33,7 +33,7 @@ pub fn run_plan<R: Read + Drop, W: Write>(
     ensures written { OnOk result (IfSome (R.remaining input) (λ bytes. Appends (W.contents output.old) (W.contents output.new) (plan_of (kind_of long) (records_of bytes)))) }
 
     // A record is named just where it is the first faulty one.
-    ensures faulty { IfErr result (λ fault. IfSome (R.remaining input) (λ bytes. TellsPlan (records_of bytes) fault)) }
+    ensures faulty { IfErr result (λ fault. IfSome (R.remaining input) (λ bytes. FailsPlan (records_of bytes) fault)) }
 
     // Where the output failed, a front of the plan was written.
     ensures front { IfErr result (λ fault. fault ≡ output_failed → IfSome (R.remaining input) (λ bytes. WritesFront (W.contents output.old) (W.contents output.new) (plan_of (kind_of long) (records_of bytes)))) }
@@ -63,7 +63,7 @@ pub(crate) fn form_plan<R: Read + Drop>(
     ensures good { OnOk result (IfSome (R.remaining input) (λ bytes. messages_fault (records_of bytes) ≡ None)) }
     ensures text { IfOk result (λ plan. IfSome (R.remaining input) (λ bytes. string_bytes plan.text ≡ plan_of (kind_of long) (records_of bytes))) }
     ensures records { IfOk result (λ plan. IfSome (R.remaining input) (λ bytes. plan.records ≡ length (records_of bytes))) }
-    ensures faulty { IfErr result (λ fault. IfSome (R.remaining input) (λ bytes. TellsRead (TellsRecords Messages (messages_fault (records_of bytes))) fault)) }
+    ensures faulty { IfErr result (λ fault. IfSome (R.remaining input) (λ bytes. IsReadFault (TellsRecords Messages (messages_fault (records_of bytes))) fault)) }
 {
     let texts = read_texts(alloc, input)?;
     let text = plan_text(alloc, reference_of(long), &texts)?;

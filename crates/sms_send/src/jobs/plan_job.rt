@@ -7,10 +7,10 @@ ghost use Rattle.sms_files.specs.Messages.{messages_fault};
 ghost use Rattle.sms_files.specs.Records.{TellsRecords};
 ghost use Rattle.sms_files.specs.declared.fault.Source.TheVariants.{Messages};
 ghost use Rattle.sms_files.specs.PlanText.{kind_of, plan_of};
-ghost use Rattle.sms_send.specs.Faults.{TellsRead, output_failed};
+ghost use Rattle.sms_send.specs.Faults.{IsReadFault, output_failed};
 ghost use Rattle.sms_send.specs.Jobs.{Plans};
-ghost use Rattle.sms_send.specs.Opened.{OfFile, TellsLost};
-ghost use Rattle.sms_send.specs.Plans.{IsWarning, TellsPlan, Warns, WarnsFront, quote_line};
+ghost use Rattle.sms_send.specs.Opened.{OfFile, FailsOpening};
+ghost use Rattle.sms_send.specs.Plans.{IsWarning, FailsPlan, Warns, WarnsFront, quote_line};
 
 use crate::faults::fault::Fault;
 use crate::files::named_files::whole_of;
@@ -56,7 +56,7 @@ fn texts_of(alloc: Global, octets: &[u8], long: bool) -> Result<PlanTexts, Fault
     ensures good { OnOk result (messages_fault (records_of octets.now) ≡ None) }
     ensures plan { IfOk result (λ texts. string_bytes texts.plan ≡ plan_of (kind_of long) (records_of octets.now)) }
     ensures warning { IfOk result (λ texts. IsWarning octets.now (string_bytes texts.warning)) }
-    ensures refused { IfErr result (TellsRead (TellsRecords Messages (messages_fault (records_of octets.now)))) }
+    ensures refused { IfErr result (IsReadFault (TellsRecords Messages (messages_fault (records_of octets.now)))) }
 {
     let plan = match form_plan(alloc, octets, long) {
         Ok(plan) => plan,
@@ -82,8 +82,8 @@ fn plan_octets<W: Write, E: Write>(
     ensures status { IfOk result (λ status. status ≡ 0) }
     ensures planned { OnOk result (Plans long octets.now (W.contents output.old) (W.contents output.new)) }
     ensures warned { OnOk result (Warns octets.now (E.contents error.old) (E.contents error.new)) }
-    ensures refused { IfErr result (TellsPlan (records_of octets.now)) }
-    ensures told { IfErr result (λ fault. fault ≡ output_failed → WarnsFront octets.now (E.contents error.old) (E.contents error.new)) }
+    ensures refused { IfErr result (FailsPlan (records_of octets.now)) }
+    ensures front { IfErr result (λ fault. fault ≡ output_failed → WarnsFront octets.now (E.contents error.old) (E.contents error.new)) }
     ensures unwritten { IfErr result (λ fault. fault ≢ output_failed → (output.new ≡ output.old) × (error.new ≡ error.old)) }
 {
     match texts_of(alloc, octets, long) {
@@ -107,8 +107,8 @@ pub fn plan_job<R: AllocGlobal + InputFiles, W: Write, E: Write>(
     ensures status { IfOk result (λ status. status ≡ 0) }
     ensures planned { OnOk result (OfFile (R.finds rt.now) (string_bytes name) (λ bytes. Plans long bytes (W.contents output.old) (W.contents output.new))) }
     ensures warned { OnOk result (OfFile (R.finds rt.now) (string_bytes name) (λ bytes. Warns bytes (E.contents error.old) (E.contents error.new))) }
-    ensures refused { IfErr result (λ fault. TellsLost (R.finds rt.now) name fault ⊎ OfFile (R.finds rt.now) (string_bytes name) (λ bytes. TellsPlan (records_of bytes) fault)) }
-    ensures told { IfErr result (λ fault. fault ≡ output_failed → OfFile (R.finds rt.now) (string_bytes name) (λ bytes. WarnsFront bytes (E.contents error.old) (E.contents error.new))) }
+    ensures refused { IfErr result (λ fault. FailsOpening (R.finds rt.now) name fault ⊎ OfFile (R.finds rt.now) (string_bytes name) (λ bytes. FailsPlan (records_of bytes) fault)) }
+    ensures front { IfErr result (λ fault. fault ≡ output_failed → OfFile (R.finds rt.now) (string_bytes name) (λ bytes. WarnsFront bytes (E.contents error.old) (E.contents error.new))) }
     ensures unwritten { IfErr result (λ fault. fault ≢ output_failed → (output.new ≡ output.old) × (error.new ≡ error.old)) }
 {
     let file = match open(rt, name) {

@@ -5,7 +5,7 @@ ghost use Rattle.sms_journal.specs.declared.text.header.JournalKind.TheVariants.
 ghost use Rattle.sms_journal.specs.declared.recovery.recovering.Recovered.{Recovered as IsDone};
 ghost use Rattle.sms_files.specs.Output.{WritesFront};
 ghost use Rattle.sms_send.specs.Statuses.{IsStatus};
-ghost use Rattle.sms_send.specs.Recovered.{LosesTrial, PrintsLeft, RecoversAndTells, RecoversBy, RecoversRun, TellsKind, TellsLeft, TellsOther, TellsRecovered, TellsRecoverFree, TellsRecoverJob, TellsRestJob, name_of, trial_line};
+ghost use Rattle.sms_send.specs.Recovered.{LosesTrial, PrintsLeft, RecoversAndWarns, RecoversBy, RecoversRun, WritesKind, FailsRest, IsOfOtherFile, FailsRecovering, FailsRecoverFree, FailsRecoverJob, FailsRestJob, name_of, trial_line};
 ghost use Rattle.sms_send.specs.Runs.{IsRun};
 ghost use Rattle.sms_send.specs.Faults.{output_failed};
 ghost use Rattle.sms_send.specs.declared.files.run_files.RunFiles.{RunFiles as TheRunFiles};
@@ -27,7 +27,7 @@ use std::io::Write;
 const TRIAL: &str = "trial: no message centre saw any of it\n";
 
 /// Prints what a run would have reported, by its journal, and gives the exit status that it would have
-/// had. A journal that a process holds isn't read. Of a trial that is asked for standard error is told that no
+/// had. A journal that a process holds isn't read. Of a trial that is asked for standard error says that no
 /// message centre saw any of it.
 pub fn recover_job<R: AllocGlobal + InputFiles + JournalFiles, W: Write, E: Write>(
     rt: &R,
@@ -38,8 +38,8 @@ pub fn recover_job<R: AllocGlobal + InputFiles + JournalFiles, W: Write, E: Writ
 ) -> Result<u8, Fault>
     ensures recovered { IfOk result (RecoversBy (R.finds rt.now) order (W.contents output.old) (W.contents output.new)) }
     ensures status { IfOk result IsStatus }
-    ensures beside { OnOk result (RecoversAndTells (R.finds rt.now) order (W.contents output.old) (W.contents output.new) (E.contents error.old) (E.contents error.new)) }
-    ensures refused { IfErr result (TellsRecoverJob (R.holds rt.now) (R.finds rt.now) order (W.contents output.old) (W.contents output.new)) }
+    ensures beside { OnOk result (RecoversAndWarns (R.finds rt.now) order (W.contents output.old) (W.contents output.new) (E.contents error.old) (E.contents error.new)) }
+    ensures refused { IfErr result (FailsRecoverJob (R.holds rt.now) (R.finds rt.now) order (W.contents output.old) (W.contents output.new)) }
     ensures told { WritesFront (E.contents error.old) (E.contents error.new) trial_line }
     ensures unwritten { IfErr result (λ fault. fault ≢ output_failed → (output.new ≡ output.old) × (error.new ≡ error.old)) }
 {
@@ -59,8 +59,8 @@ fn recover_free<R: AllocGlobal + InputFiles, W: Write, E: Write>(
 ) -> Result<u8, Fault>
     ensures recovered { IfOk result (RecoversBy (R.finds rt.now) order (W.contents output.old) (W.contents output.new)) }
     ensures status { IfOk result IsStatus }
-    ensures beside { OnOk result (RecoversAndTells (R.finds rt.now) order (W.contents output.old) (W.contents output.new) (E.contents error.old) (E.contents error.new)) }
-    ensures refused { IfErr result (TellsRecoverFree (R.finds rt.now) order (W.contents output.old) (W.contents output.new)) }
+    ensures beside { OnOk result (RecoversAndWarns (R.finds rt.now) order (W.contents output.old) (W.contents output.new) (E.contents error.old) (E.contents error.new)) }
+    ensures refused { IfErr result (FailsRecoverFree (R.finds rt.now) order (W.contents output.old) (W.contents output.new)) }
     ensures told { WritesFront (E.contents error.old) (E.contents error.new) trial_line }
     ensures unwritten { IfErr result (λ fault. fault ≢ output_failed → (output.new ≡ output.old) × (error.new ≡ error.old)) }
 {
@@ -84,9 +84,9 @@ fn recover_run<W: Write, E: Write>(
     output: &mut W,
     error: &mut E,
 ) -> Result<u8, Fault>
-    ensures recovered { IfOk result (λ status. (done : IsDone) × RecoversRun run.now trial (W.contents output.old) (W.contents output.new) done × TellsKind done.kind (E.contents error.old) (E.contents error.new) × (status ≡ done.status)) }
+    ensures recovered { IfOk result (λ status. (done : IsDone) × RecoversRun run.now trial (W.contents output.old) (W.contents output.new) done × WritesKind done.kind (E.contents error.old) (E.contents error.new) × (status ≡ done.status)) }
     ensures status { IfOk result IsStatus }
-    ensures refused { IfErr result (λ fault. TellsRecovered run.now trial (W.contents output.old) (W.contents output.new) fault ⊎ LosesTrial run.now trial (W.contents output.old) (W.contents output.new) fault) }
+    ensures refused { IfErr result (λ fault. FailsRecovering run.now trial (W.contents output.old) (W.contents output.new) fault ⊎ LosesTrial run.now trial (W.contents output.old) (W.contents output.new) fault) }
     ensures told { WritesFront (E.contents error.old) (E.contents error.new) trial_line }
     ensures unwritten { IfErr result (λ fault. fault ≢ output_failed → (output.new ≡ output.old) × (error.new ≡ error.old)) }
 {
@@ -106,7 +106,7 @@ fn recovered<W: Write>(
 ) -> Result<Recovered, Fault>
     ensures recovered { IfOk result (RecoversRun run.now trial (W.contents output.old) (W.contents output.new)) }
     ensures status { IfOk result (λ done. IsStatus done.status) }
-    ensures refused { IfErr result (TellsRecovered run.now trial (W.contents output.old) (W.contents output.new)) }
+    ensures refused { IfErr result (FailsRecovering run.now trial (W.contents output.old) (W.contents output.new)) }
     ensures unwritten { IfErr result (λ fault. fault ≢ output_failed → output.new ≡ output.old) }
 {
     let recovered = run_recover(
@@ -142,7 +142,7 @@ fn name_in<'a>(config: &'a str, names: &'a FileNames, file: RunFile) -> &'a str
 
 /// The fault of a journal that isn't of the file of this name. It has no name where memory is refused for it.
 fn of_other_file(alloc: Global, name: &str) -> Fault
-    ensures { TellsOther result }
+    ensures { IsOfOtherFile result }
 {
     match String::from_str(alloc, name) {
         Ok(name) => Fault::OtherFile(name),
@@ -150,9 +150,9 @@ fn of_other_file(alloc: Global, name: &str) -> Fault
     }
 }
 
-/// Tells of a trial that it is one, and gives the exit status of what was recovered.
+/// Writes of a trial that it is one, and gives the exit status of what was recovered.
 fn tell_kind<E: Write>(error: &mut E, done: Recovered) -> Result<u8, Fault>
-    ensures told { IfOk result (λ status. TellsKind done.kind (E.contents error.old) (E.contents error.new) × (status ≡ done.status)) }
+    ensures told { IfOk result (λ status. WritesKind done.kind (E.contents error.old) (E.contents error.new) × (status ≡ done.status)) }
     ensures failed { IfErr result (λ fault. (fault ≡ output_failed) × (done.kind ≡ Trial)) }
     ensures front { WritesFront (E.contents error.old) (E.contents error.new) trial_line }
 {
@@ -175,7 +175,7 @@ pub fn rest_job<R: AllocGlobal + InputFiles, W: Write>(
 ) -> Result<u8, Fault>
     ensures status { IfOk result (λ status. status ≡ 0) }
     ensures printed { IfOk result (λ status. (run : TheRunFiles) × IsRun (R.finds rt.now) (string_bytes order.config) (string_bytes order.report) run × PrintsLeft order.accounts run (W.contents output.old) (W.contents output.new)) }
-    ensures refused { IfErr result (TellsRestJob (R.finds rt.now) order (W.contents output.old) (W.contents output.new)) }
+    ensures refused { IfErr result (FailsRestJob (R.finds rt.now) order (W.contents output.old) (W.contents output.new)) }
     ensures unwritten { IfErr result (λ fault. fault ≢ output_failed → output.new ≡ output.old) }
 {
     let accounts = order.accounts;
@@ -194,7 +194,7 @@ fn left<W: Write>(
 ) -> Result<u8, Fault>
     ensures status { IfOk result (λ status. status ≡ 0) }
     ensures printed { IfOk result (λ status. PrintsLeft accounts run.now (W.contents output.old) (W.contents output.new)) }
-    ensures refused { IfErr result (TellsLeft accounts run.now (W.contents output.old) (W.contents output.new)) }
+    ensures refused { IfErr result (FailsRest accounts run.now (W.contents output.old) (W.contents output.new)) }
     ensures unwritten { IfErr result (λ fault. fault ≢ output_failed → output.new ≡ output.old) }
 {
     if accounts {
@@ -208,7 +208,7 @@ fn left<W: Write>(
 fn accounts_left<W: Write>(alloc: Global, run: &RunFiles, output: &mut W) -> Result<u8, Fault>
     ensures status { IfOk result (λ status. status ≡ 0) }
     ensures printed { IfOk result (λ status. PrintsLeft true run.now (W.contents output.old) (W.contents output.new)) }
-    ensures refused { IfErr result (TellsLeft true run.now (W.contents output.old) (W.contents output.new)) }
+    ensures refused { IfErr result (FailsRest true run.now (W.contents output.old) (W.contents output.new)) }
     ensures unwritten { IfErr result (λ fault. fault ≢ output_failed → output.new ≡ output.old) }
 {
     let printed = run_rest_accounts(
@@ -230,7 +230,7 @@ fn accounts_left<W: Write>(alloc: Global, run: &RunFiles, output: &mut W) -> Res
 fn messages_left<W: Write>(alloc: Global, run: &RunFiles, output: &mut W) -> Result<u8, Fault>
     ensures status { IfOk result (λ status. status ≡ 0) }
     ensures printed { IfOk result (λ status. PrintsLeft false run.now (W.contents output.old) (W.contents output.new)) }
-    ensures refused { IfErr result (TellsLeft false run.now (W.contents output.old) (W.contents output.new)) }
+    ensures refused { IfErr result (FailsRest false run.now (W.contents output.old) (W.contents output.new)) }
     ensures unwritten { IfErr result (λ fault. fault ≢ output_failed → output.new ≡ output.old) }
 {
     let printed = run_rest(

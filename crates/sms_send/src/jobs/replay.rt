@@ -3,7 +3,7 @@
 ghost use Rattle.std.specs.Prelude.{◌≡◌, ◌≢◌, None, IfErr, IfOk, IfSome, OnOk, string_bytes};
 ghost use Rattle.sms_files.specs.Fields.{records_of};
 ghost use Rattle.sms_send.specs.Faults.{output_failed};
-ghost use Rattle.sms_send.specs.Replays.{OfReplay, PrintsRun, Replays, ReplaysFront, TellsReplay, TellsSchedule};
+ghost use Rattle.sms_send.specs.Replays.{OfReplay, PrintsRun, Replays, ReplaysFront, FailsReplay, FailsSchedule};
 ghost use Rattle.sms_files.specs.Schedule.{schedule_fault};
 
 use crate::faults::fault::Fault;
@@ -25,7 +25,7 @@ pub fn run_replay<R: Read + Drop, W: Write>(
     ensures status { IfOk result (λ status. status ≡ 0) }
     ensures replayed { OnOk result (IfSome (R.remaining input) (λ bytes. Replays bytes (W.contents output.old) (W.contents output.new))) }
     ensures accepted { OnOk result (IfSome (R.remaining input) (λ bytes. schedule_fault (records_of bytes) ≡ None)) }
-    ensures refused { IfErr result (λ fault. IfSome (R.remaining input) (λ bytes. TellsReplay (records_of bytes) fault)) }
+    ensures refused { IfErr result (λ fault. IfSome (R.remaining input) (λ bytes. FailsReplay (records_of bytes) fault)) }
     ensures front { IfErr result (λ fault. fault ≡ output_failed → IfSome (R.remaining input) (λ bytes. ReplaysFront bytes (W.contents output.old) (W.contents output.new))) }
     ensures unwritten { IfErr result (λ fault. fault ≢ output_failed → output.new ≡ output.old) }
 {
@@ -38,7 +38,7 @@ pub fn run_replay<R: Read + Drop, W: Write>(
 fn replayed<R: Read + Drop>(alloc: Global, input: R) -> Result<String, Fault>
     ensures text { IfOk result (λ text. IfSome (R.remaining input) (OfReplay (λ printed. string_bytes text ≡ printed))) }
     ensures accepted { OnOk result (IfSome (R.remaining input) (λ bytes. schedule_fault (records_of bytes) ≡ None)) }
-    ensures refused { IfErr result (λ fault. IfSome (R.remaining input) (λ bytes. TellsSchedule (records_of bytes) fault)) }
+    ensures refused { IfErr result (λ fault. IfSome (R.remaining input) (λ bytes. FailsSchedule (records_of bytes) fault)) }
 {
     let Schedule { mut world, events } = read_schedule(alloc, input)?;
     let text = text_after(alloc, &mut world, events.as_slice());

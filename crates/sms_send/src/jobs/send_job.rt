@@ -3,20 +3,20 @@
 ghost use Rattle.std.specs.Prelude.{◌≡◌, ◌≢◌, IfErr, IfOk, OnOk, is_some, option_map, string_bytes};
 ghost use Rattle.sms_driver.specs.declared.start_gate.Command.TheVariants.{Go};
 ghost use Rattle.sms_driver.specs.declared.start.StartPhase.TheVariants.{Idle, Released};
-ghost use Rattle.sms_send.specs.Faults.{HasLostJournal, IsToldAt, output_failed};
-ghost use Rattle.sms_send.specs.Opened.{OfFile};
-ghost use Rattle.sms_send.specs.Statuses.{IsStatusBy};
-ghost use Rattle.sms_send.specs.Noted.{IsToldNoted, TellsBegin};
+ghost use Rattle.sms_send.specs.ConfigFiles.{OfConfig};
+ghost use Rattle.sms_send.specs.Faults.{ComesAt, output_failed};
+ghost use Rattle.sms_send.specs.Noted.{FailsBegin};
 ghost use Rattle.sms_send.specs.SendJobs.{FailsSendJob, SendsBy};
-ghost use Rattle.sms_send.specs.Sent.{RunsSender, TellsSender};
+ghost use Rattle.sms_send.specs.Sent.{FailsSender, RunsSender, SendingEnd};
 
 use crate::args::send_args::SendArgs;
 use crate::faults::context::JobContext;
-use crate::faults::exposed::{FileModes, config_of};
+use crate::faults::exposed::{FileModes, read_warned};
 use crate::faults::fault::Fault;
+use crate::files::config_file::ConfigFile;
 use crate::files::open_input::open_input;
 use crate::files::opened::InputFiles;
-use crate::files::reading::{parse_config, read_input};
+use crate::files::reading::read_input;
 use crate::files::sending_input::{read_noted, read_plain};
 use crate::sending::Sending;
 use crate::sending::remarks::Remarks;
@@ -63,9 +63,9 @@ pub fn run_sender<
     ensures started { OnOk result (start.new.begun ≡ Released Go) }
     ensures sent { IfOk result (λ status. RunsSender (D.told dial.now) strict config.now (A.remaining accounts) (M.remaining messages) (option_map T.remaining tariff) (W.contents output.old) (W.contents output.new) status) }
     // A fault is of the first of these that has one, or of the sending of what they say.
-    ensures refused { IfErr result (TellsSender (D.refuses dial.now) (D.told dial.now) config.now (A.remaining accounts) (M.remaining messages) (option_map T.remaining tariff) (W.contents output.old) (W.contents output.new)) }
-    // And it says whether messages may have been sent: just where all workers were told to go.
-    ensures told { IfErr result (IsToldAt start.new.begun) }
+    ensures refused { IfErr result (FailsSender (D.refuses dial.now) (D.told dial.now) config.now (A.remaining accounts) (M.remaining messages) (option_map T.remaining tariff) (W.contents output.old) (W.contents output.new)) }
+    // And it says whether messages may have been sent: if and only if all workers were started.
+    ensures phase { IfErr result (ComesAt start.new.begun) }
     ensures unwritten { IfErr result (λ fault. fault ≢ output_failed → output.new ≡ output.old) }
 {
     let input = read_input(alloc, config, accounts, messages, tariff)?;
@@ -86,12 +86,7 @@ pub fn send_job<R: FileModes + Host + InputFiles, W: Write>(
 ) -> Result<u8, Fault>
     requires not_started { start.old.begun ≡ Idle }
     ensures latch { start.new.latch ≡ start.old.latch }
-    ensures started { OnOk result (start.new.begun ≡ Released Go) }
-    ensures sent { IfOk result (λ status. OfFile (R.finds rt.now) (string_bytes order.config) (λ octets. SendsBy (R.finds rt.now) (R.tells rt.now) kind order.strict (is_some order.journal) octets (W.contents output.old) (W.contents output.new) status)) }
-    ensures status { IfOk result (IsStatusBy order.strict) }
-    ensures refused { IfErr result (FailsSendJob (TellsBegin (R.makes rt.now) (R.refuses rt.now) (R.holds rt.now)) (R.finds rt.now) (R.tells rt.now) kind order (W.contents output.old) (W.contents output.new)) }
-    ensures phase { IfErr result (IsToldNoted (R.tells rt.now) order.strict start.new.begun (W.contents output.old) (W.contents output.new)) }
-    ensures unwritten { IfErr result (λ fault. fault ≢ output_failed → ¬ HasLostJournal fault → output.new ≡ output.old) }
+    ensures ended { SendingEnd order.strict (λ status. OfConfig (R.finds rt.now) (string_bytes order.config) (SendsBy (R.finds rt.now) (R.tells rt.now) kind order.strict (is_some order.journal) (W.contents output.old) (W.contents output.new) status)) (FailsSendJob (FailsBegin (R.makes rt.now) (R.refuses rt.now) (R.holds rt.now)) (R.finds rt.now) (R.tells rt.now) kind order (W.contents output.old) (W.contents output.new)) start.new.begun output.old output.new result }
 {
     let SendArgs {
         config,
@@ -103,11 +98,11 @@ pub fn send_job<R: FileModes + Host + InputFiles, W: Write>(
     } = order;
     let trial = kind == TargetKind::Loopback;
     let remarks = Remarks::new(quiet, verbose, rt.is_terminal(), rt.has_details(), trial);
-    let octets = config_of(rt, config, remarks.at_length)?;
-    let parsed = parse_config(rt.alloc(), octets.as_slice())?;
-    context.note_config(rt.alloc(), &parsed);
-    let target = Target::new(rt.alloc(), kind, &parsed)?;
-    let opened = open_input(rt, parsed)?;
+    let read = read_warned(rt, config, remarks.at_length)?;
+    context.note_config(rt.alloc(), &read.config);
+    let target = Target::new(rt.alloc(), kind, &read.config)?;
+    let ConfigFile { octets, config } = read;
+    let opened = open_input(rt, config)?;
     let sending = Sending {
         rt,
         target,

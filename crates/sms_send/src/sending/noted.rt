@@ -1,13 +1,11 @@
 //! A sending that is noted in a journal.
 
-ghost use Rattle.std.specs.Prelude.{◌≡◌, ◌≢◌, ◌⊎◌, ℕ, Err, Ok, IfErr, IfOk, IsOk, OnOk, string_bytes, true};
-ghost use Rattle.sms_driver.specs.declared.start_gate.Command.TheVariants.{Go};
-ghost use Rattle.sms_driver.specs.declared.start.StartPhase.TheVariants.{Idle, Released};
-ghost use Rattle.sms_send.specs.Faults.{HasLostJournal, output_failed};
-ghost use Rattle.sms_send.specs.Noted.{FailsNoted, IsMade, IsNoted, IsToldNoted, TellsBegin, TellsHeld, TellsUnmade};
+ghost use Rattle.std.specs.Prelude.{◌≡◌, ◌⊎◌, ℕ, Err, Ok, IfErr, IfOk, IsOk, string_bytes, true};
+ghost use Rattle.sms_driver.specs.declared.start.StartPhase.TheVariants.{Idle};
+ghost use Rattle.sms_send.specs.Faults.{HasLostJournal};
+ghost use Rattle.sms_send.specs.Noted.{FailsBegin, FailsNoted, IsHeld, IsMade, IsNoted, IsUnmade};
 ghost use Rattle.sms_send.specs.Reached.{centre_of};
-ghost use Rattle.sms_send.specs.Sent.{SendsInput};
-ghost use Rattle.sms_send.specs.Statuses.{IsStatusBy};
+ghost use Rattle.sms_send.specs.Sent.{SendingEnd, SendsInput};
 
 use crate::args::send_args::JournalFile;
 use crate::faults::fault::Fault;
@@ -25,7 +23,7 @@ use std::time::Clock;
 /// made, and the journal where a process holds one of this name.
 fn make_journal<R: JournalFiles>(rt: &R, wanted: JournalFile) -> Result<R::JournalFile, Fault>
     ensures made { IsOk result → IsMade (R.makes rt.now) wanted }
-    ensures refused { IfErr result (λ fault. TellsHeld (R.holds rt.now) (string_bytes wanted.name) fault ⊎ TellsUnmade (R.refuses rt.now) wanted fault) }
+    ensures refused { IfErr result (λ fault. IsHeld (R.holds rt.now) (string_bytes wanted.name) fault ⊎ IsUnmade (R.refuses rt.now) wanted fault) }
 {
     let JournalFile { name, sync } = wanted;
     match rt.create_journal(name.as_str(), sync) {
@@ -51,7 +49,7 @@ fn begin_journal<R: AllocGlobal + JournalFiles + Wait>(
     digests: &Digests,
 ) -> Result<Journal<R::JournalFile>, Fault>
     ensures made { IsOk result → IsMade (R.makes rt.now) wanted }
-    ensures refused { IfErr result (TellsBegin (R.makes rt.now) (R.refuses rt.now) (R.holds rt.now) wanted) }
+    ensures refused { IfErr result (FailsBegin (R.makes rt.now) (R.refuses rt.now) (R.holds rt.now) wanted) }
 {
     let sync = wanted.sync;
     let file = match make_journal(rt, wanted) {
@@ -98,14 +96,9 @@ impl<'r, R: Host> Sending<'r, R> {
     ) -> Result<u8, Fault>
         requires not_started { start.old.begun ≡ Idle }
         ensures latch { start.new.latch ≡ start.old.latch }
-        ensures started { OnOk result (start.new.begun ≡ Released Go) }
-        ensures sent { IfOk result (SendsInput (R.tells self.now.rt.now (centre_of self.now.target) true) self.now.strict input (W.contents output.old) (W.contents output.new)) }
-        ensures status { IfOk result (IsStatusBy self.now.strict) }
-        ensures noted { IfOk result (IsNoted R.JournalFile.contents) }
-        ensures refused { IfErr result (FailsNoted (TellsBegin (R.makes self.now.rt.now) (R.refuses self.now.rt.now) (R.holds self.now.rt.now)) (centre_of self.now.target) (R.tells self.now.rt.now (centre_of self.now.target) true) self.now.strict wanted input (W.contents output.old) (W.contents output.new)) }
         // A journal that can't be begun is a fault before anything was sent or written; one that failed later, after the whole report.
-        ensures phase { IfErr result (IsToldNoted (R.tells self.now.rt.now) self.now.strict start.new.begun (W.contents output.old) (W.contents output.new)) }
-        ensures unwritten { IfErr result (λ fault. fault ≢ output_failed → ¬ HasLostJournal fault → output.new ≡ output.old) }
+        ensures ended { SendingEnd self.now.strict (SendsInput (R.tells self.now.rt.now (centre_of self.now.target) true) self.now.strict input (W.contents output.old) (W.contents output.new)) (FailsNoted (FailsBegin (R.makes self.now.rt.now) (R.refuses self.now.rt.now) (R.holds self.now.rt.now)) (centre_of self.now.target) (R.tells self.now.rt.now (centre_of self.now.target) true) self.now.strict wanted input (W.contents output.old) (W.contents output.new)) start.new.begun output.old output.new result }
+        ensures noted { IfOk result (IsNoted R.JournalFile.contents) }
     {
         let kind = self.target.journal_kind();
         let journal = match begin_journal(self.rt, wanted, kind, digests) {

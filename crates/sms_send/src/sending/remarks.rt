@@ -11,7 +11,7 @@ use sms_devices::Telling;
 pub struct Remarks {
     /// How it goes, and what it came to.
     pub telling: Telling,
-    /// Whether that is told at length: why messages were not sent, too.
+    /// Whether it has the details too: why messages were not sent.
     pub at_length: bool,
     /// Whether it is a trial.
     pub trial: bool,

@@ -1,11 +1,11 @@
 //! The sender: what was read is sent over all binds, and ends as its contract says.
 
-ghost use Rattle.std.specs.Prelude.{◌≡◌, ◌⊎◌, IfErr, IfOk, OnOk};
+ghost use Rattle.std.specs.Prelude.{◌≡◌, ◌≤◌, ◌⊎◌, IfErr, IfOk, OnOk};
 ghost use Rattle.std.specs.Io.KnownBytes.{Appends};
 ghost use Rattle.sms_files.specs.Output.{WritesFront};
 ghost use Rattle.sms_files.specs.Report.{report_of};
-ghost use Rattle.sms_send.specs.Faults.{IsToldAt, output_failed};
-ghost use Rattle.sms_send.specs.Sent.{AreSettingsOf, IsSent, TellsDriven};
+ghost use Rattle.sms_send.specs.Faults.{ComesAt, output_failed};
+ghost use Rattle.sms_send.specs.Sent.{AreRunSettings, AreSettingsOf, IsSent, FailsDriving};
 ghost use Rattle.sms_send.specs.Statuses.{status_by};
 ghost use Rattle.sms_driver.specs.declared.start_gate.Command.TheVariants.{Go};
 ghost use Rattle.sms_driver.specs.declared.start.StartPhase.TheVariants.{Idle, Released};
@@ -13,7 +13,7 @@ ghost use Rattle.sms_send.specs.declared.faults.fault.Fault.TheVariants.{Unrepor
 
 use crate::faults::fault::Fault;
 use crate::sending::status::status_of;
-use sms_book::{Opening, Statement};
+use sms_book::{Opening, Statement, Tariff};
 use sms_driver::{BindEnd, BindSettings, Devices, Dial, RunSettings, Sending, Start, drive_all};
 use sms_files::{Config, Connection, Flags, Input, Limits, OutputFault, rules_of, write_report_of};
 use sms_worker::{Clock, Gate, MessageEnd, Pause};
@@ -75,7 +75,7 @@ impl Ended {
 }
 
 /// What all binds have in common.
-fn settings_of(connection: Connection, limits: Limits, flags: Flags) -> BindSettings
+fn bind_settings_of(connection: Connection, limits: Limits, flags: Flags) -> BindSettings
     ensures { AreSettingsOf connection limits flags result }
 {
     BindSettings {
@@ -85,9 +85,28 @@ fn settings_of(connection: Connection, limits: Limits, flags: Flags) -> BindSett
     }
 }
 
-/// Makes all binds, sends all messages, and ends the binds. Nothing is sent where a bind fails; the
-/// first that fails is told. Where a fault is told, the start says whether a message could have gone out
-/// before it: only where all workers were told to go.
+/// How messages are sent by a config and a tariff.
+fn settings_of(config: Config, tariff: Tariff) -> RunSettings
+    ensures settings { AreRunSettings config tariff result }
+    ensures bound { (result.binds ≤ 4) × (result.workers ≤ 8) }
+{
+    let Config {
+        connection,
+        limits,
+        retry,
+        flags,
+        ..
+    } = config;
+    RunSettings {
+        binds: limits.binds as usize,
+        workers: limits.workers as usize,
+        bind_settings: bind_settings_of(connection, limits, flags),
+        rules: rules_of(retry, limits, flags, tariff, TURNS),
+    }
+}
+
+/// Makes all binds, sends all messages, and ends the binds. Nothing is sent if a bind fails; the first that fails is the
+/// fault. On a fault the start says whether messages may have been sent: only if all workers were started.
 pub fn send_all<
     'l,
     D: Dial,
@@ -109,28 +128,13 @@ pub fn send_all<
     ensures latch { start.new.latch ≡ start.old.latch }
     ensures started { OnOk result (start.new.begun ≡ Released Go) }
     ensures sent { IfOk result (IsSent (D.told dial.now) input) }
-    // A fault is of one of the config's binds, and tells what was read of it, or of memory; and a fault that comes before a message could go out comes where no
-    // worker was told to go, and one that comes after where all were.
-    ensures refused { IfErr result (TellsDriven (D.refuses dial.now) (D.told dial.now) input.config start.new.begun) }
-    // So the fault that is told says whether messages may have been sent.
-    ensures told { IfErr result (IsToldAt start.new.begun) }
+    // A fault is of one of the config's binds, and agrees with what was read of it, or of memory; no worker was started.
+    ensures refused { IfErr result (FailsDriving (D.refuses dial.now) (D.told dial.now) input.config start.new.begun) }
+    // So the fault says whether messages may have been sent.
+    ensures phase { IfErr result (ComesAt start.new.begun) }
 {
     let (config, openings, messages, tariff) = input.into_parts();
-    let Config {
-        connection,
-        limits,
-        retry,
-        flags,
-        ..
-    } = config;
-    let rules = rules_of(retry, limits, flags, tariff, TURNS);
-    let settings = settings_of(connection, limits, flags);
-    let run = RunSettings {
-        binds: limits.binds as usize,
-        workers: limits.workers as usize,
-        bind_settings: settings,
-        rules,
-    };
+    let settings = settings_of(config, tariff);
     let devices = Devices {
         dial,
         gate,
@@ -141,17 +145,14 @@ pub fn send_all<
         rt,
         alloc,
         start,
-        &run,
+        &settings,
         openings.as_slice(),
         messages,
         &devices,
     );
     let sending = match driven {
         Ok(sending) => sending,
-        Err(fault) => {
-            let told = Fault::from(fault);
-            return Err(told);
-        }
+        Err(fault) => return Err(Fault::from(fault)),
     };
     let Sending {
         ends,

@@ -1,4 +1,4 @@
-//! Standard error, as a writer of text and of whole lines, and what is told there of a run.
+//! Standard error, as a writer of text and of whole lines, and what is written there of a run.
 
 use sms_devices::{Notices, Screen};
 use std::fmt::Display;
@@ -29,19 +29,19 @@ impl<R: Eprint> Write for StandardError<'_, R> {
     }
 }
 
-/// Who is told lines.
+/// Takes whole lines.
 pub trait TakesLines {
     ghost use Rattle.std.specs.Prelude.{ℕ, List, Option, None, IfErr, IfSome, OnOk, ⊤};
     ghost use Rattle.std.specs.Io.KnownBytes.{Appends};
     ghost use Rattle.std.specs.declared.io.Error.{Error};
 
-    // What it was told, where that is known, and with which error it may have failed.
+    // What was written, where that is known, and with which error that may have failed.
     ghost told: { Self → Option (List ℕ) } = { λ _. None };
 
     ghost fails: { Self → Error → Type 0 } = { λ _ _. ⊤ };
 
-    /// Tells these lines, each with its end, at once. All that is told of a run beside how it goes is told
-    /// so, or as `tell_beside` does.
+    /// Writes these lines, each with its end, at once. All that standard error has of a run but its progress is
+    /// written so, or by `write_beside`.
     fn tell_lines<T: Display>(&mut self, lines: &T) -> io::Result<()>
         ensures told { OnOk result (IfSome (T.output lines.now) (Appends (told self.old) (told self.new))) }
         ensures failed { IfErr result (fails self.new) };
@@ -53,8 +53,8 @@ impl<R: Eprint> TakesLines for StandardError<'_, R> {
     }
 }
 
-/// Tells these lines of a sending, and waits for a terminal a second at most: it may be stopped.
-pub fn tell_beside<R: AllocGlobal + Threads + Clock + Eprint + Screen, T: Display>(
+/// Writes these lines of a sending, and waits for a terminal a second at most: it may be stopped.
+pub fn write_beside<R: AllocGlobal + Threads + Clock + Eprint + Screen, T: Display>(
     rt: &R,
     lines: &T,
 ) {

@@ -20,7 +20,7 @@ pub fn write_both<W: Write, E: Write>(
     ensures written { OnOk result (Appends (W.contents output.old) (W.contents output.new) printed.now) }
     ensures warned { OnOk result (Appends (E.contents error.old) (E.contents error.new) warnings.now) }
     ensures front { WritesFront (W.contents output.old) (W.contents output.new) printed.now }
-    ensures told { WritesFront (E.contents error.old) (E.contents error.new) warnings.now }
+    ensures error_front { WritesFront (E.contents error.old) (E.contents error.new) warnings.now }
     ensures failed { IfErr result (λ fault. fault ≡ output_failed) }
 {
     match write_out(output, printed) {

@@ -1,7 +1,31 @@
-use Rattle.sms_send.proofs.Asking.{works_asked}
+use Rattle.std.proofs.Common.{inl}
+use Rattle.sms_send.specs.Jobs.{WritesBeside, WritesBesideFront}
+use Rattle.sms_send.specs.Noted.{FailsBegin}
+use Rattle.sms_send.proofs.Asking.{details_asked, fails_asked, front_asked, lacks_no_output, works_asked}
 use Rattle.sms_send.proofs.program.run.Goals as goal
 
 pub returns-clause-done : goal.returns-clause-done
 returns-clause-done g c =
-    works_asked c.do_words.result (g.R.ProgramWords.has c.args.rt.now) g.R.Reader.Read.remaining (g.R.InputFiles.finds c.args.rt.now) (g.R.Connects.tells c.args.rt.now) _ _ _ c.in_ok-words.words.items c.as_slice-2.result.now
-    c.as_slice-2.ensures.value c.in_ok-words.ensures.given c.do_words.ensures.done c.do_words.ensures.beside
+    works_asked c.do_job.result (g.R.ProgramWords.has c.args.rt.now) _ c.in-Ok.job g.R.Reader.Read.remaining (g.R.InputFiles.finds c.args.rt.now) (g.R.Connects.tells c.args.rt.now)
+    (λ job. WritesBeside (g.R.InputFiles.finds c.args.rt.now) (g.R.FullNames.is_full c.args.rt.now) (g.R.Screen.details c.args.rt.now) job (g.W.Write.contents c.args.output.now) (g.W.Write.contents c.do_job.new.output) (g.E.Write.contents c.args.error.now) (g.E.Write.contents c.do_job.new.error))
+    _ _ c.in-Ok.ensures.asked c.do_job.ensures.status c.do_job.ensures.done c.do_job.ensures.beside
+
+pub returns-clause-refused : goal.returns-clause-refused
+returns-clause-refused g c =
+    fails_asked c.do_job.result (g.R.ProgramWords.has c.args.rt.now) _ c.in-Ok.job (FailsBegin (g.R.JournalFiles.makes c.args.rt.now) (g.R.JournalFiles.refuses c.args.rt.now) (g.R.JournalFiles.holds c.args.rt.now)) (g.R.JournalFiles.holds c.args.rt.now)
+    g.R.Reader.Read.remaining (g.R.InputFiles.finds c.args.rt.now) (g.R.Connects.tells c.args.rt.now) _ _ c.in-Ok.ensures.asked c.do_job.ensures.refused
+
+pub returns-clause-front : goal.returns-clause-front
+returns-clause-front g c =
+    front_asked c.do_job.result (g.R.ProgramWords.has c.args.rt.now) _ c.in-Ok.job
+    (λ job. WritesBesideFront (g.R.InputFiles.finds c.args.rt.now) (g.R.FullNames.is_full c.args.rt.now) (g.R.Screen.details c.args.rt.now) job (g.E.Write.contents c.args.error.now) (g.E.Write.contents c.do_job.new.error))
+    c.in-Ok.ensures.asked c.do_job.ensures.front
+
+pub returns-clause-verbose : goal.returns-clause-verbose
+returns-clause-verbose g c = details_asked c.do_job.result (g.R.ProgramWords.has c.args.rt.now) _ c.in-Ok.job c.in-Ok.ensures.asked
+
+pub returns-in-Err-clause-refused : goal.returns-in-Err-clause-refused
+returns-in-Err-clause-refused g c = inl c.in-Err.ensures.refused
+
+pub returns-in-Err-clause-front : goal.returns-in-Err-clause-front
+returns-in-Err-clause-front g c = lacks_no_output (g.R.ProgramWords.has c.args.rt.now) c.in-Err.fault c.in-Err.ensures.refused

@@ -1,4 +1,4 @@
-//! What is told of the files that were read.
+//! The lines of the files that were read.
 
 ghost use Rattle.std.specs.Fmt.{WritesOnOk};
 ghost use Rattle.std.specs.Prelude.{option_map};
@@ -7,7 +7,7 @@ ghost use Rattle.sms_send.specs.FilesRead.{file_line, tariff_line};
 use crate::faults::details::shown::write_shown;
 use std::fmt;
 
-/// The files that were read, by their names. They are told a line each, in this order.
+/// The files that were read, by their names. Each has a line, in this order.
 #[derive(Clone, Copy, Debug)]
 pub struct FilesRead<'a> {
     pub config: &'a str,

@@ -2,7 +2,7 @@ use Rattle.std.proofs.Common.{ap, sym, subst, inl, inr, List, Option, [], map, �
 use Rattle.std.specs.Prelude.{string_bytes}
 use Rattle.std.proofs.lemmas.Result.{IfErr-weaker, IfOk-weaker}
 use Rattle.clap.specs.Words.{App, HasKind, Row, Text, app_of, fault_of, is_simple, is_simple_and_free, subcommand_of, subcommand_rows_of}
-use Rattle.sms_send.specs.CommandLine.{IsJob, TellsMet, command_line, refusals_of, subcommand_in}
+use Rattle.sms_send.specs.CommandLine.{IsJob, RefusesMatch, command_line, refusals_of, subcommand_in}
 use Rattle.sms_send.proofs.Lines.{line-free, line-simple}
 use Rattle.sms_send.proofs.args.job.job_of.Goals as goal
 
@@ -27,7 +27,7 @@ returns-in-Ok-clause-refused c =
     sym (ap (λ (a : App). fault_of a (map string_bytes c.args.words.now)) line) ∙ c.in-Ok.ensures.kinds (ap is_simple_and_free line ∙ line-free) in
     let met : subcommand_rows_of c.in-Ok.matches ≡ subcommand_in (map string_bytes c.args.words.now) =
     (c.in-Ok.ensures.matches (ap is_simple line ∙ line-simple)).1 ∙ ap (λ (a : App). subcommand_of a (map string_bytes c.args.words.now)) line in
-    IfErr-weaker c.job_in.result _ _ (λ fault h. inr (taken, subst (λ (o : Option (Text × List Row)). TellsMet o fault) met h)) c.job_in.ensures.refused
+    IfErr-weaker c.job_in.result _ _ (λ fault h. inr (taken, subst (λ (o : Option (Text × List Row)). RefusesMatch o fault) met h)) c.job_in.ensures.refused
 
 pub returns-in-Err-clause-refused : goal.returns-in-Err-clause-refused
 returns-in-Err-clause-refused c =

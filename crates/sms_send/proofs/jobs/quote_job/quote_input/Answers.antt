@@ -20,10 +20,10 @@ returns-in-Ok-clause-refused g c =
     (λ fault failed. inr (failed, printed_front c.args.input.now (string_bytes c.in-Ok.quote) c.as_bytes.result.now _ _ c.in-Ok.ensures.quote c.as_bytes.ensures.value c.write_both.ensures.front))
     c.write_both.ensures.failed
 
-pub returns-in-Ok-clause-told : goal.returns-in-Ok-clause-told
-returns-in-Ok-clause-told g c =
+pub returns-in-Ok-clause-front : goal.returns-in-Ok-clause-front
+returns-in-Ok-clause-front g c =
     IfErr-weaker c.write_both.result _ _
-    (λ fault failed out. subst (WritesFront (g.E.Write.contents c.args.error.now) (g.E.Write.contents c.write_both.new.error)) (c.as_bytes-in-Ok.ensures.value ∙ c.in-Ok.ensures.warnings) c.write_both.ensures.told)
+    (λ fault failed out. subst (WritesFront (g.E.Write.contents c.args.error.now) (g.E.Write.contents c.write_both.new.error)) (c.as_bytes-in-Ok.ensures.value ∙ c.in-Ok.ensures.warnings) c.write_both.ensures.error_front)
     c.write_both.ensures.failed
 
 pub returns-in-Ok-clause-unwritten : goal.returns-in-Ok-clause-unwritten

@@ -18,12 +18,12 @@ returns-clause-beside g c =
     c.has_details.ensures c.is_at_length-at_length.ensures)
     c.quote_config.ensures.quoted
 
-pub returns-clause-told : goal.returns-clause-told
-returns-clause-told g c =
+pub returns-clause-front : goal.returns-clause-front
+returns-clause-front g c =
     IfErr-weaker c.quote_config.result _ _
     (λ fault front failed. front_asked (g.R.InputFiles.finds c.args.rt.now) (g.R.FullNames.is_full c.args.rt.now) (g.R.Screen.details c.args.rt.now) c.args.config c.args.verbose c.has_details.result c.is_at_length-at_length.result _ _
     c.has_details.ensures c.is_at_length-at_length.ensures (front failed))
-    c.quote_config.ensures.told
+    c.quote_config.ensures.front
 
 pub returns-clause-refused : goal.returns-clause-refused
 returns-clause-refused g c = c.quote_config.ensures.refused

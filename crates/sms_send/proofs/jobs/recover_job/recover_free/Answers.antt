@@ -1,4 +1,4 @@
-use Rattle.std.proofs.Common.{inr}
+use Rattle.std.proofs.Common.{inl, inr}
 use Rattle.std.proofs.lemmas.Result.{IfErr-weaker, IfOk-weaker}
 use Rattle.sms_send.proofs.Recovering.{on_ok}
 use Rattle.sms_send.proofs.jobs.recover_job.recover_free.Goals as goal
@@ -12,3 +12,6 @@ returns-in-Ok-read_run-clause-beside g c =
 
 pub returns-in-Ok-read_run-clause-refused : goal.returns-in-Ok-read_run-clause-refused
 returns-in-Ok-read_run-clause-refused g c = IfErr-weaker c.recover_run.result _ _ (λ fault tells. inr (c.in-Ok-read_run.run', c.in-Ok-read_run.ensures.read, tells)) c.recover_run.ensures.refused
+
+pub returns-clause-refused : goal.returns-clause-refused
+returns-clause-refused g c = inl c.in-Err-read_run.ensures.refused

@@ -5,14 +5,11 @@ use Rattle.sms_send.proofs.Starts.{read_at, unwritten_at}
 use Rattle.sms_send.proofs.jobs.send_job.run_sender.Goals as goal
 
 pub returns-clause-sent : goal.returns-clause-sent
-returns-clause-sent g c = record {
-  input = c.in_ok-input.input;
-  read = c.in_ok-input.ensures.read;
-  ended = c.in_ok-ended.ended;
-  sent = c.in_ok-ended.ensures.sent;
-  written = c.in_ok-write_report.ensures.written;
-  status_is = c.exit_status.ensures;
-}
+returns-clause-sent g c = (
+  c.in_ok-input.input,
+  c.in_ok-input.ensures.read,
+  record { ended = c.in_ok-ended.ended; sent = c.in_ok-ended.ensures.sent; written = c.in_ok-write_report.ensures.written; status_is = c.exit_status.ensures },
+)
 
 pub returns-in_err-input-clause-refused : goal.returns-in_err-input-clause-refused
 returns-in_err-input-clause-refused g c = told_so c.from_residual.result _ _ c.from_residual.ensures.1 (inl c.in_err-input.ensures.refused)
@@ -40,11 +37,11 @@ returns-in_err-ended-clause-unwritten g c = told_so c.from_residual-in_err-ended
 pub returns-clause-started : goal.returns-clause-started
 returns-clause-started g c = c.in_ok-ended.ensures.started
 
-pub returns-in_err-input-clause-told : goal.returns-in_err-input-clause-told
-returns-in_err-input-clause-told g c = told_so c.from_residual.result _ _ c.from_residual.ensures.1 (read_at _ _ _ c.requires.not_started c.in_err-input.ensures.refused)
+pub returns-in_err-input-clause-phase : goal.returns-in_err-input-clause-phase
+returns-in_err-input-clause-phase g c = told_so c.from_residual.result _ _ c.from_residual.ensures.1 (read_at _ _ _ c.requires.not_started c.in_err-input.ensures.refused)
 
-pub returns-in_err-ended-clause-told : goal.returns-in_err-ended-clause-told
-returns-in_err-ended-clause-told g c = told_so c.from_residual-in_err-ended.result _ _ c.from_residual-in_err-ended.ensures.1 c.in_err-ended.ensures.told
+pub returns-in_err-ended-clause-phase : goal.returns-in_err-ended-clause-phase
+returns-in_err-ended-clause-phase g c = told_so c.from_residual-in_err-ended.result _ _ c.from_residual-in_err-ended.ensures.1 c.in_err-ended.ensures.phase
 
-pub returns-in_err-write_report-clause-told : goal.returns-in_err-write_report-clause-told
-returns-in_err-write_report-clause-told g c = told_so c.from_residual-in_err-write_report.result _ _ c.from_residual-in_err-write_report.ensures.1 (unwritten_at _ _ c.in_ok-ended.ensures.started c.in_err-write_report.ensures.failed)
+pub returns-in_err-write_report-clause-phase : goal.returns-in_err-write_report-clause-phase
+returns-in_err-write_report-clause-phase g c = told_so c.from_residual-in_err-write_report.result _ _ c.from_residual-in_err-write_report.ensures.1 (unwritten_at _ _ c.in_ok-ended.ensures.started c.in_err-write_report.ensures.failed)

@@ -25,8 +25,8 @@ returns-in-Err-clause-ended g c = record {
   status = tt;
   started = tt;
   refused = inl (c.in-Err.ensures.refused.0, c.in-Err.ensures.refused.1, c.in-Err.ensures.refused.3);
-  phase = c.in-Err.ensures.told;
-  unwritten = λ other. refl;
+  phase = c.in-Err.ensures.phase;
+  unwritten = λ other kept. refl;
 }
 
 pub returns-in-Err-written-clause-ended : goal.returns-in-Err-written-clause-ended
@@ -36,5 +36,5 @@ returns-in-Err-written-clause-ended g c = record {
   started = tt;
   refused = unwritten_told (g.D.Dial.refuses c.args.dial.now) _ _ c.in-Ok.ended _ _ _ c.in-Ok.ensures.sent c.in-Err-written.ensures.failed c.in-Err-written.ensures.front (λ memory. ap g.W.Write.contents (c.in-Err-written.ensures.quiet memory));
   phase = unwritten_at _ _ c.in-Ok.ensures.started c.in-Err-written.ensures.failed;
-  unwritten = unwritten_quiet _ _ _ c.in-Err-written.ensures.failed c.in-Err-written.ensures.quiet;
+  unwritten = λ other kept. unwritten_quiet _ _ _ c.in-Err-written.ensures.failed c.in-Err-written.ensures.quiet other;
 }
