@@ -1,13 +1,12 @@
 //! How a bind ends when the journal has failed.
 
-use super::loopback::{connected, expect_nothing, expect_octets, put};
+use super::loopback::{connected, expect_nothing, expect_octets};
 use super::paper::{ManualClock, Nowhere, PaperFile, Sheet, limits, no_progress};
 use super::same::same;
-use sms_devices::{Connects, Journal, Outboxes, SendGate};
+use sms_devices::{Journal, Outboxes, SendGate};
 use sms_journal::Note;
 use sms_pdu::{MessageId, Reply};
 use sms_worker::Gate;
-use std::alloc::AllocGlobal;
 use std::fs::OpenFile;
 use std::io::Write;
 use std::process::Abort;
@@ -39,36 +38,6 @@ fn fail<R: Wait + Clock + Abort, F: Write + OpenFile>(rt: &R, journal: &Journal<
     assert!(rt; journal.has_failed());
 }
 
-// The journal of two connections fails: one has two requests that went out, the other none.
-fn end_both<R: Connects + AllocGlobal + Clock + Sync + Abort, F: Write + OpenFile + Send + Drop>(
-    rt: &R,
-    journal: &Journal<F>,
-) {
-    let outboxes = Outboxes::new(rt, Some(journal), 1);
-    let (mut first, mut one, mut far) = connected(rt, &outboxes, 0, None);
-    let (mut second, mut two, _far) = connected(rt, &outboxes, 1, None);
-    let clock = ManualClock::new(0);
-    let progress = no_progress(&Nowhere, &clock);
-    let wanted = limits(None, None);
-    let gate = SendGate::new(rt.alloc(), &outboxes, &clock, &progress, wanted);
-    put(rt, &mut one, &REQUEST);
-    put(rt, &mut one, &REQUEST);
-    put(rt, &mut one, &ENQUIRE);
-    outboxes.flush();
-    expect_octets(rt, &mut far, 48);
-    put(rt, &mut one, &REQUEST);
-    put(rt, &mut two, &REQUEST);
-    put(rt, &mut two, &ENQUIRE);
-    fail(rt, journal);
-    expect_octets(rt, &mut second, 0);
-    for _answer in 0..2 {
-        expect_nothing(rt, &mut first);
-        answer(&gate, 0);
-    }
-    expect_octets(rt, &mut first, 0);
-    expect_octets(rt, &mut far, 0);
-}
-
 /// Once the journal has failed nothing goes out. A connection is given up as soon as all requests that went out
 /// are answered. If there are none it is given up at once, whatever waits.
 #[test]
@@ -76,30 +45,29 @@ fn waits_for_the_answers_that_can_come(rt: HostRuntime) {
     let sheet = Sheet::blank(rt.alloc());
     let file = PaperFile::new(&rt, &sheet, 30, true);
     let journal = Journal::new(rt.alloc(), file, false);
-    end_both(&rt, &journal);
-}
-
-// The journal of a connection fails, behind one request more than its buffer holds.
-fn end_full<R: Connects + AllocGlobal + Clock + Sync + Abort, F: Write + OpenFile + Send + Drop>(
-    rt: &R,
-    journal: &Journal<F>,
-) {
-    let outboxes = Outboxes::new(rt, Some(journal), 1);
-    let (mut reader, mut writer, _far) = connected(rt, &outboxes, 0, None);
+    let outboxes = Outboxes::new(&rt, Some(&journal), 1);
+    let (mut first, mut one, mut far) = connected(&rt, &outboxes, 0, None);
+    let (mut second, mut two, _far) = connected(&rt, &outboxes, 1, None);
     let clock = ManualClock::new(0);
     let progress = no_progress(&Nowhere, &clock);
     let wanted = limits(None, None);
     let gate = SendGate::new(rt.alloc(), &outboxes, &clock, &progress, wanted);
-    for _request in 0..513 {
-        put(rt, &mut writer, &REQUEST);
-    }
-    fail(rt, journal);
-    for _answer in 0..511 {
+    assert!(rt; one.write_all(&REQUEST).is_ok());
+    assert!(rt; one.write_all(&REQUEST).is_ok());
+    assert!(rt; one.write_all(&ENQUIRE).is_ok());
+    outboxes.flush();
+    expect_octets(&rt, &mut far, 48);
+    assert!(rt; one.write_all(&REQUEST).is_ok());
+    assert!(rt; two.write_all(&REQUEST).is_ok());
+    assert!(rt; two.write_all(&ENQUIRE).is_ok());
+    fail(&rt, &journal);
+    expect_octets(&rt, &mut second, 0);
+    for _answer in 0..2 {
+        expect_nothing(&rt, &mut first);
         answer(&gate, 0);
     }
-    expect_nothing(rt, &mut reader);
-    answer(&gate, 0);
-    expect_octets(rt, &mut reader, 0);
+    expect_octets(&rt, &mut first, 0);
+    expect_octets(&rt, &mut far, 0);
 }
 
 /// The answers to the requests that went out to make room for another are waited for, and the answer to that
@@ -109,5 +77,20 @@ fn waits_for_what_made_room(rt: HostRuntime) {
     let sheet = Sheet::blank(rt.alloc());
     let file = PaperFile::new(&rt, &sheet, 30, true);
     let journal = Journal::new(rt.alloc(), file, false);
-    end_full(&rt, &journal);
+    let outboxes = Outboxes::new(&rt, Some(&journal), 1);
+    let (mut reader, mut writer, _far) = connected(&rt, &outboxes, 0, None);
+    let clock = ManualClock::new(0);
+    let progress = no_progress(&Nowhere, &clock);
+    let wanted = limits(None, None);
+    let gate = SendGate::new(rt.alloc(), &outboxes, &clock, &progress, wanted);
+    for _request in 0..513 {
+        assert!(rt; writer.write_all(&REQUEST).is_ok());
+    }
+    fail(&rt, &journal);
+    for _answer in 0..511 {
+        answer(&gate, 0);
+    }
+    expect_nothing(&rt, &mut reader);
+    answer(&gate, 0);
+    expect_octets(&rt, &mut reader, 0);
 }
