@@ -109,9 +109,16 @@ class Centre:
                 continue
             more = stream.recv(65536)
             if not more:
+                self.answer_rest(stream, due)
                 return
             kept, answers = self.answers(kept + more, connection)
             due.append((time.monotonic() + self.latency, answers))
+
+    def answer_rest(self, stream, due):
+        """Sends the answers that are owed to a sender that writes no more: it still reads, and waits for them."""
+        for moment, answers in due:
+            time.sleep(max(0.0, moment - time.monotonic()))
+            stream.sendall(b"".join(answers))
 
     def answers(self, octets, connection):
         """The answers to the whole frames (SMPP 3.4 3.2), and the octets of the one that isn't whole."""
