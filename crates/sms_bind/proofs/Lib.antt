@@ -1,4 +1,9 @@
 pub mod Binds
+pub mod Weights
+pub mod LogMoves
+pub mod LogStates
+pub mod LogWrites
+pub mod Responses
 pub mod Tables
 pub mod Logs
 pub mod Handling

@@ -63,16 +63,16 @@ breaks d = of_response (λ response written. is_broken written) d
 pub reached : (s t : State) (d : FrameOutcome) → (t ≡ s) ⊎ (t ≡ StateClosed) → Reaches (cause_after d t) s t
 reached s t (Answer reply delivery) h = (ends_by s t h (Answer reply delivery) refl).0
 reached s t (Replied response (Sent octets)) h = (ends_by s t h (Replied response (Sent octets)) refl).0
-reached s t (Replied response NoMemory) h = (ends_by s t h (Replied response NoMemory) refl).0
-reached s t (Replied response Broken) h = tt
+reached s t (Replied response (NoMemory lack)) h = (ends_by s t h (Replied response (NoMemory lack)) refl).0
+reached s t (Replied response (Broken lack)) h = tt
 reached s t Noted h = (ends_by s t h Noted refl).0
 reached s t Closed h = (ends_by s t h Closed refl).0
 
 pub broke : (s t : State) (d : FrameOutcome) → (t ≡ s) ⊎ (t ≡ StateClosed) → counted (of_response (λ response written. is_broken written)) (d ∷ []) ≡ broken_at (cause_after d t)
 broke s t (Answer reply delivery) h = sym (ends_by s t h (Answer reply delivery) refl).1
 broke s t (Replied response (Sent octets)) h = sym (ends_by s t h (Replied response (Sent octets)) refl).1
-broke s t (Replied response NoMemory) h = sym (ends_by s t h (Replied response NoMemory) refl).1
-broke s t (Replied response Broken) h = refl
+broke s t (Replied response (NoMemory lack)) h = sym (ends_by s t h (Replied response (NoMemory lack)) refl).1
+broke s t (Replied response (Broken lack)) h = refl
 broke s t Noted h = sym (ends_by s t h Noted refl).1
 broke s t Closed h = sym (ends_by s t h Closed refl).1
 
@@ -87,8 +87,8 @@ up_by StateClosed e = absurd cc
 pub bound_after : (d : FrameOutcome) (t : State) → cause_after d t ≡ None → IsBound t
 bound_after (Answer reply delivery) t e = up_by t e
 bound_after (Replied response (Sent octets)) t e = up_by t e
-bound_after (Replied response NoMemory) t e = up_by t e
-bound_after (Replied response Broken) t e = absurd cc
+bound_after (Replied response (NoMemory lack)) t e = up_by t e
+bound_after (Replied response (Broken lack)) t e = absurd cc
 bound_after Noted t e = up_by t e
 bound_after Closed t e = up_by t e
 
@@ -101,8 +101,8 @@ none_by StateClosed up = absurd (up refl)
 ends_nothing : (d : FrameOutcome) (t : State) → IsBound t → one_if (breaks d) ≡ 0 → cause_after d t ≡ None
 ends_nothing (Answer reply delivery) t up e = none_by t up
 ends_nothing (Replied response (Sent octets)) t up e = none_by t up
-ends_nothing (Replied response NoMemory) t up e = none_by t up
-ends_nothing (Replied response Broken) t up e = absurd (omega (arith, e))
+ends_nothing (Replied response (NoMemory lack)) t up e = none_by t up
+ends_nothing (Replied response (Broken lack)) t up e = absurd (omega (arith, e))
 ends_nothing Noted t up e = none_by t up
 ends_nothing Closed t up e = none_by t up
 
@@ -167,8 +167,8 @@ one_added c (Answer reply (Found slot worker)) = record { answered = omega arith
 one_added c (Answer reply (Overrun slot worker)) = record { answered = omega arith; unknown = omega arith; overrun = omega arith; all = omega arith; delivered = omega arith; noted = omega arith; nacked = omega arith; unreplied = omega arith }
 one_added c (Answer reply Unknown) = record { answered = omega arith; unknown = omega arith; overrun = omega arith; all = omega arith; delivered = omega arith; noted = omega arith; nacked = omega arith; unreplied = omega arith }
 one_added c (Replied response (Sent octets)) = record { answered = omega arith; unknown = omega arith; overrun = omega arith; all = omega arith; delivered = omega arith; noted = omega arith; nacked = omega arith; unreplied = omega arith }
-one_added c (Replied response NoMemory) = record { answered = omega arith; unknown = omega arith; overrun = omega arith; all = omega arith; delivered = omega arith; noted = omega arith; nacked = omega arith; unreplied = omega arith }
-one_added c (Replied response Broken) = record { answered = omega arith; unknown = omega arith; overrun = omega arith; all = omega arith; delivered = omega arith; noted = omega arith; nacked = omega arith; unreplied = omega arith }
+one_added c (Replied response (NoMemory lack)) = record { answered = omega arith; unknown = omega arith; overrun = omega arith; all = omega arith; delivered = omega arith; noted = omega arith; nacked = omega arith; unreplied = omega arith }
+one_added c (Replied response (Broken lack)) = record { answered = omega arith; unknown = omega arith; overrun = omega arith; all = omega arith; delivered = omega arith; noted = omega arith; nacked = omega arith; unreplied = omega arith }
 one_added c Noted = record { answered = omega arith; unknown = omega arith; overrun = omega arith; all = omega arith; delivered = omega arith; noted = omega arith; nacked = omega arith; unreplied = omega arith }
 one_added c Closed = record { answered = omega arith; unknown = omega arith; overrun = omega arith; all = omega arith; delivered = omega arith; noted = omega arith; nacked = omega arith; unreplied = omega arith }
 

@@ -46,11 +46,11 @@ pdu_for r = record { status = r.status; number = r.number; body = body_for r.com
 abbrev pub bad_length_response : Response
 bad_length_response = record { command = id_of command.GenericNack; status = bad_command_length; number = 0 }
 
--- the octets that were given to the wire encode the response
+-- the octets that were given to the wire encode the response; a reason why it wasn't written is of its number
 abbrev pub IsWritten : Response → Written → Type 0
 IsWritten response (Sent octets) = Spells (pdu_for response) octets
-IsWritten response NoMemory = Unit {0}
-IsWritten response Broken = Unit {0}
+IsWritten response (NoMemory lack) = lack.number ≡ response.number
+IsWritten response (Broken lack) = lack.number ≡ response.number
 
 -- ---- the outcome of one frame
 
@@ -123,8 +123,8 @@ cause_by StateClosed = Some cause.Unbound
 abbrev pub cause_after : FrameOutcome → State → Option ReaderCause
 cause_after (Answer reply delivery) state = cause_by state
 cause_after (Replied response (Sent octets)) state = cause_by state
-cause_after (Replied response NoMemory) state = cause_by state
-cause_after (Replied response Broken) state = Some cause.WriteFault
+cause_after (Replied response (NoMemory lack)) state = cause_by state
+cause_after (Replied response (Broken lack)) state = Some cause.WriteFault
 cause_after Noted state = cause_by state
 cause_after Closed state = cause_by state
 
@@ -204,18 +204,18 @@ delivers response = response.command == id_of command.DeliverSmResp
 
 abbrev pub nacks : Response → Written → Bool
 nacks response (Sent octets) = response.command == id_of command.GenericNack
-nacks response NoMemory = false
-nacks response Broken = false
+nacks response (NoMemory lack) = false
+nacks response (Broken lack) = false
 
 abbrev pub is_silent : Written → Bool
 is_silent (Sent octets) = false
-is_silent NoMemory = true
-is_silent Broken = false
+is_silent (NoMemory lack) = true
+is_silent (Broken lack) = false
 
 abbrev pub is_broken : Written → Bool
 is_broken (Sent octets) = false
-is_broken NoMemory = false
-is_broken Broken = true
+is_broken (NoMemory lack) = false
+is_broken (Broken lack) = true
 
 -- p is true of an answer's delivery; of a response and whether it was written
 abbrev pub of_answer : (Delivery → Bool) → FrameOutcome → Bool

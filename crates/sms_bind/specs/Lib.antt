@@ -1,6 +1,9 @@
 pub mod Binds
 pub mod Answers
 pub mod Wires
+pub mod Frames
+pub mod LogRule
+pub mod Logs
 pub mod Downs
 pub mod Held
 pub mod Follows

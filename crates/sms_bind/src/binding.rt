@@ -78,6 +78,8 @@ pub fn bind<R: Read, W: Write>(
     ensures read_fault { result ≡ Err ReadFault → IsCounted (faults_of reader.old) (faults_of reader.new) }
     ensures failed { result ≡ Err ReadFault → Fails reader.old reader.new }
     ensures no_failure { result ≢ Err ReadFault → Passes reader.old reader.new }
+    // A wire on which a session is bound is sound.
+    ensures sound { OnOk result (is_broken wire.new ≡ false) }
     ensures write_fault { result ≡ Err WriteFault → (is_broken wire.old ≡ true) ⊎ IsCounted (write_faults wire.old) (write_faults wire.new) }
 {
     if let Err(fault) = write_bind(alloc, wire, settings, number) {
@@ -96,6 +98,7 @@ fn write_bind<W: Write>(
     ensures prefix { (octets : List ℕ) → Spells (bind_pdu settings.now number) octets → SomeAppended (W.contents (writer wire.old)) (W.contents (writer wire.new)) octets }
     ensures sent { (octets : List ℕ) → Spells (bind_pdu settings.now number) octets → OnOk result (Appends (W.contents (writer wire.old)) (W.contents (writer wire.new)) octets) }
     ensures written { OnOk result ((octets : List ℕ) × Spells (bind_pdu settings.now number) octets × Appends (W.contents (writer wire.old)) (W.contents (writer wire.new)) octets) }
+    ensures sound { OnOk result (is_broken wire.new ≡ false) }
     ensures fault { result ≡ Err WriteFault → (is_broken wire.old ≡ true) ⊎ IsCounted (write_faults wire.old) (write_faults wire.new) }
     ensures possible_faults { IfErr result (λ e. (sent_at e ≡ false) × (e ≢ ReadFault) × (e ≢ Closed)) }
 {

@@ -81,8 +81,8 @@ impl Counts {
                     self.nacked += 1;
                 }
             }
-            Written::NoMemory => self.unreplied += 1,
-            Written::Broken => {}
+            Written::NoMemory(_no) => self.unreplied += 1,
+            Written::Broken(_no) => {}
         }
     }
 }

@@ -3,28 +3,30 @@
 ghost use Rattle.std.specs.Prelude.{◌≡◌};
 
 use crate::down::{DownMark, ReaderLeave};
-use crate::wire::Wire;
+use crate::log::LogName;
+use crate::logged::LoggedWire;
 use sms_slot::SlotRow;
+use std::io::Write;
 use std::sync::Mutex;
 use std::sync::atomic::AtomicBool;
 
 /// What the reader and the workers of a bind share. The wire behind its lock and the value of `stop` are
 /// whatever was left there last, so no clause describes them; a `Down` is evidence that the line is down.
 #[derive(Drop)]
-pub struct Line<W> {
+pub struct Line<N: LogName, W: Write> {
     /// The requests that wait for their answers.
     pub slots: SlotRow,
     /// The wire. One frame is written each time its lock is held.
-    pub wire: Mutex<Wire<W>>,
+    pub wire: Mutex<LoggedWire<N, W>>,
     /// Whether the line is down (no more answers will come), and why.
     pub down: DownMark,
     /// Set to make the reader end before its next turn.
     pub stop: AtomicBool,
 }
 
-impl<W> Line<W> {
+impl<N: LogName, W: Write> Line<N, W> {
     /// A line that is neither down nor stopped, and its reader's permission to mark it down.
-    pub fn new(slots: SlotRow, wire: Wire<W>) -> (Line<W>, ReaderLeave)
+    pub fn new(slots: SlotRow, wire: LoggedWire<N, W>) -> (Line<N, W>, ReaderLeave)
         ensures slots { result.0.slots ≡ slots }
     {
         let (down, leave) = DownMark::new();

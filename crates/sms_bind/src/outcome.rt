@@ -6,6 +6,7 @@ ghost use Rattle.sms_bind.specs.declared.ending.ReaderCause.TheVariants.{OutOfMe
 
 use crate::ending::ReaderCause;
 use crate::wire::Receipt;
+use crate::writing::{NoMemory, WireBroken};
 use sms_pdu::Reply;
 use sms_session::{Response, State};
 use sms_slot::Delivery;
@@ -16,9 +17,9 @@ pub(crate) enum Written {
     /// The wire took it whole.
     Sent(Receipt),
     /// Out of memory: it could not be encoded.
-    NoMemory,
+    NoMemory(NoMemory),
     /// The wire was broken, or broke while it was written.
-    Broken,
+    Broken(WireBroken),
 }
 
 /// The outcome of one frame.
@@ -47,7 +48,7 @@ pub(crate) fn cause_of(outcome: &FrameOutcome, state: State) -> Option<ReaderCau
 {
     if let FrameOutcome::Replied {
         response: _,
-        written: Written::Broken,
+        written: Written::Broken(_),
     } = *outcome
     {
         return Some(ReaderCause::WriteFault);

@@ -17,6 +17,7 @@ use crate::down::{Down, DownBefore, ReaderLeave};
 use crate::ending::{ReaderCause, ReaderEnd};
 use crate::follower::Follower;
 use crate::line::Line;
+use crate::log::LogName;
 use crate::reader_state::ReaderState;
 use rtrb::Producer;
 use sms_pdu::{Reply, Tap};
@@ -30,13 +31,13 @@ use std::sync::Wait;
 /// 65,536 octets. When it returns the line is down: Ok where this call marked it down, Err where it was
 /// down before. Where `follow` is the window's limit, fewer requests are let through while the message
 /// centre throttles.
-pub fn read_loop<'l, R: Read, W: Write, S: Wait>(
+pub fn read_loop<'l, N: LogName, R: Read, W: Write, S: Wait>(
     rt: &S,
     alloc: Global,
     reader: &mut Tap<R>,
     bound: Bound,
     producers: Vec<Producer<Reply>>,
-    line: &'l Line<W>,
+    line: &'l Line<N, W>,
     window: &Window,
     seat: WindowSeat,
     leave: ReaderLeave,
@@ -67,8 +68,8 @@ pub fn read_loop<'l, R: Read, W: Write, S: Wait>(
 }
 
 /// Reads as `read_loop` does, which marks the line down at its end.
-fn read_all<R: Read, W: Write, S: Wait>(
-    context: &ReaderContext<W, S>,
+fn read_all<N: LogName, R: Read, W: Write, S: Wait>(
+    context: &ReaderContext<N, W, S>,
     reader: &mut Tap<R>,
     bound: Bound,
     producers: Vec<Producer<Reply>>,

@@ -18,6 +18,7 @@ use crate::context::ReaderContext;
 use crate::counts::Counts;
 use crate::ending::ReaderCause;
 use crate::follower::Follower;
+use crate::log::LogName;
 use crate::outcome::{FrameOutcome, cause_of};
 use crate::replying::reply;
 use rtrb::Producer;
@@ -38,9 +39,9 @@ pub(crate) struct ReaderState {
 
 impl ReaderState {
     /// Handles a frame and counts it. Returns why the reader ends, if it does.
-    pub fn handle<W: Write, S: Wait>(
+    pub fn handle<N: LogName, W: Write, S: Wait>(
         &mut self,
-        context: &ReaderContext<W, S>,
+        context: &ReaderContext<N, W, S>,
         frame: &[u8],
     ) -> Option<ReaderCause>
         requires bound { IsBound self.old.session }
@@ -62,9 +63,9 @@ impl ReaderState {
     }
 
     /// Does what the session's table asks for with this frame.
-    fn dispatch<W: Write, S: Wait>(
+    fn dispatch<N: LogName, W: Write, S: Wait>(
         &mut self,
-        context: &ReaderContext<W, S>,
+        context: &ReaderContext<N, W, S>,
         frame: &[u8],
     ) -> FrameOutcome
         requires bound { IsBound self.old.session }
@@ -98,7 +99,11 @@ impl ReaderState {
     }
 
     /// Delivers an answer to the slot that waits for it. Only an answer that a ring took counts for throttling.
-    fn apply_reply<W, S: Wait>(&mut self, context: &ReaderContext<W, S>, reply: &Reply) -> Delivery
+    fn apply_reply<N: LogName, W: Write, S: Wait>(
+        &mut self,
+        context: &ReaderContext<N, W, S>,
+        reply: &Reply,
+    ) -> Delivery
         requires same_window { self.old.follower.now.window ≡ context.now.window.now }
         ensures follows { Follows self.old.follower self.new.follower }
         ensures follow { Follow (Answer reply.now result) self.old.follower self.new.follower }
@@ -119,7 +124,10 @@ impl ReaderState {
 }
 
 /// Writes a response to a request.
-fn respond<W: Write, S: Wait>(context: &ReaderContext<W, S>, response: Response) -> FrameOutcome
+fn respond<N: LogName, W: Write, S: Wait>(
+    context: &ReaderContext<N, W, S>,
+    response: Response,
+) -> FrameOutcome
     ensures { Responded response result }
 {
     FrameOutcome::Replied {

@@ -1,42 +1,40 @@
 //! Responses on the wire.
 
-ghost use Rattle.std.specs.Prelude.{◌≡◌, ◌⊎◌, ℕ, List, true, IfOk};
-ghost use Rattle.std.specs.Io.KnownBytes.{Appends};
+ghost use Rattle.std.specs.Prelude.{◌≡◌};
 ghost use Rattle.sms_pdu.specs.Borrowed.{owned_body, owned_pdu};
-ghost use Rattle.sms_pdu.specs.Grammar.{Spells};
-ghost use Rattle.sms_bind.specs.Wires.{writer, is_broken};
 ghost use Rattle.sms_bind.specs.Deeds.{bad_length_response, body_for, pdu_for, IsWritten};
-ghost use Rattle.sms_bind.specs.declared.outcome.Written.TheVariants.{Sent, Broken};
 
 use crate::context::ReaderContext;
+use crate::log::LogName;
 use crate::outcome::Written;
-use crate::wire::Wire;
+use crate::writing::{frame_of, write_frame};
 use sms_core::ESME_RINVCMDLEN;
-use sms_pdu::{
-    BodyRef, DELIVER_SM_RESP, ENQUIRE_LINK_RESP, Frame, GENERIC_NACK, PduError, PduRef, UNBIND_RESP,
-};
+use sms_pdu::{BodyRef, DELIVER_SM_RESP, ENQUIRE_LINK_RESP, GENERIC_NACK, PduRef, UNBIND_RESP};
 use sms_session::Response;
-use std::alloc::Global;
 use std::io::Write;
 use std::sync::Wait;
 
 /// Writes a response, holding the wire's lock once.
-pub(crate) fn reply<W: Write, S: Wait>(
-    context: &ReaderContext<W, S>,
+pub(crate) fn reply<N: LogName, W: Write, S: Wait>(
+    context: &ReaderContext<N, W, S>,
     response: &Response,
 ) -> Written
     ensures { IsWritten response.now result }
 {
-    let Ok(frame) = frame_of(context.alloc, response) else {
-        return Written::NoMemory;
+    let frame = match frame_of(context.alloc, &pdu_of(response)) {
+        Ok(frame) => frame,
+        Err(no) => return Written::NoMemory(no),
     };
     let mut wire = context.line.wire.lock(context.rt);
-    write_frame(&mut wire, frame)
+    match write_frame(&mut wire, response.number, frame) {
+        Ok(receipt) => Written::Sent(receipt),
+        Err(no) => Written::Broken(no),
+    }
 }
 
 /// Sends the generic_nack of a bad command_length (SMPP 3.4 4.3). Whether it was written changes nothing:
 /// the reader ends either way.
-pub(crate) fn refuse_length<W: Write, S: Wait>(context: &ReaderContext<W, S>) {
+pub(crate) fn refuse_length<N: LogName, W: Write, S: Wait>(context: &ReaderContext<N, W, S>) {
     let _written = reply(context, &bad_length());
 }
 
@@ -50,13 +48,6 @@ fn bad_length() -> Response
         status: ESME_RINVCMDLEN,
         number: 0,
     }
-}
-
-/// The frame of a response.
-fn frame_of(alloc: Global, response: &Response) -> Result<Frame, PduError>
-    ensures { IfOk result (λ frame. Spells (pdu_for response.now) frame) }
-{
-    Frame::encode(alloc, &pdu_of(response))
 }
 
 /// The PDU of a response.
@@ -82,16 +73,5 @@ fn body_of(command: u32) -> BodyRef<'static>
         ENQUIRE_LINK_RESP => BodyRef::EnquireLinkResp,
         UNBIND_RESP => BodyRef::UnbindResp,
         _ => BodyRef::GenericNack,
-    }
-}
-
-/// Writes a response's frame.
-fn write_frame<W: Write>(wire: &mut Wire<W>, frame: Frame) -> Written
-    ensures sent { (octets : List ℕ) → result ≡ Sent octets → (octets ≡ frame) × Appends (W.contents (writer wire.old)) (W.contents (writer wire.new)) frame }
-    ensures broken { ((octets : List ℕ) × (result ≡ Sent octets)) ⊎ ((result ≡ Broken) × (is_broken wire.new ≡ true)) }
-{
-    match wire.send(frame) {
-        Ok(receipt) => Written::Sent(receipt),
-        Err(_fault) => Written::Broken,
     }
 }

@@ -12,6 +12,7 @@ ghost use Rattle.sms_bind.specs.declared.ending.ReaderCause.TheVariants.{Ended, 
 
 use crate::context::ReaderContext;
 use crate::ending::ReaderCause;
+use crate::log::LogName;
 use crate::reader_state::ReaderState;
 use crate::replying::refuse_length;
 use sms_pdu::{Frame, drop_front, first_frame, is_bad};
@@ -20,9 +21,9 @@ use std::sync::Wait;
 
 impl ReaderState {
     /// Handles frames that are divided already.
-    pub fn handle_all<W: Write, S: Wait>(
+    pub fn handle_all<N: LogName, W: Write, S: Wait>(
         &mut self,
-        context: &ReaderContext<W, S>,
+        context: &ReaderContext<N, W, S>,
         frames: &[Frame],
     ) -> Option<ReaderCause>
         requires bound { IsBound self.old.session }
@@ -46,9 +47,9 @@ impl ReaderState {
     }
 
     /// Handles the whole frames at the beginning of `held`, and removes them from it.
-    pub fn handle_held<W: Write, S: Wait>(
+    pub fn handle_held<N: LogName, W: Write, S: Wait>(
         &mut self,
-        context: &ReaderContext<W, S>,
+        context: &ReaderContext<N, W, S>,
         held: &mut Vec<u8>,
     ) -> Option<ReaderCause>
         requires bound { IsBound self.old.session }
@@ -78,9 +79,9 @@ impl ReaderState {
 
     /// Handles the whole frames at the beginning of a stream. Returns how many octets they have, and why
     /// the reader ends, if it does.
-    fn handle_stream<W: Write, S: Wait>(
+    fn handle_stream<N: LogName, W: Write, S: Wait>(
         &mut self,
-        context: &ReaderContext<W, S>,
+        context: &ReaderContext<N, W, S>,
         stream: &[u8],
     ) -> (usize, Option<ReaderCause>)
         requires bound { IsBound self.old.session }

@@ -16,6 +16,7 @@ ghost use Rattle.sms_bind.specs.declared.ending.ReaderCause.TheVariants.{Ended, 
 
 use crate::context::ReaderContext;
 use crate::ending::ReaderCause;
+use crate::log::LogName;
 use crate::reader_state::ReaderState;
 use crate::replying::refuse_length;
 use sms_pdu::{Frame, PIECE, Tap, fault_of, is_bad};
@@ -25,9 +26,9 @@ use std::sync::atomic::Ordering;
 
 impl ReaderState {
     /// Handles the frames that were read before, then reads in turns.
-    pub fn read<R: Read, W: Write, S: Wait>(
+    pub fn read<N: LogName, R: Read, W: Write, S: Wait>(
         &mut self,
-        context: &ReaderContext<W, S>,
+        context: &ReaderContext<N, W, S>,
         reader: &mut Tap<R>,
         frames: &[Frame],
         rest: Vec<u8>,
@@ -56,9 +57,9 @@ impl ReaderState {
     }
 
     /// Reads in turns, after what is held.
-    fn read_turns<R: Read, W: Write, S: Wait>(
+    fn read_turns<N: LogName, R: Read, W: Write, S: Wait>(
         &mut self,
-        context: &ReaderContext<W, S>,
+        context: &ReaderContext<N, W, S>,
         reader: &mut Tap<R>,
         held: Vec<u8>,
         turns: u64,
@@ -87,9 +88,9 @@ impl ReaderState {
     }
 
     /// One turn: handles what one read gave, after what is held.
-    fn turn<R: Read, W: Write, S: Wait>(
+    fn turn<N: LogName, R: Read, W: Write, S: Wait>(
         &mut self,
-        context: &ReaderContext<W, S>,
+        context: &ReaderContext<N, W, S>,
         reader: &mut Tap<R>,
         piece: &mut Vec<u8>,
         held: &mut Vec<u8>,

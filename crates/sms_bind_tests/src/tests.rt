@@ -1,6 +1,9 @@
 //! A wire, and a bind over devices in memory.
 
-use sms_bind::{BindFault, Bound, Settings, Wire, WireFault, bind};
+ghost use Rattle.std.specs.Prelude.{◌≡◌, false};
+ghost use Rattle.sms_bind.specs.Wires.{is_broken};
+
+use sms_bind::{BindFault, BlankLog, Bound, Settings, Wire, WireFault, bind};
 use sms_pdu::{Field, Frame, Mode, Octets, PduError, Tap, is_frame};
 use sms_session::State;
 use std::alloc::Global;
@@ -10,8 +13,10 @@ use std::io::{Error, ErrorKind, Read, Write};
 use std::process::Abort;
 use std::test::Fail;
 
+mod early;
 mod faults;
 mod following;
+mod log;
 mod memory;
 mod reader;
 
@@ -102,12 +107,22 @@ fn made_of(
 }
 
 // A wire that takes this many octets, which go after these, and then fails.
-fn wire_to(room: usize, octets: Vec<u8>) -> Wire<Sink> {
+fn wire_to(room: usize, octets: Vec<u8>) -> Wire<Sink>
+    ensures { is_broken result ≡ false }
+{
     Wire::new(Tap::new(Sink {
         room,
         octets,
         fails: true,
     }))
+}
+
+// A log that has no name yet.
+fn blank_log(rt: &impl Abort, alloc: Global) -> BlankLog {
+    let Ok(log) = BlankLog::new(alloc) else {
+        panic!(rt; "no log")
+    };
+    log
 }
 
 // Binds with number 1 over these devices.

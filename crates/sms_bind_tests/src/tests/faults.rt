@@ -1,10 +1,15 @@
 //! Reads and writes that fail at each octet of what is read and written.
 
+ghost use Rattle.std.specs.Prelude.{◌≡◌};
+
 use super::reader::{bound_as, counts, line_of, read_from, ring_of, want_written};
-use super::{ACCEPTED, BIND, Sink, bound_by, bound_over, same, settings_of, source_of, wire_to};
-use sms_bind::{BindFault, ReaderCause, Settings, Wire};
+use super::{
+    ACCEPTED, BIND, Sink, blank_log, bound_by, bound_over, same, settings_of, source_of, wire_to,
+};
+use sms_bind::{BindFault, BlankLog, LogName, ReaderCause, Settings, Wire};
 use sms_pdu::Mode;
 use std::alloc::Global;
+use std::marker::Brand;
 use std::process::Abort;
 use std::sync::Wait;
 use std::test::Fail;
@@ -92,14 +97,18 @@ fn a_bind_that_is_cut_at_each_octet(rt: HostRuntime) -> Result<(), Fail> {
 
 // Reads a prefix of STREAM, over a writer with this room, and expects this cause, these numbers of
 // answers and of delivery receipts, and this many octets of responses.
-fn want_end<S: Abort + Wait>(
+fn want_end<N: LogName, S: Abort + Wait>(
     rt: &S,
     alloc: Global,
+    log: BlankLog,
     octets: usize,
     room: usize,
-    (cause, answered, delivered, written): (ReaderCause, u64, u64, usize),
-) -> Result<(), Fail> {
-    let (line, leave) = line_of(rt, alloc, room, 2);
+    wanted: (ReaderCause, u64, u64, usize),
+) -> Result<(), Fail>
+    requires { log ≡ N.log }
+{
+    let (cause, answered, delivered, written) = wanted;
+    let (line, leave) = line_of::<N, S>(rt, alloc, log, room, 2);
     let (producers, mut consumer) = ring_of(alloc, 64)?;
     let source = source_of(0, &STREAM[..octets.min(80)], true);
     let bound = bound_as(rt, alloc, Mode::Transceiver);
@@ -126,7 +135,8 @@ fn a_reader_that_fails_at_each_octet(rt: HostRuntime) -> Result<(), Fail> {
             4 => (ReaderCause::ReadFault, 2, 1, 33),
             _ => (ReaderCause::Unbound, 2, 1, 49),
         };
-        want_end(&rt, rt.alloc(), octets, 1000, wanted)?;
+        let alloc = rt.alloc();
+        want_end::<Brand, _>(&rt, alloc, blank_log(&rt, alloc), octets, 1000, wanted)?;
     }
     Ok(())
 }
@@ -142,9 +152,30 @@ fn a_writer_that_fails_at_each_octet(rt: HostRuntime) -> Result<(), Fail> {
             33..49 => (ReaderCause::WriteFault, 2, 1, room),
             _ => (ReaderCause::Unbound, 2, 1, 49),
         };
-        want_end(&rt, rt.alloc(), 80, room, wanted)?;
+        let alloc = rt.alloc();
+        want_end::<Brand, _>(&rt, alloc, blank_log(&rt, alloc), 80, room, wanted)?;
     }
     Ok(())
+}
+
+// A generic_nack over a wire with this room.
+fn want_nack<N: LogName, S: Abort + Wait>(
+    rt: &S,
+    alloc: Global,
+    log: BlankLog,
+    room: usize,
+    wanted: (ReaderCause, u64),
+)
+    requires { log ≡ N.log }
+{
+    let (cause, nacked) = wanted;
+    let (line, leave) = line_of::<N, S>(rt, alloc, log, room, 0);
+    let source = source_of(0, STRANGE, true);
+    let bound = bound_as(rt, alloc, Mode::Transceiver);
+    let end = read_from(rt, alloc, source, bound, Vec::new(alloc), &line, leave);
+    same(rt, end.cause, cause);
+    same(rt, counts(&end), [0, 0, 0, 0, 0, nacked, 0]);
+    want_written(rt, line, &NACKS[..room.min(32)]);
 }
 
 // The same of generic_nack. A bad length ends the reader, whether or not the nack can be written.
@@ -152,17 +183,11 @@ fn a_writer_that_fails_at_each_octet(rt: HostRuntime) -> Result<(), Fail> {
 fn a_nack_that_is_cut_at_each_octet(rt: HostRuntime) -> Result<(), Fail> {
     let alloc = rt.alloc();
     for room in 0..33usize {
-        let (cause, nacked) = match room {
+        let wanted = match room {
             0..16 => (ReaderCause::WriteFault, 0),
             _ => (ReaderCause::Lost, 1),
         };
-        let (line, leave) = line_of(&rt, alloc, room, 0);
-        let source = source_of(0, STRANGE, true);
-        let bound = bound_as(&rt, alloc, Mode::Transceiver);
-        let end = read_from(&rt, alloc, source, bound, Vec::new(alloc), &line, leave);
-        same(&rt, end.cause, cause);
-        same(&rt, counts(&end), [0, 0, 0, 0, 0, nacked, 0]);
-        want_written(&rt, line, &NACKS[..room.min(32)]);
+        want_nack::<Brand, _>(&rt, alloc, blank_log(&rt, alloc), room, wanted);
     }
     Ok(())
 }

@@ -2,20 +2,27 @@
 //! for each of its allocations, and where memory is refused before the call that is tested, it ends
 //! there.
 
+ghost use Rattle.std.specs.Prelude.{◌≡◌, false, IfOk};
+ghost use Rattle.sms_bind.specs.Wires.{is_broken};
+
 use super::faults::{RESPONSES, STREAM};
 use super::reader::{bound_as, counts};
 use super::{ACCEPTED, BIND, Sink, bound_over, same, settings_of, source_of, wire_to};
 use rtrb::RingBuffer;
-use sms_bind::{BindFault, Line, ReaderCause, Wire, read_loop};
+use sms_bind::{BindFault, BlankLog, Line, LogName, ReaderCause, Wire, read_loop};
 use sms_pdu::Mode;
 use sms_session::State;
 use sms_slot::SlotRow;
 use sms_window::Window;
 use std::alloc::{AllocError, Global};
+use std::marker::Brand;
 use std::process::Abort;
+use std::sync::Wait;
 
 // A wire that needs no memory for its first 100 octets.
-fn wire_of(alloc: Global) -> Result<Wire<Sink>, AllocError> {
+fn wire_of(alloc: Global) -> Result<Wire<Sink>, AllocError>
+    ensures { IfOk result (λ wire. is_broken wire ≡ false) }
+{
     match Vec::with_capacity(alloc, 100) {
         Ok(octets) => Ok(wire_to(100, octets)),
         Err(_full) => Err(AllocError),
@@ -80,10 +87,24 @@ fn want_all_or_nothing(rt: &impl Abort, cause: ReaderCause, said: [u64; 7], writ
 #[test]
 fn memory_of_a_reader(rt: HostRuntime) {
     let alloc = rt.alloc();
+    if let Ok(log) = BlankLog::new(alloc) {
+        reader_in_memory::<Brand, _>(&rt, alloc, log);
+    }
+}
+
+fn reader_in_memory<N: LogName, S: Abort + Wait>(rt: &S, alloc: Global, log: BlankLog)
+    requires { log ≡ N.log }
+{
+    let Ok(mut keeper) = log.open::<N>(alloc) else {
+        return;
+    };
     let (Ok(slots), Ok(wire)) = (SlotRow::new(alloc), wire_of(alloc)) else {
         return;
     };
-    assert!(rt; slots.post(&rt, 0, 0, 1).is_ok() && slots.post(&rt, 1, 0, 2).is_ok());
+    let Ok(wire) = keeper.wire(wire) else {
+        return;
+    };
+    assert!(rt; slots.post(rt, 0, 0, 1).is_ok() && slots.post(rt, 1, 0, 2).is_ok());
     let (line, leave) = Line::new(slots, wire);
     let Ok((producer, mut consumer)) = RingBuffer::new(alloc, 64) else {
         return;
@@ -95,10 +116,10 @@ fn memory_of_a_reader(rt: HostRuntime) {
         return;
     };
     producers.push_reserved(producer);
-    let bound = bound_as(&rt, alloc, Mode::Transceiver);
+    let bound = bound_as(rt, alloc, Mode::Transceiver);
     let mut reader = source_of(0, STREAM, true);
     let (end, down) = read_loop(
-        &rt,
+        rt,
         alloc,
         &mut reader,
         bound,
@@ -112,9 +133,9 @@ fn memory_of_a_reader(rt: HostRuntime) {
     );
     assert!(rt; down.is_ok());
     drop(down);
-    same(&rt, end.producers.len(), 1);
+    same(rt, end.producers.len(), 1);
     same(
-        &rt,
+        rt,
         consumer.pop().is_ok() && consumer.pop().is_ok(),
         end.answered == 2,
     );
@@ -125,7 +146,7 @@ fn memory_of_a_reader(rt: HostRuntime) {
         down: _,
         stop: _,
     } = line;
-    let written = wire.into_inner().into_tap().into_inner().octets;
-    want_all_or_nothing(&rt, end.cause, counts(&end), &written);
-    same(&rt, window.close(end.seat).held, 0xFFFF_FFFF_FFFF_FFF0);
+    let written = wire.into_inner().into_wire().into_tap().into_inner().octets;
+    want_all_or_nothing(rt, end.cause, counts(&end), &written);
+    same(rt, window.close(end.seat).held, 0xFFFF_FFFF_FFFF_FFF0);
 }

@@ -1,12 +1,14 @@
 //! The reader of a bind over devices in memory.
 
-ghost use Rattle.std.specs.Prelude.{◌≤◌};
+ghost use Rattle.std.specs.Prelude.{◌≡◌, ◌≤◌};
 ghost use Rattle.sms_bind.specs.Downs.{IsDownAt};
 ghost use Rattle.sms_core.specs.Limits.{most_slots};
 
-use super::{ACCEPTED, ENQUIRE_LINK, Sink, Source, bound_by, frame, same, source_of, wire_to};
+use super::{ACCEPTED, Sink, Source, blank_log, bound_by, same, source_of, wire_to};
 use rtrb::{Consumer, Producer, RingBuffer};
-use sms_bind::{Bound, Down, DownCause, Line, ReaderCause, ReaderEnd, ReaderLeave, read_loop};
+use sms_bind::{
+    BlankLog, Bound, Down, DownCause, Line, LogName, ReaderCause, ReaderEnd, ReaderLeave, read_loop,
+};
 use sms_pdu::{
     BIND_TRANSCEIVER_RESP, BIND_TRANSMITTER_RESP, Framer, Frames, Header, Mode, Reply, Tap,
 };
@@ -14,13 +16,11 @@ use sms_session::Opened;
 use sms_slot::SlotRow;
 use sms_window::Window;
 use std::alloc::Global;
+use std::marker::Brand;
 use std::process::Abort;
 use std::sync::Wait;
 use std::sync::atomic::Ordering;
 use std::test::Fail;
-
-const ENQUIRE_LINK_RESP: &[u8; 16] =
-    b"\x00\x00\x00\x10\x80\x00\x00\x15\x00\x00\x00\x00\x00\x00\x00\x02";
 
 // A session that was just bound, and nothing read beyond the answer.
 pub(crate) fn bound_as(rt: &impl Abort, alloc: Global, mode: Mode) -> Bound {
@@ -44,22 +44,30 @@ pub(crate) fn bound_as(rt: &impl Abort, alloc: Global, mode: Mode) -> Bound {
     }
 }
 
-// A wire with room for this many octets, and this many slots that wait for the answers from 1 on.
-pub(crate) fn line_of<S: Abort + Wait>(
+// A wire of this log with room for this many octets, and this many slots that wait for the answers from 1 on.
+pub(crate) fn line_of<N: LogName, S: Abort + Wait>(
     rt: &S,
     alloc: Global,
+    log: BlankLog,
     room: usize,
     waiting: u32,
-) -> (Line<Sink>, ReaderLeave)
-    requires { waiting ≤ most_slots }
+) -> (Line<N, Sink>, ReaderLeave)
+    requires name { log ≡ N.log }
+    requires few { waiting ≤ most_slots }
 {
+    let Ok(mut keeper) = log.open::<N>(alloc) else {
+        panic!(rt; "no keeper")
+    };
+    let Ok(wire) = keeper.wire(wire_to(room, Vec::new(alloc))) else {
+        panic!(rt; "no log of a wire")
+    };
     let Ok(slots) = SlotRow::new(alloc) else {
         panic!(rt; "no row")
     };
     for slot in 0..waiting {
         same(rt, slots.post(rt, slot, 0, slot + 1), Ok(()));
     }
-    let (line, leave) = Line::new(slots, wire_to(room, Vec::new(alloc)));
+    let (line, leave) = Line::new(slots, wire);
     assert!(rt; line.down.look().is_none());
     assert!(rt; !line.stop.load(Ordering::SeqCst));
     (line, leave)
@@ -80,13 +88,13 @@ pub(crate) fn ring_of(
 }
 
 // Reads in 10 turns, and follows nothing.
-pub(crate) fn read_from<S: Abort + Wait>(
+pub(crate) fn read_from<N: LogName, S: Abort + Wait>(
     rt: &S,
     alloc: Global,
     source: Tap<Source<'_>>,
     bound: Bound,
     producers: Vec<Producer<Reply>>,
-    line: &Line<Sink>,
+    line: &Line<N, Sink>,
     leave: ReaderLeave,
 ) -> ReaderEnd {
     let mut reader = source;
@@ -114,7 +122,12 @@ pub(crate) fn read_from<S: Abort + Wait>(
 }
 
 // The line is down for this cause, for all that look at it.
-fn want_down<'l>(rt: &impl Abort, line: &'l Line<Sink>, down: &Down<'l>, wanted: DownCause)
+pub(crate) fn want_down<'l, N: LogName>(
+    rt: &impl Abort,
+    line: &'l Line<N, Sink>,
+    down: &Down<'l>,
+    wanted: DownCause,
+)
     requires { IsDownAt line.now.down down.now }
 {
     let Some(seen) = line.down.look() else {
@@ -137,7 +150,7 @@ pub(crate) fn counts(end: &ReaderEnd) -> [u64; 7] {
 }
 
 // What stands in the line at the end: it is down, and these octets were written.
-pub(crate) fn want_written(rt: &impl Abort, line: Line<Sink>, wanted: &[u8]) {
+pub(crate) fn want_written<N: LogName>(rt: &impl Abort, line: Line<N, Sink>, wanted: &[u8]) {
     assert!(rt; line.down.look().is_some());
     let Line {
         slots: _,
@@ -145,11 +158,35 @@ pub(crate) fn want_written(rt: &impl Abort, line: Line<Sink>, wanted: &[u8]) {
         down: _,
         stop: _,
     } = line;
-    let sink = wire.into_inner().into_tap().into_inner();
+    let sink = wire.into_inner().into_wire().into_tap().into_inner();
     same(rt, sink.octets.as_slice(), wanted);
 }
 
-// Streams and what comes of them: the cause, the counts, and what is written.
+// Reads a stream: its cause, its counts, and what is written.
+fn want_stream<N: LogName, S: Abort + Wait>(
+    rt: &S,
+    alloc: Global,
+    log: BlankLog,
+    octets: &[u8],
+    expected: (ReaderCause, [u64; 7], &[u8]),
+) -> Result<(), Fail>
+    requires { log ≡ N.log }
+{
+    let (cause, wanted, written) = expected;
+    let (line, leave) = line_of::<N, S>(rt, alloc, log, 1000, 1);
+    let (producers, mut consumer) = ring_of(alloc, 64)?;
+    let bound = bound_as(rt, alloc, Mode::Transceiver);
+    let source = source_of(0, octets, false);
+    let end = read_from(rt, alloc, source, bound, producers, &line, leave);
+    same(rt, end.cause, cause);
+    same(rt, counts(&end), wanted);
+    same(rt, consumer.pop().is_ok(), end.answered == 1);
+    assert!(rt; consumer.pop().is_err());
+    want_written(rt, line, written);
+    Ok(())
+}
+
+// Streams and what comes of them.
 #[test]
 fn streams_that_are_read(rt: HostRuntime) -> Result<(), Fail> {
     let cases = [
@@ -191,23 +228,8 @@ fn streams_that_are_read(rt: HostRuntime) -> Result<(), Fail> {
     ];
     for (octets, cause, wanted, written) in cases {
         let alloc = rt.alloc();
-        let (line, leave) = line_of(&rt, alloc, 1000, 1);
-        let (producers, mut consumer) = ring_of(alloc, 64)?;
-        let bound = bound_as(&rt, alloc, Mode::Transceiver);
-        let end = read_from(
-            &rt,
-            alloc,
-            source_of(0, octets, false),
-            bound,
-            producers,
-            &line,
-            leave,
-        );
-        same(&rt, end.cause, cause);
-        same(&rt, counts(&end), wanted);
-        same(&rt, consumer.pop().is_ok(), end.answered == 1);
-        assert!(rt; consumer.pop().is_err());
-        want_written(&rt, line, written);
+        let log = blank_log(&rt, alloc);
+        want_stream::<Brand, _>(&rt, alloc, log, octets, (cause, wanted, written))?;
     }
     Ok(())
 }
@@ -222,6 +244,26 @@ fn bound_with(rt: &impl Abort, alloc: Global, behind: &[u8]) -> Bound {
         panic!(rt; "not bound")
     };
     bound
+}
+
+// Reads on after what came with the bind's answer.
+fn want_rest<N: LogName, S: Abort + Wait>(
+    rt: &S,
+    alloc: Global,
+    log: BlankLog,
+    behind: &[u8],
+    wanted: (ReaderCause, u64, &[u8]),
+)
+    requires { log ≡ N.log }
+{
+    let (cause, delivered, written) = wanted;
+    let bound = bound_with(rt, alloc, behind);
+    let (line, leave) = line_of::<N, S>(rt, alloc, log, 1000, 0);
+    let later = source_of(3, b"\x00\x00\x00\x00\x00\x00\x09", false);
+    let end = read_from(rt, alloc, later, bound, Vec::new(alloc), &line, leave);
+    same(rt, end.cause, cause);
+    same(rt, counts(&end), [0, 0, 0, delivered, 0, 0, 0]);
+    want_written(rt, line, written);
 }
 
 // What was read with the bind's answer is handled first; a transmitter is sent no deliver_sm.
@@ -243,48 +285,40 @@ fn what_came_with_the_answer(rt: HostRuntime) -> Result<(), Fail> {
     ];
     for (behind, cause, delivered, written) in cases {
         let alloc = rt.alloc();
-        let bound = bound_with(&rt, alloc, behind);
-        let (line, leave) = line_of(&rt, alloc, 1000, 0);
-        let later = source_of(3, b"\x00\x00\x00\x00\x00\x00\x09", false);
-        let end = read_from(&rt, alloc, later, bound, Vec::new(alloc), &line, leave);
-        same(&rt, end.cause, cause);
-        same(&rt, counts(&end), [0, 0, 0, delivered, 0, 0, 0]);
-        want_written(&rt, line, written);
+        let log = blank_log(&rt, alloc);
+        want_rest::<Brand, _>(&rt, alloc, log, behind, (cause, delivered, written));
     }
     Ok(())
+}
+
+// Two answers of a worker with these rings.
+fn want_counts<N: LogName, S: Abort + Wait>(
+    rt: &S,
+    alloc: Global,
+    log: BlankLog,
+    producers: Vec<Producer<Reply>>,
+    wanted: [u64; 7],
+)
+    requires { log ≡ N.log }
+{
+    let octets =
+        b"\x00\x00\x00\x10\x80\x00\x00\x04\x00\x00\x00\x00\x00\x00\x00\x01\x00\x00\x00\x10\x80\x00\x00\x04\x00\x00\x00\x00\x00\x00\x00\x02";
+    let (line, leave) = line_of::<N, S>(rt, alloc, log, 0, 2);
+    let bound = bound_as(rt, alloc, Mode::Transceiver);
+    let source = source_of(0, octets, false);
+    let end = read_from(rt, alloc, source, bound, producers, &line, leave);
+    same(rt, counts(&end), wanted);
 }
 
 // An answer whose worker has no ring, or one without room.
 #[test]
 fn answers_that_overrun(rt: HostRuntime) -> Result<(), Fail> {
-    let octets =
-        b"\x00\x00\x00\x10\x80\x00\x00\x04\x00\x00\x00\x00\x00\x00\x00\x01\x00\x00\x00\x10\x80\x00\x00\x04\x00\x00\x00\x00\x00\x00\x00\x02";
     let alloc = rt.alloc();
-    let (line, leave) = line_of(&rt, alloc, 0, 2);
-    let bound = bound_as(&rt, alloc, Mode::Transceiver);
-    let end = read_from(
-        &rt,
-        alloc,
-        source_of(0, octets, false),
-        bound,
-        Vec::new(alloc),
-        &line,
-        leave,
-    );
-    same(&rt, counts(&end), [0, 0, 2, 0, 0, 0, 0]);
-    let (line, leave) = line_of(&rt, alloc, 0, 2);
-    let bound = bound_as(&rt, alloc, Mode::Transceiver);
+    let log = blank_log(&rt, alloc);
+    want_counts::<Brand, _>(&rt, alloc, log, Vec::new(alloc), [0, 0, 2, 0, 0, 0, 0]);
     let (producers, _consumer) = ring_of(alloc, 1)?;
-    let end = read_from(
-        &rt,
-        alloc,
-        source_of(0, octets, false),
-        bound,
-        producers,
-        &line,
-        leave,
-    );
-    same(&rt, counts(&end), [1, 0, 1, 0, 0, 0, 0]);
+    let log = blank_log(&rt, alloc);
+    want_counts::<Brand, _>(&rt, alloc, log, producers, [1, 0, 1, 0, 0, 0, 0]);
     Ok(())
 }
 
@@ -314,9 +348,19 @@ fn want_numbers(rt: &impl Abort, consumer: &mut Consumer<Reply>, wanted: &[u32])
 #[test]
 fn answers_of_several_workers(rt: HostRuntime) -> Result<(), Fail> {
     let alloc = rt.alloc();
-    let (line, leave) = line_of(&rt, alloc, 0, 0);
+    several_workers::<Brand, _>(&rt, alloc, blank_log(&rt, alloc))
+}
+
+fn several_workers<N: LogName, S: Abort + Wait>(
+    rt: &S,
+    alloc: Global,
+    log: BlankLog,
+) -> Result<(), Fail>
+    requires { log ≡ N.log }
+{
+    let (line, leave) = line_of::<N, S>(rt, alloc, log, 0, 0);
     for (slot, worker) in [(0, 1), (1, 0), (2, 2), (3, 1), (4, 0)] {
-        same(&rt, line.slots.post(&rt, slot, worker, slot + 1), Ok(()));
+        same(rt, line.slots.post(rt, slot, worker, slot + 1), Ok(()));
     }
     let (mut producers, mut first) = ring_of(alloc, 64)?;
     let (others, mut second) = ring_of(alloc, 1)?;
@@ -325,59 +369,10 @@ fn answers_of_several_workers(rt: HostRuntime) -> Result<(), Fail> {
     }
     let octets = answers_to(alloc, &[5, 1, 3, 9, 4, 2, 1])?;
     let source = source_of(0, octets.as_slice(), false);
-    let bound = bound_as(&rt, alloc, Mode::Transceiver);
-    let end = read_from(&rt, alloc, source, bound, producers, &line, leave);
-    same(&rt, counts(&end), [3, 2, 2, 0, 0, 0, 0]);
-    want_numbers(&rt, &mut first, &[5, 2]);
-    want_numbers(&rt, &mut second, &[1]);
-    Ok(())
-}
-
-// A wire that breaks, a reader that fails, a line that is stopped, and turns that are used up.
-#[test]
-fn readers_that_end_early(rt: HostRuntime) -> Result<(), Fail> {
-    let cases = [
-        (10, 0, false, ReaderCause::WriteFault, 0),
-        (1000, 3, false, ReaderCause::ReadFault, 4),
-        (1000, 10, false, ReaderCause::Turns, 10),
-        (1000, 0, true, ReaderCause::Stopped, 0),
-    ];
-    for (room, idle, stop, cause, errors) in cases {
-        let alloc = rt.alloc();
-        let (line, leave) = line_of(&rt, alloc, room, 0);
-        line.stop.store(stop, Ordering::SeqCst);
-        let bound = bound_as(&rt, alloc, Mode::Transmitter);
-        let source = source_of(idle, ENQUIRE_LINK, true);
-        let end = read_from(&rt, alloc, source, bound, Vec::new(alloc), &line, leave);
-        same(&rt, (end.cause, end.errors), (cause, errors));
-        let written: &[u8] = match cause {
-            ReaderCause::WriteFault => &ENQUIRE_LINK_RESP[..10],
-            ReaderCause::ReadFault => ENQUIRE_LINK_RESP.as_slice(),
-            _ => b"",
-        };
-        want_written(&rt, line, written);
-    }
-    Ok(())
-}
-
-// The first cause stands: that of a wire that breaks, and not of the reader that ends after it.
-#[test]
-fn the_first_cause_stands(rt: HostRuntime) -> Result<(), Fail> {
-    let alloc = rt.alloc();
-    let (line, leave) = line_of(&rt, alloc, 0, 0);
-    let mut broken = wire_to(0, Vec::new(alloc));
-    drop(broken.send(frame(alloc, ENQUIRE_LINK)?));
-    if !broken.broken() {
-        return Err("it isn't broken".into());
-    }
-    let Ok(down) = line.down.write_failed(&rt, &broken) else {
-        panic!(&rt; "down before")
-    };
-    want_down(&rt, &line, &down, DownCause::Write);
-    let bound = bound_as(&rt, alloc, Mode::Transmitter);
-    let source = source_of(0, b"", false);
-    let end = read_from(&rt, alloc, source, bound, Vec::new(alloc), &line, leave);
-    same(&rt, end.cause, ReaderCause::Ended);
-    want_down(&rt, &line, &down, DownCause::Write);
+    let bound = bound_as(rt, alloc, Mode::Transceiver);
+    let end = read_from(rt, alloc, source, bound, producers, &line, leave);
+    same(rt, counts(&end), [3, 2, 2, 0, 0, 0, 0]);
+    want_numbers(rt, &mut first, &[5, 2]);
+    want_numbers(rt, &mut second, &[1]);
     Ok(())
 }

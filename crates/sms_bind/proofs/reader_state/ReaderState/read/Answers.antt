@@ -1,4 +1,4 @@
-use Rattle.std.proofs.Common.{◌++◌, [], Option, None, Some, refl, sym, ap, ◌∙◌, subst, rules, arith}
+use Rattle.std.proofs.Common.{◌++◌, [], Option, None, Some, refl, sym, ap, subst, rules, arith}
 use Rattle.std.specs.List.{concat}
 use Rattle.sms_pdu.specs.Devices.{device}
 use Rattle.sms_pdu.specs.Frame.{IsBad}
