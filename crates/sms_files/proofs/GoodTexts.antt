@@ -8,7 +8,7 @@ use Rattle.sms_files.specs.Config.{are_answers, some_answers}
 one_said : (text : List ℕ) (texts : List (List ℕ)) (t : Treatment) → treatment_of text ≡ Some t → are_answers texts ≡ true → are_answers (text ∷ texts) ≡ true
 one_said text texts t e rest = rw (e, rest) refl
 
-all_said : (l : List (List ℕ)) (ts : List Treatment) → SayAll l ts → are_answers l ≡ true
+pub all_said : (l : List (List ℕ)) (ts : List Treatment) → SayAll l ts → are_answers l ≡ true
 all_said [] ts h = refl
 all_said (x ∷ xs) [] h = cc
 all_said (x ∷ xs) (t ∷ ts) h =
@@ -16,9 +16,9 @@ all_said (x ∷ xs) (t ∷ ts) h =
     let tail : map treatment_of xs ≡ map Some ts = cc in
     one_said x xs t head (all_said xs ts tail)
 
-pub answers_good : (l : List (List ℕ)) (ts : List Treatment) → SayAll l ts → l ≢ [] → some_answers l ≡ Some l
-answers_good [] ts h some = absurd (some refl)
-answers_good (x ∷ xs) ts h some = rw (all_said (x ∷ xs) ts h) refl
+pub answers_good : (l : List (List ℕ)) → are_answers l ≡ true → l ≢ [] → some_answers l ≡ Some l
+answers_good [] good some = absurd (some refl)
+answers_good (x ∷ xs) good some = rw good refl
 
 not_all : (l : List (List ℕ)) (place : ℕ) → place < length l → treatment_of (slice_index_or l place []) ≡ None → are_answers l ≡ false
 not_all [] place low e = absurd (omega arith)
@@ -38,8 +38,7 @@ map_none [] e = refl
 map_none (x ∷ xs) e = cc
 
 -- none of a script's texts is bad
-pub none_bad : (l : List (List ℕ)) (ts : List Treatment) → SayAll l ts → (place : ℕ) → IsFirstBad l place → ⊥
-none_bad l ts h place bad =
-    let good : are_answers l ≡ true = all_said l ts h in
+pub none_bad : (l : List (List ℕ)) → are_answers l ≡ true → (place : ℕ) → IsFirstBad l place → ⊥
+none_bad l good place bad =
     let wrong : are_answers l ≡ false = not_all l place bad.there bad.bad in
     cc

@@ -30,7 +30,7 @@ told t key o f e h = rw e h
 -- what it says of the first of two faults it says of both
 pub tells_first : (t : Members) (a b : Option Key) (f : InputFault) → TellsKey t a f → TellsKey t (first_of a b) f
 tells_first t (Some k) b f h = h
-tells_first t None b OutOfMemory h = tt
+tells_first t None b (OutOfMemory _) h = tt
 tells_first t None b (BadKey k shown) h = let bad = h.0 in cc
 tells_first t None b f h = absurd h
 
@@ -44,5 +44,5 @@ none_later a b e h = rw e h
 -- a fault of octets that are no table is one of the config
 pub toml_tells : (octets : List ℕ) (f : InputFault) → TellsToml octets f → TellsConfig octets f
 toml_tells octets (NotToml why) h = h
-toml_tells octets OutOfMemory h = tt
+toml_tells octets (OutOfMemory _) h = tt
 toml_tells octets f h = absurd h

@@ -26,6 +26,7 @@ pub mod Plans
 pub mod Signing
 pub mod RowTexts
 pub mod Tallies
+pub mod WarningLines
 pub mod WayLines
 pub mod Writing
 pub mod CountingQuotes

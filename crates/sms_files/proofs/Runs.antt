@@ -112,8 +112,8 @@ told_so (Ok x) e P h p = tt
 told_so (Err f) e P h p = rw h p
 
 -- so of memory that was refused
-pub refused : {T : Type 0} (r : Result T InputFault) (P : InputFault → Type 0) → IsErrAnd r (λ f. f ≡ OutOfMemory) → P OutOfMemory → IfErr r P
-refused r P h p = told_so r OutOfMemory P h p
+pub refused : {T : Type 0} (r : Result T InputFault) (P : InputFault → Type 0) → IsErrAnd r (λ f. f ≡ OutOfMemory tt) → P (OutOfMemory tt) → IfErr r P
+refused r P h p = told_so r (OutOfMemory tt) P h p
 
 -- what was read of a record, by cases
 pub flaw-read : {T : Type 0} (flaw : Record → Option Flaw) (Says : Record → T → Type 0) (r : Record) (o : Result T RowFault) (fault : RowFault) (is : Flaw) → IsReadAs flaw Says r o → o ≡ Err fault → fault ≡ Flawed is
@@ -130,4 +130,4 @@ names-record source place flaw faulty f bad is = inr (place, flaw, bad, is)
 pub names-row : (source : Source) (place : ℕ) (fault : RowFault) (faulty : Option Trouble) (f : InputFault) → IsRowFault source place fault f
     → ((flaw : Flaw) → fault ≡ Flawed flaw → faulty ≡ Some (place, flaw)) → TellsRecords source faulty f
 names-row source place (Flawed flaw) faulty f bad is = names-record source place flaw faulty f bad (is flaw refl)
-names-row source place RowMemory faulty f memory is = inl (inr memory)
+names-row source place (RowMemory _) faulty f memory is = inl (inr memory)

@@ -30,6 +30,18 @@ refuses-so rates r (Duplicate first second) is many prefix credits double =
     let (reached, prefix_is, credits_are, named) = (double first second).0 is in inr (reached, record { is = refl; prefix = prefix_is; credits = credits_are; double = named })
 refuses-so rates r OutOfMemory is many prefix credits double = inl refl
 
+pub refuses-other : (prices : List Price) (e : TariffError) → (e ≡ OutOfMemory) ⊎ Refuses prices e → ¬ (e ≡ OutOfMemory) → Refuses prices e
+refuses-other prices e (inl memory) other = absurd (other memory)
+refuses-other prices e (inr why) other = why
+
+-- and their trouble has a place
+pub has-place : (prices : List Price) (e : TariffError) → Refuses prices e → trouble_of e ≡ None → ⊥
+has-place prices TooMany why is = cc
+has-place prices (BadPrefix at) why is = cc
+has-place prices (BadCredits at) why is = cc
+has-place prices (Duplicate first second) why is = cc
+has-place prices OutOfMemory why is = absurd why
+
 -- the place of the rate is within the limit
 pub there_low : (prices : List Price) (at : ℕ) → IsReached prices at → at ≤ 1000
 there_low prices at h = let low = h.there in let few = h.few in omega arith

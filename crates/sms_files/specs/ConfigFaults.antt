@@ -18,7 +18,7 @@ use Rattle.sms_files.specs.declared.fault.InputFault.TheVariants.{BadKey, NotTom
 -- what a fault says of the keys of a table, of which this is the first faulty one: it names that one and what stands there
 abbrev pub TellsKey : Members → Option Key → InputFault → Type 0
 TellsKey t faulty (BadKey key value) = (faulty ≡ Some (string_bytes key)) × IsValueAt (string_bytes key) t value
-TellsKey t faulty OutOfMemory = Unit {0}
+TellsKey t faulty (OutOfMemory _) = Unit {0}
 TellsKey t faulty _ = ⊥
 
 -- the values are those of the keys
@@ -74,7 +74,7 @@ OfTable octets P = (t : Members) × (toml_of octets ≡ Some t) × P t
 -- what a fault says of octets that are no table
 abbrev pub TellsToml : List ℕ → InputFault → Type 0
 TellsToml octets (NotToml why) = toml_of octets ≡ None
-TellsToml octets OutOfMemory = Unit {0}
+TellsToml octets (OutOfMemory _) = Unit {0}
 TellsToml octets _ = ⊥
 
 -- the octets are a config without a fault, which says this
@@ -85,5 +85,5 @@ IsConfig octets c = OfTable octets (λ t. (faulty_key t ≡ None) × SaysConfig 
 abbrev pub TellsConfig : List ℕ → InputFault → Type 0
 TellsConfig octets (NotToml why) = toml_of octets ≡ None
 TellsConfig octets (BadKey key value) = OfTable octets (λ t. (faulty_key t ≡ Some (string_bytes key)) × IsValueAt (string_bytes key) t value)
-TellsConfig octets OutOfMemory = Unit {0}
+TellsConfig octets (OutOfMemory _) = Unit {0}
 TellsConfig octets _ = ⊥

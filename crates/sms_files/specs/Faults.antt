@@ -21,7 +21,7 @@ IsUnreadable source f = (error : DeviceError) × (f ≡ Unreadable source error)
 
 -- the reader of a source failed, or memory was refused
 abbrev pub IsDevice : Source → InputFault → Type 0
-IsDevice source f = IsUnreadable source f ⊎ (f ≡ OutOfMemory)
+IsDevice source f = IsUnreadable source f ⊎ (f ≡ OutOfMemory tt)
 
 -- a fault that tells what can't be read counts the errors of this device
 abbrev pub CountsErrors : {T : Type 0} → Tap T → InputFault → Type 0

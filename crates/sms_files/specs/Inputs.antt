@@ -55,7 +55,7 @@ abbrev pub TellsMessages : Told → InputFault → Type 0
 TellsMessages told fault = IfSome told (λ bytes. TellsRecords Messages (messages_fault (records_of bytes)) fault)
 
 abbrev pub TellsTariffOf : Option Told → InputFault → Type 0
-TellsTariffOf None fault = fault ≡ OutOfMemory
+TellsTariffOf None fault = fault ≡ OutOfMemory tt
 TellsTariffOf (Some told) fault = IfSome told (λ bytes. TellsTariff (records_of bytes) fault)
 
 -- what a fault says of the files: it is of the first in this order that has one

@@ -12,6 +12,8 @@ use Rattle.sms_files.specs.declared.fault.InputFault.{InputFault}
 use Rattle.sms_files.specs.declared.fault.InputFault.TheVariants as told
 use Rattle.sms_files.specs.declared.fault.Source.TheVariants.{Tariff}
 use Rattle.sms_files.specs.declared.flaw.Flaw.{Flaw}
+use Rattle.sms_files.specs.declared.memory.calls.NoTariff.{NoTariff}
+use Rattle.sms_files.specs.declared.memory.calls.NoTariff.TheVariants as none
 use Rattle.sms_files.specs.declared.flaw.Flaw.TheVariants.{Fields, NotDigits, NotNumber, OneTooMany, Taken}
 
 -- how many rates a file has at the most
@@ -57,9 +59,14 @@ abbrev pub RefusesAt : List Price → InputFault → Type 0
 RefusesAt prices fault =
     (e : TariffError) × (place : ℕ) × (flaw : Flaw) × Refuses prices e × (trouble_of e ≡ Some (place, flaw)) × IsBadRecord Tariff (place + 2) flaw fault
 
+-- why no tariff is made of rates: none takes them, or memory was refused
+abbrev pub IsNoTariff : List Price → NoTariff → Type 0
+IsNoTariff prices (none.Refused e) = Refuses prices e
+IsNoTariff prices (none.OutOfMemory _) = Unit {0}
+
 -- what a fault says of rates that are no tariff: that, or that memory was refused
 abbrev pub TellsPrices : List Price → InputFault → Type 0
-TellsPrices prices fault = (fault ≡ told.OutOfMemory) ⊎ RefusesAt prices fault
+TellsPrices prices fault = (fault ≡ told.OutOfMemory tt) ⊎ RefusesAt prices fault
 
 -- the records are rates, and the fault says why these are no tariff
 abbrev pub TellsRates : List Record → InputFault → Type 0

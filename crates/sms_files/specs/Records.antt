@@ -47,7 +47,7 @@ GivesFirst (first ∷ rest) found r after = (found ≡ true) × (r ≡ first) ×
 abbrev pub IsReadAs : {T : Type 0} → (Record → Option Flaw) → (Record → T → Type 0) → Record → Result T RowFault → Type 0
 IsReadAs flaw Says r (Ok x) = (flaw r ≡ None) × Says r x
 IsReadAs flaw Says r (Err (Flawed is)) = flaw r ≡ Some is
-IsReadAs flaw Says r (Err OutOfMemory) = Unit {0}
+IsReadAs flaw Says r (Err (OutOfMemory _)) = Unit {0}
 
 -- the number of a faulty record, from 1, and what is wrong with it
 abbrev pub Trouble : Type 0
@@ -79,7 +79,7 @@ IsBadRecord source place flaw f = (detail : RecordFlaw) × (f ≡ BadRecord sour
 -- a fault is of this record of a source, which is no row for this reason
 abbrev pub IsRowFault : Source → ℕ → RowFault → InputFault → Type 0
 IsRowFault source place (Flawed flaw) f = IsBadRecord source place flaw f
-IsRowFault source place OutOfMemory f = f ≡ told.OutOfMemory
+IsRowFault source place (OutOfMemory _) f = f ≡ told.OutOfMemory tt
 
 -- what a fault says of a source's records, of which this is the first faulty one: that it is, and why, or that the device failed
 abbrev pub TellsRecords : Source → Option Trouble → InputFault → Type 0

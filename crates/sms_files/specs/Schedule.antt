@@ -158,4 +158,4 @@ AreSchedule (r ∷ rs) w events = (world_of r ≡ Ok w) × AllZip Spells rs even
 abbrev pub MakesWorld : Record → Result State RowFault → Type 0
 MakesWorld r (Ok w) = world_of r ≡ Ok w
 MakesWorld r (Err (Flawed flaw)) = world_of r ≡ Err flaw
-MakesWorld r (Err OutOfMemory) = Unit {0}
+MakesWorld r (Err (OutOfMemory _)) = Unit {0}

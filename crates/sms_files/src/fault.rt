@@ -1,9 +1,9 @@
 //! Why an input can't be used.
 
 use crate::config::{ConfigValue, TomlFlaw};
+use crate::memory::NoMemory;
 use crate::tables::RecordFlaw;
 use sms_pdu::DeviceError;
-use std::alloc::{AllocError, AllocFailed};
 use std::fmt;
 
 /// What is read.
@@ -64,27 +64,16 @@ pub enum InputFault {
     BadKey(String, ConfigValue),
     /// Memory was refused.
     #[error("out of memory")]
-    OutOfMemory,
+    OutOfMemory(NoMemory),
 }
 
-impl From<AllocError> for InputFault {
+impl From<NoMemory> for InputFault {
     ghost use Rattle.std.specs.Prelude.{◌≡◌};
     ghost use Rattle.sms_files.specs.declared.fault.InputFault.TheVariants.{OutOfMemory};
 
-    ghost from_gives = { λ _ f. f ≡ OutOfMemory };
+    ghost from_gives = { λ _ f. f ≡ OutOfMemory tt };
 
-    fn from(_e: AllocError) -> InputFault {
-        InputFault::OutOfMemory
-    }
-}
-
-impl<T: Drop> From<AllocFailed<T>> for InputFault {
-    ghost use Rattle.std.specs.Prelude.{◌≡◌};
-    ghost use Rattle.sms_files.specs.declared.fault.InputFault.TheVariants.{OutOfMemory};
-
-    ghost from_gives = { λ _ f. f ≡ OutOfMemory };
-
-    fn from(_e: AllocFailed<T>) -> InputFault {
-        InputFault::OutOfMemory
+    fn from(no: NoMemory) -> InputFault {
+        InputFault::OutOfMemory(no)
     }
 }

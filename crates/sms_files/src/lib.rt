@@ -9,6 +9,7 @@ mod fault;
 mod flaw;
 mod input;
 pub mod laws;
+pub mod memory;
 pub mod report;
 mod tables;
 

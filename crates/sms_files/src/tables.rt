@@ -14,6 +14,7 @@ mod rows;
 mod schedule;
 
 pub use accounts::read_accounts;
+pub(crate) use csv_file::CsvFile;
 pub use message_rows::read_messages;
 pub use messages::{MessageText, read_texts};
 pub use quoting::{check_quotes, ends_quoted};

@@ -6,8 +6,8 @@ ghost use Rattle.toml.specs.View.{items_view, table_view, view};
 ghost use Rattle.sms_centre.specs.Texts.{IsFirstBad};
 ghost use Rattle.sms_files.specs.ConfigValues.{AreTextsOf, IsShownAs, IsShownAt, IsValueOf, is_secret as is_hidden};
 
-use sms_centre::{Script, ScriptError, strings_of};
-use std::alloc::{AllocError, Global};
+use crate::memory::{NoMemory, first_bad_answer, strings_in, text_of};
+use std::alloc::Global;
 use toml::{Table, Value};
 
 /// What a config has at a key.
@@ -43,48 +43,46 @@ fn is_secret(key: &str) -> bool
 }
 
 /// A copy of a text.
-fn text_value(alloc: Global, text: &str) -> Result<ConfigValue, AllocError>
+fn text_value(alloc: Global, text: &str) -> Result<ConfigValue, NoMemory>
     ensures { IfOk result (IsValueOf (string text.now)) }
 {
-    Ok(ConfigValue::Text(String::from_str(alloc, text)?))
+    Ok(ConfigValue::Text(text_of(alloc, text)?))
 }
 
 /// A copy of the text at this place, which is the first that no script has.
-fn bad_text(alloc: Global, texts: &[String], place: usize) -> Result<ConfigValue, AllocError>
+fn bad_text(alloc: Global, texts: &[String], place: usize) -> Result<ConfigValue, NoMemory>
     requires { IsFirstBad (map string_bytes texts.now) place }
     ensures { IfOk result (AreTextsOf (map string_bytes texts.now)) }
 {
     if place < texts.len() {
-        let text = String::from_str(alloc, texts[place].as_str())?;
+        let text = text_of(alloc, texts[place].as_str())?;
         return Ok(ConfigValue::BadText(place + 1, text));
     }
     Ok(ConfigValue::Texts)
 }
 
 /// The first of these texts that no script has, if one is such.
-fn texts_value(alloc: Global, texts: &[String]) -> Result<ConfigValue, AllocError>
+fn texts_value(alloc: Global, texts: &[String]) -> Result<ConfigValue, NoMemory>
     ensures { IfOk result (AreTextsOf (map string_bytes texts.now)) }
 {
-    match Script::of(alloc, 0, texts) {
-        Ok(_script) => Ok(ConfigValue::Texts),
-        Err(ScriptError::BadAnswer { place }) => bad_text(alloc, texts, place),
-        Err(ScriptError::OutOfMemory) => Err(AllocError),
-        Err(_none) => Ok(ConfigValue::Texts),
+    match first_bad_answer(alloc, texts)? {
+        Some(place) => bad_text(alloc, texts, place),
+        None => Ok(ConfigValue::Texts),
     }
 }
 
 /// What is shown of a list of values.
-fn list_value(alloc: Global, values: &[Value]) -> Result<ConfigValue, AllocError>
+fn list_value(alloc: Global, values: &[Value]) -> Result<ConfigValue, NoMemory>
     ensures { IfOk result (IsValueOf (array (items_view values.now))) }
 {
-    match strings_of(alloc, values)? {
+    match strings_in(alloc, values)? {
         Some(texts) => texts_value(alloc, texts.as_slice()),
         None => Ok(ConfigValue::Values),
     }
 }
 
 /// What is shown of a value.
-fn shown_value(alloc: Global, value: &Value) -> Result<ConfigValue, AllocError>
+fn shown_value(alloc: Global, value: &Value) -> Result<ConfigValue, NoMemory>
     ensures { IfOk result (IsValueOf (view value.now)) }
 {
     match value {
@@ -98,7 +96,7 @@ fn shown_value(alloc: Global, value: &Value) -> Result<ConfigValue, AllocError>
 }
 
 /// What is shown of a value, which may be a secret.
-fn value_or_hidden(alloc: Global, secret: bool, value: &Value) -> Result<ConfigValue, AllocError>
+fn value_or_hidden(alloc: Global, secret: bool, value: &Value) -> Result<ConfigValue, NoMemory>
     ensures { IfOk result (IsShownAs secret (view value.now)) }
 {
     if secret {
@@ -109,7 +107,7 @@ fn value_or_hidden(alloc: Global, secret: bool, value: &Value) -> Result<ConfigV
 }
 
 /// What a table has at a key. A password is not shown.
-pub fn value_at(alloc: Global, table: &Table, key: &str) -> Result<ConfigValue, AllocError>
+pub fn value_at(alloc: Global, table: &Table, key: &str) -> Result<ConfigValue, NoMemory>
     ensures { IfOk result (IsShownAt (is_hidden key.now) (get_member key.now (table_view table.now))) }
 {
     match table.get(key) {

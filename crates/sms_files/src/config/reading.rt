@@ -12,6 +12,7 @@ use crate::config::toml_flaw::TomlFlaw;
 use crate::config::toml_value::{bad_key, flag_at, mode_at, number_at, octets_at, text_at};
 use crate::config::{Answers, Config, Connection, FileNames, Flags, Retry};
 use crate::fault::InputFault;
+use crate::memory::toml_refusal;
 use sms_bind::Settings;
 use sms_pdu::{Mode, Octets};
 use sms_session::Policy;
@@ -223,7 +224,7 @@ pub fn table_of(alloc: Global, octets: &[u8]) -> Result<Table, InputFault>
     };
     match toml::table_from_str(alloc, text) {
         Ok(table) => Ok(table),
-        Err(error) if error.is_memory() => Err(InputFault::OutOfMemory),
+        Err(error) if error.is_memory() => Err(InputFault::OutOfMemory(toml_refusal(&error))),
         Err(error) => Err(InputFault::NotToml(TomlFlaw::of(octets, error))),
     }
 }

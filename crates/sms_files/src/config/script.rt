@@ -8,39 +8,40 @@ ghost use Rattle.sms_files.specs.ConfigFaults.{TellsKey};
 
 use crate::config::toml_value::bad_key;
 use crate::fault::InputFault;
-use sms_centre::{Script, ScriptError, strings_of};
-use std::alloc::{AllocError, Global};
+use crate::memory::{NoMemory, first_bad_answer, push, strings_in, text_of};
+use std::alloc::Global;
 use toml::{Table, Value};
 
 /// The texts where the config names none.
-fn default_answers(alloc: Global) -> Result<Vec<String>, AllocError>
+fn default_answers(alloc: Global) -> Result<Vec<String>, NoMemory>
     ensures { IfOk result (λ texts. answers_in None ≡ Some (map string_bytes texts.items)) }
 {
     let mut texts = Vec::new(alloc);
-    texts.push(String::from_str(alloc, "status 0")?)?;
+    push(&mut texts, text_of(alloc, "status 0")?)?;
     Ok(texts)
 }
 
 /// Whether there are texts, and each is one of a script.
-fn are_answers(alloc: Global, texts: &[String]) -> Result<bool, AllocError>
+fn are_answers(alloc: Global, texts: &[String]) -> Result<bool, NoMemory>
     ensures { IfOk result (λ good. some_answers (map string_bytes texts.now) ≡ (if good then Some (map string_bytes texts.now) else None)) }
 {
-    match Script::of(alloc, 0, texts) {
-        Ok(_script) => Ok(true),
-        Err(ScriptError::BadAnswer { place: _place }) => Ok(false),
-        Err(ScriptError::OutOfMemory) => Err(AllocError),
-        Err(_no_text) => Ok(false),
+    if texts.is_empty() {
+        return Ok(false);
+    }
+    match first_bad_answer(alloc, texts)? {
+        Some(_place) => Ok(false),
+        None => Ok(true),
     }
 }
 
 /// The texts of a value, where it is some that a script has.
-fn answers_of(alloc: Global, value: &Value) -> Result<Option<Vec<String>>, AllocError>
+fn answers_of(alloc: Global, value: &Value) -> Result<Option<Vec<String>>, NoMemory>
     ensures { IfOk result (λ r. MatchOption r (answers_in (Some (view value.now)) ≡ None) (λ v. answers_in (Some (view value.now)) ≡ Some (map string_bytes v.items))) }
 {
     let Some(values) = value.as_array() else {
         return Ok(None);
     };
-    let Some(texts) = strings_of(alloc, values.as_slice())? else {
+    let Some(texts) = strings_in(alloc, values.as_slice())? else {
         return Ok(None);
     };
     if are_answers(alloc, texts.as_slice())? {

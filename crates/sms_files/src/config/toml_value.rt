@@ -8,6 +8,7 @@ ghost use Rattle.sms_files.specs.ConfigFaults.{TellsKey};
 
 use crate::config::config_value::value_at;
 use crate::fault::InputFault;
+use crate::memory::text_of;
 use sms_pdu::{Mode, Octets};
 use std::alloc::Global;
 use toml::{Table, Value};
@@ -18,11 +19,11 @@ pub fn bad_key(alloc: Global, table: &Table, key: &str) -> InputFault
 {
     let value = match value_at(alloc, table, key) {
         Ok(value) => value,
-        Err(_) => return InputFault::OutOfMemory,
+        Err(no) => return InputFault::OutOfMemory(no),
     };
-    match String::from_str(alloc, key) {
+    match text_of(alloc, key) {
         Ok(name) => InputFault::BadKey(name, value),
-        Err(_) => InputFault::OutOfMemory,
+        Err(no) => InputFault::OutOfMemory(no),
     }
 }
 
@@ -93,9 +94,9 @@ pub fn text_at(alloc: Global, table: &Table, key: &str, default: &str) -> Result
     ensures refused { IfErr result (TellsKey (table_view table.now) (fault_at key.now (text_in default.now (get_member key.now (table_view table.now))))) }
 {
     match text_found(table, key, default) {
-        Some(text) => match String::from_str(alloc, text) {
+        Some(text) => match text_of(alloc, text) {
             Ok(copy) => Ok(copy),
-            Err(_) => Err(InputFault::OutOfMemory),
+            Err(no) => Err(InputFault::OutOfMemory(no)),
         },
         None => Err(bad_key(alloc, table, key)),
     }
@@ -127,9 +128,9 @@ pub fn octets_at(
 {
     match text_found(table, key, default) {
         Some(text) if text.len() < most && has_no_zero(text.as_bytes()) => {
-            match String::from_str(alloc, text) {
+            match text_of(alloc, text) {
                 Ok(copy) => Ok(Octets::new(copy.into_bytes())),
-                Err(_) => Err(InputFault::OutOfMemory),
+                Err(no) => Err(InputFault::OutOfMemory(no)),
             }
         }
         _ => Err(bad_key(alloc, table, key)),

@@ -1,7 +1,7 @@
 //! Why a text isn't written.
 
+use crate::memory::NoMemory;
 use crate::report::unwritten::Unwritten;
-use std::alloc::AllocError;
 
 /// Why a text isn't written whole.
 #[derive(Debug, Drop, thiserror::Error)]
@@ -11,16 +11,16 @@ pub enum OutputFault {
     Output(Unwritten),
     /// Memory was refused before the first octet was written.
     #[error("out of memory")]
-    OutOfMemory,
+    OutOfMemory(NoMemory),
 }
 
-impl From<AllocError> for OutputFault {
+impl From<NoMemory> for OutputFault {
     ghost use Rattle.std.specs.Prelude.{◌≡◌};
     ghost use Rattle.sms_files.specs.declared.report.fault.OutputFault.TheVariants.{OutOfMemory};
 
-    ghost from_gives = { λ _ f. f ≡ OutOfMemory };
+    ghost from_gives = { λ _ f. f ≡ OutOfMemory tt };
 
-    fn from(_e: AllocError) -> OutputFault {
-        OutputFault::OutOfMemory
+    fn from(no: NoMemory) -> OutputFault {
+        OutputFault::OutOfMemory(no)
     }
 }

@@ -6,6 +6,7 @@ ghost use Rattle.sms_files.specs.Output.{WritesFront, output_failed};
 ghost use Rattle.sms_files.specs.Report.{amount_text, amounts_text, answer_text, end_text, end_texts, field_text, head_text, last_text, needs_quotes as wants_quotes, quoted, refused_text, report_header, report_of, row_text, row_texts, segment_text, segment_texts, shown_id, statement_header};
 ghost use Rattle.sms_files.specs.declared.report.fault.OutputFault.TheVariants.{OutOfMemory};
 
+use crate::memory::{NoMemory, append, append_char, append_number, text_of};
 use crate::report::fault::OutputFault;
 use crate::report::output::write_out;
 use sms_book::{Opening, Statement};
@@ -15,35 +16,34 @@ use sms_message::{
     refusal_name,
 };
 use sms_pdu::{MessageId, Reply};
-use std::alloc::{AllocError, Global};
-use std::fmt::Write;
+use std::alloc::Global;
 use std::io;
 
 /// What is printed of a message_id: its octets, with `?` for each that isn't a printable ASCII
 /// character or is a space.
-fn shown_text(alloc: Global, id: &[u8]) -> Result<String, AllocError>
+fn shown_text(alloc: Global, id: &[u8]) -> Result<String, NoMemory>
     ensures { IfOk result (λ shown. string_bytes shown ≡ shown_id id.now) }
 {
     let mut shown = String::new(alloc);
     for octet in id {
         if *octet >= 0x21 && *octet <= 0x7E {
-            shown.push(char::from(*octet))?;
+            append_char(&mut shown, char::from(*octet))?;
         } else {
-            shown.push('?')?;
+            append_char(&mut shown, '?')?;
         }
     }
     Ok(shown)
 }
 
 /// Writes a field with each quote twice.
-fn write_quoted(text: &mut String, field: &str) -> Result<(), AllocError>
+fn write_quoted(text: &mut String, field: &str) -> Result<(), NoMemory>
     ensures { OnOk result (string_bytes text.new ≡ string_bytes text.old ++ quoted field.now) }
 {
     for c in field.chars() {
         if c == '"' {
-            text.push_str("\"\"")?;
+            append(text, "\"\"")?;
         } else {
-            text.push(c)?;
+            append_char(text, c)?;
         }
     }
     Ok(())
@@ -62,19 +62,19 @@ pub fn needs_quotes(field: &[u8]) -> bool
 }
 
 /// A field of CSV: as it stands, or in quotes where it has a comma, a quote or a line's end.
-pub fn write_field(text: &mut String, field: &str) -> Result<(), AllocError>
+pub fn write_field(text: &mut String, field: &str) -> Result<(), NoMemory>
     ensures { OnOk result (string_bytes text.new ≡ string_bytes text.old ++ field_text field.now) }
 {
     if !needs_quotes(field.as_bytes()) {
-        return text.push_str(field);
+        return append(text, field);
     }
-    text.push_str("\"")?;
+    append(text, "\"")?;
     write_quoted(text, field)?;
-    text.push_str("\"")
+    append(text, "\"")
 }
 
 /// A message_id.
-fn write_id(alloc: Global, text: &mut String, id: &MessageId) -> Result<(), AllocError>
+fn write_id(alloc: Global, text: &mut String, id: &MessageId) -> Result<(), NoMemory>
     ensures { OnOk result (string_bytes text.new ≡ string_bytes text.old ++ field_text (shown_id id.now)) }
 {
     let shown = shown_text(alloc, id.as_slice())?;
@@ -82,33 +82,26 @@ fn write_id(alloc: Global, text: &mut String, id: &MessageId) -> Result<(), Allo
 }
 
 /// The status and the message_id of the last attempt's reply; both empty where it has none.
-fn write_last<S>(
-    alloc: Global,
-    text: &mut String,
-    attempts: &[Attempt<S>],
-) -> Result<(), AllocError>
+fn write_last<S>(alloc: Global, text: &mut String, attempts: &[Attempt<S>]) -> Result<(), NoMemory>
     ensures { OnOk result (string_bytes text.new ≡ string_bytes text.old ++ last_text attempts.now) }
 {
     match attempts.last() {
         Some(attempt) => write_answer(alloc, text, &attempt.reply),
-        None => text.push_str(",\n"),
+        None => append(text, ",\n"),
     }
 }
 
 /// The status and the message_id of a reply, and the end of the line.
-pub fn write_answer(
-    alloc: Global,
-    text: &mut String,
-    reply: &Option<Reply>,
-) -> Result<(), AllocError>
+pub fn write_answer(alloc: Global, text: &mut String, reply: &Option<Reply>) -> Result<(), NoMemory>
     ensures { OnOk result (string_bytes text.new ≡ string_bytes text.old ++ answer_text reply.now) }
 {
     match reply {
-        None => text.push_str(",\n"),
+        None => append(text, ",\n"),
         Some(reply) => {
-            write!(text, "{},", reply.status)?;
+            append_number(text, "", u64::from(reply.status))?;
+            append(text, ",")?;
             write_id(alloc, text, &reply.id)?;
-            text.push_str("\n")
+            append(text, "\n")
         }
     }
 }
@@ -121,11 +114,16 @@ pub fn write_head(
     part: usize,
     tries: usize,
     outcome: Outcome,
-) -> Result<(), AllocError>
+) -> Result<(), NoMemory>
     ensures { OnOk result (string_bytes text.new ≡ string_bytes text.old ++ head_text index part tries outcome) }
 {
     let name = outcome_name(outcome);
-    write!(text, "{index},{part},{tries},{name},")
+    append_number(text, "", index)?;
+    append_number(text, ",", part as u64)?;
+    append_number(text, ",", tries as u64)?;
+    append(text, ",")?;
+    append(text, name)?;
+    append(text, ",")
 }
 
 /// The line of the segment of a message with this number, from 1.
@@ -135,7 +133,7 @@ fn write_segment<S>(
     index: u64,
     part: usize,
     segment: &SegmentEnd<S>,
-) -> Result<(), AllocError>
+) -> Result<(), NoMemory>
     ensures { OnOk result (string_bytes text.new ≡ string_bytes text.old ++ segment_text index part segment.now) }
 {
     let attempts = segment.attempts.as_slice();
@@ -149,7 +147,7 @@ fn write_segments<S>(
     text: &mut String,
     index: u64,
     segments: &[SegmentEnd<S>],
-) -> Result<(), AllocError>
+) -> Result<(), NoMemory>
     ensures { OnOk result (string_bytes text.new ≡ string_bytes text.old ++ segment_texts index 1 segments.now) }
 {
     for (place, segment) in segments.iter().enumerate() {
@@ -159,19 +157,18 @@ fn write_segments<S>(
 }
 
 /// The line of a message that was refused as a whole.
-pub fn write_refused(
-    text: &mut String,
-    index: u64,
-    refusal: MessageRefusal,
-) -> Result<(), AllocError>
+pub fn write_refused(text: &mut String, index: u64, refusal: MessageRefusal) -> Result<(), NoMemory>
     ensures { OnOk result (string_bytes text.new ≡ string_bytes text.old ++ refused_text index refusal) }
 {
     let name = refusal_name(refusal);
-    writeln!(text, "{index},0,0,{name},,")
+    append_number(text, "", index)?;
+    append(text, ",0,0,")?;
+    append(text, name)?;
+    append(text, ",,\n")
 }
 
 /// The lines of a message.
-fn write_end<S>(alloc: Global, text: &mut String, end: &MessageEnd<S>) -> Result<(), AllocError>
+fn write_end<S>(alloc: Global, text: &mut String, end: &MessageEnd<S>) -> Result<(), NoMemory>
     ensures { OnOk result (string_bytes text.new ≡ string_bytes text.old ++ end_text end.now) }
 {
     match &end.result {
@@ -183,7 +180,7 @@ fn write_end<S>(alloc: Global, text: &mut String, end: &MessageEnd<S>) -> Result
 }
 
 /// The lines of all messages.
-fn write_ends<S>(alloc: Global, text: &mut String, ends: &[MessageEnd<S>]) -> Result<(), AllocError>
+fn write_ends<S>(alloc: Global, text: &mut String, ends: &[MessageEnd<S>]) -> Result<(), NoMemory>
     ensures { OnOk result (string_bytes text.new ≡ string_bytes text.old ++ end_texts ends.now) }
 {
     for end in ends {
@@ -193,14 +190,14 @@ fn write_ends<S>(alloc: Global, text: &mut String, ends: &[MessageEnd<S>]) -> Re
 }
 
 /// A comma and the amount after it.
-fn write_amount(text: &mut String, amount: u64) -> Result<(), AllocError>
+fn write_amount(text: &mut String, amount: u64) -> Result<(), NoMemory>
     ensures { OnOk result (string_bytes text.new ≡ string_bytes text.old ++ amount_text amount) }
 {
-    write!(text, ",{amount}")
+    append_number(text, ",", amount)
 }
 
 /// The amounts of a row, and the end of the line.
-fn write_amounts(text: &mut String, row: &Row) -> Result<(), AllocError>
+fn write_amounts(text: &mut String, row: &Row) -> Result<(), NoMemory>
     ensures { OnOk result (string_bytes text.new ≡ string_bytes text.old ++ amounts_text row.now) }
 {
     write_amount(text, row.topped)?;
@@ -208,11 +205,11 @@ fn write_amounts(text: &mut String, row: &Row) -> Result<(), AllocError>
     write_amount(text, row.reserved)?;
     write_amount(text, row.charged)?;
     write_amount(text, row.returned)?;
-    text.push_str("\n")
+    append(text, "\n")
 }
 
 /// The line of an account in the statement.
-fn write_row(text: &mut String, opening: &Opening, row: &Row) -> Result<(), AllocError>
+fn write_row(text: &mut String, opening: &Opening, row: &Row) -> Result<(), NoMemory>
     ensures { OnOk result (string_bytes text.new ≡ string_bytes text.old ++ row_text opening.now row.now) }
 {
     write_field(text, opening.name.as_str())?;
@@ -220,7 +217,7 @@ fn write_row(text: &mut String, opening: &Opening, row: &Row) -> Result<(), Allo
 }
 
 /// A line for each account that has a row.
-fn write_rows(text: &mut String, openings: &[Opening], rows: &[Row]) -> Result<(), AllocError>
+fn write_rows(text: &mut String, openings: &[Opening], rows: &[Row]) -> Result<(), NoMemory>
     ensures { OnOk result (string_bytes text.new ≡ string_bytes text.old ++ row_texts openings.now rows.now) }
 {
     for place in 0..openings.len().min(rows.len()) {
@@ -230,10 +227,10 @@ fn write_rows(text: &mut String, openings: &[Opening], rows: &[Row]) -> Result<(
 }
 
 /// The text of a report that has its first line.
-pub fn begin_report(alloc: Global) -> Result<String, AllocError>
+pub fn begin_report(alloc: Global) -> Result<String, NoMemory>
     ensures { IfOk result (λ text. string_bytes text ≡ report_header) }
 {
-    String::from_str(alloc, "message,part,attempts,outcome,status,id\n")
+    text_of(alloc, "message,part,attempts,outcome,status,id\n")
 }
 
 /// The statement: its first line, and a line for each account that has a row.
@@ -241,10 +238,10 @@ pub fn write_statement(
     text: &mut String,
     openings: &[Opening],
     rows: &[Row],
-) -> Result<(), AllocError>
+) -> Result<(), NoMemory>
     ensures { OnOk result (string_bytes text.new ≡ string_bytes text.old ++ statement_header ++ row_texts openings.now rows.now) }
 {
-    text.push_str("account,topped,free,reserved,charged,returned\n")?;
+    append(text, "account,topped,free,reserved,charged,returned\n")?;
     write_rows(text, openings, rows)
 }
 
@@ -254,7 +251,7 @@ pub fn report_text<S>(
     openings: &[Opening],
     ends: &[MessageEnd<S>],
     rows: &[Row],
-) -> Result<String, AllocError>
+) -> Result<String, NoMemory>
     ensures { IfOk result (λ text. string_bytes text ≡ report_of openings.now ends.now rows.now) }
 {
     let mut text = begin_report(alloc)?;
@@ -273,11 +270,11 @@ pub fn write_rows_report<S, W: io::Write>(
     output: &mut W,
 ) -> Result<(), OutputFault>
     ensures written { OnOk result (Appends (W.contents output.old) (W.contents output.new) (report_of openings.now ends.now rows.now)) }
-    ensures failed { IfErr result (λ fault. (fault ≡ output_failed) ⊎ (fault ≡ OutOfMemory)) }
+    ensures failed { IfErr result (λ fault. (fault ≡ output_failed) ⊎ (fault ≡ OutOfMemory tt)) }
 
     // Where the output failed, the text was written only in part, and otherwise not at all.
     ensures front { IfErr result (λ fault. fault ≡ output_failed → WritesFront (W.contents output.old) (W.contents output.new) (report_of openings.now ends.now rows.now)) }
-    ensures quiet { IfErr result (λ fault. fault ≡ OutOfMemory → output.new ≡ output.old) }
+    ensures quiet { IfErr result (λ fault. fault ≡ OutOfMemory tt → output.new ≡ output.old) }
 {
     let text = report_text(alloc, openings, ends, rows)?;
     write_out(output, text.as_bytes())
@@ -292,9 +289,9 @@ pub fn write_report_of<S, W: io::Write>(
     output: &mut W,
 ) -> Result<(), OutputFault>
     ensures written { OnOk result (Appends (W.contents output.old) (W.contents output.new) (report_of openings.now ends.now statement.now)) }
-    ensures failed { IfErr result (λ fault. (fault ≡ output_failed) ⊎ (fault ≡ OutOfMemory)) }
+    ensures failed { IfErr result (λ fault. (fault ≡ output_failed) ⊎ (fault ≡ OutOfMemory tt)) }
     ensures front { IfErr result (λ fault. fault ≡ output_failed → WritesFront (W.contents output.old) (W.contents output.new) (report_of openings.now ends.now statement.now)) }
-    ensures quiet { IfErr result (λ fault. fault ≡ OutOfMemory → output.new ≡ output.old) }
+    ensures quiet { IfErr result (λ fault. fault ≡ OutOfMemory tt → output.new ≡ output.old) }
 {
     write_rows_report(alloc, openings, ends, statement.rows(), output)
 }

@@ -11,10 +11,11 @@ ghost use Rattle.sms_files.specs.Records.{IsReadAs, ReadsAll, TellsRecords, reco
 
 use crate::fault::{InputFault, Source};
 use crate::flaw::Flaw;
+use crate::memory::{next_record, push, text_of};
 use crate::tables::csv_file::CsvFile;
 use crate::tables::field::{number_at, text_at};
 use crate::tables::record_flaw::{bad_record, has_returns, line_of, missing_record};
-use crate::tables::records::{RowFault, next_record, read_all};
+use crate::tables::records::{RowFault, read_all};
 use crate::tables::rows::is_pair;
 use csv::{ByteRecord, Reader};
 use sms_book::Opening;
@@ -67,9 +68,9 @@ fn opening_of(alloc: Global, record: &ByteRecord, before: &[Opening]) -> Result<
     if let Some(flaw) = taken_by(before, name) {
         return Err(RowFault::Flawed(flaw));
     }
-    match String::from_str(alloc, name) {
+    match text_of(alloc, name) {
         Ok(name) => Ok(Opening { name, credits }),
-        Err(_) => Err(RowFault::OutOfMemory),
+        Err(no) => Err(RowFault::OutOfMemory(no)),
     }
 }
 
@@ -121,7 +122,7 @@ fn read_openings<R: Read>(
             return Ok(openings);
         }
         match opening_of(alloc, record, openings.as_slice()) {
-            Ok(opening) => openings.push(opening)?,
+            Ok(opening) => push(&mut openings, opening)?,
             Err(fault) => {
                 let line = line_of(reader, record, returns);
                 return Err(fault.at(alloc, Source::Accounts, before + 1, record, line));

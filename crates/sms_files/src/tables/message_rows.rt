@@ -8,13 +8,14 @@ ghost use Rattle.sms_files.specs.Records.{TellsRecords};
 ghost use Rattle.sms_files.specs.MessageRows.{AreMessages, AreSaid, HasFields, place_of as place_in};
 
 use crate::fault::{InputFault, Source};
+use crate::memory::{NoMemory, list_for, push, text_of};
 use crate::tables::messages::{MOST_MESSAGES, MessageText, message_fields};
 use crate::tables::records::{FromRecord, RowFault};
 use crate::tables::rows::{Headed, read_rows};
 use csv::ByteRecord;
 use sms_book::Opening;
 use sms_message::Message;
-use std::alloc::{AllocError, Global};
+use std::alloc::Global;
 use std::io::Read;
 
 /// What a message's record says.
@@ -39,10 +40,10 @@ impl FromRecord for MessageRow {
         match message_fields(record) {
             Err(flaw) => Err(RowFault::Flawed(flaw)),
             Ok(fields) => {
-                let account = String::from_str(alloc, fields.account)?;
-                let source = String::from_str(alloc, fields.source)?;
-                let destination = String::from_str(alloc, fields.destination)?;
-                let text = String::from_str(alloc, fields.text)?;
+                let account = text_of(alloc, fields.account)?;
+                let source = text_of(alloc, fields.source)?;
+                let destination = text_of(alloc, fields.destination)?;
+                let text = text_of(alloc, fields.text)?;
                 Ok(MessageRow {
                     account,
                     source,
@@ -92,13 +93,13 @@ fn addressed(
     alloc: Global,
     rows: Vec<MessageRow>,
     openings: &[Opening],
-) -> Result<Vec<Message>, AllocError>
+) -> Result<Vec<Message>, NoMemory>
     ensures { IfOk result (λ messages. AreSaid (names_of openings.now) 0 rows.items messages.items) }
 {
-    let mut messages = Vec::with_capacity(alloc, rows.len())?;
+    let mut messages = list_for(alloc, rows.as_slice())?;
     for row in rows {
         let index = messages.len() as u64;
-        messages.push(message_from(row, index, openings))?;
+        push(&mut messages, message_from(row, index, openings))?;
     }
     Ok(messages)
 }

@@ -9,6 +9,7 @@ ghost use Rattle.sms_files.specs.declared.fault.Source.TheVariants.{Messages};
 
 use crate::fault::{InputFault, Source};
 use crate::flaw::Flaw;
+use crate::memory::text_of;
 use crate::tables::field::text_at;
 use crate::tables::records::{FromRecord, RowFault};
 use crate::tables::rows::{Headed, is_field, read_rows};
@@ -51,7 +52,7 @@ impl FromRecord for MessageText {
         match message_fields(record) {
             Err(flaw) => Err(RowFault::Flawed(flaw)),
             Ok(fields) => {
-                let text = String::from_str(alloc, fields.text)?;
+                let text = text_of(alloc, fields.text)?;
                 Ok(MessageText { text })
             }
         }

@@ -4,11 +4,12 @@ ghost use Rattle.std.specs.Prelude.{◌≡◌, ◌≤◌, ℕ, ◌+◌, ◌⊎�
 ghost use Rattle.csv.specs.Records.{fields_of};
 ghost use Rattle.sms_book.specs.Tariffs.{IsTariff, Refuses, prices_of};
 ghost use Rattle.sms_files.specs.Fields.{records_of};
-ghost use Rattle.sms_files.specs.Rates.{IsRate, IsTariffFile, SaysRate, TellsPrices, TellsTariff, is_rates_header, rate_flaw, trouble_of as trouble_in};
+ghost use Rattle.sms_files.specs.Rates.{IsNoTariff, IsRate, IsTariffFile, SaysRate, TellsPrices, TellsTariff, is_rates_header, rate_flaw, trouble_of as trouble_in};
 ghost use Rattle.sms_files.specs.Records.{IsBadRecord};
 
 use crate::fault::{InputFault, Source};
 use crate::flaw::Flaw;
+use crate::memory::{NoTariff, make_tariff, text_of};
 use crate::tables::field::{text_at, u32_at};
 use crate::tables::record_flaw::{RecordFlaw, keep_octets};
 use crate::tables::records::{FromRecord, RowFault};
@@ -34,7 +35,7 @@ impl FromRecord for Rate {
         match rate_of(record) {
             Err(flaw) => Err(RowFault::Flawed(flaw)),
             Ok((prefix, credits)) => {
-                let prefix = String::from_str(alloc, prefix)?;
+                let prefix = text_of(alloc, prefix)?;
                 Ok(Rate { prefix, credits })
             }
         }
@@ -90,20 +91,31 @@ pub fn tariff_of(alloc: Global, rates: &[Rate]) -> Result<Tariff, InputFault>
     ensures tariff { IfOk result (λ tariff. (tariff ≡ prices_of rates.now) × IsTariff tariff) }
     ensures refused { IfErr result (TellsPrices (prices_of rates.now)) }
 {
-    match Tariff::new(alloc, rates) {
+    match make_tariff(alloc, rates) {
         Ok(tariff) => Ok(tariff),
-        Err(error) => Err(refused_of(alloc, rates, error)),
+        Err(why) => Err(fault_of(alloc, rates, why)),
+    }
+}
+
+/// The fault of rates of which no tariff is made, by why it isn't.
+fn fault_of(alloc: Global, rates: &[Rate], why: NoTariff) -> InputFault
+    requires { IsNoTariff (prices_of rates.now) why }
+    ensures { TellsPrices (prices_of rates.now) result }
+{
+    match why {
+        NoTariff::Refused(error) => refused_of(alloc, rates, error),
+        NoTariff::OutOfMemory(no) => InputFault::OutOfMemory(no),
     }
 }
 
 /// The fault of rates that are no tariff.
 fn refused_of(alloc: Global, rates: &[Rate], error: TariffError) -> InputFault
-    requires { (error ≡ TariffError.OutOfMemory) ⊎ Refuses (prices_of rates.now) error }
+    requires { Refuses (prices_of rates.now) error }
     ensures { TellsPrices (prices_of rates.now) result }
 {
     match trouble_of(error) {
         Some((place, flaw)) => bad_rate(alloc, rates, place, flaw),
-        None => InputFault::OutOfMemory,
+        None => unreachable!(),
     }
 }
 

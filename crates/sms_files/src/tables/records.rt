@@ -2,21 +2,17 @@
 
 ghost use Rattle.std.specs.Prelude.{◌≡◌, ◌<◌, ◌≤◌, ◌+◌, None, Option, List, ℕ, false, true, IfErr, IfOk, IfSome, OnOk, length, option_map};
 ghost use Rattle.std.specs.List.{AllZip};
-ghost use Rattle.csv.specs.Reading.{error_kind, is_io, reader_source};
 ghost use Rattle.csv.specs.Records.{fields_of};
-ghost use Rattle.sms_files.specs.Faults.{CountsErrors, IsDevice, IsUnreadable};
 ghost use Rattle.sms_files.specs.Fields.{records_of};
-ghost use Rattle.sms_files.specs.Records.{GivesFirst, IsDeviceError, IsReadAs, ReadsAll, TellsRecords, record_fault, records_left};
-ghost use Rattle.sms_files.specs.declared.fault.InputFault.TheVariants.{OutOfMemory};
-ghost use Rattle.sms_pdu.specs.Devices.{faults_of};
+ghost use Rattle.sms_files.specs.Records.{IsReadAs, ReadsAll, TellsRecords, record_fault, records_left};
 
 use crate::fault::{InputFault, Source};
 use crate::flaw::Flaw;
+use crate::memory::{NoMemory, next_record, push};
 use crate::tables::csv_file::CsvFile;
 use crate::tables::record_flaw::{bad_record, has_returns, line_of};
-use csv::{ByteRecord, Error, Reader, ReaderBuilder};
-use sms_pdu::{DeviceError, Tap};
-use std::alloc::{AllocError, Global};
+use csv::{ByteRecord, Reader, ReaderBuilder};
+use std::alloc::Global;
 use std::io::Read;
 
 /// Why a record is no row.
@@ -25,17 +21,17 @@ pub enum RowFault {
     /// It has this flaw.
     Flawed(Flaw),
     /// Memory was refused.
-    OutOfMemory,
+    OutOfMemory(NoMemory),
 }
 
-impl From<AllocError> for RowFault {
+impl From<NoMemory> for RowFault {
     ghost use Rattle.std.specs.Prelude.{◌≡◌};
     ghost use Rattle.sms_files.specs.declared.tables.records.RowFault.TheVariants.{OutOfMemory};
 
-    ghost from_gives = { λ _ f. f ≡ OutOfMemory };
+    ghost from_gives = { λ _ f. f ≡ OutOfMemory tt };
 
-    fn from(_e: AllocError) -> RowFault {
-        RowFault::OutOfMemory
+    fn from(no: NoMemory) -> RowFault {
+        RowFault::OutOfMemory(no)
     }
 }
 
@@ -55,7 +51,7 @@ impl RowFault {
     {
         match self {
             RowFault::Flawed(flaw) => bad_record(alloc, source, place, flaw, record, line),
-            RowFault::OutOfMemory => InputFault::OutOfMemory,
+            RowFault::OutOfMemory(no) => InputFault::OutOfMemory(no),
         }
     }
 }
@@ -99,7 +95,7 @@ pub fn read_records<T: FromRecord, R: Read>(
             return Ok(rows);
         }
         match T::from_record(alloc, record) {
-            Ok(row) => rows.push(row)?,
+            Ok(row) => push(&mut rows, row)?,
             Err(fault) => {
                 let line = line_of(reader, record, returns);
                 return Err(fault.at(alloc, source, before + 1, record, line));
@@ -124,40 +120,4 @@ pub fn read_all<R: Read>(alloc: Global, input: R) -> Reader<CsvFile<R>>
         .has_headers(false)
         .flexible(true)
         .from_reader(alloc, CsvFile::new(input))
-}
-
-/// Reads the next record into `record`, and answers whether there was one.
-pub fn next_record<R: Read>(
-    reader: &mut Reader<CsvFile<R>>,
-    record: &mut ByteRecord,
-    source: Source,
-) -> Result<bool, InputFault>
-    requires { ReadsAll reader.old }
-    ensures reads { OnOk result (ReadsAll reader.new) }
-    ensures first { IfOk result (λ found. IfSome (records_left R.remaining reader.old) (λ left.
-        GivesFirst left found (fields_of «record».new) (records_left R.remaining reader.new))) }
-    ensures device { IfErr result (IsDevice source) }
-    ensures counted { IfErr result (CountsErrors (reader_source reader.new).tap) }
-{
-    match reader.read_byte_record(record) {
-        Ok(found) => Ok(found),
-        Err(error) => Err(fault_of(&error, reader.get_ref().tap(), source)),
-    }
-}
-
-/// The fault that an error in reading a source is, by the errors that its device answered.
-fn fault_of<T>(error: &Error, device: &Tap<T>, source: Source) -> InputFault
-    requires { IsDeviceError (error_kind error.now) }
-    ensures reader { is_io (error_kind error.now) ≡ true → 0 < faults_of device.now → IsUnreadable source result }
-    ensures memory { is_io (error_kind error.now) ≡ false → result ≡ OutOfMemory }
-    ensures device { IsDevice source result }
-    ensures counted { CountsErrors device.now result }
-{
-    if !error.is_io_error() {
-        return InputFault::OutOfMemory;
-    }
-    match DeviceError::of(device) {
-        Some(failure) => InputFault::Unreadable(source, failure),
-        None => InputFault::OutOfMemory,
-    }
 }

@@ -8,9 +8,10 @@ ghost use Rattle.sms_files.specs.Rows.{AreRows, field_is, header_of, is_pair as 
 
 use crate::fault::{InputFault, Source};
 use crate::flaw::Flaw;
+use crate::memory::next_record;
 use crate::tables::csv_file::CsvFile;
 use crate::tables::record_flaw::{bad_record, line_of, missing_record};
-use crate::tables::records::{FromRecord, next_record, read_all, read_records};
+use crate::tables::records::{FromRecord, read_all, read_records};
 use csv::{ByteRecord, Reader};
 use std::alloc::Global;
 use std::io::Read;

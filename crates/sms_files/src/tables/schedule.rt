@@ -8,10 +8,11 @@ ghost use Rattle.sms_files.specs.Schedule.{one_number as one_spelled, two_number
 
 use crate::fault::{InputFault, Source};
 use crate::flaw::Flaw;
+use crate::memory::{make_world, next_record};
 use crate::tables::csv_file::CsvFile;
 use crate::tables::field::{number_at, u32_at};
 use crate::tables::record_flaw::{line_of, missing_record};
-use crate::tables::records::{FromRecord, RowFault, next_record, read_all, read_records};
+use crate::tables::records::{FromRecord, RowFault, read_all, read_records};
 use csv::{ByteRecord, Reader};
 use sms_core::{Event, MOST_ACCOUNTS, MOST_ATTEMPTS, MOST_SLOTS, World};
 use std::alloc::Global;
@@ -235,10 +236,9 @@ fn world_of(alloc: Global, record: &ByteRecord) -> Result<World, RowFault>
     if let Some(flaw) = limits_flaw(accounts, slots, attempts) {
         return Err(RowFault::Flawed(flaw));
     }
-    match World::new(alloc, accounts, slots, attempts) {
+    match make_world(alloc, accounts, slots, attempts) {
         Ok(world) => Ok(world),
-        // The limits are within their ranges.
-        Err(_no_memory) => Err(RowFault::OutOfMemory),
+        Err(no) => Err(RowFault::OutOfMemory(no)),
     }
 }
 

@@ -7,7 +7,7 @@ use std::test::Fail;
 /// The fault's text. Want of memory is the test's own.
 pub fn told_of(alloc: Global, fault: InputFault) -> Result<String, Fail> {
     match fault {
-        InputFault::OutOfMemory => Err(Fail::from(AllocError)),
+        InputFault::OutOfMemory(_) => Err(Fail::from(AllocError)),
         fault => Ok(fault.to_string(alloc)?),
     }
 }

@@ -3,10 +3,11 @@
 ghost use Rattle.std.specs.Prelude.{◌≡◌, ◌≤◌, ◌*◌, IfOk};
 ghost use Rattle.sms_files.specs.Quotes.{IsChecked, IsCounted, IsQuoteOf};
 
+use crate::memory::{NoMemory, count_parts};
 use crate::report::quote::quote::{Quote, Verdict};
 use sms_book::Tariff;
-use sms_message::{Message, has_addresses, is_known, part_cost, part_count};
-use std::alloc::{AllocError, Global};
+use sms_message::{Message, has_addresses, is_known, part_cost};
+use std::alloc::Global;
 
 /// A message that isn't cut.
 fn uncut(verdict: Verdict) -> Quote
@@ -35,7 +36,7 @@ fn checked(
     long: bool,
     tariff: &Tariff,
     message: &Message,
-) -> Result<Quote, AllocError>
+) -> Result<Quote, NoMemory>
     ensures checked { IfOk result (λ q. IsChecked accounts long tariff.now message.now q) }
     ensures counted { IfOk result IsCounted }
 {
@@ -45,7 +46,7 @@ fn checked(
     if !has_addresses(message) {
         return Ok(uncut(Verdict::BadAddress));
     }
-    let Some(parts) = part_count(alloc, long, message)? else {
+    let Some(parts) = count_parts(alloc, long, message)? else {
         return Ok(uncut(Verdict::TooLong));
     };
     let price = part_cost(tariff, message);
@@ -64,7 +65,7 @@ pub(crate) fn quote_of(
     tariff: &Tariff,
     free: u64,
     message: &Message,
-) -> Result<Quote, AllocError>
+) -> Result<Quote, NoMemory>
     ensures quote { IfOk result (λ q. IsQuoteOf accounts long tariff.now free message.now q) }
     ensures counted { IfOk result IsCounted }
 {

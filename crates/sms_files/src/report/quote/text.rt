@@ -4,14 +4,14 @@ ghost use Rattle.std.specs.Prelude.{◌≡◌, ◌++◌, IfOk, OnOk, length, str
 ghost use Rattle.sms_files.specs.QuoteText.{IsQuoteText, account_line, kept_text, name_of, number_field, quote_line, quote_lines, total_lines, verdict_name as name_of_verdict};
 
 use crate::Input;
+use crate::memory::{NoMemory, append, append_number, text_of};
 use crate::report::quote::quote::{Quote, Verdict};
 use crate::report::quote::quoting::quoted;
 use crate::report::quote::total::Total;
 use crate::report::report::write_field;
 use sms_book::{Opening, Tariff};
 use sms_message::Message;
-use std::alloc::{AllocError, Global};
-use std::fmt::Write;
+use std::alloc::Global;
 
 /// The name of a verdict.
 fn verdict_name(verdict: Verdict) -> &'static str
@@ -27,10 +27,10 @@ fn verdict_name(verdict: Verdict) -> &'static str
 }
 
 /// A comma and the number after it.
-fn write_number(text: &mut String, number: u64) -> Result<(), AllocError>
+fn write_number(text: &mut String, number: u64) -> Result<(), NoMemory>
     ensures { OnOk result (string_bytes text.new ≡ string_bytes text.old ++ number_field number) }
 {
-    write!(text, ",{number}")
+    append_number(text, ",", number)
 }
 
 /// The name of a message's account.
@@ -38,7 +38,7 @@ fn write_name(
     text: &mut String,
     openings: &[Opening],
     account: Option<usize>,
-) -> Result<(), AllocError>
+) -> Result<(), NoMemory>
     ensures { OnOk result (string_bytes text.new ≡ string_bytes text.old ++ name_of openings.now account) }
 {
     let Some(place) = account else {
@@ -56,17 +56,18 @@ fn write_quote(
     openings: &[Opening],
     message: &Message,
     quote: Quote,
-) -> Result<(), AllocError>
+) -> Result<(), NoMemory>
     ensures { OnOk result (string_bytes text.new ≡ string_bytes text.old ++ quote_line openings.now message.now quote) }
 {
     let index = message.index;
-    write!(text, "{index},")?;
+    append_number(text, "", index)?;
+    append(text, ",")?;
     write_name(text, openings, message.account)?;
     write_number(text, quote.parts)?;
     write_number(text, quote.cost)?;
-    text.push_str(",")?;
-    text.push_str(verdict_name(quote.verdict))?;
-    text.push_str("\n")
+    append(text, ",")?;
+    append(text, verdict_name(quote.verdict))?;
+    append(text, "\n")
 }
 
 /// A line for each message.
@@ -75,7 +76,7 @@ fn write_quotes(
     openings: &[Opening],
     messages: &[Message],
     quotes: &[Quote],
-) -> Result<(), AllocError>
+) -> Result<(), NoMemory>
     requires { length quotes.now ≡ length messages.now }
     ensures { OnOk result (string_bytes text.new ≡ string_bytes text.old ++ quote_lines openings.now messages.now quotes.now) }
 {
@@ -86,7 +87,7 @@ fn write_quotes(
 }
 
 /// The line of an account.
-fn write_account(text: &mut String, opening: &Opening, total: Total) -> Result<(), AllocError>
+fn write_account(text: &mut String, opening: &Opening, total: Total) -> Result<(), NoMemory>
     ensures { OnOk result (string_bytes text.new ≡ string_bytes text.old ++ account_line opening.now total) }
 {
     write_field(text, opening.name.as_str())?;
@@ -95,15 +96,11 @@ fn write_account(text: &mut String, opening: &Opening, total: Total) -> Result<(
     write_number(text, total.parts)?;
     write_number(text, total.cost)?;
     write_number(text, opening.credits.saturating_sub(total.cost))?;
-    text.push_str("\n")
+    append(text, "\n")
 }
 
 /// A line for each account.
-fn write_accounts(
-    text: &mut String,
-    openings: &[Opening],
-    totals: &[Total],
-) -> Result<(), AllocError>
+fn write_accounts(text: &mut String, openings: &[Opening], totals: &[Total]) -> Result<(), NoMemory>
     requires { length totals.now ≡ length openings.now }
     ensures { OnOk result (string_bytes text.new ≡ string_bytes text.old ++ total_lines openings.now totals.now) }
 {
@@ -120,14 +117,14 @@ fn formed(
     messages: &[Message],
     quotes: &[Quote],
     totals: &[Total],
-) -> Result<String, AllocError>
+) -> Result<String, NoMemory>
     requires quotes { length quotes.now ≡ length messages.now }
     requires totals { length totals.now ≡ length openings.now }
     ensures { IfOk result (λ text. string_bytes text ≡ kept_text openings.now messages.now quotes.now totals.now) }
 {
-    let mut text = String::from_str(alloc, "message,account,parts,cost,verdict\n")?;
+    let mut text = text_of(alloc, "message,account,parts,cost,verdict\n")?;
     write_quotes(&mut text, openings, messages, quotes)?;
-    text.push_str("account,credits,messages,parts,cost,left\n")?;
+    append(&mut text, "account,credits,messages,parts,cost,left\n")?;
     write_accounts(&mut text, openings, totals)?;
     Ok(text)
 }
@@ -139,7 +136,7 @@ fn quoted_text(
     long: bool,
     tariff: &Tariff,
     messages: &[Message],
-) -> Result<String, AllocError>
+) -> Result<String, NoMemory>
     ensures { IfOk result (λ text. IsQuoteText openings.now long tariff.now messages.now (string_bytes text)) }
 {
     let (quotes, totals) = quoted(alloc, openings, long, tariff, messages)?;
@@ -157,7 +154,7 @@ fn quoted_text(
 /// cost in credits and its verdict, and a line for each account with its credits, the messages that
 /// pass, their parts, their cost, and what is left. Each message is checked as a worker would check
 /// it, in their order, as if each segment of those before it were charged. Only memory can be refused.
-pub fn quote_text(alloc: Global, input: &Input) -> Result<String, AllocError>
+pub fn quote_text(alloc: Global, input: &Input) -> Result<String, NoMemory>
     ensures { IfOk result (λ text. IsQuoteText input.now.openings.items input.now.config.flags.long_reference input.now.tariff input.now.messages.items (string_bytes text)) }
 {
     let long = input.config().flags.long_reference;

@@ -5,9 +5,10 @@ ghost use Rattle.sms_files.specs.Totals.{FitIn, Fits, IsGrown, cost_at, left_in,
 ghost use Rattle.sms_files.specs.Quotes.{credits_at};
 ghost use Rattle.sms_files.specs.declared.report.quote.total.Total.{Total as TheTotal};
 
+use crate::memory::{NoMemory, push};
 use crate::report::quote::quote::{Quote, Verdict};
 use sms_book::Opening;
-use std::alloc::{AllocError, Global};
+use std::alloc::Global;
 
 /// How many messages of an account pass, their parts, and their cost in credits.
 #[derive(Clone, Copy, Debug, PartialEq, Eq)]
@@ -18,17 +19,20 @@ pub(crate) struct Total {
 }
 
 /// Those of this number of accounts before any message.
-pub(crate) fn no_totals(alloc: Global, accounts: usize) -> Result<Vec<Total>, AllocError>
+pub(crate) fn no_totals(alloc: Global, accounts: usize) -> Result<Vec<Total>, NoMemory>
     ensures count { IfOk result (λ totals. length totals.items ≡ accounts) }
     ensures each { IfOk result (λ totals. (i : ℕ) (t : TheTotal) → slice_get totals.items i ≡ Some t → t ≡ nothing) }
 {
     let mut totals = Vec::new(alloc);
     for _ in 0..accounts {
-        totals.push(Total {
-            messages: 0,
-            parts: 0,
-            cost: 0,
-        })?;
+        push(
+            &mut totals,
+            Total {
+                messages: 0,
+                parts: 0,
+                cost: 0,
+            },
+        )?;
     }
     Ok(totals)
 }

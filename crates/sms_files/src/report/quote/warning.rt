@@ -4,9 +4,9 @@ ghost use Rattle.std.specs.Prelude.{◌≡◌, ◌++◌, IfOk, OnOk, string_byte
 ghost use Rattle.sms_files.specs.Warnings.{behind_line as what_is_behind, commas, looks_open as is_open, warning_line, warning_lines};
 
 use crate::Input;
+use crate::memory::{NoMemory, append, append_number};
 use sms_message::Message;
-use std::alloc::{AllocError, Global};
-use std::fmt::Write;
+use std::alloc::Global;
 
 /// How many commas after a line feed look like records: as many as stand in a messages record.
 const COMMAS: usize = 3;
@@ -44,21 +44,21 @@ fn looks_open(text: &[u8]) -> bool
 }
 
 /// The line of a message whose text looks so, and nothing of another.
-fn write_warning(text: &mut String, message: &Message) -> Result<(), AllocError>
+fn write_warning(text: &mut String, message: &Message) -> Result<(), NoMemory>
     ensures { OnOk result (string_bytes text.new ≡ string_bytes text.old ++ warning_line message.now) }
 {
     if !looks_open(message.text.as_bytes()) {
         return Ok(());
     }
-    let index = message.index;
-    write!(
+    append_number(text, "warning: message ", message.index)?;
+    append(
         text,
-        "warning: message {index}: its text has a line end and commas: is a quote left open?\n"
+        ": its text has a line end and commas: is a quote left open?\n",
     )
 }
 
 /// The lines of these messages.
-fn write_warnings(text: &mut String, messages: &[Message]) -> Result<(), AllocError>
+fn write_warnings(text: &mut String, messages: &[Message]) -> Result<(), NoMemory>
     ensures { OnOk result (string_bytes text.new ≡ string_bytes text.old ++ warning_lines messages.now) }
 {
     for place in 0..messages.len() {
@@ -70,7 +70,7 @@ fn write_warnings(text: &mut String, messages: &[Message]) -> Result<(), AllocEr
 /// The warnings of the messages of an input: a line for each whose text has a line feed and after it
 /// at least as many commas as stand in a messages record. A quote that is left open in a messages file
 /// makes such a text of the records after it.
-pub fn warnings_text(alloc: Global, input: &Input) -> Result<String, AllocError>
+pub fn warnings_text(alloc: Global, input: &Input) -> Result<String, NoMemory>
     ensures { IfOk result (λ text. string_bytes text ≡ warning_lines input.now.messages.items) }
 {
     let mut text = String::new(alloc);

@@ -7,5 +7,5 @@ use Rattle.sms_files.proofs.report.report.write_quoted.Goals as goal
 
 pub loop-c-preserved : goal.loop-c-preserved
 loop-c-preserved c =
-    with_other (string_bytes c.loop-c.text) (string_bytes c.push.new.self) (string_bytes c.args.text.now ++ quoted c.args.field.now) (chars_rest c.loop-c.c-iterator) (chars_rest c.next.new.self)
-    c.in-Some.c c.loop-c.invariant c.in-Some.ensures.steps.0 c.if-c-eq34.false c.in_ok-push.ensures.bytes
+    with_other (string_bytes c.loop-c.text) (string_bytes c.append_char.new.text) (string_bytes c.args.text.now ++ quoted c.args.field.now) (chars_rest c.loop-c.c-iterator) (chars_rest c.next.new.self)
+    c.in-Some.c c.loop-c.invariant c.in-Some.ensures.steps.0 c.if-c-eq34.false c.in_ok-append_char.ensures.bytes

@@ -9,10 +9,10 @@ returns-in-Some c =
     let (good, name_is, credits_are) = c.in-Ok.ensures in
     beside (names_of c.args.before.now) (fields_of c.args.record.now) c.in-Ok.account.0.now (Some c.in-Some.flaw) good name_is (sym c.in-Some.ensures)
 
-pub returns-in-Ok-from_str : goal.returns-in-Ok-from_str
-returns-in-Ok-from_str c =
+pub returns-in-Ok-text_of : goal.returns-in-Ok-text_of
+returns-in-Ok-text_of c =
     let (good, name_is, credits_are) = c.in-Ok.ensures in
     let new = sym c.taken_by.ensures ∙ not_some c.taken_by.result c.in_default.not-Some in (
       beside (names_of c.args.before.now) (fields_of c.args.record.now) c.in-Ok.account.0.now None good name_is new,
-      (name_is ∙ ap Some (sym c.in-Ok-from_str.ensures.ok), credits_are),
+      (name_is ∙ ap Some (sym c.in-Ok-text_of.ensures.ok), credits_are),
     )

@@ -46,10 +46,10 @@ loop-before-preserved g c =
       reads = c.in_ok-next_record.ensures.reads;
       count = omega (arith, simp length-append at (ap length pushed), c.loop-before.invariant.count);
       rest = λ left known.
-          one-more SaysAccount (rest_fault [] 1 left) (rest_fault (names_of openings) before) (rest_fault (names_of c.push.new.self.items) (before + 1)) left openings c.push.new.self.items c.in-Ok.opening
+          one-more SaysAccount (rest_fault [] 1 left) (rest_fault (names_of openings) before) (rest_fault (names_of c.push.new.list.items) (before + 1)) left openings c.push.new.list.items c.in-Ok.opening
           (records_left g.R.Read.remaining c.loop-before.reader) (records_left g.R.Read.remaining c.next_record.new.reader) c.in_ok-next_record.field-0 r
           (c.loop-before.invariant.rest left known) c.in_ok-next_record.ensures.first c.if-not-branch.false
-          (λ rs. one-account openings c.push.new.self.items before r c.in-Ok.opening rs low read.0 read.1 pushed) read.1 pushed;
+          (λ rs. one-account openings c.push.new.list.items before r c.in-Ok.opening rs low read.0 read.1 pushed) read.1 pushed;
     }
 
 pub returns-then-branch-clause-faulty : goal.returns-then-branch-clause-faulty

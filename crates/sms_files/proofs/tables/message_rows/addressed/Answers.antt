@@ -7,7 +7,7 @@ use Rattle.sms_files.proofs.tables.message_rows.addressed.Goals as goal
 
 pub loop-row-preserved : goal.loop-row-preserved
 loop-row-preserved c =
-    one-more-said (names_of c.args.openings.now) _ c.loop-row.yielded c.loop-row.messages.items c.push.new.self.items c.in-Some.row c.message_from.result
+    one-more-said (names_of c.args.openings.now) _ c.loop-row.yielded c.loop-row.messages.items c.push.new.list.items c.in-Some.row c.message_from.result
     c.loop-row.invariant c.message_from.ensures (search rules) c.in_ok-push.ensures.items
 
 pub returns : goal.returns

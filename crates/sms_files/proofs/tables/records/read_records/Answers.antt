@@ -43,7 +43,7 @@ loop-before-preserved g c =
       reads = c.in_ok-next_record.ensures.reads;
       count = omega (arith, simp length-append at (ap length pushed), c.loop-before.invariant.count);
       rest = λ left known.
-          one-more Says (record_fault flaw c.args.most 1 left) (record_fault flaw c.args.most before) (record_fault flaw c.args.most (before + 1)) left c.loop-before.rows.items c.push.new.self.items c.in-Ok.row (records_left g.R.Read.remaining c.loop-before.reader)
+          one-more Says (record_fault flaw c.args.most 1 left) (record_fault flaw c.args.most before) (record_fault flaw c.args.most (before + 1)) left c.loop-before.rows.items c.push.new.list.items c.in-Ok.row (records_left g.R.Read.remaining c.loop-before.reader)
           (records_left g.R.Read.remaining c.next_record.new.reader) c.in_ok-next_record.field-0 (fields_of c.next_record.new.record)
           (c.loop-before.invariant.rest left known) c.in_ok-next_record.ensures.first c.if-not-branch.false
           (λ rs. fault-good flaw c.args.most before (fields_of c.next_record.new.record) rs low read.0) read.1 pushed;
@@ -81,7 +81,7 @@ returns-in_err-next_record-clause-faulty g c =
 pub returns-in_err-push-in-Ok-clause-faulty : goal.returns-in_err-push-in-Ok-clause-faulty
 returns-in_err-push-in-Ok-clause-faulty g c =
     refused c.from_residual-in_err-push-in-Ok.result _ c.from_residual-in_err-push-in-Ok.ensures.1
-    (device-tells c.args.source (records_left g.R.Read.remaining c.args.reader.now) (record_fault g.T.FromRecord.flaw c.args.most 1) OutOfMemory (inr refl))
+    (device-tells c.args.source (records_left g.R.Read.remaining c.args.reader.now) (record_fault g.T.FromRecord.flaw c.args.most 1) (OutOfMemory tt) (inr refl))
 
 pub returns-in_err-next_record-2-clause-faulty : goal.returns-in_err-next_record-2-clause-faulty
 returns-in_err-next_record-2-clause-faulty g c =

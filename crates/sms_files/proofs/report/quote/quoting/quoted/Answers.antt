@@ -24,7 +24,7 @@ loop-place-preserved c =
     let before = c.loop-place.invariant in
     let m = c.index-messages-place.result in
     let q = c.in_ok-quote.quote in
-    let pushed : c.push.new.self.items ≡ c.loop-place.quotes.items ++ q ∷ [] = search rules in
+    let pushed : c.push.new.list.items ≡ c.loop-place.quotes.items ++ q ∷ [] = search rules in
     let said : IsQuoteOf (length c.args.openings.now) c.args.long c.args.tariff.now (left_in c.args.openings.now c.loop-place.totals.items m.account) m q = search rules in
     let fit : FitIn c.args.openings.now m.account q c.loop-place.totals.items =
     fits c.args.openings.now c.args.long c.args.tariff.now (take c.loop-place.place c.args.messages.now) c.loop-place.quotes.items c.loop-place.totals.items m q before.totals (search rules) said in

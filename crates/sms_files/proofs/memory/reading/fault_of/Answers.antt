@@ -1,5 +1,5 @@
 use Rattle.std.proofs.Common.{refl, inl}
-use Rattle.sms_files.proofs.tables.records.fault_of.Goals as goal
+use Rattle.sms_files.proofs.memory.reading.fault_of.Goals as goal
 
 pub returns-in-Some-clause-reader : goal.returns-in-Some-clause-reader
 returns-in-Some-clause-reader g c = λ io counted. (c.in-Some.failure, refl)

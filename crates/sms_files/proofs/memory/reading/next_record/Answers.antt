@@ -2,7 +2,7 @@ use Rattle.csv.specs.Records.{fields_of}
 use Rattle.sms_pdu.specs.Devices.{device}
 use Rattle.sms_files.proofs.Left.{first-left}
 use Rattle.sms_files.proofs.ReadErrors.{only-device}
-use Rattle.sms_files.proofs.tables.records.next_record.Goals as goal
+use Rattle.sms_files.proofs.memory.reading.next_record.Goals as goal
 
 pub fault_of-requires : goal.fault_of-requires
 fault_of-requires g c =
