@@ -1,7 +1,7 @@
 -- Segments of a message that is begun.
-use Rattle.std.proofs.Common.{◌≡◌, ℕ, zero, suc, ◌+◌, ◌*◌, ◌<◌, List, [], ◌∷◌, ◌++◌, length, Some, None, inl, inr, refl, ap, ◌∙◌, sym, subst, arith, add-one, zero-mul, suc-mul, length-append, eq-eqb, ne_eqb}
+use Rattle.std.proofs.Common.{◌≡◌, ◌≢◌, ℕ, zero, suc, ◌+◌, ◌*◌, ◌<◌, List, [], ◌∷◌, ◌++◌, length, Some, None, inl, inr, refl, ap, ◌∙◌, sym, subst, arith, add-one, zero-mul, suc-mul, length-append, eq-eqb, ne_eqb}
 use Rattle.sms_book.specs.Tariffs.{cost_of}
-use Rattle.std.specs.Prelude.{string_bytes, Option, ◌⊎◌, slice_get, slice_set}
+use Rattle.std.specs.Prelude.{string_bytes, Option, Result, Err, ◌⊎◌, slice_get, slice_set}
 use mathlib.Core.Logic.{dite}
 use native.Mathlib.Decide.{ℕ_discrete}
 use Rattle.sms_core.specs.Rows.{reserved_of, charged_of, returned_of}
@@ -14,31 +14,43 @@ use Rattle.sms_book.specs.Shares.{Share, changed}
 use Rattle.sms_message.specs.declared.message.Message.{Message}
 use Rattle.sms_worker.specs.declared.state.open.Open.{Open}
 use Rattle.sms_worker.specs.Types.{SegmentEnd, MessageEnd}
-use Rattle.sms_worker.specs.Begins.{fresh, ready, Begins}
+use Rattle.sms_worker.specs.Begins.{fresh, ready, Begins, IsNoParts, Refuses}
 use Rattle.sms_message.specs.Ends.{segments_in, total_in, credit, uses}
 use Rattle.sms_worker.specs.Start.{Start}
 use Rattle.sms_message.specs.Submits.{HasAddresses}
 use Rattle.sms_message.specs.declared.rules.Rules.{Rules}
 use Rattle.sms_message.specs.declared.ends.MessageRefusal.{MessageRefusal}
-use Rattle.sms_message.specs.declared.ends.MessageRefusal.TheVariants.{NoAccount, NoCredit, TooLong, BadAddress, BindClosed, OutOfMemory}
+use Rattle.sms_message.specs.declared.ends.MessageRefusal.TheVariants.{NoCredit, BindClosed, OutOfMemory}
 use Rattle.sms_message.specs.declared.user_data.UserData.{UserData}
 use Rattle.sms_worker.specs.Told.{IsTold, Grew}
 use Rattle.sms_message.specs.Results.{IsResultOf}
-use Rattle.sms_message.specs.Admission.{IsRefusalOf, IsNotCut, IsKnown}
+use Rattle.sms_message.specs.Admission.{IsRefusalOf, IsKnown}
+use Rattle.sms_worker.specs.declared.steps.parts.NoMessageMemory.{NoMessageMemory}
+use Rattle.sms_worker.specs.declared.steps.parts.NoParts.{NoParts}
+use Rattle.sms_worker.specs.declared.steps.parts.NoParts.TheVariants as no
+use Rattle.sms_worker.specs.Reasons.{RestsOn}
 use Rattle.sms_message.specs.UserData.{message_data}
 use Rattle.sms_worker.specs.Keeps.{Keeps}
 use Rattle.sms_message.specs.declared.ends.MessageResult.TheVariants.{Refused}
 use Rattle.sms_worker.proofs.EndLemmas.{get_last, total_append, got_of_more, got_of_append}
 use Rattle.sms_worker.proofs.Changes.{amounts_there, amounts_other}
 
--- why a text isn't cut is why its message is refused
-pub not_cut : (rules : Rules) (accounts : ℕ) (m : Message) (e : MessageRefusal) → IsKnown accounts m.account → HasAddresses m → IsNotCut rules m e → IsRefusalOf rules accounts m e
-not_cut rules accounts m TooLong known good is = (known, good, is)
-not_cut rules accounts m OutOfMemory known good is = (known, good)
-not_cut rules accounts m NoAccount known good is = absurd is
-not_cut rules accounts m BadAddress known good is = absurd is
-not_cut rules accounts m NoCredit known good is = absurd is
-not_cut rules accounts m BindClosed known good is = absurd is
+-- why a message has no parts is why it is refused
+pub refused_so : (rules : Rules) (accounts : ℕ) (m : Message) (none : NoParts) (refusal : MessageRefusal) (evidence : Option NoMessageMemory) → IsKnown accounts m.account → HasAddresses m → IsNoParts rules m none → Refuses none refusal evidence
+    → IsRefusalOf rules accounts m refusal × RestsOn m.index refusal evidence
+refused_so rules accounts m no.TooLong refusal evidence known good long (is, without) = (subst (IsRefusalOf rules accounts m) (sym is) (known, good, long), subst (λ r. RestsOn m.index r evidence) (sym is) tt)
+refused_so rules accounts m (no.Memory no_memory) refusal evidence known good its (is, told) =
+    (subst (IsRefusalOf rules accounts m) (sym is) (known, good), subst (λ r. RestsOn m.index r evidence) (sym is) (subst (RestsOn m.index OutOfMemory) (sym told) its))
+
+pub refused_otherwise : (none : NoParts) (refusal : MessageRefusal) (evidence : Option NoMessageMemory) → Refuses none refusal evidence → (refusal ≢ NoCredit) × (refusal ≢ BindClosed)
+refused_otherwise no.TooLong refusal evidence (is, without) = (λ e. cc, λ e. cc)
+refused_otherwise (no.Memory no_memory) refusal evidence (is, told) = (λ e. cc, λ e. cc)
+
+-- a message that can't be prepared since the line is down is refused as bind-closed
+pub closed_so : {A : Type 0} (r : Result A (MessageRefusal × Option NoMessageMemory)) (refusal : MessageRefusal) (evidence : Option NoMessageMemory) → r ≡ Err (refusal, evidence) → r ≡ Err (BindClosed, None) → refusal ≡ BindClosed
+closed_so r refusal evidence is down =
+    let same : (refusal, evidence) ≡ (BindClosed, None) = cc in
+    ap (λ (e : MessageRefusal × Option NoMessageMemory). e.0) same
 
 ready_snoc : (cost n : ℕ) → ready cost n ++ fresh cost ∷ [] ≡ ready cost (suc n)
 ready_snoc cost zero = refl

@@ -1,6 +1,6 @@
 -- Where the bind closed, as a run goes on.
 use Rattle.std.proofs.Common.{◌≡◌, ℕ, zero, suc, Bool, true, false, List, [], ◌∷◌, ◌++◌, Some, inl, inr, refl, sym, subst, arith}
-use Rattle.std.specs.Prelude.{slice_get}
+use Rattle.std.specs.Prelude.{IsTrue, slice_get}
 use Rattle.sms_worker.specs.Types.{SegmentEnd, MessageEnd, MessageResult}
 use Rattle.sms_message.specs.declared.ends.MessageRefusal.TheVariants.{BindClosed}
 use Rattle.sms_message.specs.declared.ends.MessageResult.TheVariants.{Sent, Refused as NotSent}
@@ -45,14 +45,10 @@ closes_put closed es m p s c = record {
 pub closes_none : (closed : Bool) → Closes closed []
 closes_none closed = record { stays = λ j k d e low at there is. absurd (cc); open_yet = λ off k e at is. absurd (cc) }
 
--- the bind is closed from now on
-pub closes_now : (closed : Bool) (es : List MessageEnd) → Closes closed es → Closes true es
-closes_now closed es c = record { stays = c.stays; open_yet = λ off k e at is. absurd (cc) }
-
--- or it may be
-pub closes_maybe : (closed : Bool) (es : List MessageEnd) → Closes false es → Closes closed es
-closes_maybe true es c = closes_now false es c
-closes_maybe false es c = c
+-- the bind may be closed by now
+pub closes_stays : (old new : Bool) (es : List MessageEnd) → (IsTrue old → IsTrue new) → Closes old es → Closes new es
+closes_stays true new es stays c = record { stays = c.stays; open_yet = λ off k e at is. absurd (let on = stays refl in cc) }
+closes_stays false new es stays c = record { stays = c.stays; open_yet = λ off k e at is. c.open_yet refl k e at is }
 
 -- one message more, which is refused so exactly where the bind is closed
 stays_more : (closed : Bool) (es : List MessageEnd) (x : MessageEnd) → Closes closed es → (IsClosed x → closed ≡ true) → (closed ≡ true → IsClosed x) → StaysClosed (es ++ x ∷ [])

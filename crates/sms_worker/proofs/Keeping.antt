@@ -32,7 +32,7 @@ use Rattle.sms_worker.specs.Keeps.{Keeps, slots_of}
 use Rattle.sms_worker.specs.Steps.{GivesUp, Answers, with_outcome, outcome_after, number_unsent, settled_to, Tries}
 use Rattle.sms_worker.specs.declared.steps.attempt.TrySend.{TrySend}
 use Rattle.sms_worker.specs.declared.steps.attempt.TrySend.TheVariants.{Sent, Retry, GiveUp}
-use Rattle.sms_worker.specs.declared.steps.give_up.GiveUpReason.TheVariants.{Over, Numbers, Memory, Gate, Line}
+use Rattle.sms_worker.specs.declared.steps.give_up.GiveUpReason.TheVariants.{Done, Gate, Kept, Line, Memory, Numbers}
 use Rattle.sms_worker.proofs.Changes.{told_put, ends_put, drew_same, drew_sent, drew_unused, grew_same, grew_settled, credit_held, known_account, length-settled, number-settled}
 use Rattle.sms_worker.proofs.Tries.{all_snoc, all_front, all_map, sent_state}
 use Rattle.sms_worker.proofs.EndLemmas.{get_more, get_last, total_none}
@@ -207,7 +207,8 @@ keeps_tried start rules ms es es' pending os os' seat seat' share replies k p m 
     numbers : (t : TrySend) → Tries rules m part seat.view s.attempts t seat'.view s'.attempts → Drew start.seat.view seat'.view start.messages (put es k p s')
     numbers (Sent n) (drawn, (octets, after, spells)) = drew_sent start.seat.view seat.view seat'.view start.messages es k p m s s' (record { number = n; sent = octets; reply = None }) keeps.numbers drawn there' at after
     numbers (Retry held) h = drew_unused start.seat.view seat.view seat'.view [] start.messages (put es k p s') (like h.1) h.0.0
-    numbers (GiveUp Over) h = absurd h.0
+    numbers (GiveUp (Kept lack)) h = absurd h.0
+    numbers (GiveUp (Done left)) h = absurd h.0
     numbers (GiveUp (Numbers all)) h = drew_unused start.seat.view seat.view seat'.view [] start.messages (put es k p s') (like h.1) h.0.0
     numbers (GiveUp (Memory lack)) h = drew_unused start.seat.view seat.view seat'.view (lack.number ∷ []) start.messages (put es k p s') (like h.1) h.0
     numbers (GiveUp (Gate lack)) h = drew_unused start.seat.view seat.view seat'.view (lack.number ∷ []) start.messages (put es k p s') (like h.1) h.0

@@ -10,13 +10,17 @@ pub mod EndsOf
 pub mod Events
 pub mod Expiring
 pub mod Finding
+pub mod Frames
 pub mod Replies
+pub mod Handing
 pub mod Keeping
 pub mod Pending
 pub mod Naming
 pub mod Nearest
 pub mod Placed
 pub mod Leaving
+pub mod Reasoning
+pub mod ReasonsOf
 pub mod Resting
 pub mod Rising
 pub mod Standing

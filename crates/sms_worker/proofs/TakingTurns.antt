@@ -9,10 +9,10 @@ use Rattle.sms_worker.specs.Sweeps.{SettledTo}
 use Rattle.sms_worker.specs.Turn.{AreTurns, TakesTurn, TakesTurns}
 use Rattle.sms_worker.specs.Turns.{Starts}
 
-pub one_turn : (start : Start) (again replies down expired started : Bool) (answered : ℕ) (a b c d e : RunState) → AllApplied start.rules replies a b → c ≡ record b { closed = c.closed } → down ≡ c.closed → (IsTrue b.closed → IsTrue c.closed) → Expires start.rules.answer_ms down expired answered c d
+pub one_turn : (start : Start) (again replies down expired started : Bool) (now answered : ℕ) (a b c d e : RunState) → AllApplied start.rules replies a b → c ≡ record b { closed = c.closed } → down ≡ c.closed → (IsTrue b.closed → IsTrue c.closed) → Expires start.rules.answer_ms now down expired answered c d
     → (down ≡ false → Starts start started d e) → (IsTrue down → SettledTo start.rules.policy.attempts (length e.ends) 0 e.ends)
     → (again ≡ false → (replies ≡ false) × (expired ≡ false) × (started ≡ false)) → (again ≡ false → (length e.opened ≡ 0) × (IsTrue down ⊎ HasNothingToSend start.messages e)) → TakesTurn start again a e
-one_turn start again replies down expired started answered a b c d e applied look is stays expires starts sweeps idle done = record {
+one_turn start again replies down expired started now answered a b c d e applied look is stays expires starts sweeps idle done = record {
   any_reply = replies;
   replies = b;
   hears = applied;
@@ -20,6 +20,7 @@ one_turn start again replies down expired started answered a b c d e applied loo
   looked = c;
   looks = look ∙ ap (λ x. record b { closed = x }) (sym is);
   stays = λ h. subst IsTrue (sym is) (stays h);
+  now = now;
   any_expired = expired;
   answered = answered;
   left = d;

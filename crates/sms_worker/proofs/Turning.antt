@@ -9,7 +9,7 @@ use Rattle.sms_session.specs.Decisions.{decided}
 use Rattle.sms_worker.specs.declared.steps.attempt.TrySend.{TrySend}
 use Rattle.sms_worker.specs.declared.steps.attempt.TrySend.TheVariants.{Sent, Retry, GiveUp}
 use Rattle.sms_worker.specs.declared.steps.give_up.GiveUpReason.{GiveUpReason}
-use Rattle.sms_worker.specs.declared.steps.give_up.GiveUpReason.TheVariants.{Over, Numbers, Memory, Gate, Line}
+use Rattle.sms_worker.specs.declared.steps.give_up.GiveUpReason.TheVariants.{Done, Gate, Kept, Line, Memory, Numbers}
 use Rattle.sms_worker.specs.Types.{MessageEnd, SegmentEnd}
 use Rattle.sms_worker.specs.declared.steps.retry_later.RetryLater.{RetryLater}
 use Rattle.sms_message.specs.declared.message.Message.{Message}
@@ -31,58 +31,68 @@ use Rattle.sms_worker.specs.Start.{Start}
 use Rattle.sms_worker.specs.Steps.{IsReason, Opens, Tries}
 use Rattle.sms_worker.specs.Sweeps.{SweptAt}
 use Rattle.sms_worker.specs.PendingState.{LeavesPending, PendingState}
-use Rattle.sms_worker.specs.Turns.{AreSteps, IsGivenUp, IsStep, IsTried, IsTry, IsTurn, Starts, are_some, most_starts}
+use Rattle.sms_worker.specs.Turns.{AreSteps, IsGivenUp, IsOver, IsStep, IsTried, IsTry, IsTurn, Starts, are_some, most_starts}
 use Rattle.sms_worker.proofs.EndLemmas.{put_same}
+use Rattle.sms_worker.proofs.Sweeping.{swept_none, swept_settled}
 
 pub both : {X : Type 0} (P Q : X → Type 0) (o : Option X) → IfSome o P → IfSome o Q → IfSome o (λ x. P x × Q x)
 both P Q None p q = tt
 both P Q (Some x) p q = (p, q)
 
 -- a try, from what it did to the segment's attempts and to the open requests
-module _ (rules : Rules) (m : Message) (part : Part) (v w : View) (a b : RunState) (seen : a ≡ b) (es : List MessageEnd) (os : List Open) (place : SegmentPlace) (s s' : SegmentEnd) (at : segment_at a.ends place.message place.part ≡ Some s) (is : es ≡ put a.ends place.message place.part s') (cost : s'.cost ≡ s.cost) (outcome : s'.outcome ≡ s.outcome) (most : ℕ) where
+module _ (rules : Rules) (m : Message) (part : Part) (v w : View) (a b : RunState) (seen : a ≡ b) (es : List MessageEnd) (os : List Open) (place : SegmentPlace) (s s' : SegmentEnd) (at : segment_at a.ends place.message place.part ≡ Some s) (is : es ≡ put a.ends place.message place.part s') (cost : s'.cost ≡ s.cost) (outcome : s'.outcome ≡ s.outcome) where
   as_before : s'.attempts ≡ s.attempts → es ≡ a.ends
   as_before same =
       let unchanged : s' ≡ s = λ i. record { cost = cost i; attempts = same i; outcome = outcome i } in
       is ∙ ap (put a.ends place.message place.part) unchanged ∙ put_same a.ends place.message place.part s at
 
   -- one that was tried was denied for a reason that was had
-  denied_for : (why : GiveUpReason) → IsReason why v w → IsGivenUp most why place a
-  denied_for Over h = absurd h
+  denied_for : (why : GiveUpReason) → IsReason why v w → IsGivenUp why place a
+  denied_for (Kept lack) h = absurd h
+  denied_for (Done left) h = absurd h
   denied_for (Numbers all) h = tt
   denied_for (Memory lack) h = tt
   denied_for (Gate lack) h = tt
   denied_for (Line lack) h = tt
 
-  by_try : (t : TrySend) → Tries rules m part v s.attempts t w s'.attempts → Opens t place a.opened os → IsTry most t place a (record a { ends = es; opened = os })
+  by_try : (t : TrySend) → Tries rules m part v s.attempts t w s'.attempts → Opens t place a.opened os → IsTry t place a (record a { ends = es; opened = os })
   by_try (Sent n) (drawn, (octets, more, spells)) (o, added, number, its) =
       let now : s' ≡ record s { attempts = s.attempts ++ record { number = n; sent = octets; reply = None } ∷ [] } = λ i. record { cost = cost i; attempts = more i; outcome = outcome i } in
       (record { segment = s; was = at; octets = octets; now = is ∙ ap (put a.ends place.message place.part) now }, (o, number, its, ap (λ l. record a { ends = es; opened = l }) added))
   by_try (Retry held) h same = ap (λ l. record a { ends = l; opened = os }) (as_before h.1) ∙ ap (λ l. record a { opened = l }) same
   by_try (GiveUp why) h same = (ap (λ l. record a { ends = l; opened = os }) (as_before h.1) ∙ ap (λ l. record a { opened = l }) same, denied_for why h.0)
 
-  pub tried_so : (t : TrySend) → Tries rules m part v s.attempts t w s'.attempts → Opens t place a.opened os → IsTry most t place b (record a { ends = es; opened = os })
-  tried_so t tries opened = subst (λ x. IsTry most t place x (record a { ends = es; opened = os })) seen (by_try t tries opened)
+  pub tried_so : (t : TrySend) → Tries rules m part v s.attempts t w s'.attempts → Opens t place a.opened os → IsTry t place b (record a { ends = es; opened = os })
+  tried_so t tries opened = subst (λ x. IsTry t place x (record a { ends = es; opened = os })) seen (by_try t tries opened)
 
 pub as_it_was : (a b : RunState) → a ≡ b → (es : List MessageEnd) → es ≡ a.ends → record a { ends = es } ≡ b
 as_it_was a b seen es same = ap (λ l. record a { ends = l }) same ∙ seen
 
 -- the segment is as it was where it wasn't sent
-pub not_sent : (most : ℕ) (t : TrySend) (held : RetryLater) (place : SegmentPlace) (old new : RunState) → IsTry most t place old new → t ≡ Retry held → new ≡ old
-not_sent most t held place old new h is = subst (λ x. IsTry most x place old new) is h
+pub not_sent : (t : TrySend) (held : RetryLater) (place : SegmentPlace) (old new : RunState) → IsTry t place old new → t ≡ Retry held → new ≡ old
+not_sent t held place old new h is = subst (λ x. IsTry x place old new) is h
 
 -- what was to be sent is there still
-pub still_there : (most : ℕ) (t : TrySend) (place : SegmentPlace) (old new : RunState) → IsTry most t place old new → (new.queues ≡ old.queues) × (new.pending ≡ old.pending) × (new.next ≡ old.next)
-still_there most (Sent n) place old new (sent, (o, number, its, is)) = (ap (λ (x : RunState). x.queues) is, ap (λ (x : RunState). x.pending) is, ap (λ (x : RunState). x.next) is)
-still_there most (Retry held) place old new is = (ap (λ (x : RunState). x.queues) is, ap (λ (x : RunState). x.pending) is, ap (λ (x : RunState). x.next) is)
-still_there most (GiveUp why) place old new (is, over) = (ap (λ (x : RunState). x.queues) is, ap (λ (x : RunState). x.pending) is, ap (λ (x : RunState). x.next) is)
+pub still_there : (t : TrySend) (place : SegmentPlace) (old new : RunState) → IsTry t place old new → (new.queues ≡ old.queues) × (new.pending ≡ old.pending) × (new.next ≡ old.next)
+still_there (Sent n) place old new (sent, (o, number, its, is)) = (ap (λ (x : RunState). x.queues) is, ap (λ (x : RunState). x.pending) is, ap (λ (x : RunState). x.next) is)
+still_there (Retry held) place old new is = (ap (λ (x : RunState). x.queues) is, ap (λ (x : RunState). x.pending) is, ap (λ (x : RunState). x.next) is)
+still_there (GiveUp why) place old new (is, over) = (ap (λ (x : RunState). x.queues) is, ap (λ (x : RunState). x.pending) is, ap (λ (x : RunState). x.next) is)
 
-pub sent_so : (most n : ℕ) (t : TrySend) (place : SegmentPlace) (old new : RunState) → IsTry most t place old new → t ≡ Sent n → IsTried most place old.ends new.ends
-sent_so most n t place old new h is = inl (n, (subst (λ x. IsTry most x place old new) is h).0)
+pub sent_so : (most n : ℕ) (t : TrySend) (place : SegmentPlace) (old new : RunState) → IsTry t place old new → t ≡ Sent n → IsTried most place old.ends new.ends
+sent_so most n t place old new h is = inl (n, (subst (λ x. IsTry x place old new) is h).0)
 
-pub given_so : (most : ℕ) (t : TrySend) (why : GiveUpReason) (place : SegmentPlace) (old new : RunState) (es : List MessageEnd) → IsTry most t place old new → t ≡ GiveUp why → SweptAt most place.message place.part new.ends es → IsTried most place old.ends es
+pub given_so : (most : ℕ) (t : TrySend) (why : GiveUpReason) (place : SegmentPlace) (old new : RunState) (es : List MessageEnd) → IsTry t place old new → t ≡ GiveUp why → SweptAt most place.message place.part new.ends es → IsTried most place old.ends es
 given_so most t why place old new es h is swept =
-    let same : new ≡ old = (subst (λ x. IsTry most x place old new) is h).0 in
+    let same : new ≡ old = (subst (λ x. IsTry x place old new) is h).0 in
     inr (subst (λ (x : RunState). SweptAt most place.message place.part x.ends es) same swept)
+
+-- one of which nothing was to be sent was left as it was
+pub over_so : (most : ℕ) (place : SegmentPlace) (old new : RunState) → new ≡ old → IsOver most place old.ends → IsTried most place old.ends new.ends
+over_so most place old new same over = inr (subst (λ (x : RunState). SweptAt most place.message place.part old.ends x.ends) (sym same) (left over))
+  where
+    left : IsOver most place old.ends → SweptAt most place.message place.part old.ends old.ends
+    left (inl none) = swept_none most place.message place.part old.ends none
+    left (inr (s, at, settled)) = swept_settled most place.message place.part old.ends s at settled
 
 -- a segment was found, tried, and taken from where it was found
 module _ (start : Start) (now : ℕ) (a b c d e : RunState) (place : SegmentPlace) (look : b ≡ record a { closed = b.closed }) (left : (c.queues ≡ b.queues) × (c.pending ≡ b.pending) × (c.next ≡ b.next)) (kept : d.pending ≡ c.pending) (ended : (e.queues ≡ d.queues) × (e.next ≡ d.next)) (dropped : LeavesPending place.message d.pending e.pending) (tried : IsTried start.rules.policy.attempts place b.ends e.ends) where

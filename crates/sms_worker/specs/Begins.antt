@@ -1,5 +1,5 @@
 -- A message that is begun.
-use Rattle.std.specs.Prelude.{◌≡◌, ℕ, zero, suc, ◌+◌, ◌<◌, ◌⊎◌, Bool, IsTrue, List, [], ◌∷◌, ◌++◌, length, string_bytes}
+use Rattle.std.specs.Prelude.{◌≡◌, ℕ, zero, suc, ◌+◌, ◌<◌, ◌⊎◌, Bool, IsTrue, List, Option, None, Some, [], ◌∷◌, ◌++◌, length, string_bytes}
 use Rattle.sms_core.specs.Rows.{reserved_of}
 use Rattle.sms_book.specs.Name.{BookId}
 use Rattle.sms_book.specs.Portions.{amounts_at}
@@ -13,7 +13,13 @@ use Rattle.sms_message.specs.declared.user_data.UserData.{UserData}
 use Rattle.sms_message.specs.Results.{IsResultOf}
 use Rattle.sms_message.specs.UserData.{message_data}
 use Rattle.sms_message.specs.declared.ends.MessageRefusal.{MessageRefusal}
-use Rattle.sms_message.specs.declared.ends.MessageRefusal.TheVariants.{BindClosed, NoCredit}
+use Rattle.sms_message.specs.declared.ends.MessageRefusal.TheVariants.{BindClosed, NoCredit, OutOfMemory, TooLong}
+use Rattle.sms_segment.specs.Message.{IsTooLong}
+use Rattle.sms_message.specs.Submits.{coded_text, reference_of}
+use Rattle.sms_worker.specs.declared.steps.parts.NoMessageMemory.{NoMessageMemory}
+use Rattle.sms_worker.specs.declared.steps.parts.NoParts.{NoParts}
+use Rattle.sms_worker.specs.declared.steps.parts.NoParts.TheVariants as no
+use Rattle.sms_worker.specs.Reasons.{RestsOn}
 use Rattle.sms_message.specs.declared.ends.MessageResult.TheVariants.{Refused, Sent}
 use Rattle.sms_message.specs.declared.ends.Outcome.TheVariants.{Unanswered}
 use Rattle.sms_worker.specs.Credit.{LacksFor}
@@ -50,8 +56,18 @@ end_sent m segments = record { index = m.index; result = Sent segments }
 abbrev pub end_refused : Message → MessageRefusal → MessageEnd
 end_refused m refusal = record { index = m.index; result = Refused refusal }
 
+-- why a message has no parts
+abbrev pub IsNoParts : Rules → Message → NoParts → Type 0
+IsNoParts rules m no.TooLong = IsTooLong (coded_text m) (reference_of rules m)
+IsNoParts rules m (no.Memory evidence) = evidence.message ≡ m.index
+
+-- how it is refused then
+abbrev pub Refuses : NoParts → MessageRefusal → Option NoMessageMemory → Type 0
+Refuses no.TooLong refusal evidence = (refusal ≡ TooLong) × (evidence ≡ None)
+Refuses (no.Memory no_memory) refusal evidence = (refusal ≡ OutOfMemory) × (evidence ≡ Some no_memory)
+
 -- a message was begun: its end stands behind the others, and it is refused as bind-closed exactly where the line is down
-pub record HasBegun (book : BookId) (rules : Rules) (m : Message) (down : Bool) (old new : TallyState) (pending : PendingState) : Type 0 where
+pub record HasBegun (book : BookId) (rules : Rules) (m : Message) (down : Bool) (old new : TallyState) (pending : PendingState) (no_memory : Option NoMessageMemory) : Type 0 where
   pub end : MessageEnd
   pub ends : new.ends ≡ old.ends ++ end ∷ []
   pub room : new.room ≡ old.room
@@ -59,3 +75,5 @@ pub record HasBegun (book : BookId) (rules : Rules) (m : Message) (down : Bool) 
   pub closed : end.result ≡ Refused BindClosed → IsTrue down
   pub if_down : IsTrue down → end.result ≡ Refused BindClosed
   pub credit : end.result ≡ Refused NoCredit → LacksFor book rules old.share m
+  -- for want of memory it is refused only with evidence
+  pub memory : end.result ≡ Refused OutOfMemory → RestsOn m.index OutOfMemory no_memory

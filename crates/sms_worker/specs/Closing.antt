@@ -32,19 +32,19 @@ abbrev pub is_closed : Option Closure → Bool
 is_closed None = false
 is_closed (Some closure) = true
 
--- what closed it is of the line of the call
-abbrev pub IsCauseAt : DownMark → Option Closure → Type 0
-IsCauseAt mark None = Unit {0}
-IsCauseAt mark (Some Turns) = Unit {0}
-IsCauseAt mark (Some (Down down)) = IsDownAt mark down
+-- what closed it is of the line of the call, or so many turns were taken
+abbrev pub IsCauseAt : ℕ → DownMark → Option Closure → Type 0
+IsCauseAt turns mark None = Unit {0}
+IsCauseAt turns mark (Some (Turns taken)) = taken.count ≡ turns
+IsCauseAt turns mark (Some (Down down)) = IsDownAt mark down
 
-pub record IsCause (mark own : DownMark) (closure : Option Closure) : Type 0 where
+pub record IsCause (turns : ℕ) (mark own : DownMark) (closure : Option Closure) : Type 0 where
   pub same : own ≡ mark
-  pub cause : IsCauseAt own closure
+  pub cause : IsCauseAt turns own closure
 
--- a line that is told as seen down was seen so: all that see it down see this cause
-abbrev pub IsSeen : DownMark → Option ClosedBy → Option DownSeen → Type 0
-IsSeen mark None seen = Unit {0}
-IsSeen mark (Some by.Turns) seen = Unit {0}
-IsSeen mark (Some (by.Down cause)) None = ⊥
-IsSeen mark (Some (by.Down cause)) (Some seen) = IsDownAt mark seen × (cause_of seen ≡ cause)
+-- a line that is told as seen down was seen so: all that see it down see this cause; turns that are told as over were taken, so many
+abbrev pub IsSeen : ℕ → DownMark → Option ClosedBy → Option DownSeen → Type 0
+IsSeen turns mark None seen = Unit {0}
+IsSeen turns mark (Some (by.Turns taken)) seen = taken.count ≡ turns
+IsSeen turns mark (Some (by.Down cause)) None = ⊥
+IsSeen turns mark (Some (by.Down cause)) (Some seen) = IsDownAt mark seen × (cause_of seen ≡ cause)

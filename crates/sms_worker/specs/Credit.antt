@@ -1,11 +1,12 @@
 -- Messages that a worker refuses for want of credit, where its book has one share.
 use Rattle.std.specs.Prelude.{◌≡◌, ◌⊎◌, ℕ, ◌+◌, ◌*◌, ◌<◌, ◌≤◌, List, length, Some, slice_get, string_bytes}
+use Rattle.sms_core.specs.declared.row.Row.{Row}
 use Rattle.sms_core.specs.Limits.{most_topped}
 use Rattle.sms_book.specs.declared.amounts.Amounts.{Amounts}
 use Rattle.sms_book.specs.Alone.{opening_at}
 use Rattle.sms_book.specs.Limits.{most_returned}
 use Rattle.sms_book.specs.Name.{BookId}
-use Rattle.sms_book.specs.Portions.{amounts_at}
+use Rattle.sms_book.specs.Portions.{amounts_at, row_at}
 use Rattle.sms_book.specs.Shares.{Share}
 use Rattle.sms_book.specs.Tariffs.{cost_of}
 use Rattle.sms_message.specs.declared.message.Message.{Message}
@@ -26,6 +27,10 @@ Lacks opening a n = (opening < a.reserved + a.charged + n) ⊎ ((opening ≤ mos
 -- so it is with what the message costs
 abbrev pub LacksFor : BookId → Rules → Share → Message → Type 0
 LacksFor book rules share m = book.workers ≡ 1 → (a : ℕ) → m.account ≡ Some a → Lacks (opening_at book a) (amounts_at share.amounts a) (price_of rules m)
+
+-- n credits of an account can be reserved: they are free, and what it gave back and has reserved keeps within its bound with them
+abbrev pub CanReserve : List Row → ℕ → ℕ → Type 0
+CanReserve rows account n = (account < length rows) × (n ≤ (row_at rows account).free) × ((row_at rows account).returned + (row_at rows account).reserved + n ≤ most_returned)
 
 -- all that a share ever reserved of an account
 abbrev pub ever : Amounts → ℕ

@@ -33,9 +33,8 @@ AreLooks down limit now zero answered any old new = (answered ≡ 0) × (any ≡
 AreLooks down limit now (suc n) answered any old new = (mid : RunState) × (before : ℕ) × (was : Bool) × AreLooks down limit now n before was old mid × IsToExpire down limit now before mid
     × ((ExpiresAt before mid new × (answered ≡ before) × (any ≡ true)) ⊎ ((new ≡ mid) × (answered ≡ before + 1) × (any ≡ was)))
 
--- as many looks as a window has slots, or until none is left to look at, or until one waits that is to wait yet
-pub record Expires (limit : ℕ) (down any : Bool) (answered : ℕ) (old new : RunState) : Type 0 where
-  pub now : ℕ
+-- as many looks at this time as a window has slots, or until none is left to look at, or until one waits that is to wait yet
+pub record Expires (limit now : ℕ) (down any : Bool) (answered : ℕ) (old new : RunState) : Type 0 where
   pub looks : ℕ
   pub each : AreLooks down limit now looks answered any old new
   pub rest : (length new.opened ≤ answered) ⊎ IsYetOpen down limit now answered new ⊎ (looks ≡ 64)

@@ -5,12 +5,16 @@ pub mod Credit
 pub mod EndOf
 pub mod Events
 pub mod Expiry
+pub mod Frames
+pub mod Handed
 pub mod Keeps
 pub mod Laws
 pub mod Limits
 pub mod PendingState
 pub mod Queues
 pub mod ReadyState
+pub mod Reasons
+pub mod ReasonsOf
 pub mod Replies
 pub mod Rests
 pub mod Rising

@@ -1,5 +1,5 @@
 -- What a reply does that is applied to its request.
-use Rattle.std.specs.Prelude.{◌≡◌, ◌==◌, ℕ, zero, suc, ◌-◌, ◌≤◌, ◌⊎◌, ◌∷◌, ◌++◌, [], Bool, None, Some, drop, position, slice_get, take}
+use Rattle.std.specs.Prelude.{◌≡◌, ◌==◌, ℕ, zero, suc, ◌+◌, ◌-◌, ◌≤◌, ◌⊎◌, List, ◌∷◌, ◌++◌, [], Bool, None, Some, drop, length, position, slice_get, take}
 use Rattle.sms_pdu.specs.declared.reply.Reply.{Reply}
 use Rattle.sms_session.specs.declared.policy.Decision.{Decision}
 use Rattle.sms_session.specs.declared.policy.Decision.TheVariants.{Charge, Refuse, RetryAfter}
@@ -53,6 +53,10 @@ IsApplied rules reply (Retried at) old new = (ms : ℕ) × (b : Applies rules re
 abbrev pub AreApplied : Rules → ℕ → RunState → RunState → Type 0
 AreApplied rules zero old new = new ≡ old
 AreApplied rules (suc n) old new = (mid : RunState) × (reply : Reply) × (did : ReplyOutcome) × AreApplied rules n old mid × (new.replies ≡ mid.replies ++ reply ∷ []) × IsApplied rules reply did mid new
+
+-- a ring from which so many replies had come was found empty, or as many more came as it has room for
+abbrev pub WasDrained : ℕ → List Reply → List Reply → Type 0
+WasDrained before known received = (known ≡ []) ⊎ (before + 64 ≤ length received)
 
 -- all that were replies, if any was
 pub record AllApplied (rules : Rules) (any : Bool) (old new : RunState) : Type 0 where

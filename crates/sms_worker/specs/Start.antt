@@ -1,5 +1,5 @@
 -- What a worker had when its call began.
-use Rattle.std.specs.Prelude.{List, [], false}
+use Rattle.std.specs.Prelude.{ℕ, List, [], false}
 use Rattle.std.proofs.Common.{arith}
 use Rattle.atomic_table.specs.Seated.{TableId}
 use Rattle.sms_bind.specs.declared.down.DownMark.{DownMark}
@@ -15,6 +15,8 @@ pub record Start : Type 0 where
   pub messages : List Message
   pub seat : SeatState
   pub share : Share
+  -- the requests that it had given to wires
+  pub requests : List (List ℕ)
   -- what its consumer had received
   pub received : List Reply
   -- the mark of its bind's line
@@ -40,6 +42,7 @@ no_start = record {
   messages = [];
   seat = record { window = no_table; view = nobody };
   share = record { number = 0; amounts = [] };
+  requests = [];
   received = [];
   mark = record { cause = record { id = 0 } };
 }

@@ -22,7 +22,7 @@ use Rattle.sms_worker.specs.declared.steps.attempt.Number.{Number}
 use Rattle.sms_worker.specs.declared.steps.attempt.Number.TheVariants.{Drawn, UsedUp, Contended}
 use Rattle.sms_worker.specs.declared.steps.give_up.GiveUpReason.{GiveUpReason}
 use Rattle.sms_worker.specs.declared.steps.give_up.GiveUpReason.TheVariants as denied
-use Rattle.sms_worker.specs.declared.steps.give_up.GiveUpReason.TheVariants.{Over, Memory, Line}
+use Rattle.sms_worker.specs.declared.steps.give_up.GiveUpReason.TheVariants.{Done, Kept, Line, Memory}
 use Rattle.sms_worker.specs.declared.steps.give_up.NotHanded.{NotHanded}
 use Rattle.sms_worker.specs.declared.steps.give_up.NotHanded.TheVariants.{Broken, Busy}
 use Rattle.sms_worker.specs.declared.steps.retry_later.Drawing.{Drawing}
@@ -119,7 +119,8 @@ MetBroken (Err (Busy evidence)) = ⊥
 
 -- why a segment is given up that waits to be sent: all numbers are used up; or this one was drawn for it, and not sent
 abbrev pub IsReason : GiveUpReason → View → View → Type 0
-IsReason Over v w = ⊥
+IsReason (Kept evidence) v w = ⊥
+IsReason (Done evidence) v w = ⊥
 IsReason (denied.Numbers all) v w = HasDrawn v [] w × (w.seen ≡ used_up)
 IsReason (Memory evidence) v w = HasDrawn v (evidence.number ∷ []) w
 IsReason (denied.Gate evidence) v w = HasDrawn v (evidence.number ∷ []) w

@@ -17,10 +17,11 @@ pub record TakesTurn (start : Start) (again : Bool) (old new : RunState) : Type 
   pub looked : RunState
   pub looks : looked ≡ record replies { closed = down }
   pub stays : IsTrue replies.closed → IsTrue down
+  pub now : ℕ
   pub any_expired : Bool
   pub answered : ℕ
   pub left : RunState
-  pub expires : Expires start.rules.answer_ms down any_expired answered looked left
+  pub expires : Expires start.rules.answer_ms now down any_expired answered looked left
   pub any_started : Bool
   pub starts : down ≡ false → Starts start any_started left new
   pub sweeps : IsTrue down → SettledTo start.rules.policy.attempts (length new.ends) 0 new.ends

@@ -3,7 +3,7 @@ use Rattle.std.specs.Prelude.{◌≡◌, ℕ, zero, suc, ◌+◌, ◌-◌, ◌^�
 use Rattle.sms_worker.specs.declared.steps.attempt.TrySend.{TrySend}
 use Rattle.sms_worker.specs.declared.steps.attempt.TrySend.TheVariants.{Sent, Retry, GiveUp}
 use Rattle.sms_worker.specs.declared.steps.give_up.GiveUpReason.{GiveUpReason}
-use Rattle.sms_worker.specs.declared.steps.give_up.GiveUpReason.TheVariants.{Over, Numbers, Memory, Gate, Line}
+use Rattle.sms_worker.specs.declared.steps.give_up.GiveUpReason.TheVariants.{Done, Gate, Kept, Line, Memory, Numbers}
 use Rattle.sms_worker.specs.Types.{MessageEnd, SegmentEnd}
 use Rattle.sms_worker.specs.declared.state.open.Open.{Open}
 use Rattle.sms_worker.specs.declared.state.open.SegmentPlace.{SegmentPlace}
@@ -27,23 +27,24 @@ pub record SentAt (n : ℕ) (place : SegmentPlace) (old new : List MessageEnd) :
   pub octets : List ℕ
   pub now : new ≡ put old place.message place.part (record segment { attempts = segment.attempts ++ record { number = n; sent = octets; reply = None } ∷ [] })
 
--- nothing of the segment is to be sent: what it carries isn't kept, or there is no such segment, or it is settled
-abbrev pub IsOver : ℕ → SegmentPlace → RunState → Type 0
-IsOver most place run = (data_at run.pending place ≡ None) ⊎ (segment_at run.ends place.message place.part ≡ None) ⊎ ((s : SegmentEnd) × (segment_at run.ends place.message place.part ≡ Some s) × IsSettled most s)
+-- nothing of the segment is to be sent: there is no such segment, or it is settled
+abbrev pub IsOver : ℕ → SegmentPlace → List MessageEnd → Type 0
+IsOver most place es = (segment_at es place.message place.part ≡ None) ⊎ ((s : SegmentEnd) × (segment_at es place.message place.part ≡ Some s) × IsSettled most s)
 
--- a segment that is given up without a try is one of which nothing is to be sent
-abbrev pub IsGivenUp : ℕ → GiveUpReason → SegmentPlace → RunState → Type 0
-IsGivenUp most Over place run = IsOver most place run
-IsGivenUp most (Numbers all) place run = Unit {0}
-IsGivenUp most (Memory evidence) place run = Unit {0}
-IsGivenUp most (Gate evidence) place run = Unit {0}
-IsGivenUp most (Line evidence) place run = Unit {0}
+-- a segment that is given up without a try is one of which nothing is kept
+abbrev pub IsGivenUp : GiveUpReason → SegmentPlace → RunState → Type 0
+IsGivenUp (Kept evidence) place run = data_at run.pending place ≡ None
+IsGivenUp (Done evidence) place run = ⊥
+IsGivenUp (Numbers all) place run = Unit {0}
+IsGivenUp (Memory evidence) place run = Unit {0}
+IsGivenUp (Gate evidence) place run = Unit {0}
+IsGivenUp (Line evidence) place run = Unit {0}
 
 -- a try to send the segment: it was sent, and its request is open behind the others; else all is as it was
-abbrev pub IsTry : ℕ → TrySend → SegmentPlace → RunState → RunState → Type 0
-IsTry most (Sent n) place old new = SentAt n place old.ends new.ends × ((o : Open) × (o.number ≡ n) × (o.place ≡ place) × (new ≡ record old { ends = new.ends; opened = old.opened ++ o ∷ [] }))
-IsTry most (Retry held) place old new = new ≡ old
-IsTry most (GiveUp why) place old new = (new ≡ old) × IsGivenUp most why place old
+abbrev pub IsTry : TrySend → SegmentPlace → RunState → RunState → Type 0
+IsTry (Sent n) place old new = SentAt n place old.ends new.ends × ((o : Open) × (o.number ≡ n) × (o.place ≡ place) × (new ≡ record old { ends = new.ends; opened = old.opened ++ o ∷ [] }))
+IsTry (Retry held) place old new = new ≡ old
+IsTry (GiveUp why) place old new = (new ≡ old) × IsGivenUp why place old
 
 -- the segment was sent, or given up
 abbrev pub IsTried : ℕ → SegmentPlace → List MessageEnd → List MessageEnd → Type 0

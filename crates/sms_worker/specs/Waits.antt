@@ -30,7 +30,7 @@ pub record IsQuietAt (ms : List Message) (rules : Rules) (run : RunState) (now q
   pub more : length run.opened < rules.depth → HasMore ms run → quiet ≡ 0
   pub rest : length run.opened < rules.depth → ¬ (HasMore ms run) → (due : ℕ) × IsDueIn run.pending run.queues now due × (quiet ≡ min (answer_in rules.answer_ms now run.opened) due)
 
--- a line that is down isn't waited for; else it is so at some time, that of the clock
-abbrev pub IsQuiet : List Message → Rules → Bool → RunState → ℕ → Type 0
-IsQuiet ms rules true run quiet = quiet ≡ 0
-IsQuiet ms rules false run quiet = (now : ℕ) × IsQuietAt ms rules run now quiet
+-- a line that is down isn't waited for; else it is so at this time
+abbrev pub IsQuiet : List Message → Rules → Bool → RunState → ℕ → ℕ → Type 0
+IsQuiet ms rules true run now quiet = quiet ≡ 0
+IsQuiet ms rules false run now quiet = IsQuietAt ms rules run now quiet

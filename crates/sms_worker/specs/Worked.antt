@@ -1,10 +1,11 @@
 -- What one call of a worker did.
-use Rattle.std.specs.Prelude.{◌≡◌, ◌++◌, List, length, Option, None}
+use Rattle.std.specs.Prelude.{◌≡◌, ◌++◌, IsSome, List, length, Option, None}
 use Rattle.std.specs.List.{AllZip}
 use Rattle.rtrb.specs.Ring.{received}
 use Rattle.sms_pdu.specs.declared.reply.Reply.{Reply}
 use Rattle.sms_bind.specs.declared.down.Down.{Down}
 use Rattle.sms_bind.specs.declared.down.DownMark.{DownMark}
+use Rattle.sms_bind.specs.Frames.{AreSame}
 use Rattle.sms_book.specs.Name.{BookId}
 use Rattle.sms_message.specs.declared.message.Message.{Message}
 use Rattle.sms_message.specs.declared.rules.Rules.{Rules}
@@ -14,13 +15,15 @@ use Rattle.sms_worker.specs.Apart.{NumbersApart, PlacesApart}
 use Rattle.sms_worker.specs.Closing.{IsSeen, NoneIsClosed, StaysClosed}
 use Rattle.sms_worker.specs.Credit.{LackCredit}
 use Rattle.sms_worker.specs.EndOf.{IsEndOf}
+use Rattle.sms_worker.specs.ReasonsOf.{AllHaveReasons}
+use Rattle.sms_worker.specs.Frames.{frames_in}
 use Rattle.sms_worker.specs.Rising.{FirstsRise}
 use Rattle.sms_worker.specs.Start.{Start}
 use Rattle.sms_worker.specs.Told.{AllTold, Drew, Grew}
 
 -- what a worker has when its call begins: these rules, itself, its messages, and the mark of its bind's line
 abbrev pub start_of : {N : Type 0} → Rules → Worker N → List Message → DownMark → Start
-start_of rules worker messages mark = record { rules = rules; messages = messages; seat = worker.seat; share = worker.shares; received = received worker.consumer; mark = mark }
+start_of rules worker messages mark = record { rules = rules; messages = messages; seat = worker.seat; share = worker.shares; requests = worker.requests; received = received worker.consumer; mark = mark }
 
 -- a call that began so gives this end back, and the evidence that the line was seen down, if it was
 pub record HasWorked {N : Type 0} (book : BookId) (start : Start) (end : WorkerEnd N) (down : Option Down) : Type 0 where
@@ -30,7 +33,9 @@ pub record HasWorked {N : Type 0} (book : BookId) (start : Start) (end : WorkerE
   pub closed : StaysClosed end.ends.items
   -- it was closed for a cause: the line was seen down, which all see for that cause, or the turns were over
   pub why : end.closed ≡ None → NoneIsClosed end.ends.items
-  pub seen : IsSeen start.mark end.closed down
+  pub seen : IsSeen start.rules.turns start.mark end.closed down
+  -- each part that was given up has its reason, or the bind was closed; for each message that is refused for want of memory memory was refused
+  pub reasons : AllHaveReasons start.rules.policy.attempts (IsSome end.closed) end.reasons end.ends.items
   -- segments are sent for the first time in the order in which they stand
   pub rising : FirstsRise end.ends.items
   -- each answer was received in this call
@@ -39,6 +44,8 @@ pub record HasWorked {N : Type 0} (book : BookId) (start : Start) (end : WorkerE
   pub numbers : Drew start.seat.view end.seat.view start.messages end.ends.items
   pub apart : NumbersApart end.ends.items
   pub places : PlacesApart (received end.consumer) end.ends.items
+  -- the requests that it gave to wires are those that it had before and the frames of the attempts, each as often
+  pub handed : AreSame end.requests (start.requests ++ frames_in end.ends.items)
   -- the share grew by the sums over the ends
   pub credits : Grew start.share.amounts end.shares.amounts start.messages end.ends.items
   -- where the book has no other share, a message lacks credit only where its account has too little

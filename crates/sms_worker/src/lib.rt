@@ -17,4 +17,12 @@ pub use entry::ready::ReadyWorker;
 pub use entry::work::{Worker, WorkerEnd, run_worker};
 pub use sms_message::{Message, MessageRefusal, Outcome, Rules};
 pub use state::closing::ClosedBy;
+pub use state::reasons::{Reasons, Unlisted, UnsentPart, UnsentReason};
 pub use steps::attempt::{Number, draw};
+pub use steps::call_end::NothingLeft;
+pub use steps::give_up::{
+    GiveUpReason, NoMemory, NotHanded, NotPassed, NothingKept, SlotBusy, WireBroken,
+};
+pub use steps::parts::NoMessageMemory;
+pub use steps::retry_later::AllDrawn;
+pub use steps::turn::TurnsTaken;

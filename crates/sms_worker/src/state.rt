@@ -5,6 +5,7 @@ pub mod open;
 pub mod pending;
 pub mod places;
 pub mod queue;
+pub mod reasons;
 pub mod segment;
 pub mod tally;
 pub mod worker_start;

@@ -5,15 +5,15 @@ ghost use Rattle.std.specs.Prelude.{◌≡◌, IfSome};
 use self::beside::{Beside, bring_down, line_with_fuse};
 use self::notes::{Log, Note, want_told};
 use rtrb::{Consumer, Producer, RingBuffer};
-use sms_bind::Line;
+use sms_bind::{BlankLog, DownMark, Line, LogName};
 use sms_book::{Blank, Book, BookName, Opening, Rate, Tariff, open_book};
 use sms_core::Row;
 use sms_pdu::Reply;
 use sms_session::Policy;
 use sms_window::{Window, WindowSeat};
 use sms_worker::{
-    Attempt, Clock, ClosedBy, Gate, Message, MessageEnd, MessageRefusal, MessageResult, Outcome,
-    Pause, Rules, SegmentEnd, Worker, run_worker,
+    Attempt, Clock, ClosedBy, Gate, Message, MessageEnd, MessageResult, Outcome, Pause, Reasons,
+    Rules, SegmentEnd, Worker, run_worker,
 };
 use std::alloc::{AllocError, Global};
 use std::fmt::Debug;
@@ -34,6 +34,7 @@ mod sums;
 mod threads;
 mod told;
 mod waits;
+mod why;
 
 // Both are the same. A test that compares by a call has a short proof: what is printed where they
 // differ stands here alone.
@@ -119,6 +120,8 @@ const PLAIN: Case<'static> = Case {
 struct Done {
     ends: Vec<MessageEnd>,
     closed: Option<ClosedBy>,
+    /// Why parts and messages were not sent.
+    reasons: Reasons,
     row: Row,
     /// What was told meanwhile; nothing where memory was refused for it.
     notes: Vec<Note>,
@@ -202,6 +205,14 @@ fn book_of(alloc: Global, credits: u64, workers: usize) -> Option<Blank> {
     open_book(alloc, openings.as_slice(), workers).ok()
 }
 
+// A log of wires without a name yet.
+fn wires_of(rt: &impl Abort, alloc: Global) -> BlankLog {
+    let Ok(wires) = BlankLog::new(alloc) else {
+        panic!(rt; "no log")
+    };
+    wires
+}
+
 // A window, and seats of it for two workers and for what stands beside them.
 fn seats_of(
     rt: &impl Abort,
@@ -242,12 +253,12 @@ fn notes_of(rt: &impl Abort, alloc: Global, log: &Log, ends: &[MessageEnd]) -> V
 }
 
 // Sends the messages. Where the call is refused, all was handed back.
-fn sends<N: BookName, W: Write, B: Gate + Clock + Pause, R: Abort + Wait>(
+fn sends<N: BookName + LogName, W: Write, B: Gate + Clock + Pause, R: Abort + Wait>(
     rt: &R,
     alloc: Global,
     worker: Worker<N>,
     messages: Vec<Message>,
-    line: &Line<W>,
+    line: &Line<N, W>,
     window: &Window,
     book: &Mutex<Book<N>>,
     rules: &Rules,
@@ -266,6 +277,7 @@ fn sends<N: BookName, W: Write, B: Gate + Clock + Pause, R: Abort + Wait>(
             Some(Done {
                 ends: end.ends,
                 closed: end.closed,
+                reasons: end.reasons,
                 row,
                 notes,
             })
@@ -277,25 +289,24 @@ fn sends<N: BookName, W: Write, B: Gate + Clock + Pause, R: Abort + Wait>(
     }
 }
 
-fn works<N: BookName, R: Abort + Wait>(
+fn works<N: BookName + LogName, R: Abort + Wait>(
     rt: &R,
     alloc: Global,
     blank: Blank,
+    wires: BlankLog,
     rules: &Rules,
     case: Case<'_>,
     messages: Vec<Message>,
 ) -> Option<Done>
-    requires { blank.book ≡ N.book }
+    requires { (blank.book ≡ N.book) × (wires ≡ N.log) }
 {
     let (window, seat) = Window::make_from(alloc, case.window, case.first).ok()?;
     let (producer, consumer) = RingBuffer::new(alloc, 64).ok()?;
     let mut producers = Vec::new(alloc);
     producers.push(producer).ok()?;
     let log = Log::new(alloc);
-    let line = line_with_fuse(alloc, case.room, &log)?;
-    if case.down {
-        bring_down(rt, alloc, &line.down);
-    }
+    let (line, requests, _others) = line_with_fuse::<N>(alloc, wires, case.room, &log)?;
+    down_if(rt, alloc, &line.down, case.down);
     let beside = Beside::new(rt, alloc, &line, producers, case, &log);
     let Ok((book, _till, mut all)) = blank.open::<N>(alloc) else {
         return None;
@@ -306,10 +317,18 @@ fn works<N: BookName, R: Abort + Wait>(
         seat,
         shares: all.pop()?,
         consumer,
+        requests,
     };
     sends(
         rt, alloc, worker, messages, &line, &window, &book, rules, &beside, &log,
     )
+}
+
+// Marks the line down, where that is said.
+fn down_if(rt: &impl Wait, alloc: Global, mark: &DownMark, down: bool) {
+    if down {
+        bring_down(rt, alloc, mark);
+    }
 }
 
 // What becomes of the messages; none where memory is refused.
@@ -321,7 +340,8 @@ fn try_run(
 ) -> Option<Done> {
     let rules = rules_of(alloc, case)?;
     let blank = book_of(alloc, case.credits, 1)?;
-    works::<Brand, _>(rt, alloc, blank, &rules, case, messages)
+    let wires = BlankLog::new(alloc).ok()?;
+    works::<Brand, _>(rt, alloc, blank, wires, &rules, case, messages)
 }
 
 fn run(rt: &(impl Abort + Wait), alloc: Global, case: Case<'_>, messages: Vec<Message>) -> Done {
@@ -360,20 +380,6 @@ fn want_sent(rt: &impl Abort, done: &Done, place: usize, wanted: &[(usize, Outco
             );
         }
     }
-}
-
-// Why the message was refused; none of one that was sent, or has no end.
-fn refusal_of(done: &Done, place: usize) -> Option<MessageRefusal> {
-    if let Some(end) = done.ends.get(place) {
-        if let MessageResult::Refused(refusal) = &end.result {
-            return Some(*refusal);
-        }
-    }
-    None
-}
-
-fn want_refused(rt: &impl Abort, done: &Done, place: usize, wanted: MessageRefusal) {
-    same(rt, (place, refusal_of(done, place)), (place, Some(wanted)));
 }
 
 // The account's credits: free, reserved, charged, returned.

@@ -1,10 +1,11 @@
 //! What a worker works with and does not own.
 
-use sms_bind::Line;
+use sms_bind::{Line, LogName};
 use sms_book::{Book, BookName};
 use sms_message::Rules;
 use sms_window::Window;
 use std::alloc::Global;
+use std::io::Write;
 use std::sync::Mutex;
 
 /// What all workers of a run share.
@@ -21,10 +22,10 @@ pub struct RunContext<'a, N: BookName, G, K, P, R> {
 
 /// What a worker works with: what all share, and the line and window of its bind.
 #[derive(Drop)]
-pub struct WorkerContext<'a, N: BookName, W, G, K, R> {
+pub struct WorkerContext<'a, N: BookName + LogName, W: Write, G, K, R> {
     pub rt: &'a R,
     pub alloc: Global,
-    pub line: &'a Line<W>,
+    pub line: &'a Line<N, W>,
     pub window: &'a Window,
     pub book: &'a Mutex<Book<N>>,
     pub rules: &'a Rules,

@@ -6,6 +6,7 @@ use crate::ends::MessageEnd;
 use crate::entry::work::Worker;
 use crate::state::open::Open;
 use crate::state::pending::PendingParts;
+use sms_bind::LogName;
 use sms_book::BookName;
 use sms_message::{Message, Rules};
 use std::alloc::{AllocError, Global};
@@ -36,13 +37,13 @@ fn grow(alloc: Global, messages: usize, depth: usize) -> Result<Lists, AllocErro
 /// A worker and its messages, with all memory that is taken before its first step. Contracts see what it
 /// was given, and how many requests it has room for.
 #[derive(Drop)]
-pub struct ReadyWorker<N: BookName> {
+pub struct ReadyWorker<N: BookName + LogName> {
     pub(crate) worker: Worker<N>,
     pub(crate) messages: Vec<Message>,
     pub(crate) lists: Lists,
 }
 
-impl<N: BookName> Model for ReadyWorker<N> {
+impl<N: BookName + LogName> Model for ReadyWorker<N> {
     ghost use Rattle.std.specs.Prelude.{◌≡◌, ◌≤◌, [], vec_len, vec_capacity};
     ghost use Rattle.sms_worker.specs.ReadyState.{ReadyState};
 
@@ -59,7 +60,7 @@ impl<N: BookName> Model for ReadyWorker<N> {
     } };
 }
 
-impl<N: BookName> ReadyWorker<N> {
+impl<N: BookName + LogName> ReadyWorker<N> {
     /// Allocates what a call by these rules needs before its first step. If that fails, the worker and its
     /// messages are handed back.
     pub fn new(

@@ -15,11 +15,12 @@ use crate::entry::ready::{Lists, ReadyWorker};
 use crate::state::closing::{ClosedBy, Closing};
 use crate::state::open::Open;
 use crate::state::queue::Queues;
+use crate::state::reasons::Reasons;
 use crate::state::tally::Tally;
 use crate::state::worker_start::WorkerStart;
 use crate::state::worker_state::WorkerState;
 use rtrb::Consumer;
-use sms_bind::{Down, DownMark, Line};
+use sms_bind::{Down, DownMark, Line, LogName, Requests};
 use sms_book::{Book, BookName, Shares};
 use sms_message::{Message, Rules};
 use sms_pdu::Reply;
@@ -32,29 +33,35 @@ use std::sync::{Mutex, Wait};
 
 /// What a worker is given.
 #[derive(Drop)]
-pub struct Worker<N: BookName> {
+pub struct Worker<N: BookName + LogName> {
     /// Its index among all workers, and its place among those of its bind.
     pub index: usize,
     pub place: usize,
     pub seat: WindowSeat,
     pub shares: Shares<N>,
     pub consumer: Consumer<Reply>,
+    /// The requests that it gave to wires.
+    pub requests: Requests<N>,
 }
 
 /// What a worker gives back.
 #[derive(Drop)]
-pub struct WorkerEnd<N: BookName> {
+pub struct WorkerEnd<N: BookName + LogName> {
     pub seat: WindowSeat,
     pub shares: Shares<N>,
     pub consumer: Consumer<Reply>,
+    /// The requests that it gave to wires: the frames of all attempts in `ends`, and those that it had before.
+    pub requests: Requests<N>,
     pub ends: Vec<MessageEnd>,
     /// Why messages were refused as bind-closed, if any were.
     pub closed: Option<ClosedBy>,
+    /// Why parts were given up before they were sent, and messages refused for want of memory.
+    pub reasons: Reasons,
 }
 
 // Releases the slots that are still open. Each was answered, but its answer hasn't come out of the ring: the
 // slot is emptied without it.
-fn release_all<N: BookName, W, G, K, R: Wait>(
+fn release_all<N: BookName + LogName, W: Write, G, K, R: Wait>(
     context: &WorkerContext<N, W, G, K, R>,
     seat: &mut WindowSeat,
     mut opened: Vec<Open>,
@@ -72,7 +79,7 @@ fn release_all<N: BookName, W, G, K, R: Wait>(
 }
 
 // Ends a call whose messages all have their ends. The evidence that the line was seen down goes into `seen`.
-fn into_end<'l, N: BookName, W, G, K, R: Wait, C: WorkerStart>(
+fn into_end<'l, N: BookName + LogName, W: Write, G, K, R: Wait, C: WorkerStart>(
     context: &WorkerContext<N, W, G, K, R>,
     state: WorkerState<'l, N, C>,
     consumer: Consumer<Reply>,
@@ -88,8 +95,10 @@ fn into_end<'l, N: BookName, W, G, K, R: Wait, C: WorkerStart>(
     let WorkerState {
         tally,
         mut seat,
+        requests,
         opened,
         closed,
+        reasons,
         ..
     } = state;
     release_all(context, &mut seat, opened);
@@ -100,13 +109,15 @@ fn into_end<'l, N: BookName, W, G, K, R: Wait, C: WorkerStart>(
         seat,
         shares,
         consumer,
+        requests,
         ends,
         closed,
+        reasons,
     }
 }
 
 // Sends the messages at a line of this mark. The evidence that the line was seen down goes into `seen`.
-fn work<'l, N: BookName, W: Write, G: Gate, K: Clock, P: Pause, R: Wait, C: WorkerStart>(
+fn work<'l, N: BookName + LogName, W: Write, G: Gate, K: Clock, P: Pause, R: Wait, C: WorkerStart>(
     context: &WorkerContext<N, W, G, K, R>,
     mark: &'l DownMark,
     pause: &P,
@@ -128,6 +139,7 @@ fn work<'l, N: BookName, W: Write, G: Gate, K: Clock, P: Pause, R: Wait, C: Work
         seat,
         shares,
         consumer,
+        requests,
         ..
     } = worker;
     let Lists {
@@ -141,22 +153,24 @@ fn work<'l, N: BookName, W: Write, G: Gate, K: Clock, P: Pause, R: Wait, C: Work
         messages,
         tally: Tally::new(shares, ends),
         pending,
+        reasons: Reasons::none(context.alloc),
         opened,
         queues: Queues::none(),
         next: 0,
         closed: Closing::not_yet(mark),
         seat,
+        requests,
         replies,
         of: PhantomData,
     };
-    state.take_turns(context, pause, &mut consumer);
-    state.finish(context, &mut consumer);
+    let call_end = state.take_turns(context, pause, &mut consumer);
+    state.finish(context, &mut consumer, call_end);
     let end = into_end(context, state, consumer, seen);
     context.gate.see_last(context.worker, end.ends.as_slice());
     end
 }
 
-impl<N: BookName> ReadyWorker<N> {
+impl<N: BookName + LogName> ReadyWorker<N> {
     /// Sends the messages in order, in at most `rules.turns` turns. Each message has one end, in order; each
     /// segment was settled by the last of its attempts; the share grew by the sums over the ends; the seat holds
     /// the slots that it held. A step that runs out of memory gives up its segment or its message alone. The
@@ -164,7 +178,7 @@ impl<N: BookName> ReadyWorker<N> {
     pub fn run<'l, W: Write, G: Gate, K: Clock, P: Pause, R: Wait>(
         self,
         context: &RunContext<N, G, K, P, R>,
-        line: &'l Line<W>,
+        line: &'l Line<N, W>,
         window: &Window,
     ) -> (WorkerEnd<N>, Option<Down<'l>>)
         requires same_window { self.worker.seat.window ≡ window.now }
@@ -199,12 +213,12 @@ impl<N: BookName> ReadyWorker<N> {
 
 /// Makes a worker ready and runs it. If memory runs out before the first step, the worker and its messages are
 /// handed back.
-pub fn run_worker<'l, N: BookName, W: Write, G: Gate, K: Clock, P: Pause, R: Wait>(
+pub fn run_worker<'l, N: BookName + LogName, W: Write, G: Gate, K: Clock, P: Pause, R: Wait>(
     rt: &R,
     alloc: Global,
     worker: Worker<N>,
     messages: Vec<Message>,
-    line: &'l Line<W>,
+    line: &'l Line<N, W>,
     window: &Window,
     book: &Mutex<Book<N>>,
     rules: &Rules,

@@ -4,6 +4,7 @@ ghost use Rattle.std.specs.Prelude.{◌≡◌, None, IsTrue, false};
 ghost use Rattle.sms_worker.specs.Closing.{IsSeen};
 
 use crate::state::worker_start::WorkerStart;
+use crate::steps::turn::TurnsTaken;
 use sms_bind::{Down, DownCause, DownMark};
 use std::marker::{Model, PhantomData};
 
@@ -12,15 +13,15 @@ use std::marker::{Model, PhantomData};
 pub enum ClosedBy {
     /// The bind's line was seen down, for this cause.
     Down(DownCause),
-    /// The worker's turns were over.
-    Turns,
+    /// The worker's turns were over: as many as its rules say were taken.
+    Turns(TurnsTaken),
 }
 
 /// What closed the bind: the line that was seen down, or the worker's turns that are over.
 #[derive(Drop)]
 pub(crate) enum Closure<'l> {
     Down(Down<'l>),
-    Turns,
+    Turns(TurnsTaken),
 }
 
 /// Whether the bind is closed for a worker. It stays so for the first cause. Contracts see whether it is.
@@ -39,7 +40,7 @@ impl<'l, C: WorkerStart> Model for Closing<'l, C> {
 
     ghost view = { λ c. is_closed c.by };
 
-    ghost invariant = { λ c. IsCause C.start.mark c.mark.now c.by };
+    ghost invariant = { λ c. IsCause C.start.rules.turns C.start.mark c.mark.now c.by };
 }
 
 impl<'l, C: WorkerStart> Closing<'l, C> {
@@ -80,24 +81,24 @@ impl<'l, C: WorkerStart> Closing<'l, C> {
     }
 
     /// The worker has taken all its turns.
-    pub fn turns_are_over(&mut self, taken: u64)
-        requires all { taken ≡ C.start.rules.turns }
+    pub fn turns_are_over(&mut self, taken: TurnsTaken)
+        requires all { taken.count ≡ C.start.rules.turns }
         ensures closed { IsTrue self.new }
     {
         if self.by.is_none() {
-            self.by = Some(Closure::Turns);
+            self.by = Some(Closure::Turns(taken));
         }
     }
 
     /// Why it is closed; and the evidence that the line was seen down, if it was.
     pub fn into_cause(self) -> (Option<ClosedBy>, Option<Down<'l>>)
         ensures none { result.0 ≡ None → self.entry ≡ false }
-        ensures seen { IsSeen C.start.mark result.0 result.1 }
+        ensures seen { IsSeen C.start.rules.turns C.start.mark result.0 result.1 }
     {
         let Closing { mark, by, of: _ } = self;
         match by {
             None => (None, None),
-            Some(Closure::Turns) => (Some(ClosedBy::Turns), None),
+            Some(Closure::Turns(taken)) => (Some(ClosedBy::Turns(taken)), None),
             Some(Closure::Down(down)) => {
                 let cause = mark.cause(&down);
                 (Some(ClosedBy::Down(cause)), Some(down))

@@ -2,7 +2,6 @@
 
 ghost use Rattle.std.specs.Prelude.{◌≡◌, ℕ, ◌+◌, ◌*◌, ◌<◌, ◌≤◌, ◌↔◌, ◌++◌, ◌∷◌, [], IsTrue, false, Some, None, IfNone, IfSome, length, slice_get, slice_set, vec_capacity};
 ghost use Rattle.sms_book.specs.Alone.{opening_at};
-ghost use Rattle.sms_book.specs.Limits.{most_returned};
 ghost use Rattle.sms_book.specs.Money.{reserved_more};
 ghost use Rattle.sms_book.specs.Portions.{amounts_at, row_at};
 ghost use Rattle.sms_book.specs.Shares.{changed};
@@ -12,7 +11,7 @@ ghost use Rattle.sms_message.specs.declared.ends.MessageResult.TheVariants.{Refu
 ghost use Rattle.sms_message.specs.declared.ends.Outcome.TheVariants.{Unanswered};
 ghost use Rattle.sms_message.specs.declared.message.Message.{Message as TheMessage};
 ghost use Rattle.sms_worker.specs.Begins.{end_refused, end_sent, ready};
-ghost use Rattle.sms_worker.specs.Credit.{Lacks};
+ghost use Rattle.sms_worker.specs.Credit.{CanReserve, Lacks};
 ghost use Rattle.sms_worker.specs.Steps.{Takes, settled_to};
 ghost use Rattle.sms_worker.specs.Tally.{AreSums, IsLike};
 ghost use Rattle.sms_worker.specs.Types.{SegmentEnd};
@@ -55,7 +54,7 @@ fn reserve_all<N: BookName>(
     parts: usize,
     cost: u32,
 ) -> bool
-    ensures exact { IsTrue result ↔ ((account < length book.old) × (parts * cost ≤ (row_at book.old account).free) × ((row_at book.old account).returned + (row_at book.old account).reserved + parts * cost ≤ most_returned)) }
+    ensures exact { IsTrue result ↔ CanReserve book.old account (parts * cost) }
     ensures book { IsTrue result → book.new ≡ slice_set book.old account (row_reserved (parts * cost) (row_at book.old account)) }
     ensures share { IsTrue result → shares.new ≡ changed shares.old account (reserved_more (parts * cost)) }
     ensures refused { result ≡ false → (book.new ≡ book.old) × (shares.new ≡ shares.old) }
@@ -134,6 +133,9 @@ impl<N: BookName, C: WorkerStart> Tally<N, C> {
         requires ready { segments.items ≡ ready cost (length segments.items) }
         ensures admitted { IsTrue result → self.new ≡ record self.old { share = changed self.old.share account (reserved_more (length segments.items * cost)); ends = self.old.ends ++ end_sent message.now segments.items ∷ [] } }
         ensures refused { result ≡ false → self.new ≡ self.old }
+        ensures kept { result ≡ false → book.new ≡ book.old }
+        ensures exact { IsTrue result ↔ CanReserve book.old account (length segments.items * cost) }
+        ensures book { IsTrue result → book.new ≡ slice_set book.old account (row_reserved (length segments.items * cost) (row_at book.old account)) }
         ensures short { result ≡ false → N.book.workers ≡ 1 → Lacks (opening_at N.book account) (amounts_at self.old.share.amounts account) (length segments.items * cost) }
     {
         if !reserve_all(book, &mut self.shares, account, segments.len(), cost) {

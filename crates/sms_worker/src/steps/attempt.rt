@@ -1,8 +1,9 @@
 //! One attempt: a slot, a number, a frame, the gate, and the wire.
 
-ghost use Rattle.std.specs.Prelude.{◌≡◌, ℕ, ◌+◌, ◌<◌, ◌≤◌, ◌↔◌, ◌∷◌, [], List, true, false, Ok, Err, vec_len, vec_capacity, IfErr, IfOk, OnErr, OnOk};
+ghost use Rattle.std.specs.Prelude.{◌≡◌, ℕ, ◌+◌, ◌<◌, ◌≤◌, ◌↔◌, ◌++◌, ◌∷◌, [], List, true, false, Ok, Err, vec_len, vec_capacity, IfErr, IfOk, OnErr, OnOk};
 ghost use Rattle.std.specs.Io.KnownBytes.{Appends};
 ghost use Rattle.sms_pdu.specs.Faults.{Counts};
+ghost use Rattle.sms_bind.specs.Frames.{IsRequest};
 ghost use Rattle.sms_bind.specs.Wires.{writer, write_faults, is_broken};
 ghost use Rattle.sms_pdu.specs.Streams.{SomeAppended};
 ghost use Rattle.sms_core.specs.Limits.{most_slots};
@@ -10,6 +11,7 @@ ghost use Rattle.sms_segment.specs.declared.part.Part.{Part};
 ghost use Rattle.sms_window.specs.Drawing.{HasDrawn};
 ghost use Rattle.sms_window.specs.OpenSlots.{IsOpen};
 ghost use Rattle.sms_window.specs.Seats.{used_up};
+ghost use Rattle.sms_worker.specs.Handed.{HandsOn};
 ghost use Rattle.sms_worker.specs.Keeps.{slots_of};
 ghost use Rattle.sms_message.specs.Submits.{HasAddresses, SpellsSubmit};
 ghost use Rattle.sms_worker.specs.Limits.{most_draws};
@@ -31,7 +33,7 @@ use crate::steps::give_up::{
 };
 use crate::steps::retry_later::{Drawing, NoNumber, RetryLater, claim, draw_one, not_ready};
 use crate::steps::timestamp::Timestamp;
-use sms_bind::{Receipt, Wire, WireFault};
+use sms_bind::{LogName, LoggedWire, Receipt, Requests, WireFault};
 use sms_book::BookName;
 use sms_message::{Message, Rules, UserData, good_destination, good_source};
 use sms_pdu::{BodyRef, Frame, PduRef, SmRef};
@@ -41,7 +43,7 @@ use std::io::Write;
 use std::sync::Wait;
 
 /// What came of a try to send a segment.
-#[derive(Clone, Copy, Debug, PartialEq, Eq)]
+#[derive(Debug, Drop, PartialEq, Eq)]
 pub enum TrySend {
     /// It was sent with this number.
     Sent(u32),
@@ -94,6 +96,7 @@ fn frame_for(
 ) -> Result<Frame, NoMemory>
     requires { HasAddresses message.now }
     ensures spelled { (part : Part) → user_data.now ≡ data_of part → IfOk result (λ frame. SpellsSubmit rules.now message.now part number frame) }
+    ensures request { IfOk result IsRequest }
     ensures number { IfErr result (λ no. no.number ≡ number) }
 {
     let from = good_source(message.source.as_str());
@@ -127,7 +130,7 @@ fn frame_for(
 }
 
 /// Why no frame was made that is to be written now.
-#[derive(Clone, Copy, Debug, PartialEq, Eq)]
+#[derive(Debug, Drop, PartialEq, Eq)]
 enum NoFrame {
     /// No number could be drawn, and the next turn tries again.
     Later(NoNumber),
@@ -148,7 +151,7 @@ fn not_sent(why: NoFrame) -> TrySend
 
 /// Draws a number for the part with this user data, makes its frame and its room in the list of attempts, and
 /// asks the gate to let it pass.
-fn next_frame<N: BookName, W, G: Gate, K, R>(
+fn next_frame<N: BookName + LogName, W: Write, G: Gate, K, R>(
     context: &WorkerContext<N, W, G, K, R>,
     seat: &mut WindowSeat,
     place: SegmentPlace,
@@ -164,6 +167,7 @@ fn next_frame<N: BookName, W, G: Gate, K, R>(
     ensures room { OnOk result (vec_len attempts.new < vec_capacity attempts.new) }
     ensures drawn { IfOk result (λ r. HasDrawn seat.old.view (r.0 ∷ []) seat.new.view) }
     ensures spelled { (part : Part) → user_data.now ≡ data_of part → IfOk result (λ r. SpellsSubmit context.now.rules.now message.now part r.0 r.1) }
+    ensures request { IfOk result (λ r. IsRequest r.1) }
     ensures later { (no : NoNumber) → result ≡ Err (Later no) → HasDrawn seat.old.view [] seat.new.view × (seat.old.view.seen + most_draws ≤ seat.new.view.seen) }
     ensures never { (why : GiveUpReason) → result ≡ Err (Never why) → IsReason why seat.old.view seat.new.view }
 {
@@ -191,24 +195,27 @@ fn next_frame<N: BookName, W, G: Gate, K, R>(
     Ok((number, frame))
 }
 
-/// Posts the number in the slot and hands the frame to the wire. Where the wire is broken or the slot isn't
-/// empty nothing is written. A write that fails marks the line down.
-fn write_frame<N: BookName, W: Write, G, K, R: Wait>(
+/// Posts the number in the slot and hands the frame to the wire, as one of the worker's requests. Where the wire
+/// is broken or the slot isn't empty nothing is written. A write that fails marks the line down.
+fn write_frame<N: BookName + LogName, W: Write, G, K, R: Wait>(
     context: &WorkerContext<N, W, G, K, R>,
-    wire: &mut Wire<W>,
+    wire: &mut LoggedWire<N, W>,
+    requests: &mut Requests<N>,
     slot: u32,
     number: u32,
     frame: Frame,
 ) -> Result<Receipt, NotHanded>
     requires slot { slot < most_slots }
+    requires request { IsRequest frame }
     ensures receipt { IfOk result (λ r. r ≡ frame) }
-    ensures broken { MetBroken result ↔ (is_broken wire.old ≡ true) }
+    ensures handed { IfOk result (λ r. requests.new ≡ requests.old ++ r ∷ []) }
+    ensures broken { MetBroken result ↔ (is_broken wire.old.wire ≡ true) }
     ensures number { IfErr result (λ no. number_unsent no ≡ number) }
-    ensures unsent { OnErr result (wire.new ≡ wire.old) }
-    ensures sent { (r : List ℕ) → result ≡ Ok r → is_broken wire.new ≡ false → Appends (W.contents (writer wire.old)) (W.contents (writer wire.new)) frame }
-    ensures failed { (r : List ℕ) → result ≡ Ok r → is_broken wire.new ≡ true → SomeAppended (W.contents (writer wire.old)) (W.contents (writer wire.new)) frame × Counts (write_faults wire.old) (write_faults wire.new) }
+    ensures unsent { OnErr result ((wire.new ≡ wire.old) × (requests.new ≡ requests.old)) }
+    ensures sent { (r : List ℕ) → result ≡ Ok r → is_broken wire.new.wire ≡ false → Appends (W.contents (writer wire.old.wire)) (W.contents (writer wire.new.wire)) frame }
+    ensures failed { (r : List ℕ) → result ≡ Ok r → is_broken wire.new.wire ≡ true → SomeAppended (W.contents (writer wire.old.wire)) (W.contents (writer wire.new.wire)) frame × Counts (write_faults wire.old.wire) (write_faults wire.new.wire) }
 {
-    match sound(wire, number) {
+    match sound(wire.wire(), number) {
         Ok(()) => {}
         Err(no) => return Err(NotHanded::Broken(no)),
     }
@@ -216,10 +223,10 @@ fn write_frame<N: BookName, W: Write, G, K, R: Wait>(
         Ok(()) => {}
         Err(no) => return Err(NotHanded::Busy(no)),
     }
-    match wire.send(frame) {
+    match wire.request(requests, frame) {
         Ok(receipt) => Ok(receipt),
         Err(WireFault::Write(receipt)) => {
-            drop(context.line.down.write_failed(context.rt, &*wire));
+            drop(context.line.down.write_failed(context.rt, wire.wire()));
             Ok(receipt)
         }
         Err(WireFault::Broken) => unreachable!(),
@@ -228,9 +235,10 @@ fn write_frame<N: BookName, W: Write, G, K, R: Wait>(
 
 /// Claims a slot and sends the part with this user data through it, in one holding of the wire's lock. The
 /// slot is open then, or released.
-pub(crate) fn start<N: BookName, W: Write, G: Gate, K: Clock, R: Wait>(
+pub(crate) fn start<N: BookName + LogName, W: Write, G: Gate, K: Clock, R: Wait>(
     context: &WorkerContext<N, W, G, K, R>,
     seat: &mut WindowSeat,
+    requests: &mut Requests<N>,
     opened: &mut Vec<Open>,
     place: SegmentPlace,
     message: &Message,
@@ -243,6 +251,7 @@ pub(crate) fn start<N: BookName, W: Write, G: Gate, K: Clock, R: Wait>(
     ensures window { seat.new.window ≡ seat.old.window }
     ensures open { (base : ℕ) → IsOpen base (slots_of opened.old.items) seat.old.view.slots → IsOpen base (slots_of opened.new.items) seat.new.view.slots }
     ensures opened { Opens result place opened.old.items opened.new.items }
+    ensures handed { HandsOn attempts.old.items attempts.new.items requests.old requests.new }
     ensures fit { vec_capacity opened.new ≡ vec_capacity opened.old }
     ensures tried { (part : Part) → user_data.now ≡ data_of part → Tries context.now.rules.now message.now part seat.old.view attempts.old.items result seat.new.view attempts.new.items }
 {
@@ -261,7 +270,7 @@ pub(crate) fn start<N: BookName, W: Write, G: Gate, K: Clock, R: Wait>(
         }
     };
     let mut wire = context.line.wire.lock(context.rt);
-    match write_frame(context, &mut wire, slot, number, frame) {
+    match write_frame(context, &mut wire, requests, slot, number, frame) {
         Ok(sent) => {
             drop(wire);
             attempts.push_reserved(Attempt {

@@ -1,7 +1,8 @@
 //! Beginning a message: its parts, its credits, and its end so far.
 
 ghost use Rattle.std.specs.Prelude.{◌≡◌, ◌≢◌, ℕ, ◌<◌, ◌++◌, ◌∷◌, [], All, IsTrue, false, Err, Some, IfOk, IfErr, IfSome, OnOk, length, slice_get, vec_len};
-ghost use Rattle.sms_worker.specs.Begins.{Begins, HasBegun, end_refused, ready};
+ghost use Rattle.sms_worker.specs.Begins.{Begins, HasBegun, Refuses, end_refused, ready};
+ghost use Rattle.sms_worker.specs.Reasons.{RestsOn};
 ghost use Rattle.sms_book.specs.Tariffs.{cost_of};
 ghost use Rattle.sms_segment.specs.declared.place.Reference.{Reference as TheReference};
 ghost use Rattle.sms_segment.specs.Message.{IsTooLong, parts_of};
@@ -14,89 +15,15 @@ ghost use Rattle.sms_message.specs.UserData.{message_data};
 ghost use Rattle.std.specs.Prelude.{string_bytes};
 ghost use Rattle.sms_message.specs.declared.ends.MessageRefusal.TheVariants.{BindClosed, NoCredit};
 
-use crate::ends::{Attempts, SegmentEnd};
+use crate::ends::SegmentEnd;
 use crate::state::pending::PendingParts;
 use crate::state::tally::Tally;
 use crate::state::worker_start::WorkerStart;
+use crate::steps::parts::{NoMessageMemory, NoParts, ends_for, pending_for};
 use sms_book::{Book, BookName};
-use sms_message::{
-    Message, MessageRefusal, Outcome, Rules, UserData, cut_message, has_addresses, is_known,
-    part_cost,
-};
-use sms_segment::laws::the_parts_tell_what_is_too_long;
-use sms_segment::short_message_of;
-use std::alloc::{AllocError, Global};
+use sms_message::{Message, MessageRefusal, Rules, has_addresses, is_known, part_cost};
+use std::alloc::Global;
 use std::sync::{Mutex, Wait};
-
-/// The pending parts of a message that is cut.
-fn pending_cut(
-    alloc: Global,
-    rules: &Rules,
-    message: &Message,
-) -> Result<PendingParts, MessageRefusal>
-    ensures pending { IfOk result (λ pending. pending ≡ pending_of (message_parts rules.now message.now)) }
-    ensures short { OnOk result (IsShort rules.now message.now) }
-    ensures refused { IfErr result (λ e. IsNotCut rules.now message.now e) }
-{
-    let parts = match cut_message(alloc, rules, message) {
-        Ok(parts) => parts,
-        Err(refusal) => return Err(refusal),
-    };
-    match PendingParts::of(alloc, parts.as_slice()) {
-        Ok(pending) => Ok(pending),
-        Err(_) => Err(MessageRefusal::OutOfMemory),
-    }
-}
-
-/// The pending part of a message that one short message can carry, made straight from the characters of its
-/// text. `None` for a message of more parts.
-fn pending_at_once(alloc: Global, message: &Message) -> Result<Option<PendingParts>, AllocError>
-    ensures pending { IfOk result (λ found. IfSome found (λ pending. (reference : TheReference) → pending ≡ pending_of (parts_of (coded_text message.now) reference))) }
-    ensures short { IfOk result (λ found. IfSome found (λ pending. (reference : TheReference) → ¬ IsTooLong (coded_text message.now) reference)) }
-{
-    let one = match short_message_of(alloc, message.text.as_str()) {
-        Ok(Some(one)) => one,
-        Ok(None) => return Ok(None),
-        Err(no_memory) => return Err(no_memory),
-    };
-    the_parts_tell_what_is_too_long();
-    match PendingParts::of_one(alloc, UserData::of_one(one)) {
-        Ok(pending) => Ok(Some(pending)),
-        Err(no_memory) => Err(no_memory),
-    }
-}
-
-/// The pending parts of a message. It is cut only where one short message can't carry it.
-fn pending_for(
-    alloc: Global,
-    rules: &Rules,
-    message: &Message,
-) -> Result<PendingParts, MessageRefusal>
-    ensures pending { IfOk result (λ pending. pending ≡ pending_of (message_parts rules.now message.now)) }
-    ensures short { OnOk result (IsShort rules.now message.now) }
-    ensures refused { IfErr result (λ e. IsNotCut rules.now message.now e) }
-{
-    match pending_at_once(alloc, message) {
-        Ok(Some(pending)) => Ok(pending),
-        Ok(None) => pending_cut(alloc, rules, message),
-        Err(_) => Err(MessageRefusal::OutOfMemory),
-    }
-}
-
-/// The ends of `count` segments that wait to be sent.
-fn waiting_ends(alloc: Global, count: usize, cost: u32) -> Result<Vec<SegmentEnd>, AllocError>
-    ensures { IfOk result (λ ends. ends.items ≡ ready cost count) }
-{
-    let mut ends = Vec::with_capacity(alloc, count)?;
-    for _ in 0..count {
-        ends.push_reserved(SegmentEnd {
-            cost,
-            attempts: Attempts::new(Vec::new(alloc)),
-            outcome: Outcome::Unanswered,
-        });
-    }
-    Ok(ends)
-}
 
 /// What an admitted message is sent as, and what each of its segments costs.
 #[derive(Drop)]
@@ -107,6 +34,19 @@ struct Prepared {
     cost: u32,
 }
 
+/// Why a message is refused, with the evidence if memory was refused for it.
+type Refusal = (MessageRefusal, Option<NoMessageMemory>);
+
+/// The refusal of a message that has no parts.
+fn refusal_of(no: NoParts) -> Refusal
+    ensures { Refuses no result.0 result.1 }
+{
+    match no {
+        NoParts::TooLong => (MessageRefusal::TooLong, None),
+        NoParts::Memory(no_memory) => (MessageRefusal::OutOfMemory, Some(no_memory)),
+    }
+}
+
 /// Prepares a message that passes each check but that of its credits.
 fn prepare(
     alloc: Global,
@@ -114,39 +54,40 @@ fn prepare(
     accounts: usize,
     down: bool,
     message: &Message,
-) -> Result<Prepared, MessageRefusal>
+) -> Result<Prepared, Refusal>
     ensures known { IfOk result (λ r. IsKnown accounts message.now.account × HasAddresses message.now) }
     ensures short { OnOk result (IsShort rules.now message.now) }
     ensures pending { IfOk result (λ r. data_in r.pending ≡ message_data rules.now message.now) }
     ensures ends { IfOk result (λ r. r.ends.items ≡ ready (cost_of rules.now.tariff (string_bytes message.now.dest)) (length (message_parts rules.now message.now))) }
     ensures cost { IfOk result (λ r. (r.cost ≡ cost_of rules.now.tariff (string_bytes message.now.dest)) × (0 < r.cost)) }
-    ensures refused { IfErr result (λ e. IsRefusalOf rules.now accounts message.now e) }
+    ensures refused { IfErr result (λ e. IsRefusalOf rules.now accounts message.now e.0) }
+    ensures memory { IfErr result (λ e. RestsOn message.now.index e.0 e.1) }
     ensures unlinked { IfOk result (λ r. AreUnlinked r.pending) }
-    ensures closed { IfErr result (λ e. e ≡ BindClosed → IsTrue down) }
-    ensures credit { IfErr result (λ e. e ≢ NoCredit) }
-    ensures down { IsTrue down → result ≡ Err BindClosed }
+    ensures closed { IfErr result (λ e. e.0 ≡ BindClosed → IsTrue down) }
+    ensures credit { IfErr result (λ e. e.0 ≢ NoCredit) }
+    ensures down { IsTrue down → result ≡ Err (BindClosed, None) }
 {
     if down {
-        return Err(MessageRefusal::BindClosed);
+        return Err((MessageRefusal::BindClosed, None));
     }
     if !is_known(message.account, accounts) {
-        return Err(MessageRefusal::NoAccount);
+        return Err((MessageRefusal::NoAccount, None));
     }
     if !has_addresses(message) {
-        return Err(MessageRefusal::BadAddress);
+        return Err((MessageRefusal::BadAddress, None));
     }
     let pending = match pending_for(alloc, rules, message) {
         Ok(pending) => pending,
-        Err(refusal) => return Err(refusal),
+        Err(no) => return Err(refusal_of(no)),
     };
     let cost = part_cost(&rules.tariff, message);
-    match waiting_ends(alloc, pending.count(), cost) {
+    match ends_for(alloc, message, pending.count(), cost) {
         Ok(ends) => Ok(Prepared {
             pending,
             ends,
             cost,
         }),
-        Err(_) => Err(MessageRefusal::OutOfMemory),
+        Err(no_memory) => Err((MessageRefusal::OutOfMemory, Some(no_memory))),
     }
 }
 
@@ -170,7 +111,7 @@ fn refused<N: BookName, C: WorkerStart>(
 }
 
 /// Begins a message: reserves its credits and adds its end, in one holding of the book's lock, or refuses it.
-/// Returns its parts.
+/// Returns its parts, and the evidence if memory was refused for it.
 pub(crate) fn begun<N: BookName, R: Wait, C: WorkerStart>(
     rt: &R,
     alloc: Global,
@@ -179,11 +120,11 @@ pub(crate) fn begun<N: BookName, R: Wait, C: WorkerStart>(
     tally: &mut Tally<N, C>,
     down: bool,
     message: &Message,
-) -> PendingParts
+) -> (PendingParts, Option<NoMessageMemory>)
     requires next { slice_get C.start.messages (length tally.old.ends) ≡ Some message.now }
     requires room { length tally.old.ends < tally.old.room }
-    ensures begun { HasBegun N.book rules.now message.now down tally.old tally.new result }
-    ensures unlinked { AreUnlinked result }
+    ensures begun { HasBegun N.book rules.now message.now down tally.old tally.new result.0 result.1 }
+    ensures unlinked { AreUnlinked result.0 }
 {
     let accounts = tally.accounts();
     let Prepared {
@@ -192,14 +133,19 @@ pub(crate) fn begun<N: BookName, R: Wait, C: WorkerStart>(
         cost,
     } = match prepare(alloc, rules, accounts, down, message) {
         Ok(prepared) => prepared,
-        Err(refusal) => return refused(alloc, tally, rules, message, refusal),
+        Err((refusal, no_memory)) => {
+            return (refused(alloc, tally, rules, message, refusal), no_memory);
+        }
     };
     let Some(account) = message.account else {
         unreachable!()
     };
     if !tally.admit(&mut book.lock(rt), message, account, cost, ends) {
         drop(pending);
-        return refused(alloc, tally, rules, message, MessageRefusal::NoCredit);
+        return (
+            refused(alloc, tally, rules, message, MessageRefusal::NoCredit),
+            None,
+        );
     }
-    pending
+    (pending, None)
 }

@@ -3,30 +3,31 @@
 ghost use Rattle.std.specs.Prelude.{◌≡◌, ◌+◌, ◌<◌, false, true, length};
 ghost use Rattle.sms_worker.specs.Expiry.{Expires, ExpiresAt};
 
-use crate::devices::Clock;
 use crate::entry::context::WorkerContext;
 use crate::state::worker_start::WorkerStart;
 use crate::state::worker_state::WorkerState;
 use crate::steps::answered::Answered;
 use crate::steps::timestamp::Timestamp;
 use crate::steps::waits::is_overdue;
+use sms_bind::LogName;
 use sms_book::BookName;
+use std::io::Write;
 use std::sync::Wait;
 
-impl<N: BookName, C: WorkerStart> WorkerState<'_, N, C> {
-    // Expires requests that are open for too long, or all of them if the line is down. Returns whether any
-    // expired, and how many were found answered.
-    pub(crate) fn expire<W, G, K: Clock, R: Wait>(
+impl<N: BookName + LogName, C: WorkerStart> WorkerState<'_, N, C> {
+    // Expires requests that are open for too long at this time, or all of them if the line is down. Returns whether
+    // any expired, and how many were found answered.
+    pub(crate) fn expire<W: Write, G, K, R: Wait>(
         &mut self,
         context: &WorkerContext<N, W, G, K, R>,
+        now: Timestamp,
         down: bool,
     ) -> (bool, Answered)
         requires window { context.now.window.now ≡ C.start.seat.window }
         requires rules { context.now.rules.now ≡ C.start.rules }
         ensures replies { self.new.replies ≡ self.old.replies }
-        ensures expires { Expires C.start.rules.answer_ms down result.0 result.1.count self.old self.new }
+        ensures expires { Expires C.start.rules.answer_ms now.at_ms down result.0 result.1.count self.old self.new }
     {
-        let now = Timestamp::of(context.clock);
         let limit = u64::from(context.rules.answer_ms);
         let mut answered = Answered::none();
         let mut any = false;
@@ -48,7 +49,7 @@ impl<N: BookName, C: WorkerStart> WorkerState<'_, N, C> {
 
     // Expires the first open request not yet found answered. One that is answered stays open: its answer is in
     // the ring.
-    fn expire_at<W, G, K: Clock, R: Wait>(
+    fn expire_at<W: Write, G, K, R: Wait>(
         &mut self,
         context: &WorkerContext<N, W, G, K, R>,
         answered: &mut Answered,

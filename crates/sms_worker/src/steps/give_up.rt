@@ -1,16 +1,20 @@
 //! Why a segment whose turn it is is given up. Each reason is evidence that only the refusing call gives, so
-//! none can be made up.
+//! none can be made up; and it is moved into the list of reasons, so that one refusal explains one part.
 
-ghost use Rattle.std.specs.Prelude.{◌≡◌, ◌+◌, ◌<◌, ◌≤◌, ◌↔◌, IfErr, IfOk, IsOk, OnOk, max, false, vec_len, vec_capacity};
+ghost use Rattle.std.specs.Prelude.{◌≡◌, ◌+◌, ◌<◌, ◌≤◌, ◌↔◌, IfErr, IfOk, IsOk, OnOk, None, Some, max, false, slice_get, vec_len, vec_capacity};
 ghost use Rattle.sms_bind.specs.Wires.{is_broken};
 ghost use Rattle.sms_core.specs.Limits.{most_slots};
 ghost use Rattle.sms_pdu.specs.Borrowed.{owned_pdu};
 ghost use Rattle.sms_pdu.specs.Grammar.{Spells};
+ghost use Rattle.sms_worker.specs.PendingState.{data_in};
 
 use crate::devices::Gate;
 use crate::ends::Attempt;
+use crate::state::pending::PendingParts;
+use crate::steps::call_end::NothingLeft;
 use crate::steps::retry_later::AllDrawn;
 use sms_bind::Wire;
+use sms_message::UserData;
 use sms_pdu::{Frame, PduRef};
 use sms_slot::SlotRow;
 use std::alloc::Global;
@@ -19,13 +23,13 @@ use std::sync::Wait;
 
 /// Evidence that memory was refused for the attempt with this number: for its frame, or for its place in the
 /// list of attempts.
-#[derive(Clone, Copy, Debug, PartialEq, Eq)]
+#[derive(Debug, Drop, PartialEq, Eq)]
 pub struct NoMemory {
     number: u32,
 }
 
 /// Evidence that the gate refused the request with this number.
-#[derive(Clone, Copy, Debug, PartialEq, Eq)]
+#[derive(Debug, Drop, PartialEq, Eq)]
 pub struct NotPassed {
     number: u32,
 }
@@ -37,23 +41,31 @@ pub struct WireBroken {
 }
 
 /// Evidence that the slot wasn't empty in which this number was to be posted.
-#[derive(Clone, Copy, Debug, PartialEq, Eq)]
+#[derive(Debug, Drop, PartialEq, Eq)]
 pub struct SlotBusy {
     number: u32,
 }
 
 /// Why a frame wasn't handed to the wire.
-#[derive(Clone, Copy, Debug, PartialEq, Eq)]
+#[derive(Debug, Drop, PartialEq, Eq)]
 pub enum NotHanded {
     Broken(WireBroken),
     Busy(SlotBusy),
 }
 
+/// Evidence that what this part of its message carries wasn't kept.
+#[derive(Debug, Drop, PartialEq, Eq)]
+pub struct NothingKept {
+    part: usize,
+}
+
 /// Why a segment is given up.
-#[derive(Clone, Copy, Debug, PartialEq, Eq)]
+#[derive(Debug, Drop, PartialEq, Eq)]
 pub enum GiveUpReason {
-    /// Nothing of it is left to send: it is settled, or its part was dropped.
-    Over,
+    /// What it carries isn't there any more.
+    Kept(NothingKept),
+    /// Nothing was left to send.
+    Done(NothingLeft),
     /// The window has given all its numbers.
     Numbers(AllDrawn),
     /// Memory was refused.
@@ -62,6 +74,17 @@ pub enum GiveUpReason {
     Gate(NotPassed),
     /// The wire or the slot didn't take it.
     Line(NotHanded),
+}
+
+/// What a part of a message carries.
+pub fn kept(pending: &PendingParts, part: usize) -> Result<&UserData, NothingKept>
+    ensures there { IfOk result (λ there. slice_get (data_in pending.now) part ≡ Some there.now) }
+    ensures gone { IfErr result (λ no. (no.part ≡ part) × (slice_get (data_in pending.now) part ≡ None)) }
+{
+    match pending.part(part) {
+        Some(data) => Ok(data),
+        None => Err(NothingKept { part }),
+    }
 }
 
 /// The frame of a PDU that has a spelling.

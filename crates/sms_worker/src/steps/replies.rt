@@ -1,9 +1,9 @@
 //! Taking the answers that the ring shows.
 
 ghost use Rattle.std.specs.Prelude.{◌≡◌, ◌==◌, ◌<◌, ◌∷◌, ◌++◌, [], length, position, IfSome};
-ghost use Rattle.rtrb.specs.Ring.{received, SameConsumer};
+ghost use Rattle.rtrb.specs.Ring.{known_items, received, SameConsumer};
 ghost use Rattle.sms_pdu.specs.declared.reply.Reply.{Reply};
-ghost use Rattle.sms_worker.specs.Replies.{AllApplied, IsApplied};
+ghost use Rattle.sms_worker.specs.Replies.{AllApplied, IsApplied, WasDrained};
 ghost use Rattle.sms_worker.specs.RunState.{NewlyWait};
 ghost use Rattle.sms_worker.specs.Told.{HeardSince};
 
@@ -14,9 +14,11 @@ use crate::state::worker_start::WorkerStart;
 use crate::state::worker_state::WorkerState;
 use crate::steps::timestamp::Timestamp;
 use rtrb::Consumer;
+use sms_bind::LogName;
 use sms_book::BookName;
 use sms_pdu::Reply;
 use sms_slot::NotAnswered;
+use std::io::Write;
 use std::snapshot::Snapshot;
 use std::sync::Wait;
 
@@ -51,7 +53,7 @@ pub enum ReplyOutcome {
     Retried(Timestamp),
 }
 
-impl<N: BookName, C: WorkerStart> WorkerState<'_, N, C> {
+impl<N: BookName + LogName, C: WorkerStart> WorkerState<'_, N, C> {
     /// Notes what the consumer has received after one more pop.
     fn note(&mut self, consumer: &Consumer<Reply>)
         requires more { (reply : Reply) × (received consumer.now ≡ self.old.replies ++ reply ∷ []) }
@@ -64,7 +66,7 @@ impl<N: BookName, C: WorkerStart> WorkerState<'_, N, C> {
 
     /// Applies the reply to the open request with its number; without such a request it is dropped. The slot is
     /// answered by then, since the answer was put into the ring while the slot was locked.
-    fn apply_reply<W, G: Gate, K: Clock, R: Wait>(
+    fn apply_reply<W: Write, G: Gate, K: Clock, R: Wait>(
         &mut self,
         context: &WorkerContext<N, W, G, K, R>,
         reply: Reply,
@@ -75,6 +77,7 @@ impl<N: BookName, C: WorkerStart> WorkerState<'_, N, C> {
         ensures replies { self.new.replies ≡ self.old.replies }
         ensures waits { NewlyWait self.old.ends self.new }
         ensures applied { IsApplied C.start.rules reply result self.old self.new }
+        ensures closed { self.new.closed ≡ self.old.closed }
     {
         let Some(i) = find(self.opened.as_slice(), reply.number) else {
             return ReplyOutcome::Dropped(Dropped::NoneOpen);
@@ -102,7 +105,7 @@ impl<N: BookName, C: WorkerStart> WorkerState<'_, N, C> {
     }
 
     /// Takes the replies out of the ring, at most as many as it has room for.
-    pub(crate) fn take_replies<W, G: Gate, K: Clock, R: Wait>(
+    pub(crate) fn take_replies<W: Write, G: Gate, K: Clock, R: Wait>(
         &mut self,
         context: &WorkerContext<N, W, G, K, R>,
         consumer: &mut Consumer<Reply>,
@@ -113,6 +116,8 @@ impl<N: BookName, C: WorkerStart> WorkerState<'_, N, C> {
         ensures ring { SameConsumer consumer.old consumer.new }
         ensures replies { self.new.replies ≡ received consumer.new }
         ensures applied { AllApplied C.start.rules result self.old self.new }
+        ensures drained { WasDrained (length self.old.replies) (known_items consumer.new) (received consumer.new) }
+        ensures closed { self.new.closed ≡ self.old.closed }
     {
         let mut any = false;
         for _pop in 0u32..64 {
@@ -126,7 +131,7 @@ impl<N: BookName, C: WorkerStart> WorkerState<'_, N, C> {
     }
 
     /// Notes a reply that was popped, and applies it to its request.
-    fn take_reply<W, G: Gate, K: Clock, R: Wait>(
+    fn take_reply<W: Write, G: Gate, K: Clock, R: Wait>(
         &mut self,
         context: &WorkerContext<N, W, G, K, R>,
         consumer: &Consumer<Reply>,
@@ -137,6 +142,7 @@ impl<N: BookName, C: WorkerStart> WorkerState<'_, N, C> {
         requires replies { received consumer.now ≡ self.old.replies ++ reply ∷ [] }
         ensures replies { self.new.replies ≡ received consumer.now }
         ensures applied { IsApplied C.start.rules reply result self.old self.new }
+        ensures closed { self.new.closed ≡ self.old.closed }
     {
         self.note(consumer);
         self.apply_reply(context, reply)

@@ -17,21 +17,28 @@ ghost use Rattle.sms_worker.specs.Sweeps.{SweptAt, InPlace};
 ghost use Rattle.sms_worker.specs.PendingState.{LeavesPending, changed, settled_one};
 ghost use Rattle.sms_worker.specs.Told.{HeardSince};
 ghost use Rattle.sms_message.specs.Results.{IsSettled};
-ghost use Rattle.sms_worker.specs.Turns.{IsTry};
+ghost use Rattle.sms_worker.specs.Turns.{IsOver, IsTry};
+ghost use Rattle.sms_worker.specs.Reasons.{Lists};
+ghost use Rattle.sms_worker.specs.declared.state.reasons.UnsentReason.TheVariants.{Message, Part};
+ghost use Rattle.sms_worker.specs.declared.steps.give_up.GiveUpReason.{GiveUpReason as TheReason};
+ghost use Rattle.sms_worker.specs.declared.steps.parts.NoMessageMemory.{NoMessageMemory as TheEvidence};
 
 use crate::devices::{Clock, Gate};
 use crate::ends::{Attempts, MessageEnd, MessageResult, SegmentEnd};
 use crate::entry::context::WorkerContext;
 use crate::state::open::SegmentPlace;
 use crate::state::pending::settle_part;
+use crate::state::reasons::{Reasons, UnsentPart, UnsentReason};
 use crate::state::segment::{answer, given_up, is_waiting};
 use crate::state::tally::Tally;
 use crate::state::worker_start::WorkerStart;
 use crate::state::worker_state::WorkerState;
 use crate::steps::attempt::{TrySend, start};
 use crate::steps::begin::begun;
-use crate::steps::give_up::GiveUpReason;
+use crate::steps::give_up::{GiveUpReason, kept};
+use crate::steps::parts::NoMessageMemory;
 use crate::steps::timestamp::Timestamp;
+use sms_bind::LogName;
 use sms_book::{Book, BookName};
 use sms_message::Outcome;
 use sms_pdu::Reply;
@@ -73,6 +80,26 @@ fn settle<N: BookName, R: Wait, C: WorkerStart>(
     tally.settle(&mut book.lock(rt), place, account, segment);
 }
 
+/// Lists why a part of the message with this index is given up; where the bind is closed there is no other reason.
+fn list_part(reasons: &mut Reasons, message: u64, part: usize, why: Option<GiveUpReason>)
+    ensures none { why ≡ None → reasons.new ≡ reasons.old }
+    ensures some { (reason : TheReason) → why ≡ Some reason → Lists (Part (record { message = message; part = part; why = reason })) reasons.old reasons.new }
+{
+    if let Some(why) = why {
+        reasons.list(UnsentReason::Part(UnsentPart { message, part, why }));
+    }
+}
+
+/// Lists the evidence that memory was refused for a message.
+fn list_message(reasons: &mut Reasons, no_memory: Option<NoMessageMemory>)
+    ensures none { no_memory ≡ None → reasons.new ≡ reasons.old }
+    ensures some { (evidence : TheEvidence) → no_memory ≡ Some evidence → Lists (Message evidence) reasons.old reasons.new }
+{
+    if let Some(no_memory) = no_memory {
+        reasons.list(UnsentReason::Message(no_memory));
+    }
+}
+
 /// Reports to the gate that a message is begun, or refused.
 fn report_fate<G: Gate>(gate: &G, worker: usize, end: &MessageEnd) {
     match &end.result {
@@ -81,21 +108,24 @@ fn report_fate<G: Gate>(gate: &G, worker: usize, end: &MessageEnd) {
     }
 }
 
-impl<N: BookName, C: WorkerStart> WorkerState<'_, N, C> {
-    /// Gives up the segment at the place if it waits, and drops its part.
-    pub(crate) fn give_up<W, G, K, R: Wait>(
+impl<N: BookName + LogName, C: WorkerStart> WorkerState<'_, N, C> {
+    /// Gives up the segment at the place if it waits, and drops its part. Without a reason the bind is closed.
+    pub(crate) fn give_up<W: Write, G, K, R: Wait>(
         &mut self,
         context: &WorkerContext<N, W, G, K, R>,
         place: SegmentPlace,
+        why: Option<GiveUpReason>,
     )
+        requires why { why ≡ None → IsTrue self.old.closed }
         ensures replies { self.new.replies ≡ self.old.replies }
         ensures swept { SweptAt C.start.rules.policy.attempts place.message place.part self.old.ends self.new.ends }
         ensures in_place { InPlace self.old.ends self.new.ends }
         ensures length { length self.new.ends ≡ length self.old.ends }
         ensures left { (self.new.queues ≡ self.old.queues) × (self.new.next ≡ self.old.next) }
         ensures pending { LeavesPending place.message self.old.pending self.new.pending }
+        ensures closed { self.new.closed ≡ self.old.closed }
     {
-        if self.end_waiting(context, place) {
+        if self.end_waiting(context, place, why) {
             self.forget(context.alloc, place);
         }
     }
@@ -121,6 +151,7 @@ impl<N: BookName, C: WorkerStart> WorkerState<'_, N, C> {
         ensures unchanged { (self.new.replies ≡ self.old.replies) × (self.new.ends ≡ self.old.ends) }
         ensures waits { (ms : ℕ) → decision ≡ RetryAfter ms → 1 ≤ attempts → attempts ≤ 10 → last_in self.new.queues (attempts - 1) ≡ Some place }
         ensures opened { self.new.opened ≡ self.old.opened }
+        ensures closed { self.new.closed ≡ self.old.closed }
         ensures due { IfSome result (λ at. (ms : ℕ) × (decision ≡ RetryAfter ms) × (1 ≤ attempts → attempts ≤ 10 → WaitsLast self.old.pending self.old.queues (attempts - 1) (record { place = place; due_ms = due_after at.at_ms ms }) self.new.pending self.new.queues)) }
         ensures apart { (k : ℕ) → k + 1 ≢ attempts → slice_get self.new.queues k ≡ slice_get self.old.queues k }
         ensures settled { (decision ≡ Charge) ⊎ (decision ≡ Refuse) → self.new ≡ record self.old { pending = changed settled_one self.old.pending place.message } }
@@ -145,24 +176,28 @@ impl<N: BookName, C: WorkerStart> WorkerState<'_, N, C> {
         }
     }
 
-    /// Gives up the segment at the place if it waits. Returns whether it did.
-    fn end_waiting<W, G, K, R: Wait>(
+    /// Gives up the segment at the place if it waits, and lists the reason. Returns whether it did.
+    fn end_waiting<W: Write, G, K, R: Wait>(
         &mut self,
         context: &WorkerContext<N, W, G, K, R>,
         place: SegmentPlace,
+        why: Option<GiveUpReason>,
     ) -> bool
+        requires why { why ≡ None → IsTrue self.old.closed }
         ensures replies { self.new.replies ≡ self.old.replies }
         ensures swept { SweptAt C.start.rules.policy.attempts place.message place.part self.old.ends self.new.ends }
         ensures in_place { InPlace self.old.ends self.new.ends }
         ensures length { length self.new.ends ≡ length self.old.ends }
         ensures left { (self.new.queues ≡ self.old.queues) × (self.new.next ≡ self.old.next) }
         ensures pending { self.new.pending ≡ self.old.pending }
+        ensures closed { self.new.closed ≡ self.old.closed }
     {
         if place.message >= self.messages.len() {
             return false;
         }
         let message = &self.messages[place.message];
         let account = message.account;
+        let index = message.index;
         let Some(segment) = self.tally.take(context.alloc, place) else {
             return false;
         };
@@ -171,6 +206,7 @@ impl<N: BookName, C: WorkerStart> WorkerState<'_, N, C> {
             return false;
         }
         let segment = given_up(segment);
+        list_part(&mut self.reasons, index, place.part, why);
         settle(
             context.rt,
             context.book,
@@ -184,7 +220,7 @@ impl<N: BookName, C: WorkerStart> WorkerState<'_, N, C> {
 
     /// Records an answer at the place, and moves the credits by it. Returns how many attempts the segment has
     /// now, and the decision.
-    pub(crate) fn settle_answer<W, G, K: Clock, R: Wait>(
+    pub(crate) fn settle_answer<W: Write, G, K: Clock, R: Wait>(
         &mut self,
         context: &WorkerContext<N, W, G, K, R>,
         place: SegmentPlace,
@@ -233,29 +269,31 @@ impl<N: BookName, C: WorkerStart> WorkerState<'_, N, C> {
         Some((count, decision))
     }
 
-    /// Tries to send the segment at the place, whose turn it is, if it waits.
+    /// Tries to send the segment at the place, whose turn it is. `None` where there is none that waits.
     pub(crate) fn attempt<W: Write, G: Gate, K: Clock, R: Wait>(
         &mut self,
         context: &WorkerContext<N, W, G, K, R>,
         place: SegmentPlace,
-    ) -> TrySend
+    ) -> Option<TrySend>
         requires window { context.now.window.now ≡ C.start.seat.window }
         requires rules { context.now.rules.now ≡ C.start.rules }
         requires turn { HasTurn self.old.ends self.old.next place }
         requires bound { length self.old.opened < C.start.rules.depth }
         ensures replies { self.new.replies ≡ self.old.replies }
-        ensures tried { IsTry C.start.rules.policy.attempts result place self.old self.new }
+        ensures tried { IfSome result (λ tried. IsTry tried place self.old self.new) }
+        ensures over { result ≡ None → (self.new ≡ self.old) × IsOver C.start.rules.policy.attempts place self.old.ends }
     {
         let message = &self.messages[place.message];
-        let Some(user_data) = self.pending[place.message].part(place.part) else {
-            return TrySend::GiveUp(GiveUpReason::Over);
+        let user_data = match kept(&self.pending[place.message], place.part) {
+            Ok(user_data) => user_data,
+            Err(no) => return Some(TrySend::GiveUp(GiveUpReason::Kept(no))),
         };
         let Some(segment) = self.tally.take(context.alloc, place) else {
-            return TrySend::GiveUp(GiveUpReason::Over);
+            return None;
         };
         if !is_waiting(&segment) {
             self.tally.give(place, segment);
-            return TrySend::GiveUp(GiveUpReason::Over);
+            return None;
         }
         let SegmentEnd {
             cost,
@@ -266,6 +304,7 @@ impl<N: BookName, C: WorkerStart> WorkerState<'_, N, C> {
         let tried = start(
             context,
             &mut self.seat,
+            &mut self.requests,
             &mut self.opened,
             place,
             message,
@@ -278,11 +317,15 @@ impl<N: BookName, C: WorkerStart> WorkerState<'_, N, C> {
             outcome,
         };
         self.tally.give(place, segment);
-        tried
+        Some(tried)
     }
 
     /// Releases the slot of an open request, which is open no more.
-    pub(crate) fn close<W, G, K, R>(&mut self, context: &WorkerContext<N, W, G, K, R>, i: usize)
+    pub(crate) fn close<W: Write, G, K, R>(
+        &mut self,
+        context: &WorkerContext<N, W, G, K, R>,
+        i: usize,
+    )
         requires window { context.now.window.now ≡ C.start.seat.window }
         requires waits { i < length self.old.opened }
         ensures replies { self.new.replies ≡ self.old.replies }
@@ -294,7 +337,7 @@ impl<N: BookName, C: WorkerStart> WorkerState<'_, N, C> {
     }
 
     /// Begins the next message, if there is one. It is refused where the bind is closed.
-    pub(crate) fn begin<W, G: Gate, K, R: Wait>(
+    pub(crate) fn begin<W: Write, G: Gate, K, R: Wait>(
         &mut self,
         context: &WorkerContext<N, W, G, K, R>,
     ) -> bool
@@ -305,6 +348,7 @@ impl<N: BookName, C: WorkerStart> WorkerState<'_, N, C> {
         ensures more { result ≡ true → (length self.new.ends ≡ length self.old.ends + 1) × (length self.new.ends ≤ length C.start.messages) }
         ensures next { result ≡ true → (self.new.queues ≡ self.old.queues) × (self.new.next ≡ 0) }
         ensures none { result ≡ false → self.new ≡ self.old }
+        ensures stays { self.new.closed ≡ self.old.closed }
     {
         let place = self.tally.ends().len();
         if place >= self.messages.len() {
@@ -312,7 +356,7 @@ impl<N: BookName, C: WorkerStart> WorkerState<'_, N, C> {
         }
         let down = self.closed.is_closed();
         let message = &self.messages[place];
-        let pending = begun(
+        let (pending, no_memory) = begun(
             context.rt,
             context.alloc,
             context.book,
@@ -321,6 +365,7 @@ impl<N: BookName, C: WorkerStart> WorkerState<'_, N, C> {
             down,
             message,
         );
+        list_message(&mut self.reasons, no_memory);
         report_fate(context.gate, context.worker, &self.tally.ends()[place]);
         self.pending.push_reserved(pending);
         self.next = 0;

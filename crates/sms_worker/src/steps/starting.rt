@@ -16,6 +16,7 @@ use crate::state::worker_state::WorkerState;
 use crate::steps::attempt::TrySend;
 use crate::steps::retry_later::RetryLater;
 use crate::steps::timestamp::Timestamp;
+use sms_bind::LogName;
 use sms_book::BookName;
 use std::io::Write;
 use std::sync::Wait;
@@ -69,7 +70,7 @@ fn first_of(
     }
 }
 
-impl<N: BookName, C: WorkerStart> WorkerState<'_, N, C> {
+impl<N: BookName + LogName, C: WorkerStart> WorkerState<'_, N, C> {
     // The segment of the last message that is to be sent next.
     pub(crate) fn next_part(&self) -> Option<SegmentPlace>
         ensures next { IfSome result (IsNext self.now.ends self.now.next) }
@@ -143,15 +144,19 @@ impl<N: BookName, C: WorkerStart> WorkerState<'_, N, C> {
         if closed {
             return Started::Nothing(Idle::Closed);
         }
-        match self.attempt(context, place) {
+        let Some(tried) = self.attempt(context, place) else {
+            self.advance(source);
+            return Started::One;
+        };
+        match tried {
             TrySend::Sent(_) => {
                 self.advance(source);
                 Started::One
             }
             TrySend::Retry(held) => Started::Nothing(Idle::Waits(held)),
-            TrySend::GiveUp(_) => {
+            TrySend::GiveUp(why) => {
                 self.advance(source);
-                self.give_up(context, place);
+                self.give_up(context, place, Some(why));
                 Started::One
             }
         }
@@ -165,12 +170,14 @@ impl<N: BookName, C: WorkerStart> WorkerState<'_, N, C> {
     ) -> bool
         requires window { context.now.window.now ≡ C.start.seat.window }
         requires rules { context.now.rules.now ≡ C.start.rules }
+        requires down { IsTrue down → IsTrue self.old.closed }
         ensures replies { self.new.replies ≡ self.old.replies }
         ensures starts { down ≡ false → Starts C.start result self.old self.new }
         ensures swept { IsTrue down → SettledTo C.start.rules.policy.attempts (length self.new.ends) 0 self.new.ends }
+        ensures closed { IsTrue down → self.new.closed ≡ self.old.closed }
     {
         if down {
-            self.sweep(context);
+            self.sweep(context, None);
             return false;
         }
         let now = Timestamp::of(context.clock);

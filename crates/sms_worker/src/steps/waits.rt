@@ -3,11 +3,11 @@
 ghost use Rattle.std.specs.Prelude.{◌≡◌, ◌≤◌, ◌-◌, ◌↔◌, IsTrue};
 ghost use Rattle.sms_worker.specs.Waits.{answer_in, IsQuiet, IsQuietAt};
 
-use crate::devices::Clock;
-use crate::entry::context::WorkerContext;
 use crate::state::open::Open;
 use crate::state::worker_start::WorkerStart;
 use crate::state::worker_state::WorkerState;
+use crate::steps::timestamp::Timestamp;
+use sms_bind::LogName;
 use sms_book::BookName;
 use sms_message::Rules;
 
@@ -36,7 +36,7 @@ fn answer_in(opened: &[Open], answer_ms: u32, now_ms: u64) -> u64
     }
 }
 
-impl<N: BookName, C: WorkerStart> WorkerState<'_, N, C> {
+impl<N: BookName + LogName, C: WorkerStart> WorkerState<'_, N, C> {
     // For how many milliseconds from `now_ms` on the clock alone gives nothing to do.
     fn quiet_at(&self, rules: &Rules, now_ms: u64) -> u64
         ensures { IsQuietAt C.start.messages rules.now self.now now_ms result }
@@ -51,18 +51,14 @@ impl<N: BookName, C: WorkerStart> WorkerState<'_, N, C> {
         answer_in.min(self.queues.due_in(self.pending.as_slice(), now_ms))
     }
 
-    /// For how many milliseconds the clock alone gives nothing to do, after a turn that did nothing: 0 if a
-    /// request could be started or an answer is on its way.
-    pub(crate) fn quiet_ms<W, G, K: Clock, R>(
-        &self,
-        context: &WorkerContext<N, W, G, K, R>,
-        down: bool,
-    ) -> u64
-        ensures { IsQuiet C.start.messages context.now.rules.now down self.now result }
+    /// For how many milliseconds from `now` on the clock alone gives nothing to do, after a turn that did nothing: 0
+    /// if a request could be started or an answer is on its way.
+    pub(crate) fn quiet_ms(&self, rules: &Rules, now: Timestamp, down: bool) -> u64
+        ensures { IsQuiet C.start.messages rules.now down self.now now.at_ms result }
     {
         if down {
             return 0;
         }
-        self.quiet_at(context.rules, context.clock.now_ms())
+        self.quiet_at(rules, now.ms())
     }
 }

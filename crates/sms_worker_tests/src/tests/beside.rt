@@ -1,11 +1,13 @@
 //! What stands beside a worker that runs alone: its writer, and what answers it while it pauses. And
 //! what stands beside two that run at once.
 
+ghost use Rattle.std.specs.Prelude.{◌≡◌};
+
 use super::centre::{answer_of, nack_of, status_of};
 use super::notes::{Log, Note};
 use super::{Case, NACK, SILENT};
 use rtrb::Producer;
-use sms_bind::{DownMark, Line, Wire};
+use sms_bind::{BlankLog, DownMark, Line, LogName, Requests, Wire};
 use sms_pdu::{BodyRef, Frame, PduRef, Reply, SUBMIT_SM, Tap, encode_into, header_of, reply_of};
 use sms_slot::SlotRow;
 use sms_worker::{Clock, Gate, MessageRefusal, Pause};
@@ -50,12 +52,32 @@ impl Write for Fuse<'_> {
     }
 }
 
-/// A line whose writer takes so many octets.
-pub fn line_with_fuse(alloc: Global, room: u64, log: &Log) -> Option<Line<Fuse<'_>>> {
-    let slots = SlotRow::new(alloc).ok()?;
+/// A line, and what two workers sent on its wire: nothing yet.
+pub type LineOf<N, W> = (Line<N, W>, Requests<N>, Requests<N>);
+
+/// A line of this log of wires, whose writer takes so many octets.
+pub fn line_with_fuse<N: LogName>(
+    alloc: Global,
+    wires: BlankLog,
+    room: u64,
+    log: &Log,
+) -> Option<LineOf<N, Fuse<'_>>>
+    requires { wires ≡ N.log }
+{
+    let Ok(mut keeper) = wires.open::<N>(alloc) else {
+        return None;
+    };
     let fuse = Fuse { left: room, log };
-    let (line, _leave) = Line::new(slots, Wire::new(Tap::new(fuse)));
-    Some(line)
+    let Ok(wire) = keeper.wire(Wire::new(Tap::new(fuse))) else {
+        return None;
+    };
+    let Ok(slots) = SlotRow::new(alloc) else {
+        return None;
+    };
+    let (line, _leave) = Line::new(slots, wire);
+    let one = keeper.thread();
+    let other = keeper.thread();
+    Some((line, one, other))
 }
 
 // Takes nothing.
@@ -93,10 +115,10 @@ pub fn bring_down(rt: &impl Wait, alloc: Global, mark: &DownMark) {
 /// What stands beside the worker: a gate that remembers the numbers that pass and notes all that it is
 /// told, a clock that goes on at each pause, and a pause in which the answers come.
 #[derive(Drop)]
-pub struct Beside<'a, R, W> {
+pub struct Beside<'a, N: LogName, R, W: Write> {
     rt: &'a R,
     alloc: Global,
-    line: &'a Line<W>,
+    line: &'a Line<N, W>,
     producers: RefCell<Vec<Producer<Reply>>>,
     asked: RefCell<Vec<u32>>,
     answers: &'a [u32],
@@ -110,16 +132,16 @@ pub struct Beside<'a, R, W> {
     log: &'a Log,
 }
 
-impl<'a, R, W> Beside<'a, R, W> {
+impl<'a, N: LogName, R, W: Write> Beside<'a, N, R, W> {
     /// Beside the workers of this line, whose rings these are.
     pub fn new(
         rt: &'a R,
         alloc: Global,
-        line: &'a Line<W>,
+        line: &'a Line<N, W>,
         producers: Vec<Producer<Reply>>,
         case: Case<'a>,
         log: &'a Log,
-    ) -> Beside<'a, R, W> {
+    ) -> Beside<'a, N, R, W> {
         Beside {
             rt,
             alloc,
@@ -139,7 +161,7 @@ impl<'a, R, W> Beside<'a, R, W> {
     }
 }
 
-impl<R, W> Gate for Beside<'_, R, W> {
+impl<N: LogName, R, W: Write> Gate for Beside<'_, N, R, W> {
     fn pass(&self, _worker: usize, number: u32) -> bool {
         match self.asked.try_borrow_mut() {
             Ok(mut asked) => asked.push(number).is_ok(),
@@ -176,7 +198,7 @@ impl<R, W> Gate for Beside<'_, R, W> {
     }
 }
 
-impl<R: Wait, W> Clock for Beside<'_, R, W> {
+impl<N: LogName, R: Wait, W: Write> Clock for Beside<'_, N, R, W> {
     fn now_ms(&self) -> u64 {
         if self.late_ms != 0 && self.now.get() >= self.late_ms {
             self.answer_all();
@@ -185,7 +207,7 @@ impl<R: Wait, W> Clock for Beside<'_, R, W> {
     }
 }
 
-impl<R: Wait, W> Pause for Beside<'_, R, W> {
+impl<N: LogName, R: Wait, W: Write> Pause for Beside<'_, N, R, W> {
     fn pause(&self, _ms: u32) {
         self.now.set(self.now.get().wrapping_add(10));
         self.pauses.set(self.pauses.get().wrapping_add(1));
@@ -203,7 +225,7 @@ impl<R: Wait, W> Pause for Beside<'_, R, W> {
     }
 }
 
-impl<R: Wait, W> Beside<'_, R, W> {
+impl<N: LogName, R: Wait, W: Write> Beside<'_, N, R, W> {
     // Answers what was asked.
     fn answer_all(&self) {
         if let Ok(mut asked) = self.asked.try_borrow_mut() {

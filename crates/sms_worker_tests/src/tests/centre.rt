@@ -4,8 +4,9 @@
 ghost use Rattle.std.specs.Prelude.{◌≡◌};
 
 use super::SILENT;
+use super::beside::LineOf;
 use rtrb::{Consumer, Producer, RingBuffer};
-use sms_bind::{Bound, Line, ReaderEnd, ReaderLeave, Wire, read_loop};
+use sms_bind::{BlankLog, Bound, Line, LogName, ReaderEnd, ReaderLeave, Wire, read_loop};
 use sms_pdu::{
     BIND_TRANSCEIVER_RESP, Framer, Frames, GENERIC_NACK, Header, Mode, Reply, SUBMIT_SM_RESP, Tap,
     header_of,
@@ -42,12 +43,30 @@ impl Write for Way {
     }
 }
 
-/// A line whose writer is the way to the centre, its reader's leave, and the other end of that way.
-pub fn line_to_centre(alloc: Global) -> Option<(Line<Way>, ReaderLeave, Consumer<u8>)> {
-    let (octets, requests) = RingBuffer::new(alloc, 8192).ok()?;
-    let slots = SlotRow::new(alloc).ok()?;
-    let (line, leave) = Line::new(slots, Wire::new(Tap::new(Way { octets })));
-    Some((line, leave, requests))
+/// A line of this log of wires, whose writer is the way to the centre, with what two workers sent on it; its
+/// reader's leave, and the other end of that way.
+pub fn line_to_centre<N: LogName>(
+    alloc: Global,
+    wires: BlankLog,
+) -> Option<(LineOf<N, Way>, ReaderLeave, Consumer<u8>)>
+    requires { wires ≡ N.log }
+{
+    let Ok(mut keeper) = wires.open::<N>(alloc) else {
+        return None;
+    };
+    let Ok((octets, asked)) = RingBuffer::new(alloc, 8192) else {
+        return None;
+    };
+    let Ok(wire) = keeper.wire(Wire::new(Tap::new(Way { octets }))) else {
+        return None;
+    };
+    let Ok(slots) = SlotRow::new(alloc) else {
+        return None;
+    };
+    let (line, leave) = Line::new(slots, wire);
+    let one = keeper.thread();
+    let other = keeper.thread();
+    Some(((line, one, other), leave, asked))
 }
 
 /// The centre, as a reader. A read gives one octet of the answer to the request that came last; where
@@ -189,12 +208,12 @@ fn bound(alloc: Global) -> Option<Bound> {
 }
 
 /// Reads what the centre says until the line is stopped or the input ends. None for want of memory.
-pub fn reads<S: Wait>(
+pub fn reads<N: LogName, S: Wait>(
     rt: &S,
     alloc: Global,
     centre: Centre,
     producers: Vec<Producer<Reply>>,
-    line: &Line<Way>,
+    line: &Line<N, Way>,
     window: &Window,
     seat: WindowSeat,
     leave: ReaderLeave,

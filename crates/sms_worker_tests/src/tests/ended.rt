@@ -1,8 +1,9 @@
 //! What becomes of messages that can't be sent, or not any more.
 
+use super::why::{Why, want_reasons, want_refused};
 use super::{
     Case, Done, OK, PLAIN, SILENT, THROTTLED, letters, message, messages_of, push_message, run,
-    same, want_refused, want_row, want_sent,
+    same, want_row, want_sent,
 };
 use sms_bind::DownCause;
 use sms_worker::{ClosedBy, Message, MessageRefusal, Outcome};
@@ -66,6 +67,7 @@ fn numbers_are_used_up(rt: HostRuntime) -> Result<(), Fail> {
     want_sent(&rt, &done, 0, &[(1, Outcome::Charged)]);
     want_sent(&rt, &done, 1, &[(0, Outcome::Unsent)]);
     want_sent(&rt, &done, 2, &[(0, Outcome::Unsent)]);
+    want_reasons(&rt, &done, &[(Why::Numbers, 1, 0), (Why::Numbers, 2, 0)]);
     want_row(&rt, &done, (2, 0, 1, 2));
     Ok(())
 }
@@ -211,6 +213,7 @@ fn a_write_that_fails_leaves_later_parts_unsent(rt: HostRuntime) -> Result<(), F
         &[(1, Outcome::Unanswered), (0, Outcome::Unsent)],
     );
     want_refused(&rt, &done, 1, MessageRefusal::BindClosed);
+    want_reasons(&rt, &done, &[]);
     want_row(&rt, &done, (2, 1, 0, 1));
     Ok(())
 }

@@ -8,19 +8,20 @@ use super::centre::answer_of;
 use super::notes::Log;
 use super::{
     Case, Done, OK, PLAIN, THROTTLED, attempt_of, book_of, had, messages_of, row_of, rules_of,
-    same, want_row, want_sent,
+    same, want_row, want_sent, wires_of,
 };
 use rtrb::{Consumer, Producer, RingBuffer};
-use sms_bind::Line;
+use sms_bind::{BlankLog, Line, LogName};
 use sms_book::{Blank, Book, BookName};
 use sms_core::Row;
 use sms_pdu::{GENERIC_NACK, Reply, reply_of};
 use sms_window::Window;
 use sms_worker::{
-    Clock, Gate, Message, MessageEnd, Outcome, Pause, Rules, Worker, WorkerEnd, run_worker,
+    Clock, Gate, Message, MessageEnd, Outcome, Pause, Reasons, Rules, Worker, WorkerEnd, run_worker,
 };
 use std::alloc::Global;
 use std::cell::{Cell, RefCell};
+use std::io::Write;
 use std::marker::Brand;
 use std::process::Abort;
 use std::sync::{Mutex, Wait};
@@ -51,9 +52,9 @@ const SOON: Coming = Coming {
 
 /// What stands beside a worker whose answers come so.
 #[derive(Drop)]
-struct Slow<'a, R, W> {
+struct Slow<'a, N: LogName, R, W: Write> {
     rt: &'a R,
-    line: &'a Line<W>,
+    line: &'a Line<N, W>,
     producers: RefCell<Vec<Producer<Reply>>>,
     asked: RefCell<Vec<u32>>,
     coming: Coming,
@@ -62,7 +63,7 @@ struct Slow<'a, R, W> {
     read_next: Cell<bool>,
 }
 
-impl<R, W> Gate for Slow<'_, R, W> {
+impl<N: LogName, R, W: Write> Gate for Slow<'_, N, R, W> {
     fn pass(&self, _worker: usize, number: u32) -> bool {
         match self.asked.try_borrow_mut() {
             Ok(mut asked) => asked.push(number).is_ok(),
@@ -71,7 +72,7 @@ impl<R, W> Gate for Slow<'_, R, W> {
     }
 }
 
-impl<R: Wait, W> Clock for Slow<'_, R, W> {
+impl<N: LogName, R: Wait, W: Write> Clock for Slow<'_, N, R, W> {
     fn now_ms(&self) -> u64 {
         if self.read_next.get() {
             self.read_next.set(false);
@@ -82,7 +83,7 @@ impl<R: Wait, W> Clock for Slow<'_, R, W> {
     }
 }
 
-impl<R: Wait, W> Pause for Slow<'_, R, W> {
+impl<N: LogName, R: Wait, W: Write> Pause for Slow<'_, N, R, W> {
     fn pause(&self, _ms: u32) {
         self.pauses.set(self.pauses.get().wrapping_add(1));
         if self.pauses.get() != self.coming.pause {
@@ -96,7 +97,7 @@ impl<R: Wait, W> Pause for Slow<'_, R, W> {
     }
 }
 
-impl<R: Wait, W> Slow<'_, R, W> {
+impl<N: LogName, R: Wait, W: Write> Slow<'_, N, R, W> {
     // All that was asked is answered.
     fn answer_all(&self) {
         if let Ok(mut asked) = self.asked.try_borrow_mut() {
@@ -145,29 +146,31 @@ fn ring_of(alloc: Global) -> Option<(Vec<Producer<Reply>>, Consumer<Reply>)> {
 }
 
 // What came of a call whose notes nobody reads.
-fn done_with(alloc: Global, ends: Vec<MessageEnd>, row: Row) -> Done {
+fn done_with(alloc: Global, ends: Vec<MessageEnd>, reasons: Reasons, row: Row) -> Done {
     Done {
         ends,
         closed: None,
+        reasons,
         row,
         notes: Vec::new(alloc),
     }
 }
 
 // What becomes of one message, and after how many pauses.
-fn works<N: BookName, R: Abort + Wait>(
+fn works<N: BookName + LogName, R: Abort + Wait>(
     rt: &R,
     alloc: Global,
     blank: Blank,
+    wires: BlankLog,
     rules: &Rules,
     coming: Coming,
 ) -> Option<(Done, u32)>
-    requires { blank.book ≡ N.book }
+    requires { (blank.book ≡ N.book) × (wires ≡ N.log) }
 {
     let (window, seat) = Window::make_from(alloc, 64, 1).ok()?;
     let (producers, consumer) = ring_of(alloc)?;
     let log = Log::new(alloc);
-    let line = line_with_fuse(alloc, 1 << 40, &log)?;
+    let (line, requests, _others) = line_with_fuse::<N>(alloc, wires, 1 << 40, &log)?;
     let beside = Slow {
         rt,
         line: &line,
@@ -186,17 +189,25 @@ fn works<N: BookName, R: Abort + Wait>(
         seat,
         shares: all.pop()?,
         consumer,
+        requests,
     };
     let mut end = end_of(rt, alloc, worker, &line, &window, &book, rules, &beside)?;
     let row = book.lock(rt).look(&mut end.shares, 0)?;
-    Some((done_with(alloc, end.ends, row), beside.pauses.get()))
+    Some((
+        done_with(alloc, end.ends, end.reasons, row),
+        beside.pauses.get(),
+    ))
 }
 
 fn comes(rt: &(impl Abort + Wait), alloc: Global, answer_ms: u32, coming: Coming) -> (Done, u32) {
     let case = Case { answer_ms, ..PLAIN };
     let rules = had(rt, rules_of(alloc, case));
     let blank = had(rt, book_of(alloc, case.credits, 1));
-    had(rt, works::<Brand, _>(rt, alloc, blank, &rules, coming))
+    let wires = wires_of(rt, alloc);
+    had(
+        rt,
+        works::<Brand, _>(rt, alloc, blank, wires, &rules, coming),
+    )
 }
 
 // Whatever its status, a generic_nack refuses the segment at once.
@@ -259,11 +270,11 @@ fn a_wait_begins_with_the_request(rt: HostRuntime) {
 }
 
 // What a call leaves. Nothing where memory is refused.
-fn end_of<N: BookName, B: Gate + Clock + Pause, R: Wait>(
+fn end_of<N: BookName + LogName, B: Gate + Clock + Pause, R: Wait>(
     rt: &R,
     alloc: Global,
     worker: Worker<N>,
-    line: &Line<Fuse<'_>>,
+    line: &Line<N, Fuse<'_>>,
     window: &Window,
     book: &Mutex<Book<N>>,
     rules: &Rules,
@@ -282,11 +293,11 @@ fn end_of<N: BookName, B: Gate + Clock + Pause, R: Wait>(
 }
 
 // One message is sent, and the answers come into these rings.
-fn one_call<N: BookName, R: Wait>(
+fn one_call<N: BookName + LogName, R: Wait>(
     rt: &R,
     alloc: Global,
     worker: Worker<N>,
-    line: &Line<Fuse<'_>>,
+    line: &Line<N, Fuse<'_>>,
     window: &Window,
     book: &Mutex<Book<N>>,
     rules: &Rules,
@@ -302,20 +313,21 @@ fn one_call<N: BookName, R: Wait>(
 }
 
 // Two calls of one worker. In the first its answers go into a ring that it doesn't have.
-fn two_calls<N: BookName, R: Wait>(
+fn two_calls<N: BookName + LogName, R: Wait>(
     rt: &R,
     alloc: Global,
     blank: Blank,
+    wires: BlankLog,
     rules: &Rules,
     case: Case<'_>,
-) -> Option<(Vec<MessageEnd>, Done)>
-    requires { blank.book ≡ N.book }
+) -> Option<((Vec<MessageEnd>, Reasons), Done)>
+    requires { (blank.book ≡ N.book) × (wires ≡ N.log) }
 {
     let (window, seat) = Window::make_from(alloc, 1, 1).ok()?;
     let (producers, consumer) = ring_of(alloc)?;
     let (strays, _unread) = ring_of(alloc)?;
     let log = Log::new(alloc);
-    let line = line_with_fuse(alloc, 1 << 40, &log)?;
+    let (line, requests, _others) = line_with_fuse::<N>(alloc, wires, 1 << 40, &log)?;
     let Ok((book, _till, mut all)) = blank.open::<N>(alloc) else {
         return None;
     };
@@ -325,23 +337,25 @@ fn two_calls<N: BookName, R: Wait>(
         seat,
         shares: all.pop()?,
         consumer,
+        requests,
     };
     let end = one_call(
         rt, alloc, worker, &line, &window, &book, rules, case, strays, &log,
     )?;
-    let unheard = end.ends;
+    let unheard = (end.ends, end.reasons);
     let worker = Worker {
         index: 0,
         place: 0,
         seat: end.seat,
         shares: end.shares,
         consumer: end.consumer,
+        requests: end.requests,
     };
     let mut end = one_call(
         rt, alloc, worker, &line, &window, &book, rules, case, producers, &log,
     )?;
     let row = book.lock(rt).look(&mut end.shares, 0)?;
-    Some((unheard, done_with(alloc, end.ends, row)))
+    Some((unheard, done_with(alloc, end.ends, end.reasons, row)))
 }
 
 // A slot that is answered at the end of a call, where the ring shows no answer, is empty then and the
@@ -352,9 +366,12 @@ fn a_slot_that_is_left_answered_is_released(rt: HostRuntime) {
     let mut rules = had(&rt, rules_of(alloc, PLAIN));
     let blank = had(&rt, book_of(alloc, 3, 1));
     rules.turns = 5;
-    let (unheard, done) = had(&rt, two_calls::<Brand, _>(&rt, alloc, blank, &rules, PLAIN));
+    let wires = wires_of(&rt, alloc);
+    let calls = two_calls::<Brand, _>(&rt, alloc, blank, wires, &rules, PLAIN);
+    let (unheard, done) = had(&rt, calls);
     let row = done.row;
-    let before = done_with(alloc, unheard, row);
+    let (ends, reasons) = unheard;
+    let before = done_with(alloc, ends, reasons, row);
     want_sent(&rt, &before, 0, &[(1, Outcome::Unanswered)]);
     want_sent(&rt, &done, 0, &[(1, Outcome::Charged)]);
     same(&rt, row_of(&done), (1, 1, 1, 0));

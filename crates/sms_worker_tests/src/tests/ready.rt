@@ -4,6 +4,7 @@ ghost use Rattle.std.specs.Prelude.{◌≡◌};
 
 use super::{PLAIN, book_of, messages_of, rules_of, same};
 use rtrb::RingBuffer;
+use sms_bind::{BlankLog, LogName};
 use sms_book::{Blank, BookName};
 use sms_window::Window;
 use sms_worker::{Message, ReadyWorker, Rules, Worker};
@@ -12,25 +13,31 @@ use std::marker::Brand;
 use std::process::Abort;
 
 // What a worker was given, from its parts again: its index, its place, and how many messages.
-fn parts_of<N: BookName>(
+fn parts_of<N: BookName + LogName>(
     alloc: Global,
     blank: Blank,
+    wires: BlankLog,
     rules: &Rules,
     messages: Vec<Message>,
 ) -> Option<(usize, usize, usize)>
-    requires { blank.book ≡ N.book }
+    requires { (blank.book ≡ N.book) × (wires ≡ N.log) }
 {
     let (_window, seat) = Window::make_from(alloc, 64, 1).ok()?;
     let (_producer, consumer) = RingBuffer::new(alloc, 64).ok()?;
     let Ok((_book, _till, mut all)) = blank.open::<N>(alloc) else {
         return None;
     };
+    let Ok(mut keeper) = wires.open::<N>(alloc) else {
+        return None;
+    };
+    let requests = keeper.thread();
     let worker = Worker {
         index: 5,
         place: 3,
         seat,
         shares: all.pop()?,
         consumer,
+        requests,
     };
     match ReadyWorker::new(alloc, worker, messages, rules) {
         Ok(ready) => {
@@ -45,7 +52,8 @@ fn parts_back(alloc: Global) -> Option<(usize, usize, usize)> {
     let rules = rules_of(alloc, PLAIN)?;
     let blank = book_of(alloc, 3, 1)?;
     let messages = messages_of(alloc, 2).ok()?;
-    parts_of::<Brand>(alloc, blank, &rules, messages)
+    let wires = BlankLog::new(alloc).ok()?;
+    parts_of::<Brand>(alloc, blank, wires, &rules, messages)
 }
 
 #[test]

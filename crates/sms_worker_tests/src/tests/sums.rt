@@ -6,8 +6,9 @@ use super::beside::{Beside, line_with_fuse};
 use super::notes::Log;
 use super::{
     Case, Done, OK, PLAIN, SILENT, THROTTLED, book_of, had, messages_of, push_message, rings_of,
-    row_of, rules_of, run, same, seats_of, sends, want_row, want_sent,
+    row_of, rules_of, run, same, seats_of, sends, want_row, want_sent, wires_of,
 };
+use sms_bind::{BlankLog, LogName};
 use sms_book::{Blank, BookName};
 use sms_worker::{MessageEnd, MessageRefusal, MessageResult, Outcome, Rules, Worker};
 use std::alloc::Global;
@@ -98,19 +99,21 @@ fn long_references_take_more_parts(rt: HostRuntime) -> Result<(), Fail> {
 
 // Two workers of one bind, one after the other, each with one message: what came of the first, and of
 // both.
-fn two_work<N: BookName, R: Abort + Wait>(
+fn two_work<N: BookName + LogName, R: Abort + Wait>(
     rt: &R,
     alloc: Global,
     blank: Blank,
+    wires: BlankLog,
     rules: &Rules,
     case: Case<'_>,
 ) -> (Done, Done)
-    requires { blank.book ≡ N.book }
+    requires { (blank.book ≡ N.book) × (wires ≡ N.log) }
 {
     let (window, one, other, _keeper) = had(rt, seats_of(rt, alloc, case.first));
     let log = Log::new(alloc);
     let (producers, consumer, other_consumer) = had(rt, rings_of(alloc));
-    let line = had(rt, line_with_fuse(alloc, case.room, &log));
+    let made = had(rt, line_with_fuse::<N>(alloc, wires, case.room, &log));
+    let (line, requests, other_requests) = made;
     let beside = Beside::new(rt, alloc, &line, producers, case, &log);
     let (book, _till, mut all) = had(rt, blank.open::<N>(alloc).ok());
     let shares = had(rt, all.pop());
@@ -123,6 +126,7 @@ fn two_work<N: BookName, R: Abort + Wait>(
         seat: one,
         shares,
         consumer,
+        requests,
     };
     let first = sends(
         rt, alloc, worker, its, &line, &window, &book, rules, &beside, &log,
@@ -133,6 +137,7 @@ fn two_work<N: BookName, R: Abort + Wait>(
         seat: other,
         shares: other_shares,
         consumer: other_consumer,
+        requests: other_requests,
     };
     let second = sends(
         rt, alloc, worker, others, &line, &window, &book, rules, &beside, &log,
@@ -144,7 +149,8 @@ fn two_work<N: BookName, R: Abort + Wait>(
 fn two_run(rt: &(impl Abort + Wait), alloc: Global, case: Case<'_>) -> (Done, Done) {
     let rules = had(rt, rules_of(alloc, case));
     let blank = had(rt, book_of(alloc, case.credits, 2));
-    two_work::<Brand, _>(rt, alloc, blank, &rules, case)
+    let wires = wires_of(rt, alloc);
+    two_work::<Brand, _>(rt, alloc, blank, wires, &rules, case)
 }
 
 // Whether the one message was sent and came to this.

@@ -8,9 +8,10 @@ use super::centre::{Centre, Way, line_to_centre, reads};
 use super::sums::{came_to, had_no_credit, sums};
 use super::{
     Case, OK, PLAIN, THROTTLED, book_of, had, messages_of, rings_of, rules_of, same, seats_of,
+    wires_of,
 };
 use rtrb::Producer;
-use sms_bind::{Line, ReaderCause, ReaderEnd, ReaderLeave};
+use sms_bind::{BlankLog, Line, LogName, ReaderCause, ReaderEnd, ReaderLeave};
 use sms_book::{Blank, Book, BookName, Shares, Till, gather};
 use sms_core::Row;
 use sms_pdu::Reply;
@@ -62,12 +63,12 @@ struct Came {
     end: ReaderEnd,
 }
 
-fn one_works<N: BookName>(
+fn one_works<N: BookName + LogName>(
     rt: &impl Wait,
     alloc: Global,
     worker: Worker<N>,
     messages: Vec<Message>,
-    line: &Line<Way>,
+    line: &Line<N, Way>,
     window: &Window,
     book: &Mutex<Book<N>>,
     rules: &Rules,
@@ -87,14 +88,14 @@ fn one_works<N: BookName>(
 type Both<N> = (Option<WorkerEnd<N>>, Option<WorkerEnd<N>>);
 
 // Both work, at once or the second after the first, and then the reader is to end.
-fn both_work<N: BookName + Send + Sync, S: Threads + Wait + Sync>(
+fn both_work<N: BookName + LogName + Send + Sync, S: Threads + Wait + Sync>(
     rt: &S,
     alloc: Global,
     one: Worker<N>,
     other: Worker<N>,
     its: Vec<Message>,
     others: Vec<Message>,
-    line: &Line<Way>,
+    line: &Line<N, Way>,
     window: &Window,
     book: &Mutex<Book<N>>,
     rules: &Rules,
@@ -124,14 +125,14 @@ fn both_work<N: BookName + Send + Sync, S: Threads + Wait + Sync>(
 }
 
 // Both work while the reader reads.
-fn all_work<N: BookName + Send + Sync, S: Threads + Wait + Sync>(
+fn all_work<N: BookName + LogName + Send + Sync, S: Threads + Wait + Sync>(
     rt: &S,
     alloc: Global,
     one: Worker<N>,
     other: Worker<N>,
     its: Vec<Message>,
     others: Vec<Message>,
-    line: &Line<Way>,
+    line: &Line<N, Way>,
     window: &Window,
     book: &Mutex<Book<N>>,
     rules: &Rules,
@@ -162,7 +163,7 @@ fn all_work<N: BookName + Send + Sync, S: Threads + Wait + Sync>(
 }
 
 // The row of the account, by the shares of both.
-fn gathered<N: BookName>(
+fn gathered<N: BookName + LogName>(
     alloc: Global,
     book: Mutex<Book<N>>,
     till: Till<N>,
@@ -177,7 +178,7 @@ fn gathered<N: BookName>(
 }
 
 // What came of both workers and of the reader, with the row that the shares add up to.
-fn came_of<N: BookName>(
+fn came_of<N: BookName + LogName>(
     rt: &impl Abort,
     alloc: Global,
     book: Mutex<Book<N>>,
@@ -198,20 +199,22 @@ fn came_of<N: BookName>(
     }
 }
 
-fn work_together<N: BookName + Send + Sync, R: Abort + Threads + Wait + Sync>(
+fn work_together<N: BookName + LogName + Send + Sync, R: Abort + Threads + Wait + Sync>(
     rt: &R,
     alloc: Global,
     blank: Blank,
+    wires: BlankLog,
     rules: &Rules,
     threaded: Threaded<'_>,
 ) -> Came
-    requires { blank.book ≡ N.book }
+    requires { (blank.book ≡ N.book) × (wires ≡ N.log) }
 {
     let its = had(rt, messages_of(alloc, threaded.messages.0).ok());
     let others = had(rt, messages_of(alloc, threaded.messages.1).ok());
     let statuses = had(rt, Vec::from_slice(alloc, threaded.case.answers).ok());
     let (window, seat, other_seat, keeper) = had(rt, seats_of(rt, alloc, threaded.case.first));
-    let (line, leave, requests) = had(rt, line_to_centre(alloc));
+    let (made, leave, asked) = had(rt, line_to_centre::<N>(alloc, wires));
+    let (line, requests, other_requests) = made;
     let (producers, consumer, other_consumer) = had(rt, rings_of(alloc));
     let (book, till, mut all) = had(rt, blank.open::<N>(alloc).ok());
     let shares = had(rt, all.pop());
@@ -222,6 +225,7 @@ fn work_together<N: BookName + Send + Sync, R: Abort + Threads + Wait + Sync>(
         seat,
         shares,
         consumer,
+        requests,
     };
     let other = Worker {
         index: 1,
@@ -229,9 +233,10 @@ fn work_together<N: BookName + Send + Sync, R: Abort + Threads + Wait + Sync>(
         seat: other_seat,
         shares: other_shares,
         consumer: other_consumer,
+        requests: other_requests,
     };
     let beside = Together::new(threaded.held);
-    let centre = Centre::new(requests, statuses, threaded.left, threaded.fails);
+    let centre = Centre::new(asked, statuses, threaded.left, threaded.fails);
     let (ends, end) = all_work(
         rt,
         alloc,
@@ -256,7 +261,8 @@ fn work_together<N: BookName + Send + Sync, R: Abort + Threads + Wait + Sync>(
 fn go(rt: &(impl Abort + Threads + Wait + Sync), alloc: Global, threaded: Threaded<'_>) -> Came {
     let rules = had(rt, rules_of(alloc, threaded.case));
     let blank = had(rt, book_of(alloc, threaded.case.credits, 2));
-    work_together::<Brand, _>(rt, alloc, blank, &rules, threaded)
+    let wires = wires_of(rt, alloc);
+    work_together::<Brand, _>(rt, alloc, blank, wires, &rules, threaded)
 }
 
 // The ends of both add up to the row, and each answer that was handed on is an attempt's.

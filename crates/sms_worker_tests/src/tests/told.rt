@@ -1,14 +1,16 @@
 //! What a gate is told, and what it may refuse.
 
-ghost use Rattle.std.specs.Prelude.{◌≡◌};
+ghost use Rattle.std.specs.Prelude.{◌≡◌, IfSome};
+ghost use Rattle.sms_bind.specs.Frames.{IsResponse};
 
 use super::beside::{Beside, line_with_fuse};
 use super::notes::{Log, Note};
+use super::why::{Why, want_reasons};
 use super::{
     Case, Done, NACK, OK, PLAIN, THROTTLED, book_of, had, messages_of, push_message, rings_of,
-    rules_of, run, seats_of, sends, want_notes, want_row, want_sent,
+    rules_of, run, seats_of, sends, want_notes, want_row, want_sent, wires_of,
 };
-use sms_bind::Line;
+use sms_bind::{BlankLog, Line, LogName};
 use sms_book::{Blank, Book, BookName, Shares};
 use sms_pdu::{BodyRef, Frame, PduRef, Reply, encode_into};
 use sms_worker::{Clock, Gate, MessageRefusal, Outcome, Pause, Rules, Worker};
@@ -107,6 +109,7 @@ fn what_may_not_be_sent_is_given_up(rt: HostRuntime) -> Result<(), Fail> {
     let done = run(&rt, alloc, case, messages_of(alloc, 2)?);
     want_sent(&rt, &done, 0, &[(0, Outcome::Unsent)]);
     want_sent(&rt, &done, 1, &[(1, Outcome::Charged)]);
+    want_reasons(&rt, &done, &[(Why::Gate, 0, 0)]);
     want_row(&rt, &done, (2, 0, 1, 1));
     want_notes(&rt, &done, &WITHOUT_THE_FIRST);
     Ok(())
@@ -149,34 +152,40 @@ enum Trouble {
 }
 
 // A frame that no worker sends.
-fn enquire_link(alloc: Global) -> Option<Frame> {
+fn link_response(alloc: Global) -> Option<Frame>
+    ensures { IfSome result IsResponse }
+{
     let pdu = PduRef {
         status: 0,
         number: 99,
-        body: BodyRef::EnquireLink,
+        body: BodyRef::EnquireLinkResp,
     };
     let mut octets = Vec::new(alloc);
-    match encode_into(&mut octets, &pdu) {
-        Ok(_) => Some(Frame::new(octets)),
-        Err(_) => None,
+    if encode_into(&mut octets, &pdu).is_err() {
+        return None;
     }
+    let frame = Frame::new(octets);
+    if frame.header().command < 0x8000_0000 {
+        return None;
+    }
+    Some(frame)
 }
 
 /// A gate that also looks at the account whenever it is told of a message or of a reply, and makes
 /// trouble.
 #[derive(Drop)]
-struct Watching<'a, N: BookName, R, W> {
-    beside: &'a Beside<'a, R, W>,
+struct Watching<'a, N: BookName + LogName, R, W: Write> {
+    beside: &'a Beside<'a, N, R, W>,
     rt: &'a R,
     alloc: Global,
-    line: &'a Line<W>,
+    line: &'a Line<N, W>,
     book: &'a Mutex<Book<N>>,
     shares: RefCell<Shares<N>>,
     log: &'a Log,
     trouble: Trouble,
 }
 
-impl<N: BookName, R: Wait, W: Write> Watching<'_, N, R, W> {
+impl<N: BookName + LogName, R: Wait, W: Write> Watching<'_, N, R, W> {
     fn look(&self) {
         if let Ok(mut shares) = self.shares.try_borrow_mut() {
             if let Some(row) = self.book.lock(self.rt).look(&mut shares, 0) {
@@ -192,15 +201,15 @@ impl<N: BookName, R: Wait, W: Write> Watching<'_, N, R, W> {
                 let _posted = self.line.slots.post(self.rt, 0, 0, 99);
             }
             Trouble::BrokenWire => {
-                if let Some(frame) = enquire_link(self.alloc) {
-                    let _sent = self.line.wire.lock(self.rt).send(frame);
+                if let Some(frame) = link_response(self.alloc) {
+                    let _sent = self.line.wire.lock(self.rt).respond(frame);
                 }
             }
         }
     }
 }
 
-impl<N: BookName, R: Wait, W: Write> Gate for Watching<'_, N, R, W> {
+impl<N: BookName + LogName, R: Wait, W: Write> Gate for Watching<'_, N, R, W> {
     fn pass(&self, worker: usize, number: u32) -> bool {
         self.beside.pass(worker, number)
     }
@@ -230,33 +239,34 @@ impl<N: BookName, R: Wait, W: Write> Gate for Watching<'_, N, R, W> {
     }
 }
 
-impl<N: BookName, R: Wait, W> Clock for Watching<'_, N, R, W> {
+impl<N: BookName + LogName, R: Wait, W: Write> Clock for Watching<'_, N, R, W> {
     fn now_ms(&self) -> u64 {
         self.beside.now_ms()
     }
 }
 
-impl<N: BookName, R: Wait, W> Pause for Watching<'_, N, R, W> {
+impl<N: BookName + LogName, R: Wait, W: Write> Pause for Watching<'_, N, R, W> {
     fn pause(&self, ms: u32) {
         self.beside.pause(ms);
     }
 }
 
-fn works_watched<N: BookName, R: Abort + Wait>(
+fn works_watched<N: BookName + LogName, R: Abort + Wait>(
     rt: &R,
     alloc: Global,
     blank: Blank,
+    wires: BlankLog,
     rules: &Rules,
     case: Case<'_>,
     messages: u64,
     trouble: Trouble,
 ) -> Option<Done>
-    requires { blank.book ≡ N.book }
+    requires { (blank.book ≡ N.book) × (wires ≡ N.log) }
 {
     let (window, seat, _other, _keeper) = seats_of(rt, alloc, case.first)?;
     let (producers, consumer, _other_consumer) = rings_of(alloc)?;
     let log = Log::new(alloc);
-    let line = line_with_fuse(alloc, case.room, &log)?;
+    let (line, requests, _others) = line_with_fuse::<N>(alloc, wires, case.room, &log)?;
     let beside = Beside::new(rt, alloc, &line, producers, case, &log);
     let Ok((book, _till, mut all)) = blank.open::<N>(alloc) else {
         return None;
@@ -268,6 +278,7 @@ fn works_watched<N: BookName, R: Abort + Wait>(
         seat,
         shares: all.pop()?,
         consumer,
+        requests,
     };
     let watching = Watching {
         beside: &beside,
@@ -294,9 +305,10 @@ fn run_watched(
 ) -> Done {
     let rules = had(rt, rules_of(alloc, case));
     let blank = had(rt, book_of(alloc, case.credits, 2));
+    let wires = wires_of(rt, alloc);
     had(
         rt,
-        works_watched::<Brand, _>(rt, alloc, blank, &rules, case, messages, trouble),
+        works_watched::<Brand, _>(rt, alloc, blank, wires, &rules, case, messages, trouble),
     )
 }
 

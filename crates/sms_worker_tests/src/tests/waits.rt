@@ -1,9 +1,9 @@
 //! For how long a worker that has nothing to do says that nothing comes due, and how it takes turns.
 
 use super::notes::Note;
+use super::why::want_refused;
 use super::{
-    Case, Done, OK, PLAIN, SILENT, THROTTLED, messages_of, run, same, want_refused, want_row,
-    want_sent,
+    Case, Done, OK, PLAIN, SILENT, THROTTLED, messages_of, run, same, want_row, want_sent,
 };
 use sms_worker::{ClosedBy, MessageRefusal, Outcome};
 use std::alloc::Global;
@@ -185,6 +185,14 @@ fn waits_for_a_slot(rt: HostRuntime) -> Result<(), Fail> {
     Ok(())
 }
 
+// How many turns were taken when they were over.
+fn turns_of(closed: Option<ClosedBy>) -> Option<u64> {
+    match closed {
+        Some(ClosedBy::Turns(taken)) => Some(taken.count()),
+        _ => None,
+    }
+}
+
 // The first turn sends, the others wait, and behind the last what is open has no answer.
 #[test]
 fn takes_as_many_turns_as_it_may(rt: HostRuntime) -> Result<(), Fail> {
@@ -197,7 +205,7 @@ fn takes_as_many_turns_as_it_may(rt: HostRuntime) -> Result<(), Fail> {
     let done = want_waits_of(&rt, rt.alloc(), case, 2, &[60_000, 59_990])?;
     want_sent(&rt, &done, 0, &[(1, Outcome::Unanswered)]);
     want_refused(&rt, &done, 1, MessageRefusal::BindClosed);
-    same(&rt, done.closed, Some(ClosedBy::Turns));
+    same(&rt, turns_of(done.closed), Some(3));
     want_row(&rt, &done, (2, 1, 0, 0));
     Ok(())
 }

@@ -6,7 +6,10 @@ use Rattle.sms_worker.specs.Sweeps.{SettledTo}
 use Rattle.sms_worker.specs.Told.{AllTold}
 use Rattle.sms_worker.proofs.Apartness.{numbers_apart, places_apart}
 use Rattle.sms_worker.proofs.Changes.{drew_unused}
+use Rattle.sms_worker.proofs.Frames.{are_handed}
 use Rattle.sms_worker.proofs.EndsOf.{ends_of}
+use Rattle.sms_worker.proofs.Reasoning.{has_cause}
+use Rattle.sms_worker.proofs.ReasonsOf.{all_have}
 use Rattle.sms_worker.proofs.Sweeping.{settled_all}
 use Rattle.sms_worker.proofs.entry.work.into_end.Goals as goal
 
@@ -31,11 +34,13 @@ returns-clause-worked g c =
       closed = rw parts.ends (i.closing.stays);
       why = rw parts.ends (λ none. i.closing.open_yet (c.into_cause-closed.ensures.none none));
       seen = c.into_cause-closed.ensures.seen;
+      reasons = rw parts.ends (all_have start.rules (length start.share.amounts) start.rules.policy.attempts start.messages es c.state.inside.closed _ c.state.inside.reasons i.keeps.shape all (has_cause c.into_cause-closed.result.0 c.state.inside.closed c.into_cause-closed.ensures.none) i.reasons);
       rising = rw parts.ends (i.order.rise);
       answers = rw parts.ends (subst (λ h. AllTold start.rules (length start.received) h start.messages es) heard i.keeps.ends);
       numbers = rw parts.ends (drew);
       apart = rw parts.ends (numbers_apart start.seat.view c.release_all.new.seat.view start.messages es i.keeps.shape.within drew);
       places = rw parts.ends (subst (λ h. PlacesApart h es) heard (places_apart start.rules (length start.received) got start.seat.view c.release_all.new.seat.view start.messages es i.keeps.shape.within drew i.keeps.ends));
+      handed = rw parts.ends (are_handed _ _ start.messages es i.keeps.shape.within i.handed);
       credits = rw (parts.ends, parts.share) i.keeps.money;
       lacking = rw (parts.ends, parts.share) i.credit;
       slots = (c.release_all.ensures.slots start.seat.view.slots i.keeps.slots, c.release_all.ensures.window ∙ i.keeps.window);

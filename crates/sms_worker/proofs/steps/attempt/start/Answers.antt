@@ -23,6 +23,7 @@ use Rattle.sms_worker.specs.Keeps.{slots_of}
 use Rattle.sms_worker.specs.Limits.{most_draws}
 use Rattle.sms_worker.specs.Steps.{IsReason, Tries, number_unsent}
 use Rattle.sms_worker.proofs.Changes.{slots-append}
+use Rattle.sms_worker.proofs.Handing.{hands_none, hands_one}
 use Rattle.sms_worker.proofs.steps.attempt.start.Goals as goal
 
 -- what draws did after a claim and before a release, they did for the seat xs it was before both
@@ -30,7 +31,8 @@ drawn_over : (v u w x : View) (slot : ℕ) (drawn : List ℕ) → GotSlot v slot
 drawn_over v u w x slot drawn got drew freed = releases_draw_none v w x drawn slot (draws_add_up v u w [] drawn (claims_draw_none v v u [] (Got slot) (draws_none v) got) drew) freed
 
 reason_over : (v u w x : View) (slot : ℕ) (why : GiveUpReason) → GotSlot v slot u → IsReason why u w → FreedSlot w slot x → IsReason why v x
-reason_over v u w x slot reason.Over got h freed = absurd h
+reason_over v u w x slot (reason.Kept lack) got h freed = absurd h
+reason_over v u w x slot (reason.Done left) got h freed = absurd h
 reason_over v u w x slot (reason.Numbers all) got h freed = (drawn_over v u w x slot [] got h.0 freed, ap (λ (y : View). y.seen) freed.after ∙ h.1)
 reason_over v u w x slot (reason.Memory lack) got h freed = drawn_over v u w x slot (lack.number ∷ []) got h freed
 reason_over v u w x slot (reason.Gate lack) got h freed = drawn_over v u w x slot (lack.number ∷ []) got h freed
@@ -57,3 +59,15 @@ pub returns-in-Err-next_frame-clause-tried : goal.returns-in-Err-next_frame-clau
 returns-in-Err-next_frame-clause-tried g c part content =
     not_sent_tries c.args.context.now.rules.now c.args.message.now part c.args.seat.now.view c.claim.new.seat.view c.next_frame.new.seat.view c.release.new.seat.view c.in-Ok.slot c.args.attempts.now.items c.next_frame.new.attempts.items c.in-Err-next_frame.none c.not_sent.result
     c.in-Ok.ensures.got c.release.ensures.freed c.next_frame.ensures.unchanged (λ lacks e. c.next_frame.ensures.later lacks (search rules)) (λ r e. c.next_frame.ensures.never r (search rules)) c.not_sent.ensures.later c.not_sent.ensures.never
+
+pub write_frame-requires-clause-request : goal.write_frame-requires-clause-request
+write_frame-requires-clause-request g c = c.in-Ok-next_frame.ensures.request
+
+pub returns-in-Ok-write_frame-clause-handed : goal.returns-in-Ok-write_frame-clause-handed
+returns-in-Ok-write_frame-clause-handed g c = hands_one _ _ _ _ _ _ c.next_frame.ensures.unchanged c.push_reserved.ensures.items c.in-Ok-write_frame.ensures.handed
+
+pub returns-in-Err-next_frame-clause-handed : goal.returns-in-Err-next_frame-clause-handed
+returns-in-Err-next_frame-clause-handed g c = hands_none _ _ _ _ c.next_frame.ensures.unchanged refl
+
+pub returns-in-Err-write_frame-clause-handed : goal.returns-in-Err-write_frame-clause-handed
+returns-in-Err-write_frame-clause-handed g c = hands_none _ _ _ _ c.next_frame.ensures.unchanged c.in-Err-write_frame.ensures.unsent.1

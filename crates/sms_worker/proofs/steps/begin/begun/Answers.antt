@@ -12,8 +12,10 @@ use Rattle.sms_message.specs.Ends.{total_in, credit}
 use Rattle.sms_message.specs.Submits.{message_parts}
 use Rattle.sms_message.specs.Admission.{IsKnown}
 use Rattle.sms_message.specs.declared.ends.MessageRefusal.TheVariants.{NoCredit}
-use Rattle.sms_worker.proofs.Beginnings.{length-ready, reserved_ready, other_ready}
+use Rattle.sms_message.specs.declared.ends.MessageResult.TheVariants.{Refused}
+use Rattle.sms_worker.proofs.Beginnings.{closed_so, length-ready, reserved_ready, other_ready}
 use Rattle.sms_worker.proofs.Credit.{lacks_for}
+use Rattle.sms_worker.proofs.Reasoning.{rests_so}
 use Rattle.sms_worker.proofs.steps.begin.begun.Goals as goal
 
 pub admit-requires : goal.admit-requires
@@ -65,6 +67,7 @@ returns-clause-begun g c =
       closed = λ e. absurd (cc);
       if_down = λ down. let gone = c.prepare.ensures.down down in absurd (cc);
       credit = λ e. absurd (cc);
+      memory = λ e. absurd (cc);
     }
 
 pub refused-requires : goal.refused-requires
@@ -77,8 +80,9 @@ returns-in-Err-clause-begun g c = record {
   room = ap (λ (t : TallyState). t.room) c.refused.ensures.only;
   begins = c.refused.ensures.begins;
   closed = λ e. c.in-Err.ensures.closed (cc);
-  if_down = λ down. let gone = c.prepare.ensures.down down in cc;
+  if_down = λ down. ap (λ r. Refused r) (closed_so c.prepare.result c.in-Err.refusal c.in-Err.no_memory c.in-Err.is (c.prepare.ensures.down down));
   credit = λ e. absurd (c.in-Err.ensures.credit (cc));
+  memory = λ e. rests_so c.args.message.now.index c.in-Err.refusal c.in-Err.no_memory (cc) c.in-Err.ensures.memory;
 }
 
 pub refused-requires-then-not-admit : goal.refused-requires-then-not-admit
@@ -106,4 +110,5 @@ returns-then-not-admit-clause-begun g c =
       closed = λ e. absurd (cc);
       if_down = λ down. let gone = c.prepare.ensures.down down in absurd (cc);
       credit = λ _. lacks_for g.N.BookName.book c.args.rules.now old m a (length c.in-Ok.prepared.ends.items) c.in-Ok.prepared.cost c.in-Some.is (λ i. parts i * price i) (λ alone. c.admit.ensures.short (search rules) alone);
+      memory = λ e. absurd (cc);
     }

@@ -1,4 +1,7 @@
 use Rattle.sms_worker_tests.proofs.tests.threads.go.Given as goal
 
-abbrev pub ghosts-work_together : goal.ghosts-work_together
-ghosts-work_together g a = record { book = a.blank.book }
+abbrev pub ghosts-work_together-N-BookName : goal.ghosts-work_together-N-BookName
+ghosts-work_together-N-BookName g a = record { book = a.blank.book }
+
+abbrev pub ghosts-work_together-N-LogName : goal.ghosts-work_together-N-LogName
+ghosts-work_together-N-LogName g a = record { log = a.wires }

@@ -82,3 +82,12 @@ returns-in-None-clause-applied g c =
     let found : position (λ o. o.number == c.args.reply.number) opened ≡ Some c.in-Some.i = search rules in
     dropped_at c.args.reply c.args.self.now c.close.new.self c.settle_answer.new.self c.in-Some.i c.index-open.result.now (subst (λ (x : RunState). position (λ o. o.number == c.args.reply.number) x.opened ≡ Some c.in-Some.i) c.self.view_is found) there c.close.ensures.only c.settle_answer.ensures.only
     (c.in-None.ensures.none refl) (c.in-None.ensures.unasked refl)
+
+pub returns-in-Some-follow-clause-closed : goal.returns-in-Some-follow-clause-closed
+returns-in-Some-follow-clause-closed g c = c.follow.ensures.closed ∙ ap (λ (x : RunState). x.closed) c.settle_answer.ensures.only ∙ ap (λ (x : RunState). x.closed) c.close.ensures.only
+
+pub returns-in-None-follow-clause-closed : goal.returns-in-None-follow-clause-closed
+returns-in-None-follow-clause-closed g c = c.follow.ensures.closed ∙ ap (λ (x : RunState). x.closed) c.settle_answer.ensures.only ∙ ap (λ (x : RunState). x.closed) c.close.ensures.only
+
+pub returns-in-None-clause-closed : goal.returns-in-None-clause-closed
+returns-in-None-clause-closed g c = ap (λ (x : RunState). x.closed) c.settle_answer.ensures.only ∙ ap (λ (x : RunState). x.closed) c.close.ensures.only

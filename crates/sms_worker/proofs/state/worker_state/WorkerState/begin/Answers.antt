@@ -6,9 +6,11 @@ use Rattle.sms_worker.specs.Begins.{HasBegun}
 use Rattle.sms_worker.specs.PendingState.{data_in}
 use Rattle.sms_worker.specs.RunState.{RunState}
 use Rattle.sms_worker.proofs.Beginnings.{closed_if_begun, keeps_begun}
+use Rattle.sms_worker.proofs.Handing.{handed_begun}
 use Rattle.sms_worker.proofs.Pending.{map_more}
 use Rattle.sms_worker.proofs.Closing.{closes_more}
 use Rattle.sms_worker.proofs.Credit.{credit_begun}
+use Rattle.sms_worker.proofs.Reasoning.{grows_message, message_explained, reasons_begun}
 use Rattle.sms_worker.proofs.Rising.{order_begun}
 use Rattle.sms_worker.proofs.state.worker_state.WorkerState.begin.Goals as goal
 
@@ -41,14 +43,17 @@ invariant_of-self g c =
     let low' : n < length c.self.inside.messages.items = search rules in
     let low : length es < length c.self.inside.messages.items = subst (λ k. k < length c.self.inside.messages.items) at low' in
     let there = ap (slice_get c.self.inside.messages.items) (sym at) ∙ slice_get-get_or c.self.inside.messages.items n m low' ∙ ap Some (sym c.index-message.ensures) in
-    let b = subst (λ (x : Rules). HasBegun g.N.BookName.book x m c.is_closed-down.result c.self.inside.tally c.begun-pending.new.tally c.begun-pending.result) c.requires.rules c.begun-pending.ensures.begun in
+    let b = subst (λ (x : Rules). HasBegun g.N.BookName.book x m c.is_closed-down.result c.self.inside.tally c.begun-pending.new.tally c.begun-pending.result.0 c.begun-pending.result.1) c.requires.rules c.begun-pending.ensures.begun in
     let there' = ap (λ l. slice_get l (length es)) (sym i.keeps.messages) ∙ there in
-    let done = keeps_begun _ _ es _ _ _ c.self.inside.tally.share c.begun-pending.new.tally.share _ m (data_in c.begun-pending.result) b.end i.keeps there low b.begins in
+    let done = keeps_begun _ _ es _ _ _ c.self.inside.tally.share c.begun-pending.new.tally.share _ m (data_in c.begun-pending.result.0) b.end i.keeps there low b.begins in
     record {
-      keeps = rw (c.push_reserved.ensures.items, b.ends, map_more data_in c.self.inside.pending.items c.begun-pending.result) done;
+      keeps = rw (c.push_reserved.ensures.items, b.ends, map_more data_in c.self.inside.pending.items c.begun-pending.result.0) done;
+      handed = rw b.ends (handed_begun _ _ _ es m b.end _ b.begins.count i.handed there' b.begins.segments);
       closing = rw b.ends (closes_more c.self.inside.closed es b.end i.closing (λ is. sym c.is_closed-down.ensures ∙ b.closed is) (λ on. b.if_down (c.is_closed-down.ensures ∙ on)));
-      credit = rw b.ends (credit_begun es c.self.inside.tally.share c.begun-pending.new.tally.share m (data_in c.begun-pending.result) b.end i.credit there' b.begins b.credit);
-      order = rw (b.ends, c.push_reserved.ensures.items) (order_begun es b.end c.self.inside.pending.items c.begun-pending.result _ b.begins.count b.begins.segments c.self.inside.next c.self.inside.opened.items c.self.inside.queues.all c.begun-pending.ensures.unlinked i.order);
+      credit = rw b.ends (credit_begun es c.self.inside.tally.share c.begun-pending.new.tally.share m (data_in c.begun-pending.result.0) b.end i.credit there' b.begins b.credit);
+      reasons = rw b.ends (reasons_begun b.end m _ b.begins.count i.reasons there' b.begins.segments (grows_message c.self.inside.reasons c.list_message.new.reasons c.begun-pending.result.1 c.list_message.ensures.none c.list_message.ensures.some)
+          (λ out. message_explained c.self.inside.reasons c.list_message.new.reasons m.index c.begun-pending.result.1 c.list_message.ensures.some (b.memory out)));
+      order = rw (b.ends, c.push_reserved.ensures.items) (order_begun es b.end c.self.inside.pending.items c.begun-pending.result.0 _ b.begins.count b.begins.segments c.self.inside.next c.self.inside.opened.items c.self.inside.queues.all c.begun-pending.ensures.unlinked i.order);
       ends_fit = rw b.room i.ends_fit;
       pending_fit = (let r = i.pending_fit in let e = c.push_reserved.ensures.capacity in omega arith);
       opened_fit = i.opened_fit;

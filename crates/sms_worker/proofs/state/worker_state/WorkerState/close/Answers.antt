@@ -24,8 +24,10 @@ invariant_of-self g c =
     let done = keeps_closed _ _ _ _ c.self.inside.opened.items _ c.release.new.seat _ _ c.args.i c.remove-open.result i.keeps at c.release.ensures.window c.release.ensures.freed in
     record {
       keeps = rw c.remove-open.ensures.items done;
+      handed = i.handed;
       closing = i.closing;
       credit = i.credit;
+      reasons = i.reasons;
       order = rw c.remove-open.ensures.items (order_closed c.self.inside.tally.ends c.self.inside.next c.self.inside.opened.items c.self.inside.queues.all c.self.inside.pending.items c.args.i i.order);
       ends_fit = i.ends_fit;
       pending_fit = i.pending_fit;

@@ -1,6 +1,7 @@
 use Rattle.std.proofs.Common.{◌≡◌, ◌<◌, ◌≤◌, length, Some, refl, sym, ap, ◌∙◌, subst, rules, arith}
-use Rattle.std.specs.Prelude.{slice_get}
+use Rattle.std.specs.Prelude.{IsTrue, slice_get}
 use Rattle.std.proofs.lemmas.Option.{slice_get-get_or}
+use Rattle.sms_worker.specs.Handed.{frames_of}
 use Rattle.sms_worker.specs.Steps.{emptied, settled_to}
 use Rattle.sms_worker.specs.RunState.{RunState}
 use Rattle.sms_worker.specs.Tally.{TallyState}
@@ -8,9 +9,11 @@ use Rattle.sms_message.specs.Ends.{put}
 use Rattle.sms_worker.specs.Sweeps.{SweptAt, InPlace}
 use Rattle.sms_worker.proofs.Sweeping.{swept_none, swept_settled, swept_put, in_place_same, in_place_put}
 use Rattle.sms_worker.proofs.EndLemmas.{length-put, no_segment, there_taken}
+use Rattle.sms_worker.proofs.Handing.{handed_put}
 use Rattle.sms_worker.proofs.Keeping.{keeps_given, known_there, told_there}
 use Rattle.sms_worker.proofs.Closing.{closes_put}
 use Rattle.sms_worker.proofs.Credit.{credit_settled}
+use Rattle.sms_worker.proofs.Reasoning.{grows_part, part_explained, reasons_given}
 use Rattle.sms_worker.proofs.Rising.{order_kept}
 use Rattle.sms_worker.proofs.Tallying.{like_taken, tally_same, tally_settled}
 use Rattle.sms_worker.proofs.state.worker_state.WorkerState.end_waiting.Goals as goal
@@ -22,7 +25,7 @@ pub invariant_of-self-then-not-is_waiting : goal.invariant_of-self-then-not-is_w
 invariant_of-self-then-not-is_waiting g c =
     let i = c.self.invariant in
     let back = tally_same c.self.inside.tally c.take.new.self c.give.new.self c.args.place c.in-Some.segment c.in-Some.segment c.in-Some.ensures.out c.take.ensures.only c.give.ensures refl in
-    record { keeps = rw back i.keeps; closing = rw back i.closing; credit = rw back i.credit; order = rw back i.order; ends_fit = rw back i.ends_fit; pending_fit = i.pending_fit; opened_fit = i.opened_fit }
+    record { keeps = rw back i.keeps; handed = rw back i.handed; closing = rw back i.closing; credit = rw back i.credit; reasons = rw back i.reasons; order = rw back i.order; ends_fit = rw back i.ends_fit; pending_fit = i.pending_fit; opened_fit = i.opened_fit }
 
 pub settle-requires : goal.settle-requires
 settle-requires g c =
@@ -58,8 +61,11 @@ invariant_of-self-2 g c =
     let moved = ap (λ n. settled_to s'.outcome m.account n c.self.inside.tally.share) c.given_up-segment.ensures.cost in
     record {
       keeps = rw now (keeps_given _ _ es (put es k p s') _ _ _ c.self.inside.tally.share _ _ k p m s s' i.keeps there takes.0 waits c.given_up-segment.ensures moved refl (length-put es k p s'));
+      handed = rw now (handed_put _ _ _ es k p m s s' i.handed (ap (λ l. slice_get l k) (sym i.keeps.messages) ∙ there) takes.0 (ap frames_of c.given_up-segment.ensures.attempts));
       closing = rw now (closes_put c.self.inside.closed es k p s' i.closing);
       credit = rw now (credit_settled k p s' s'.outcome m.account s.cost i.credit refl moved);
+      reasons = rw now (reasons_given k p s' m i.reasons (ap (λ l. slice_get l k) (sym i.keeps.messages) ∙ there) (grows_part c.self.inside.reasons c.list_part.new.reasons m.index p c.args.why c.list_part.ensures.none c.list_part.ensures.some)
+          (part_explained c.self.inside.closed c.self.inside.reasons c.list_part.new.reasons m.index p c.args.why (λ none. subst (λ (x : RunState). IsTrue x.closed) (sym c.self.view_is) (c.requires.why none)) c.list_part.ensures.some));
       order = rw now (order_kept es _ k p s s' c.self.inside.next c.self.inside.opened.items c.self.inside.queues.all c.self.inside.pending.items takes.0 c.given_up-segment.ensures.attempts refl i.order);
       ends_fit = rw now i.ends_fit;
       pending_fit = i.pending_fit;

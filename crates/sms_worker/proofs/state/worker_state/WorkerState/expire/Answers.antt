@@ -15,11 +15,11 @@ loop-look-preserved g c =
     let at : slice_get opened i ≡ Some c.index-open.result.now = slice_get-get_or opened i c.index-open.result.now low ∙ ap Some (sym c.index-open.ensures) in
     let there : slice_get c.loop-look.self.opened c.loop-look.answered.count ≡ Some c.index-open.result.now =
     subst (λ n. slice_get c.loop-look.self.opened n ≡ Some c.index-open.result.now) c.count-i.ensures (subst (λ (x : RunState). slice_get x.opened i ≡ Some c.index-open.result.now) c.self.view_is at) in
-    let due : IsTrue c.args.down ⊎ (g.C.WorkerStart.start.rules.answer_ms ≤ c.of-now.result.at_ms - c.index-open.result.now.since.at_ms) = elim c.else-not-down.branch [
+    let due : IsTrue c.args.down ⊎ (g.C.WorkerStart.start.rules.answer_ms ≤ c.args.now.at_ms - c.index-open.result.now.since.at_ms) = elim c.else-not-down.branch [
       | else-not-down-via-then-not-down+else-not-is_overdue w ↦ inr (search rules)
       | else-not-down-via-else-not-down w ↦ inl (search rules)
     ] in
-    let to_expire : IsToExpire c.args.down g.C.WorkerStart.start.rules.answer_ms c.of-now.result.at_ms c.loop-look.answered.count c.loop-look.self = record { request = c.index-open.result.now; there = there; due = due } in
+    let to_expire : IsToExpire c.args.down g.C.WorkerStart.start.rules.answer_ms c.args.now.at_ms c.loop-look.answered.count c.loop-look.self = record { request = c.index-open.result.now; there = there; due = due } in
     let before = c.loop-look.invariant.few in
     record {
       replies = c.expire_at.ensures.replies ∙ c.loop-look.invariant.replies;

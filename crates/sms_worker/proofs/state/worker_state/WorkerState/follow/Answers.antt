@@ -14,8 +14,10 @@ invariant_of-self g c =
     let sent = subst (λ (x : RunState). WasSent x.ends c.args.place) (sym c.self.view_is) c.requires.sent in
     record {
       keeps = rw c.push.ensures.unchanged i.keeps;
+      handed = i.handed;
       closing = i.closing;
       credit = i.credit;
+      reasons = i.reasons;
       order = order_pushed c.self.inside.tally.ends c.self.inside.next _ _ _ _ _ c.args.place sent c.push.ensures.heads c.push.ensures.links i.order;
       ends_fit = i.ends_fit;
       pending_fit = subst (λ n. vec_len c.self.inside.messages ≤ n) (sym room.1) i.pending_fit;

@@ -13,8 +13,10 @@ invariant_of-self g c =
     let room = c.settle_part.ensures.room in
     record {
       keeps = rw c.settle_part.ensures.settled (keeps_pending _ _ _ _ _ _ _ _ _ i.keeps (pending_settled g.C.WorkerStart.start.rules g.C.WorkerStart.start.messages c.self.inside.pending.items c.args.place.message i.keeps.pending_kept) (length-mapped settled_one data_in c.self.inside.pending.items c.args.place.message));
+      handed = i.handed;
       closing = i.closing;
       credit = i.credit;
+      reasons = i.reasons;
       order = rw c.settle_part.ensures.settled (order_settled c.self.inside.tally.ends c.self.inside.next c.self.inside.opened.items c.self.inside.queues.all c.self.inside.pending.items c.args.place.message i.order);
       ends_fit = i.ends_fit;
       pending_fit = subst (λ n. vec_len c.self.inside.messages ≤ n) (sym room.1) i.pending_fit;

@@ -10,8 +10,10 @@ invariant_of-self g c =
     let e = c.requires.more.1 ∙ ap (λ (x : RunState). x.replies ++ r ∷ []) (sym c.self.view_is) in
     record {
       keeps = rw c.of.ensures (keeps_heard _ _ _ _ _ _ _ _ _ r i.keeps e);
+      handed = i.handed;
       closing = i.closing;
       credit = i.credit;
+      reasons = i.reasons;
       order = i.order;
       ends_fit = i.ends_fit;
       pending_fit = i.pending_fit;

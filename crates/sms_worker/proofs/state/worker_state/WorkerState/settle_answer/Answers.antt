@@ -3,6 +3,7 @@ use Rattle.std.specs.Prelude.{slice_get}
 use Rattle.std.proofs.lemmas.Option.{slice_get-get_or}
 use Rattle.sms_message.specs.declared.rules.Rules.{Rules}
 use Rattle.sms_worker.specs.Types.{SegmentEnd}
+use Rattle.sms_worker.specs.Handed.{frames_of}
 use Rattle.sms_worker.specs.Steps.{settled_to, outcome_after, emptied, Answers}
 use Rattle.sms_worker.specs.Tally.{TallyState}
 use Rattle.sms_message.specs.Results.{IsSettled, IsWaiting}
@@ -11,11 +12,13 @@ use Rattle.sms_worker.specs.Rising.{WasSent}
 use Rattle.sms_worker.specs.RunState.{RunState}
 use Rattle.sms_message.specs.Ends.{put, segment_at}
 use Rattle.sms_worker.proofs.EndLemmas.{length-put, there_taken}
+use Rattle.sms_worker.proofs.Handing.{frames_heard, handed_put}
 use Rattle.sms_worker.proofs.Keeping.{keeps_answered, known_there, told_there}
 use Rattle.sms_worker.proofs.Closing.{closes_put}
 use Rattle.sms_worker.proofs.Replies.{not_expected_at}
 use Rattle.sms_worker.proofs.Credit.{credit_settled}
 use Rattle.sms_worker.proofs.Placed.{sent_message}
+use Rattle.sms_worker.proofs.Reasoning.{answered_stays, reasons_put}
 use Rattle.sms_worker.proofs.Rising.{order_heard, sent_now}
 use Rattle.sms_worker.proofs.Tallying.{like_taken, tally_same, tally_settled}
 use Rattle.sms_worker.proofs.Turning.{so_decided}
@@ -44,7 +47,7 @@ invariant_of-self g c =
     let i = c.self.invariant in
     let same : c.answer-segment.result.0 ≡ c.in-Some.segment = search rules in
     let back = tally_same c.self.inside.tally c.take.new.self c.give.new.self c.args.place c.in-Some.segment c.answer-segment.result.0 c.in-Some.ensures.out c.take.ensures.only c.give.ensures same in
-    record { keeps = rw back i.keeps; closing = rw back i.closing; credit = rw back i.credit; order = rw back i.order; ends_fit = rw back i.ends_fit; pending_fit = i.pending_fit; opened_fit = i.opened_fit }
+    record { keeps = rw back i.keeps; handed = rw back i.handed; closing = rw back i.closing; credit = rw back i.credit; reasons = rw back i.reasons; order = rw back i.order; ends_fit = rw back i.ends_fit; pending_fit = i.pending_fit; opened_fit = i.opened_fit }
 
 pub settle-requires : goal.settle-requires
 settle-requires g c =
@@ -83,12 +86,16 @@ invariant_of-self-2 g c =
     let s' : SegmentEnd = record { cost = r.cost; attempts = r.attempts; outcome = c.outcome_of-outcome.result } in
     let made : s' ≡ record r { outcome = outcome_after d } = ap (λ o. record r { outcome = o }) c.outcome_of-outcome.ensures in
     let now = tally_settled c.self.inside.tally c.take.new.self c.settle.new.tally c.args.place s s' takes c.take.ensures.only m.account c.settle.ensures in
+    let h = answered.hears in
     let moved = ap (λ o. settled_to o m.account r.cost c.self.inside.tally.share) c.outcome_of-outcome.ensures ∙ ap (λ n. settled_to (outcome_after d) m.account n c.self.inside.tally.share) (ap (λ (x : SegmentEnd). x.cost) answered.hears.after) in
+    let decides = so_decided c.args.reply d (length r.attempts) (length r.attempts) c.args.context.now.rules.now g.C.WorkerStart.start.rules c.requires.rules (search rules) refl in
     let replies = subst (λ (x : RunState). HeardSince (length g.C.WorkerStart.start.received) x.replies c.args.reply) (sym c.self.view_is) c.requires.replies in
     record {
       keeps = rw now (keeps_answered _ _ es (put es k p s') _ _ _ c.self.inside.tally.share _ _ k p m s r s' c.args.reply d i.keeps there takes.0 replies answered made moved refl (length-put es k p s'));
+      handed = rw now (handed_put _ _ _ es k p m s s' i.handed (ap (λ l. slice_get l k) (sym i.keeps.messages) ∙ there) takes.0 (ap (λ (x : SegmentEnd). frames_of x.attempts) h.after ∙ frames_heard h.front h.last (record h.last { reply = Some c.args.reply }) refl ∙ ap frames_of (sym h.before)));
       closing = rw now (closes_put c.self.inside.closed es k p s' i.closing);
       credit = rw now (credit_settled k p s' (outcome_after d) m.account s.cost i.credit refl moved);
+      reasons = rw now (reasons_put k p s' i.reasons (answered_stays g.C.WorkerStart.start.rules.policy.attempts g.C.WorkerStart.start.rules.policy.base_ms s r s' c.args.reply d answered.hears refl c.outcome_of-outcome.ensures decides));
       order = rw now (order_heard g.C.WorkerStart.start.rules.policy.attempts es _ k p s r s' c.args.reply d c.self.inside.next c.self.inside.opened.items c.self.inside.queues.all c.self.inside.pending.items takes.0 answered refl refl i.order);
       ends_fit = rw now i.ends_fit;
       pending_fit = i.pending_fit;

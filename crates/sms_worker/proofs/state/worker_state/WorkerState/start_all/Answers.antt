@@ -14,4 +14,4 @@ loop-start-preserved g c = record {
 }
 
 pub returns-then-down : goal.returns-then-down
-returns-then-down g c = record { replies = c.sweep.ensures.replies; starts = λ up. absurd (cc); swept = λ down. subst (λ n. SettledTo g.C.WorkerStart.start.rules.policy.attempts n 0 c.sweep.new.self.ends) (sym c.sweep.ensures.length) c.sweep.ensures.settled }
+returns-then-down g c = record { replies = c.sweep.ensures.replies; starts = λ up. absurd (cc); swept = λ down. subst (λ n. SettledTo g.C.WorkerStart.start.rules.policy.attempts n 0 c.sweep.new.self.ends) (sym c.sweep.ensures.length) c.sweep.ensures.settled; closed = λ down. c.sweep.ensures.closed }

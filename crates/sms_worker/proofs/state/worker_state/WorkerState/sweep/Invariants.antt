@@ -6,5 +6,6 @@ abbrev pub invariant-loop-message : goal.invariant-loop-message
 invariant-loop-message g l = record {
   replies : l.self.replies ≡ l.initial.self.replies;
   long : length l.self.ends ≡ length l.initial.self.ends;
+  closed : l.self.closed ≡ l.initial.self.closed;
   settled : SettledTo g.C.WorkerStart.start.rules.policy.attempts l.message 0 l.self.ends;
 }

@@ -1,5 +1,6 @@
-use Rattle.std.proofs.Common.{rules}
+use Rattle.std.proofs.Common.{◌≡◌, ◌++◌, ◌∷◌, [], length, ap, ◌∙◌, rules, arith}
 use Rattle.sms_worker.proofs.Replies.{one_applied}
+use Rattle.sms_worker.proofs.Tries.{length-snoc}
 use Rattle.sms_worker.proofs.Turning.{some_then}
 use Rattle.sms_worker.proofs.state.worker_state.WorkerState.take_replies.Goals as goal
 
@@ -9,4 +10,10 @@ loop-pop-preserved g c = record {
   ring = search rules;
   each = one_applied g.C.WorkerStart.start.rules c.in-Ok.reply c.take_reply.result c.loop-pop._pop _ _ _ c.loop-pop.invariant.each (search rules) c.take_reply.ensures.applied;
   some = some_then c.loop-pop._pop;
+  many =
+      let next : c.take_reply.new.self.replies ≡ c.loop-pop.self.replies ++ c.in-Ok.reply ∷ [] = search rules in
+      let one = ap length next ∙ length-snoc c.loop-pop.self.replies c.in-Ok.reply in
+      let before = c.loop-pop.invariant.many in
+      omega arith;
+  closed = c.take_reply.ensures.closed ∙ c.loop-pop.invariant.closed;
 }

@@ -1,4 +1,4 @@
-use Rattle.std.proofs.Common.{◌≡◌}
+use Rattle.std.proofs.Common.{◌≡◌, ◌+◌, length}
 use Rattle.rtrb.specs.Ring.{received, SameConsumer}
 use Rattle.sms_worker.specs.Replies.{AreApplied}
 use Rattle.sms_worker.specs.Turns.{are_some}
@@ -10,4 +10,6 @@ invariant-loop-pop g l = record {
   ring : SameConsumer l.initial.consumer l.consumer;
   each : AreApplied g.C.WorkerStart.start.rules l._pop l.initial.self l.self;
   some : l.any ≡ are_some l._pop;
+  many : length l.self.replies ≡ length l.initial.self.replies + l._pop;
+  closed : l.self.closed ≡ l.initial.self.closed;
 }

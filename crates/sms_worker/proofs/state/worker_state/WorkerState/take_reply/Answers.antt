@@ -1,4 +1,5 @@
-use Rattle.std.proofs.Common.{◌∙◌}
+use Rattle.std.proofs.Common.{◌∙◌, ap}
+use Rattle.sms_worker.specs.RunState.{RunState}
 use Rattle.sms_worker.proofs.Replies.{noted_first}
 use Rattle.sms_worker.proofs.state.worker_state.WorkerState.take_reply.Goals as goal
 
@@ -18,4 +19,5 @@ pub returns : goal.returns
 returns g c = record {
   replies = c.apply_reply.ensures.replies ∙ c.note.ensures.replies;
   applied = noted_first g.C.WorkerStart.start.rules c.args.reply c.apply_reply.result c.args.self.now c.note.new.self c.apply_reply.new.self _ c.note.ensures.only c.apply_reply.ensures.applied;
+  closed = c.apply_reply.ensures.closed ∙ ap (λ (x : RunState). x.closed) c.note.ensures.only;
 }

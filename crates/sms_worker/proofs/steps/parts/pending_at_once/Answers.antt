@@ -4,7 +4,7 @@ use Rattle.sms_segment.specs.declared.place.Reference.{Reference}
 use Rattle.sms_segment.specs.Message.{parts_of, whole}
 use Rattle.sms_message.specs.Submits.{coded_text}
 use Rattle.sms_worker.proofs.Pending.{one_is_short}
-use Rattle.sms_worker.proofs.steps.begin.pending_at_once.Goals as goal
+use Rattle.sms_worker.proofs.steps.parts.pending_at_once.Goals as goal
 
 pub returns-in-Ok-clause-short : goal.returns-in-Ok-clause-short
 returns-in-Ok-clause-short c reference =

@@ -1,7 +1,7 @@
 use Rattle.std.proofs.Common.{◌++◌, ◌∷◌, [], ap, ◌∙◌, rules}
 use Rattle.sms_worker.specs.Begins.{fresh}
 use Rattle.sms_worker.proofs.Beginnings.{ready_more}
-use Rattle.sms_worker.proofs.steps.begin.waiting_ends.Goals as goal
+use Rattle.sms_worker.proofs.steps.parts.waiting_ends.Goals as goal
 
 pub loop-preserved : goal.loop-preserved
 loop-preserved c = record {
