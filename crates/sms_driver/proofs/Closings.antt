@@ -4,6 +4,8 @@ use Rattle.std.specs.Prelude.{take, drop, slice_get, IsSome}
 use Rattle.std.specs.List.{AllByRecursion, AllZip}
 use Rattle.sms_worker.specs.declared.state.closing.ClosedBy.{ClosedBy}
 use Rattle.sms_worker.specs.declared.state.closing.ClosedBy.TheVariants.{Down, Turns}
+use Rattle.sms_worker.specs.Reasons.{ReasonState}
+use Rattle.sms_worker.specs.ReasonsOf.{AllHaveReasons}
 use Rattle.sms_worker.specs.Types.{MessageEnd}
 use Rattle.sms_message.specs.declared.rules.Rules.{Rules}
 use Rattle.sms_worker.specs.declared.entry.work.WorkerEnd.{WorkerEnd}
@@ -12,7 +14,7 @@ use Rattle.sms_driver.specs.declared.bind_end.BindEnd.{BindEnd}
 use Rattle.sms_driver.specs.declared.bind_end.BindClosing.{BindClosing}
 use Rattle.sms_driver.specs.declared.bind_end.DownBy.{DownBy}
 use Rattle.sms_driver.specs.Answered.{ends_at}
-use Rattle.sms_driver.specs.Closings.{first_of, no_closing, with_cause, with_all, closing_of, AreExplained, HaveClosings, HasCause, IsExplained, SaysWhy}
+use Rattle.sms_driver.specs.Closings.{first_of, no_closing, with_cause, with_all, closing_of, AreExplained, AreReasoned, HaveClosings, HasCause, IsExplained, SaysWhy}
 use Rattle.sms_driver.specs.Seated.{of_bind}
 use Rattle.sms_driver.specs.Worked.{IsWorkOf}
 use Rattle.sms_driver.proofs.Numbering.{get_mapped, zip_of_bind}
@@ -55,7 +57,7 @@ told_at workers xs (x ∷ cs) h (suc bind) c at = told_at workers (drop workers 
 -- a cause stays
 cause_stays : (c : BindClosing) (x : Option ClosedBy) → HasCause c → HasCause (with_cause c x)
 cause_stays c None has = has
-cause_stays c (Some Turns) has = inr refl
+cause_stays c (Some (Turns taken)) has = inr refl
 cause_stays c (Some (Down why)) (inr over) = inr over
 cause_stays c (Some (Down why)) (inl some) = inl (found c.down some)
   where
@@ -68,7 +70,7 @@ causes_stay c [] has = has
 causes_stay c (x ∷ xs) has = causes_stay (with_cause c x) xs (cause_stays c x has)
 
 new_cause : (c : BindClosing) (y : ClosedBy) → HasCause (with_cause c (Some y))
-new_cause c Turns = inr refl
+new_cause c (Turns taken) = inr refl
 new_cause c (Down why) = inl (found c.down)
   where
     found : (d : Option DownBy) → IsSome (first_of d why)
@@ -90,9 +92,93 @@ are_explained workers xs ess bs z told bind b at =
     subst (λ (c : BindClosing). IsExplained c (ends_at workers bind ess)) (sym (told_at workers xs (map (λ (y : BindEnd). y.closing) bs) told bind b.closing closing))
     (explained no_closing (of_bind workers bind xs) (ends_at workers bind ess) (zip_of_bind SaysWhy workers bind xs ess z))
 
+-- a worker that gives a cause
+caused : (c : BindClosing) (xs : List (Option ClosedBy)) (w : ℕ) (x : Option ClosedBy) → slice_get xs w ≡ Some x → IsSome x → HasCause (with_all c xs)
+caused c [] w x at some = absurd (cc)
+caused c (None ∷ xs) zero x at some = absurd (let same : None ≡ x = cc in cc)
+caused c (Some y ∷ xs) zero x at some = causes_stay (with_cause c (Some y)) xs (new_cause c y)
+caused c (y ∷ xs) (suc w) x at some = caused (with_cause c y) xs w x at some
+
 -- each worker says why
 pub all_say : {N : Type 0} (rules : Rules) (js : List (ReadyState N)) (ds : List (WorkerEnd N)) → AllZip (IsWorkOf rules) js ds → AllByRecursion (λ d. SaysWhy d.closed d.ends.items) ds
 all_say rules [] [] z = tt
 all_say rules [] (d ∷ ds) z = absurd z
 all_say rules (j ∷ js) [] z = absurd z
 all_say rules (j ∷ js) (d ∷ ds) z = (z.0.says_why, all_say rules js ds z.1)
+
+-- what was given up has a reason
+pub all_reasoned : {N : Type 0} (rules : Rules) (js : List (ReadyState N)) (ds : List (WorkerEnd N)) → AllZip (IsWorkOf rules) js ds → AllByRecursion (λ d. AllHaveReasons rules.policy.attempts (IsSome d.closed) d.reasons d.ends.items) ds
+all_reasoned rules [] [] z = tt
+all_reasoned rules [] (d ∷ ds) z = absurd z
+all_reasoned rules (j ∷ js) [] z = absurd z
+all_reasoned rules (j ∷ js) (d ∷ ds) z = (z.0.reasons, all_reasoned rules js ds z.1)
+
+module _ {A : Type 0} where
+  take_map : {B : Type 0} (f : A → B) (n : ℕ) (xs : List A) → map f (take n xs) ≡ take n (map f xs)
+  take_map f zero [] = refl
+  take_map f zero (x ∷ xs) = refl
+  take_map f (suc n) [] = refl
+  take_map f (suc n) (x ∷ xs) = ap (λ l. f x ∷ l) (take_map f n xs)
+
+  drop_map : {B : Type 0} (f : A → B) (n : ℕ) (xs : List A) → map f (drop n xs) ≡ drop n (map f xs)
+  drop_map f zero [] = refl
+  drop_map f zero (x ∷ xs) = refl
+  drop_map f (suc n) [] = refl
+  drop_map f (suc n) (x ∷ xs) = drop_map f n xs
+
+  of_bind_map : {B : Type 0} (f : A → B) (workers bind : ℕ) (xs : List A) → map f (of_bind workers bind xs) ≡ of_bind workers bind (map f xs)
+  of_bind_map f workers zero xs = take_map f workers xs
+  of_bind_map f workers (suc bind) xs = of_bind_map f workers bind (drop workers xs) ∙ ap (of_bind workers bind) (drop_map f workers xs)
+
+  got_mapped : {B : Type 0} (f : A → B) (xs : List A) (i : ℕ) (y : B) → slice_get (map f xs) i ≡ Some y → (x : A) × (slice_get xs i ≡ Some x) × (f x ≡ y)
+  got_mapped f [] i y at = absurd (cc)
+  got_mapped f (x ∷ xs) zero y at = (x, refl, (cc))
+  got_mapped f (x ∷ xs) (suc i) y at = got_mapped f xs i y at
+
+  all_take : (P : A → Type 0) (n : ℕ) (xs : List A) → AllByRecursion P xs → AllByRecursion P (take n xs)
+  all_take P zero [] a = tt
+  all_take P zero (x ∷ xs) a = tt
+  all_take P (suc n) [] a = tt
+  all_take P (suc n) (x ∷ xs) a = (a.0, all_take P n xs a.1)
+
+  all_drop : (P : A → Type 0) (n : ℕ) (xs : List A) → AllByRecursion P xs → AllByRecursion P (drop n xs)
+  all_drop P zero [] a = a
+  all_drop P zero (x ∷ xs) a = a
+  all_drop P (suc n) [] a = tt
+  all_drop P (suc n) (x ∷ xs) a = all_drop P n xs a.1
+
+  all_of_bind : (P : A → Type 0) (workers bind : ℕ) (xs : List A) → AllByRecursion P xs → AllByRecursion P (of_bind workers bind xs)
+  all_of_bind P workers zero xs a = all_take P workers xs a
+  all_of_bind P workers (suc bind) xs a = all_of_bind P workers bind (drop workers xs) (all_drop P workers xs a)
+
+  all_here : (P : A → Type 0) (xs : List A) (i : ℕ) (x : A) → AllByRecursion P xs → slice_get xs i ≡ Some x → P x
+  all_here P [] i x a at = absurd (cc)
+  all_here P (y ∷ xs) zero x a at = let same : y ≡ x = cc in subst P same a.0
+  all_here P (y ∷ xs) (suc i) x a at = all_here P xs i x a.1 at
+
+-- a bind that was closed for a worker has a cause
+weaker : (most : ℕ) (A B : Type 0) (r : ReasonState) (es : List MessageEnd) → (A → B) → AllHaveReasons most A r es → AllHaveReasons most B r es
+weaker most A B r es f all k e at =
+    let h = all k e at in
+    record { parts = λ p s there is. elim (h.parts p s there is) [ inl closed ↦ inl (f closed) | inr has ↦ inr has ]; memory = h.memory }
+
+-- bind by bind
+pub are_reasoned : {N : Type 0} (most workers : ℕ) (ds : List (WorkerEnd N)) (bs : List BindEnd) → AllByRecursion (λ d. AllHaveReasons most (IsSome d.closed) d.reasons d.ends.items) ds → HaveClosings workers (map (λ d. d.closed) ds) (map (λ b. b.closing) bs)
+    → AreReasoned most workers bs (map (λ d. d.reasons) ds) (map (λ d. d.ends.items) ds)
+are_reasoned {N} most workers ds bs all told bind b at w r es reasons ends =
+    let own : List (WorkerEnd N) = of_bind workers bind ds in
+    let xs = map (λ (d : WorkerEnd N). d.closed) ds in
+    let got = got_mapped (λ (d : WorkerEnd N). d.reasons) own w r (ap (λ l. slice_get l w) (of_bind_map (λ (d : WorkerEnd N). d.reasons) workers bind ds) ∙ reasons) in
+    let d = got.0 in
+    let there = got.1 in
+    let same = got.2 in
+    let mine = get_mapped (λ (x : WorkerEnd N). x.ends.items) own w d there in
+    let theirs = ap (λ l. slice_get l w) (of_bind_map (λ (x : WorkerEnd N). x.ends.items) workers bind ds) ∙ ends in
+    let all_ends : d.ends.items ≡ es = cc in
+    let has = all_here (λ (x : WorkerEnd N). AllHaveReasons most (IsSome x.closed) x.reasons x.ends.items) own w d (all_of_bind (λ (x : WorkerEnd N). AllHaveReasons most (IsSome x.closed) x.reasons x.ends.items) workers bind ds all) there in
+    let closing = get_mapped (λ (y : BindEnd). y.closing) bs bind b at in
+    let is = told_at workers xs (map (λ (y : BindEnd). y.closing) bs) told bind b.closing closing in
+    let cause = sym (ap (λ l. slice_get l w) (of_bind_map (λ (x : WorkerEnd N). x.closed) workers bind ds)) ∙ get_mapped (λ (x : WorkerEnd N). x.closed) own w d there in
+    subst (AllHaveReasons most (HasCause b.closing) r) all_ends
+    (subst (λ (x : ReasonState). AllHaveReasons most (HasCause b.closing) x d.ends.items) same
+    (weaker most (IsSome d.closed) (HasCause b.closing) d.reasons d.ends.items (λ some. subst HasCause (sym is) (caused no_closing (of_bind workers bind xs) w d.closed cause some)) has))

@@ -90,7 +90,7 @@ pairs_kept (p ∷ ps) (p' ∷ ps') (c ∷ cs) [] n s r = absurd r
 pairs_kept (p ∷ ps) (p' ∷ ps') (c ∷ cs) (c' ∷ cs') n s r = (one_pair p p' c c' n.0.0 s.0 r.0, pairs_kept ps ps' cs cs' n.1 s.1 r.1)
 
 -- all rings of the binds' parts are new pairs
-pub seated_pairs : {W Rd : Type 0} (workers : ℕ) (bs : List (SharedBind W)) (parts : List (BindParts Rd)) → AllZip (IsSeated workers) bs parts
+pub seated_pairs : {N W Rd : Type 0} (workers : ℕ) (bs : List (SharedBind N W)) (parts : List (BindParts Rd)) → AllZip (IsSeated workers) bs parts
     → AllZip IsNewPair (flat (map (λ p. p.producers.items) parts)) (flat (map consumers_of parts))
 seated_pairs workers [] [] z = tt
 seated_pairs workers [] (p ∷ parts) z = absurd z
@@ -104,8 +104,8 @@ none_sent (p ∷ ps) [] z = absurd z
 none_sent (p ∷ ps) (c ∷ cs) z = (z.0.1, none_sent ps cs z.1)
 
 -- what was read of each bind with so many workers was received by them
-module _ {W Rd : Type 0} (turns : ℕ) (remaining : Rd → Option (List ℕ)) (mode : Mode) (told : ℕ → Option (List ℕ)) (workers : ℕ) where
-  heard_from : (place : ℕ) (bs : List (SharedBind W)) (parts : List (BindParts Rd)) (rs : List ReaderEnd) (cs : List (Consumer Reply Global AnyItems)) (ess : List (List MessageEnd)) → AreOpened remaining mode told place parts
+module _ {N W Rd : Type 0} (turns : ℕ) (remaining : Rd → Option (List ℕ)) (mode : Mode) (told : ℕ → Option (List ℕ)) (workers : ℕ) where
+  heard_from : (place : ℕ) (bs : List (SharedBind N W)) (parts : List (BindParts Rd)) (rs : List ReaderEnd) (cs : List (Consumer Reply Global AnyItems)) (ess : List (List MessageEnd)) → AreOpened remaining mode told place parts
       → AllZip (IsSeated workers) bs parts → AllZip (HasRead turns remaining) (map reading_in parts) rs → AllZip HasReceived (flat (map (λ d. d.producers.items) rs)) cs → AllZip (λ c es. Hears (received c) es) cs ess
       → (bind : ℕ) → bind < length parts → IsHeard (told (place + bind)) (ends_at workers bind ess)
   heard_from place [] [] rs cs ess o s z r h bind low = absurd (omega (arith, low))
@@ -131,6 +131,6 @@ module _ {W Rd : Type 0} (turns : ℕ) (remaining : Rd → Option (List ℕ)) (m
       let later = heard_from (place + 1) bs parts rs (drop workers cs) (drop workers ess) o.1 s.1 z.1 (zip_back HasReceived workers ps others cs long r) (zip_drop (λ c es. Hears (received c) es) workers cs ess h) bind (omega (arith, low)) in
       subst (λ (n : ℕ). IsHeard (told n) (ends_at workers (suc bind) ess)) same later
 
-  pub are_heard : (bs : List (SharedBind W)) (parts : List (BindParts Rd)) (rs : List ReaderEnd) (cs : List (Consumer Reply Global AnyItems)) (ess : List (List MessageEnd)) → AreOpened remaining mode told 0 parts
+  pub are_heard : (bs : List (SharedBind N W)) (parts : List (BindParts Rd)) (rs : List ReaderEnd) (cs : List (Consumer Reply Global AnyItems)) (ess : List (List MessageEnd)) → AreOpened remaining mode told 0 parts
       → AllZip (IsSeated workers) bs parts → AllZip (HasRead turns remaining) (map reading_in parts) rs → AllZip HasReceived (flat (map (λ d. d.producers.items) rs)) cs → AllZip (λ c es. Hears (received c) es) cs ess → AreHeard told (length parts) workers ess
   are_heard bs parts rs cs ess o s z r h bind low = let same : 0 + bind ≡ bind = omega arith in subst (λ (n : ℕ). IsHeard (told n) (ends_at workers bind ess)) same (heard_from 0 bs parts rs cs ess o s z r h bind low)

@@ -7,6 +7,7 @@ pub mod Drawn
 pub mod Endings
 pub mod Firsts
 pub mod Grouping
+pub mod Handing
 pub mod Heads
 pub mod Joins
 pub mod Moves

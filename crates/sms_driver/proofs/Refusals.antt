@@ -45,3 +45,10 @@ some_written broken old new whole none (inr counted) = some_counted old new none
 -- a start stopped behind as many as gave something back
 pub stops_so : (f : SendFault) (workers readers w r back_w back_r : ℕ) → back_w ≡ w → back_r ≡ r → StopsAt f workers readers w r → StopsAt f workers readers back_w back_r
 stops_so f workers readers w r back_w back_r same_w same_r h = subst (λ (n : ℕ). StopsAt f workers readers n back_r) (sym same_w) (subst (λ (n : ℕ). StopsAt f workers readers w n) (sym same_r) h)
+
+-- what is so where nothing failed is so where something is given
+pub on_ok : {A U E : Type 0} (X : Type 0) (made : Result U E) (r : Result A E) → OnOk r (IsOk made) → OnOk made X → OnOk r X
+on_ok X (Ok u) (Ok b) all x = x
+on_ok X (Err e) (Ok b) all x = absurd (true≢false (sym all))
+on_ok X (Ok u) (Err e) all x = tt
+on_ok X (Err d) (Err e) all x = tt

@@ -15,6 +15,7 @@ pub record ArePartsFor {N : Type 0} (workers : ℕ) (parts : Parts N) : Type 0 w
   pub seats : IsFree workers parts.seats
   pub consumers : IsFree workers parts.consumers
   pub causes : IsFree workers parts.causes
+  pub reasons : IsFree workers parts.reasons
 
 -- room for the ends of this many messages, and for what this many workers and binds leave; each worker has one ring
 pub record AreBuffersFor {N : Type 0} (messages workers binds : ℕ) (buffers : Buffers N) : Type 0 where

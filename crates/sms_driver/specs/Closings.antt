@@ -5,12 +5,15 @@ use Rattle.sms_bind.specs.declared.down.DownCause.TheVariants as cause
 use Rattle.sms_worker.specs.Closing.{IsClosed, NoneIsClosed}
 use Rattle.sms_worker.specs.declared.state.closing.ClosedBy.{ClosedBy}
 use Rattle.sms_worker.specs.declared.state.closing.ClosedBy.TheVariants.{Down, Turns}
+use Rattle.sms_worker.specs.Reasons.{ReasonState}
+use Rattle.sms_worker.specs.ReasonsOf.{AllHaveReasons}
 use Rattle.sms_worker.specs.Types.{MessageEnd}
 use Rattle.sms_driver.specs.declared.bind_end.BindEnd.{BindEnd}
 use Rattle.sms_driver.specs.declared.bind_end.BindClosing.{BindClosing}
 use Rattle.sms_driver.specs.declared.bind_end.DownBy.{DownBy}
 use Rattle.sms_driver.specs.declared.bind_end.DownBy.TheVariants.{Reader, Write}
 use Rattle.sms_driver.specs.Answered.{ends_at}
+use Rattle.sms_driver.specs.Seated.{of_bind}
 
 abbrev pub down_by : DownCause → DownBy
 down_by (cause.Reader why) = Reader
@@ -28,7 +31,7 @@ no_closing = record { down = None; turns_over = false }
 abbrev pub with_cause : BindClosing → Option ClosedBy → BindClosing
 with_cause c None = c
 with_cause c (Some (Down why)) = record { down = first_of c.down why; turns_over = c.turns_over }
-with_cause c (Some Turns) = record { down = c.down; turns_over = true }
+with_cause c (Some (Turns taken)) = record { down = c.down; turns_over = true }
 
 abbrev pub with_all : BindClosing → List (Option ClosedBy) → BindClosing
 with_all c [] = c
@@ -53,6 +56,15 @@ HasCause c = IsSome c.down ⊎ (c.turns_over ≡ true)
 -- if one of these messages was refused as bind-closed, there is a cause
 abbrev pub IsExplained : BindClosing → List (List MessageEnd) → Type 0
 IsExplained c ess = (w k : ℕ) (es : List MessageEnd) (e : MessageEnd) → slice_get ess w ≡ Some es → slice_get es k ≡ Some e → IsClosed e → HasCause c
+
+-- each of these workers' parts that was given up was so for a reason that its worker lists, or the bind was closed, which has a cause then; and memory
+-- was refused for each message that is refused for want of it
+abbrev pub IsReasoned : ℕ → BindClosing → List ReasonState → List (List MessageEnd) → Type 0
+IsReasoned most c rs ess = (w : ℕ) (r : ReasonState) (es : List MessageEnd) → slice_get rs w ≡ Some r → slice_get ess w ≡ Some es → AllHaveReasons most (HasCause c) r es
+
+-- the same of each bind, whose workers list these reasons
+abbrev pub AreReasoned : ℕ → ℕ → List BindEnd → List ReasonState → List (List MessageEnd) → Type 0
+AreReasoned most workers binds rs ess = (bind : ℕ) (b : BindEnd) → slice_get binds bind ≡ Some b → IsReasoned most b.closing (of_bind workers bind rs) (ends_at workers bind ess)
 
 -- the same of each bind and the messages of its workers
 abbrev pub AreExplained : ℕ → List BindEnd → List (List MessageEnd) → Type 0

@@ -4,6 +4,7 @@ pub mod Buffers
 pub mod Closings
 pub mod Deals
 pub mod Ended
+pub mod Handed
 pub mod Joined
 pub mod Numbered
 pub mod Reads

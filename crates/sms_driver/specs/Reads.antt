@@ -35,14 +35,14 @@ pub record Reading (Rd : Type 0) : Type 0 where
 abbrev pub reading_in : {Rd : Type 0} → BindParts Rd → Reading Rd
 reading_in parts = record { reader = parts.reader; bound = parts.bound; rings = parts.producers.items; follow = parts.follow }
 
-abbrev pub reading_of : {Rd W : Type 0} → ReaderTask Rd W → Reading Rd
+abbrev pub reading_of : {N Rd W : Type 0} → ReaderTask N Rd W → Reading Rd
 reading_of task = record { reader = task.reader; bound = task.bound; rings = task.producers.items; follow = task.follow }
 
 abbrev pub reading_promised : {Rd : Type 0} → ReaderPromise Rd → Reading Rd
 reading_promised promise = record { reader = promise.reader.value; bound = promise.bound.value; rings = promise.producers.value.items; follow = promise.follow }
 
 -- what a reader is given: its seat, and what it reads from
-abbrev pub listener_of : {Rd W : Type 0} → ReaderTask Rd W → SeatState × Reading Rd
+abbrev pub listener_of : {N Rd W : Type 0} → ReaderTask N Rd W → SeatState × Reading Rd
 listener_of task = (task.seat, reading_of task)
 
 abbrev pub listener_promised : {Rd : Type 0} → ReaderPromise Rd → SeatState × Reading Rd

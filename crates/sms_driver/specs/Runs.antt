@@ -1,13 +1,16 @@
 -- What passes through a run: the job that it is given, its tasks, what its threads give back, and what is concluded from that.
-use Rattle.std.specs.Prelude.{◌≡◌, ◌<◌, ℕ, List, Option, length, map}
+use Rattle.std.specs.Prelude.{◌≡◌, ◌++◌, ◌<◌, ℕ, [], IsSome, List, Option, length, map}
 use Rattle.std.specs.List.{AllByRecursion, AllZip}
 use Rattle.rtrb.specs.Ring.{received, IsPair}
+use Rattle.sms_bind.specs.Frames.{requests, AreSame}
 use Rattle.sms_book.specs.Name.{BookId}
 use Rattle.sms_book.specs.Portions.{row_at}
 use Rattle.sms_book.specs.Shares.{opening_shares}
 use Rattle.sms_book.specs.Sums.{IsSumOf}
 use Rattle.sms_message.specs.declared.message.Message.{Message}
 use Rattle.sms_message.specs.declared.rules.Rules.{Rules}
+use Rattle.sms_worker.specs.Frames.{frames_in}
+use Rattle.sms_worker.specs.ReasonsOf.{AllHaveReasons}
 use Rattle.sms_worker.specs.Rests.{HasReceived}
 use Rattle.sms_driver.specs.Answered.{Hears}
 use Rattle.sms_driver.specs.BindEnds.{outcome_of, AreBinds}
@@ -20,7 +23,7 @@ use Rattle.sms_driver.specs.Rings.{flat}
 use Rattle.sms_driver.specs.Seated.{all_placements, all_reader_placements, placement_of, reader_placement_of, CountFrom, consumers_of, windows}
 use Rattle.sms_driver.specs.Settled.{AreSettled}
 use Rattle.sms_driver.specs.Threads.{IsPrepared}
-use Rattle.sms_driver.specs.Unbinds.{AsksEach, HasTried}
+use Rattle.sms_driver.specs.Unbinds.{handed_in, AsksEach, HasHanded, HasTried}
 use Rattle.sms_driver.specs.declared.binding.binds.BindParts.{BindParts}
 use Rattle.sms_driver.specs.declared.binding.binds.DriverSeat.{DriverSeat}
 use Rattle.sms_driver.specs.declared.binding.binds.SharedBind.{SharedBind}
@@ -29,16 +32,19 @@ use Rattle.sms_driver.specs.declared.ending.RunOutput.{RunOutput}
 use Rattle.sms_driver.specs.declared.run.Job.{Job}
 use Rattle.sms_driver.specs.declared.run.RunTasks.{RunTasks}
 
--- the job is for all workers of a book: each has its opening share and a batch of messages, and there is room for what it gives back
+-- the job is for all workers of a book: each has its opening share, no requests so far, and a batch of messages, and there is room for what it gives back
 pub record IsJob {N : Type 0} (book : BookId) (job : Job N) : Type 0 where
   pub shares : job.shares.items ≡ opening_shares book.accounts book.workers
   pub batches : length job.batches.items ≡ book.workers
+  pub requests : length job.requests.items ≡ book.workers
+  pub none : AllByRecursion (λ r. r ≡ []) job.requests.items
   pub room : IsFree book.workers job.done_buffer
 
 -- each worker has its share, its batch and a place at a bind, and each reader what it needs of its bind
-pub record AreTasks {N Rd W : Type 0} (rules : Rules) (workers : ℕ) (job : Job N) (shared_binds : List (SharedBind W)) (bind_parts : List (BindParts Rd)) (ready : RunTasks N Rd W) : Type 0 where
+pub record AreTasks {N Rd W : Type 0} (rules : Rules) (workers : ℕ) (job : Job N) (shared_binds : List (SharedBind N W)) (bind_parts : List (BindParts Rd)) (ready : RunTasks N Rd W) : Type 0 where
   -- in order, the shares and the batches that were given
   pub shares : map (λ t. t.assignment.worker.shares) ready.tasks.items ≡ job.shares.items
+  pub requests : map (λ t. t.assignment.worker.requests) ready.tasks.items ≡ job.requests.items
   pub messages : map (λ t. t.assignment.messages) ready.tasks.items ≡ map (λ l. l.items) job.batches.items
   -- bind by bind, each worker's seat and each keeper's seat is of the bind's window
   pub seat_windows : map (λ t. t.assignment.worker.seat.window) ready.tasks.items ≡ windows workers (map (λ b. b.window) shared_binds)
@@ -58,7 +64,7 @@ pub record AreTasks {N Rd W : Type 0} (rules : Rules) (workers : ℕ) (job : Job
   pub buffer : ready.done_buffer ≡ job.done_buffer
 
 -- what the workers and the readers of all binds give back, and the driver's seats
-pub record IsOutput {N Rd W : Type 0} (rules : Rules) (book : BookId) (workers : ℕ) (remaining : Rd → Option (List ℕ)) (batches : List (List Message)) (shared_binds : List (SharedBind W)) (bind_parts : List (BindParts Rd)) (old_seats : List DriverSeat) (output : RunOutput N) : Type 0 where
+pub record IsOutput {N Rd W : Type 0} (rules : Rules) (book : BookId) (workers : ℕ) (remaining : Rd → Option (List ℕ)) (batches : List (List Message)) (shared_binds : List (SharedBind N W)) (bind_parts : List (BindParts Rd)) (old_seats : List (DriverSeat N)) (output : RunOutput N) : Type 0 where
   -- each worker gave back its end
   pub all : length output.done.items ≡ book.workers
   -- the ends are those of all messages, however these were dealt out, and the shares hold their sums
@@ -69,8 +75,12 @@ pub record IsOutput {N Rd W : Type 0} (rules : Rules) (book : BookId) (workers :
   pub hears : AllByRecursion (λ d. Hears (received d.consumer) d.ends.items) output.done.items
   -- no two attempts of a worker have one number, and its seat drew them
   pub numbers : AllByRecursion (λ d. HasNumbers d.seat.view d.ends.items) output.done.items
+  -- the requests of a worker are the frames of its attempts, each as often
+  pub handed : AllByRecursion (λ d. AreSame d.requests (frames_in d.ends.items)) output.done.items
   -- a worker that refused a message as bind-closed says why
   pub causes : AllByRecursion (λ d. SaysWhy d.closed d.ends.items) output.done.items
+  -- what a worker gave up has a reason
+  pub reasons : AllByRecursion (λ d. AllHaveReasons rules.policy.attempts (IsSome d.closed) d.reasons d.ends.items) output.done.items
   -- what each reader did with what it read
   pub read : AllZip (HasRead rules.turns remaining) (map reading_in bind_parts) output.readers.items
   -- the readers' and the workers' ends of the rings are still pairs, in order
@@ -84,10 +94,11 @@ pub record IsOutput {N Rd W : Type 0} (rules : Rules) (book : BookId) (workers :
 
 -- the output of a run over these binds: the seats are of the binds' windows, bind by bind; an unbind was tried at each bind; and the ends of the rings
 -- are pairs
-pub record IsOfBinds {N W : Type 0} (shared_binds : List (SharedBind W)) (workers : ℕ) (output : RunOutput N) : Type 0 where
+pub record IsOfBinds {N W : Type 0} (shared_binds : List (SharedBind N W)) (workers : ℕ) (output : RunOutput N) : Type 0 where
   pub readers : map (λ d. d.seat.window) output.readers.items ≡ map (λ b. b.window) shared_binds
   pub driver_seats : map (λ s. s.seat.window) output.driver_seats.items ≡ map (λ b. b.window) shared_binds
   pub tried : AllByRecursion HasTried output.driver_seats.items
+  pub handed : AllByRecursion HasHanded output.driver_seats.items
   pub rings : AllZip IsPair (flat (map (λ d. d.producers.items) output.readers.items)) (map (λ d. d.consumer) output.done.items)
   pub seats : map (λ d. d.seat.window) output.done.items ≡ windows workers (map (λ b. b.window) shared_binds)
 
@@ -101,6 +112,10 @@ pub record IsConcluded {N : Type 0} (book : BookId) (till : List ℕ) (binds wor
   -- each bind ended, with what its reader counted
   pub ended : AreBinds binds workers sending.binds.items
   pub outcomes : map (λ b. b.reader) sending.binds.items ≡ map outcome_of output.readers.items
+  -- the requests that the wires were given are those of the workers and the unbinds, each as often
+  pub handed : AreSame (requests sending.log.given) (flat (map (λ d. d.requests) output.done.items) ++ flat (map (λ b. handed_in b.unbind_result) sending.binds.items))
+  -- each worker's reasons, in order
+  pub reasons : sending.reasons.items ≡ map (λ d. d.reasons) output.done.items
   -- each bind was closed for the causes that its workers gave
   pub closings : HaveClosings workers (map (λ d. d.closed) output.done.items) (map (λ b. b.closing) sending.binds.items)
   -- no two workers of a bind drew one number, and all numbers are below the one that its window would have given next

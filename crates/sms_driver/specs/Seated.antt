@@ -23,7 +23,7 @@ consumers_of parts = map (λ w. w.consumer) parts.workers.items
 
 -- the parts are those of a bind with this many workers: each worker has a seat of the bind's window and a new ring, whose other end the reader
 -- has in the same place; and the keeper's seat is of the window
-pub record IsSeated {W Rd : Type 0} (workers : ℕ) (shared : SharedBind W) (parts : BindParts Rd) : Type 0 where
+pub record IsSeated {N W Rd : Type 0} (workers : ℕ) (shared : SharedBind N W) (parts : BindParts Rd) : Type 0 where
   pub keeper : parts.keeper.window ≡ shared.window
   pub seats : AllByRecursion (λ w. w.seat.window ≡ shared.window) parts.workers.items
   pub all : length parts.workers.items ≡ workers
@@ -40,41 +40,41 @@ of_bind workers zero xs = take workers xs
 of_bind workers (suc bind) xs = of_bind workers bind (drop workers xs)
 
 -- a worker's placement: its seat, its place among the workers of its bind, its end of a ring, and the bind's line and window
-pub record WorkerPlacement (W : Type 0) : Type 0 where
+pub record WorkerPlacement (N W : Type 0) : Type 0 where
   pub seat : SeatState
   pub place : ℕ
   pub ring : Consumer Reply Global AnyItems
-  pub line : Line W
+  pub line : Line N W
   pub window : TableId
 
-abbrev pub placement_at : {W : Type 0} → WorkerPlace W → WorkerPlacement W
+abbrev pub placement_at : {N W : Type 0} → WorkerPlace N W → WorkerPlacement N W
 placement_at p = record { seat = p.seat; place = p.place; ring = p.consumer; line = p.line.now; window = p.window.now }
 
-abbrev pub placement_of : {N W : Type 0} → WorkerTask N W → WorkerPlacement W
+abbrev pub placement_of : {N W : Type 0} → WorkerTask N W → WorkerPlacement N W
 placement_of t = record { seat = t.assignment.worker.seat; place = t.assignment.worker.place; ring = t.assignment.worker.consumer; line = t.line.now; window = t.window.now }
 
 -- the workers of a bind from this place on, each with its seat and its ring
-abbrev pub placements_from : {W : Type 0} → SharedBind W → ℕ → List WorkerSeat → List (WorkerPlacement W)
+abbrev pub placements_from : {N W : Type 0} → SharedBind N W → ℕ → List WorkerSeat → List (WorkerPlacement N W)
 placements_from shared place [] = []
 placements_from shared place (w ∷ workers) = record { seat = w.seat; place = place; ring = w.consumer; line = shared.line; window = shared.window } ∷ placements_from shared (place + 1) workers
 
 -- the workers of all binds, bind by bind
-abbrev pub all_placements : {W Rd : Type 0} → List (SharedBind W) → List (BindParts Rd) → List (WorkerPlacement W)
+abbrev pub all_placements : {N W Rd : Type 0} → List (SharedBind N W) → List (BindParts Rd) → List (WorkerPlacement N W)
 all_placements [] parts = []
 all_placements (b ∷ bs) [] = []
 all_placements (b ∷ bs) (p ∷ parts) = placements_from b 0 p.workers.items ++ all_placements bs parts
 
 -- a reader's placement: the keeper's seat, the limit that it follows, and the bind's line and window
-pub record ReaderPlacement (W : Type 0) : Type 0 where
+pub record ReaderPlacement (N W : Type 0) : Type 0 where
   pub seat : SeatState
   pub follow : Following
-  pub line : Line W
+  pub line : Line N W
   pub window : TableId
 
-abbrev pub reader_placement_of : {Rd W : Type 0} → ReaderTask Rd W → ReaderPlacement W
+abbrev pub reader_placement_of : {N Rd W : Type 0} → ReaderTask N Rd W → ReaderPlacement N W
 reader_placement_of t = record { seat = t.seat; follow = t.follow; line = t.line.now; window = t.window.now }
 
-abbrev pub all_reader_placements : {W Rd : Type 0} → List (SharedBind W) → List (BindParts Rd) → List (ReaderPlacement W)
+abbrev pub all_reader_placements : {N W Rd : Type 0} → List (SharedBind N W) → List (BindParts Rd) → List (ReaderPlacement N W)
 all_reader_placements [] parts = []
 all_reader_placements (b ∷ bs) [] = []
 all_reader_placements (b ∷ bs) (p ∷ parts) = record { seat = p.keeper; follow = p.follow; line = b.line; window = b.window } ∷ all_reader_placements bs parts

@@ -1,14 +1,18 @@
 -- What a sending ends with.
-use Rattle.std.specs.Prelude.{◌*◌, ℕ, List, Option}
+use Rattle.std.specs.Prelude.{◌*◌, ◌++◌, ℕ, List, Option, map}
 use Rattle.std.specs.List.{AllZip}
 use Rattle.sms_message.specs.declared.message.Message.{Message}
+use Rattle.sms_bind.specs.Frames.{requests, AreSame}
 use Rattle.sms_worker.specs.EndOf.{IsEndOf}
+use Rattle.sms_worker.specs.Frames.{frames_in}
 use Rattle.sms_driver.specs.Answered.{AreHeard}
 use Rattle.sms_driver.specs.BindEnds.{AreBinds}
-use Rattle.sms_driver.specs.Closings.{AreExplained}
+use Rattle.sms_driver.specs.Closings.{AreExplained, AreReasoned}
 use Rattle.sms_driver.specs.Deals.{dealt}
 use Rattle.sms_driver.specs.Ended.{HaveEnded}
 use Rattle.sms_driver.specs.Numbered.{AreBelow, AreNumbered}
+use Rattle.sms_driver.specs.Rings.{flat}
+use Rattle.sms_driver.specs.Unbinds.{handed_in}
 use Rattle.sms_driver.specs.Statements.{AreRows}
 use Rattle.sms_driver.specs.declared.ending.Sending.{Sending}
 use Rattle.sms_driver.specs.declared.settings.RunSettings.{RunSettings}
@@ -28,6 +32,10 @@ pub record Sent (settings : RunSettings) (told : ℕ → Option (List ℕ)) (acc
   pub below : AreBelow settings.workers sending.binds.items (dealt (settings.binds * settings.workers) 0 sending.ends.items)
   -- a message was refused as bind-closed only if its bind's end says why
   pub explained : AreExplained settings.workers sending.binds.items (dealt (settings.binds * settings.workers) 0 sending.ends.items)
+  -- a part was given up only if its worker's reasons say why, or its bind's end; and a message is refused for want of memory only if its worker's say so
+  pub reasons : AreReasoned settings.rules.policy.attempts settings.workers sending.binds.items sending.reasons.items (dealt (settings.binds * settings.workers) 0 sending.ends.items)
+  -- the requests that the wires of the binds were given are the frames of all attempts and the unbinds, each as often
+  pub handed : AreSame (requests sending.log.given) (flat (map frames_in (dealt (settings.binds * settings.workers) 0 sending.ends.items)) ++ flat (map (λ b. handed_in b.unbind_result) sending.binds.items))
   -- the statement has a row for each account, with the sums over the messages' ends
   pub rows : AreRows credits messages sending.ends.items sending.statement
   -- each bind was made and ended, and had its workers

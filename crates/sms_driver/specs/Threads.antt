@@ -40,7 +40,7 @@ pub record HasRoom {N Rd : Type 0} (workers readers : ℕ) (crew : Crew N Rd) : 
   pub ends_fit : readers ≤ vec_capacity crew.reader_ends
 
 -- each worker is prepared, each reader's seat is of its window, and in order the driver's seats are of the binds' windows
-pub record AreSeated {N Rd W : Type 0} (rules : Rules) (tasks : List (WorkerTask N W)) (reader_tasks : List (ReaderTask Rd W)) (driver_seats : List DriverSeat) (shared_binds : List (SharedBind W)) : Type 0 where
+pub record AreSeated {N Rd W : Type 0} (rules : Rules) (tasks : List (WorkerTask N W)) (reader_tasks : List (ReaderTask N Rd W)) (driver_seats : List (DriverSeat N)) (shared_binds : List (SharedBind N W)) : Type 0 where
   pub workers : AllByRecursion (IsPrepared rules) tasks
   pub readers : AllByRecursion (λ t. t.seat.window ≡ t.window.now) reader_tasks
   pub driver : map (λ s. s.seat.window) driver_seats ≡ map (λ b. b.window) shared_binds
@@ -52,14 +52,14 @@ pub record AreWorkers {N W T : Type 0} (rules : Rules) (latch : StartGate) (task
   pub given : AllByRecursion (λ h. (h.promise.rules.value ≡ rules) × (h.promise.latch.value ≡ latch)) handles
 
 -- the threads of the first readers: they wait at the gate, and have in order what the first tasks have
-pub record AreReaders {Rd W T : Type 0} (turns : ℕ) (latch : StartGate) (tasks : List (ReaderTask Rd W)) (handles : List (PromisedHandle (ThreadResult T) (ReaderPromise Rd))) : Type 0 where
+pub record AreReaders {N Rd W T : Type 0} (turns : ℕ) (latch : StartGate) (tasks : List (ReaderTask N Rd W)) (handles : List (PromisedHandle (ThreadResult T) (ReaderPromise Rd))) : Type 0 where
   pub bound : length handles ≤ length tasks
   pub first : map (λ h. listener_promised h.promise) handles ≡ take (length handles) (map listener_of tasks)
   pub given : AllByRecursion (λ h. (h.promise.latch.value ≡ latch) × (h.promise.turns ≡ turns)) handles
 
 -- in order there is a result of each assignment, and each reader's end, which agrees with what it read; an unbind was tried once at
 -- each bind
-pub record HaveReturned {N Rd W : Type 0} (rules : Rules) (remaining : Rd → Option (List ℕ)) (tasks : List (WorkerTask N W)) (reader_tasks : List (ReaderTask Rd W)) (driver_seats : List DriverSeat) (shared_binds : List (SharedBind W)) (returned : Returned N) : Type 0 where
+pub record HaveReturned {N Rd W : Type 0} (rules : Rules) (remaining : Rd → Option (List ℕ)) (tasks : List (WorkerTask N W)) (reader_tasks : List (ReaderTask N Rd W)) (driver_seats : List (DriverSeat N)) (shared_binds : List (SharedBind N W)) (returned : Returned N) : Type 0 where
   pub results : AllZip (IsResultOf rules) (map (λ t. t.assignment) tasks) returned.worker_results.items
   pub readers : map (λ d. d.seat.window) returned.readers.items ≡ map (λ t. t.seat.window) reader_tasks
   pub read : AllZip (HasRead rules.turns remaining) (map reading_of reader_tasks) returned.readers.items
@@ -69,7 +69,7 @@ pub record HaveReturned {N Rd W : Type 0} (rules : Rules) (remaining : Rd → Op
 
 -- nothing was done: in order the first workers and readers, which were started, gave back what they were given; an unbind was tried once at each
 -- bind
-pub record WereHandedBack {N Rd W : Type 0} (tasks : List (WorkerTask N W)) (reader_tasks : List (ReaderTask Rd W)) (driver_seats : List DriverSeat) (shared_binds : List (SharedBind W)) (left : Returned N) : Type 0 where
+pub record WereHandedBack {N Rd W : Type 0} (tasks : List (WorkerTask N W)) (reader_tasks : List (ReaderTask N Rd W)) (driver_seats : List (DriverSeat N)) (shared_binds : List (SharedBind N W)) (left : Returned N) : Type 0 where
   pub workers : AllZip IsHandedBack (take (length left.worker_results.items) (map (λ t. t.assignment) tasks)) left.worker_results.items
   pub readers : AllZip (λ given end. IsUnread given.0 given.1.rings end) (take (length left.readers.items) (map listener_of reader_tasks)) left.readers.items
   pub driver : map (λ s. s.seat.window) left.driver_seats.items ≡ map (λ b. b.window) shared_binds
@@ -77,13 +77,13 @@ pub record WereHandedBack {N Rd W : Type 0} (tasks : List (WorkerTask N W)) (rea
   pub tried : AllByRecursion HasTried left.driver_seats.items
 
 -- nothing was sent: memory or a thread was refused, and each thread that was started gave back what it was given
-pub record HaveLeft {N Rd W : Type 0} (tasks : List (WorkerTask N W)) (reader_tasks : List (ReaderTask Rd W)) (driver_seats : List DriverSeat) (shared_binds : List (SharedBind W)) (failure : StartFailure N) : Type 0 where
+pub record HaveLeft {N Rd W : Type 0} (tasks : List (WorkerTask N W)) (reader_tasks : List (ReaderTask N Rd W)) (driver_seats : List (DriverSeat N)) (shared_binds : List (SharedBind N W)) (failure : StartFailure N) : Type 0 where
   pub refused : IsOfStart failure.fault
   pub stopped : StopsAt failure.fault (length tasks) (length reader_tasks) (length failure.returned.worker_results.items) (length failure.returned.readers.items)
   pub handed_back : WereHandedBack tasks reader_tasks driver_seats shared_binds failure.returned
 
 -- all threads were let go at this gate and gave back their results; or all left, and nothing was sent
-pub record HaveDriven {N Rd W : Type 0} (rules : Rules) (remaining : Rd → Option (List ℕ)) (latch : StartGate) (tasks : List (WorkerTask N W)) (reader_tasks : List (ReaderTask Rd W)) (driver_seats : List DriverSeat) (shared_binds : List (SharedBind W)) (driven : ThreadResult (Result (Returned N) (StartFailure N))) : Type 0 where
+pub record HaveDriven {N Rd W : Type 0} (rules : Rules) (remaining : Rd → Option (List ℕ)) (latch : StartGate) (tasks : List (WorkerTask N W)) (reader_tasks : List (ReaderTask N Rd W)) (driver_seats : List (DriverSeat N)) (shared_binds : List (SharedBind N W)) (driven : ThreadResult (Result (Returned N) (StartFailure N))) : Type 0 where
   pub at : IsFiredAt latch driven.started
   pub value : MatchResult driven.value
       (λ returned. (command_of driven.started ≡ Go) × HaveReturned rules remaining tasks reader_tasks driver_seats shared_binds returned)

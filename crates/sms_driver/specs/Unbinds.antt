@@ -1,5 +1,5 @@
 -- The result of a bind's unbind (SMPP 3.4 4.2.1), and why one is skipped.
-use Rattle.std.specs.Prelude.{◌≡◌, ◌≢◌, ◌+◌, ◌<◌, ◌≤◌, ℕ, Bool, true, List, [], ◌∷◌, length, Some, slice_get}
+use Rattle.std.specs.Prelude.{◌++◌, ◌≡◌, ◌≢◌, ◌+◌, ◌<◌, ◌≤◌, ℕ, Bool, true, List, [], ◌∷◌, length, Some, slice_get}
 use Rattle.sms_core.specs.Limits.{top_number}
 use Rattle.sms_pdu.specs.Grammar.{Spells}
 use Rattle.sms_pdu.specs.declared.body.Body.TheVariants.{Unbind}
@@ -47,24 +47,35 @@ HasAsked before (Sent receipt) after = (number : ℕ) × SpellsUnbind number rec
 HasAsked before (Failed receipt) after = (number : ℕ) × SpellsUnbind number receipt × HasDrawn before (number ∷ []) after
 HasAsked before (Skipped why) after = IsWhy before why after
 
+-- the octets of the unbind that was handed to the wire, if one was
+abbrev pub handed_in : UnbindResult → List (List ℕ)
+handed_in Idle = []
+handed_in (Sent receipt) = receipt ∷ []
+handed_in (Failed receipt) = receipt ∷ []
+handed_in (Skipped why) = []
+
+-- the seat's requests are that unbind
+abbrev pub HasHanded : {N : Type 0} → DriverSeat N → Type 0
+HasHanded s = s.requests ≡ handed_in s.unbind_result
+
 -- an unbind was tried from this seat
-abbrev pub HasTried : DriverSeat → Type 0
+abbrev pub HasTried : {N : Type 0} → DriverSeat N → Type 0
 HasTried s = (before : View) × HasAsked before s.unbind_result s.seat.view
 
--- an unbind was tried once, from the seat as it was
-abbrev pub Asks : DriverSeat → DriverSeat → Type 0
-Asks old new = HasAsked old.seat.view new.unbind_result new.seat.view
+-- an unbind was tried once, from the seat as it was, and what was handed to the wire is one of its requests
+abbrev pub Asks : {N : Type 0} → DriverSeat N → DriverSeat N → Type 0
+Asks old new = HasAsked old.seat.view new.unbind_result new.seat.view × (new.requests ≡ old.requests ++ handed_in new.unbind_result)
 
 -- the same from the seat at this place; the others are unchanged
-abbrev pub AsksAt : ℕ → List DriverSeat → List DriverSeat → Type 0
-AsksAt bind old new = (place : ℕ) (s t : DriverSeat) → slice_get old place ≡ Some s → slice_get new place ≡ Some t → (place ≡ bind → Asks s t) × (place ≢ bind → t ≡ s)
+abbrev pub AsksAt : {N : Type 0} → ℕ → List (DriverSeat N) → List (DriverSeat N) → Type 0
+AsksAt {N} bind old new = (place : ℕ) (s t : DriverSeat N) → slice_get old place ≡ Some s → slice_get new place ≡ Some t → (place ≡ bind → Asks s t) × (place ≢ bind → t ≡ s)
 
 -- the same from each seat before this place; the others are unchanged
-abbrev pub AsksBefore : ℕ → List DriverSeat → List DriverSeat → Type 0
-AsksBefore n old new = (place : ℕ) (s t : DriverSeat) → slice_get old place ≡ Some s → slice_get new place ≡ Some t → (place < n → Asks s t) × (n ≤ place → t ≡ s)
+abbrev pub AsksBefore : {N : Type 0} → ℕ → List (DriverSeat N) → List (DriverSeat N) → Type 0
+AsksBefore {N} n old new = (place : ℕ) (s t : DriverSeat N) → slice_get old place ≡ Some s → slice_get new place ≡ Some t → (place < n → Asks s t) × (n ≤ place → t ≡ s)
 
 -- the same from each seat
-abbrev pub AsksEach : List DriverSeat → List DriverSeat → Type 0
+abbrev pub AsksEach : {N : Type 0} → List (DriverSeat N) → List (DriverSeat N) → Type 0
 AsksEach old new = AsksBefore (length old) old new
 
 -- a frame was handed to a wire; the wire was broken if it took none
@@ -95,13 +106,13 @@ IsSent (Failed receipt) = ⊥
 IsSent (Skipped why) = ⊥
 
 -- the same of one of the binds
-abbrev pub IsOneSent : List DriverSeat → Type 0
-IsOneSent seats = (place : ℕ) × (s : DriverSeat) × (slice_get seats place ≡ Some s) × IsSent s.unbind_result
+abbrev pub IsOneSent : {N : Type 0} → List (DriverSeat N) → Type 0
+IsOneSent {N} seats = (place : ℕ) × (s : DriverSeat N) × (slice_get seats place ≡ Some s) × IsSent s.unbind_result
 
 -- no answer is awaited: the bind's unbind wasn't written, or its line was seen down
-abbrev pub IsDone : {W : Type 0} → SharedBind W → DriverSeat → Type 0
+abbrev pub IsDone : {N W : Type 0} → SharedBind N W → DriverSeat N → Type 0
 IsDone shared s = IsSent s.unbind_result → (seen : Seen) × IsDownAt shared.line.down seen
 
 -- the same of each bind before this place
-abbrev pub AreDone : {W : Type 0} → ℕ → List (SharedBind W) → List DriverSeat → Type 0
-AreDone {W} n binds seats = (place : ℕ) (shared : SharedBind W) (s : DriverSeat) → place < n → slice_get binds place ≡ Some shared → slice_get seats place ≡ Some s → IsDone shared s
+abbrev pub AreDone : {N W : Type 0} → ℕ → List (SharedBind N W) → List (DriverSeat N) → Type 0
+AreDone {N} {W} n binds seats = (place : ℕ) (shared : SharedBind N W) (s : DriverSeat N) → place < n → slice_get binds place ≡ Some shared → slice_get seats place ≡ Some s → IsDone shared s

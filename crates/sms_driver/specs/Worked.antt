@@ -1,5 +1,5 @@
 -- What a worker gives back.
-use Rattle.std.specs.Prelude.{◌≡◌, ◌++◌, List, length, Result, MatchResult, Vec}
+use Rattle.std.specs.Prelude.{◌≡◌, ◌++◌, IsSome, List, length, Result, MatchResult, Vec}
 use Rattle.std.specs.List.{AllZip}
 use Rattle.std.specs.declared.alloc.Global.{Global}
 use Rattle.rtrb.specs.Ring.{received, SameConsumer}
@@ -7,6 +7,8 @@ use Rattle.sms_pdu.specs.declared.reply.Reply.{Reply}
 use Rattle.sms_book.specs.declared.amounts.Amounts.{Amounts}
 use Rattle.sms_message.specs.declared.message.Message.{Message}
 use Rattle.sms_message.specs.declared.rules.Rules.{Rules}
+use Rattle.sms_bind.specs.Frames.{AreSame}
+use Rattle.sms_worker.specs.Frames.{frames_in}
 use Rattle.sms_worker.specs.Types.{MessageEnd}
 use Rattle.sms_worker.specs.declared.entry.work.Worker.{Worker}
 use Rattle.sms_worker.specs.declared.entry.work.WorkerEnd.{WorkerEnd}
@@ -14,6 +16,7 @@ use Rattle.sms_worker.specs.EndOf.{IsEndOf}
 use Rattle.sms_worker.specs.Apart.{NumbersApart, PlacesApart}
 use Rattle.sms_worker.specs.Told.{AllTold, Drew, Grew}
 use Rattle.sms_worker.specs.ReadyState.{ReadyState}
+use Rattle.sms_worker.specs.ReasonsOf.{AllHaveReasons}
 use Rattle.sms_driver.specs.Closings.{SaysWhy}
 
 -- the ends are those of the messages, and the share grew by them
@@ -35,8 +38,12 @@ pub record IsWorkOf {N : Type 0} (rules : Rules) (a : ReadyState N) (d : WorkerE
   -- the numbers were drawn by the seat, each for one attempt
   pub numbers : Drew a.worker.seat.view d.seat.view a.messages d.ends.items
   pub apart : NumbersApart d.ends.items
+  -- its requests are those that it had and the frames of its attempts, each as often
+  pub handed : AreSame d.requests (a.worker.requests ++ frames_in d.ends.items)
   -- if it gives no cause, it refused no message as bind-closed
   pub says_why : SaysWhy d.closed d.ends.items
+  -- what was given up has a reason
+  pub reasons : AllHaveReasons rules.policy.attempts (IsSome d.closed) d.reasons d.ends.items
 
 -- the result of an assignment that was let go: its work
 abbrev pub IsResultOf : {N E M : Type 0} → Rules → ReadyState N → Result (WorkerEnd N) (E × Worker N × M) → Type 0

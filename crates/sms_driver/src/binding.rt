@@ -5,31 +5,35 @@ pub mod following;
 pub mod rings;
 pub mod seats;
 
-ghost use Rattle.std.specs.Prelude.{◌≡◌, ℕ, ◌<◌, ◌≤◌, [], ◌∷◌, length, map, vec_capacity, false, Err, IfErr, IfOk, IsOk, OnOk};
+ghost use Rattle.std.specs.Prelude.{◌≡◌, ℕ, ◌+◌, ◌*◌, ◌<◌, ◌≤◌, [], ◌∷◌, length, map, vec_capacity, false, Err, IfErr, IfOk, IsOk, OnOk};
 ghost use Rattle.std.specs.List.{AllByRecursion, AllZip};
 ghost use Rattle.sms_core.specs.Limits.{most_slots};
 ghost use Rattle.sms_pdu.specs.Devices.{device, faults_of};
+ghost use Rattle.sms_bind.specs.LogRule.{all_parts};
 ghost use Rattle.sms_bind.specs.Wires.{is_broken, write_faults, writer};
 ghost use Rattle.sms_bind.specs.declared.binding.BindFault.TheVariants.{Read as ReadFault, Write as WriteFault};
 ghost use Rattle.sms_driver.specs.BindEnds.{follow_of, HasBound, IsSetUp};
+ghost use Rattle.sms_driver.specs.Handed.{HasDealt};
 ghost use Rattle.sms_driver.specs.Reads.{AreOpened, IsOpened};
 ghost use Rattle.sms_driver.specs.Rings.{IsNewPair};
 ghost use Rattle.sms_driver.specs.Seated.{IsSeated};
 ghost use Rattle.sms_driver.specs.SendFaults.{HasFailed, IsFaultOf, IsFaultOfRun, TellsBind};
 ghost use Rattle.sms_driver.specs.Starts.{TellsStart};
 ghost use Rattle.sms_driver.specs.declared.fault.BindFailure.TheVariants.{NoConnection};
-ghost use Rattle.sms_driver.specs.declared.fault.SendFault.TheVariants.{BindFailed};
+ghost use Rattle.sms_driver.specs.declared.fault.SendFault.TheVariants.{BindFailed, OutOfMemory};
 ghost use Rattle.sms_driver.specs.declared.start.StartPhase.TheVariants.{Idle};
 
 use crate::binding::rings::Rings;
 use crate::binding::seats::{NewWindow, open_window, split_seats};
 use crate::fault::{BindFailure, SendFault};
+use crate::settings::RunSettings;
 use crate::{
     BindParts, Binds, DriverSeat, Following, SharedBind, UnbindResult, roll_back_if_failed,
 };
-use sms_bind::{BindFault, Bound, Line, Settings, Wire, bind};
+use sms_bind::{BindFault, Bound, Line, LogKeeper, LogName, ReaderLeave, Settings, Wire, bind};
 use sms_pdu::{DeviceError, Tap};
 use sms_slot::SlotRow;
+use sms_window::WindowSeat;
 use std::alloc::Global;
 use std::io::{Read, Write};
 use std::snapshot::Snapshot;
@@ -67,10 +71,10 @@ pub struct BindSettings {
 
 /// A new bind; and snapshots of its wire as it was dialled, and after the bind request.
 #[derive(Drop)]
-struct NewBind<Rd, W> {
-    shared: SharedBind<W>,
+struct NewBind<N: LogName, Rd, W: Write> {
+    shared: SharedBind<N, W>,
     parts: BindParts<Rd>,
-    driver_seat: DriverSeat,
+    driver_seat: DriverSeat<N>,
     dialled: Snapshot<Wire<W>>,
     asked: Snapshot<Wire<W>>,
 }
@@ -126,6 +130,7 @@ fn bind_with<Rd: Read, W: Write>(
 ) -> Result<Bound, BindFault>
     requires unused { (faults_of reader.old ≡ 0) × (write_faults wire.old ≡ 0) }
     ensures bound { OnOk result (HasBound settings.now number (W.contents (writer wire.old)) (W.contents (writer wire.new))) }
+    ensures sound { OnOk result (is_broken wire.new ≡ false) }
     // What was read is the bind's answer and what came after it.
     ensures opened { IfOk result (IsOpened settings.now.mode (Rd.remaining (device reader.old)) (Rd.remaining (device reader.new))) }
     // A fault agrees with the octets that were read, or with what the devices answered.
@@ -169,6 +174,7 @@ fn dial_and_bind<D: Dial>(
 ) -> Result<Connected<D::Reader, D::Writer>, SendFault>
     ensures opened { IfOk result (λ c. IsOpened settings.now.mode (D.told dial.now bind_place) (D.Reader.remaining (device c.reader)) c.bound) }
     ensures asked { IfOk result (λ c. HasBound settings.now number (D.Writer.contents (writer c.dialled.value)) (D.Writer.contents (writer c.wire))) }
+    ensures sound { IfOk result (λ c. is_broken c.wire ≡ false) }
     ensures refused { IfErr result (IsFaultOf (D.refuses dial.now) (D.told dial.now) settings.now.mode bind_place) }
 {
     let (reader, writer) = connect(dial, bind_place)?;
@@ -186,24 +192,60 @@ fn dial_and_bind<D: Dial>(
     }
 }
 
-/// Makes a bind's window, dials and binds; splits off a seat for each worker and one for the driver.
-fn make_bind<D: Dial>(
+/// The driver's seat at a bind. No unbind was tried from it.
+fn new_driver_seat<N: LogName>(log: &mut LogKeeper<N>, seat: WindowSeat) -> DriverSeat<N>
+    requires few { log.old.away + 1 < all_parts }
+    ensures log { HasDealt 1 log.old log.new }
+    ensures seat { result.seat ≡ seat }
+    ensures none { result.requests ≡ [] }
+{
+    DriverSeat {
+        seat,
+        requests: log.thread(),
+        unbind_result: UnbindResult::Idle,
+    }
+}
+
+/// A line over the wire, whose log begins. The fault is want of memory.
+fn line_over<N: LogName, W: Write + Drop>(
+    log: &mut LogKeeper<N>,
+    slots: SlotRow,
+    wire: Wire<W>,
+) -> Result<(Line<N, W>, ReaderLeave), SendFault>
+    requires few { log.old.away + 1 < all_parts }
+    requires sound { is_broken wire ≡ false }
+    ensures log { OnOk result (HasDealt 1 log.old log.new) }
+    ensures slots { IfOk result (λ r. r.0.slots ≡ slots) }
+    ensures refused { IfErr result (λ fault. fault ≡ OutOfMemory) }
+{
+    match log.wire(wire) {
+        Ok(wire) => Ok(Line::new(slots, wire)),
+        Err(_wire) => Err(SendFault::OutOfMemory),
+    }
+}
+
+/// Makes a bind's window, dials and binds, and begins the log of its wire; splits off a seat for each worker and
+/// one for the driver.
+fn make_bind<N: LogName, D: Dial>(
     alloc: Global,
     dial: &D,
+    log: &mut LogKeeper<N>,
     bind_settings: &BindSettings,
     bind_place: u32,
     workers: usize,
     rings: Rings,
-) -> Result<NewBind<D::Reader, D::Writer>, SendFault>
+) -> Result<NewBind<N, D::Reader, D::Writer>, SendFault>
     requires rings { length rings.consumers.items ≡ workers }
     requires pairs { AllZip IsNewPair rings.producers.items rings.consumers.items }
     requires bound { workers < 62 }
+    requires few { log.old.away + 2 < all_parts }
+    ensures log { OnOk result (HasDealt 2 log.old log.new) }
     ensures seated { IfOk result (λ m. IsSeated workers m.shared m.parts) }
     ensures opened { IfOk result (λ m. IsOpened bind_settings.now.settings.mode (D.told dial.now bind_place) (D.Reader.remaining (device m.parts.reader)) m.parts.bound) }
     ensures set { IfOk result (λ m. IsSetUp bind_settings.now m.parts) }
     // The settings' bind was written, with the one number that was drawn from its window.
     ensures asked { IfOk result (λ m. (number : ℕ) × (m.parts.keeper.view.numbers ≡ number ∷ []) × HasBound bind_settings.now.settings number (D.Writer.contents (writer m.dialled.value)) (D.Writer.contents (writer m.asked.value))) }
-    ensures driver_seat { IfOk result (λ m. m.driver_seat.seat.window ≡ m.shared.window) }
+    ensures driver_seat { IfOk result (λ m. (m.driver_seat.seat.window ≡ m.shared.window) × (m.driver_seat.requests ≡ [])) }
     ensures refused { IfErr result (IsFaultOf (D.refuses dial.now) (D.told dial.now) bind_settings.now.settings.mode bind_place) }
 {
     let NewWindow {
@@ -225,7 +267,10 @@ fn make_bind<D: Dial>(
         dialled,
     } = dial_and_bind(alloc, dial, &bind_settings.settings, bind_place, number)?;
     let asked = Snapshot::of(&wire);
-    let (line, leave) = Line::new(slots, wire);
+    let driver_seat = new_driver_seat(log, seat);
+    let Ok((line, leave)) = line_over(log, slots, wire) else {
+        return Err(SendFault::OutOfMemory);
+    };
     Ok(NewBind {
         shared: SharedBind { line, window },
         parts: BindParts {
@@ -237,30 +282,28 @@ fn make_bind<D: Dial>(
             follow: follow_of(bind_settings),
             leave,
         },
-        driver_seat: DriverSeat {
-            seat,
-            unbind_result: UnbindResult::Idle,
-        },
+        driver_seat,
         dialled,
         asked,
     })
 }
 
 /// Makes a bind for each set of rings, up to the first that fails. Returns those that were made.
-fn bind_each<D: Dial>(
+fn bind_each<N: LogName, D: Dial>(
     alloc: Global,
     dial: &D,
+    log: &mut LogKeeper<N>,
     bind_settings: &BindSettings,
     workers: usize,
     rings: Vec<Rings>,
-    binds: Binds<D::Reader, D::Writer>,
-) -> (Binds<D::Reader, D::Writer>, Result<(), SendFault>)
-    requires rings { AllByRecursion (λ r. length r.consumers.items ≡ workers) rings.items }
-    requires pairs { AllByRecursion (λ r. AllZip IsNewPair r.producers.items r.consumers.items) rings.items }
+    binds: Binds<N, D::Reader, D::Writer>,
+) -> (Binds<N, D::Reader, D::Writer>, Result<(), SendFault>)
+    requires rings { AllByRecursion (λ r. length r.consumers.items ≡ workers) rings.items × AllByRecursion (λ r. AllZip IsNewPair r.producers.items r.consumers.items) rings.items }
     requires bound { workers < 62 }
-    requires binds { length rings.items ≤ 4 }
+    requires binds { (length rings.items ≤ 4) × (log.old.away + 2 * length rings.items < all_parts) }
     requires none { (binds.shared_binds.items ≡ []) × (binds.bind_parts.items ≡ []) × (binds.driver_seats.items ≡ []) }
     requires room { (length rings.items ≤ vec_capacity binds.shared_binds) × (length rings.items ≤ vec_capacity binds.bind_parts) × (length rings.items ≤ vec_capacity binds.driver_seats) }
+    ensures log { OnOk result.1 (HasDealt (2 * length rings.items) log.old log.new) × AllByRecursion (λ s. s.requests ≡ []) result.0.driver_seats.items }
     ensures driver_seats { map (λ s. s.seat.window) result.0.driver_seats.items ≡ map (λ b. b.window) result.0.shared_binds.items }
     ensures opened { AreOpened D.Reader.remaining bind_settings.now.settings.mode (D.told dial.now) 0 result.0.bind_parts.items }
     ensures set { AllByRecursion (IsSetUp bind_settings.now) result.0.bind_parts.items }
@@ -276,7 +319,7 @@ fn bind_each<D: Dial>(
     } = binds;
     let mut place = 0u32;
     for theirs in rings {
-        match make_bind(alloc, dial, bind_settings, place, workers, theirs) {
+        match make_bind(alloc, dial, log, bind_settings, place, workers, theirs) {
             Ok(made) => {
                 shared_binds.push_reserved(made.shared);
                 bind_parts.push_reserved(made.parts);
@@ -306,24 +349,25 @@ fn bind_each<D: Dial>(
 }
 
 /// Makes a bind for each set of rings. If one fails, the others are unbound.
-pub(crate) fn make_binds<D: Dial, R: Wait>(
+pub(crate) fn make_binds<N: LogName, D: Dial, R: Wait>(
     rt: &R,
     alloc: Global,
     dial: &D,
-    bind_settings: &BindSettings,
-    workers: usize,
+    log: &mut LogKeeper<N>,
+    settings: &RunSettings,
     rings: Vec<Rings>,
-) -> Result<Binds<D::Reader, D::Writer>, SendFault>
-    requires rings { AllByRecursion (λ r. length r.consumers.items ≡ workers) rings.items }
+) -> Result<Binds<N, D::Reader, D::Writer>, SendFault>
+    requires rings { AllByRecursion (λ r. length r.consumers.items ≡ settings.now.workers) rings.items }
     requires pairs { AllByRecursion (λ r. AllZip IsNewPair r.producers.items r.consumers.items) rings.items }
-    requires bound { workers < 62 }
-    requires binds { length rings.items ≤ 4 }
+    requires bound { settings.now.workers < 62 }
+    requires binds { (length rings.items ≤ 4) × (log.old.away + 2 * length rings.items < all_parts) }
+    ensures log { OnOk result (HasDealt (2 * length rings.items) log.old log.new) × IfOk result (λ b. AllByRecursion (λ s. s.requests ≡ []) b.driver_seats.items) }
     ensures driver_seats { IfOk result (λ b. map (λ s. s.seat.window) b.driver_seats.items ≡ map (λ b. b.window) b.shared_binds.items) }
-    ensures opened { IfOk result (λ b. AreOpened D.Reader.remaining bind_settings.now.settings.mode (D.told dial.now) 0 b.bind_parts.items) }
-    ensures set { IfOk result (λ b. AllByRecursion (IsSetUp bind_settings.now) b.bind_parts.items) }
-    ensures seated { IfOk result (λ b. AllZip (IsSeated workers) b.shared_binds.items b.bind_parts.items) }
+    ensures opened { IfOk result (λ b. AreOpened D.Reader.remaining settings.now.bind_settings.settings.mode (D.told dial.now) 0 b.bind_parts.items) }
+    ensures set { IfOk result (λ b. AllByRecursion (IsSetUp settings.now.bind_settings) b.bind_parts.items) }
+    ensures seated { IfOk result (λ b. AllZip (IsSeated settings.now.workers) b.shared_binds.items b.bind_parts.items) }
     ensures length { IfOk result (λ b. length b.shared_binds.items ≡ length rings.items) }
-    ensures refused { IfErr result (IsFaultOfRun (D.refuses dial.now) (D.told dial.now) bind_settings.now.settings.mode (length rings.items)) }
+    ensures refused { IfErr result (IsFaultOfRun (D.refuses dial.now) (D.told dial.now) settings.now.bind_settings.settings.mode (length rings.items)) }
     // No thread was started yet.
     ensures phase { IfErr result (TellsStart Idle) }
 {
@@ -332,6 +376,14 @@ pub(crate) fn make_binds<D: Dial, R: Wait>(
         bind_parts: Vec::with_capacity(alloc, rings.len())?,
         driver_seats: Vec::with_capacity(alloc, rings.len())?,
     };
-    let (binds, made) = bind_each(alloc, dial, bind_settings, workers, rings, none);
+    let (binds, made) = bind_each(
+        alloc,
+        dial,
+        log,
+        &settings.bind_settings,
+        settings.workers,
+        rings,
+        none,
+    );
     roll_back_if_failed(rt, alloc, binds, made)
 }

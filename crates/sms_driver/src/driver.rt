@@ -16,6 +16,7 @@ use crate::fault::SendFault;
 use crate::run::run;
 use crate::settings::{Devices, RunSettings};
 use crate::start::Start;
+use sms_bind::BlankLog;
 use sms_book::{BookError, Opening, open_book};
 use sms_worker::{Clock, Gate, Message, Pause};
 use std::alloc::Global;
@@ -67,5 +68,8 @@ pub fn drive_all<
         Ok(blank) => blank,
         Err(why) => return Err(book_fault(why)),
     };
-    run::<Brand, D, G, K, P, R>(rt, alloc, start, blank, settings, messages, devices)
+    let Ok(log) = BlankLog::new(alloc) else {
+        return Err(SendFault::OutOfMemory);
+    };
+    run::<Brand, D, G, K, P, R>(rt, alloc, start, blank, log, settings, messages, devices)
 }

@@ -8,7 +8,7 @@ pub mod skipped;
 pub mod unbind;
 pub mod unbind_result;
 
-ghost use Rattle.std.specs.Prelude.{◌≡◌, ◌∷◌, ◌++◌, [], ℕ, ◌<◌, List, length, map, IsOk, Ok, vec_len, vec_capacity};
+ghost use Rattle.std.specs.Prelude.{◌≡◌, ◌∷◌, ◌++◌, [], ℕ, ◌+◌, ◌*◌, ◌<◌, ◌≤◌, List, length, map, IsOk, Ok, vec_len, vec_capacity};
 ghost use Rattle.std.specs.List.{AllByRecursion, AllZip};
 ghost use Rattle.rtrb.specs.Ring.{IsPair};
 ghost use Rattle.sms_book.specs.Portions.{row_at};
@@ -19,6 +19,7 @@ ghost use Rattle.sms_worker.specs.Types.{MessageEnd};
 ghost use Rattle.sms_driver.specs.BindEnds.{outcome_of};
 ghost use Rattle.sms_driver.specs.Buffers.{AreBuffersFor, ArePartsFor, IsFree};
 ghost use Rattle.sms_driver.specs.Deals.{dealt};
+ghost use Rattle.sms_driver.specs.Handed.{IsBack};
 ghost use Rattle.sms_driver.specs.Rings.{flat};
 ghost use Rattle.sms_driver.specs.Runs.{IsConcluded, IsOfBinds};
 
@@ -29,15 +30,16 @@ use crate::ending::ring_ends::{RingEnds, take_rings};
 use crate::threads::WorkerResult;
 use crate::{DriverSeat, SharedBind, merged};
 use rtrb::Consumer;
-use sms_bind::ReaderEnd;
+use sms_bind::{LogKeeper, LogName, ReaderEnd, SettledLog};
 use sms_book::{Book, BookName, Shares, Statement, Till, gather};
 use sms_pdu::Reply;
 use sms_worker::laws::received_are_prefixes;
-use sms_worker::{MessageEnd, WorkerEnd};
+use sms_worker::{MessageEnd, Reasons, WorkerEnd};
 use std::collections::VecDeque;
+use std::io::Write;
 
 /// The ends of the workers, all of which did their work, in the buffer that was made for them.
-pub fn all_done<N: BookName>(
+pub fn all_done<N: BookName + LogName>(
     worker_results: Vec<WorkerResult<N>>,
     buffer: Vec<WorkerEnd<N>>,
 ) -> Vec<WorkerEnd<N>>
@@ -55,15 +57,23 @@ pub fn all_done<N: BookName>(
     done
 }
 
-/// Takes the workers' ends apart, into the buffers that were made for the parts.
-fn take_apart<N: BookName>(done: Vec<WorkerEnd<N>>, parts: Parts<N>) -> Parts<N>
+/// Takes the workers' ends apart, into the buffers that were made for the parts. Their requests come back to the
+/// keeper of the log.
+fn take_apart<N: BookName + LogName>(
+    log: &mut LogKeeper<N>,
+    done: Vec<WorkerEnd<N>>,
+    parts: Parts<N>,
+) -> Parts<N>
     requires parts { ArePartsFor (length done.items) parts }
+    requires away { length done.items ≤ log.old.away }
+    ensures log { IsBack (length done.items) (flat (map (λ d. d.requests) done.items)) log.old log.new }
     ensures shares { result.shares.items ≡ map (λ d. d.shares) done.items }
     ensures ends { map (λ q. q.items) result.ends.items ≡ map (λ d. d.ends.items) done.items }
     ensures seats { map (λ s. s.window) result.seats.items ≡ map (λ d. d.seat.window) done.items }
     ensures views { map (λ s. s.view) result.seats.items ≡ map (λ d. d.seat.view) done.items }
     ensures consumers { result.consumers.items ≡ map (λ d. d.consumer) done.items }
     ensures causes { result.causes.items ≡ map (λ d. d.closed) done.items }
+    ensures reasons { result.reasons.items ≡ map (λ d. d.reasons) done.items }
     ensures length { length result.ends.items ≡ length done.items }
 {
     let Parts {
@@ -72,6 +82,7 @@ fn take_apart<N: BookName>(done: Vec<WorkerEnd<N>>, parts: Parts<N>) -> Parts<N>
         mut seats,
         mut consumers,
         mut causes,
+        mut reasons,
     } = parts;
     for end in done {
         let WorkerEnd {
@@ -80,12 +91,16 @@ fn take_apart<N: BookName>(done: Vec<WorkerEnd<N>>, parts: Parts<N>) -> Parts<N>
             seat,
             consumer,
             closed,
+            requests,
+            reasons: why,
         } = end;
         shares.push_reserved(share);
         ends.push_reserved(VecDeque::from(theirs));
         seats.push_reserved(seat);
         consumers.push_reserved(consumer);
         causes.push_reserved(closed);
+        reasons.push_reserved(why);
+        log.take(requests);
     }
     Parts {
         shares,
@@ -93,6 +108,7 @@ fn take_apart<N: BookName>(done: Vec<WorkerEnd<N>>, parts: Parts<N>) -> Parts<N>
         seats,
         consumers,
         causes,
+        reasons,
     }
 }
 
@@ -103,6 +119,11 @@ pub struct Sending {
     pub ends: Vec<MessageEnd>,
     pub statement: Statement,
     pub binds: Vec<BindEnd>,
+    /// Why parts and messages were not sent, worker by worker, bind by bind.
+    pub reasons: Vec<Reasons>,
+    /// The frames that the wires were given, among which the requests are the frames of all attempts in `ends` and
+    /// the unbinds.
+    pub log: SettledLog,
 }
 
 /// The statement of a book, all of whose shares are back.
@@ -118,11 +139,11 @@ fn settle<N: BookName>(book: Book<N>, till: Till<N>, shares: Vec<Shares<N>>) -> 
 }
 
 /// Joins the ends of the rings. What is left of the binds is given without them.
-fn join_ends<W: Drop>(
-    remains: BindRemains<W>,
+fn join_ends<N: LogName, W: Write + Drop>(
+    remains: BindRemains<N, W>,
     consumers: Vec<Consumer<Reply>>,
     buffers: RingEnds,
-) -> BindRemains<W>
+) -> BindRemains<N, W>
     requires rings { AllZip IsPair (flat (map (λ d. d.producers.items) remains.readers.items)) consumers.items }
     requires producers { IsFree (length (flat (map (λ d. d.producers.items) remains.readers.items))) buffers.producers }
     requires bare { IsFree (length remains.readers.items) buffers.readers }
@@ -152,20 +173,21 @@ fn join_ends<W: Drop>(
 /// What a run gives back: in order what each worker gave back, and bind by bind the readers' ends and
 /// the driver's seats.
 #[derive(Drop)]
-pub(crate) struct RunOutput<N: BookName> {
+pub(crate) struct RunOutput<N: BookName + LogName> {
     pub done: Vec<WorkerEnd<N>>,
     pub readers: Vec<ReaderEnd>,
-    pub driver_seats: Vec<DriverSeat>,
+    pub driver_seats: Vec<DriverSeat<N>>,
 }
 
 /// Closes the binds' windows. Gives the messages' ends in the order of the messages, the statement, and
 /// the binds' ends.
-pub(crate) fn conclude<N: BookName, W: Drop>(
+pub(crate) fn conclude<N: BookName + LogName, W: Write + Drop>(
     book: Book<N>,
     till: Till<N>,
+    log: LogKeeper<N>,
     count: usize,
     output: RunOutput<N>,
-    shared_binds: Vec<SharedBind<W>>,
+    shared_binds: Vec<SharedBind<N, W>>,
     workers: usize,
     buffers: Buffers<N>,
 ) -> Sending
@@ -174,6 +196,7 @@ pub(crate) fn conclude<N: BookName, W: Drop>(
     requires dealt { (es : List MessageEnd) × (length es ≡ count) × (map (λ d. d.ends.items) output.done.items ≡ dealt (length output.done.items) 0 es) }
     requires shares { AreAll N.book.workers (map (λ d. d.shares) output.done.items) }
     requires output { IsOfBinds shared_binds.items workers output }
+    requires log { (log.away ≡ length output.done.items + 2 * length shared_binds.items) × (log.requests ≡ []) }
     ensures ends { (es : List MessageEnd) → length es ≡ count → map (λ d. d.ends.items) output.done.items ≡ dealt (length output.done.items) 0 es → result.ends.items ≡ es }
     ensures concluded { IsConcluded N.book till (length shared_binds.items) workers output result }
 {
@@ -188,13 +211,15 @@ pub(crate) fn conclude<N: BookName, W: Drop>(
         bind_ends,
         message_ends,
     } = buffers;
-    let apart = take_apart(done, parts);
+    let mut log = log;
+    let apart = take_apart(&mut log, done, parts);
     let Parts {
         shares,
         ends,
         seats,
         consumers,
         causes,
+        reasons,
     } = apart;
     let remains = BindRemains {
         shared_binds,
@@ -203,11 +228,13 @@ pub(crate) fn conclude<N: BookName, W: Drop>(
         workers,
     };
     let joined = join_ends(remains, consumers, ring_ends);
-    let binds = close_all(joined, seats, causes, bind_ends);
+    let binds = close_all(&mut log, joined, seats, causes, bind_ends);
     let statement = settle(book, till, shares);
     Sending {
         ends: merged(ends, count, message_ends),
         statement,
         binds,
+        reasons,
+        log: log.settle(),
     }
 }

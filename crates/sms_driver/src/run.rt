@@ -1,10 +1,12 @@
 //! A sending, once its book is named.
 
-ghost use Rattle.std.specs.Prelude.{◌≡◌, ◌*◌, ◌<◌, ◌≤◌, length, map, Ok, IfErr, IfOk, IsOk, OnOk};
+ghost use Rattle.std.specs.Prelude.{◌≡◌, ◌+◌, ◌*◌, [], ◌<◌, ◌≤◌, length, map, Ok, IfErr, IfOk, IsOk, OnOk};
 ghost use Rattle.std.specs.List.{AllByRecursion, AllZip};
+ghost use Rattle.sms_bind.specs.LogRule.{all_parts};
 ghost use Rattle.sms_book.specs.Shares.{opening_shares};
 ghost use Rattle.sms_driver.specs.Buffers.{AreBuffersFor, IsFree};
 ghost use Rattle.sms_driver.specs.Deals.{dealt};
+ghost use Rattle.sms_driver.specs.Handed.{HasDealt};
 ghost use Rattle.sms_driver.specs.Rings.{IsNewPair};
 ghost use Rattle.sms_driver.specs.Runs.{AreTasks, IsJob, IsOutput};
 ghost use Rattle.sms_driver.specs.Seated.{IsSeated};
@@ -29,6 +31,7 @@ use crate::threads::placement::{Placement, seat_all};
 use crate::threads::scope::{Returned, StartFailure, drive};
 use crate::threads::task::{WorkerTask, tasks};
 use crate::{BindParts, Binds, DriverSeat, SharedBind, deal, unbind_all};
+use sms_bind::{BlankLog, LogKeeper, LogName, Requests};
 use sms_book::{Blank, BookName, Shares};
 use sms_worker::{Clock, Gate, Message, Pause, Rules, RunContext, WorkerEnd};
 use std::alloc::{AllocError, Global};
@@ -38,7 +41,7 @@ use std::thread;
 use std::thread::Threads;
 
 /// Deals the messages out to one batch for each share.
-fn deal_out<N: BookName>(
+fn deal_out<N: BookName + LogName>(
     alloc: Global,
     messages: Vec<Message>,
     shares: &[Shares<N>],
@@ -51,49 +54,72 @@ fn deal_out<N: BookName>(
     deal(alloc, messages, shares.len())
 }
 
-/// What the workers of a run are given: in order a share and a batch of messages for each, and a buffer
-/// for their ends.
+/// What the workers of a run are given: in order a share, the requests that it gave to wires, of which there are
+/// none, and a batch of messages for each; and a buffer for their ends.
 #[derive(Drop)]
-struct Job<N: BookName> {
+struct Job<N: BookName + LogName> {
     shares: Vec<Shares<N>>,
+    requests: Vec<Requests<N>>,
     batches: Vec<Vec<Message>>,
     done_buffer: Vec<WorkerEnd<N>>,
 }
 
 /// What is made before the first bind.
 #[derive(Drop)]
-struct Prepared<N: BookName> {
+struct Prepared<N: BookName + LogName> {
     job: Job<N>,
     rings: Vec<Rings>,
     buffers: Buffers<N>,
 }
 
+/// Requests for this many threads, none so far of each.
+fn all_requests<N: LogName>(
+    alloc: Global,
+    log: &mut LogKeeper<N>,
+    count: usize,
+) -> Result<Vec<Requests<N>>, AllocError>
+    requires few { log.old.away + count < all_parts }
+    ensures log { OnOk result (HasDealt count log.old log.new) }
+    ensures length { IfOk result (λ v. length v.items ≡ count) }
+    ensures none { IfOk result (λ v. AllByRecursion (λ r. r ≡ []) v.items) }
+{
+    let mut requests = Vec::with_capacity(alloc, count)?;
+    for _thread in 0..count {
+        requests.push_reserved(log.thread());
+    }
+    Ok(requests)
+}
+
 /// Makes all that can be made before the first bind: deals the messages out, makes the rings, and takes
 /// the memory for what the sending ends with.
-fn prepare<N: BookName>(
+fn prepare<N: BookName + LogName>(
     alloc: Global,
+    log: &mut LogKeeper<N>,
     messages: Vec<Message>,
     shares: Vec<Shares<N>>,
-    binds: usize,
-    workers: usize,
+    settings: &RunSettings,
 ) -> Result<Prepared<N>, AllocError>
     requires some { 0 < N.book.workers }
     requires shares { shares.items ≡ opening_shares N.book.accounts N.book.workers }
+    requires few { log.old.away + N.book.workers < all_parts }
+    ensures log { OnOk result (HasDealt N.book.workers log.old log.new) }
     ensures job { IfOk result (λ p. IsJob N.book p.job) }
     ensures dealt { IfOk result (λ p. map (λ l. l.items) p.job.batches.items ≡ dealt N.book.workers 0 messages.items) }
-    ensures binds { IfOk result (λ p. length p.rings.items ≡ binds) }
-    ensures workers { IfOk result (λ p. AllByRecursion (λ r. length r.consumers.items ≡ workers) p.rings.items) }
+    ensures binds { IfOk result (λ p. length p.rings.items ≡ settings.now.binds) }
+    ensures workers { IfOk result (λ p. AllByRecursion (λ r. length r.consumers.items ≡ settings.now.workers) p.rings.items) }
     ensures pairs { IfOk result (λ p. AllByRecursion (λ r. AllZip IsNewPair r.producers.items r.consumers.items) p.rings.items) }
-    ensures buffers { IfOk result (λ p. AreBuffersFor (length messages.items) N.book.workers binds p.buffers) }
+    ensures buffers { IfOk result (λ p. AreBuffersFor (length messages.items) N.book.workers settings.now.binds p.buffers) }
 {
     let count = messages.len();
     let batches = deal_out(alloc, messages, shares.as_slice())?;
-    let rings = all_rings(alloc, binds, workers)?;
+    let rings = all_rings(alloc, settings.binds, settings.workers)?;
+    let requests = all_requests(alloc, log, shares.len())?;
     let done_buffer = Vec::with_capacity(alloc, shares.len())?;
-    let buffers = Buffers::new(alloc, count, shares.len(), binds)?;
+    let buffers = Buffers::new(alloc, count, shares.len(), settings.binds)?;
     Ok(Prepared {
         job: Job {
             shares,
+            requests,
             batches,
             done_buffer,
         },
@@ -104,18 +130,18 @@ fn prepare<N: BookName>(
 
 /// What the threads of a run are given, and the buffer for the workers' ends.
 #[derive(Drop)]
-struct RunTasks<'a, N: BookName, Rd, W> {
+struct RunTasks<'a, N: BookName + LogName, Rd, W: Write> {
     tasks: Vec<WorkerTask<'a, N, W>>,
-    reader_tasks: Vec<ReaderTask<'a, Rd, W>>,
+    reader_tasks: Vec<ReaderTask<'a, N, Rd, W>>,
     done_buffer: Vec<WorkerEnd<N>>,
 }
 
 /// Gives all workers and readers their places. Each worker gets its share, its messages and all memory
 /// that its call begins with.
-fn make_tasks<'a, N: BookName, Rd: Drop, W: Drop>(
+fn make_tasks<'a, N: BookName + LogName, Rd: Drop, W: Write + Drop>(
     alloc: Global,
     job: Job<N>,
-    shared_binds: &'a [SharedBind<W>],
+    shared_binds: &'a [SharedBind<N, W>],
     bind_parts: Vec<BindParts<Rd>>,
     workers: usize,
     rules: &Rules,
@@ -123,10 +149,12 @@ fn make_tasks<'a, N: BookName, Rd: Drop, W: Drop>(
     requires bind_parts { AllZip (IsSeated workers) shared_binds.now bind_parts.items }
     requires shares { length job.shares.items ≡ length shared_binds.now * workers }
     requires batches { length job.batches.items ≡ length job.shares.items }
+    requires requests { length job.requests.items ≡ length job.shares.items }
     ensures tasks { IfOk result (AreTasks rules.now workers job shared_binds.now bind_parts.items) }
 {
     let Job {
         shares,
+        requests,
         batches,
         done_buffer,
     } = job;
@@ -134,7 +162,7 @@ fn make_tasks<'a, N: BookName, Rd: Drop, W: Drop>(
         places,
         reader_tasks,
     } = seat_all(alloc, shared_binds, bind_parts, workers)?;
-    let tasks = tasks(alloc, places, shares, batches, rules)?;
+    let tasks = tasks(alloc, places, shares, requests, batches, rules)?;
     Ok(RunTasks {
         tasks,
         reader_tasks,
@@ -145,7 +173,7 @@ fn make_tasks<'a, N: BookName, Rd: Drop, W: Drop>(
 /// Makes what the threads are given. If memory is refused the binds are unbound.
 fn prepare_threads<
     'a,
-    N: BookName,
+    N: BookName + LogName,
     Rd: Drop,
     W: Write + Drop,
     G: Gate,
@@ -155,9 +183,9 @@ fn prepare_threads<
 >(
     context: &RunContext<'_, N, G, K, P, R>,
     job: Job<N>,
-    shared_binds: &'a [SharedBind<W>],
+    shared_binds: &'a [SharedBind<N, W>],
     bind_parts: Vec<BindParts<Rd>>,
-    driver_seats: &mut Vec<DriverSeat>,
+    driver_seats: &mut Vec<DriverSeat<N>>,
     workers: usize,
 ) -> Result<RunTasks<'a, N, Rd, W>, SendFault>
     requires job { IsJob N.book job }
@@ -186,7 +214,10 @@ fn prepare_threads<
 }
 
 /// The output of a run whose threads were let go.
-fn output_of<N: BookName>(returned: Returned<N>, done_buffer: Vec<WorkerEnd<N>>) -> RunOutput<N>
+fn output_of<N: BookName + LogName>(
+    returned: Returned<N>,
+    done_buffer: Vec<WorkerEnd<N>>,
+) -> RunOutput<N>
     requires worked { AllByRecursion (λ r. IsOk r) returned.worker_results.items }
     requires room { IsFree (length returned.worker_results.items) done_buffer }
     ensures done { map (λ d. Ok d) result.done.items ≡ returned.worker_results.items }
@@ -211,7 +242,7 @@ fn output_of<N: BookName>(returned: Returned<N>, done_buffer: Vec<WorkerEnd<N>>)
 fn send_over<
     'x,
     'l: 'x,
-    N: BookName + Send + Sync,
+    N: BookName + LogName + Send + Sync,
     Rd: Read + Send + Drop,
     W: Write + Send + Drop,
     G: Gate + Sync,
@@ -222,9 +253,9 @@ fn send_over<
     context: &'x RunContext<'x, N, G, K, P, R>,
     start: &mut Start<'l>,
     job: Job<N>,
-    shared_binds: &'x [SharedBind<W>],
+    shared_binds: &'x [SharedBind<N, W>],
     bind_parts: Vec<BindParts<Rd>>,
-    mut driver_seats: Vec<DriverSeat>,
+    mut driver_seats: Vec<DriverSeat<N>>,
     workers: usize,
 ) -> Result<RunOutput<N>, SendFault>
     requires job { IsJob N.book job }
@@ -283,7 +314,7 @@ fn send_over<
 /// before the first bind is made before it.
 pub fn run<
     'l,
-    N: BookName + Send + Sync,
+    N: BookName + LogName + Send + Sync,
     D: Dial,
     G: Gate + Sync,
     K: Clock + Sync,
@@ -294,11 +325,12 @@ pub fn run<
     alloc: Global,
     start: &mut Start<'l>,
     blank: Blank,
+    log: BlankLog,
     settings: &RunSettings,
     messages: Vec<Message>,
     devices: &Devices<'_, D, G, K, P>,
 ) -> Result<Sending, SendFault>
-    requires name { blank.book ≡ N.book }
+    requires name { (blank.book ≡ N.book) × (log ≡ N.log) }
     requires count { (0 < blank.book.workers) × (blank.book.workers ≡ settings.now.binds * settings.now.workers) }
     requires bound { (settings.now.binds ≤ 4) × (settings.now.workers < 62) }
     requires accounts { length blank.credits ≡ blank.book.accounts }
@@ -310,41 +342,41 @@ pub fn run<
     ensures refused { IfErr result (IsFaultOfRun (D.refuses devices.now.dial.now) (D.told devices.now.dial.now) settings.now.bind_settings.settings.mode settings.now.binds) }
 {
     let count = messages.len();
-    let workers = settings.workers;
     let Ok((book, till, shares)) = blank.open::<N>(alloc) else {
         return Err(SendFault::OutOfMemory);
     };
-    let prepared = prepare(alloc, messages, shares, settings.binds, workers)?;
+    let Ok(mut log) = log.open::<N>(alloc) else {
+        return Err(SendFault::OutOfMemory);
+    };
+    let prepared = prepare(alloc, &mut log, messages, shares, settings)?;
     let Prepared {
         job,
         rings,
         buffers,
     } = prepared;
-    let bind_settings = &settings.bind_settings;
-    let made = make_binds(rt, alloc, devices.dial, bind_settings, workers, rings)?;
+    let made = make_binds(rt, alloc, devices.dial, &mut log, settings, rings)?;
     let Binds {
         shared_binds,
         bind_parts,
         driver_seats,
     } = made;
-    let context = devices.context(rt, alloc, &book, &settings.rules);
     let output = send_over(
-        &context,
+        &devices.context(rt, alloc, &book, &settings.rules),
         start,
         job,
         shared_binds.as_slice(),
         bind_parts,
         driver_seats,
-        workers,
+        settings.workers,
     )?;
-    let ended = conclude(
+    Ok(conclude(
         book.into_inner(),
         till,
+        log,
         count,
         output,
         shared_binds,
-        workers,
+        settings.workers,
         buffers,
-    );
-    Ok(ended)
+    ))
 }

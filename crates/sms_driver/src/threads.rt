@@ -13,13 +13,13 @@ ghost use Rattle.sms_driver.specs.StartGates.{AreOfOneLatch, IsValueBy, command_
 use crate::Following;
 use crate::start_gate::{StartGate, Started, ThreadResult};
 use rtrb::Producer;
-use sms_bind::{Bound, Line, ReaderEnd, ReaderLeave};
+use sms_bind::{Bound, Line, LogName, ReaderEnd, ReaderLeave};
 use sms_book::BookName;
 use sms_pdu::{Reply, Tap};
 use sms_window::{Window, WindowSeat};
 use sms_worker::{Message, ReadyWorker, Rules, Worker, WorkerEnd};
 use std::alloc::AllocError;
-use std::io::Read;
+use std::io::{Read, Write};
 use std::snapshot::Snapshot;
 use std::thread::{Promise, PromisedHandle, Threads};
 
@@ -29,13 +29,13 @@ pub type WorkerResult<N> = Result<WorkerEnd<N>, (AllocError, Worker<N>, Vec<Mess
 /// A worker waits at this gate. If it is let go, its result is of this assignment, by these rules; if it
 /// leaves, it gives back the assignment itself.
 #[derive(Drop)]
-pub struct WorkerPromise<N: BookName> {
+pub struct WorkerPromise<N: BookName + LogName> {
     pub latch: Snapshot<StartGate>,
     pub assignment: Snapshot<ReadyWorker<N>>,
     pub rules: Snapshot<Rules>,
 }
 
-impl<'s, N: BookName> Promise<ThreadResult<'s, WorkerResult<N>>> for WorkerPromise<N> {
+impl<'s, N: BookName + LogName> Promise<ThreadResult<'s, WorkerResult<N>>> for WorkerPromise<N> {
     ghost use Rattle.sms_driver.specs.StartGates.{IsReleased};
     ghost use Rattle.sms_driver.specs.Worked.{IsHandedBack, IsResultOf};
 
@@ -44,14 +44,14 @@ impl<'s, N: BookName> Promise<ThreadResult<'s, WorkerResult<N>>> for WorkerPromi
 
 /// What a reader's thread is given.
 #[derive(Drop)]
-pub struct ReaderTask<'a, Rd, W> {
+pub struct ReaderTask<'a, N: LogName, Rd, W: Write> {
     pub reader: Tap<Rd>,
     pub bound: Bound,
     pub follow: Following,
     pub producers: Vec<Producer<Reply>>,
     pub seat: WindowSeat,
     pub leave: ReaderLeave,
-    pub line: &'a Line<W>,
+    pub line: &'a Line<N, W>,
     pub window: &'a Window,
 }
 

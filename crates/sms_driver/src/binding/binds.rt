@@ -3,14 +3,15 @@
 use crate::binding::following::Following;
 use crate::ending::unbind_result::UnbindResult;
 use rtrb::{Consumer, Producer};
-use sms_bind::{Bound, Line, ReaderLeave};
+use sms_bind::{Bound, Line, LogName, ReaderLeave, Requests};
 use sms_pdu::{Reply, Tap};
 use sms_window::{Window, WindowSeat};
+use std::io::Write;
 
 /// What the threads of a bind share.
 #[derive(Drop)]
-pub struct SharedBind<W> {
-    pub line: Line<W>,
+pub struct SharedBind<N: LogName, W: Write> {
+    pub line: Line<N, W>,
     pub window: Window,
 }
 
@@ -36,16 +37,18 @@ pub struct BindParts<Rd> {
 
 /// The driver's own seat at a bind, and the result of its unbind.
 #[derive(Drop)]
-pub struct DriverSeat {
+pub struct DriverSeat<N: LogName> {
     pub seat: WindowSeat,
+    /// The requests that the driver gave to the bind's wire: its unbind.
+    pub requests: Requests<N>,
     pub unbind_result: UnbindResult,
 }
 
 /// All binds, each at its place in each list: what its threads share, what they are given, and the
 /// driver's own seat.
 #[derive(Drop)]
-pub struct Binds<Rd, W> {
-    pub shared_binds: Vec<SharedBind<W>>,
+pub struct Binds<N: LogName, Rd, W: Write> {
+    pub shared_binds: Vec<SharedBind<N, W>>,
     pub bind_parts: Vec<BindParts<Rd>>,
-    pub driver_seats: Vec<DriverSeat>,
+    pub driver_seats: Vec<DriverSeat<N>>,
 }

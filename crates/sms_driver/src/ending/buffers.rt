@@ -9,7 +9,7 @@ use rtrb::Consumer;
 use sms_book::{BookName, Shares};
 use sms_pdu::Reply;
 use sms_window::WindowSeat;
-use sms_worker::{ClosedBy, MessageEnd};
+use sms_worker::{ClosedBy, MessageEnd, Reasons};
 use std::alloc::{AllocError, Global};
 use std::collections::VecDeque;
 
@@ -21,6 +21,7 @@ pub(crate) struct Parts<N: BookName> {
     pub seats: Vec<WindowSeat>,
     pub consumers: Vec<Consumer<Reply>>,
     pub causes: Vec<Option<ClosedBy>>,
+    pub reasons: Vec<Reasons>,
 }
 
 impl<N: BookName> Parts<N> {
@@ -34,6 +35,7 @@ impl<N: BookName> Parts<N> {
             seats: Vec::with_capacity(alloc, workers)?,
             consumers: Vec::with_capacity(alloc, workers)?,
             causes: Vec::with_capacity(alloc, workers)?,
+            reasons: Vec::with_capacity(alloc, workers)?,
         })
     }
 }

@@ -34,7 +34,7 @@ fn with_cause(closing: BindClosing, cause: Option<ClosedBy>) -> BindClosing
 {
     match cause {
         None => closing,
-        Some(ClosedBy::Turns) => BindClosing {
+        Some(ClosedBy::Turns(_)) => BindClosing {
             down: closing.down,
             turns_over: true,
         },

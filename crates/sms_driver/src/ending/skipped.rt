@@ -1,14 +1,15 @@
 //! Why an unbind was skipped. Each reason is a value that only the failed step makes, so none is made up.
 
-ghost use Rattle.std.specs.Prelude.{◌≡◌, ◌≢◌, ◌∷◌, [], Err, IfErr, IfOk, IfSome, MatchResult};
+ghost use Rattle.std.specs.Prelude.{◌≡◌, ◌≢◌, ◌++◌, ◌∷◌, [], Err, IfErr, IfOk, IfSome, MatchResult};
+ghost use Rattle.sms_bind.specs.Frames.{IsRequest};
 ghost use Rattle.sms_bind.specs.Wires.{is_broken};
 ghost use Rattle.sms_window.specs.Drawing.{HasDrawn};
-ghost use Rattle.sms_driver.specs.Unbinds.{IsHandedOver, IsWhy, SpellsUnbind, WasDownAt};
+ghost use Rattle.sms_driver.specs.Unbinds.{handed_in, IsHandedOver, IsWhy, SpellsUnbind, WasDownAt};
 ghost use Rattle.sms_driver.specs.declared.ending.skipped.SkipReason.TheVariants.{Down};
 ghost use Rattle.sms_driver.specs.declared.ending.skipped.WasDown.{WasDown};
 
 use crate::ending::unbind_result::UnbindResult;
-use sms_bind::{DownCause, Line, Wire, WireFault};
+use sms_bind::{DownCause, Line, LogName, LoggedWire, Requests, WireFault};
 use sms_core::TOP_NUMBER;
 use sms_pdu::{BodyRef, Frame, PduRef};
 use sms_window::{Window, WindowSeat};
@@ -71,7 +72,7 @@ pub enum SkipReason {
 }
 
 /// Evidence that the line is down, if it is down now.
-pub(crate) fn down_now<W>(line: &Line<W>) -> Option<WasDown>
+pub(crate) fn down_now<N: LogName, W: Write>(line: &Line<N, W>) -> Option<WasDown>
     ensures { IfSome result (WasDownAt line.now.down) }
 {
     match line.down.look() {
@@ -99,6 +100,7 @@ pub(crate) fn number_for(window: &Window, seat: &mut WindowSeat) -> Result<u32, 
 /// The frame of the unbind with this number.
 pub(crate) fn unbind_frame(alloc: Global, number: u32) -> Result<Frame, NoFrame>
     ensures spelled { IfOk result (λ frame. SpellsUnbind number frame) }
+    ensures request { IfOk result IsRequest }
     ensures number { IfErr result (λ no. no.number ≡ number) }
 {
     let pdu = PduRef {
@@ -113,10 +115,17 @@ pub(crate) fn unbind_frame(alloc: Global, number: u32) -> Result<Frame, NoFrame>
 }
 
 /// Hands the frame of the unbind with this number to the wire.
-pub(crate) fn hand_over<W: Write>(wire: &mut Wire<W>, number: u32, frame: Frame) -> UnbindResult
-    ensures { IsHandedOver (is_broken wire.old) number frame result }
+pub(crate) fn hand_over<N: LogName, W: Write>(
+    wire: &mut LoggedWire<N, W>,
+    requests: &mut Requests<N>,
+    number: u32,
+    frame: Frame,
+) -> UnbindResult
+    requires request { IsRequest frame }
+    ensures handed { requests.new ≡ requests.old ++ handed_in result }
+    ensures result { IsHandedOver (is_broken wire.old.wire) number frame result }
 {
-    match wire.send(frame) {
+    match wire.request(requests, frame) {
         Ok(receipt) => UnbindResult::Sent(receipt),
         Err(WireFault::Write(receipt)) => UnbindResult::Failed(receipt),
         Err(WireFault::Broken) => UnbindResult::Skipped(SkipReason::Broken(WireBroken { number })),

@@ -1,13 +1,14 @@
 //! Unbinds the binds, and waits for their ends (SMPP 3.4 4.2).
 
-ghost use Rattle.std.specs.Prelude.{◌≡◌, ◌<◌, Err, IfErr, IfOk, IsOk, OnOk, map, length};
+ghost use Rattle.std.specs.Prelude.{◌≡◌, ◌++◌, ◌<◌, Err, IfErr, IfOk, IsOk, OnOk, map, length};
 ghost use Rattle.std.specs.Bool.{OnFalse, OnTrue};
 ghost use Rattle.std.specs.List.{AllByRecursion};
-ghost use Rattle.sms_driver.specs.Unbinds.{AreDone, Asks, AsksAt, AsksEach, HasAsked, HasTried, IsDone, IsOfMark, IsOneSent, IsSent};
+ghost use Rattle.sms_driver.specs.Unbinds.{handed_in, AreDone, Asks, AsksAt, AsksEach, HasAsked, HasTried, IsDone, IsOfMark, IsOneSent, IsSent};
 
 use crate::binding::binds::{Binds, DriverSeat, SharedBind};
 use crate::ending::skipped::{SkipReason, down_now, hand_over, number_for, unbind_frame};
 use crate::ending::unbind_result::UnbindResult;
+use sms_bind::{LogName, Requests};
 use sms_window::WindowSeat;
 use sms_worker::{Clock, Pause, Rules};
 use std::alloc::Global;
@@ -17,15 +18,17 @@ use std::sync::atomic::Ordering;
 
 /// Writes an unbind. It is skipped if the bind is down, no number can be drawn, memory runs out, or an
 /// earlier write failed.
-fn ask<W: Write, R: Wait>(
+fn ask<N: LogName, W: Write, R: Wait>(
     rt: &R,
     alloc: Global,
-    shared: &SharedBind<W>,
+    shared: &SharedBind<N, W>,
     seat: &mut WindowSeat,
+    requests: &mut Requests<N>,
 ) -> UnbindResult
     requires same_window { seat.old.window ≡ shared.now.window }
     ensures window { seat.new.window ≡ seat.old.window }
     ensures asked { HasAsked seat.old.view result seat.new.view }
+    ensures handed { requests.new ≡ requests.old ++ handed_in result }
     ensures down { IsOfMark shared.now.line.down result }
 {
     if let Some(was) = down_now(&shared.line) {
@@ -36,31 +39,36 @@ fn ask<W: Write, R: Wait>(
         Err(why) => return UnbindResult::Skipped(why),
     };
     match unbind_frame(alloc, number) {
-        Ok(frame) => hand_over(&mut shared.line.wire.lock(rt), number, frame),
+        Ok(frame) => hand_over(&mut shared.line.wire.lock(rt), requests, number, frame),
         Err(no) => UnbindResult::Skipped(SkipReason::OutOfMemory(no)),
     }
 }
 
 /// Writes an unbind, and stores its result.
-fn unbind<W: Write, R: Wait>(
+fn unbind<N: LogName, W: Write, R: Wait>(
     rt: &R,
     alloc: Global,
-    shared: &SharedBind<W>,
-    driver_seat: &mut DriverSeat,
+    shared: &SharedBind<N, W>,
+    driver_seat: &mut DriverSeat<N>,
 )
     requires same_window { driver_seat.old.seat.window ≡ shared.now.window }
     ensures window { driver_seat.new.seat.window ≡ driver_seat.old.seat.window }
     ensures asked { Asks driver_seat.old driver_seat.new }
 {
-    driver_seat.unbind_result = ask(rt, alloc, shared, &mut driver_seat.seat);
+    let DriverSeat {
+        seat,
+        requests,
+        unbind_result,
+    } = driver_seat;
+    *unbind_result = ask(rt, alloc, shared, seat, requests);
 }
 
 /// Writes an unbind to the bind at this place, and stores its result.
-fn unbind_at<W: Write, R: Wait>(
+fn unbind_at<N: LogName, W: Write, R: Wait>(
     rt: &R,
     alloc: Global,
-    shared_binds: &[SharedBind<W>],
-    driver_seats: &mut Vec<DriverSeat>,
+    shared_binds: &[SharedBind<N, W>],
+    driver_seats: &mut Vec<DriverSeat<N>>,
     bind: usize,
 )
     requires exists { bind < length shared_binds.now }
@@ -73,11 +81,11 @@ fn unbind_at<W: Write, R: Wait>(
 }
 
 /// Writes an unbind to each bind.
-pub fn unbind_all<W: Write, R: Wait>(
+pub fn unbind_all<N: LogName, W: Write, R: Wait>(
     rt: &R,
     alloc: Global,
-    shared_binds: &[SharedBind<W>],
-    driver_seats: &mut Vec<DriverSeat>,
+    shared_binds: &[SharedBind<N, W>],
+    driver_seats: &mut Vec<DriverSeat<N>>,
 )
     requires driver_seats { map (λ s. s.seat.window) driver_seats.old.items ≡ map (λ b. b.window) shared_binds.now }
     ensures driver_seats { map (λ s. s.seat.window) driver_seats.new.items ≡ map (λ s. s.seat.window) driver_seats.old.items }
@@ -91,12 +99,12 @@ pub fn unbind_all<W: Write, R: Wait>(
 }
 
 /// The binds, if all were made. If one failed, those that were made are unbound, and the result is its fault.
-pub fn roll_back_if_failed<Rd: Drop, W: Write + Drop, F: Drop, R: Wait>(
+pub fn roll_back_if_failed<N: LogName, Rd: Drop, W: Write + Drop, F: Drop, R: Wait>(
     rt: &R,
     alloc: Global,
-    binds: Binds<Rd, W>,
+    binds: Binds<N, Rd, W>,
     made: Result<(), F>,
-) -> Result<Binds<Rd, W>, F>
+) -> Result<Binds<N, Rd, W>, F>
     requires driver_seats { map (λ s. s.seat.window) binds.driver_seats.items ≡ map (λ b. b.window) binds.shared_binds.items }
     ensures given { IfOk result (λ b. b ≡ binds) }
     ensures all { OnOk result (IsOk made) }
@@ -118,7 +126,7 @@ pub fn roll_back_if_failed<Rd: Drop, W: Write + Drop, F: Drop, R: Wait>(
 }
 
 /// Whether an answer to the unbind may still come: the unbind was written, and the line isn't down.
-fn is_awaited<W>(shared: &SharedBind<W>, driver_seat: &DriverSeat) -> bool
+fn is_awaited<N: LogName, W: Write>(shared: &SharedBind<N, W>, driver_seat: &DriverSeat<N>) -> bool
     ensures sent { OnTrue result (IsSent driver_seat.now.unbind_result) }
     ensures none { OnFalse result (IsDone shared.now driver_seat.now) }
 {
@@ -132,7 +140,10 @@ fn is_awaited<W>(shared: &SharedBind<W>, driver_seat: &DriverSeat) -> bool
 }
 
 /// Whether an answer to one of the unbinds may still come.
-fn is_one_awaited<W>(shared_binds: &[SharedBind<W>], driver_seats: &[DriverSeat]) -> bool
+fn is_one_awaited<N: LogName, W: Write>(
+    shared_binds: &[SharedBind<N, W>],
+    driver_seats: &[DriverSeat<N>],
+) -> bool
     requires length { length driver_seats.now ≡ length shared_binds.now }
     ensures sent { OnTrue result (IsOneSent driver_seats.now) }
     ensures none { OnFalse result (AreDone (length shared_binds.now) shared_binds.now driver_seats.now) }
@@ -146,9 +157,9 @@ fn is_one_awaited<W>(shared_binds: &[SharedBind<W>], driver_seats: &[DriverSeat]
 }
 
 /// Waits until no bind's answer is awaited; for all of them together, at most as long as for one.
-fn wait_until_down<W, K: Clock, P: Pause>(
-    shared_binds: &[SharedBind<W>],
-    driver_seats: &[DriverSeat],
+fn wait_until_down<N: LogName, W: Write, K: Clock, P: Pause>(
+    shared_binds: &[SharedBind<N, W>],
+    driver_seats: &[DriverSeat<N>],
     rules: &Rules,
     clock: &K,
     pause: &P,
@@ -170,18 +181,18 @@ fn wait_until_down<W, K: Clock, P: Pause>(
 }
 
 /// Makes each bind's reader stop at its next read.
-fn stop_all<W>(shared_binds: &[SharedBind<W>]) {
+fn stop_all<N: LogName, W: Write>(shared_binds: &[SharedBind<N, W>]) {
     for shared in shared_binds {
         shared.line.stop.store(true, Ordering::SeqCst);
     }
 }
 
 /// Unbinds all binds, waits once for the ends of their readers, and stops those that still read.
-pub fn unbind_and_wait<W: Write, K: Clock, P: Pause, R: Wait>(
+pub fn unbind_and_wait<N: LogName, W: Write, K: Clock, P: Pause, R: Wait>(
     rt: &R,
     alloc: Global,
-    shared_binds: &[SharedBind<W>],
-    driver_seats: &mut Vec<DriverSeat>,
+    shared_binds: &[SharedBind<N, W>],
+    driver_seats: &mut Vec<DriverSeat<N>>,
     rules: &Rules,
     clock: &K,
     pause: &P,

@@ -11,7 +11,7 @@ use crate::fault::SendFault;
 use crate::start_gate::{Command, StartGate, ThreadResult};
 use crate::threads::{ReaderPromise, ReaderTask};
 use rtrb::Producer;
-use sms_bind::{ReaderCause, ReaderEnd, read_loop};
+use sms_bind::{LogName, ReaderCause, ReaderEnd, read_loop};
 use sms_book::BookName;
 use sms_pdu::{Reply, Tap};
 use sms_window::WindowSeat;
@@ -46,11 +46,11 @@ fn unread(producers: Vec<Producer<Reply>>, seat: WindowSeat) -> ReaderEnd
 
 /// Waits at the gate, and then reads until the bind's end or gives back what it has. The errors of the
 /// input are counted from there on.
-fn listen<'s, Rd: Read, W: Write, R: Wait>(
+fn listen<'s, N: LogName, Rd: Read, W: Write, R: Wait>(
     rt: &R,
     alloc: Global,
     latch: &'s StartGate,
-    reader_task: ReaderTask<Rd, W>,
+    reader_task: ReaderTask<N, Rd, W>,
     rules: &Rules,
 ) -> ThreadResult<'s, ReaderEnd>
 where
@@ -101,6 +101,7 @@ fn start_reader<
     's,
     'l: 's,
     E,
+    N: LogName + Send + Sync + 's,
     Rd: Read + Send + Drop + 's,
     W: Write + Send + 's,
     R: Threads + Wait + Sync,
@@ -109,7 +110,7 @@ fn start_reader<
     rt: &'s R,
     alloc: Global,
     latch: &'l StartGate,
-    reader_task: ReaderTask<'s, Rd, W>,
+    reader_task: ReaderTask<'s, N, Rd, W>,
     rules: &'s Rules,
 ) -> Result<ReaderHandle<'l, Rd>, SendFault>
     requires same_window { reader_task.seat.window ≡ reader_task.window.now }
@@ -140,7 +141,7 @@ pub(crate) fn start_readers<
     's,
     'l: 's,
     E,
-    N: BookName + Send + Sync + 's,
+    N: BookName + LogName + Send + Sync + 's,
     Rd: Read + Send + Drop + 's,
     W: Write + Send + 's,
     G: Gate + Sync,
@@ -151,7 +152,7 @@ pub(crate) fn start_readers<
     scope: &Scope<'s, E>,
     context: &'s RunContext<'s, N, G, K, P, R>,
     latch: &'l StartGate,
-    reader_tasks: Vec<ReaderTask<'s, Rd, W>>,
+    reader_tasks: Vec<ReaderTask<'s, N, Rd, W>>,
     reserved: Result<(), AllocError>,
     handles: &mut Vec<ReaderHandle<'l, Rd>>,
 ) -> Result<(), SendFault>

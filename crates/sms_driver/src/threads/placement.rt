@@ -10,21 +10,23 @@ use crate::binding::binds::WorkerSeat;
 use crate::threads::ReaderTask;
 use crate::threads::task::WorkerPlace;
 use crate::{BindParts, SharedBind};
+use sms_bind::LogName;
 use std::alloc::{AllocError, Global};
 use std::collections::VecDeque;
+use std::io::Write;
 
 /// All workers and readers.
 #[derive(Drop)]
-pub struct Placement<'a, Rd, W> {
-    pub places: Vec<WorkerPlace<'a, W>>,
-    pub reader_tasks: Vec<ReaderTask<'a, Rd, W>>,
+pub struct Placement<'a, N: LogName, Rd, W: Write> {
+    pub places: Vec<WorkerPlace<'a, N, W>>,
+    pub reader_tasks: Vec<ReaderTask<'a, N, Rd, W>>,
 }
 
 // Gives each worker of a bind its place.
-fn seat_workers<'a, W>(
-    shared: &'a SharedBind<W>,
+fn seat_workers<'a, N: LogName, W: Write>(
+    shared: &'a SharedBind<N, W>,
     workers: Vec<WorkerSeat>,
-    places: &mut Vec<WorkerPlace<'a, W>>,
+    places: &mut Vec<WorkerPlace<'a, N, W>>,
 ) -> Result<(), AllocError>
     requires seats { AllByRecursion (λ w. w.seat.window ≡ shared.now.window) workers.items }
     requires same_window { AllByRecursion (λ p. p.seat.window ≡ p.window.now) places.old.items }
@@ -51,12 +53,12 @@ fn seat_workers<'a, W>(
 }
 
 /// Gives all workers and readers their places.
-pub fn seat_all<'a, Rd, W>(
+pub fn seat_all<'a, N: LogName, Rd, W: Write>(
     alloc: Global,
-    shared_binds: &'a [SharedBind<W>],
+    shared_binds: &'a [SharedBind<N, W>],
     bind_parts: Vec<BindParts<Rd>>,
     workers: usize,
-) -> Result<Placement<'a, Rd, W>, AllocError>
+) -> Result<Placement<'a, N, Rd, W>, AllocError>
 where
     Rd: Drop,
     W: Drop,

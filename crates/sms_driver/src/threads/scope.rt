@@ -13,7 +13,7 @@ use crate::threads::task::WorkerTask;
 use crate::threads::working::{WorkerHandle, start_workers};
 use crate::threads::{ReaderTask, WorkerResult, join_all};
 use crate::{DriverSeat, SharedBind, unbind_all, unbind_and_wait};
-use sms_bind::ReaderEnd;
+use sms_bind::{LogName, ReaderEnd};
 use sms_book::BookName;
 use sms_worker::{Clock, Gate, Pause, RunContext};
 use std::alloc::{AllocError, Global};
@@ -23,20 +23,20 @@ use std::thread::{Scope, Threads};
 
 /// What all threads of a sending give back, and the driver's own seats.
 #[derive(Drop)]
-pub struct Returned<N: BookName> {
+pub struct Returned<N: BookName + LogName> {
     pub worker_results: Vec<WorkerResult<N>>,
     pub readers: Vec<ReaderEnd>,
-    pub driver_seats: Vec<DriverSeat>,
+    pub driver_seats: Vec<DriverSeat<N>>,
 }
 
 /// Why nothing was sent; and what the threads that had been started gave back, which is what they were given.
 #[derive(Drop)]
-pub struct StartFailure<N: BookName> {
+pub struct StartFailure<N: BookName + LogName> {
     pub fault: SendFault,
     pub returned: Returned<N>,
 }
 
-impl<N: BookName> From<StartFailure<N>> for SendFault {
+impl<N: BookName + LogName> From<StartFailure<N>> for SendFault {
     ghost use Rattle.std.specs.Prelude.{◌≡◌};
 
     ghost from_gives = { λ failure f. f ≡ failure.fault };
@@ -50,14 +50,14 @@ impl<N: BookName> From<StartFailure<N>> for SendFault {
 
 /// The threads of a sending, and room for what they give back.
 #[derive(Drop)]
-struct Crew<'s, N: BookName, Rd: Read> {
+struct Crew<'s, N: BookName + LogName, Rd: Read> {
     workers: Vec<WorkerHandle<'s, N>>,
     readers: Vec<ReaderHandle<'s, Rd>>,
     worker_results: Vec<WorkerResult<N>>,
     reader_ends: Vec<ReaderEnd>,
 }
 
-impl<'s, N: BookName, Rd: Read> Crew<'s, N, Rd> {
+impl<'s, N: BookName + LogName, Rd: Read> Crew<'s, N, Rd> {
     fn new(alloc: Global) -> Crew<'s, N, Rd>
         ensures { IsNoCrew result }
     {
@@ -99,7 +99,7 @@ pub(crate) fn drive<
     's,
     'l: 's,
     E,
-    N: BookName + Send + Sync + 's,
+    N: BookName + LogName + Send + Sync + 's,
     Rd: Read + Send + Drop + 's,
     W: Write + Send + 's,
     G: Gate + Sync,
@@ -112,9 +112,9 @@ pub(crate) fn drive<
     latch: &'l StartGate,
     trigger: Trigger,
     tasks: Vec<WorkerTask<'s, N, W>>,
-    reader_tasks: Vec<ReaderTask<'s, Rd, W>>,
-    shared_binds: &'s [SharedBind<W>],
-    driver_seats: Vec<DriverSeat>,
+    reader_tasks: Vec<ReaderTask<'s, N, Rd, W>>,
+    shared_binds: &'s [SharedBind<N, W>],
+    driver_seats: Vec<DriverSeat<N>>,
 ) -> ThreadResult<'l, Result<Returned<N>, StartFailure<N>>>
     requires seated { AreSeated context.now.rules.now tasks.items reader_tasks.items driver_seats.items shared_binds.now }
     requires trigger { trigger.latch.value ≡ latch.now }
@@ -154,11 +154,11 @@ pub(crate) fn drive<
 }
 
 /// Unbinds all binds. If their readers read, it waits for their ends, and stops them.
-fn end_binds<N: BookName, W: Write, G: Gate, K: Clock, P: Pause, R: Wait>(
+fn end_binds<N: BookName + LogName, W: Write, G: Gate, K: Clock, P: Pause, R: Wait>(
     context: &RunContext<N, G, K, P, R>,
     command: Command,
-    shared_binds: &[SharedBind<W>],
-    driver_seats: &mut Vec<DriverSeat>,
+    shared_binds: &[SharedBind<N, W>],
+    driver_seats: &mut Vec<DriverSeat<N>>,
 )
     requires driver_seats { map (λ s. s.seat.window) driver_seats.old.items ≡ map (λ b. b.window) shared_binds.now }
     ensures driver_seats { map (λ s. s.seat.window) driver_seats.new.items ≡ map (λ s. s.seat.window) driver_seats.old.items }

@@ -6,41 +6,44 @@ ghost use Rattle.sms_driver.specs.Seated.{placement_at, placement_of, CountFrom}
 ghost use Rattle.sms_driver.specs.Threads.{IsPrepared};
 
 use rtrb::Consumer;
-use sms_bind::Line;
+use sms_bind::{Line, LogName, Requests};
 use sms_book::{BookName, Shares};
 use sms_pdu::Reply;
 use sms_window::{Window, WindowSeat};
 use sms_worker::{Message, ReadyWorker, Rules, Worker};
 use std::alloc::{AllocError, Global};
 use std::collections::VecDeque;
+use std::io::Write;
 
 /// A worker with its messages and all memory that its call begins with, and the bind that it works at.
 #[derive(Drop)]
-pub struct WorkerTask<'a, N: BookName, W> {
+pub struct WorkerTask<'a, N: BookName + LogName, W: Write> {
     pub assignment: ReadyWorker<N>,
-    pub line: &'a Line<W>,
+    pub line: &'a Line<N, W>,
     pub window: &'a Window,
 }
 
 /// A worker's place at a bind.
 #[derive(Drop)]
-pub struct WorkerPlace<'a, W> {
+pub struct WorkerPlace<'a, N: LogName, W: Write> {
     pub seat: WindowSeat,
     pub place: usize,
     pub consumer: Consumer<Reply>,
-    pub line: &'a Line<W>,
+    pub line: &'a Line<N, W>,
     pub window: &'a Window,
 }
 
-fn make_task<'a, N: BookName, W>(
+fn make_task<'a, N: BookName + LogName, W: Write>(
     alloc: Global,
-    place: WorkerPlace<'a, W>,
+    place: WorkerPlace<'a, N, W>,
     index: usize,
     shares: Shares<N>,
+    requests: Requests<N>,
     messages: Vec<Message>,
     rules: &Rules,
 ) -> Result<WorkerTask<'a, N, W>, AllocError>
     ensures shares { IfOk result (λ t. t.assignment.worker.shares ≡ shares) }
+    ensures requests { IfOk result (λ t. t.assignment.worker.requests ≡ requests) }
     ensures messages { IfOk result (λ t. t.assignment.messages ≡ messages.items) }
     ensures index { IfOk result (λ t. t.assignment.worker.index ≡ index) }
     ensures place { IfOk result (λ t. t.assignment.worker.place ≡ place.entry.place) }
@@ -63,6 +66,7 @@ fn make_task<'a, N: BookName, W>(
         seat,
         shares,
         consumer,
+        requests,
     };
     match ReadyWorker::new(alloc, worker, messages, rules) {
         Ok(assignment) => Ok(WorkerTask {
@@ -76,17 +80,20 @@ fn make_task<'a, N: BookName, W>(
 
 /// Each place gets a share and a batch of messages, and all memory that its worker's call by these
 /// rules begins with.
-pub fn tasks<'a, N: BookName, W>(
+pub fn tasks<'a, N: BookName + LogName, W: Write>(
     alloc: Global,
-    places: Vec<WorkerPlace<'a, W>>,
+    places: Vec<WorkerPlace<'a, N, W>>,
     shares: Vec<Shares<N>>,
+    requests: Vec<Requests<N>>,
     batches: Vec<Vec<Message>>,
     rules: &Rules,
 ) -> Result<Vec<WorkerTask<'a, N, W>>, AllocError>
     requires places { length places.items ≡ length shares.items }
+    requires requests { length requests.items ≡ length shares.items }
     requires batches { length batches.items ≡ length shares.items }
     requires same_window { AllByRecursion (λ p. p.seat.window ≡ p.window.now) places.items }
     ensures shares { IfOk result (λ v. map (λ t. t.assignment.worker.shares) v.items ≡ shares.items) }
+    ensures requests { IfOk result (λ v. map (λ t. t.assignment.worker.requests) v.items ≡ requests.items) }
     ensures messages { IfOk result (λ v. map (λ t. t.assignment.messages) v.items ≡ map (λ l. l.items) batches.items) }
     ensures windows { IfOk result (λ v. map (λ t. t.assignment.worker.seat.window) v.items ≡ map (λ p. p.seat.window) places.entry.items) }
     ensures rings { IfOk result (λ v. map (λ t. t.assignment.worker.consumer) v.items ≡ map (λ p. p.consumer) places.entry.items) }
@@ -97,13 +104,18 @@ pub fn tasks<'a, N: BookName, W>(
 {
     let mut tasks = Vec::with_capacity(alloc, shares.len())?;
     let mut places = VecDeque::from(places);
+    let mut requests = VecDeque::from(requests);
     let mut batches = VecDeque::from(batches);
     for share in shares {
-        let (Some(place), Some(messages)) = (places.pop_front(), batches.pop_front()) else {
+        let (Some(place), Some(theirs), Some(messages)) = (
+            places.pop_front(),
+            requests.pop_front(),
+            batches.pop_front(),
+        ) else {
             unreachable!()
         };
         let index = tasks.len();
-        let task = make_task(alloc, place, index, share, messages, rules)?;
+        let task = make_task(alloc, place, index, share, theirs, messages, rules)?;
         tasks.push_reserved(task);
     }
     Ok(tasks)

@@ -11,6 +11,7 @@ use crate::fault::SendFault;
 use crate::start_gate::{Command, StartGate, ThreadResult};
 use crate::threads::task::WorkerTask;
 use crate::threads::{WorkerPromise, WorkerResult};
+use sms_bind::LogName;
 use sms_book::BookName;
 use sms_worker::{Clock, Gate, Pause, RunContext};
 use std::alloc::AllocError;
@@ -23,7 +24,7 @@ use std::thread::{PromisedHandle, Scope, Threads};
 pub type WorkerHandle<'s, N> = PromisedHandle<ThreadResult<'s, WorkerResult<N>>, WorkerPromise<N>>;
 
 /// Waits at the gate, and then does the work or gives all of it back.
-fn work<'s, N: BookName, W: Write, G: Gate, K: Clock, P: Pause, R: Wait>(
+fn work<'s, N: BookName + LogName, W: Write, G: Gate, K: Clock, P: Pause, R: Wait>(
     context: &RunContext<N, G, K, P, R>,
     latch: &'s StartGate,
     task: WorkerTask<N, W>,
@@ -61,7 +62,7 @@ pub(crate) fn start_workers<
     's,
     'l: 's,
     E,
-    N: BookName + Send + Sync + 's,
+    N: BookName + LogName + Send + Sync + 's,
     W: Write + Send + 's,
     G: Gate + Sync,
     K: Clock + Sync,

@@ -1,7 +1,8 @@
-use Rattle.std.proofs.Common.{◌≡◌, ◌+◌, ◌≤◌, map, length, vec_len, vec_capacity}
+use Rattle.std.proofs.Common.{◌≡◌, ◌+◌, ◌*◌, ◌≤◌, [], map, length, vec_len, vec_capacity}
 use Rattle.std.specs.List.{AllByRecursion, AllZip}
 use Rattle.std.specs.Vec.Iter.{into_iter_items}
 use Rattle.sms_driver.specs.BindEnds.{IsSetUp}
+use Rattle.sms_driver.specs.Handed.{HasDealt}
 use Rattle.sms_driver.specs.Reads.{AreOpened}
 use Rattle.sms_driver.specs.Rings.{IsNewPair}
 use Rattle.sms_driver.specs.Seated.{IsSeated}
@@ -17,6 +18,8 @@ invariant-loop-theirs g l = record {
   bind_parts : vec_len l.bind_parts + length (into_iter_items l.theirs-iterator) ≤ vec_capacity l.bind_parts;
   driver_seats : vec_len l.driver_seats + length (into_iter_items l.theirs-iterator) ≤ vec_capacity l.driver_seats;
   windows : map (λ s. s.seat.window) l.driver_seats.items ≡ map (λ b. b.window) l.shared_binds.items;
+  log : HasDealt (2 * l.place) l.initial.log l.log;
+  none : AllByRecursion (λ s. s.requests ≡ []) l.driver_seats.items;
   opened : AreOpened g.D.Reader.Read.remaining l.bind_settings.settings.mode (g.D.Dial.told l.dial) 0 l.bind_parts.items;
   set : AllByRecursion (IsSetUp l.bind_settings) l.bind_parts.items;
   seated : AllZip (IsSeated l.workers) l.shared_binds.items l.bind_parts.items;

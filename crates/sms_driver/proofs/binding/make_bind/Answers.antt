@@ -42,3 +42,15 @@ returns-clause-asked g c = (
   ap (λ (v : View). v.numbers) c.split-seat.ensures.giver ∙ c.in-Ok.ensures.kept.1 ∙ c.in_ok-window.ensures.number,
   rw c.of-asked.ensures c.in_ok-reader.ensures.asked,
 )
+
+pub new_driver_seat-driver_seat-requires : goal.new_driver_seat-driver_seat-requires
+new_driver_seat-driver_seat-requires g c = (let few = c.requires.few in record { few = omega arith })
+
+pub line_over-requires-clause-few : goal.line_over-requires-clause-few
+line_over-requires-clause-few g c = (let few = c.requires.few in let more = c.new_driver_seat-driver_seat.ensures.log.away in omega arith)
+
+pub returns-clause-log : goal.returns-clause-log
+returns-clause-log g c =
+    let seat = c.new_driver_seat-driver_seat.ensures.log in
+    let line = c.in-Ok-line_over.ensures.log in
+    record { away = (let one = seat.away in let other = line.away in omega arith); given = line.given ∙ seat.given; requests = line.requests ∙ seat.requests }

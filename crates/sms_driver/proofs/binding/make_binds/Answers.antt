@@ -1,5 +1,5 @@
 use Rattle.std.proofs.Common.{length, inr}
-use Rattle.sms_driver.proofs.Refusals.{if_given, if_all, if_told}
+use Rattle.sms_driver.proofs.Refusals.{if_given, if_all, if_told, on_ok}
 use Rattle.sms_driver.proofs.Starts.{tells_bind}
 use Rattle.sms_driver.proofs.binding.make_binds.Goals as goal
 
@@ -25,3 +25,6 @@ returns-clause-refused g c =
 pub returns-clause-phase : goal.returns-clause-phase
 returns-clause-phase g c =
     if_told _ _ _ _ c.roll_back_if_failed.ensures.fault c.bind_each-binds.ensures.refused (λ fault h. tells_bind (g.D.Dial.refuses c.args.dial.now) (g.D.Dial.told c.args.dial.now) _ _ fault h.1)
+
+pub returns-clause-log : goal.returns-clause-log
+returns-clause-log g c = (on_ok _ _ _ c.roll_back_if_failed.ensures.all c.bind_each-binds.ensures.log.0, if_given _ _ _ c.roll_back_if_failed.ensures.given c.bind_each-binds.ensures.log.1)

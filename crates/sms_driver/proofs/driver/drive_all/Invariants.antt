@@ -1,4 +1,7 @@
 use Rattle.sms_driver.proofs.driver.drive_all.Given as goal
 
-abbrev pub ghosts-run : goal.ghosts-run
-ghosts-run g a = record { book = a.blank.book }
+abbrev pub ghosts-run-N-BookName : goal.ghosts-run-N-BookName
+ghosts-run-N-BookName g a = record { book = a.blank.book }
+
+abbrev pub ghosts-run-N-LogName : goal.ghosts-run-N-LogName
+ghosts-run-N-LogName g a = record { log = a.log }

@@ -1,5 +1,5 @@
-use Rattle.std.proofs.Common.{◌∙◌, ℕ, List, Option, length, map, ap, sym, subst}
-use Rattle.std.specs.List.{AllZip}
+use Rattle.std.proofs.Common.{◌∙◌, ◌++◌, arith, ℕ, List, Option, length, map, ap, sym, subst}
+use Rattle.std.specs.List.{AllByRecursion, AllZip}
 use Rattle.sms_book.specs.Portions.{row_at}
 use Rattle.sms_book.specs.Shares.{Share, AreAll}
 use Rattle.sms_book.specs.Sums.{IsSumOf}
@@ -17,7 +17,9 @@ use Rattle.sms_bind.specs.declared.ending.ReaderEnd.{ReaderEnd}
 use Rattle.sms_worker.specs.declared.entry.work.WorkerEnd.{WorkerEnd}
 use Rattle.sms_worker.specs.Rests.{HasReceived}
 use Rattle.sms_driver.proofs.Places.{same_length}
+use Rattle.sms_bind.specs.Frames.{requests, AreSame}
 use Rattle.sms_driver.specs.Rings.{flat}
+use Rattle.sms_driver.specs.Unbinds.{handed_in, HasHanded}
 use Rattle.sms_driver.specs.Buffers.{IsFree}
 use Rattle.sms_driver.proofs.Grouping.{zip_length}
 use Rattle.sms_driver.proofs.Drawn.{drew_below, once_as}
@@ -47,6 +49,8 @@ returns-clause-concluded g c =
           subst (λ (n : ℕ). AreBinds n c.args.workers binds) (ap (λ v. length v.items) joined.shared_binds)
           (subst (λ (w : ℕ). AreBinds (length c.join_ends-joined.result.shared_binds.items) w binds) joined.workers closed.binds);
       outcomes = closed.outcomes ∙ joined.outcomes;
+      handed = (let back = apart.log.requests ∙ ap (λ l. l ++ flat (map (λ (d : WorkerEnd g.row.N.Denot). d.requests) c.args.output.done.items)) c.requires.log.1 in subst (AreSame (requests c.settle.result.given)) (closed.log.requests ∙ ap (λ l. l ++ flat (map (λ (b : BindEnd). handed_in b.unbind_result) binds)) back) (subst (λ l. AreSame (requests l) c.close_all-binds.new.log.requests) (sym c.settle.ensures.given) c.settle.ensures.settled));
+      reasons = apart.reasons;
       closings =
           subst (λ (xs : List (Option ClosedBy)). HaveClosings c.args.workers xs closings) apart.causes
           (subst (λ (w : ℕ). HaveClosings w c.take_apart-apart.result.causes.items closings) joined.workers closed.closings);
@@ -66,3 +70,21 @@ pub join_ends-joined-requires-clause-bare : goal.join_ends-joined-requires-claus
 join_ends-joined-requires-clause-bare g c =
     let long = same_length (λ d. d.seat.window) (λ b. b.window) c.args.output.readers.items c.args.shared_binds.items c.requires.output.readers in
     subst (λ (n : ℕ). IsFree n c.args.buffers.ring_ends.readers) (sym long) c.requires.buffers.readers
+
+pub take_apart-apart-requires-clause-away : goal.take_apart-apart-requires-clause-away
+take_apart-apart-requires-clause-away g c = (let all = c.requires.log.0 in omega arith)
+
+pub close_all-binds-requires-clause-away : goal.close_all-binds-requires-clause-away
+close_all-binds-requires-clause-away g c =
+    let all = c.requires.log.0 in
+    let back = c.take_apart-apart.ensures.log.away in
+    let same = ap (λ v. length v.items) c.join_ends-joined.ensures.shared_binds in
+    (omega arith, subst (λ v. AllByRecursion HasHanded v.items) (sym c.join_ends-joined.ensures.driver_seats) c.requires.output.handed)
+
+pub settle-requires : goal.settle-requires
+settle-requires g c =
+    let all = c.requires.log.0 in
+    let back = c.take_apart-apart.ensures.log.away in
+    let same = ap (λ v. length v.items) c.join_ends-joined.ensures.shared_binds in
+    let rest = c.close_all-binds.ensures.log.away in
+    record { all = omega arith }

@@ -7,3 +7,6 @@ make_tasks-made-requires-clause-shares g c = ap length c.requires.job.shares ∙
 
 pub make_tasks-made-requires-clause-batches : goal.make_tasks-made-requires-clause-batches
 make_tasks-made-requires-clause-batches g c = c.requires.job.batches ∙ sym (ap length c.requires.job.shares ∙ length-opening g.N.BookName.book.accounts g.N.BookName.book.workers)
+
+pub make_tasks-made-requires-clause-requests : goal.make_tasks-made-requires-clause-requests
+make_tasks-made-requires-clause-requests g c = c.requires.job.requests ∙ sym (ap length c.requires.job.shares ∙ length-opening g.N.BookName.book.accounts g.N.BookName.book.workers)

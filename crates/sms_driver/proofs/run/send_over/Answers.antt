@@ -1,4 +1,4 @@
-use Rattle.std.proofs.Common.{◌≡◌, List, Vec, length, map, rules, sym, ap, ◌∙◌, subst}
+use Rattle.std.proofs.Common.{◌≡◌, [], List, Vec, length, map, rules, sym, ap, ◌∙◌, subst}
 use Rattle.std.specs.List.{AllByRecursion, AllZip}
 use Rattle.std.specs.declared.alloc.Global.{Global}
 use Rattle.atomic_table.specs.Seated.{TableId}
@@ -18,7 +18,8 @@ use Rattle.sms_driver.specs.Threads.{HaveDriven}
 use Rattle.sms_driver.specs.Unbinds.{AsksEach, HasTried}
 use Rattle.sms_driver.specs.Worked.{IsResultOf, IsWorkOf}
 use Rattle.sms_driver.proofs.Answering.{all_hears}
-use Rattle.sms_driver.proofs.Closings.{all_say}
+use Rattle.sms_driver.proofs.Closings.{all_reasoned, all_say}
+use Rattle.sms_driver.proofs.Handing.{all_handed_on}
 use Rattle.sms_driver.proofs.Numbering.{all_numbers}
 use Rattle.sms_driver.proofs.Grouping.{flat_zip, pairs_kept, seated_pairs, zip_length}
 use Rattle.std.proofs.lemmas.List.{length-map}
@@ -32,7 +33,7 @@ scoped-started-requires g c = record {
   at = λ a.
       let t = c.type_bounds in
       let made = c.in_ok-tasks.ensures.tasks in (
-        record { workers = made.same_window; readers = made.reader_tasks; driver = ap (λ (v : Vec DriverSeat Global). map (λ s. s.seat.window) v.items) c.in_ok-tasks.ensures.driver_seats ∙ c.requires.driver_seats },
+        record { workers = made.same_window; readers = made.reader_tasks; driver = ap (λ (v : Vec (DriverSeat g.row.N.Denot) Global). map (λ s. s.seat.window) v.items) c.in_ok-tasks.ensures.driver_seats ∙ c.requires.driver_seats },
         (search rules, (search sendable, search sendable, search sendable, search sendable, search sendable, search sendable, search sendable, search sendable)),
       );
 }
@@ -59,7 +60,7 @@ returns-in-Ok-clause-output g c =
     -- each worker's end is the work of its assignment
     let works = all_ok (IsWorkOf rules) (λ j e. ⊥) assignments ds (subst (AllZip (IsResultOf rules) assignments) (sym out.done) returned.results) in
     let same_readers : c.output_of.result.readers.items ≡ rs = ap (λ (v : Vec ReaderEnd Global). v.items) out.readers in
-    let same_seats : c.output_of.result.driver_seats.items ≡ c.in-Ok.returned.driver_seats.items = ap (λ (v : Vec DriverSeat Global). v.items) out.driver_seats in
+    let same_seats : c.output_of.result.driver_seats.items ≡ c.in-Ok.returned.driver_seats.items = ap (λ (v : Vec (DriverSeat g.row.N.Denot) Global). v.items) out.driver_seats in
     let read = subst (λ l. AllZip (HasRead rules.turns remaining) l rs) made.readings returned.read in
     record {
       all =
@@ -82,7 +83,9 @@ returns-in-Ok-clause-output g c =
           ∙ made.seat_windows;
       hears = all_hears rules assignments ds works;
       numbers = all_numbers rules assignments ds works;
+      handed = all_handed_on rules assignments ds (subst (AllByRecursion (λ r. r ≡ [])) (sym (map_map assignment (λ (j : ReadyState g.row.N.Denot). j.worker.requests) tasks ∙ made.requests)) c.requires.job.none) works;
       causes = all_say rules assignments ds works;
+      reasons = all_reasoned rules assignments ds works;
       read = subst (λ (l : List ReaderEnd). AllZip (HasRead rules.turns remaining) (map reading_in parts) l) (sym same_readers) read;
       rings =
           let consumers =
@@ -96,11 +99,11 @@ returns-in-Ok-clause-output g c =
           pairs_kept _ _ _ _ (seated_pairs c.args.workers c.args.shared_binds.now parts c.requires.bind_parts)
           (subst (λ (l : List ReaderEnd). AllZip SameProducer (flat (map (λ p. p.producers.items) parts)) (flat (map (λ (d : ReaderEnd). d.producers.items) l))) (sym same_readers) producers) consumers;
       readers = ap (map (λ (d : ReaderEnd). d.seat.window)) same_readers ∙ returned.readers ∙ made.keepers;
-      driver_seats = ap (map (λ (s : DriverSeat). s.seat.window)) same_seats ∙ returned.driver;
+      driver_seats = ap (map (λ (s : DriverSeat g.row.N.Denot). s.seat.window)) same_seats ∙ returned.driver;
       asked =
-          subst (λ (l : List DriverSeat). AsksEach c.args.driver_seats.items l) (sym same_seats)
-          (subst (λ (v : Vec DriverSeat Global). AsksEach v.items c.in-Ok.returned.driver_seats.items) c.in_ok-tasks.ensures.driver_seats returned.asked);
-      tried = subst (λ (l : List DriverSeat). AllByRecursion HasTried l) (sym same_seats) returned.tried;
+          subst (λ (l : List (DriverSeat g.row.N.Denot)). AsksEach c.args.driver_seats.items l) (sym same_seats)
+          (subst (λ (v : Vec (DriverSeat g.row.N.Denot) Global). AsksEach v.items c.in-Ok.returned.driver_seats.items) c.in_ok-tasks.ensures.driver_seats returned.asked);
+      tried = subst (λ (l : List (DriverSeat g.row.N.Denot)). AllByRecursion HasTried l) (sym same_seats) returned.tried;
     }
 
 pub output_of-requires-clause-worked : goal.output_of-requires-clause-worked

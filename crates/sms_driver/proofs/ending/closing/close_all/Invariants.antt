@@ -1,8 +1,9 @@
-use Rattle.std.proofs.Common.{◌≡◌, ◌≤◌, ◌+◌, ◌++◌, List, length, map, vec_len, vec_capacity}
+use Rattle.std.proofs.Common.{◌≡◌, ◌≤◌, ◌+◌, ◌*◌, ◌++◌, List, length, map, vec_len, vec_capacity}
 use Rattle.std.specs.List.{AllByRecursion}
 use Rattle.std.specs.Vec.Iter.{into_iter_items}
 use Rattle.sms_driver.specs.BindEnds.{outcome_of, IsBindEnd}
-use Rattle.sms_driver.specs.Unbinds.{HasTried}
+use Rattle.sms_driver.specs.Rings.{flat}
+use Rattle.sms_driver.specs.Unbinds.{handed_in, HasHanded, HasTried}
 use Rattle.sms_window.specs.declared.outcome.Closed.{Closed}
 use Rattle.sms_driver.specs.Closings.{HaveClosings}
 use Rattle.sms_driver.specs.declared.bind_end.BindClosing.{BindClosing}
@@ -23,6 +24,9 @@ invariant-loop-shared g l = record {
       → AreClosed l.fn.remains.workers (map (λ d. d.seat.view) l.fn.remains.readers.items) (map (λ s. s.seat.view) l.fn.remains.driver_seats.items) (map (λ s. s.view) l.fn.seats.items) (map (λ b. b.window) l.ends.items ++ rest);
   once : AllDrewOnce (length (into_iter_items l.shared-iterator)) l.workers (map (λ s. s.view) l.seats.items) → AllDrewOnce (length l.fn.remains.shared_binds.items) l.fn.remains.workers (map (λ s. s.view) l.fn.seats.items);
   closings : (rest : List BindClosing) → HaveClosings l.workers l.causes.items rest → HaveClosings l.fn.remains.workers l.fn.causes.items (map (λ b. b.closing) l.ends.items ++ rest);
+  away : l.log.away + 2 * length l.fn.remains.shared_binds.items ≡ l.initial.log.away + 2 * length (into_iter_items l.shared-iterator);
+  handed : AllByRecursion HasHanded l.driver_seats.items;
+  requests : l.log.requests ≡ l.initial.log.requests ++ flat (map (λ b. handed_in b.unbind_result) l.ends.items);
   ended : AllByRecursion (IsBindEnd l.workers) l.ends.items;
   room : vec_len l.ends + length (into_iter_items l.shared-iterator) ≤ vec_capacity l.ends;
 }

@@ -1,3 +1,4 @@
+use Rattle.std.proofs.Common.{append-nil, arith, sym, ◌∙◌}
 use Rattle.sms_driver.proofs.Drawn.{joined_first, once_in}
 use Rattle.sms_driver.proofs.ending.closing.close_one.Goals as goal
 
@@ -6,3 +7,6 @@ returns-clause-once g c n = once_in n _ _ _ c.join_workers.ensures.joined.number
 
 pub returns-clause-closed : goal.returns-clause-closed
 returns-clause-closed g c = record { seat = _; joined = joined_first _ _ _ _ _ _ c.join.ensures.joined c.join_workers.ensures.joined; end = c.close.ensures.end }
+
+pub returns-clause-log : goal.returns-clause-log
+returns-clause-log g c = (let some = c.requires.away in let back = c.take_wire.ensures.away in record { away = omega arith; requests = c.take_wire.ensures.requests ∙ sym (append-nil c.args.log.now.requests) })

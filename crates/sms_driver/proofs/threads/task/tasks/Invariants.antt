@@ -9,6 +9,8 @@ abbrev pub invariant-loop-share : goal.invariant-loop-share
 invariant-loop-share g l = record {
   places : length l.places.items ≡ length (into_iter_items l.share-iterator);
   batches : length l.batches.items ≡ length (into_iter_items l.share-iterator);
+  each : length l.requests.items ≡ length (into_iter_items l.share-iterator);
+  requests : map (λ t. t.assignment.worker.requests) l.tasks.items ++ l.requests.items ≡ l.fn.requests.items;
   shares : map (λ t. t.assignment.worker.shares) l.tasks.items ++ into_iter_items l.share-iterator ≡ l.fn.shares.items;
   messages : map (λ t. t.assignment.messages) l.tasks.items ++ map (λ l. l.items) l.batches.items ≡ map (λ l. l.items) l.fn.batches.items;
   windows : map (λ t. t.assignment.worker.seat.window) l.tasks.items ++ map (λ p. p.seat.window) l.places.items ≡ map (λ p. p.seat.window) l.fn.places.items;
