@@ -7,7 +7,8 @@ use Rattle.sms_core.specs.Rows.{Entry, row_of}
 use Rattle.sms_files.specs.Fields.{Record}
 use Rattle.sms_files.proofs.Lists.{take_whole}
 use Rattle.sms_journal.specs.declared.recovery.fault.RecoveryFault.{RecoveryFault}
-use Rattle.sms_journal.specs.declared.recovery.fault.RecoveryFault.TheVariants.{OutOfMemory, Report}
+use Rattle.sms_journal.specs.Faults.{out_of_memory}
+use Rattle.sms_journal.specs.declared.recovery.fault.RecoveryFault.TheVariants.{Report}
 use Rattle.sms_journal.specs.declared.rest.plan.Plan.{Plan}
 use Rattle.sms_journal.specs.declared.rest.stage.Stage.{Stage}
 use Rattle.sms_journal.specs.declared.rest.stage.Stage.TheVariants.{Rows, Start}
@@ -142,7 +143,6 @@ module _ {A : Type 0} (f : A → Record) where
   }
 
 -- the fault of a faulty record
-pub at_fault : (most : ℕ) (plans : List Plan) (openings : List Opening) (rs : List Record) (fault : RecoveryFault) (before : ℕ) → (fault ≡ Report (before + 1)) ⊎ (fault ≡ OutOfMemory)
-    → IsFirstFaulty most plans openings rs (before + 1) → (fault ≡ OutOfMemory) ⊎ ((k : ℕ) × (fault ≡ Report k) × IsFirstFaulty most plans openings rs k)
-at_fault most plans openings rs fault before (inl is) h = inr (before + 1, is, h)
-at_fault most plans openings rs fault before (inr memory) h = inl memory
+pub at_fault : (most : ℕ) (plans : List Plan) (openings : List Opening) (rs : List Record) (fault : RecoveryFault) (before : ℕ) → fault ≡ Report (before + 1)
+    → IsFirstFaulty most plans openings rs (before + 1) → (fault ≡ out_of_memory) ⊎ ((k : ℕ) × (fault ≡ Report k) × IsFirstFaulty most plans openings rs k)
+at_fault most plans openings rs fault before is h = inr (before + 1, is, h)

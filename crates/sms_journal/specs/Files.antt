@@ -4,8 +4,8 @@ use Rattle.sms_files.specs.Inputs.{IsInput, Told, TellsInput}
 use Rattle.sms_files.specs.declared.fault.InputFault.{InputFault}
 use Rattle.sms_files.specs.declared.input.Input.{Input as TheInput}
 use Rattle.sms_journal.specs.declared.recovery.fault.RecoveryFault.{RecoveryFault}
-use Rattle.sms_journal.specs.Faults.{output_failed}
-use Rattle.sms_journal.specs.declared.recovery.fault.RecoveryFault.TheVariants.{Input, OutOfMemory}
+use Rattle.sms_journal.specs.Faults.{out_of_memory, output_failed}
+use Rattle.sms_journal.specs.declared.recovery.fault.RecoveryFault.TheVariants.{Input}
 use Rattle.sms_files.specs.Output.{WritesFront}
 
 -- octets that there may be, where a reader's are known
@@ -22,4 +22,4 @@ IsFaultOfFiles config accounts messages tariff fault = (f : InputFault) × Tells
 
 -- the output failed after part of the text, or memory was refused
 abbrev pub IsCut : List ℕ → Option (List ℕ) → Option (List ℕ) → RecoveryFault → Type 0
-IsCut text old new fault = (fault ≡ OutOfMemory) ⊎ ((fault ≡ output_failed) × WritesFront old new text)
+IsCut text old new fault = (fault ≡ out_of_memory) ⊎ ((fault ≡ output_failed) × WritesFront old new text)

@@ -144,11 +144,11 @@ IsFaultyText digests text (BadRecord place) = IsBadRecord digests text place
 IsFaultyText digests text (OtherFiles file) = IsOfOthers digests text file
 IsFaultyText digests text (BadNote place) = ⊥
 IsFaultyText digests text Overdrawn = ⊥
-IsFaultyText digests text OutOfMemory = ⊤
+IsFaultyText digests text (OutOfMemory refused) = ⊤
 
 abbrev pub AreFaultyLines : List ℕ → JournalError → Type 0
 AreFaultyLines text (BadRecord place) = IsBadLine place text
 AreFaultyLines text (OtherFiles file) = ⊥
 AreFaultyLines text (BadNote place) = ⊥
 AreFaultyLines text Overdrawn = ⊥
-AreFaultyLines text OutOfMemory = ⊤
+AreFaultyLines text (OutOfMemory refused) = ⊤

@@ -25,9 +25,9 @@ use Rattle.sms_journal.specs.Files.{Reads, IsFaultOfFiles}
 use Rattle.sms_files.specs.Report.{report_of, ends_status}
 use Rattle.sms_files.specs.RunRules.{IsRulesOf}
 use Rattle.sms_journal.specs.declared.recovery.fault.RecoveryFault.{RecoveryFault}
-use Rattle.sms_journal.specs.Faults.{output_failed}
+use Rattle.sms_journal.specs.Faults.{out_of_memory, output_failed}
 use Rattle.sms_journal.specs.declared.recovery.fault.RecoveryFault.TheVariants as variants
-use Rattle.sms_journal.specs.declared.recovery.fault.RecoveryFault.TheVariants.{Journal, OtherFiles, Overdrawn, OutOfMemory}
+use Rattle.sms_journal.specs.declared.recovery.fault.RecoveryFault.TheVariants.{Journal, OtherFiles, Overdrawn}
 use Rattle.sms_journal.specs.declared.recovery.recovering.Recovered.{Recovered}
 
 -- a row for each account, over the ends of the messages, and it balances
@@ -52,7 +52,7 @@ pub record Recovers (rules : Rules) (size : RunSize) (openings : List Opening) (
 
 -- the notes are not those of a run: the first that isn't stands in this record, after the header
 abbrev pub IsFaultOfNotes : Rules → RunSize → List Message → List Note → RecoveryFault → Type 0
-IsFaultOfNotes rules size ms notes fault = (fault ≡ OutOfMemory) ⊎ ((k : ℕ) × (fault ≡ Journal (k + 2)) × IsFirstFault rules size ms notes k)
+IsFaultOfNotes rules size ms notes fault = (fault ≡ out_of_memory) ⊎ ((k : ℕ) × (fault ≡ Journal (k + 2)) × IsFirstFault rules size ms notes k)
 
 -- the ends that they say are not covered by the accounts
 pub record IsOverdrawn (rules : Rules) (size : RunSize) (openings : List Opening) (ms : List Message) (notes : List Note) : Type 0 where
@@ -101,7 +101,7 @@ IsTaken trial kind = kind ≡ Trial → trial ≡ true
 -- why the journal's text is refused: its first faulty record is this, or it is of other files, or it is the journal of a trial, which wasn't asked for
 abbrev pub IsFaultOfText : Digests → Bool → List ℕ → RecoveryFault → Type 0
 IsFaultOfText digests trial journal fault =
-    (fault ≡ OutOfMemory)
+    (fault ≡ out_of_memory)
     ⊎ ((k : ℕ) × (fault ≡ Journal k) × IsBadRecord digests journal k)
     ⊎ ((file : RunFile) × (fault ≡ OtherFiles file) × IsOfOthers digests journal file)
     ⊎ ((fault ≡ variants.Trial) × (trial ≡ false) × (notes : List Note) × IsJournalText digests journal Trial notes)

@@ -8,8 +8,9 @@ use Rattle.sms_journal.specs.Plans.{ArePlans}
 use Rattle.sms_journal.specs.Rest.{rest_accounts_of, rest_of}
 use Rattle.sms_journal.specs.Stages.{IsFirstFaulty, IsReport}
 use Rattle.sms_journal.specs.declared.recovery.fault.RecoveryFault.{RecoveryFault}
+use Rattle.sms_journal.specs.Faults.{out_of_memory}
 use Rattle.sms_journal.specs.declared.rest.plan.Plan.{Plan}
-use Rattle.sms_journal.specs.declared.recovery.fault.RecoveryFault.TheVariants.{OutOfMemory, Report}
+use Rattle.sms_journal.specs.declared.recovery.fault.RecoveryFault.TheVariants.{Report}
 
 -- the octets are a report of this input's messages and accounts
 abbrev pub IsReportOf : TheInput → List ℕ → Type 0
@@ -18,7 +19,7 @@ IsReportOf input report = (plans : List Plan) × ArePlans input plans × IsRepor
 -- they aren't: this record is the first that is faulty or missing
 abbrev pub IsFaultOfReport : TheInput → List ℕ → RecoveryFault → Type 0
 IsFaultOfReport input report fault =
-    (fault ≡ OutOfMemory)
+    (fault ≡ out_of_memory)
     ⊎ ((plans : List Plan) × (k : ℕ) × ArePlans input plans × (fault ≡ Report k) × IsFirstFaulty input.config.retry.policy.attempts plans input.openings.items (records_of report) k)
 
 -- the files were read

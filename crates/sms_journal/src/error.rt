@@ -1,7 +1,7 @@
 //! What can be wrong with a journal.
 
 use crate::text::RunFile;
-use std::alloc::{AllocError, AllocFailed};
+use sms_files::memory::NoMemory;
 use thiserror::Error;
 
 /// Why a journal can't be used.
@@ -21,27 +21,16 @@ pub enum JournalError {
     Overdrawn,
     /// Memory was refused.
     #[error("out of memory")]
-    OutOfMemory,
+    OutOfMemory(NoMemory),
 }
 
-impl From<AllocError> for JournalError {
+impl From<NoMemory> for JournalError {
     ghost use Rattle.std.specs.Prelude.{◌≡◌};
     ghost use Rattle.sms_journal.specs.declared.error.JournalError.TheVariants.{OutOfMemory};
 
-    ghost from_gives = { λ _ f. f ≡ OutOfMemory };
+    ghost from_gives = { λ refused f. f ≡ OutOfMemory refused };
 
-    fn from(_e: AllocError) -> JournalError {
-        JournalError::OutOfMemory
-    }
-}
-
-impl<T: Drop> From<AllocFailed<T>> for JournalError {
-    ghost use Rattle.std.specs.Prelude.{◌≡◌};
-    ghost use Rattle.sms_journal.specs.declared.error.JournalError.TheVariants.{OutOfMemory};
-
-    ghost from_gives = { λ _ f. f ≡ OutOfMemory };
-
-    fn from(_e: AllocFailed<T>) -> JournalError {
-        JournalError::OutOfMemory
+    fn from(refused: NoMemory) -> JournalError {
+        JournalError::OutOfMemory(refused)
     }
 }

@@ -272,6 +272,18 @@ fn fault_of(rt: &impl Abort, checked: Result<(), JournalError>) -> Option<usize>
     }
 }
 
+fn ends_of(
+    alloc: Global,
+    messages: &[Message],
+    rules: &Rules,
+    notes: &[Note],
+) -> Result<Vec<MessageEnd<()>>, AllocError> {
+    match recover(alloc, messages, rules, notes) {
+        Ok(ends) => Ok(ends),
+        Err(_refused) => Err(AllocError),
+    }
+}
+
 fn check_case(
     rt: &impl Abort,
     alloc: Global,
@@ -282,7 +294,7 @@ fn check_case(
     let notes = notes_of(alloc, case.rows)?;
     let checked = check_notes(alloc, messages, rules, SIZE, notes.as_slice());
     same(rt, fault_of(rt, checked), case.fault);
-    let ends = recover(alloc, messages, rules, notes.as_slice())?;
+    let ends = ends_of(alloc, messages, rules, notes.as_slice())?;
     same(rt, shown_at(ends.as_slice(), 0), case.first);
     same(rt, shown_at(ends.as_slice(), 1), case.second);
     Ok(())
@@ -338,7 +350,7 @@ fn row_after(
     rows: &[Row],
 ) -> Result<[u64; 4], Fail> {
     let notes = notes_of(alloc, rows)?;
-    let ends = recover(alloc, messages, rules, notes.as_slice())?;
+    let ends = ends_of(alloc, messages, rules, notes.as_slice())?;
     match recovered_rows(alloc, openings, messages, ends.as_slice()) {
         Ok(rows) => match rows.as_slice() {
             [row] => Ok([row.free, row.reserved, row.charged, row.returned]),

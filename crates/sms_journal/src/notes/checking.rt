@@ -1,12 +1,13 @@
 //! The check that a run can have written these notes.
 
-ghost use Rattle.std.specs.Prelude.{◌≡◌, ◌↔◌, ℕ, if◌then◌else◌, [], List, Some, None, IfOk, IfSome, IsNone, IsErrOf, IsTrue, OnOk, take};
+ghost use Rattle.std.specs.Prelude.{◌≡◌, ◌↔◌, ℕ, if◌then◌else◌, [], List, Some, None, IfErr, IfOk, IfSome, IsNone, IsErrOf, IsTrue, OnOk, take};
 ghost use Rattle.sms_message.specs.declared.message.Message.{Message as TheMessage};
 ghost use Rattle.sms_message.specs.declared.rules.Rules.{Rules as TheRules};
 ghost use Rattle.sms_journal.specs.declared.notes.note.Note.{Note as TheNote};
 ghost use Rattle.sms_journal.specs.declared.notes.run_size.RunSize.{RunSize as TheRunSize};
 ghost use Rattle.sms_journal.specs.Lawful.{Follows, HasParts, HasRefusal, HasTurn, IsFirstFault, IsJournal, MayEnd, MayFollow, MaySend};
 ghost use Rattle.sms_journal.specs.Seen.{ArePlaces, IsCountFor, IsKept, Sees};
+ghost use Rattle.sms_journal.specs.Faults.{IsOfNotes};
 ghost use Rattle.sms_journal.specs.declared.error.JournalError.TheVariants.{BadNote};
 
 use crate::error::JournalError;
@@ -19,8 +20,9 @@ use crate::notes::seen::{
 };
 use crate::notes::verdict::{has_refusal, parts_of, places_of};
 use sms_core::{TOP_NUMBER, is_retry};
+use sms_files::memory::NoMemory;
 use sms_message::{Message, MessageRefusal, Rules};
-use std::alloc::{AllocError, Global};
+use std::alloc::Global;
 use std::collections::HashMap;
 
 impl Seen {
@@ -161,7 +163,7 @@ fn may_begin(
     places: &HashMap<u64, usize>,
     seen: &Seen,
     index: u64,
-) -> Result<Option<usize>, AllocError>
+) -> Result<Option<usize>, NoMemory>
     requires { ArePlaces messages.now places.now }
     ensures turn { IfOk result (λ found. IfSome found (λ count. (notes : List TheNote) → Sees rules.now size messages.now notes seen.now → HasTurn size notes index)) }
     ensures count { IfOk result (λ found. IfSome found (HasParts rules.now size messages.now index)) }
@@ -186,7 +188,7 @@ fn may_refuse(
     seen: &Seen,
     index: u64,
     refusal: MessageRefusal,
-) -> Result<bool, AllocError>
+) -> Result<bool, NoMemory>
     requires { ArePlaces messages.now places.now }
     ensures { IfOk result (λ may. (notes : List TheNote) → Sees rules.now size messages.now notes seen.now → IsTrue may ↔ (HasTurn size notes index × HasRefusal rules.now size messages.now index refusal)) }
 {
@@ -214,7 +216,7 @@ fn follows(
     before: &[Note],
     seen: &Seen,
     note: &Note,
-) -> Result<Option<usize>, AllocError>
+) -> Result<Option<usize>, NoMemory>
     requires places { ArePlaces messages.now places.now }
     requires sees { Sees rules.now size messages.now before.now seen.now }
     ensures follows { IfOk result (λ found. IfSome found (λ count. Follows rules.now size messages.now before.now note.now)) }
@@ -254,7 +256,7 @@ fn admitted(
     before: &[Note],
     seen: &Seen,
     note: &Note,
-) -> Result<Option<usize>, AllocError>
+) -> Result<Option<usize>, NoMemory>
     requires places { ArePlaces messages.now places.now }
     requires sees { Sees rules.now size messages.now before.now seen.now }
     ensures admitted { IfOk result (λ found. IfSome found (λ count. MayFollow rules.now size messages.now before.now note.now)) }
@@ -274,7 +276,7 @@ fn keep(
     size: RunSize,
     note: &Note,
     count: usize,
-) -> Result<(), AllocError>
+) -> Result<(), NoMemory>
     ensures { OnOk result (IsKept rules.now size note.now count seen.old seen.new) }
 {
     keep_start(&mut seen.starts, note)?;
@@ -315,6 +317,7 @@ pub fn check_notes(
 ) -> Result<(), JournalError>
     ensures lawful { OnOk result (IsJournal rules.now size messages.now notes.now) }
     ensures faulty { (k : ℕ) → IsErrOf result (BadNote k) → IsFirstFault rules.now size messages.now notes.now k }
+    ensures kinds { IfErr result IsOfNotes }
 {
     let places = places_of(alloc, messages)?;
     let mut seen = nothing_seen(alloc);

@@ -12,9 +12,10 @@ ghost use Rattle.sms_journal.specs.Seen.{Sees};
 use crate::notes::ends::recover;
 use crate::notes::note::Note;
 use crate::notes::seen::Seen;
+use sms_files::memory::NoMemory;
 use sms_files::{are_whole, exit_status_of};
 use sms_message::{Message, MessageEnd, Rules};
-use std::alloc::{AllocError, Global};
+use std::alloc::Global;
 
 /// The exit status of a strict run in which no part is unanswered and a message was not sent whole.
 const NOT_WHOLE: u8 = 5;
@@ -51,7 +52,7 @@ pub(crate) fn may_end(
     before: &[Note],
     seen: &Seen,
     status: u8,
-) -> Result<bool, AllocError>
+) -> Result<bool, NoMemory>
     ensures { (size : TheRunSize) → Sees rules.now size messages.now before.now seen.now → IfOk result (λ may. IsTrue may ↔ MayEnd rules.now messages.now before.now status) }
 {
     if !all_started(seen, messages) {

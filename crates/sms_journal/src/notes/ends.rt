@@ -15,12 +15,13 @@ use crate::notes::fates::{fate, fates};
 use crate::notes::grouping::{groups, notes_of_message};
 use crate::notes::note::Note;
 use sms_core::is_charge;
+use sms_files::memory::{self, NoMemory};
 use sms_message::{
     Attempt, Attempts, Message, MessageEnd, MessageRefusal, MessageResult, Outcome, Rules,
-    SegmentEnd, Segments, part_cost, part_count,
+    SegmentEnd, Segments, part_cost,
 };
 use sms_pdu::Reply;
-use std::alloc::{AllocError, Global};
+use std::alloc::Global;
 use std::collections::HashMap;
 
 /// What the end of a message is recovered from.
@@ -117,7 +118,7 @@ fn attempt_in(
 }
 
 /// The attempts for a part, in the order of its message's notes.
-fn attempts(alloc: Global, evidence: &Evidence, part: usize) -> Result<Vec<Attempt<()>>, AllocError>
+fn attempts(alloc: Global, evidence: &Evidence, part: usize) -> Result<Vec<Attempt<()>>, NoMemory>
     requires { AreSorted evidence.now.notes.now evidence.now.fates.now evidence.now.own.now evidence.now.message.now.index }
     ensures { IfOk result (λ attempts. attempts.items ≡ attempts_of evidence.now.notes.now evidence.now.message.now.index part) }
 {
@@ -126,7 +127,7 @@ fn attempts(alloc: Global, evidence: &Evidence, part: usize) -> Result<Vec<Attem
     let mut attempts = Vec::new(alloc);
     for note in evidence.own {
         if let Some(attempt) = attempt_in(notes, fates, message, part, note) {
-            attempts.push(attempt)?;
+            memory::push(&mut attempts, attempt)?;
         }
     }
     Ok(attempts)
@@ -152,11 +153,7 @@ fn outcome(attempts: &[Attempt<()>]) -> Outcome
 }
 
 /// The end of the part with this number, from 1.
-fn segment_end(
-    alloc: Global,
-    evidence: &Evidence,
-    part: usize,
-) -> Result<SegmentEnd<()>, AllocError>
+fn segment_end(alloc: Global, evidence: &Evidence, part: usize) -> Result<SegmentEnd<()>, NoMemory>
     requires { AreSorted evidence.now.notes.now evidence.now.fates.now evidence.now.own.now evidence.now.message.now.index }
     ensures { IfOk result (λ s. IsRecoveredSegment evidence.now.rules.now evidence.now.notes.now evidence.now.message.now part s) }
 {
@@ -176,14 +173,14 @@ fn segment_ends(
     alloc: Global,
     evidence: &Evidence,
     count: u8,
-) -> Result<Vec<SegmentEnd<()>>, AllocError>
+) -> Result<Vec<SegmentEnd<()>>, NoMemory>
     requires { AreSorted evidence.now.notes.now evidence.now.fates.now evidence.now.own.now evidence.now.message.now.index }
     ensures count { IfOk result (λ parts. length parts.items ≡ count) }
     ensures each { IfOk result (λ parts. (p : ℕ) (s : TheSegmentEnd (Unit {0})) → slice_get parts.items p ≡ Some s → IsRecoveredSegment evidence.now.rules.now evidence.now.notes.now evidence.now.message.now (p + 1) s) }
 {
     let mut parts = Vec::new(alloc);
     for place in 0..usize::from(count) {
-        parts.push(segment_end(alloc, evidence, place + 1)?)?;
+        memory::push(&mut parts, segment_end(alloc, evidence, place + 1)?)?;
     }
     Ok(parts)
 }
@@ -193,7 +190,7 @@ fn begun_result(
     alloc: Global,
     evidence: &Evidence,
     count: u8,
-) -> Result<MessageResult<()>, AllocError>
+) -> Result<MessageResult<()>, NoMemory>
     requires sorted { AreSorted evidence.now.notes.now evidence.now.fates.now evidence.now.own.now evidence.now.message.now.index }
     requires begun { start_of evidence.now.notes.now evidence.now.message.now.index ≡ Some None }
     requires short { IsShort evidence.now.rules.now evidence.now.message.now }
@@ -205,7 +202,7 @@ fn begun_result(
 }
 
 /// The result of a message. One that no note begins was not sent when the last connection dropped.
-fn message_result(alloc: Global, evidence: &Evidence) -> Result<MessageResult<()>, AllocError>
+fn message_result(alloc: Global, evidence: &Evidence) -> Result<MessageResult<()>, NoMemory>
     requires { AreSorted evidence.now.notes.now evidence.now.fates.now evidence.now.own.now evidence.now.message.now.index }
     ensures { IfOk result (λ r. IsRecoveredResult evidence.now.rules.now evidence.now.notes.now evidence.now.message.now r) }
 {
@@ -213,7 +210,7 @@ fn message_result(alloc: Global, evidence: &Evidence) -> Result<MessageResult<()
     match message_start(evidence.notes, evidence.own, message.index) {
         None => Ok(MessageResult::Refused(MessageRefusal::BindClosed)),
         Some(Some(refusal)) => Ok(MessageResult::Refused(refusal)),
-        Some(None) => match part_count(alloc, evidence.rules.long_reference, message)? {
+        Some(None) => match memory::count_parts(alloc, evidence.rules.long_reference, message)? {
             Some(count) => begun_result(alloc, evidence, count),
             None => Ok(MessageResult::Refused(MessageRefusal::TooLong)),
         },
@@ -221,7 +218,7 @@ fn message_result(alloc: Global, evidence: &Evidence) -> Result<MessageResult<()
 }
 
 /// The end of a message.
-fn message_end(alloc: Global, evidence: &Evidence) -> Result<MessageEnd<()>, AllocError>
+fn message_end(alloc: Global, evidence: &Evidence) -> Result<MessageEnd<()>, NoMemory>
     requires { AreSorted evidence.now.notes.now evidence.now.fates.now evidence.now.own.now evidence.now.message.now.index }
     ensures { IfOk result (λ e. IsRecoveredEnd evidence.now.rules.now evidence.now.notes.now evidence.now.message.now e) }
 {
@@ -240,7 +237,7 @@ pub fn recover(
     messages: &[Message],
     rules: &Rules,
     notes: &[Note],
-) -> Result<Vec<MessageEnd<()>>, AllocError>
+) -> Result<Vec<MessageEnd<()>>, NoMemory>
     ensures { IfOk result (λ ends. AllZip (IsRecoveredEnd rules.now notes.now) messages.now ends.items) }
 {
     let fates = fates(alloc, notes)?;
@@ -254,7 +251,7 @@ pub fn recover(
             own: notes_of_message(notes, &groups, message.index),
             message,
         };
-        ends.push(message_end(alloc, &evidence)?)?;
+        memory::push(&mut ends, message_end(alloc, &evidence)?)?;
     }
     Ok(ends)
 }

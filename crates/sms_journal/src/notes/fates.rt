@@ -7,8 +7,9 @@ ghost use Rattle.sms_journal.specs.Recovered.{or_else, fate_in, fate_of};
 ghost use Rattle.sms_journal.specs.Index.{AreFates};
 
 use crate::notes::note::Note;
+use sms_files::memory::{self, NoMemory};
 use sms_pdu::Reply;
-use std::alloc::{AllocError, Global};
+use std::alloc::Global;
 use std::collections::HashMap;
 
 /// The key of a request.
@@ -24,11 +25,11 @@ fn keep(
     fates: &mut HashMap<u64, Option<Reply>>,
     key: u64,
     fate: Option<Reply>,
-) -> Result<(), AllocError>
+) -> Result<(), NoMemory>
     ensures { OnOk result ((q : ℕ) → get nat_eq fates.new q ≡ or_else (get nat_eq fates.old q) (if key == q then Some fate else None)) }
 {
     if !fates.contains_key(&key) {
-        fates.insert(key, fate)?;
+        memory::insert(fates, key, fate)?;
     }
     Ok(())
 }
@@ -37,7 +38,7 @@ fn keep(
 pub(crate) fn keep_fate(
     fates: &mut HashMap<u64, Option<Reply>>,
     note: &Note,
-) -> Result<(), AllocError>
+) -> Result<(), NoMemory>
     ensures { OnOk result ((worker number : ℕ) → number < 4294967296 → get nat_eq fates.new (worker * 4294967296 + number) ≡ or_else (get nat_eq fates.old (worker * 4294967296 + number)) (fate_in worker number note.now)) }
 {
     match *note {
@@ -48,10 +49,7 @@ pub(crate) fn keep_fate(
 }
 
 /// The fates that notes say, by the keys of their requests.
-pub(crate) fn fates(
-    alloc: Global,
-    notes: &[Note],
-) -> Result<HashMap<u64, Option<Reply>>, AllocError>
+pub(crate) fn fates(alloc: Global, notes: &[Note]) -> Result<HashMap<u64, Option<Reply>>, NoMemory>
     ensures { IfOk result (λ fates. AreFates notes.now fates) }
 {
     let mut fates = HashMap::new(alloc);

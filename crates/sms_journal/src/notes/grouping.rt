@@ -7,7 +7,8 @@ ghost use Rattle.sms_journal.specs.Index.{notes_about};
 ghost use Rattle.sms_journal.specs.Recovered.{note_about};
 
 use crate::notes::note::Note;
-use std::alloc::{AllocError, Global};
+use sms_files::memory::{self, NoMemory};
+use std::alloc::Global;
 use std::collections::HashMap;
 use std::marker::Model;
 
@@ -30,19 +31,19 @@ impl MessageNotes {
     ghost use Rattle.std.specs.Prelude.{◌≡◌, [], ◌∷◌, ◌++◌, IfOk, OnOk};
 
     /// One note.
-    fn one(alloc: Global, note: Note) -> Result<MessageNotes, AllocError>
+    fn one(alloc: Global, note: Note) -> Result<MessageNotes, NoMemory>
         ensures { IfOk result (λ message_notes. message_notes ≡ note ∷ []) }
     {
         let mut items = Vec::new(alloc);
-        items.push(note)?;
+        memory::push(&mut items, note)?;
         Ok(MessageNotes { items })
     }
 
     /// One more.
-    fn push(&mut self, note: Note) -> Result<(), AllocError>
+    fn push(&mut self, note: Note) -> Result<(), NoMemory>
         ensures { OnOk result (self.new ≡ self.old ++ note ∷ []) }
     {
-        self.items.push(note)?;
+        memory::push(&mut self.items, note)?;
         Ok(())
     }
 
@@ -60,13 +61,13 @@ fn add(
     groups: &mut HashMap<u64, MessageNotes>,
     index: u64,
     note: Note,
-) -> Result<(), AllocError>
+) -> Result<(), NoMemory>
     ensures { OnOk result ((q : ℕ) → unwrap_or (get nat_eq groups.new q) [] ≡ unwrap_or (get nat_eq groups.old q) [] ++ (if index == q then note ∷ [] else [])) }
 {
     match groups.get_mut(&index) {
         Some(message_notes) => message_notes.push(note),
         None => {
-            groups.insert(index, MessageNotes::one(alloc, note)?)?;
+            memory::insert(groups, index, MessageNotes::one(alloc, note)?)?;
             Ok(())
         }
     }
@@ -77,7 +78,7 @@ fn add_note(
     alloc: Global,
     groups: &mut HashMap<u64, MessageNotes>,
     note: &Note,
-) -> Result<(), AllocError>
+) -> Result<(), NoMemory>
     ensures { OnOk result ((q : ℕ) → unwrap_or (get nat_eq groups.new q) [] ≡ unwrap_or (get nat_eq groups.old q) [] ++ note_about q note.now) }
 {
     match *note {
@@ -89,10 +90,7 @@ fn add_note(
 }
 
 /// The notes of each message, by its index.
-pub(crate) fn groups(
-    alloc: Global,
-    notes: &[Note],
-) -> Result<HashMap<u64, MessageNotes>, AllocError>
+pub(crate) fn groups(alloc: Global, notes: &[Note]) -> Result<HashMap<u64, MessageNotes>, NoMemory>
     ensures { IfOk result (λ groups. (q : ℕ) → unwrap_or (get nat_eq groups q) [] ≡ flat_map (note_about q) notes.now) }
 {
     let mut groups = HashMap::new(alloc);

@@ -1,19 +1,21 @@
 //! The statement's rows, by the ends of messages.
 
-ghost use Rattle.std.specs.Prelude.{◌≡◌, ℕ, ◌+◌, ◌≤◌, ◌∷◌, [], Some, IfOk, IfSome, IsErrOf, IsNone, OnOk, OnSome, length, slice_get};
+ghost use Rattle.std.specs.Prelude.{◌≡◌, ℕ, ◌+◌, ◌≤◌, ◌∷◌, [], Some, IfErr, IfOk, IfSome, IsErrOf, IsNone, OnOk, OnSome, length, slice_get};
 ghost use Rattle.sms_core.specs.Rows.{IsBalanced, charged_of, reserved_of, returned_of};
 ghost use Rattle.sms_core.specs.declared.row.Row.{Row as TheRow};
 ghost use Rattle.sms_book.specs.declared.opening.Opening.{Opening as TheOpening};
 ghost use Rattle.sms_message.specs.Ends.{phase_of};
 ghost use Rattle.sms_journal.specs.declared.notes.rows.Sums.{Sums as TheSums};
 ghost use Rattle.sms_journal.specs.Sums.{AreCovered, AreFew, AreSums, Fits, FitsAt, HasAdded, IsGrown, IsSmall, no_sums as nothing, parts_in, recovered_row, row_with};
+ghost use Rattle.sms_journal.specs.Faults.{IsOfSums};
 ghost use Rattle.sms_journal.specs.declared.error.JournalError.TheVariants.{Overdrawn};
 
 use crate::error::JournalError;
 use sms_book::Opening;
 use sms_core::Row;
+use sms_files::memory::{self, NoMemory};
 use sms_message::{Message, MessageEnd, MessageResult, Outcome, SegmentEnd};
-use std::alloc::{AllocError, Global};
+use std::alloc::Global;
 
 /// The credits of an account's parts, by their outcomes.
 #[derive(Clone, Copy, Debug, PartialEq, Eq)]
@@ -107,17 +109,20 @@ fn add_message(sums: &mut Vec<Sums>, account: Option<usize>, ends: &MessageResul
 }
 
 /// The sums of `accounts` accounts before any message.
-fn no_sums(alloc: Global, accounts: usize) -> Result<Vec<Sums>, AllocError>
+fn no_sums(alloc: Global, accounts: usize) -> Result<Vec<Sums>, NoMemory>
     ensures length { IfOk result (λ sums. length sums.items ≡ accounts) }
     ensures each { IfOk result (λ sums. (i : ℕ) (s : TheSums) → slice_get sums.items i ≡ Some s → s ≡ nothing) }
 {
     let mut sums = Vec::new(alloc);
     for _ in 0..accounts {
-        sums.push(Sums {
-            reserved: 0,
-            charged: 0,
-            returned: 0,
-        })?;
+        memory::push(
+            &mut sums,
+            Sums {
+                reserved: 0,
+                charged: 0,
+                returned: 0,
+            },
+        )?;
     }
     Ok(sums)
 }
@@ -132,6 +137,7 @@ fn sums_of(
     ensures length { IfOk result (λ sums. length sums.items ≡ accounts) }
     ensures each { IfOk result (λ sums. (i : ℕ) (s : TheSums) → slice_get sums.items i ≡ Some s → AreSums i messages.now ends.now s) }
     ensures overdrawn { IsErrOf result Overdrawn → ¬ AreFew accounts messages.now ends.now }
+    ensures kinds { IfErr result IsOfSums }
 {
     let mut sums = no_sums(alloc, accounts)?;
     for place in 0..messages.len().min(ends.len()) {
@@ -171,6 +177,7 @@ fn rows_with(alloc: Global, openings: &[Opening], sums: &[Sums]) -> Result<Vec<R
     ensures balanced { IfOk result (λ rows. (i : ℕ) (row : TheRow) → slice_get rows.items i ≡ Some row → IsBalanced row) }
     ensures small { IfOk result (λ rows. (i : ℕ) (row : TheRow) → slice_get rows.items i ≡ Some row → IsSmall row) }
     ensures overdrawn { IsErrOf result Overdrawn → ¬ ((i : ℕ) (o : TheOpening) → slice_get openings.now i ≡ Some o → (s : TheSums) → slice_get sums.now i ≡ Some s → s.reserved + s.charged ≤ o.credits) }
+    ensures kinds { IfErr result IsOfSums }
 {
     let mut rows = Vec::new(alloc);
     for place in 0..openings.len() {
@@ -181,7 +188,7 @@ fn rows_with(alloc: Global, openings: &[Opening], sums: &[Sums]) -> Result<Vec<R
         let Some(row) = row_of(opening.credits, its.reserved, its.charged, its.returned) else {
             return Err(JournalError::Overdrawn);
         };
-        rows.push(row)?;
+        memory::push(&mut rows, row)?;
     }
     Ok(rows)
 }
@@ -199,6 +206,7 @@ pub fn recovered_rows(
     ensures balanced { IfOk result (λ rows. (i : ℕ) (row : TheRow) → slice_get rows.items i ≡ Some row → IsBalanced row) }
     ensures covered { OnOk result (AreCovered openings.now messages.now ends.now) }
     ensures overdrawn { IsErrOf result Overdrawn → ¬ AreCovered openings.now messages.now ends.now }
+    ensures kinds { IfErr result IsOfSums }
 {
     let sums = sums_of(alloc, openings.len(), messages, ends)?;
     let rows = rows_with(alloc, openings, sums.as_slice())?;

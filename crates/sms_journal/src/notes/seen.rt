@@ -9,9 +9,10 @@ ghost use Rattle.sms_journal.specs.Seen.{count_in, latest_in, left_by, tries_in}
 use crate::notes::fates::key;
 use crate::notes::note::{Note, RequestId};
 use crate::notes::run_size::{RunSize, bind_of};
+use sms_files::memory::{self, NoMemory};
 use sms_message::MessageRefusal;
 use sms_pdu::Reply;
-use std::alloc::{AllocError, Global};
+use std::alloc::Global;
 use std::collections::HashMap;
 
 /// The latest request for a part, and how often the part may be sent yet.
@@ -48,11 +49,11 @@ fn keep_first_start(
     starts: &mut HashMap<u64, Option<MessageRefusal>>,
     index: u64,
     start: Option<MessageRefusal>,
-) -> Result<(), AllocError>
+) -> Result<(), NoMemory>
     ensures { OnOk result ((q : ℕ) → get nat_eq starts.new q ≡ or_else (get nat_eq starts.old q) (if index == q then Some start else None)) }
 {
     if !starts.contains_key(&index) {
-        starts.insert(index, start)?;
+        memory::insert(starts, index, start)?;
     }
     Ok(())
 }
@@ -61,7 +62,7 @@ fn keep_first_start(
 pub(crate) fn keep_start(
     starts: &mut HashMap<u64, Option<MessageRefusal>>,
     note: &Note,
-) -> Result<(), AllocError>
+) -> Result<(), NoMemory>
     ensures { OnOk result ((q : ℕ) → get nat_eq starts.new q ≡ or_else (get nat_eq starts.old q) (start_in q note.now)) }
 {
     match *note {
@@ -76,26 +77,26 @@ pub(crate) fn keep_count(
     counts: &mut HashMap<u64, usize>,
     note: &Note,
     count: usize,
-) -> Result<(), AllocError>
+) -> Result<(), NoMemory>
     ensures { OnOk result ((q : ℕ) → get nat_eq counts.new q ≡ count_in count q note.now (get nat_eq counts.old q)) }
 {
     if let Note::Begun(index) = *note {
-        counts.insert(index, count)?;
+        memory::insert(counts, index, count)?;
     }
     Ok(())
 }
 
-fn keep_first_sent(sent: &mut HashMap<u64, Note>, key: u64, note: Note) -> Result<(), AllocError>
+fn keep_first_sent(sent: &mut HashMap<u64, Note>, key: u64, note: Note) -> Result<(), NoMemory>
     ensures { OnOk result ((q : ℕ) → get nat_eq sent.new q ≡ or_else (get nat_eq sent.old q) (if key == q then Some note else None)) }
 {
     if !sent.contains_key(&key) {
-        sent.insert(key, note)?;
+        memory::insert(sent, key, note)?;
     }
     Ok(())
 }
 
 /// Keeps a request.
-pub(crate) fn keep_sent(sent: &mut HashMap<u64, Note>, note: &Note) -> Result<(), AllocError>
+pub(crate) fn keep_sent(sent: &mut HashMap<u64, Note>, note: &Note) -> Result<(), NoMemory>
     ensures { OnOk result ((worker number : ℕ) → number < 4294967296 → get nat_eq sent.new (worker * 4294967296 + number) ≡ or_else (get nat_eq sent.old (worker * 4294967296 + number)) (sent_in worker number note.now)) }
 {
     if let Note::Sent(request, _, _) = *note {
@@ -105,20 +106,20 @@ pub(crate) fn keep_sent(sent: &mut HashMap<u64, Note>, note: &Note) -> Result<()
 }
 
 /// Keeps the number of a worker's latest request.
-pub(crate) fn keep_latest(latest: &mut HashMap<u32, u32>, note: &Note) -> Result<(), AllocError>
+pub(crate) fn keep_latest(latest: &mut HashMap<u32, u32>, note: &Note) -> Result<(), NoMemory>
     ensures { OnOk result ((q : ℕ) → get nat_eq latest.new q ≡ latest_in q note.now (get nat_eq latest.old q)) }
 {
     if let Note::Sent(request, _, _) = *note {
-        latest.insert(request.worker, request.number)?;
+        memory::insert(latest, request.worker, request.number)?;
     }
     Ok(())
 }
 
-fn keep_first_user(users: &mut HashMap<u64, u32>, key: u64, worker: u32) -> Result<(), AllocError>
+fn keep_first_user(users: &mut HashMap<u64, u32>, key: u64, worker: u32) -> Result<(), NoMemory>
     ensures { OnOk result ((q : ℕ) → get nat_eq users.new q ≡ or_else (get nat_eq users.old q) (if key == q then Some worker else None)) }
 {
     if !users.contains_key(&key) {
-        users.insert(key, worker)?;
+        memory::insert(users, key, worker)?;
     }
     Ok(())
 }
@@ -128,7 +129,7 @@ pub(crate) fn keep_user(
     users: &mut HashMap<u64, u32>,
     size: RunSize,
     note: &Note,
-) -> Result<(), AllocError>
+) -> Result<(), NoMemory>
     ensures { OnOk result ((bind number : ℕ) → number < 4294967296 → get nat_eq users.new (bind * 4294967296 + number) ≡ or_else (get nat_eq users.old (bind * 4294967296 + number)) (user_in size bind number note.now)) }
 {
     if let Note::Sent(request, _, _) = *note {
@@ -153,11 +154,11 @@ fn keep_last(
     key: u128,
     attempts: u32,
     last: RequestId,
-) -> Result<(), AllocError>
+) -> Result<(), NoMemory>
     ensures { OnOk result ((q : ℕ) → get nat_eq tries.new q ≡ (if key == q then Some (record { last = last; left = left_by attempts (get nat_eq tries.old key) - 1 }) else get nat_eq tries.old q)) }
 {
     let left = left_of(attempts, tries.get(&key).copied()).saturating_sub(1);
-    tries.insert(key, Tries { last, left })?;
+    memory::insert(tries, key, Tries { last, left })?;
     Ok(())
 }
 
@@ -166,7 +167,7 @@ pub(crate) fn keep_tries(
     tries: &mut HashMap<u128, Tries>,
     attempts: u32,
     note: &Note,
-) -> Result<(), AllocError>
+) -> Result<(), NoMemory>
     ensures { OnOk result ((m p : ℕ) → p < 256 → get nat_eq tries.new (m * 256 + p) ≡ tries_in attempts m p note.now (get nat_eq tries.old (m * 256 + p))) }
 {
     if let Note::Sent(request, index, part) = *note {

@@ -8,16 +8,17 @@ ghost use Rattle.sms_journal.specs.Seen.{ArePlaces};
 ghost use Rattle.sms_journal.specs.Verdicts.{IsVerdict, IsVerdictAt, allows as allowed_by, parts_by as counted_by};
 
 use crate::notes::run_size::RunSize;
-use sms_message::{Message, MessageRefusal, Rules, has_addresses, is_known, part_count};
-use std::alloc::{AllocError, Global};
+use sms_files::memory::{self, NoMemory};
+use sms_message::{Message, MessageRefusal, Rules, has_addresses, is_known};
+use std::alloc::Global;
 use std::collections::HashMap;
 
 /// Keeps the first place of an index.
-fn keep_place(places: &mut HashMap<u64, usize>, index: u64, place: usize) -> Result<(), AllocError>
+fn keep_place(places: &mut HashMap<u64, usize>, index: u64, place: usize) -> Result<(), NoMemory>
     ensures { OnOk result ((q : ℕ) → get nat_eq places.new q ≡ or_else (get nat_eq places.old q) (if index == q then Some place else None)) }
 {
     if !places.contains_key(&index) {
-        places.insert(index, place)?;
+        memory::insert(places, index, place)?;
     }
     Ok(())
 }
@@ -26,7 +27,7 @@ fn keep_place(places: &mut HashMap<u64, usize>, index: u64, place: usize) -> Res
 pub(crate) fn places_of(
     alloc: Global,
     messages: &[Message],
-) -> Result<HashMap<u64, usize>, AllocError>
+) -> Result<HashMap<u64, usize>, NoMemory>
     ensures { IfOk result (λ places. ArePlaces messages.now places) }
 {
     let mut places = HashMap::new(alloc);
@@ -53,7 +54,7 @@ fn verdict_on(
     rules: &Rules,
     accounts: usize,
     message: &Message,
-) -> Result<Verdict, AllocError>
+) -> Result<Verdict, NoMemory>
     ensures { IfOk result (IsVerdict rules.now accounts message.now) }
 {
     if !is_known(message.account, accounts) {
@@ -62,7 +63,7 @@ fn verdict_on(
     if !has_addresses(message) {
         return Ok(Verdict::BadAddress);
     }
-    match part_count(alloc, rules.long_reference, message)? {
+    match memory::count_parts(alloc, rules.long_reference, message)? {
         Some(count) => Ok(Verdict::Parts(usize::from(count))),
         None => Ok(Verdict::TooLong),
     }
@@ -76,7 +77,7 @@ fn verdict_at(
     size: RunSize,
     places: &HashMap<u64, usize>,
     index: u64,
-) -> Result<Option<Verdict>, AllocError>
+) -> Result<Option<Verdict>, NoMemory>
     requires { ArePlaces messages.now places.now }
     ensures { IfOk result (IsVerdictAt rules.now size messages.now index) }
 {
@@ -122,7 +123,7 @@ pub(crate) fn parts_of(
     size: RunSize,
     places: &HashMap<u64, usize>,
     index: u64,
-) -> Result<Option<usize>, AllocError>
+) -> Result<Option<usize>, NoMemory>
     requires { ArePlaces messages.now places.now }
     ensures found { IfOk result (λ found. IfSome found (HasParts rules.now size messages.now index)) }
     ensures none { IfOk result (λ found. IsNone found → (count : ℕ) → HasParts rules.now size messages.now index count → ⊥) }
@@ -140,7 +141,7 @@ pub(crate) fn has_refusal(
     places: &HashMap<u64, usize>,
     index: u64,
     refusal: MessageRefusal,
-) -> Result<bool, AllocError>
+) -> Result<bool, NoMemory>
     requires { ArePlaces messages.now places.now }
     ensures { IfOk result (λ may. IsTrue may ↔ HasRefusal rules.now size messages.now index refusal) }
 {

@@ -1,8 +1,8 @@
 //! Why nothing is recovered.
 
 use crate::text::RunFile;
+use sms_files::memory::NoMemory;
 use sms_files::{InputFault, OutputFault, Unwritten};
-use std::alloc::AllocError;
 
 /// Why there is no report of a journal, or nothing left of a report.
 #[derive(Debug, Drop, thiserror::Error)]
@@ -30,17 +30,17 @@ pub enum RecoveryFault {
     Output(Unwritten),
     /// Memory was refused.
     #[error("out of memory")]
-    OutOfMemory,
+    OutOfMemory(NoMemory),
 }
 
-impl From<AllocError> for RecoveryFault {
+impl From<NoMemory> for RecoveryFault {
     ghost use Rattle.std.specs.Prelude.{◌≡◌};
     ghost use Rattle.sms_journal.specs.declared.recovery.fault.RecoveryFault.TheVariants.{OutOfMemory};
 
-    ghost from_gives = { λ _ f. f ≡ OutOfMemory };
+    ghost from_gives = { λ refused f. f ≡ OutOfMemory refused };
 
-    fn from(_e: AllocError) -> RecoveryFault {
-        RecoveryFault::OutOfMemory
+    fn from(refused: NoMemory) -> RecoveryFault {
+        RecoveryFault::OutOfMemory(refused)
     }
 }
 
@@ -53,7 +53,7 @@ impl From<OutputFault> for RecoveryFault {
     fn from(fault: OutputFault) -> RecoveryFault {
         match fault {
             OutputFault::Output(unwritten) => RecoveryFault::Output(unwritten),
-            OutputFault::OutOfMemory => RecoveryFault::OutOfMemory,
+            OutputFault::OutOfMemory(refused) => RecoveryFault::OutOfMemory(refused),
         }
     }
 }

@@ -1,14 +1,14 @@
 //! The report of a run's notes, printed.
 
-ghost use Rattle.std.specs.Prelude.{◌≡◌, ◌≢◌, ◌⊎◌, ◌+◌, IfErr, IfOk, OnOk};
+ghost use Rattle.std.specs.Prelude.{◌≡◌, ◌≢◌, ◌⊎◌, ◌+◌, ◌<◌, IfErr, IfOk, OnOk, length};
 ghost use Rattle.std.specs.Io.KnownBytes.{Appends};
 ghost use Rattle.sms_journal.specs.Lawful.{IsJournal};
 ghost use Rattle.sms_journal.specs.Sums.{AreCovered};
 ghost use Rattle.sms_journal.specs.Recovering.{AreRecoveredRows, Recovers, IsFaultOfNotes, IsFaultOfRecovery};
 ghost use Rattle.sms_journal.specs.Files.{IsCut};
 ghost use Rattle.sms_files.specs.Report.{report_of, ends_status};
-ghost use Rattle.sms_journal.specs.Faults.{output_failed};
-ghost use Rattle.sms_journal.specs.declared.recovery.fault.RecoveryFault.TheVariants.{Journal, OutOfMemory, Overdrawn};
+ghost use Rattle.sms_journal.specs.Faults.{out_of_memory, output_failed};
+ghost use Rattle.sms_journal.specs.declared.recovery.fault.RecoveryFault.TheVariants.{Journal, Overdrawn};
 
 use crate::error::JournalError;
 use crate::notes::{Note, RunSize, check_notes, recover, recovered_rows};
@@ -21,13 +21,10 @@ use std::alloc::Global;
 use std::io::Write;
 
 /// The fault of the note at this place: its record is counted from 1, and the header is one.
-fn fault_at(place: usize) -> RecoveryFault
-    ensures { (result ≡ Journal (place + 2)) ⊎ (result ≡ OutOfMemory) }
+fn fault_at(notes: &[Note], place: usize) -> RecoveryFault
+    ensures { place < length notes.now → result ≡ Journal (place + 2) }
 {
-    match place.checked_add(2) {
-        Some(record) => RecoveryFault::Journal(record),
-        None => RecoveryFault::OutOfMemory,
-    }
+    RecoveryFault::Journal(place.min(notes.len()) + 2)
 }
 
 /// Checks that a run can have noted this.
@@ -43,8 +40,11 @@ fn checked(
 {
     match check_notes(alloc, messages, rules, size, notes) {
         Ok(()) => Ok(()),
-        Err(JournalError::BadNote(place)) => Err(fault_at(place)),
-        Err(_) => Err(RecoveryFault::OutOfMemory),
+        Err(error) => match error {
+            JournalError::BadNote(place) => Err(fault_at(notes, place)),
+            JournalError::OutOfMemory(refused) => Err(RecoveryFault::OutOfMemory(refused)),
+            _ => unreachable!(),
+        },
     }
 }
 
@@ -56,12 +56,15 @@ fn rows_of(
     ends: &[MessageEnd<()>],
 ) -> Result<Vec<Row>, RecoveryFault>
     ensures rows { IfOk result (λ rows. AreRecoveredRows openings.now messages.now ends.now rows.items) }
-    ensures refused { IfErr result (λ fault. (fault ≡ OutOfMemory) ⊎ ((fault ≡ Overdrawn) × ¬ AreCovered openings.now messages.now ends.now)) }
+    ensures refused { IfErr result (λ fault. (fault ≡ out_of_memory) ⊎ ((fault ≡ Overdrawn) × ¬ AreCovered openings.now messages.now ends.now)) }
 {
     match recovered_rows(alloc, openings, messages, ends) {
         Ok(rows) => Ok(rows),
-        Err(JournalError::Overdrawn) => Err(RecoveryFault::Overdrawn),
-        Err(_) => Err(RecoveryFault::OutOfMemory),
+        Err(error) => match error {
+            JournalError::Overdrawn => Err(RecoveryFault::Overdrawn),
+            JournalError::OutOfMemory(refused) => Err(RecoveryFault::OutOfMemory(refused)),
+            _ => unreachable!(),
+        },
     }
 }
 
@@ -79,8 +82,10 @@ fn print_report<W: Write>(
 {
     match write_rows_report(alloc, openings, ends, rows, output) {
         Ok(()) => Ok(exit_status_of(ends)),
-        Err(OutputFault::Output(unwritten)) => Err(RecoveryFault::Output(unwritten)),
-        Err(OutputFault::OutOfMemory) => Err(RecoveryFault::OutOfMemory),
+        Err(fault) => match fault {
+            OutputFault::Output(unwritten) => Err(RecoveryFault::Output(unwritten)),
+            OutputFault::OutOfMemory(refused) => Err(RecoveryFault::OutOfMemory(refused)),
+        },
     }
 }
 
@@ -102,8 +107,9 @@ pub fn recover_notes<W: Write>(
     if let Err(fault) = checked(alloc, rules, size, messages, notes) {
         return Err(fault);
     }
-    let Ok(ends) = recover(alloc, messages, rules, notes) else {
-        return Err(RecoveryFault::OutOfMemory);
+    let ends = match recover(alloc, messages, rules, notes) {
+        Ok(ends) => ends,
+        Err(refused) => return Err(RecoveryFault::OutOfMemory(refused)),
     };
     let rows = match rows_of(alloc, openings, messages, ends.as_slice()) {
         Ok(rows) => rows,

@@ -46,9 +46,12 @@ fn notes_in(
             }
             Ok(read)
         }
-        Err(JournalError::BadRecord(record)) => Err(RecoveryFault::Journal(record)),
-        Err(JournalError::OtherFiles(file)) => Err(RecoveryFault::OtherFiles(file)),
-        Err(_) => Err(RecoveryFault::OutOfMemory),
+        Err(error) => match error {
+            JournalError::BadRecord(record) => Err(RecoveryFault::Journal(record)),
+            JournalError::OtherFiles(file) => Err(RecoveryFault::OtherFiles(file)),
+            JournalError::OutOfMemory(refused) => Err(RecoveryFault::OutOfMemory(refused)),
+            JournalError::BadNote(_) | JournalError::Overdrawn => unreachable!(),
+        },
     }
 }
 

@@ -8,8 +8,9 @@ ghost use Rattle.sms_journal.specs.Stages.{AreRowsOf, IsAdded, entry_of, grown, 
 
 use sms_book::Opening;
 use sms_core::Row;
+use sms_files::memory::{self, NoMemory};
 use sms_message::Outcome;
-use std::alloc::{AllocError, Global};
+use std::alloc::Global;
 
 /// The row of an account of which no part is known.
 fn opened(opening: &Opening) -> Row
@@ -25,12 +26,12 @@ fn opened(opening: &Opening) -> Row
 }
 
 /// The rows of accounts of which no part is known.
-pub(crate) fn rows_of(alloc: Global, openings: &[Opening]) -> Result<Vec<Row>, AllocError>
+pub(crate) fn rows_of(alloc: Global, openings: &[Opening]) -> Result<Vec<Row>, NoMemory>
     ensures { IfOk result (λ rows. AreRowsOf openings.now [] rows.items) }
 {
     let mut rows = Vec::new(alloc);
     for opening in openings {
-        rows.push(opened(opening))?;
+        memory::push(&mut rows, opened(opening))?;
     }
     Ok(rows)
 }

@@ -6,7 +6,8 @@ ghost use Rattle.sms_journal.specs.Rest.{is_unsent, stays};
 
 use crate::rest::report_line::{is_left, line_of};
 use csv::ByteRecord;
-use std::alloc::{AllocError, Global};
+use sms_files::memory::{self, NoMemory};
+use std::alloc::Global;
 
 /// Takes out the message whose line this is, where the line says that it was sent or can't be.
 fn pass(left: &mut Vec<bool>, record: &ByteRecord)
@@ -25,18 +26,18 @@ fn pass(left: &mut Vec<bool>, record: &ByteRecord)
 }
 
 /// `count` messages, all of them left.
-fn all_left(alloc: Global, count: usize) -> Result<Vec<bool>, AllocError>
+fn all_left(alloc: Global, count: usize) -> Result<Vec<bool>, NoMemory>
     ensures { IfOk result (λ left. (i : ℕ) → i < count → slice_get left.items i ≡ Some true) }
 {
     let mut left = Vec::new(alloc);
     for _ in 0..count {
-        left.push(true)?;
+        memory::push(&mut left, true)?;
     }
     Ok(left)
 }
 
 /// Which of `count` messages are left, by the records of a report.
-pub fn left_by(alloc: Global, count: usize, report: &[ByteRecord]) -> Result<Vec<bool>, AllocError>
+pub fn left_by(alloc: Global, count: usize, report: &[ByteRecord]) -> Result<Vec<bool>, NoMemory>
     ensures { IfOk result (λ left. (i : ℕ) → i < count → slice_get left.items i ≡ Some (is_unsent i (map fields_of report.now))) }
 {
     let mut left = all_left(alloc, count)?;

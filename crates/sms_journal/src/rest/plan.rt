@@ -6,9 +6,10 @@ ghost use Rattle.sms_journal.specs.Plans.{IsPlan, account_of as account_in_book,
 ghost use Rattle.sms_message.specs.Submits.{parts_for};
 
 use sms_book::Tariff;
-use sms_message::{Message, MessageRefusal, has_addresses, part_cost, part_count};
+use sms_files::memory::{self, NoMemory};
+use sms_message::{Message, MessageRefusal, has_addresses, part_cost};
 use sms_segment::laws::the_parts_tell_what_is_too_long;
-use std::alloc::{AllocError, Global};
+use std::alloc::Global;
 
 /// A message as a report speaks of it.
 #[derive(Clone, Copy, Debug, PartialEq, Eq)]
@@ -24,10 +25,10 @@ pub(crate) struct Plan {
 }
 
 /// In how many parts a message is sent; 0 where no header can count them.
-fn count_of(alloc: Global, long: bool, message: &Message) -> Result<u8, AllocError>
+fn count_of(alloc: Global, long: bool, message: &Message) -> Result<u8, NoMemory>
     ensures { IfOk result (λ count. count ≡ countable (length (parts_for long message.now))) }
 {
-    match part_count(alloc, long, message)? {
+    match memory::count_parts(alloc, long, message)? {
         Some(count) => Ok(count),
         None => {
             the_parts_tell_what_is_too_long();
@@ -59,7 +60,7 @@ fn plan_of(
     tariff: &Tariff,
     accounts: usize,
     message: &Message,
-) -> Result<Plan, AllocError>
+) -> Result<Plan, NoMemory>
     ensures { IfOk result (IsPlan long tariff.now accounts message.now) }
 {
     let parts = count_of(alloc, long, message)?;
@@ -78,13 +79,13 @@ pub(crate) fn plans_of(
     tariff: &Tariff,
     accounts: usize,
     messages: &[Message],
-) -> Result<Vec<Plan>, AllocError>
+) -> Result<Vec<Plan>, NoMemory>
     ensures { IfOk result (λ plans. AllZip (IsPlan long tariff.now accounts) messages.now plans.items) }
 {
     let mut plans = Vec::new(alloc);
     for message in messages {
         let plan = plan_of(alloc, long, tariff, accounts, message)?;
-        plans.push(plan)?;
+        memory::push(&mut plans, plan)?;
     }
     Ok(plans)
 }

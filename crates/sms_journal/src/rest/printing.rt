@@ -10,33 +10,33 @@ use crate::rest::left::left_by;
 use crate::rest::report_line::free_of;
 use csv::ByteRecord;
 use sms_book::Opening;
+use sms_files::memory::{self, NoMemory};
 use sms_files::needs_quotes;
-use std::alloc::{AllocError, Global};
-use std::fmt::Write;
+use std::alloc::Global;
 
 /// Adds octets.
-fn push_all(text: &mut Vec<u8>, octets: &[u8]) -> Result<(), AllocError>
+fn push_all(text: &mut Vec<u8>, octets: &[u8]) -> Result<(), NoMemory>
     ensures { OnOk result (text.new.items ≡ text.old.items ++ octets.now) }
 {
-    text.extend_from_slice(octets)
+    memory::append_octets(text, octets)
 }
 
 /// Adds a field with each quote twice.
-fn push_quoted(text: &mut Vec<u8>, field: &[u8]) -> Result<(), AllocError>
+fn push_quoted(text: &mut Vec<u8>, field: &[u8]) -> Result<(), NoMemory>
     ensures { OnOk result (text.new.items ≡ text.old.items ++ quoted field.now) }
 {
     for octet in field {
         if *octet == b'"' {
             push_all(text, b"\"\"")?;
         } else {
-            text.push(*octet)?;
+            memory::push(text, *octet)?;
         }
     }
     Ok(())
 }
 
 /// Adds a field of CSV.
-fn push_field(text: &mut Vec<u8>, field: &[u8]) -> Result<(), AllocError>
+fn push_field(text: &mut Vec<u8>, field: &[u8]) -> Result<(), NoMemory>
     ensures { OnOk result (text.new.items ≡ text.old.items ++ field_text field.now) }
 {
     if !needs_quotes(field) {
@@ -48,7 +48,7 @@ fn push_field(text: &mut Vec<u8>, field: &[u8]) -> Result<(), AllocError>
 }
 
 /// Adds the record's field at a place.
-fn push_field_at(text: &mut Vec<u8>, record: &ByteRecord, place: usize) -> Result<(), AllocError>
+fn push_field_at(text: &mut Vec<u8>, record: &ByteRecord, place: usize) -> Result<(), NoMemory>
     ensures { OnOk result (text.new.items ≡ text.old.items ++ field_text (field_or (fields_of «record».now) place)) }
 {
     match record.get(place) {
@@ -58,7 +58,7 @@ fn push_field_at(text: &mut Vec<u8>, record: &ByteRecord, place: usize) -> Resul
 }
 
 /// Adds a comma and the field after it.
-fn push_next(text: &mut Vec<u8>, record: &ByteRecord, place: usize) -> Result<(), AllocError>
+fn push_next(text: &mut Vec<u8>, record: &ByteRecord, place: usize) -> Result<(), NoMemory>
     ensures { OnOk result (text.new.items ≡ text.old.items ++ next_text (fields_of «record».now) place) }
 {
     push_all(text, b",")?;
@@ -66,7 +66,7 @@ fn push_next(text: &mut Vec<u8>, record: &ByteRecord, place: usize) -> Result<()
 }
 
 /// Adds a message's record.
-fn push_record(text: &mut Vec<u8>, record: &ByteRecord) -> Result<(), AllocError>
+fn push_record(text: &mut Vec<u8>, record: &ByteRecord) -> Result<(), NoMemory>
     ensures { OnOk result (text.new.items ≡ text.old.items ++ record_text (fields_of «record».now)) }
 {
     push_field_at(text, record, 0)?;
@@ -77,7 +77,7 @@ fn push_record(text: &mut Vec<u8>, record: &ByteRecord) -> Result<(), AllocError
 }
 
 /// Adds a message's record where the message is left.
-fn push_left(text: &mut Vec<u8>, left: bool, record: &ByteRecord) -> Result<(), AllocError>
+fn push_left(text: &mut Vec<u8>, left: bool, record: &ByteRecord) -> Result<(), NoMemory>
     ensures { OnOk result (text.new.items ≡ text.old.items ++ left_text left (fields_of «record».now)) }
 {
     if left {
@@ -103,7 +103,7 @@ fn push_all_left(
     text: &mut Vec<u8>,
     report: &[ByteRecord],
     messages: &[ByteRecord],
-) -> Result<(), AllocError>
+) -> Result<(), NoMemory>
     ensures { OnOk result (text.new.items ≡ text.old.items ++ left_texts (map fields_of report.now) 0 (map fields_of messages.now)) }
 {
     let left = left_by(alloc, messages.len(), report)?;
@@ -129,7 +129,7 @@ pub fn rest_text(
     alloc: Global,
     report: &[ByteRecord],
     messages: &[ByteRecord],
-) -> Result<Vec<u8>, AllocError>
+) -> Result<Vec<u8>, NoMemory>
     ensures { IfOk result (λ text. text.items ≡ rest_of (map fields_of report.now) (map fields_of messages.now)) }
 {
     let mut text = Vec::new(alloc);
@@ -139,16 +139,16 @@ pub fn rest_text(
 }
 
 /// Adds a number in decimal digits.
-fn push_number(alloc: Global, text: &mut Vec<u8>, number: u64) -> Result<(), AllocError>
+fn push_number(alloc: Global, text: &mut Vec<u8>, number: u64) -> Result<(), NoMemory>
     ensures { OnOk result (text.new.items ≡ text.old.items ++ decimal number) }
 {
     let mut digits = String::new(alloc);
-    write!(digits, "{number}")?;
+    memory::append_number(&mut digits, "", number)?;
     push_all(text, digits.as_bytes())
 }
 
 /// Adds the free credits of an account's row.
-fn push_free(alloc: Global, text: &mut Vec<u8>, row: &ByteRecord) -> Result<(), AllocError>
+fn push_free(alloc: Global, text: &mut Vec<u8>, row: &ByteRecord) -> Result<(), NoMemory>
     ensures { OnOk result (text.new.items ≡ text.old.items ++ credits_text (amount_in (fields_of «row».now) 2)) }
 {
     match free_of(row) {
@@ -163,7 +163,7 @@ fn push_account(
     text: &mut Vec<u8>,
     opening: &Opening,
     row: &ByteRecord,
-) -> Result<(), AllocError>
+) -> Result<(), NoMemory>
     ensures { OnOk result (text.new.items ≡ text.old.items ++ account_text opening.now (fields_of «row».now)) }
 {
     push_field(text, opening.name.as_bytes())?;
@@ -178,7 +178,7 @@ fn push_accounts(
     text: &mut Vec<u8>,
     openings: &[Opening],
     rows: &[ByteRecord],
-) -> Result<(), AllocError>
+) -> Result<(), NoMemory>
     ensures { OnOk result (text.new.items ≡ text.old.items ++ account_texts openings.now (map fields_of rows.now)) }
 {
     for place in 0..openings.len().min(rows.len()) {
@@ -200,7 +200,7 @@ pub fn accounts_text(
     alloc: Global,
     openings: &[Opening],
     report: &[ByteRecord],
-) -> Result<Vec<u8>, AllocError>
+) -> Result<Vec<u8>, NoMemory>
     ensures { IfOk result (λ text. text.items ≡ rest_accounts_of openings.now (map fields_of report.now)) }
 {
     let mut text = Vec::new(alloc);

@@ -1,12 +1,13 @@
 //! All records of a file of CSV.
 
-ghost use Rattle.std.specs.Prelude.{◌≡◌, IfOk, IfSome, OnOk, map, option_map};
+ghost use Rattle.std.specs.Prelude.{◌≡◌, IfOk, IfSome, map, option_map};
 ghost use Rattle.csv.specs.Records.{fields_of};
 ghost use Rattle.sms_files.specs.Fields.{records_of};
-ghost use Rattle.sms_files.specs.Records.{GivesFirst, ReadsAll, reader_left};
+ghost use Rattle.sms_files.specs.Records.{ReadsAll, reader_left};
 
 use csv::{ByteRecord, Reader, ReaderBuilder};
-use std::alloc::{AllocError, Global};
+use sms_files::memory::{self, NoMemory};
+use std::alloc::Global;
 use std::io::Read;
 
 /// A reader of all records, of whatever lengths, the header among them.
@@ -20,41 +21,28 @@ fn read_all<R: Read>(alloc: Global, input: R) -> Reader<R>
         .from_reader(alloc, input)
 }
 
-/// Reads the next record into `record`, and answers whether there was one. Octets can always be read:
-/// the one error is refused memory.
-fn next_record<R: Read>(reader: &mut Reader<R>, record: &mut ByteRecord) -> Result<bool, AllocError>
-    requires { ReadsAll reader.old }
-    ensures reads { OnOk result (ReadsAll reader.new) }
-    ensures first { IfOk result (λ found. IfSome (reader_left R.remaining reader.old) (λ left.
-        GivesFirst left found (fields_of «record».new) (reader_left R.remaining reader.new))) }
-{
-    let Ok(found) = reader.read_byte_record(record) else {
-        return Err(AllocError);
-    };
-    Ok(found)
-}
-
 /// The records that the reader has left.
 fn records_of_all<R: Read>(
     alloc: Global,
     reader: &mut Reader<R>,
-) -> Result<Vec<ByteRecord>, AllocError>
+) -> Result<Vec<ByteRecord>, NoMemory>
     requires reads { ReadsAll reader.old }
     ensures { IfOk result (λ records. IfSome (reader_left R.remaining reader.old) (λ left. map fields_of records.items ≡ left)) }
 {
     let mut records = Vec::new(alloc);
     for _ in 0..u64::MAX {
         let mut record = ByteRecord::new(alloc);
-        if !next_record(reader, &mut record)? {
+        if !memory::next_of(reader, &mut record)? {
             return Ok(records);
         }
-        records.push(record)?;
+        memory::push(&mut records, record)?;
     }
-    Err(AllocError)
+    // A list can't have as many items as the loop has turns.
+    unreachable!()
 }
 
 /// The records of a file, its header among them.
-pub fn records_in(alloc: Global, file: &[u8]) -> Result<Vec<ByteRecord>, AllocError>
+pub fn records_in(alloc: Global, file: &[u8]) -> Result<Vec<ByteRecord>, NoMemory>
     ensures { IfOk result (λ records. map fields_of records.items ≡ records_of file.now) }
 {
     let mut reader = read_all(alloc, file);

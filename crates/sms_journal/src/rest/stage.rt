@@ -1,11 +1,12 @@
 //! Whether records are a report of a run's messages and accounts.
 
-ghost use Rattle.std.specs.Prelude.{◌≡◌, ◌⊎◌, ℕ, ◌+◌, ◌↔◌, IfErr, IsTrue, List, OnOk, length, map, option_copied, slice_get};
+ghost use Rattle.std.specs.Prelude.{◌≡◌, ◌⊎◌, ℕ, ◌+◌, ◌≤◌, ◌↔◌, IfErr, IsTrue, List, OnOk, length, map, option_copied, slice_get};
 ghost use Rattle.csv.specs.Records.{fields_of};
 ghost use Rattle.sms_core.specs.Rows.{Entry};
 ghost use Rattle.sms_journal.specs.Stages.{AreRowsOf, IsAt, IsFirstFaulty, IsReport, begins as may_begin, count_at as parts_at, ends_lines as it_ends_lines, goes_on as may_go_on, is_whole as are_whole, stands as may_stand, step_by, with_ending, with_line, with_row};
 ghost use Rattle.sms_journal.specs.RecordLines.{line_in};
-ghost use Rattle.sms_journal.specs.declared.recovery.fault.RecoveryFault.TheVariants.{OutOfMemory, Report};
+ghost use Rattle.sms_journal.specs.declared.recovery.fault.RecoveryFault.TheVariants.{Report};
+ghost use Rattle.sms_journal.specs.Faults.{out_of_memory};
 ghost use Rattle.sms_journal.specs.declared.rest.stage.Stage.TheVariants.{Lines, Rows};
 
 use crate::recovery::RecoveryFault;
@@ -201,14 +202,11 @@ fn next_stage(
     }
 }
 
-/// The fault of a record that is faulty or missing after `before` others.
-fn fault_behind(before: usize) -> RecoveryFault
-    ensures { (result ≡ Report (before + 1)) ⊎ (result ≡ OutOfMemory) }
+/// The fault of a record that is faulty or missing after `before` of these.
+fn fault_behind(records: &[ByteRecord], before: usize) -> RecoveryFault
+    ensures { before ≤ length records.now → result ≡ Report (before + 1) }
 {
-    match before.checked_add(1) {
-        Some(record) => RecoveryFault::Report(record),
-        None => RecoveryFault::OutOfMemory,
-    }
+    RecoveryFault::Report(before.min(records.len()) + 1)
 }
 
 /// Whether all rows are there.
@@ -231,19 +229,19 @@ pub(crate) fn check_report(
     records: &[ByteRecord],
 ) -> Result<(), RecoveryFault>
     ensures report { OnOk result (IsReport most plans.now openings.now (map fields_of records.now)) }
-    ensures faulty { IfErr result (λ fault. (fault ≡ OutOfMemory) ⊎ ((k : ℕ) × (fault ≡ Report k) × IsFirstFaulty most plans.now openings.now (map fields_of records.now) k)) }
+    ensures faulty { IfErr result (λ fault. (fault ≡ out_of_memory) ⊎ ((k : ℕ) × (fault ≡ Report k) × IsFirstFaulty most plans.now openings.now (map fields_of records.now) k)) }
 {
     let mut rows = rows_of(alloc, openings)?;
     let mut stage = Stage::Start;
     for place in 0..records.len() {
         match next_stage(most, plans, openings, stage, &mut rows, &records[place]) {
             Some(next) => stage = next,
-            None => return Err(fault_behind(place)),
+            None => return Err(fault_behind(records, place)),
         }
     }
     if is_end(stage, openings) {
         Ok(())
     } else {
-        Err(fault_behind(records.len()))
+        Err(fault_behind(records, records.len()))
     }
 }

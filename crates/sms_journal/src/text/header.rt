@@ -3,7 +3,7 @@
 ghost use Rattle.std.specs.Prelude.{◌≡◌, ◌++◌, ◌<◌, OnOk, string_bytes};
 ghost use Rattle.sms_journal.specs.Text.{digest_field, header_text, hex_digit as digit_of, hex_octet, hex_text, kind_word as word_of_kind, tariff_field};
 
-use std::alloc::AllocError;
+use sms_files::memory::{self, NoMemory};
 
 /// The SHA-256 digests (FIPS 180-4) of a run's files.
 #[derive(Clone, Copy, Debug, PartialEq, Eq)]
@@ -44,15 +44,15 @@ fn hex_digit(digit: u8) -> u8
 }
 
 /// Writes an octet in two hexadecimal digits.
-pub(crate) fn write_hex_octet(text: &mut String, octet: u8) -> Result<(), AllocError>
+pub(crate) fn write_hex_octet(text: &mut String, octet: u8) -> Result<(), NoMemory>
     ensures { OnOk result (string_bytes text.new ≡ string_bytes text.old ++ hex_octet octet) }
 {
-    text.push(char::from(hex_digit(octet / 16)))?;
-    text.push(char::from(hex_digit(octet % 16)))
+    memory::append_char(text, char::from(hex_digit(octet / 16)))?;
+    memory::append_char(text, char::from(hex_digit(octet % 16)))
 }
 
 /// Writes octets in hexadecimal digits.
-fn write_hex(text: &mut String, octets: &[u8]) -> Result<(), AllocError>
+fn write_hex(text: &mut String, octets: &[u8]) -> Result<(), NoMemory>
     ensures { OnOk result (string_bytes text.new ≡ string_bytes text.old ++ hex_text octets.now) }
 {
     for octet in octets {
@@ -62,36 +62,32 @@ fn write_hex(text: &mut String, octets: &[u8]) -> Result<(), AllocError>
 }
 
 /// A comma and the digest after it.
-fn write_digest(text: &mut String, digest: &[u8; 32]) -> Result<(), AllocError>
+fn write_digest(text: &mut String, digest: &[u8; 32]) -> Result<(), NoMemory>
     ensures { OnOk result (string_bytes text.new ≡ string_bytes text.old ++ digest_field digest.now) }
 {
-    text.push_str(",")?;
+    memory::append(text, ",")?;
     write_hex(text, digest.as_slice())
 }
 
 /// The same of a file that there may be.
-fn write_tariff(text: &mut String, digest: &Option<[u8; 32]>) -> Result<(), AllocError>
+fn write_tariff(text: &mut String, digest: &Option<[u8; 32]>) -> Result<(), NoMemory>
     ensures { OnOk result (string_bytes text.new ≡ string_bytes text.old ++ tariff_field digest.now) }
 {
     match digest {
         Some(digest) => write_digest(text, digest),
-        None => text.push_str(","),
+        None => memory::append(text, ","),
     }
 }
 
 /// Writes the first line of a journal of this kind.
-pub fn write_header(
-    text: &mut String,
-    kind: JournalKind,
-    digests: &Digests,
-) -> Result<(), AllocError>
+pub fn write_header(text: &mut String, kind: JournalKind, digests: &Digests) -> Result<(), NoMemory>
     ensures { OnOk result (string_bytes text.new ≡ string_bytes text.old ++ header_text kind digests.now) }
 {
-    text.push_str(kind_word(kind))?;
-    text.push_str(",1")?;
+    memory::append(text, kind_word(kind))?;
+    memory::append(text, ",1")?;
     write_digest(text, &digests.config)?;
     write_digest(text, &digests.accounts)?;
     write_digest(text, &digests.messages)?;
     write_tariff(text, &digests.tariff)?;
-    text.push_str("\n")
+    memory::append(text, "\n")
 }

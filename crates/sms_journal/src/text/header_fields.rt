@@ -9,7 +9,7 @@ ghost use Rattle.sms_journal.specs.Text.{header_text};
 
 use crate::text::header::{Digests, JournalKind, write_header};
 use crate::text::note_fields::{cut, digit_in};
-use std::alloc::AllocError;
+use sms_files::memory::NoMemory;
 
 /// What follows `front`, where the text begins with it.
 pub(crate) fn behind<'a>(text: &'a [u8], front: &[u8]) -> Option<&'a [u8]>
@@ -109,7 +109,7 @@ pub(crate) struct Head<'a> {
 pub(crate) fn read_head<'a>(
     header: &mut String,
     text: &'a [u8],
-) -> Result<Option<Head<'a>>, AllocError>
+) -> Result<Option<Head<'a>>, NoMemory>
     ensures { IfOk result (λ read. MatchOption read
         ((kind : TheKind) (digests : TheDigests) (behind : List ℕ) → AreDigests digests → text.now ≢ header_text kind digests ++ behind)
         (λ head. AreDigests head.digests × (text.now ≡ header_text head.kind head.digests ++ head.rest.now))) }

@@ -6,9 +6,9 @@ ghost use Rattle.sms_journal.specs.declared.text.note_fields.Escape.TheVariants.
 
 use crate::notes::{Note, RequestId};
 use sms_core::decimal_of;
+use sms_files::memory::{self, NoMemory};
 use sms_message::refusal_named;
 use sms_pdu::{MessageId, Reply, reply_of};
-use std::alloc::AllocError;
 
 /// Whether a field ends here.
 fn is_end(octet: u8) -> bool
@@ -100,7 +100,7 @@ pub(crate) fn digit_in(octet: u8) -> u8
 }
 
 /// Adds the octet that the field's next octet completes, if it completes one.
-fn add_octet(out: &mut Vec<u8>, escape: Escape, octet: u8) -> Result<Escape, AllocError>
+fn add_octet(out: &mut Vec<u8>, escape: Escape, octet: u8) -> Result<Escape, NoMemory>
     ensures { IfOk result (λ next. (rest : List ℕ) → out.new.items ++ octets_in next rest ≡ out.old.items ++ octets_in escape (octet ∷ rest)) }
 {
     match escape {
@@ -108,19 +108,19 @@ fn add_octet(out: &mut Vec<u8>, escape: Escape, octet: u8) -> Result<Escape, All
             if octet == b'%' {
                 return Ok(Escape::First);
             }
-            out.push(octet)?;
+            memory::push(out, octet)?;
             Ok(Escape::Plain)
         }
         Escape::First => Ok(Escape::Second(digit_in(octet))),
         Escape::Second(digit) => {
-            out.push(digit % 16 * 16 + digit_in(octet))?;
+            memory::push(out, digit % 16 * 16 + digit_in(octet))?;
             Ok(Escape::Plain)
         }
     }
 }
 
 /// Adds the octets that these stand for.
-fn add_octets(out: &mut Vec<u8>, field: &[u8]) -> Result<(), AllocError>
+fn add_octets(out: &mut Vec<u8>, field: &[u8]) -> Result<(), NoMemory>
     ensures { OnOk result (out.new.items ≡ out.old.items ++ octets_in Plain field.now) }
 {
     let mut escape = Escape::Plain;
@@ -135,13 +135,13 @@ const SUBMIT_SM_RESP: [u8; 16] = [0, 0, 0, 0, 0x80, 0, 0, 4, 0, 0, 0, 0, 0, 0, 0
 
 /// A message_id. (It is made as the answer makes it that it was read from. The room is for that.)
 #[tactic(auto, unfolding(crate::specs::Reading::id_in))]
-fn id_in(room: &mut Vec<u8>, field: &[u8]) -> Result<MessageId, AllocError>
+fn id_in(room: &mut Vec<u8>, field: &[u8]) -> Result<MessageId, NoMemory>
     ensures { IfOk result (λ id. id ≡ id_said field.now) }
 {
     room.clear();
-    room.extend_from_slice(SUBMIT_SM_RESP.as_slice())?;
+    memory::append_octets(room, SUBMIT_SM_RESP.as_slice())?;
     add_octets(room, field)?;
-    room.push(0)?;
+    memory::push(room, 0)?;
     match reply_of(room.as_slice()) {
         Some(reply) => Ok(reply.id),
         None => Ok(MessageId::empty()),
@@ -179,7 +179,7 @@ fn unsent_in(text: &[u8]) -> Option<Note>
     Some(Note::Unsent(RequestId { worker, number }))
 }
 
-fn heard_in(room: &mut Vec<u8>, text: &[u8]) -> Result<Option<Note>, AllocError>
+fn heard_in(room: &mut Vec<u8>, text: &[u8]) -> Result<Option<Note>, NoMemory>
     ensures { IfOk result (λ note. note ≡ heard_said text.now) }
 {
     let (worker, rest) = cut(text);
@@ -225,7 +225,7 @@ fn end_in(text: &[u8]) -> Option<Note>
 }
 
 /// A note by its word, and what stands after its time.
-fn kind_in(room: &mut Vec<u8>, word: &[u8], text: &[u8]) -> Result<Option<Note>, AllocError>
+fn kind_in(room: &mut Vec<u8>, word: &[u8], text: &[u8]) -> Result<Option<Note>, NoMemory>
     ensures { IfOk result (λ note. note ≡ kind_said word.now text.now) }
 {
     if word == b"sent".as_slice() {
@@ -261,7 +261,7 @@ pub(crate) fn time_in(line: &[u8]) -> Option<u64>
 
 /// The note of a line, if it is the line of one.
 #[tactic(auto, unfolding(crate::specs::Reading::note_in))]
-pub(crate) fn note_in(room: &mut Vec<u8>, line: &[u8]) -> Result<Option<Note>, AllocError>
+pub(crate) fn note_in(room: &mut Vec<u8>, line: &[u8]) -> Result<Option<Note>, NoMemory>
     ensures { IfOk result (λ note. note ≡ note_said line.now) }
 {
     let (word, rest) = cut(line);

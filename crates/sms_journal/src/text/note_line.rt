@@ -6,16 +6,15 @@ ghost use Rattle.sms_journal.specs.Text.{flag as flag_of, id_octet, id_text, is_
 
 use crate::notes::{Note, RequestId};
 use crate::text::header::write_hex_octet;
+use sms_files::memory::{self, NoMemory};
 use sms_message::{MessageRefusal, refusal_name};
 use sms_pdu::{MessageId, Reply};
-use std::alloc::AllocError;
-use std::fmt::Write;
 
 /// A comma and the number after it.
-fn write_number(text: &mut String, number: u64) -> Result<(), AllocError>
+fn write_number(text: &mut String, number: u64) -> Result<(), NoMemory>
     ensures { OnOk result (string_bytes text.new ≡ string_bytes text.old ++ number_field number) }
 {
-    write!(text, ",{number}")
+    memory::append_number(text, ",", number)
 }
 
 fn flag(value: bool) -> u64
@@ -32,18 +31,18 @@ fn is_plain(octet: u8) -> bool
 }
 
 /// An octet of a message_id.
-fn write_id_octet(text: &mut String, octet: u8) -> Result<(), AllocError>
+fn write_id_octet(text: &mut String, octet: u8) -> Result<(), NoMemory>
     ensures { OnOk result (string_bytes text.new ≡ string_bytes text.old ++ id_octet octet) }
 {
     if is_plain(octet) {
-        return text.push(char::from(octet));
+        return memory::append_char(text, char::from(octet));
     }
-    text.push_str("%")?;
+    memory::append(text, "%")?;
     write_hex_octet(text, octet)
 }
 
 /// The octets of a message_id.
-fn write_id_octets(text: &mut String, octets: &[u8]) -> Result<(), AllocError>
+fn write_id_octets(text: &mut String, octets: &[u8]) -> Result<(), NoMemory>
     ensures { OnOk result (string_bytes text.new ≡ string_bytes text.old ++ id_text octets.now) }
 {
     for octet in octets {
@@ -53,22 +52,22 @@ fn write_id_octets(text: &mut String, octets: &[u8]) -> Result<(), AllocError>
 }
 
 /// A message_id.
-fn write_id(text: &mut String, id: &MessageId) -> Result<(), AllocError>
+fn write_id(text: &mut String, id: &MessageId) -> Result<(), NoMemory>
     ensures { OnOk result (string_bytes text.new ≡ string_bytes text.old ++ id_text id.now) }
 {
     write_id_octets(text, id.as_slice())
 }
 
 /// The word of a note and its time.
-fn write_head(text: &mut String, word: &str, time: u64) -> Result<(), AllocError>
+fn write_head(text: &mut String, word: &str, time: u64) -> Result<(), NoMemory>
     ensures { OnOk result (string_bytes text.new ≡ string_bytes text.old ++ word.now ++ number_field time) }
 {
-    text.push_str(word)?;
+    memory::append(text, word)?;
     write_number(text, time)
 }
 
 /// A request's worker and number.
-fn write_call(text: &mut String, worker: u32, number: u32) -> Result<(), AllocError>
+fn write_call(text: &mut String, worker: u32, number: u32) -> Result<(), NoMemory>
     ensures { OnOk result (string_bytes text.new ≡ string_bytes text.old ++ number_field worker ++ number_field number) }
 {
     write_number(text, u64::from(worker))?;
@@ -81,42 +80,42 @@ fn write_sent(
     request: RequestId,
     message: u64,
     part: u8,
-) -> Result<(), AllocError>
+) -> Result<(), NoMemory>
     ensures { OnOk result (string_bytes text.new ≡ string_bytes text.old ++ note_text time (Sent request message part)) }
 {
     write_head(text, "sent", time)?;
     write_call(text, request.worker, request.number)?;
     write_number(text, message)?;
     write_number(text, u64::from(part))?;
-    text.push_str("\n")
+    memory::append(text, "\n")
 }
 
-fn write_unsent(text: &mut String, time: u64, request: RequestId) -> Result<(), AllocError>
+fn write_unsent(text: &mut String, time: u64, request: RequestId) -> Result<(), NoMemory>
     ensures { OnOk result (string_bytes text.new ≡ string_bytes text.old ++ note_text time (Unsent request)) }
 {
     write_head(text, "unsent", time)?;
     write_call(text, request.worker, request.number)?;
-    text.push_str("\n")
+    memory::append(text, "\n")
 }
 
-fn write_heard(text: &mut String, time: u64, by: u32, reply: &Reply) -> Result<(), AllocError>
+fn write_heard(text: &mut String, time: u64, by: u32, reply: &Reply) -> Result<(), NoMemory>
     ensures { OnOk result (string_bytes text.new ≡ string_bytes text.old ++ note_text time (Heard by reply.now)) }
 {
     write_head(text, "heard", time)?;
     write_call(text, by, reply.number)?;
     write_number(text, u64::from(reply.status))?;
     write_number(text, flag(reply.nack))?;
-    text.push_str(",")?;
+    memory::append(text, ",")?;
     write_id(text, &reply.id)?;
-    text.push_str("\n")
+    memory::append(text, "\n")
 }
 
-fn write_begun(text: &mut String, time: u64, message: u64) -> Result<(), AllocError>
+fn write_begun(text: &mut String, time: u64, message: u64) -> Result<(), NoMemory>
     ensures { OnOk result (string_bytes text.new ≡ string_bytes text.old ++ note_text time (Begun message)) }
 {
     write_head(text, "begun", time)?;
     write_number(text, message)?;
-    text.push_str("\n")
+    memory::append(text, "\n")
 }
 
 fn write_refused(
@@ -124,27 +123,27 @@ fn write_refused(
     time: u64,
     message: u64,
     refusal: MessageRefusal,
-) -> Result<(), AllocError>
+) -> Result<(), NoMemory>
     ensures { OnOk result (string_bytes text.new ≡ string_bytes text.old ++ note_text time (Refused message refusal)) }
 {
     write_head(text, "refused", time)?;
     write_number(text, message)?;
-    text.push_str(",")?;
-    text.push_str(refusal_name(refusal))?;
-    text.push_str("\n")
+    memory::append(text, ",")?;
+    memory::append(text, refusal_name(refusal))?;
+    memory::append(text, "\n")
 }
 
-fn write_end(text: &mut String, time: u64, status: u8) -> Result<(), AllocError>
+fn write_end(text: &mut String, time: u64, status: u8) -> Result<(), NoMemory>
     ensures { OnOk result (string_bytes text.new ≡ string_bytes text.old ++ note_text time (End status)) }
 {
     write_head(text, "end", time)?;
     write_number(text, u64::from(status))?;
-    text.push_str("\n")
+    memory::append(text, "\n")
 }
 
 /// Writes the line of a note that is made at this time, in milliseconds since 1970 UTC, or 0 where
 /// it isn't known.
-pub fn write_note(text: &mut String, time: u64, note: &Note) -> Result<(), AllocError>
+pub fn write_note(text: &mut String, time: u64, note: &Note) -> Result<(), NoMemory>
     ensures { OnOk result (string_bytes text.new ≡ string_bytes text.old ++ note_text time note.now) }
 {
     match note {

@@ -11,7 +11,8 @@ use crate::text::header::{Digests, JournalKind, write_header};
 use crate::text::header_fields::{behind, read_head};
 use crate::text::note_fields::{note_in, time_in};
 use crate::text::note_line::write_note;
-use std::alloc::{AllocError, Global};
+use sms_files::memory::{self, NoMemory};
+use std::alloc::Global;
 
 /// Where the first line feed stands.
 fn feed_at(text: &[u8]) -> Option<usize>
@@ -26,7 +27,7 @@ fn read_line(
     written: &mut String,
     room: &mut Vec<u8>,
     line: &[u8],
-) -> Result<Option<Note>, AllocError>
+) -> Result<Option<Note>, NoMemory>
     ensures { IfOk result (IsRead line.now) }
 {
     let Some(time) = time_in(line) else {
@@ -58,7 +59,7 @@ fn read_lines(alloc: Global, text: &[u8]) -> Result<Vec<Note>, JournalError>
         let Some(note) = read_line(&mut written, &mut room, line)? else {
             return Err(JournalError::BadRecord(notes.len() + 2));
         };
-        notes.push(note)?;
+        memory::push(&mut notes, note)?;
         left = rest;
     }
     Ok(notes)
@@ -86,7 +87,7 @@ fn is_truncated(
     kind: JournalKind,
     digests: &Digests,
     text: &[u8],
-) -> Result<bool, AllocError>
+) -> Result<bool, NoMemory>
     ensures { IfOk result (IsTruncated kind digests.now text.now) }
 {
     header.clear();
@@ -99,7 +100,7 @@ fn truncated_kind(
     header: &mut String,
     digests: &Digests,
     text: &[u8],
-) -> Result<Option<JournalKind>, AllocError>
+) -> Result<Option<JournalKind>, NoMemory>
     ensures { IfOk result (λ read. MatchOption read ((kind : TheKind) → IsTruncated kind digests.now text.now false) (λ kind. IsUnbegun kind digests.now text.now)) }
 {
     if is_truncated(header, JournalKind::Run, digests, text)? {

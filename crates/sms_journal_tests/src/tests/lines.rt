@@ -22,8 +22,10 @@ const LINES: [(Row, &str); 6] = [
 
 fn line_of(alloc: Global, note: &Note) -> Result<String, AllocError> {
     let mut text = String::new(alloc);
-    write_note(&mut text, 1_700_000_000_123, note)?;
-    Ok(text)
+    match write_note(&mut text, 1_700_000_000_123, note) {
+        Ok(()) => Ok(text),
+        Err(_refused) => Err(AllocError),
+    }
 }
 
 fn check_line(rt: &impl Abort, alloc: Global, note: &Note, wanted: &str) -> Result<(), AllocError> {
@@ -67,8 +69,10 @@ fn header_of(alloc: Global, kind: JournalKind) -> Result<String, AllocError> {
         tariff: None,
     };
     let mut text = String::new(alloc);
-    write_header(&mut text, kind, &digests)?;
-    Ok(text)
+    match write_header(&mut text, kind, &digests) {
+        Ok(()) => Ok(text),
+        Err(_refused) => Err(AllocError),
+    }
 }
 
 /// The digests in the headers of those files.

@@ -228,7 +228,7 @@ fn headers_are_of_the_files(rt: HostRuntime) -> Result<(), Fail> {
 /// A submit_sm_resp with status 0, the number 1 and a message_id.
 const ANSWER: &[u8] = b"\0\0\0\x19\x80\0\0\x04\0\0\0\0\0\0\0\x01a7,%\"~\xE9 \0";
 
-fn written(alloc: Global, kind: JournalKind, notes: &[Note]) -> Result<String, AllocError> {
+fn written(alloc: Global, kind: JournalKind, notes: &[Note]) -> Result<String, JournalError> {
     let mut text = String::new(alloc);
     write_header(&mut text, kind, &DIGESTS)?;
     for note in notes {
@@ -277,11 +277,11 @@ fn kind_of(
     alloc: Global,
     kind: JournalKind,
     octets: usize,
-) -> Result<Result<JournalKind, JournalError>, AllocError> {
+) -> Result<Result<JournalKind, JournalError>, JournalError> {
     let text = written(alloc, kind, &[])?;
     match read_notes(alloc, front_of(text.as_bytes(), octets), &DIGESTS) {
         Ok(read) => Ok(Ok(read.kind)),
-        Err(JournalError::OutOfMemory) => Err(AllocError),
+        Err(JournalError::OutOfMemory(refused)) => Err(JournalError::OutOfMemory(refused)),
         Err(fault) => Ok(Err(fault)),
     }
 }
@@ -314,13 +314,13 @@ fn other_file(
     alloc: Global,
     kind: JournalKind,
     others: &Digests,
-) -> Result<Option<RunFile>, AllocError> {
+) -> Result<Option<RunFile>, JournalError> {
     let notes = [Note::Begun(3)];
     let text = written(alloc, kind, notes.as_slice())?;
     match read_notes(alloc, text.as_bytes(), others) {
         Ok(_) => Ok(None),
         Err(JournalError::OtherFiles(file)) => Ok(Some(file)),
-        Err(_) => Err(AllocError),
+        Err(fault) => Err(fault),
     }
 }
 

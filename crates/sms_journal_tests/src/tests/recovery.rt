@@ -2,6 +2,7 @@
 
 mod fault_text;
 mod forged;
+mod head;
 mod printed;
 mod recover;
 mod rest;

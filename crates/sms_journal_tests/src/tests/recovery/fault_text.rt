@@ -7,7 +7,7 @@ use std::test::Fail;
 /// The text of a fault. Where memory is refused, the test itself fails.
 pub fn fault_text(alloc: Global, fault: RecoveryFault) -> Result<String, Fail> {
     match fault {
-        RecoveryFault::OutOfMemory => Err(Fail::from(AllocError)),
+        RecoveryFault::OutOfMemory(_) => Err(Fail::from(AllocError)),
         RecoveryFault::Input(fault) => Ok(fault.to_string(alloc)?),
         fault => Ok(fault.to_string(alloc)?),
     }

@@ -1,8 +1,9 @@
 //! Journals that no run of these files can have written: each is refused by its first faulty record.
 
 use super::fault_text::fault_text;
+use super::head::head_of;
 use super::same::same;
-use sms_journal::{JournalKind, digests_of, run_recover, write_header};
+use sms_journal::{JournalKind, digests_of, run_recover};
 use std::alloc::{AllocError, Global};
 use std::test::Fail;
 
@@ -199,8 +200,7 @@ fn a_journal_that_no_run_wrote_is_refused(rt: HostRuntime) -> Result<(), Fail> {
     let messages = messages_of(alloc)?;
     let digests = digests_of(CONFIG, ACCOUNTS, messages.as_bytes(), None);
     for (records, wanted) in JOURNALS {
-        let mut journal = String::new(alloc);
-        write_header(&mut journal, JournalKind::Run, &digests)?;
+        let mut journal = head_of(alloc, JournalKind::Run, &digests)?;
         journal.push_str(records)?;
         let got = said(alloc, messages.as_bytes(), journal.as_bytes())?;
         same(&rt, got.as_str(), wanted);

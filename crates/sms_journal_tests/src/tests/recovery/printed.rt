@@ -130,8 +130,10 @@ fn printed(
     ends.push(end_of(alloc, 1, 1, second)?)?;
     let rows = recovered_rows(alloc, input.openings(), input.messages(), ends.as_slice());
     let rows = had(rt, rows.ok());
-    let text = report_text(alloc, input.openings(), ends.as_slice(), rows.as_slice())?;
-    Ok(text)
+    match report_text(alloc, input.openings(), ends.as_slice(), rows.as_slice()) {
+        Ok(text) => Ok(text),
+        Err(_refused) => Err(Fail::from(AllocError)),
+    }
 }
 
 /// What is said of a report.

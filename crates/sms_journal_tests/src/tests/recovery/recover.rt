@@ -1,8 +1,9 @@
 //! What is recovered from journals written by hand.
 
 use super::fault_text::fault_text;
+use super::head::head_of;
 use super::same::same;
-use sms_journal::{JournalKind, Recovered, digests_of, run_recover, write_header};
+use sms_journal::{JournalKind, Recovered, digests_of, run_recover};
 use std::alloc::{AllocError, Global};
 use std::fmt::Write;
 use std::test::Fail;
@@ -97,12 +98,8 @@ fn journal_as(
     accounts: &[u8],
     records: &str,
 ) -> Result<String, AllocError> {
-    let mut text = String::new(alloc);
-    write_header(
-        &mut text,
-        kind,
-        &digests_of(CONFIG, accounts, MESSAGES, None),
-    )?;
+    let digests = digests_of(CONFIG, accounts, MESSAGES, None);
+    let mut text = head_of(alloc, kind, &digests)?;
     text.push_str(records)?;
     Ok(text)
 }

@@ -7,5 +7,5 @@ use Rattle.sms_journal.proofs.notes.rows.no_sums.Goals as goal
 pub loop-preserved : goal.loop-preserved
 loop-preserved c = record {
   length = search rules;
-  each = each_more (λ (i : ℕ) (s : Sums). s ≡ no_sums) c.loop.sums.items c.loop.counter no_sums c.push.new.self.items c.loop.invariant.length c.loop.invariant.each refl (search rules);
+  each = each_more (λ (i : ℕ) (s : Sums). s ≡ no_sums) c.loop.sums.items c.loop.counter no_sums c.push.new.list.items c.loop.invariant.length c.loop.invariant.each refl (search rules);
 }

@@ -17,7 +17,7 @@ loop-place-preserved c =
     let here = got_at c.args.openings.now c.loop-place.place opening (omega arith) c.index-openings-place.is in
     record {
       length = search rules;
-      each = each_more (λ (i : ℕ) (row : Row). (o : Opening) → slice_get c.args.openings.now i ≡ Some o → (s : Sums) → slice_get c.args.sums.now i ≡ Some s → row ≡ row_with o.credits s) c.loop-place.rows.items c.loop-place.place c.in-Some-row_of.row c.push.new.self.items
+      each = each_more (λ (i : ℕ) (row : Row). (o : Opening) → slice_get c.args.openings.now i ≡ Some o → (s : Sums) → slice_get c.args.sums.now i ≡ Some s → row ≡ row_with o.credits s) c.loop-place.rows.items c.loop-place.place c.in-Some-row_of.row c.push.new.list.items
           c.loop-place.invariant.length c.loop-place.invariant.each
           (λ o at s at_s.
           let some : Some opening ≡ Some o = sym here ∙ at in
@@ -26,9 +26,9 @@ loop-place-preserved c =
           let same_s : its ≡ s = cc in
           c.in-Some-row_of.ensures.row ∙ (λ j. row_with (ap (λ (x : Opening). x.credits) same j) (same_s j)))
           (search rules);
-      balanced = each_more (λ (i : ℕ) (row : Row). IsBalanced row) c.loop-place.rows.items c.loop-place.place c.in-Some-row_of.row c.push.new.self.items
+      balanced = each_more (λ (i : ℕ) (row : Row). IsBalanced row) c.loop-place.rows.items c.loop-place.place c.in-Some-row_of.row c.push.new.list.items
           c.loop-place.invariant.length c.loop-place.invariant.balanced c.in-Some-row_of.ensures.balanced (search rules);
-      small = each_more (λ (i : ℕ) (row : Row). IsSmall row) c.loop-place.rows.items c.loop-place.place c.in-Some-row_of.row c.push.new.self.items
+      small = each_more (λ (i : ℕ) (row : Row). IsSmall row) c.loop-place.rows.items c.loop-place.place c.in-Some-row_of.row c.push.new.list.items
           c.loop-place.invariant.length c.loop-place.invariant.small c.in-Some-row_of.ensures.small (search rules);
     }
 

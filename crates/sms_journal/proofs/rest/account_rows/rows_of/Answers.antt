@@ -7,7 +7,7 @@ loop-opening-init c = none_opened c.args.openings.now c.new-rows.result.items (s
 
 pub loop-opening-preserved : goal.loop-opening-preserved
 loop-opening-preserved c =
-    one_opened c.args.openings.now c.loop-opening.rows.items c.push.new.self.items c.loop-opening.opening-index c.opening-item.result c.opened.result (omega arith) c.opening-item.is (search rules) (search rules)
+    one_opened c.args.openings.now c.loop-opening.rows.items c.push.new.list.items c.loop-opening.opening-index c.opening-item.result c.opened.result (omega arith) c.opening-item.is (search rules) (search rules)
     c.loop-opening.invariant
 
 pub returns : goal.returns

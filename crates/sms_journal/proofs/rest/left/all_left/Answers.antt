@@ -8,7 +8,7 @@ loop-init c = record { length = search rules; each = λ i low. absurd (omega (ar
 pub loop-preserved : goal.loop-preserved
 loop-preserved c = record {
   length = search rules;
-  each = one_more_left c.loop.left.items c.loop.counter c.push.new.self.items c.loop.invariant.length c.loop.invariant.each (search rules);
+  each = one_more_left c.loop.left.items c.loop.counter c.push.new.list.items c.loop.invariant.length c.loop.invariant.each (search rules);
 }
 
 pub returns : goal.returns

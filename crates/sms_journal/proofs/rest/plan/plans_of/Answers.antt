@@ -11,7 +11,7 @@ loop-message-preserved c =
     let is = IsPlan c.args.long c.args.tariff.now c.args.accounts in
     let messages = c.args.messages.now in
     let k = c.loop-message.message-index in
-    let grows : c.push.new.self.items ≡ c.loop-message.plans.items ++ c.in_ok-plan.plan ∷ [] = search rules in
+    let grows : c.push.new.list.items ≡ c.loop-message.plans.items ++ c.in_ok-plan.plan ∷ [] = search rules in
     subst (λ (plans : List Plan). AllZip is (take (k + 1) messages) plans) (sym grows)
     (zip_more is messages c.loop-message.plans.items k c.message-item.result c.in_ok-plan.plan (omega arith) c.message-item.is c.loop-message.invariant c.in_ok-plan.ensures)
 

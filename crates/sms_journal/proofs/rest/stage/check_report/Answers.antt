@@ -26,7 +26,7 @@ returns-clause-faulty c =
     let records = c.args.records.now in
     let openings = c.args.openings.now in
     let other : c.loop-place.stage ≢ Rows (length openings) = search rules in
-    at_fault c.args.most c.args.plans.now openings (map fields_of records) c.fault_behind-else-is_end.result (length records) c.fault_behind-else-is_end.ensures
+    at_fault c.args.most c.args.plans.now openings (map fields_of records) c.fault_behind-else-is_end.result (length records) (c.fault_behind-else-is_end.ensures (omega arith))
     (missing_at fields_of c.args.most c.args.plans.now openings records c.loop-place.place c.loop-place.stage c.loop-place.rows.items c.loop-place.invariant (omega arith) other)
 
 pub returns-in-None-clause-faulty : goal.returns-in-None-clause-faulty
@@ -35,6 +35,6 @@ returns-in-None-clause-faulty c =
     let openings = c.args.openings.now in
     let place = c.loop-place.place in
     let x = c.index-records-place.result in
-    at_fault c.args.most c.args.plans.now openings (map fields_of records) c.fault_behind.result place c.fault_behind.ensures
+    at_fault c.args.most c.args.plans.now openings (map fields_of records) c.fault_behind.result place (c.fault_behind.ensures (omega arith))
     (faulty_at fields_of c.args.most c.args.plans.now openings records place x c.loop-place.stage c.loop-place.rows.items c.next_stage.new.rows.items c.next_stage.result c.loop-place.invariant
     (got_at records place x (omega arith) c.index-records-place.is) (omega arith) c.next_stage.ensures c.in-None.is)
