@@ -1,20 +1,41 @@
 -- A journal as it goes to its file, and the requests that are noted in it.
-use Rattle.std.specs.Prelude.{◌≡◌, ◌≤◌, ◌+◌, ◌++◌, ℕ, Bool, true, false, List, Option, Some, None}
+use Rattle.std.specs.Prelude.{◌≡◌, ◌≤◌, ◌<◌, ◌+◌, ◌++◌, ◌⊎◌, ℕ, Bool, true, false, List, Option, Some, None, if◌then◌else◌}
 use Rattle.std.specs.Io.KnownBytes.{Appends}
-use Rattle.std.specs.String.{string_bytes}
+use Rattle.std.specs.Option.{is_some}
+use Rattle.std.specs.String.{string_bytes, string_capacity, string_len}
 use Rattle.std.specs.declared.io.ErrorKind.{ErrorKind}
 use Rattle.std.specs.declared.io.ErrorKind.TheVariants as kind
 use Rattle.sms_journal.specs.declared.notes.note.Note.{Note}
 use Rattle.sms_journal.specs.declared.notes.note.Note.TheVariants.{End, Sent, Unsent}
 use Rattle.sms_journal.specs.Lines.{IsU64}
 use Rattle.sms_journal.specs.Text.{note_text}
-use Rattle.sms_devices.specs.declared.journal.pages.Pages.{Pages}
+use Rattle.sms_devices.specs.declared.journal.Journal.{Journal}
+use Rattle.sms_devices.specs.declared.journal.lines.Lines.{Lines}
 use Rattle.sms_devices.specs.declared.journal.failure.JournalFailure.{JournalFailure}
 use Rattle.sms_devices.specs.declared.journal.failure.JournalFailure.TheVariants as why
+use Rattle.sms_devices.specs.declared.journal.WaitsFor.{WaitsFor}
+use Rattle.sms_devices.specs.declared.journal.WaitsFor.TheVariants.{Disk, File, Nothing}
 
--- the notes that aren't written yet
-abbrev pub waiting_lines : {F : Type 0} → Pages F → List ℕ
-waiting_lines pages = string_bytes pages.waiting
+-- the notes that no thread has taken to the file yet
+abbrev pub waiting_lines : Lines → List ℕ
+waiting_lines lines = string_bytes lines.waiting
+
+-- as many octets more would take memory of their own, or the last number is used up
+abbrev pub HasNoRoom : Lines → ℕ → Type 0
+HasNoRoom lines more = (string_capacity lines.waiting < string_len lines.waiting + more) ⊎ (lines.count ≡ 18446744073709551615)
+
+-- the lines once the journal has failed for a reason; its first one is kept
+abbrev pub failed_for : JournalFailure → Lines → Lines
+failed_for reason lines = if is_some lines.failure then lines else record lines { failure = Some reason }
+
+-- notes that this journal has let out are durable
+abbrev pub is_durable : {F : Type 0} → Journal F → Bool
+is_durable journal = journal.is_synced
+
+-- what each write to a connection waits for in a run with a journal or without
+abbrev pub wait_for : {F : Type 0} → Option (Journal F) → WaitsFor
+wait_for None = Nothing
+wait_for (Some journal) = if journal.is_synced then Disk else File
 
 -- a file was given lines, and the last is the note that a run has ended with this status
 pub record HasEnded {F : Type 0} (contents : F → Option (List ℕ)) (status : ℕ) (file : F) : Type 0 where

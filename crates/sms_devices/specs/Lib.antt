@@ -12,5 +12,6 @@ pub mod Connecting
 pub mod Incomings
 pub mod Steady
 pub mod Places
+pub mod Rooms
 pub mod Limiters
 pub mod Gates

@@ -10,6 +10,7 @@ mod outbox;
 mod outbox_writer;
 mod outboxes;
 mod requests;
+mod room;
 mod serving;
 
 pub use connecting::{Reason, Unconnected};

@@ -5,6 +5,7 @@ mod connecting;
 mod ending;
 mod journal;
 mod journal_files;
+mod journal_threads;
 mod loopback;
 mod network;
 mod paper;

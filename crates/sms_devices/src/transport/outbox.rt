@@ -6,10 +6,12 @@ ghost use Rattle.std.specs.Io.{WritesAtMost};
 ghost use Rattle.std.specs.Result.{result_ok};
 ghost use Rattle.sms_devices.specs.Outboxes.{PutsInto};
 
+use crate::journal::waits_for;
 use crate::transport::buffered::Buffered;
 use crate::transport::connecting::Unconnected;
 use crate::transport::guarded::{Guarded, Shut};
 use crate::transport::requests::Requests;
+use crate::transport::room::room_before;
 use std::alloc::Global;
 use std::fs::OpenFile;
 use std::io;
@@ -81,8 +83,8 @@ impl<'j, R: Wait, F: Write + OpenFile> Outbox<'j, R, F> {
     /// Buffers what is written to this connection from now on. None if memory runs out.
     pub fn open(&self, alloc: Global, connection: Guarded<'j, TcpStream, R, F>) -> Option<()> {
         let rt = connection.rt;
-        let has_journal = connection.journal.is_some();
-        let buffered = Buffered::new(alloc, connection, has_journal)?;
+        let room = room_before(waits_for(connection.journal));
+        let buffered = Buffered::new(alloc, connection, room)?;
         *self.connection.lock(rt) = Some(buffered);
         Some(())
     }

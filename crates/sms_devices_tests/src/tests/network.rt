@@ -4,8 +4,9 @@
 use super::loopback::{
     connected, dial_to, expect_nothing, expect_octets, listening, no_journal, put,
 };
+use super::paper::{PaperFile, Sheet};
 use super::same::same;
-use sms_devices::{LoopDial, Outboxes, Parking};
+use sms_devices::{Journal, LoopDial, Outboxes, Parking};
 use sms_driver::Dial;
 use sms_worker::Pause;
 use std::io::{Read, Write};
@@ -107,6 +108,29 @@ fn keeps_8192_octets(rt: HostRuntime) {
         put(&rt, &mut writer, &[8u8; 512]);
         expect_octets(&rt, &mut far, expected);
         holds(&rt, &mut writer, &mut far, puts - 1);
+    }
+}
+
+/// In a run whose journal is synced four times as many octets wait, at once and after a long wait.
+#[test]
+fn keeps_32768_octets_before_a_disk(rt: HostRuntime) {
+    let alloc = rt.alloc();
+    let sheet = Sheet::blank(alloc);
+    let file = PaperFile::new(&rt, &sheet, 1, true);
+    let journal = Journal::new(alloc, file, true);
+    let outboxes = Outboxes::new(&rt, Some(&journal), 1);
+    let (_reader, mut writer, mut far) = connected(&rt, &outboxes, 0, None);
+    assert!(rt; far.set_nonblocking(true).is_ok());
+    for waited_long in [false, true] {
+        outboxes.begin(0, waited_long);
+        for _put in 0..64 {
+            assert!(rt; writer.write_all(&[7u8; 512]).is_ok());
+        }
+        expect_nothing(&rt, &mut far);
+        outboxes.flush_bind(0);
+        for piece in [9_000, 9_000, 9_000, 5_768] {
+            expect_octets(&rt, &mut far, piece);
+        }
     }
 }
 
