@@ -28,6 +28,10 @@ fails_asked (Ok status) has verbose job begins holds standard finds tells old ne
 fails_asked (Err fault) has verbose job begins holds standard finds tells old new asks fails =
     inr (of_asked has verbose job (λ job. FailsJob begins holds standard finds tells job old new fault) asks fails)
 
+pub ok_asked : (r : Result ℕ Fault) (has : Option (List Text) → Type 0) (verbose : Bool) (job : Job) (P : Job → Type 0) → AsksForJob has verbose job → P job → OnOk r (OfAsked has P)
+ok_asked (Ok status) has verbose job P asks holds = of_asked has verbose job P asks holds
+ok_asked (Err fault) has verbose job P asks holds = tt
+
 pub front_asked : (r : Result ℕ Fault) (has : Option (List Text) → Type 0) (verbose : Bool) (job : Job) (P : Job → Type 0) → AsksForJob has verbose job
     → IfErr r (λ fault. fault ≡ output_failed → P job) → IfErr r (λ fault. fault ≡ output_failed → OfAsked has P)
 front_asked (Ok status) has verbose job P asks front = tt

@@ -61,5 +61,5 @@ one-record-each (Some bytes) ms count is h = ap (λ (n : ℕ). n + 1) is ∙ sym
 -- a file that is found and can't be read to its end, or memory for it, is a fault of a plan of it
 pub unread-plan : (finds : List ℕ → Option Told → Type 0) (name : List ℕ) (told : Told) (fault : Fault) → finds name (Some told) → (fault ≡ OutOfMemory) ⊎ IsUnreadable Messages fault → OfFile finds name (λ bytes. FailsPlan (records_of bytes) fault)
 unread-plan finds name None fault found tells = (None, found, tt)
-unread-plan finds name (Some bytes) fault found (inl is) = (Some bytes, found, inl (input.OutOfMemory, inl (inr refl), is))
+unread-plan finds name (Some bytes) fault found (inl is) = (Some bytes, found, inl (input.OutOfMemory tt, inl (inr refl), is))
 unread-plan finds name (Some bytes) fault found (inr (error, is)) = (Some bytes, found, inl (input.Unreadable Messages error, inl (inl (error, refl)), is))

@@ -1,5 +1,5 @@
 -- What was written of a quote, from an input to the job.
-use Rattle.std.proofs.Common.{◌≡◌, ◌∙◌, inl, inr, refl, sym, subst, ℕ, List, Option, None, Some, Result, Ok, Err}
+use Rattle.std.proofs.Common.{◌≡◌, ◌∙◌, inl, inr, sym, subst, ℕ, List, Option, None, Some, Result, Ok, Err}
 use Rattle.std.specs.Prelude.{◌||◌, Bool, false, OnOk, String, string_bytes, if◌then◌else◌}
 use Rattle.std.specs.Io.KnownBytes.{Appends}
 use Rattle.std.specs.declared.alloc.Global.{Global}
@@ -16,7 +16,7 @@ use Rattle.sms_send.specs.ConfigFiles.{IsConfigFile, OfConfig}
 use Rattle.sms_send.specs.Faults.{IsReadFault, fault_of_input, output_failed}
 use Rattle.sms_send.specs.FullNames.{AreLinesIfKept}
 use Rattle.sms_send.specs.Opened.{FailsOpeningFiles}
-use Rattle.sms_send.specs.Quoted.{AreLinesAt, FailsQuote, FailsQuoteJob, FrontAsAsked, HasQuote, NamedFront, PrintsFront, PrintsQuote, Quotes, QuotesAsAsked, QuotesFiles, QuotesFront, QuotesNamed}
+use Rattle.sms_send.specs.Quoted.{AreLinesAt, FailsQuote, FailsQuoteJob, BeginsAsAsked, HasQuote, BeginsNamedWarnings, BeginsQuote, PrintsQuote, Quotes, QuotesAsAsked, QuotesFiles, BeginsWarnings, QuotesNamed}
 use Rattle.sms_send.specs.Reading.{IsInputBy, IsRead, IsUnread}
 use Rattle.sms_send.specs.declared.faults.fault.Fault.{Fault}
 use Rattle.sms_send.specs.declared.faults.fault.Fault.TheVariants.{OutOfMemory}
@@ -27,11 +27,11 @@ pub on_ok_both : {T E P Q R : Type 0} (r : Result T E) → (P → Q → R) → O
 on_ok_both (Ok x) f p q = f p q
 on_ok_both (Err e) f p q = tt
 
--- a quote that was written, and one behind a front of which the output failed
+-- a quote that was written, and one after whose beginning the output failed
 pub printed : (given : Input) (text out : List ℕ) (old new : Option (List ℕ)) → HasQuote given text → out ≡ text → Appends old new out → PrintsQuote given old new
 printed given text out old new quote same written = record { text = text; quote = quote; written = subst (Appends old new) same written }
 
-pub printed_front : (given : Input) (text out : List ℕ) (old new : Option (List ℕ)) → HasQuote given text → out ≡ text → WritesFront old new out → PrintsFront given old new
+pub printed_front : (given : Input) (text out : List ℕ) (old new : Option (List ℕ)) → HasQuote given text → out ≡ text → WritesFront old new out → BeginsQuote given old new
 printed_front given text out old new quote same front = record { text = text; quote = quote; front = subst (WritesFront old new) same front }
 
 -- a fault of what is read is none of the output
@@ -40,7 +40,7 @@ never_output (input.Unreadable source error) e = cc
 never_output (input.BadRecord source place detail) e = cc
 never_output (input.NotToml flaw) e = cc
 never_output (input.BadKey key found) e = cc
-never_output input.OutOfMemory e = cc
+never_output (input.OutOfMemory refused) e = cc
 
 pub read_is_no_output : {A : Type 0} (P : InputFault → Type 0) (fault : Fault) → IsReadFault P fault → fault ≡ output_failed → A
 read_is_no_output P fault (f, holds, told) is = absurd (never_output f (sym told ∙ is))
@@ -65,7 +65,7 @@ octets_quoted octets config accounts messages tariff lines old new error_old err
     record { input = quotes.input; read = input_by octets config accounts messages tariff quotes.input says quotes.read; printed = quotes.printed; warned = quotes.warned }
 
 pub octets_front : (octets : List ℕ) (config : Config) (accounts messages : Told) (tariff : Option Told) (lines : List ℕ) (error_old error_new : Option (List ℕ)) → IsConfig octets config
-    → QuotesFront (IsInputBy config accounts messages tariff) lines error_old error_new → QuotesFront (IsInput octets accounts messages tariff) lines error_old error_new
+    → BeginsWarnings (IsInputBy config accounts messages tariff) lines error_old error_new → BeginsWarnings (IsInput octets accounts messages tariff) lines error_old error_new
 octets_front octets config accounts messages tariff lines error_old error_new says front =
     record { input = front.input; read = input_by octets config accounts messages tariff front.input says front.read; front = front.front }
 
@@ -96,9 +96,9 @@ named_quoted finds is_full at_length name file config accounts messages tariff l
 
 pub named_front : (finds : List ℕ → Option Told → Type 0) (is_full : List ℕ → List ℕ → Type 0) (at_length : Bool) (name : List ℕ) (file : ConfigFile) (config : Config) (accounts messages : Told) (tariff : Option Told) (lines : List ℕ) (error_old error_new : Option (List ℕ))
     → IsConfigFile finds name file → AreOpen finds file.config config accounts messages tariff → AreLinesAt is_full at_length name file.config.files lines
-    → QuotesFront (IsInputBy config accounts messages tariff) lines error_old error_new → OfConfig finds name (NamedFront finds is_full at_length name error_old error_new)
+    → BeginsWarnings (IsInputBy config accounts messages tariff) lines error_old error_new → OfConfig finds name (BeginsNamedWarnings finds is_full at_length name error_old error_new)
 named_front finds is_full at_length name file config accounts messages tariff lines error_old error_new is opened named front =
-    of_config finds name file (NamedFront finds is_full at_length name error_old error_new) is
+    of_config finds name file (BeginsNamedWarnings finds is_full at_length name error_old error_new) is
     (lines, named, record { input = front.input; read = read_open finds false false file.config config accounts messages tariff front.input opened front.read; front = front.front })
 
 -- why there is no quote of a config that was read
@@ -133,7 +133,7 @@ quotes_asked finds is_full wants name verbose details at_length old new error_ol
     (details, wanted, subst (λ (b : Bool). OfConfig finds (string_bytes name) (QuotesNamed finds is_full b (string_bytes name) old new error_old error_new)) same quotes)
 
 pub front_asked : (finds : List ℕ → Option Told → Type 0) (is_full : List ℕ → List ℕ → Type 0) (wants : Bool → Type 0) (name : String Global) (verbose details at_length : Bool) (error_old error_new : Option (List ℕ))
-    → wants details → at_length ≡ (details || verbose) → OfConfig finds (string_bytes name) (NamedFront finds is_full at_length (string_bytes name) error_old error_new)
-    → FrontAsAsked finds is_full wants name verbose error_old error_new
+    → wants details → at_length ≡ (details || verbose) → OfConfig finds (string_bytes name) (BeginsNamedWarnings finds is_full at_length (string_bytes name) error_old error_new)
+    → BeginsAsAsked finds is_full wants name verbose error_old error_new
 front_asked finds is_full wants name verbose details at_length error_old error_new wanted same front =
-    (details, wanted, subst (λ (b : Bool). OfConfig finds (string_bytes name) (NamedFront finds is_full b (string_bytes name) error_old error_new)) same front)
+    (details, wanted, subst (λ (b : Bool). OfConfig finds (string_bytes name) (BeginsNamedWarnings finds is_full b (string_bytes name) error_old error_new)) same front)

@@ -1,12 +1,10 @@
 -- What a sending ended with, and what that is once the reason of a missing connection is added.
-use Rattle.std.proofs.Common.{◌≡◌, ◌∙◌, ◌⊎◌, inr, ap, ℕ, Bool, List, Option, Result, Ok, Err, IfErr, IfOk}
-use Rattle.std.specs.Prelude.{◌≢◌}
+use Rattle.std.proofs.Common.{◌≡◌, ◌∙◌, inr, ap, ℕ, Bool, List, Option, Result, Ok, Err, IfErr, IfOk}
 use Rattle.sms_devices.specs.Centres.{CentreAt}
-use Rattle.sms_devices.specs.declared.transport.connecting.Unconnected.{Unconnected as Why}
 use Rattle.sms_driver.specs.declared.start.StartPhase.{StartPhase}
 use Rattle.sms_files.specs.Inputs.{Told}
 use Rattle.sms_files.specs.declared.input.Input.{Input}
-use Rattle.sms_send.specs.Faults.{with_reason, output_failed}
+use Rattle.sms_send.specs.Faults.{with_reason}
 use Rattle.sms_send.specs.Sent.{FailsSending, FailsOver, SendingEnd, SendsInput, unknown}
 use Rattle.sms_send.specs.declared.faults.fault.Fault.{Fault}
 use Rattle.sms_send.proofs.Starts.{IsOf, reason_at}

@@ -1,5 +1,5 @@
 -- What was sent, or why it wasn't, from a part of the sender to the whole.
-use Rattle.std.proofs.Common.{◌≡◌, ◌∙◌, ◌⊎◌, inl, inr, refl, subst, ℕ, List, Option}
+use Rattle.std.proofs.Common.{◌≡◌, ◌∙◌, ◌⊎◌, inl, inr, subst, ℕ, List, Option}
 use Rattle.std.proofs.lemmas.Option.{IfSome_then}
 use Rattle.std.specs.Prelude.{◌≢◌}
 use Rattle.sms_files.specs.Inputs.{Told}
@@ -12,9 +12,8 @@ use Rattle.sms_driver.specs.declared.fault.SendFault.TheVariants as send
 use Rattle.sms_driver.specs.declared.start.StartPhase.{StartPhase}
 use Rattle.sms_driver.specs.declared.settings.RunSettings.{RunSettings}
 use Rattle.sms_book.specs.Tariffs.{Price}
-use Rattle.sms_send.specs.Faults.{ComesAt, fault_of_sending, output_failed}
+use Rattle.sms_send.specs.Faults.{ComesAt, fault_of_sending, output_failed, unreported}
 use Rattle.sms_send.specs.declared.faults.fault.Fault.{Fault}
-use Rattle.sms_send.specs.declared.faults.fault.Fault.TheVariants.{Unreported}
 use Rattle.sms_files.specs.declared.config.Config.{Config}
 use Rattle.sms_files.specs.declared.input.Input.{Input}
 use Rattle.sms_send.specs.declared.sending.sender.Ended.{Ended}
@@ -24,9 +23,9 @@ pub beside : (finds : List ℕ → Option Told → Type 0) (name items octets : 
     → OfFile finds name (λ bytes. items ≡ bytes) → octets ≡ items → P octets → OfFile finds name P
 beside finds name items octets P (told, found, are) same holds = (told, found, IfSome_then told are (λ bytes is. subst P (same ∙ is) holds))
 
--- the report wasn't written: the output failed behind a front of it, or memory was refused for it
+-- the report wasn't written: the output failed after the beginning of it, or memory was refused for it
 pub unwritten_told : (refuses : ℕ → Type 0) (told : ℕ → Told) (input : Input) (ended : Ended) (old new : Option (List ℕ)) (fault : Fault) → IsSent told input ended
-    → (fault ≡ output_failed) ⊎ (fault ≡ Unreported) → (fault ≡ output_failed → WritesFront old new (report_in ended)) → (fault ≡ Unreported → new ≡ old) → FailsOver refuses told input old new fault
+    → (fault ≡ output_failed) ⊎ (fault ≡ unreported) → (fault ≡ output_failed → WritesFront old new (report_in ended)) → (fault ≡ unreported → new ≡ old) → FailsOver refuses told input old new fault
 unwritten_told refuses told input ended old new fault sent (inl out) front quiet = inr (inl (out, ended, sent, front out))
 unwritten_told refuses told input ended old new fault sent (inr memory) front quiet = inr (inr (memory, ended, sent, quiet memory))
 
@@ -48,6 +47,6 @@ of_two (inl a) = inl a
 of_two (inr b) = inr (inl b)
 
 -- nothing was written of a report but where the output failed
-pub unwritten_quiet : {W : Type 0} (fault : Fault) (before after : W) → (fault ≡ output_failed) ⊎ (fault ≡ Unreported) → (fault ≡ Unreported → after ≡ before) → fault ≢ output_failed → after ≡ before
+pub unwritten_quiet : {W : Type 0} (fault : Fault) (before after : W) → (fault ≡ output_failed) ⊎ (fault ≡ unreported) → (fault ≡ unreported → after ≡ before) → fault ≢ output_failed → after ≡ before
 unwritten_quiet fault before after (inl out) quiet other = absurd (other out)
 unwritten_quiet fault before after (inr memory) quiet other = quiet memory

@@ -11,14 +11,14 @@ use Rattle.sms_files.specs.declared.config.FileNames.{FileNames}
 use Rattle.sms_files.specs.declared.fault.InputFault.{InputFault}
 use Rattle.sms_files.specs.declared.fault.InputFault.TheVariants as input
 use Rattle.sms_files.specs.declared.fault.Source.{Source}
-use Rattle.sms_send.specs.Faults.{ComesAt, IsReadFault, fault_of_input, with_reason, output_failed}
-use Rattle.sms_send.specs.Noted.{FailsBegin}
+use Rattle.sms_send.specs.Faults.{ComesAt, IsReadFault, fault_of_input, with_reason, output_failed, unreported}
+use Rattle.sms_send.specs.Noted.{FailsBegin, LacksFirstLine}
 use Rattle.sms_send.specs.Reading.{FailsReading, IsFaultOfOctets}
 use Rattle.sms_send.specs.Opened.{FailsOpeningFiles, FailsReadingFile}
 use Rattle.sms_send.specs.Runs.{FailsReadingOpened, IsUnreadable}
 use Rattle.sms_send.specs.declared.faults.fault.Fault.{Fault}
 use Rattle.std.specs.declared.io.ErrorKind.{ErrorKind}
-use Rattle.sms_send.specs.declared.faults.fault.Fault.TheVariants.{BindFailed, File, OutOfMemory, Unreported}
+use Rattle.sms_send.specs.declared.faults.fault.Fault.TheVariants.{BindFailed, File, OutOfMemory}
 use Rattle.sms_send.specs.declared.args.send_args.JournalFile.{JournalFile}
 use Rattle.sms_send.specs.declared.files.named_files.NamedFiles.{NamedFiles}
 
@@ -44,7 +44,7 @@ input_at b (input.Unreadable source error) yet = yet
 input_at b (input.BadRecord source place detail) yet = yet
 input_at b (input.NotToml flaw) yet = yet
 input_at b (input.BadKey key found) yet = yet
-input_at b input.OutOfMemory yet = inl yet
+input_at b (input.OutOfMemory refused) yet = inl yet
 
 -- a fault of what is read
 pub read_at : (b : StartPhase) (P : InputFault → Type 0) (fault : Fault) → b ≡ Idle → IsReadFault P fault → ComesAt b fault
@@ -73,7 +73,7 @@ reading_at b false strict config accounts messages tariff fault yet tells = read
 -- ---- after all were started
 
 -- the report wasn't written
-pub unwritten_at : (b : StartPhase) (fault : Fault) → b ≡ Released Go → (fault ≡ output_failed) ⊎ (fault ≡ Unreported) → ComesAt b fault
+pub unwritten_at : (b : StartPhase) (fault : Fault) → b ≡ Released Go → (fault ≡ output_failed) ⊎ (fault ≡ unreported) → ComesAt b fault
 unwritten_at b fault gone (inl is) = subst (ComesAt b) (sym is) gone
 unwritten_at b fault gone (inr is) = subst (ComesAt b) (sym is) gone
 
@@ -92,9 +92,12 @@ reason_at b why f fault is so = subst (ComesAt b) (sym is) (with_why_at b why f 
 
 -- ---- with a journal
 
+pub unbegun_at : (b : StartPhase) (fault : Fault) → b ≡ Idle → LacksFirstLine fault → ComesAt b fault
+unbegun_at b fault yet (why, is) = subst (ComesAt b) (sym is) yet
+
 -- its file is held or can't be made, or what was made doesn't take the first line
 pub begun_at : {F : Type 0} (makes : List ℕ → F → Type 0) (refuses holds : List ℕ → Type 0) (b : StartPhase) (journal : JournalFile) (fault : Fault)
     → b ≡ Idle → FailsBegin makes refuses holds journal fault → ComesAt b fault
 begun_at makes refuses holds b journal fault yet (inl (is, held)) = subst (ComesAt b) (sym is) yet
 begun_at makes refuses holds b journal fault yet (inr (inl (kind, is, refused))) = subst (ComesAt b) (sym is) yet
-begun_at makes refuses holds b journal fault yet (inr (inr (why, is, made))) = subst (ComesAt b) (sym is) yet
+begun_at makes refuses holds b journal fault yet (inr (inr (lacks, made))) = unbegun_at b fault yet lacks

@@ -51,11 +51,11 @@ told-first source (Some bytes) faulty f h = (f, h, refl)
 
 pub no-memory : (source : Source) (o : Option (List ℕ)) (faulty : List Record → Option Trouble) → IfSome o (λ bytes. IsReadFault (TellsRecords source (faulty (records_of bytes))) OutOfMemory)
 no-memory source None faulty = tt
-no-memory source (Some bytes) faulty = (input.OutOfMemory, inl (inr refl), refl)
+no-memory source (Some bytes) faulty = (input.OutOfMemory tt, inl (inr refl), refl)
 
 pub told-memory : (source : Source) (o : Option (List ℕ)) (faulty : List Record → Option Trouble) → IfSome o (λ bytes. FailsFileJob source (faulty (records_of bytes)) OutOfMemory)
 told-memory source None faulty = tt
-told-memory source (Some bytes) faulty = inl (input.OutOfMemory, inl (inr refl), refl)
+told-memory source (Some bytes) faulty = inl (input.OutOfMemory tt, inl (inr refl), refl)
 
 pub told-writing : (source : Source) (o : Option (List ℕ)) (faulty : List Record → Option Trouble) (f : OutputFault)
     → IfSome o (λ bytes. faulty (records_of bytes) ≡ None) → f ≡ writing_failed → IfSome o (λ bytes. FailsFileJob source (faulty (records_of bytes)) (fault_of_output f))

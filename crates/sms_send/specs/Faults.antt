@@ -26,6 +26,10 @@ use Rattle.sms_files.specs.declared.report.fault.OutputFault.TheVariants as outp
 abbrev pub output_failed : Fault
 output_failed = Output tt
 
+-- the fault of a report for which memory was refused; a body has the evidence of that only where it was
+abbrev pub unreported : Fault
+unreported = Unreported tt
+
 -- the journal failed once messages were sent, for whatever reason
 abbrev pub HasLostJournal : Fault → Type 0
 HasLostJournal fault = (why : JournalFailure) × (fault ≡ Journal why)
@@ -59,7 +63,7 @@ fault_text Trial = codes "fault: journal of a trial: no message centre saw any o
 fault_text (OtherFile name) = codes "fault: journal record 1"
 fault_text (Output unwritten) = codes "fault: output"
 fault_text OutOfMemory = codes "fault: out of memory"
-fault_text Unreported = codes "fault: out of memory"
+fault_text (Unreported refused) = codes "fault: out of memory"
 
 abbrev pub status_of : Fault → ℕ
 status_of (Words why) = 2
@@ -76,7 +80,7 @@ fault_of_input (input.Unreadable source error) = Unreadable source error
 fault_of_input (input.BadRecord source place record_flaw) = BadRecord source place record_flaw
 fault_of_input (input.NotToml flaw) = NotToml flaw
 fault_of_input (input.BadKey key found) = BadKey key found
-fault_of_input input.OutOfMemory = OutOfMemory
+fault_of_input (input.OutOfMemory refused) = OutOfMemory
 
 -- for why nothing is sent; a thread that is refused counts as memory, and so do accounts that no book opens with
 abbrev pub fault_of_sending : SendFault → Fault
@@ -105,7 +109,7 @@ ComesAt begun (Unbegun why) = begun ≡ Idle
 ComesAt begun (Journal why) = begun ≡ Released Go
 ComesAt begun (Output unwritten) = begun ≡ Released Go
 ComesAt begun OutOfMemory = (begun ≡ Idle) ⊎ (begun ≡ Released Leave)
-ComesAt begun Unreported = begun ≡ Released Go
+ComesAt begun (Unreported refused) = begun ≡ Released Go
 ComesAt begun _ = ⊥
 
 -- the fault of a bind without a connection gets the reason of that bind, and each other stays as it is
@@ -126,7 +130,7 @@ fault_of_recovery recovery.Trial = Trial
 fault_of_recovery recovery.Overdrawn = Overdrawn
 fault_of_recovery (recovery.Report place) = BadReport place
 fault_of_recovery (recovery.Output unwritten) = Output unwritten
-fault_of_recovery recovery.OutOfMemory = OutOfMemory
+fault_of_recovery (recovery.OutOfMemory refused) = OutOfMemory
 
 -- it is that fault, or has the name of the file of which the journal isn't
 abbrev pub IsFaultOfRecovery : RecoveryFault → Fault → Type 0
@@ -135,7 +139,7 @@ IsFaultOfRecovery f fault = (fault ≡ fault_of_recovery f) ⊎ ((file : RunFile
 -- for why a text isn't written
 abbrev pub fault_of_output : OutputFault → Fault
 fault_of_output (output.Output unwritten) = Output unwritten
-fault_of_output output.OutOfMemory = OutOfMemory
+fault_of_output (output.OutOfMemory refused) = OutOfMemory
 
 -- the fault is of something read, and this holds of that
 abbrev pub IsReadFault : (InputFault → Type 0) → Fault → Type 0

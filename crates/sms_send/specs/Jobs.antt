@@ -1,5 +1,5 @@
 -- What the program does: a job, of an input of the kind that the job names.
-use Rattle.std.specs.Prelude.{◌≡◌, ◌⊎◌, Bool, true, ℕ, List, Option, None, Some, is_some, string_bytes}
+use Rattle.std.specs.Prelude.{◌≡◌, ◌⊎◌, Bool, ℕ, List, Option, None, Some, Result, IfOk, is_some, string_bytes}
 use Rattle.std.specs.Io.KnownBytes.{Appends}
 use Rattle.sms_devices.specs.Centres.{CentreAt}
 use Rattle.sms_send.specs.ConfigFiles.{OfConfig}
@@ -8,9 +8,10 @@ use Rattle.sms_files.specs.Fields.{records_of}
 use Rattle.sms_files.specs.Inputs.{Told}
 use Rattle.sms_files.specs.Messages.{messages_fault}
 use Rattle.sms_files.specs.PlanText.{kind_of, plan_of}
+use Rattle.sms_send.specs.Noted.{NotesEnd}
 use Rattle.sms_send.specs.Opened.{OfFile, OfInput, FailsOpening}
-use Rattle.sms_send.specs.Plans.{FailsPlan, Warns, WarnsFront}
-use Rattle.sms_send.specs.Quoted.{FailsQuoteJob, FrontAsAsked, QuotesAsAsked, QuotesFiles}
+use Rattle.sms_send.specs.Plans.{FailsPlan, Warns, BeginsWarning}
+use Rattle.sms_send.specs.Quoted.{FailsQuoteJob, BeginsAsAsked, QuotesAsAsked, QuotesFiles}
 use Rattle.sms_files.specs.Output.{WritesFront}
 use Rattle.sms_send.specs.Recovered.{PrintsLeft, RecoversAndWarns, RecoversBy, FailsRecoverJob, FailsRestJob, trial_line}
 use Rattle.sms_send.specs.Replays.{Replays, FailsReplay}
@@ -60,12 +61,18 @@ WritesBeside finds is_full details (Quote config verbose) old new error_old erro
 WritesBeside finds is_full details (Recover order) old new error_old error_new = RecoversAndWarns finds order old new error_old error_new
 WritesBeside finds is_full details _ old new error_old error_new = error_new ≡ error_old
 
--- and of one of which the output failed: a front of that
-abbrev pub WritesBesideFront : (List ℕ → Option Told → Type 0) → (List ℕ → List ℕ → Type 0) → (Bool → Type 0) → Job → Option (List ℕ) → Option (List ℕ) → Type 0
-WritesBesideFront finds is_full details (Plan name long) error_old error_new = OfFile finds (string_bytes name) (λ bytes. WarnsFront bytes error_old error_new)
-WritesBesideFront finds is_full details (Quote config verbose) error_old error_new = FrontAsAsked finds is_full details config verbose error_old error_new
-WritesBesideFront finds is_full details (Recover order) error_old error_new = WritesFront error_old error_new trial_line
-WritesBesideFront finds is_full details _ error_old error_new = error_new ≡ error_old
+-- the journal of a job that was done, if it wrote one, is the file that was made by its name, and ends with the job's status
+abbrev pub NotesJob : {F : Type 0} → (F → Option (List ℕ)) → (List ℕ → F → Type 0) → Job → Result ℕ Fault → Type 0
+NotesJob contents makes (Loop order) result = IfOk result (NotesEnd contents makes order.journal)
+NotesJob contents makes (Send order) result = IfOk result (NotesEnd contents makes order.journal)
+NotesJob contents makes _ result = Unit {0}
+
+-- and of one of which the output failed: the beginning of that
+abbrev pub BeginsBeside : (List ℕ → Option Told → Type 0) → (List ℕ → List ℕ → Type 0) → (Bool → Type 0) → Job → Option (List ℕ) → Option (List ℕ) → Type 0
+BeginsBeside finds is_full details (Plan name long) error_old error_new = OfFile finds (string_bytes name) (λ bytes. BeginsWarning bytes error_old error_new)
+BeginsBeside finds is_full details (Quote config verbose) error_old error_new = BeginsAsAsked finds is_full details config verbose error_old error_new
+BeginsBeside finds is_full details (Recover order) error_old error_new = WritesFront error_old error_new trial_line
+BeginsBeside finds is_full details _ error_old error_new = error_new ≡ error_old
 
 -- why a job failed, in a world where a journal's beginning fails so, and which holds journals of these names: its file can't be opened, or the fault is of the
 -- input

@@ -1,9 +1,12 @@
 -- What a sending with a journal promises beside one without.
-use Rattle.std.specs.Prelude.{◌≡◌, ◌⊎◌, ℕ, Bool, true, List, Option}
+use Rattle.std.specs.Prelude.{◌≡◌, ◌⊎◌, ℕ, Bool, List, Option, None, Some, String}
+use Rattle.std.specs.declared.alloc.Global.{Global}
 use Rattle.std.specs.declared.io.ErrorKind.{ErrorKind}
 use Rattle.std.specs.String.{string_bytes}
 use Rattle.sms_devices.specs.Centres.{CentreAt}
-use Rattle.sms_devices.specs.Journals.{HasEnded}
+use Rattle.sms_devices.specs.Journals.{FromMade, HasEnded}
+use Rattle.sms_devices.specs.declared.journal.files.Unmade.{Unmade as WhyUnmade}
+use Rattle.sms_devices.specs.declared.journal.files.Unmade.TheVariants as unmade
 use Rattle.sms_devices.specs.declared.journal.failure.JournalFailure.{JournalFailure}
 use Rattle.sms_files.specs.Inputs.{Told}
 use Rattle.sms_files.specs.declared.input.Input.{Input}
@@ -26,6 +29,11 @@ abbrev pub kind_of : Target → JournalKind
 kind_of (Loopback bind_status answers) = Trial
 kind_of (Remote host port) = Run
 
+-- the fault where no file of this name was made for a journal
+abbrev pub fault_of_unmade : String Global → WhyUnmade → Fault
+fault_of_unmade name unmade.Held = JournalHeld
+fault_of_unmade name (unmade.Failed kind) = Unmade name kind
+
 -- a process holds the journal of this name, as the system says
 abbrev pub IsHeld : (List ℕ → Type 0) → List ℕ → Fault → Type 0
 IsHeld holds name fault = (fault ≡ JournalHeld) × holds name
@@ -34,21 +42,32 @@ IsHeld holds name fault = (fault ≡ JournalHeld) × holds name
 abbrev pub IsUnmade : (List ℕ → Type 0) → JournalFile → Fault → Type 0
 IsUnmade refuses journal fault = (kind : ErrorKind) × (fault ≡ Unmade journal.name kind) × refuses (string_bytes journal.name)
 
--- what was made didn't take the first line, for this reason
+-- a new file didn't take the first line, for this reason
+abbrev pub LacksFirstLine : Fault → Type 0
+LacksFirstLine fault = (why : JournalFailure) × (fault ≡ Unbegun why)
+
+-- what was made by the journal's name didn't
 abbrev pub IsUnbegun : {F : Type 0} → (List ℕ → F → Type 0) → JournalFile → Fault → Type 0
-IsUnbegun makes journal fault = (why : JournalFailure) × (fault ≡ Unbegun why) × IsMade makes journal
+IsUnbegun makes journal fault = LacksFirstLine fault × IsMade makes journal
 
 -- why a journal isn't begun: one of its name is held, none could be made, or what was made didn't take the first line
 abbrev pub FailsBegin : {F : Type 0} → (List ℕ → F → Type 0) → (List ℕ → Type 0) → (List ℕ → Type 0) → JournalFile → Fault → Type 0
 FailsBegin makes refuses holds journal fault =
     IsHeld holds (string_bytes journal.name) fault ⊎ IsUnmade refuses journal fault ⊎ IsUnbegun makes journal fault
 
--- a file ends with the note that a run has ended with this status
-abbrev pub IsNoted : {F : Type 0} → (F → Option (List ℕ)) → ℕ → Type 0
-IsNoted {F} contents status = (file : F) × HasEnded contents status file
+-- a file that was made so was only written to since, and ends with the note that a run has ended with this status
+pub record IsNotedIn {F : Type 0} (contents : F → Option (List ℕ)) (made : F → Type 0) (status : ℕ) : Type 0 where
+  pub file : F
+  pub is_made : FromMade contents made file
+  pub ended : HasEnded contents status file
+
+-- so does the file that was made by the journal's name, where one is wanted
+abbrev pub NotesEnd : {F : Type 0} → (F → Option (List ℕ)) → (List ℕ → F → Type 0) → Option JournalFile → ℕ → Type 0
+NotesEnd contents makes None status = Unit {0}
+NotesEnd contents makes (Some journal) status = IsNotedIn contents (makes (string_bytes journal.name)) status
 
 -- why an input wasn't sent with a journal: that wasn't begun, and nothing was written; the sending failed; or the journal failed after the report
-abbrev pub FailsNoted : (JournalFile → Fault → Type 0) → CentreAt → (ℕ → Told) → Bool → JournalFile → Input → Option (List ℕ) → Option (List ℕ) → Fault → Type 0
-FailsNoted begins centre told strict journal input old new fault =
-    (begins journal fault × (new ≡ old))
+abbrev pub FailsNoted : (Fault → Type 0) → CentreAt → (ℕ → Told) → Bool → Input → Option (List ℕ) → Option (List ℕ) → Fault → Type 0
+FailsNoted begins centre told strict input old new fault =
+    (begins fault × (new ≡ old))
     ⊎ (FailsSending centre told input old new fault ⊎ (HasLostJournal fault × (status : ℕ) × SendsInput told strict input old new status))

@@ -25,6 +25,6 @@ IsWarning bytes text = (EndsQuoted bytes × (text ≡ quote_line (length (record
 abbrev pub Warns : List ℕ → Option (List ℕ) → Option (List ℕ) → Type 0
 Warns bytes error_old error_new = (text : List ℕ) × IsWarning bytes text × Appends error_old error_new text
 
--- a front of that was written
-abbrev pub WarnsFront : List ℕ → Option (List ℕ) → Option (List ℕ) → Type 0
-WarnsFront bytes error_old error_new = (text : List ℕ) × IsWarning bytes text × WritesFront error_old error_new text
+-- the beginning of that was written
+abbrev pub BeginsWarning : List ℕ → Option (List ℕ) → Option (List ℕ) → Type 0
+BeginsWarning bytes error_old error_new = (text : List ℕ) × IsWarning bytes text × WritesFront error_old error_new text

@@ -32,15 +32,15 @@ pub record PrintsQuote (input : Input) (old new : Option (List ℕ)) : Type 0 wh
   pub quote : HasQuote input text
   pub written : Appends old new text
 
--- a front of its quote was written and nothing else
-pub record PrintsFront (input : Input) (old new : Option (List ℕ)) : Type 0 where
+-- the beginning of its quote was written and nothing else
+pub record BeginsQuote (input : Input) (old new : Option (List ℕ)) : Type 0 where
   pub text : List ℕ
   pub quote : HasQuote input text
   pub front : WritesFront old new text
 
--- memory ran out, or the output failed behind a front of the quote
+-- memory ran out, or the output failed after the beginning of the quote
 abbrev pub FailsQuoting : Input → Option (List ℕ) → Option (List ℕ) → Fault → Type 0
-FailsQuoting input old new fault = (fault ≡ OutOfMemory) ⊎ ((fault ≡ output_failed) × PrintsFront input old new)
+FailsQuoting input old new fault = (fault ≡ OutOfMemory) ⊎ ((fault ≡ output_failed) × BeginsQuote input old new)
 
 -- ---- of an input that was read so
 
@@ -51,8 +51,8 @@ pub record Quotes (is_read : Input → Type 0) (lines : List ℕ) (old new error
   pub printed : PrintsQuote input old new
   pub warned : Appends error_old error_new (warnings_of input ++ lines)
 
--- where the output failed, a front of these was written to standard error
-pub record QuotesFront (is_read : Input → Type 0) (lines : List ℕ) (error_old error_new : Option (List ℕ)) : Type 0 where
+-- where the output failed, the beginning of these was written to standard error
+pub record BeginsWarnings (is_read : Input → Type 0) (lines : List ℕ) (error_old error_new : Option (List ℕ)) : Type 0 where
   pub input : Input
   pub read : is_read input
   pub front : WritesFront error_old error_new (warnings_of input ++ lines)
@@ -81,16 +81,16 @@ abbrev pub QuotesNamed : (List ℕ → Option Told → Type 0) → (List ℕ →
 QuotesNamed finds is_full at_length name old new error_old error_new config =
     (lines : List ℕ) × AreLinesAt is_full at_length name config.files lines × Quotes (IsRead finds false false config) lines old new error_old error_new
 
--- where the output failed, a front of these was written to standard error
-abbrev pub NamedFront : (List ℕ → Option Told → Type 0) → (List ℕ → List ℕ → Type 0) → Bool → List ℕ → Option (List ℕ) → Option (List ℕ) → Config → Type 0
-NamedFront finds is_full at_length name error_old error_new config =
-    (lines : List ℕ) × AreLinesAt is_full at_length name config.files lines × QuotesFront (IsRead finds false false config) lines error_old error_new
+-- where the output failed, the beginning of these was written to standard error
+abbrev pub BeginsNamedWarnings : (List ℕ → Option Told → Type 0) → (List ℕ → List ℕ → Type 0) → Bool → List ℕ → Option (List ℕ) → Option (List ℕ) → Config → Type 0
+BeginsNamedWarnings finds is_full at_length name error_old error_new config =
+    (lines : List ℕ) × AreLinesAt is_full at_length name config.files lines × BeginsWarnings (IsRead finds false false config) lines error_old error_new
 
 -- so by the config of a name, with details where they are wanted of each run or of this one
 abbrev pub QuotesAsAsked : (List ℕ → Option Told → Type 0) → (List ℕ → List ℕ → Type 0) → (Bool → Type 0) → String Global → Bool → Option (List ℕ) → Option (List ℕ) → Option (List ℕ) → Option (List ℕ) → Type 0
 QuotesAsAsked finds is_full wants name verbose old new error_old error_new =
     (details : Bool) × wants details × OfConfig finds (string_bytes name) (QuotesNamed finds is_full (details || verbose) (string_bytes name) old new error_old error_new)
 
-abbrev pub FrontAsAsked : (List ℕ → Option Told → Type 0) → (List ℕ → List ℕ → Type 0) → (Bool → Type 0) → String Global → Bool → Option (List ℕ) → Option (List ℕ) → Type 0
-FrontAsAsked finds is_full wants name verbose error_old error_new =
-    (details : Bool) × wants details × OfConfig finds (string_bytes name) (NamedFront finds is_full (details || verbose) (string_bytes name) error_old error_new)
+abbrev pub BeginsAsAsked : (List ℕ → Option Told → Type 0) → (List ℕ → List ℕ → Type 0) → (Bool → Type 0) → String Global → Bool → Option (List ℕ) → Option (List ℕ) → Type 0
+BeginsAsAsked finds is_full wants name verbose error_old error_new =
+    (details : Bool) × wants details × OfConfig finds (string_bytes name) (BeginsNamedWarnings finds is_full (details || verbose) (string_bytes name) error_old error_new)

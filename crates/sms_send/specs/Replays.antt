@@ -29,9 +29,9 @@ OfReplay P bytes =
 abbrev pub Replays : List ℕ → Option (List ℕ) → Option (List ℕ) → Type 0
 Replays bytes old new = OfReplay (Appends old new) bytes
 
--- a front of that text was written and nothing else
-abbrev pub ReplaysFront : List ℕ → Option (List ℕ) → Option (List ℕ) → Type 0
-ReplaysFront bytes old new = OfReplay (WritesFront old new) bytes
+-- the beginning of that text was written and nothing else
+abbrev pub BeginsReplay : List ℕ → Option (List ℕ) → Option (List ℕ) → Type 0
+BeginsReplay bytes old new = OfReplay (WritesFront old new) bytes
 
 -- why an input isn't replayed before anything is written: a record that the fault names is the first that may not stand where it stands
 abbrev pub FailsSchedule : List Record → Fault → Type 0

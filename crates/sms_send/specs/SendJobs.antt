@@ -24,7 +24,7 @@ pub record SendsBy (finds : List ℕ → Option Told → Type 0) (tells : Centre
 -- why the input wasn't sent, with a journal or without
 abbrev pub FailsInput : (JournalFile → Fault → Type 0) → CentreAt → (Bool → ℕ → Told) → Bool → Option JournalFile → Input → Option (List ℕ) → Option (List ℕ) → Fault → Type 0
 FailsInput begins centre told strict None input old new fault = FailsSending centre (told false) input old new fault
-FailsInput begins centre told strict (Some journal) input old new fault = FailsNoted begins centre (told true) strict journal input old new fault
+FailsInput begins centre told strict (Some journal) input old new fault = FailsNoted (begins journal) centre (told true) strict input old new fault
 
 -- why nothing was sent by this config: a file isn't there or is faulty, or the sending failed
 abbrev pub FailsBy : (JournalFile → Fault → Type 0) → (List ℕ → Option Told → Type 0) → (CentreAt → Bool → ℕ → Told) → TargetKind → Bool → Option JournalFile → Option (List ℕ) → Option (List ℕ) → Fault → Config → Type 0

@@ -1,23 +1,28 @@
 -- What a sending promises of what was read.
-use Rattle.std.specs.Prelude.{◌≡◌, ◌≢◌, ◌⊎◌, ◌*◌, ℕ, Bool, List, Option, Result, IfErr, IfOk, OnOk, length}
+use Rattle.std.specs.Prelude.{◌≡◌, ◌≢◌, ◌⊎◌, ◌*◌, ◌++◌, ℕ, Bool, List, Option, Result, IfErr, IfOk, OnOk, length, map}
 use Rattle.std.specs.Io.KnownBytes.{Appends}
 use Rattle.std.specs.List.{AllZip}
 use Rattle.sms_book.specs.Openings.{credits_of}
 use Rattle.sms_book.specs.Tariffs.{Price}
+use Rattle.sms_bind.specs.Frames.{AreSame, requests}
 use Rattle.sms_worker.specs.EndOf.{IsEndOf}
+use Rattle.sms_worker.specs.Frames.{frames_in}
 use Rattle.sms_message.specs.Limits.{most_turns}
 use Rattle.sms_message.specs.declared.rules.Rules.{Rules}
 use Rattle.sms_driver.specs.Answered.{AreHeard}
 use Rattle.sms_driver.specs.BindEnds.{AreBinds}
 use Rattle.sms_driver.specs.Deals.{dealt}
 use Rattle.sms_driver.specs.Ended.{HaveEnded}
-use Rattle.sms_driver.specs.Closings.{AreExplained}
+use Rattle.sms_driver.specs.Closings.{AreExplained, AreReasoned}
 use Rattle.sms_driver.specs.Numbered.{AreBelow, AreNumbered}
+use Rattle.sms_driver.specs.Rings.{flat}
+use Rattle.sms_driver.specs.Unbinds.{handed_in}
+use Rattle.sms_driver.specs.declared.bind_end.BindEnd.{BindEnd}
 use Rattle.sms_files.specs.Inputs.{IsInput, Told, TellsInput}
 use Rattle.sms_devices.specs.Centres.{CentreAt}
 use Rattle.sms_devices.specs.Centres.CentreAt.{Named, Own}
 use Rattle.sms_devices.specs.declared.gate.GateLimits.{GateLimits}
-use Rattle.sms_send.specs.Faults.{ComesAt, HasLostJournal, HasReason, IsReadFault, fault_of_sending, output_failed}
+use Rattle.sms_send.specs.Faults.{ComesAt, HasLostJournal, HasReason, IsReadFault, fault_of_sending, output_failed, unreported}
 use Rattle.sms_send.specs.Statuses.{IsStatusBy, status_by}
 use Rattle.sms_files.specs.Output.{WritesFront}
 use Rattle.sms_files.specs.Report.{report_of}
@@ -37,7 +42,7 @@ use Rattle.sms_driver.specs.declared.start.StartPhase.{StartPhase}
 use Rattle.sms_driver.specs.declared.start.StartPhase.TheVariants.{Released}
 use Rattle.sms_send.specs.declared.args.send_args.Throttle.{Throttle}
 use Rattle.sms_send.specs.declared.faults.fault.Fault.{Fault}
-use Rattle.sms_send.specs.declared.faults.fault.Fault.TheVariants.{BindFailed, Unreported}
+use Rattle.sms_send.specs.declared.faults.fault.Fault.TheVariants.{BindFailed}
 use Rattle.sms_files.specs.declared.input.Input.{Input}
 use Rattle.sms_files.specs.declared.config.limits.Limits.{Limits}
 use Rattle.sms_send.specs.declared.sending.sender.Ended.{Ended}
@@ -59,13 +64,19 @@ pub record AreRunSettings (config : Config) (tariff : List Price) (run : RunSett
 abbrev pub limits_by : Config → Throttle → GateLimits
 limits_by config throttle = record { answer_ms = config.retry.answer_ms; rate = throttle.rate; stop_after = throttle.stop_after }
 
+-- the frames of the unbinds that were handed to the wires of these binds
+abbrev pub unbinds_in : List BindEnd → List (List ℕ)
+unbinds_in binds = flat (map (λ b. handed_in b.unbind_result) binds)
+
 -- there is an end for each message, in order, which it meets by the rules, a row for each account,
 -- whose amounts are the sums over these ends, and an end for each of the config's binds, each of so
 -- many workers as the config says; and bind by bind each attempt with a reply has a place of its own,
 -- where that reply stands, among the answers in what was read of the bind, of which `told` is what it will give, where that is known, and no
 -- other attempt of the bind has its sequence_number, which is below the one that the bind's window would have given next;
 -- and the end of each bind says how its reader ended: the bind was opened, and the reader followed, as the config says;
--- and why it was closed to its workers, where they refused a message as bind-closed
+-- and why it was closed to its workers, where they refused a message as bind-closed; and each part that was given up was so for a reason that its
+-- worker lists, or since the bind was closed, and memory was refused for each message that is refused for want of it; and the requests that the
+-- wires of the binds were given are the frames of all attempts and the unbinds, each as often
 pub record IsSent (told : ℕ → Told) (input : Input) (ended : Ended) : Type 0 where
   pub openings : ended.openings ≡ input.openings
   pub rules : Rules
@@ -79,6 +90,8 @@ pub record IsSent (told : ℕ → Told) (input : Input) (ended : Ended) : Type 0
   pub numbers : AreNumbered input.config.limits.binds input.config.limits.workers (dealt (input.config.limits.binds * input.config.limits.workers) 0 ended.ends.items)
   pub below : AreBelow input.config.limits.workers ended.binds.items (dealt (input.config.limits.binds * input.config.limits.workers) 0 ended.ends.items)
   pub explained : AreExplained input.config.limits.workers ended.binds.items (dealt (input.config.limits.binds * input.config.limits.workers) 0 ended.ends.items)
+  pub reasons : AreReasoned rules.policy.attempts input.config.limits.workers ended.binds.items ended.reasons.items (dealt (input.config.limits.binds * input.config.limits.workers) 0 ended.ends.items)
+  pub handed : AreSame (requests ended.log.given) (flat (map frames_in (dealt (input.config.limits.binds * input.config.limits.workers) 0 ended.ends.items)) ++ unbinds_in ended.binds.items)
   pub heard : AreHeard told input.config.limits.binds input.config.limits.workers (dealt (input.config.limits.binds * input.config.limits.workers) 0 ended.ends.items)
 
 -- of a bind without a connection a dial over TCP says nothing to contracts
@@ -110,12 +123,12 @@ abbrev pub FailsDriving : (ℕ → Type 0) → (ℕ → Told) → Config → Sta
 FailsDriving refuses told config begun fault = (f : SendFault) × IsFaultIn refuses told config f × TellsStart begun f × (fault ≡ fault_of_sending f)
 
 -- why an input that was read has no report: nothing was sent, since a bind failed or memory was refused; or all was sent, and the
--- output failed behind a front of the report of that, or memory was refused for the report and none of it was written
+-- output failed after the beginning of the report of that, or memory was refused for the report and none of it was written
 abbrev pub FailsOver : (ℕ → Type 0) → (ℕ → Told) → Input → Option (List ℕ) → Option (List ℕ) → Fault → Type 0
 FailsOver refuses told input old new fault =
     ((f : SendFault) × IsFaultIn refuses told input.config f × (fault ≡ fault_of_sending f))
     ⊎ (((fault ≡ output_failed) × (ended : Ended) × IsSent told input ended × WritesFront old new (report_in ended))
-    ⊎ ((fault ≡ Unreported) × (ended : Ended) × IsSent told input ended × (new ≡ old)))
+    ⊎ ((fault ≡ unreported) × (ended : Ended) × IsSent told input ended × (new ≡ old)))
 
 -- why these octets have no report: the fault is of the first that have one, or of the sending of what they all say
 abbrev pub FailsSender : (ℕ → Type 0) → (ℕ → Told) → List ℕ → Told → Told → Option Told → Option (List ℕ) → Option (List ℕ) → Fault → Type 0

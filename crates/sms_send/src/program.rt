@@ -7,7 +7,7 @@ ghost use Rattle.sms_files.specs.Output.{WritesFront};
 ghost use Rattle.sms_send.specs.Asked.{AsksForDetails, AsksForJob, FailsAsAsked, IsUntold, LacksJob, OfAsked, WorksAsAsked, printed_of};
 ghost use Rattle.sms_send.specs.FaultReports.{ReportsFault};
 ghost use Rattle.sms_send.specs.Faults.{HasLostJournal, status_of, output_failed};
-ghost use Rattle.sms_send.specs.Jobs.{ComesIn, Does, FailsJob, HasBegun, IsStatusOf, WritesBeside, WritesBesideFront};
+ghost use Rattle.sms_send.specs.Jobs.{ComesIn, Does, FailsJob, HasBegun, IsStatusOf, NotesJob, WritesBeside, BeginsBeside};
 ghost use Rattle.sms_send.specs.Noted.{FailsBegin};
 
 use crate::args::job::{Job, job_of};
@@ -69,9 +69,10 @@ pub fn run<R: FileModes + FullNames + Host + InputFiles + ProgramWords, W: Write
     ensures done { IfOk result (WorksAsAsked (R.has rt.now) R.Reader.remaining (R.finds rt.now) (R.tells rt.now) (λ job. WritesBeside (R.finds rt.now) (R.is_full rt.now) (R.details rt.now) job (W.contents output.old) (W.contents output.new) (E.contents error.old) (E.contents error.new)) (W.contents output.old) (W.contents output.new)) }
     ensures refused { IfErr result (FailsAsAsked (R.has rt.now) (FailsBegin (R.makes rt.now) (R.refuses rt.now) (R.holds rt.now)) (R.holds rt.now) R.Reader.remaining (R.finds rt.now) (R.tells rt.now) (W.contents output.old) (W.contents output.new)) }
     ensures unwritten { IfErr result (λ fault. fault ≢ output_failed → ¬ HasLostJournal fault → output.new ≡ output.old) }
-    ensures front { IfErr result (λ fault. fault ≡ output_failed → OfAsked (R.has rt.now) (λ job. WritesBesideFront (R.finds rt.now) (R.is_full rt.now) (R.details rt.now) job (E.contents error.old) (E.contents error.new))) }
+    ensures front { IfErr result (λ fault. fault ≡ output_failed → OfAsked (R.has rt.now) (λ job. BeginsBeside (R.finds rt.now) (R.is_full rt.now) (R.details rt.now) job (E.contents error.old) (E.contents error.new))) }
     ensures untold { IfErr result (λ fault. fault ≢ output_failed → error.new ≡ error.old) }
     ensures verbose { IfErr result (AsksForDetails (R.has rt.now) context.new.verbose) }
+    ensures noted { OnOk result (OfAsked (R.has rt.now) (λ job. NotesJob R.JournalFile.contents (R.makes rt.now) job result)) }
 {
     let job = match asked_job(rt, context) {
         Ok(job) => job,
@@ -98,8 +99,9 @@ pub fn do_job<R: FileModes + FullNames + Host + InputFiles, W: Write, E: Write>(
     ensures status { IfOk result (IsStatusOf job) }
     ensures done { IfOk result (Does R.Reader.remaining (R.finds rt.now) (R.tells rt.now) job (W.contents output.old) (W.contents output.new)) }
     ensures beside { OnOk result (WritesBeside (R.finds rt.now) (R.is_full rt.now) (R.details rt.now) job (W.contents output.old) (W.contents output.new) (E.contents error.old) (E.contents error.new)) }
-    ensures front { IfErr result (λ fault. fault ≡ output_failed → WritesBesideFront (R.finds rt.now) (R.is_full rt.now) (R.details rt.now) job (E.contents error.old) (E.contents error.new)) }
+    ensures front { IfErr result (λ fault. fault ≡ output_failed → BeginsBeside (R.finds rt.now) (R.is_full rt.now) (R.details rt.now) job (E.contents error.old) (E.contents error.new)) }
     ensures refused { IfErr result (FailsJob (FailsBegin (R.makes rt.now) (R.refuses rt.now) (R.holds rt.now)) (R.holds rt.now) R.Reader.remaining (R.finds rt.now) (R.tells rt.now) job (W.contents output.old) (W.contents output.new)) }
+    ensures noted { NotesJob R.JournalFile.contents (R.makes rt.now) job result }
     ensures phase { IfErr result (ComesIn job start.new.begun) }
     ensures unwritten { IfErr result (λ fault. fault ≢ output_failed → ¬ HasLostJournal fault → output.new ≡ output.old) }
     ensures untold { IfErr result (λ fault. fault ≢ output_failed → error.new ≡ error.old) }

@@ -65,11 +65,11 @@ fn has_failed<F: Write + OpenFile>(journal: Option<&Journal<F>>) -> bool {
 impl<'r, R: Host> Sending<'r, R> {
     /// Connects to the message centre, sends the messages of an input, each noted in the journal if there is
     /// one, and writes the report. Gives the exit status.
-    pub fn run<'j, W: Write>(
+    pub fn run<'j, F: Write + OpenFile + Send + Drop, W: Write>(
         &'j self,
         start: &mut Start<'_>,
         input: Input,
-        journal: Option<&'j Journal<R::JournalFile>>,
+        journal: Option<&'j Journal<F>>,
         output: &mut W,
     ) -> Result<u8, Fault>
         requires not_started { start.old.begun ≡ Idle }
@@ -118,11 +118,11 @@ impl<'r, R: Host> Sending<'r, R> {
     /// Sends the messages over the connections that the dial makes, and writes the report. The journal is
     /// complete before the report is formed. A person sees the progress, and the outcome also where the
     /// report couldn't be written.
-    fn send_over<'j, D: Dial, P: Pause + Sync, W: Write>(
+    fn send_over<'j, F: Write + OpenFile + Send + Drop, D: Dial, P: Pause + Sync, W: Write>(
         &'j self,
         start: &mut Start<'_>,
         input: Input,
-        outboxes: &Outboxes<'j, R, R::JournalFile>,
+        outboxes: &Outboxes<'j, R, F>,
         dial: &D,
         pause: &P,
         output: &mut W,

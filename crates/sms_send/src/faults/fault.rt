@@ -8,6 +8,7 @@ use crate::faults::argument_error::ArgumentError;
 use crate::faults::details::shown::write_shown;
 use sms_devices::{JournalFailure, Reason};
 use sms_driver::{BindFailure, SendFault};
+use sms_files::memory::NoMemory;
 use sms_files::{ConfigValue, InputFault, OutputFault, RecordFlaw, Source, TomlFlaw, Unwritten};
 use sms_journal::RecoveryFault;
 use sms_pdu::DeviceError;
@@ -66,8 +67,9 @@ pub enum Fault {
     Output(Unwritten),
     /// Memory was refused, or a thread, and nothing was sent.
     OutOfMemory,
-    /// Memory was refused for the report of a sending, once its messages had ended, so there is none.
-    Unreported,
+    /// Memory was refused for the report of a sending, once its messages had ended, so there is none. This is the
+    /// evidence of that.
+    Unreported(NoMemory),
 }
 
 impl fmt::Display for Fault {
@@ -100,7 +102,7 @@ impl fmt::Display for Fault {
             }
             Fault::OtherFile(_) => f.write_str("fault: journal record 1"),
             Fault::Output(_) => f.write_str("fault: output"),
-            Fault::OutOfMemory | Fault::Unreported => f.write_str("fault: out of memory"),
+            Fault::OutOfMemory | Fault::Unreported(_) => f.write_str("fault: out of memory"),
         }
     }
 }
@@ -188,7 +190,7 @@ impl From<InputFault> for Fault {
             InputFault::BadRecord(source, place, flaw) => Fault::BadRecord(source, place, flaw),
             InputFault::NotToml(flaw) => Fault::NotToml(flaw),
             InputFault::BadKey(key, value) => Fault::BadKey(key, value),
-            InputFault::OutOfMemory => Fault::OutOfMemory,
+            InputFault::OutOfMemory(_) => Fault::OutOfMemory,
         }
     }
 }
@@ -216,7 +218,7 @@ impl From<OutputFault> for Fault {
     fn from(fault: OutputFault) -> Fault {
         match fault {
             OutputFault::Output(unwritten) => Fault::Output(unwritten),
-            OutputFault::OutOfMemory => Fault::OutOfMemory,
+            OutputFault::OutOfMemory(_) => Fault::OutOfMemory,
         }
     }
 }
@@ -235,7 +237,7 @@ impl From<RecoveryFault> for Fault {
             RecoveryFault::Overdrawn => Fault::Overdrawn,
             RecoveryFault::Report(place) => Fault::BadReport(place),
             RecoveryFault::Output(unwritten) => Fault::Output(unwritten),
-            RecoveryFault::OutOfMemory => Fault::OutOfMemory,
+            RecoveryFault::OutOfMemory(_) => Fault::OutOfMemory,
         }
     }
 }

@@ -35,7 +35,7 @@ pub fn run_plan<R: Read + Drop, W: Write>(
     // A record is named just where it is the first faulty one.
     ensures faulty { IfErr result (λ fault. IfSome (R.remaining input) (λ bytes. FailsPlan (records_of bytes) fault)) }
 
-    // Where the output failed, a front of the plan was written.
+    // Where the output failed, the beginning of the plan was written.
     ensures front { IfErr result (λ fault. fault ≡ output_failed → IfSome (R.remaining input) (λ bytes. WritesFront (W.contents output.old) (W.contents output.new) (plan_of (kind_of long) (records_of bytes)))) }
 
     // Nothing was written, save where writing itself failed.

@@ -10,7 +10,7 @@ ghost use Rattle.sms_files.specs.PlanText.{kind_of, plan_of};
 ghost use Rattle.sms_send.specs.Faults.{IsReadFault, output_failed};
 ghost use Rattle.sms_send.specs.Jobs.{Plans};
 ghost use Rattle.sms_send.specs.Opened.{OfFile, FailsOpening};
-ghost use Rattle.sms_send.specs.Plans.{IsWarning, FailsPlan, Warns, WarnsFront, quote_line};
+ghost use Rattle.sms_send.specs.Plans.{IsWarning, FailsPlan, Warns, BeginsWarning, quote_line};
 
 use crate::faults::fault::Fault;
 use crate::files::named_files::whole_of;
@@ -83,7 +83,7 @@ fn plan_octets<W: Write, E: Write>(
     ensures planned { OnOk result (Plans long octets.now (W.contents output.old) (W.contents output.new)) }
     ensures warned { OnOk result (Warns octets.now (E.contents error.old) (E.contents error.new)) }
     ensures refused { IfErr result (FailsPlan (records_of octets.now)) }
-    ensures front { IfErr result (λ fault. fault ≡ output_failed → WarnsFront octets.now (E.contents error.old) (E.contents error.new)) }
+    ensures front { IfErr result (λ fault. fault ≡ output_failed → BeginsWarning octets.now (E.contents error.old) (E.contents error.new)) }
     ensures unwritten { IfErr result (λ fault. fault ≢ output_failed → (output.new ≡ output.old) × (error.new ≡ error.old)) }
 {
     match texts_of(alloc, octets, long) {
@@ -108,7 +108,7 @@ pub fn plan_job<R: AllocGlobal + InputFiles, W: Write, E: Write>(
     ensures planned { OnOk result (OfFile (R.finds rt.now) (string_bytes name) (λ bytes. Plans long bytes (W.contents output.old) (W.contents output.new))) }
     ensures warned { OnOk result (OfFile (R.finds rt.now) (string_bytes name) (λ bytes. Warns bytes (E.contents error.old) (E.contents error.new))) }
     ensures refused { IfErr result (λ fault. FailsOpening (R.finds rt.now) name fault ⊎ OfFile (R.finds rt.now) (string_bytes name) (λ bytes. FailsPlan (records_of bytes) fault)) }
-    ensures front { IfErr result (λ fault. fault ≡ output_failed → OfFile (R.finds rt.now) (string_bytes name) (λ bytes. WarnsFront bytes (E.contents error.old) (E.contents error.new))) }
+    ensures front { IfErr result (λ fault. fault ≡ output_failed → OfFile (R.finds rt.now) (string_bytes name) (λ bytes. BeginsWarning bytes (E.contents error.old) (E.contents error.new))) }
     ensures unwritten { IfErr result (λ fault. fault ≢ output_failed → (output.new ≡ output.old) × (error.new ≡ error.old)) }
 {
     let file = match open(rt, name) {

@@ -7,7 +7,7 @@ ghost use Rattle.sms_files.specs.Inputs.{IsFaultOfFiles, IsInput, TellsInput};
 ghost use Rattle.sms_files.specs.Output.{WritesFront};
 ghost use Rattle.sms_send.specs.ConfigFiles.{OfConfig};
 ghost use Rattle.sms_send.specs.Faults.{IsReadFault, output_failed};
-ghost use Rattle.sms_send.specs.Quoted.{FailsQuote, FailsQuoteJob, FailsQuoting, FrontAsAsked, HasQuote, NamedFront, PrintsQuote, Quotes, QuotesAsAsked, QuotesFiles, QuotesFront, QuotesNamed, warnings_of};
+ghost use Rattle.sms_send.specs.Quoted.{FailsQuote, FailsQuoteJob, FailsQuoting, BeginsAsAsked, HasQuote, BeginsNamedWarnings, PrintsQuote, Quotes, QuotesAsAsked, QuotesFiles, BeginsWarnings, QuotesNamed, warnings_of};
 ghost use Rattle.sms_send.specs.Reading.{IsInputBy};
 
 use crate::faults::context::{JobContext, is_at_length};
@@ -19,19 +19,20 @@ use crate::files::opened::InputFiles;
 use crate::files::reading::{parse_config, read_files};
 use crate::terminal::written::write_both;
 use sms_devices::Screen;
+use sms_files::memory::{NoMemory, append};
 use sms_files::{Config, Input, quote_text, warnings_text};
-use std::alloc::{AllocError, Global};
+use std::alloc::Global;
 use std::io::{Read, Write};
 use std::mem;
 
 /// What is printed of an input, and its warnings with these lines behind them.
-fn texts_of(alloc: Global, input: &Input, lines: &str) -> Result<(String, String), AllocError>
+fn texts_of(alloc: Global, input: &Input, lines: &str) -> Result<(String, String), NoMemory>
     ensures quote { IfOk result (λ texts. HasQuote input.now (string_bytes texts.0)) }
     ensures warnings { IfOk result (λ texts. string_bytes texts.1 ≡ warnings_of input.now ++ lines.now) }
 {
     let quote = quote_text(alloc, input)?;
     let mut warnings = warnings_text(alloc, input)?;
-    warnings.push_str(lines)?;
+    append(&mut warnings, lines)?;
     Ok((quote, warnings))
 }
 
@@ -70,7 +71,7 @@ fn quote_files<A: Read + Drop, M: Read + Drop, T: Read + Drop, W: Write, E: Writ
     ensures status { IfOk result (λ status. status ≡ 0) }
     ensures quoted { OnOk result (Quotes (IsInputBy config (A.remaining accounts) (M.remaining messages) (option_map T.remaining tariff)) lines.now (W.contents output.old) (W.contents output.new) (E.contents error.old) (E.contents error.new)) }
     ensures refused { IfErr result (FailsQuote (IsInputBy config (A.remaining accounts) (M.remaining messages) (option_map T.remaining tariff)) (IsReadFault (IsFaultOfFiles (A.remaining accounts) (M.remaining messages) (option_map T.remaining tariff))) (W.contents output.old) (W.contents output.new)) }
-    ensures front { IfErr result (λ fault. fault ≡ output_failed → QuotesFront (IsInputBy config (A.remaining accounts) (M.remaining messages) (option_map T.remaining tariff)) lines.now (E.contents error.old) (E.contents error.new)) }
+    ensures front { IfErr result (λ fault. fault ≡ output_failed → BeginsWarnings (IsInputBy config (A.remaining accounts) (M.remaining messages) (option_map T.remaining tariff)) lines.now (E.contents error.old) (E.contents error.new)) }
     ensures unwritten { IfErr result (λ fault. fault ≢ output_failed → (output.new ≡ output.old) × (error.new ≡ error.old)) }
 {
     match read_files(alloc, config, accounts, messages, tariff) {
@@ -101,7 +102,7 @@ pub fn run_quote<A: Read + Drop, M: Read + Drop, T: Read + Drop, W: Write, E: Wr
     ensures quoted { OnOk result (Quotes (IsInput config.now (A.remaining accounts) (M.remaining messages) (option_map T.remaining tariff)) [] (W.contents output.old) (W.contents output.new) (E.contents error.old) (E.contents error.new)) }
     // A fault is of the first of these that has one, or of the quote of what they say.
     ensures refused { IfErr result (FailsQuote (IsInput config.now (A.remaining accounts) (M.remaining messages) (option_map T.remaining tariff)) (IsReadFault (TellsInput config.now (A.remaining accounts) (M.remaining messages) (option_map T.remaining tariff))) (W.contents output.old) (W.contents output.new)) }
-    ensures front { IfErr result (λ fault. fault ≡ output_failed → QuotesFront (IsInput config.now (A.remaining accounts) (M.remaining messages) (option_map T.remaining tariff)) [] (E.contents error.old) (E.contents error.new)) }
+    ensures front { IfErr result (λ fault. fault ≡ output_failed → BeginsWarnings (IsInput config.now (A.remaining accounts) (M.remaining messages) (option_map T.remaining tariff)) [] (E.contents error.old) (E.contents error.new)) }
     ensures unwritten { IfErr result (λ fault. fault ≢ output_failed → (output.new ≡ output.old) × (error.new ≡ error.old)) }
 {
     match parse_config(alloc, config) {
@@ -123,7 +124,7 @@ fn quote_config<R: AllocGlobal + FullNames + InputFiles, W: Write, E: Write>(
     ensures status { IfOk result (λ status. status ≡ 0) }
     ensures quoted { OnOk result (OfConfig (R.finds rt.now) (string_bytes config) (QuotesNamed (R.finds rt.now) (R.is_full rt.now) at_length (string_bytes config) (W.contents output.old) (W.contents output.new) (E.contents error.old) (E.contents error.new))) }
     ensures refused { IfErr result (FailsQuoteJob (R.finds rt.now) config (W.contents output.old) (W.contents output.new)) }
-    ensures front { IfErr result (λ fault. fault ≡ output_failed → OfConfig (R.finds rt.now) (string_bytes config) (NamedFront (R.finds rt.now) (R.is_full rt.now) at_length (string_bytes config) (E.contents error.old) (E.contents error.new))) }
+    ensures front { IfErr result (λ fault. fault ≡ output_failed → OfConfig (R.finds rt.now) (string_bytes config) (BeginsNamedWarnings (R.finds rt.now) (R.is_full rt.now) at_length (string_bytes config) (E.contents error.old) (E.contents error.new))) }
     ensures unwritten { IfErr result (λ fault. fault ≢ output_failed → (output.new ≡ output.old) × (error.new ≡ error.old)) }
 {
     let kept = name_at(rt.alloc(), config.as_str(), at_length)?;
@@ -166,7 +167,7 @@ pub fn quote_job<R: AllocGlobal + FullNames + InputFiles + Screen, W: Write, E: 
     ensures quoted { OnOk result (OfConfig (R.finds rt.now) (string_bytes config) (QuotesFiles (R.finds rt.now) (W.contents output.old) (W.contents output.new))) }
     ensures beside { OnOk result (QuotesAsAsked (R.finds rt.now) (R.is_full rt.now) (R.details rt.now) config verbose (W.contents output.old) (W.contents output.new) (E.contents error.old) (E.contents error.new)) }
     ensures refused { IfErr result (FailsQuoteJob (R.finds rt.now) config (W.contents output.old) (W.contents output.new)) }
-    ensures front { IfErr result (λ fault. fault ≡ output_failed → FrontAsAsked (R.finds rt.now) (R.is_full rt.now) (R.details rt.now) config verbose (E.contents error.old) (E.contents error.new)) }
+    ensures front { IfErr result (λ fault. fault ≡ output_failed → BeginsAsAsked (R.finds rt.now) (R.is_full rt.now) (R.details rt.now) config verbose (E.contents error.old) (E.contents error.new)) }
     ensures unwritten { IfErr result (λ fault. fault ≢ output_failed → (output.new ≡ output.old) × (error.new ≡ error.old)) }
 {
     let at_length = is_at_length(rt.has_details(), verbose);

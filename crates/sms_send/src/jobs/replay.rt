@@ -3,7 +3,7 @@
 ghost use Rattle.std.specs.Prelude.{◌≡◌, ◌≢◌, None, IfErr, IfOk, IfSome, OnOk, string_bytes};
 ghost use Rattle.sms_files.specs.Fields.{records_of};
 ghost use Rattle.sms_send.specs.Faults.{output_failed};
-ghost use Rattle.sms_send.specs.Replays.{OfReplay, PrintsRun, Replays, ReplaysFront, FailsReplay, FailsSchedule};
+ghost use Rattle.sms_send.specs.Replays.{OfReplay, PrintsRun, Replays, BeginsReplay, FailsReplay, FailsSchedule};
 ghost use Rattle.sms_files.specs.Schedule.{schedule_fault};
 
 use crate::faults::fault::Fault;
@@ -16,7 +16,7 @@ use std::io::{Read, Write};
 /// world.
 ///
 /// The input is read and checked whole, and the output is formed whole, before anything is written.
-/// Where the output fails, what went out is a front of that.
+/// Where the output fails, what went out is the beginning of that.
 pub fn run_replay<R: Read + Drop, W: Write>(
     alloc: Global,
     input: R,
@@ -26,7 +26,7 @@ pub fn run_replay<R: Read + Drop, W: Write>(
     ensures replayed { OnOk result (IfSome (R.remaining input) (λ bytes. Replays bytes (W.contents output.old) (W.contents output.new))) }
     ensures accepted { OnOk result (IfSome (R.remaining input) (λ bytes. schedule_fault (records_of bytes) ≡ None)) }
     ensures refused { IfErr result (λ fault. IfSome (R.remaining input) (λ bytes. FailsReplay (records_of bytes) fault)) }
-    ensures front { IfErr result (λ fault. fault ≡ output_failed → IfSome (R.remaining input) (λ bytes. ReplaysFront bytes (W.contents output.old) (W.contents output.new))) }
+    ensures front { IfErr result (λ fault. fault ≡ output_failed → IfSome (R.remaining input) (λ bytes. BeginsReplay bytes (W.contents output.old) (W.contents output.new))) }
     ensures unwritten { IfErr result (λ fault. fault ≢ output_failed → output.new ≡ output.old) }
 {
     let text = replayed(alloc, input)?;

@@ -5,7 +5,7 @@ ghost use Rattle.sms_driver.specs.declared.start_gate.Command.TheVariants.{Go};
 ghost use Rattle.sms_driver.specs.declared.start.StartPhase.TheVariants.{Idle, Released};
 ghost use Rattle.sms_send.specs.ConfigFiles.{OfConfig};
 ghost use Rattle.sms_send.specs.Faults.{ComesAt, output_failed};
-ghost use Rattle.sms_send.specs.Noted.{FailsBegin};
+ghost use Rattle.sms_send.specs.Noted.{FailsBegin, NotesEnd};
 ghost use Rattle.sms_send.specs.SendJobs.{FailsSendJob, SendsBy};
 ghost use Rattle.sms_send.specs.Sent.{FailsSender, RunsSender, SendingEnd};
 
@@ -87,6 +87,8 @@ pub fn send_job<R: FileModes + Host + InputFiles, W: Write>(
     requires not_started { start.old.begun ≡ Idle }
     ensures latch { start.new.latch ≡ start.old.latch }
     ensures ended { SendingEnd order.strict (λ status. OfConfig (R.finds rt.now) (string_bytes order.config) (SendsBy (R.finds rt.now) (R.tells rt.now) kind order.strict (is_some order.journal) (W.contents output.old) (W.contents output.new) status)) (FailsSendJob (FailsBegin (R.makes rt.now) (R.refuses rt.now) (R.holds rt.now)) (R.finds rt.now) (R.tells rt.now) kind order (W.contents output.old) (W.contents output.new)) start.new.begun output.old output.new result }
+    // A journal that was asked for is the file that was made by its name, and ends with the note of this.
+    ensures noted { IfOk result (NotesEnd R.JournalFile.contents (R.makes rt.now) order.journal) }
 {
     let SendArgs {
         config,
@@ -113,7 +115,7 @@ pub fn send_job<R: FileModes + Host + InputFiles, W: Write>(
     match journal {
         None => {
             let input = read_plain(rt.alloc(), opened, strict)?;
-            sending.run(start, input, None, output)
+            sending.run::<R::JournalFile, W>(start, input, None, output)
         }
         Some(wanted) => {
             let noted = read_noted(rt.alloc(), octets.as_slice(), opened, strict)?;

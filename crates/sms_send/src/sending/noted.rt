@@ -1,35 +1,34 @@
 //! A sending that is noted in a journal.
 
-ghost use Rattle.std.specs.Prelude.{◌≡◌, ◌⊎◌, ℕ, Err, Ok, IfErr, IfOk, IsOk, string_bytes, true};
+ghost use Rattle.std.specs.Prelude.{◌≡◌, ◌⊎◌, ℕ, Err, Ok, IfErr, IfOk, string_bytes, true};
 ghost use Rattle.sms_driver.specs.declared.start.StartPhase.TheVariants.{Idle};
 ghost use Rattle.sms_send.specs.Faults.{HasLostJournal};
-ghost use Rattle.sms_send.specs.Noted.{FailsBegin, FailsNoted, IsHeld, IsMade, IsNoted, IsUnmade};
+ghost use Rattle.sms_send.specs.Noted.{FailsBegin, FailsNoted, IsNotedIn, LacksFirstLine, fault_of_unmade};
 ghost use Rattle.sms_send.specs.Reached.{centre_of};
-ghost use Rattle.sms_send.specs.Sent.{SendingEnd, SendsInput};
+ghost use Rattle.sms_send.specs.Sent.{FailsSending, SendingEnd, SendsInput};
 
 use crate::args::send_args::JournalFile;
 use crate::faults::fault::Fault;
 use crate::sending::Sending;
-use sms_devices::{Host, Journal, JournalFailure, JournalFiles, Unmade};
+use sms_devices::{Host, Journal, JournalFailure, MadeFile, Origin, Unmade};
 use sms_driver::Start;
 use sms_files::Input;
 use sms_journal::{Digests, JournalKind};
 use std::fs::OpenFile;
 use std::io::Write;
+use std::marker::Brand;
 use std::sync::Wait;
 use std::time::Clock;
 
-/// A new file for a journal, which this process holds from here on. The name is the fault where none can be
-/// made, and the journal where a process holds one of this name.
-fn make_journal<R: JournalFiles>(rt: &R, wanted: JournalFile) -> Result<R::JournalFile, Fault>
-    ensures made { IsOk result → IsMade (R.makes rt.now) wanted }
-    ensures refused { IfErr result (λ fault. IsHeld (R.holds rt.now) (string_bytes wanted.name) fault ⊎ IsUnmade (R.refuses rt.now) wanted fault) }
+/// The fault where no file was made for a journal: its name where none can be made, and the journal where a
+/// process holds one of this name.
+fn unmade_fault(wanted: JournalFile, why: Unmade) -> Fault
+    ensures { result ≡ fault_of_unmade wanted.name why }
 {
-    let JournalFile { name, sync } = wanted;
-    match rt.create_journal(name.as_str(), sync) {
-        Ok(file) => Ok(file),
-        Err(Unmade::Held) => Err(Fault::JournalHeld),
-        Err(Unmade::Failed(kind)) => Err(Fault::Unmade(name, kind)),
+    let JournalFile { name, .. } = wanted;
+    match why {
+        Unmade::Held => Fault::JournalHeld,
+        Unmade::Failed(kind) => Fault::Unmade(name, kind),
     }
 }
 
@@ -42,21 +41,16 @@ fn failure_of<R: Wait, F: Write + OpenFile>(rt: &R, journal: &Journal<F>) -> Jou
 }
 
 /// A journal of this kind in a new file, which has its first line.
-fn begin_journal<R: AllocGlobal + JournalFiles + Wait>(
+fn begin_journal<R: AllocGlobal + Wait, F: Write + OpenFile + Drop>(
     rt: &R,
-    wanted: JournalFile,
+    file: F,
+    is_synced: bool,
     kind: JournalKind,
     digests: &Digests,
-) -> Result<Journal<R::JournalFile>, Fault>
-    ensures made { IsOk result → IsMade (R.makes rt.now) wanted }
-    ensures refused { IfErr result (FailsBegin (R.makes rt.now) (R.refuses rt.now) (R.holds rt.now) wanted) }
+) -> Result<Journal<F>, Fault>
+    ensures refused { IfErr result LacksFirstLine }
 {
-    let sync = wanted.sync;
-    let file = match make_journal(rt, wanted) {
-        Ok(file) => file,
-        Err(fault) => return Err(fault),
-    };
-    let journal = Journal::new(rt.alloc(), file, sync);
+    let journal = Journal::new(rt.alloc(), file, is_synced);
     journal.begin(rt, kind, digests);
     if journal.let_out(rt) {
         Ok(journal)
@@ -66,18 +60,21 @@ fn begin_journal<R: AllocGlobal + JournalFiles + Wait>(
 }
 
 /// Notes that a sending has ended with its report. That the journal has failed is a fault after that.
-fn end_journal<R: Clock, F: Write + OpenFile + Drop>(
+fn end_journal<R: Clock, F: Write + OpenFile + Drop, O: Origin<F>>(
     rt: &R,
-    journal: Journal<F>,
+    journal: Journal<MadeFile<F, O>>,
     sent: Result<u8, Fault>,
 ) -> Result<u8, Fault>
     ensures ended { IfOk result (λ status. sent ≡ Ok status) }
-    ensures noted { IfOk result (IsNoted F.contents) }
+    ensures noted { IfOk result (IsNotedIn F.contents O.made) }
     ensures refused { IfErr result (λ fault. (sent ≡ Err fault) ⊎ (HasLostJournal fault × (status : ℕ) × (sent ≡ Ok status))) }
 {
     match sent {
         Ok(status) => match journal.close(rt, status) {
-            Ok(_file) => Ok(status),
+            Ok(file) => {
+                file.is_made();
+                Ok(status)
+            }
             Err(why) => Err(Fault::Journal(why)),
         },
         Err(fault) => Err(fault),
@@ -85,7 +82,7 @@ fn end_journal<R: Clock, F: Write + OpenFile + Drop>(
 }
 
 impl<'r, R: Host> Sending<'r, R> {
-    /// Begins a journal of files with these digests, and sends the messages of an input.
+    /// Makes the journal of files with these digests, and sends the messages of an input.
     pub fn run_noted<W: Write>(
         &self,
         start: &mut Start<'_>,
@@ -97,15 +94,56 @@ impl<'r, R: Host> Sending<'r, R> {
         requires not_started { start.old.begun ≡ Idle }
         ensures latch { start.new.latch ≡ start.old.latch }
         // A journal that can't be begun is a fault before anything was sent or written; one that failed later, after the whole report.
-        ensures ended { SendingEnd self.now.strict (SendsInput (R.tells self.now.rt.now (centre_of self.now.target) true) self.now.strict input (W.contents output.old) (W.contents output.new)) (FailsNoted (FailsBegin (R.makes self.now.rt.now) (R.refuses self.now.rt.now) (R.holds self.now.rt.now)) (centre_of self.now.target) (R.tells self.now.rt.now (centre_of self.now.target) true) self.now.strict wanted input (W.contents output.old) (W.contents output.new)) start.new.begun output.old output.new result }
-        ensures noted { IfOk result (IsNoted R.JournalFile.contents) }
+        ensures ended { SendingEnd self.now.strict (SendsInput (R.tells self.now.rt.now (centre_of self.now.target) true) self.now.strict input (W.contents output.old) (W.contents output.new)) (FailsNoted (FailsBegin (R.makes self.now.rt.now) (R.refuses self.now.rt.now) (R.holds self.now.rt.now) wanted) (centre_of self.now.target) (R.tells self.now.rt.now (centre_of self.now.target) true) self.now.strict input (W.contents output.old) (W.contents output.new)) start.new.begun output.old output.new result }
+        // The file that was made by the journal's name ends with the note of that.
+        ensures noted { IfOk result (IsNotedIn R.JournalFile.contents (R.makes self.now.rt.now (string_bytes wanted.name))) }
+    {
+        let file = match self.rt.create_journal(wanted.name.as_str(), wanted.sync) {
+            Ok(file) => file,
+            Err(why) => return Err(unmade_fault(wanted, why)),
+        };
+        self.run_in_file::<Brand, W>(start, input, digests, file, &wanted, output)
+    }
+
+    /// Begins the journal in the file that was made for it, sends the messages of an input, and ends the journal.
+    fn run_in_file<O: Origin<R::JournalFile> + Send, W: Write>(
+        &self,
+        start: &mut Start<'_>,
+        input: Input,
+        digests: &Digests,
+        file: R::JournalFile,
+        wanted: &JournalFile,
+        output: &mut W,
+    ) -> Result<u8, Fault>
+        requires not_started { start.old.begun ≡ Idle }
+        requires made { O.made file }
+        ensures latch { start.new.latch ≡ start.old.latch }
+        ensures ended { SendingEnd self.now.strict (SendsInput (R.tells self.now.rt.now (centre_of self.now.target) true) self.now.strict input (W.contents output.old) (W.contents output.new)) (FailsNoted LacksFirstLine (centre_of self.now.target) (R.tells self.now.rt.now (centre_of self.now.target) true) self.now.strict input (W.contents output.old) (W.contents output.new)) start.new.begun output.old output.new result }
+        ensures noted { IfOk result (IsNotedIn R.JournalFile.contents O.made) }
     {
         let kind = self.target.journal_kind();
-        let journal = match begin_journal(self.rt, wanted, kind, digests) {
+        let made: MadeFile<R::JournalFile, O> = MadeFile::new(file);
+        let journal = match begin_journal(self.rt, made, wanted.sync, kind, digests) {
             Ok(journal) => journal,
             Err(fault) => return Err(fault),
         };
-        let sent = (&*self).run(start, input, Some(&journal), output);
+        let (sent, journal) = self.run_with_journal(start, input, journal, output);
         end_journal(self.rt, journal, sent)
+    }
+
+    /// Sends the messages of an input, each noted in this journal, and gives the journal back.
+    fn run_with_journal<F: Write + OpenFile + Send + Drop, W: Write>(
+        &self,
+        start: &mut Start<'_>,
+        input: Input,
+        journal: Journal<F>,
+        output: &mut W,
+    ) -> (Result<u8, Fault>, Journal<F>)
+        requires not_started { start.old.begun ≡ Idle }
+        ensures latch { start.new.latch ≡ start.old.latch }
+        ensures ended { SendingEnd self.now.strict (SendsInput (R.tells self.now.rt.now (centre_of self.now.target) true) self.now.strict input (W.contents output.old) (W.contents output.new)) (FailsSending (centre_of self.now.target) (R.tells self.now.rt.now (centre_of self.now.target) true) input (W.contents output.old) (W.contents output.new)) start.new.begun output.old output.new result.0 }
+    {
+        let sent = (&*self).run(start, input, Some(&journal), output);
+        (sent, journal)
     }
 }

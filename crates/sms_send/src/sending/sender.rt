@@ -4,19 +4,19 @@ ghost use Rattle.std.specs.Prelude.{◌≡◌, ◌≤◌, ◌⊎◌, IfErr, IfOk
 ghost use Rattle.std.specs.Io.KnownBytes.{Appends};
 ghost use Rattle.sms_files.specs.Output.{WritesFront};
 ghost use Rattle.sms_files.specs.Report.{report_of};
-ghost use Rattle.sms_send.specs.Faults.{ComesAt, output_failed};
+ghost use Rattle.sms_send.specs.Faults.{ComesAt, output_failed, unreported};
 ghost use Rattle.sms_send.specs.Sent.{AreRunSettings, AreSettingsOf, IsSent, FailsDriving};
 ghost use Rattle.sms_send.specs.Statuses.{status_by};
 ghost use Rattle.sms_driver.specs.declared.start_gate.Command.TheVariants.{Go};
 ghost use Rattle.sms_driver.specs.declared.start.StartPhase.TheVariants.{Idle, Released};
-ghost use Rattle.sms_send.specs.declared.faults.fault.Fault.TheVariants.{Unreported};
 
 use crate::faults::fault::Fault;
 use crate::sending::status::status_of;
+use sms_bind::SettledLog;
 use sms_book::{Opening, Statement, Tariff};
 use sms_driver::{BindEnd, BindSettings, Devices, Dial, RunSettings, Sending, Start, drive_all};
 use sms_files::{Config, Connection, Flags, Input, Limits, OutputFault, rules_of, write_report_of};
-use sms_worker::{Clock, Gate, MessageEnd, Pause};
+use sms_worker::{Clock, Gate, MessageEnd, Pause, Reasons};
 use std::alloc::Global;
 use std::io::Write;
 use std::sync::Wait;
@@ -34,6 +34,10 @@ pub struct Ended {
     ends: Vec<MessageEnd>,
     statement: Statement,
     binds: Vec<BindEnd>,
+    /// Why parts and messages were not sent, worker by worker, bind by bind.
+    reasons: Vec<Reasons>,
+    /// The frames that the wires were given.
+    log: SettledLog,
 }
 
 impl Ended {
@@ -158,12 +162,16 @@ pub fn send_all<
         ends,
         statement,
         binds,
+        reasons,
+        log,
     } = sending;
     Ok(Ended {
         openings,
         ends,
         statement,
         binds,
+        reasons,
+        log,
     })
 }
 
@@ -171,11 +179,11 @@ pub fn send_all<
 /// refused for that, the messages have ended.
 pub fn write_report<W: Write>(alloc: Global, ended: &Ended, output: &mut W) -> Result<(), Fault>
     ensures written { OnOk result (Appends (W.contents output.old) (W.contents output.new) (report_of ended.now.openings.items ended.now.ends.items ended.now.statement)) }
-    ensures failed { IfErr result (λ fault. (fault ≡ output_failed) ⊎ (fault ≡ Unreported)) }
+    ensures failed { IfErr result (λ fault. (fault ≡ output_failed) ⊎ (fault ≡ unreported)) }
 
-    // Where the output failed, a front of the text was written, and else nothing.
+    // Where the output failed, the beginning of the text was written, and else nothing.
     ensures front { IfErr result (λ fault. fault ≡ output_failed → WritesFront (W.contents output.old) (W.contents output.new) (report_of ended.now.openings.items ended.now.ends.items ended.now.statement)) }
-    ensures quiet { IfErr result (λ fault. fault ≡ Unreported → output.new ≡ output.old) }
+    ensures quiet { IfErr result (λ fault. fault ≡ unreported → output.new ≡ output.old) }
 {
     let written = write_report_of(
         alloc,
@@ -186,7 +194,9 @@ pub fn write_report<W: Write>(alloc: Global, ended: &Ended, output: &mut W) -> R
     );
     match written {
         Ok(()) => Ok(()),
-        Err(OutputFault::Output(unwritten)) => Err(Fault::Output(unwritten)),
-        Err(OutputFault::OutOfMemory) => Err(Fault::Unreported),
+        Err(fault) => match fault {
+            OutputFault::Output(unwritten) => Err(Fault::Output(unwritten)),
+            OutputFault::OutOfMemory(refused) => Err(Fault::Unreported(refused)),
+        },
     }
 }

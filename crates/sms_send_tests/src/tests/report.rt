@@ -5,6 +5,7 @@ use super::jobs::{SCHEDULE, replay_fault};
 use super::same::same;
 use sms_devices::{JournalFailure, Screen};
 use sms_driver::{BindFailure, SendFault};
+use sms_files::memory::{NoMemory, list_for};
 use sms_files::{ConfigValue, Flaw, RecordFlaw, Source};
 use sms_send::{
     Address, ArgumentError, Fault, FaultContext, FaultReport, FullNames, JobKind, NumberOption,
@@ -79,6 +80,15 @@ fn output_fault(rt: &(impl AllocGlobal + Abort)) -> Fault {
     match replay_fault(rt.alloc(), SCHEDULE, &mut FailingOutput { room: 0 }) {
         Some(fault) => fault,
         None => panic!(rt; "no fault"),
+    }
+}
+
+// The evidence that memory was refused: for a list of more octets than there are addresses.
+fn refused_memory(rt: &(impl AllocGlobal + Abort)) -> NoMemory {
+    let refused: Result<Vec<[u8; 1 << 60]>, NoMemory> = list_for(rt.alloc(), &[0u8; 64]);
+    match refused {
+        Ok(_list) => panic!(rt; "memory was given"),
+        Err(refused) => refused,
     }
 }
 
@@ -267,12 +277,13 @@ fn says_whether_messages_were_sent(rt: HostRuntime) -> Result<(), Fail> {
         "fault: out of memory\n  memory or a thread was refused; nothing was sent\n",
     )?;
     same(&rt, unsent.exit_status(), 1);
+    let unreported = Fault::Unreported(refused_memory(&rt));
     want(
         &rt,
-        &Fault::Unreported,
+        &unreported,
         "fault: out of memory\n  memory or a thread was refused; messages may have been sent\n",
     )?;
-    same(&rt, Fault::Unreported.exit_status(), 1);
+    same(&rt, unreported.exit_status(), 1);
     want_of(
         &rt,
         JobKind::Other,

@@ -7,7 +7,7 @@ use std::test::Fail;
 /// The fault's text. Want of memory is the test's own.
 pub fn told_of(alloc: Global, fault: Fault) -> Result<String, Fail> {
     match fault {
-        Fault::OutOfMemory | Fault::Unreported => Err(Fail::from(AllocError)),
+        Fault::OutOfMemory | Fault::Unreported(_) => Err(Fail::from(AllocError)),
         fault => Ok(fault.to_string(alloc)?),
     }
 }

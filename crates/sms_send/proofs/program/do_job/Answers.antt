@@ -1,6 +1,6 @@
 use Rattle.std.proofs.Common.{◌≡◌, IfErr, subst, sym}
 use Rattle.sms_send.specs.Faults.{output_failed}
-use Rattle.sms_send.specs.Jobs.{WritesBesideFront}
+use Rattle.sms_send.specs.Jobs.{BeginsBeside}
 use Rattle.sms_send.specs.declared.args.job.Job.{Job}
 use Rattle.sms_send.proofs.Noting.{both_quiet, quiet_too}
 use Rattle.sms_send.proofs.Telling.{where-output}
@@ -8,7 +8,7 @@ use Rattle.sms_send.proofs.program.do_job.Goals as goal
 
 pub returns-in-Recover-clause-front : goal.returns-in-Recover-clause-front
 returns-in-Recover-clause-front g c =
-    subst (λ (job : Job). IfErr c.recover_job.result (λ fault. fault ≡ output_failed → WritesBesideFront (g.R.InputFiles.finds c.args.rt.now) (g.R.FullNames.is_full c.args.rt.now) (g.R.Screen.details c.args.rt.now) job
+    subst (λ (job : Job). IfErr c.recover_job.result (λ fault. fault ≡ output_failed → BeginsBeside (g.R.InputFiles.finds c.args.rt.now) (g.R.FullNames.is_full c.args.rt.now) (g.R.Screen.details c.args.rt.now) job
     (g.E.Write.contents c.args.error.now) (g.E.Write.contents c.recover_job.new.error))) (sym c.in-Recover.is)
     (where-output c.recover_job.result _ c.recover_job.ensures.told)
 
@@ -62,3 +62,9 @@ returns-in-Send-clause-phase g c = rw c.in-Send.is c.send_job-in-Send.ensures.en
 
 pub returns-in-Send-clause-unwritten : goal.returns-in-Send-clause-unwritten
 returns-in-Send-clause-unwritten g c = c.send_job-in-Send.ensures.ended.unwritten
+
+pub returns-in-Loop-clause-noted : goal.returns-in-Loop-clause-noted
+returns-in-Loop-clause-noted g c = rw c.in-Loop.is c.send_job.ensures.noted
+
+pub returns-in-Send-clause-noted : goal.returns-in-Send-clause-noted
+returns-in-Send-clause-noted g c = rw c.in-Send.is c.send_job-in-Send.ensures.noted

@@ -1,7 +1,7 @@
 use Rattle.std.proofs.Common.{inl}
-use Rattle.sms_send.specs.Jobs.{WritesBeside, WritesBesideFront}
+use Rattle.sms_send.specs.Jobs.{BeginsBeside, NotesJob, WritesBeside}
 use Rattle.sms_send.specs.Noted.{FailsBegin}
-use Rattle.sms_send.proofs.Asking.{details_asked, fails_asked, front_asked, lacks_no_output, works_asked}
+use Rattle.sms_send.proofs.Asking.{details_asked, fails_asked, front_asked, lacks_no_output, ok_asked, works_asked}
 use Rattle.sms_send.proofs.program.run.Goals as goal
 
 pub returns-clause-done : goal.returns-clause-done
@@ -18,7 +18,7 @@ returns-clause-refused g c =
 pub returns-clause-front : goal.returns-clause-front
 returns-clause-front g c =
     front_asked c.do_job.result (g.R.ProgramWords.has c.args.rt.now) _ c.in-Ok.job
-    (λ job. WritesBesideFront (g.R.InputFiles.finds c.args.rt.now) (g.R.FullNames.is_full c.args.rt.now) (g.R.Screen.details c.args.rt.now) job (g.E.Write.contents c.args.error.now) (g.E.Write.contents c.do_job.new.error))
+    (λ job. BeginsBeside (g.R.InputFiles.finds c.args.rt.now) (g.R.FullNames.is_full c.args.rt.now) (g.R.Screen.details c.args.rt.now) job (g.E.Write.contents c.args.error.now) (g.E.Write.contents c.do_job.new.error))
     c.in-Ok.ensures.asked c.do_job.ensures.front
 
 pub returns-clause-verbose : goal.returns-clause-verbose
@@ -29,3 +29,9 @@ returns-in-Err-clause-refused g c = inl c.in-Err.ensures.refused
 
 pub returns-in-Err-clause-front : goal.returns-in-Err-clause-front
 returns-in-Err-clause-front g c = lacks_no_output (g.R.ProgramWords.has c.args.rt.now) c.in-Err.fault c.in-Err.ensures.refused
+
+pub returns-clause-noted : goal.returns-clause-noted
+returns-clause-noted g c =
+    ok_asked c.do_job.result (g.R.ProgramWords.has c.args.rt.now) _ c.in-Ok.job
+    (λ job. NotesJob g.R.JournalFile.Write.contents (g.R.JournalFiles.makes c.args.rt.now) job c.do_job.result)
+    c.in-Ok.ensures.asked c.do_job.ensures.noted

@@ -23,7 +23,7 @@ pub(crate) fn fixed_text(fault: &Fault) -> &'static str {
         Fault::Overdrawn => "it takes more of an account than that has",
         Fault::Trial => "--trial prints its report",
         Fault::OutOfMemory => "memory or a thread was refused; nothing was sent",
-        Fault::Unreported => "memory or a thread was refused; messages may have been sent",
+        Fault::Unreported(_) => "memory or a thread was refused; messages may have been sent",
         _ => "",
     }
 }

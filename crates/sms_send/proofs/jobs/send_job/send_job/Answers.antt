@@ -1,11 +1,11 @@
-use Rattle.std.proofs.Common.{◌≡◌, inl, sym, subst, ap, Option, Some, None, true, false}
+use Rattle.std.proofs.Common.{◌≡◌, inl, sym, subst, ap, Option, Some, None, IfOk, true, false}
 use Rattle.std.specs.Prelude.{◌||◌, is_some, option_map}
 use Rattle.std.proofs.lemmas.Result.{IfErr-weaker, IfOk-weaker}
-use Rattle.sms_send.specs.Noted.{FailsBegin}
+use Rattle.sms_send.specs.Noted.{FailsBegin, NotesEnd}
 use Rattle.sms_send.specs.Reached.{centre_of}
 use Rattle.sms_send.specs.declared.args.send_args.JournalFile.{JournalFile}
 use Rattle.sms_send.proofs.ConfigFiles.{early_at}
-use Rattle.sms_send.proofs.Noting.{ended_early}
+use Rattle.sms_send.proofs.Noting.{ended_early, unwanted}
 use Rattle.sms_send.proofs.SendJobs.{input_fails, missing_fails, or_false, or_true, reading_fails, sends_by}
 use Rattle.sms_send.proofs.Starts.{memory_at, missing_at, reading_at}
 use Rattle.sms_send.proofs.jobs.send_job.send_job.Goals as goal
@@ -71,3 +71,10 @@ returns-in_err-noted-in-Some-clause-ended g c =
     ended_early c.from_residual-in_err-noted-in-Some.result _ _ _ _ _ _ c.from_residual-in_err-noted-in-Some.ensures.1
     (reading_fails (FailsBegin (g.R.JournalFiles.makes c.args.rt.now) (g.R.JournalFiles.refuses c.args.rt.now) (g.R.JournalFiles.holds c.args.rt.now)) (g.R.InputFiles.finds c.args.rt.now) (g.R.Connects.tells c.args.rt.now) c.args.kind c.args.order _ _ _ c.in_ok-read.read c.in_ok-opened.opened.config (g.R.InputFile.Read.remaining c.in_ok-opened.opened.accounts) (g.R.InputFile.Read.remaining c.in_ok-opened.opened.messages) (option_map g.R.InputFile.Read.remaining c.in_ok-opened.opened.tariff) true c.in_ok-read.ensures.read (record { config_is = c.in_ok-opened.ensures.config; found = c.in_ok-opened.ensures.found }) (subst (λ (j : Option JournalFile). true ≡ (c.args.order.strict || is_some j)) (sym c.in-Some.is) (or_true c.args.order.strict)) c.in_err-noted-in-Some.ensures.refused)
     (reading_at _ true c.args.order.strict c.in_ok-opened.opened.config (g.R.InputFile.Read.remaining c.in_ok-opened.opened.accounts) (g.R.InputFile.Read.remaining c.in_ok-opened.opened.messages) (option_map g.R.InputFile.Read.remaining c.in_ok-opened.opened.tariff) _ c.requires.not_started c.in_err-noted-in-Some.ensures.refused)
+
+pub returns-in-None-clause-noted : goal.returns-in-None-clause-noted
+returns-in-None-clause-noted g c = unwanted g.R.JournalFile.Write.contents (g.R.JournalFiles.makes c.args.rt.now) c.args.order.journal c.run.result c.in-None.is
+
+pub returns-clause-noted : goal.returns-clause-noted
+returns-clause-noted g c =
+    subst (λ (j : Option JournalFile). IfOk c.run_noted.result (NotesEnd g.R.JournalFile.Write.contents (g.R.JournalFiles.makes c.args.rt.now) j)) (sym c.in-Some.is) c.run_noted.ensures.noted

@@ -1,23 +1,26 @@
-use Rattle.std.proofs.Common.{◌*◌, ◌≡◌, ◌∙◌, ap, subst, sym, ℕ, List, length, Vec, Global}
+use Rattle.std.proofs.Common.{◌*◌, ◌≡◌, ◌∙◌, ◌++◌, ap, subst, sym, ℕ, List, length, map, Vec, Global}
 use Rattle.std.specs.List.{AllZip}
 use Rattle.sms_book.specs.Openings.{credits_of}
 use Rattle.sms_book.specs.Tariffs.{Price}
 use Rattle.sms_book.specs.declared.opening.Opening.{Opening}
+use Rattle.sms_bind.specs.Frames.{AreSame, requests}
 use Rattle.sms_worker.specs.EndOf.{IsEndOf}
+use Rattle.sms_worker.specs.Frames.{frames_in}
 use Rattle.sms_message.specs.declared.message.Message.{Message}
 use Rattle.sms_pdu.specs.declared.command.Mode.{Mode}
 use Rattle.sms_bind.specs.declared.settings.Settings.{Settings}
 use Rattle.sms_driver.specs.Answered.{AreHeard}
 use Rattle.sms_driver.specs.BindEnds.{AreBinds}
 use Rattle.sms_driver.specs.Deals.{dealt}
-use Rattle.sms_driver.specs.Closings.{AreExplained}
+use Rattle.sms_driver.specs.Closings.{AreExplained, AreReasoned}
 use Rattle.sms_driver.specs.Numbered.{AreBelow, AreNumbered}
+use Rattle.sms_driver.specs.Rings.{flat}
 use Rattle.sms_driver.specs.SendFaults.{IsFaultOfOne}
 use Rattle.sms_driver.specs.Statements.{AreRows}
 use Rattle.sms_files.specs.declared.config.Config.{Config}
 use Rattle.sms_send.proofs.Sendings.{fault_at, for_settings}
 use Rattle.sms_send.specs.Faults.{ComesAt}
-use Rattle.sms_send.specs.Sent.{AreRunSettings}
+use Rattle.sms_send.specs.Sent.{AreRunSettings, unbinds_in}
 use Rattle.sms_send.proofs.sending.sender.send_all.Goals as goal
 
 pub returns-clause-sent : goal.returns-clause-sent
@@ -27,6 +30,7 @@ returns-clause-sent g c =
     let told = g.D.Dial.told c.args.dial.now in
     let ends = c.in-Ok.sending.ends.items in
     let binds = c.in-Ok.sending.binds.items in
+    let reasons = c.in-Ok.sending.reasons.items in
     let e = c.into_parts-config.ensures in
     let sent = c.in-Ok.ensures.sent in
     let is : AreRunSettings input.config input.tariff run = subst (λ (t : List Price). AreRunSettings input.config t run) e.tariff
@@ -47,6 +51,8 @@ returns-clause-sent g c =
       numbers = for_settings input.config input.tariff run is (λ b w. AreNumbered b w (dealt (b * w) 0 ends)) sent.numbers;
       below = for_settings input.config input.tariff run is (λ b w. AreBelow w binds (dealt (b * w) 0 ends)) sent.below;
       explained = for_settings input.config input.tariff run is (λ b w. AreExplained w binds (dealt (b * w) 0 ends)) sent.explained;
+      reasons = for_settings input.config input.tariff run is (λ b w. AreReasoned run.rules.policy.attempts w binds reasons (dealt (b * w) 0 ends)) sent.reasons;
+      handed = for_settings input.config input.tariff run is (λ b w. AreSame (requests c.in-Ok.sending.log.given) (flat (map frames_in (dealt (b * w) 0 ends)) ++ unbinds_in binds)) sent.handed;
       heard = for_settings input.config input.tariff run is (λ b w. AreHeard told b w (dealt (b * w) 0 ends)) sent.heard;
     }
 
