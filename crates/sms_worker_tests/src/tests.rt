@@ -2,10 +2,10 @@
 
 ghost use Rattle.std.specs.Prelude.{◌≡◌, IfSome};
 
-use self::beside::{Beside, bring_down, line_with_fuse};
+use self::beside::{Beside, down_if, line_with_fuse, window_of};
 use self::notes::{Log, Note, want_told};
 use rtrb::{Consumer, Producer, RingBuffer};
-use sms_bind::{BlankLog, DownMark, Line, LogName};
+use sms_bind::{BlankLog, Line, LogName};
 use sms_book::{Blank, Book, BookName, Opening, Rate, Tariff, open_book};
 use sms_core::Row;
 use sms_pdu::Reply;
@@ -300,7 +300,7 @@ fn works<N: BookName + LogName, R: Abort + Wait>(
 ) -> Option<Done>
     requires { (blank.book ≡ N.book) × (wires ≡ N.log) }
 {
-    let (window, seat) = Window::make_from(alloc, case.window, case.first).ok()?;
+    let (window, seat) = window_of(alloc, case)?;
     let (producer, consumer) = RingBuffer::new(alloc, 64).ok()?;
     let mut producers = Vec::new(alloc);
     producers.push(producer).ok()?;
@@ -322,13 +322,6 @@ fn works<N: BookName + LogName, R: Abort + Wait>(
     sends(
         rt, alloc, worker, messages, &line, &window, &book, rules, &beside, &log,
     )
-}
-
-// Marks the line down, where that is said.
-fn down_if(rt: &impl Wait, alloc: Global, mark: &DownMark, down: bool) {
-    if down {
-        bring_down(rt, alloc, mark);
-    }
 }
 
 // What becomes of the messages; none where memory is refused.

@@ -281,8 +281,10 @@ fn kind_of(
     let text = written(alloc, kind, &[])?;
     match read_notes(alloc, front_of(text.as_bytes(), octets), &DIGESTS) {
         Ok(read) => Ok(Ok(read.kind)),
-        Err(JournalError::OutOfMemory(refused)) => Err(JournalError::OutOfMemory(refused)),
-        Err(fault) => Ok(Err(fault)),
+        Err(fault) => match fault {
+            JournalError::OutOfMemory(_) => Err(fault),
+            _ => Ok(Err(fault)),
+        },
     }
 }
 

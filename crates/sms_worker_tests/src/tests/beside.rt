@@ -1,7 +1,7 @@
 //! What stands beside a worker that runs alone: its writer, and what answers it while it pauses. And
 //! what stands beside two that run at once.
 
-ghost use Rattle.std.specs.Prelude.{◌≡◌};
+ghost use Rattle.std.specs.Prelude.{◌≡◌, IfSome};
 
 use super::centre::{answer_of, nack_of, status_of};
 use super::notes::{Log, Note};
@@ -10,6 +10,7 @@ use rtrb::Producer;
 use sms_bind::{BlankLog, DownMark, Line, LogName, Requests, Wire};
 use sms_pdu::{BodyRef, Frame, PduRef, Reply, SUBMIT_SM, Tap, encode_into, header_of, reply_of};
 use sms_slot::SlotRow;
+use sms_window::{Window, WindowSeat};
 use sms_worker::{Clock, Gate, MessageRefusal, Pause};
 use std::alloc::Global;
 use std::cell::{Cell, RefCell};
@@ -110,6 +111,20 @@ pub fn bring_down(rt: &impl Wait, alloc: Global, mark: &DownMark) {
     if wire.broken() {
         drop(mark.write_failed(rt, &wire));
     }
+}
+
+/// Marks the line down, where that is said.
+pub fn down_if(rt: &impl Wait, alloc: Global, mark: &DownMark, down: bool) {
+    if down {
+        bring_down(rt, alloc, mark);
+    }
+}
+
+/// The window of a case, and the seat of its one worker.
+pub fn window_of(alloc: Global, case: Case<'_>) -> Option<(Window, WindowSeat)>
+    ensures { IfSome result (λ w. w.1.window ≡ w.0) }
+{
+    Window::make_from(alloc, case.window, case.first).ok()
 }
 
 /// What stands beside the worker: a gate that remembers the numbers that pass and notes all that it is

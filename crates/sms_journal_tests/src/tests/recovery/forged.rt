@@ -3,7 +3,7 @@
 use super::fault_text::fault_text;
 use super::head::head_of;
 use super::same::same;
-use sms_journal::{JournalKind, digests_of, run_recover};
+use sms_journal::{Digests, JournalKind, digests_of, run_recover};
 use std::alloc::{AllocError, Global};
 use std::test::Fail;
 
@@ -180,11 +180,20 @@ const JOURNALS: [(&str, &str); 50] = [
     ),
 ];
 
-/// The status of what is recovered, or the fault.
-fn said(alloc: Global, messages: &[u8], journal: &[u8]) -> Result<String, Fail> {
+/// The status of what is recovered of a journal with these records, or the fault.
+fn said(alloc: Global, messages: &[u8], digests: &Digests, records: &str) -> Result<String, Fail> {
+    let mut journal = head_of(alloc, JournalKind::Run, digests)?;
+    journal.push_str(records)?;
     let mut out = Vec::new(alloc);
     match run_recover(
-        alloc, CONFIG, ACCOUNTS, messages, None, journal, false, &mut out,
+        alloc,
+        CONFIG,
+        ACCOUNTS,
+        messages,
+        None,
+        journal.as_bytes(),
+        false,
+        &mut out,
     ) {
         Ok(recovered) => {
             let status = recovered.status;
@@ -200,9 +209,7 @@ fn a_journal_that_no_run_wrote_is_refused(rt: HostRuntime) -> Result<(), Fail> {
     let messages = messages_of(alloc)?;
     let digests = digests_of(CONFIG, ACCOUNTS, messages.as_bytes(), None);
     for (records, wanted) in JOURNALS {
-        let mut journal = head_of(alloc, JournalKind::Run, &digests)?;
-        journal.push_str(records)?;
-        let got = said(alloc, messages.as_bytes(), journal.as_bytes())?;
+        let got = said(alloc, messages.as_bytes(), &digests, records)?;
         same(&rt, got.as_str(), wanted);
     }
     Ok(())
