@@ -1,0 +1,15 @@
+pub mod Balancing
+pub mod Causes
+pub mod Counts
+pub mod Escapes
+pub mod Feeds
+pub mod Fields
+pub mod GivingBack
+pub mod NameFields
+pub mod Once
+pub mod Places
+pub mod Postings
+pub mod Records
+pub mod Spelling
+pub mod Stakes
+pub mod TakingAll

@@ -1,0 +1,11 @@
+pub mod Balance
+pub mod Books
+pub mod Kept
+pub mod Laws
+pub mod Lines
+pub mod Names
+pub mod Posting
+pub mod PostingLaws
+pub mod Reading
+pub mod Text
+pub mod TextLaws
