@@ -7,7 +7,7 @@ use Rattle.sms_pdu.specs.declared.error.PduError.{PduError}
 use Rattle.sms_pdu.specs.Layout.{HasNoZero, bind_fields}
 use Rattle.sms_pdu.specs.Size.{bind_size, size_of}
 use Rattle.sms_pdu.proofs.SizeLaws.{values_size_is}
-use Rattle.sms_bind.specs.Binds.{bind_pdu, setting}
+use Rattle.sms_session.specs.Settings.{bind_pdu, setting}
 use Rattle.sms_files.specs.Config.{c_octet_string, has_no_zero}
 
 split : (a b : Bool) → (not a && b) ≡ true → (a ≡ false) × (b ≡ true)

@@ -1,8 +1,7 @@
 //! The config: what its keys say, each with its value or its default; what the program takes from it before it
 //! sends; and what is wrong with a key or a text.
 
-use sms_bind::Settings;
-use sms_session::Policy;
+use sms_session::{Policy, Settings};
 
 mod config_value;
 mod limits;

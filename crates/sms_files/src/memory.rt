@@ -1,4 +1,4 @@
-//! Want of memory as evidence: the calls that take memory for what is read and printed. Where memory is refused
+//! Lack of memory as evidence: the calls that take memory for what is read and printed. Where memory is refused
 //! they give a `NoMemory`, which nothing else gives, so no function can say at will that there was none.
 
 mod calls;

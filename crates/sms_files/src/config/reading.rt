@@ -2,7 +2,7 @@
 
 ghost use Rattle.std.specs.Prelude.{◌≡◌, ◌≤◌, None, Some, IfErr, IfOk, map};
 ghost use Rattle.toml.specs.View.{table_view};
-ghost use Rattle.sms_bind.specs.Binds.{setting};
+ghost use Rattle.sms_session.specs.Settings.{setting};
 ghost use Rattle.sms_files.specs.Config.{c_octet_string, connection_fault, faulty_key, files_fault, flags_fault, is_among, known_keys, limits_fault, retry_fault, script_fault, unknown_key as unknown_key_of};
 ghost use Rattle.sms_files.specs.ConfigFaults.{IsConfig, SaysAnswers, SaysConfig, SaysConnection, SaysFiles, SaysLimits, SaysFlags, SaysRetry, TellsConfig, TellsKey, TellsToml, toml_of};
 
@@ -13,9 +13,8 @@ use crate::config::toml_value::{bad_key, flag_at, mode_at, number_at, octets_at,
 use crate::config::{Answers, Config, Connection, FileNames, Flags, Retry};
 use crate::fault::InputFault;
 use crate::memory::toml_refusal;
-use sms_bind::Settings;
 use sms_pdu::{Mode, Octets};
-use sms_session::Policy;
+use sms_session::{Policy, Settings};
 use std::alloc::Global;
 use std::str;
 use toml::Table;

@@ -1,4 +1,4 @@
-//! Calls of the crates below that take memory, each with its answer for want of it.
+//! Calls of the crates below that take memory, each with its answer for lack of it.
 
 ghost use Rattle.std.specs.Prelude.{◌≡◌, ◌<◌, ◌↔◌, None, Some, true, IfErr, IfOk, IfSome, IsNone, IsTrue, MatchOption, length, map, string_bytes};
 ghost use Rattle.toml.specs.View.{items_view};

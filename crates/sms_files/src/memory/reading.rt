@@ -66,7 +66,7 @@ pub fn next_of<R: Read>(reader: &mut Reader<R>, record: &mut ByteRecord) -> Resu
     Ok(found)
 }
 
-/// That TOML couldn't be read for want of memory: its parser alone gives such an error.
+/// That TOML couldn't be read for lack of memory: its parser alone gives such an error.
 pub(crate) fn toml_refusal(_error: &toml::de::Error) -> NoMemory
     requires { IsMemory _error.now }
 {

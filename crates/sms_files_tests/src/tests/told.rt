@@ -4,7 +4,7 @@ use sms_files::InputFault;
 use std::alloc::{AllocError, Global};
 use std::test::Fail;
 
-/// The fault's text. Want of memory is the test's own.
+/// The fault's text. Lack of memory is the test's own.
 pub fn told_of(alloc: Global, fault: InputFault) -> Result<String, Fail> {
     match fault {
         InputFault::OutOfMemory(_) => Err(Fail::from(AllocError)),
