@@ -5,10 +5,8 @@ use Rattle.std.specs.Io.KnownBytes.{Consumes}
 use Rattle.std.proofs.KnownBytes.{Appends-nil, Consumes-trans}
 use Rattle.sms_pdu.specs.declared.body.Pdu.{Pdu}
 use Rattle.sms_pdu.specs.declared.command.Mode.{Mode}
-use Rattle.sms_pdu.specs.Grammar.{Spells, IsLawful, spelling_of}
-use Rattle.sms_pdu.specs.Size.{size_of}
+use Rattle.sms_pdu.specs.Grammar.{Spells}
 use Rattle.sms_pdu.proofs.Spellings.{one_spelling}
-use Rattle.sms_pdu.proofs.Writings.{encoded}
 use Rattle.sms_session.specs.declared.session.State.{State}
 use Rattle.sms_session.specs.Session.{opening}
 use Rattle.sms_bind.specs.declared.binding.BindFault.{BindFault}
@@ -23,11 +21,6 @@ use Rattle.sms_pdu.specs.Turn.{GaveAtMost, IsSpent}
 use Rattle.sms_pdu.proofs.Streams.{short_rest}
 use Rattle.sms_pdu.proofs.Turns.{gave, not_spent}
 use Rattle.sms_bind.specs.Answers.{FoundNone, Refuses, fault_of}
-use Rattle.sms_bind.specs.Binds.{Setting, bind_pdu}
-
--- a bind that has a length has a spelling
-pub bind_lawful : (s : Setting) (n : ℕ) → size_of (bind_pdu s 0) ≡ Ok n → IsLawful (bind_pdu s 0)
-bind_lawful s n e = (spelling_of n (bind_pdu s 0), encoded (bind_pdu s 0) n e tt (omega arith) (omega arith))
 
 pub same_text : (p : Pdu) (a b : List ℕ) → Spells p a → Spells p b → a ≡ b
 same_text p a b s t = same (one_spelling p (a, s))

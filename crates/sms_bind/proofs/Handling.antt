@@ -85,9 +85,10 @@ leaves_end cause.Unbound left held kept h = h
 leaves_end cause.Lost left held kept h = h
 leaves_end cause.ReadFault left held kept h = h
 leaves_end cause.WriteFault left held kept h = h
-leaves_end cause.Stopped left held kept h = h
+leaves_end (cause.Stopped seen) left held kept h = h
 leaves_end cause.Turns left held kept h = h
 leaves_end cause.OutOfMemory left held kept h = h
+leaves_end cause.Unstarted left held kept h = h
 
 -- octets that were not read yet stand after the others
 went_beside : (P : List (List ℕ) → Type 0) (stream left more : List ℕ) → Went P stream left → Went P (stream ++ more) (left ++ more)

@@ -36,9 +36,10 @@ lost_where cause.Unbound left held late h = absurd (late refl)
 lost_where cause.Lost left held late h = (λ e. h, λ bad. refl)
 lost_where cause.ReadFault left held late h = (λ e. absurd cc, λ bad. absurd (h.1 bad))
 lost_where cause.WriteFault left held late h = absurd (late refl)
-lost_where cause.Stopped left held late h = (λ e. absurd cc, λ bad. absurd (h.1 bad))
+lost_where (cause.Stopped seen) left held late h = (λ e. absurd cc, λ bad. absurd (h.1 bad))
 lost_where cause.Turns left held late h = (λ e. absurd cc, λ bad. absurd (h.1 bad))
 lost_where cause.OutOfMemory left held late h = absurd (late refl)
+lost_where cause.Unstarted left held late h = absurd (late refl)
 
 -- the counts that began at 0
 tells : (ds : List FrameOutcome) (c : Counts) (end : ReaderEnd) → c ≡ tallies no_counts ds

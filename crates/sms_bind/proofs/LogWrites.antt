@@ -9,9 +9,10 @@ use Rattle.sms_bind.specs.declared.wire.Wire.{Wire}
 use Rattle.sms_bind.specs.declared.wire.WireFault.{WireFault}
 use Rattle.sms_bind.specs.declared.wire.WireFault.TheVariants.{Write, Broken}
 use Rattle.atomic_table.specs.Seated.{TableId}
+use Rattle.sms_session.specs.Settings.{Setting}
 use Rattle.sms_bind.specs.declared.log.rule.View.{View}
 use Rattle.sms_bind.specs.LogRule.{wire_seat}
-use Rattle.sms_bind.specs.Logs.{Wrote, first_of, given_of, LoggedStands}
+use Rattle.sms_bind.specs.Logs.{BeginsBehind, Wrote, first_of, given_of, LoggedStands}
 use Rattle.sms_bind.specs.Wires.{Sends, writer, is_broken}
 
 -- a log that begins
@@ -61,16 +62,17 @@ sends_none {W} contents wire frame broken =
     }
 
 -- a wire that was given a frame stands as before
-pub logged_more : {W : Type 0} (contents : W → Option (List ℕ)) (name badge badge' : TableId) (views after : List View) (wire wire' : Wire W) (frame : List ℕ) (result : Result (List ℕ) WireFault)
-    → LoggedStands contents name badge views wire → badge' ≡ badge → after ≡ wire_seat (first_of views) (given_of views ++ frame ∷ []) ∷ [] → is_broken wire ≡ false → Sends contents wire wire' frame result
-    → LoggedStands contents name badge' after wire' × (given_of after ≡ given_of views ++ frame ∷ []) × (first_of after ≡ first_of views)
-logged_more {W} contents name badge badge' views after wire wire' frame result l same is sound sent =
+pub logged_more : {W : Type 0} (contents : W → Option (List ℕ)) (settings : Option Setting) (name badge badge' : TableId) (views after : List View) (wire wire' : Wire W) (frame : List ℕ) (result : Result (List ℕ) WireFault)
+    → LoggedStands contents settings name badge views wire → badge' ≡ badge → after ≡ wire_seat (first_of views) (given_of views ++ frame ∷ []) ∷ [] → is_broken wire ≡ false → Sends contents wire wire' frame result
+    → LoggedStands contents settings name badge' after wire' × (given_of after ≡ given_of views ++ frame ∷ []) × (first_of after ≡ first_of views)
+logged_more {W} contents settings name badge badge' views after wire wire' frame result l same is sound sent =
     let first = ap first_of is in
     let given = ap given_of is in
     let wrote = wrote_after contents wire wire' (first_of views) (given_of views) frame result sound sent l.wrote in (
       record {
         badge_is = same ∙ l.badge_is;
         view = is ∙ (λ i. wire_seat (sym first i) (sym given i) ∷ []);
+        behind = subst (BeginsBehind settings) (sym first) l.behind;
         wrote = subst (λ (l : List View). Wrote (is_broken wire') (first_of l) (contents (writer wire')) (given_of l)) (sym is) wrote;
       },
       given,

@@ -145,11 +145,13 @@ stretch_of (Some cause.Unbound) = early
 stretch_of (Some cause.Lost) = lost
 stretch_of (Some cause.ReadFault) = complete
 stretch_of (Some cause.WriteFault) = early
-stretch_of (Some cause.Stopped) = complete
+stretch_of (Some (cause.Stopped seen)) = complete
 stretch_of (Some cause.Turns) = complete
 stretch_of (Some cause.OutOfMemory) = early
+stretch_of (Some cause.Unstarted) = early
 
--- the state after the handled frames: the session is closed iff that ended the reader; where the wire broke it may be
+-- the state after the handled frames: the session is closed iff that ended the reader; where the wire broke it may be; a reader that
+-- handles frames has begun
 abbrev pub Reaches : Option ReaderCause → State → State → Type 0
 Reaches None state reached = reached ≡ state
 Reaches (Some cause.Ended) state reached = reached ≡ state
@@ -157,9 +159,10 @@ Reaches (Some cause.Unbound) state reached = reached ≡ StateClosed
 Reaches (Some cause.Lost) state reached = reached ≡ state
 Reaches (Some cause.ReadFault) state reached = reached ≡ state
 Reaches (Some cause.WriteFault) state reached = Unit {0}
-Reaches (Some cause.Stopped) state reached = reached ≡ state
+Reaches (Some (cause.Stopped seen)) state reached = reached ≡ state
 Reaches (Some cause.Turns) state reached = reached ≡ state
 Reaches (Some cause.OutOfMemory) state reached = reached ≡ state
+Reaches (Some cause.Unstarted) state reached = ⊥
 
 -- how many responses the wire refused
 abbrev pub broken_at : Option ReaderCause → ℕ
@@ -169,9 +172,10 @@ broken_at (Some cause.Unbound) = 0
 broken_at (Some cause.Lost) = 0
 broken_at (Some cause.ReadFault) = 0
 broken_at (Some cause.WriteFault) = 1
-broken_at (Some cause.Stopped) = 0
+broken_at (Some (cause.Stopped seen)) = 0
 broken_at (Some cause.Turns) = 0
 broken_at (Some cause.OutOfMemory) = 0
+broken_at (Some cause.Unstarted) = 0
 
 -- ---- how many outcomes there are of each kind
 

@@ -1,4 +1,3 @@
-pub mod Binds
 pub mod Answers
 pub mod Wires
 pub mod Frames

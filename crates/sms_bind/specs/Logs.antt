@@ -1,8 +1,10 @@
 -- The log of a run as contracts see it: its keeper, the requests of a thread, and a wire with its log.
-use Rattle.std.specs.Prelude.{None, ◌≡◌, ℕ, ◌-◌, ◌<◌, ◌≤◌, List, [], ◌∷◌, ◌++◌, length, take, Option, Bool, true, false}
+use Rattle.std.specs.Prelude.{Some, None, ◌≡◌, ℕ, ◌-◌, ◌<◌, ◌≤◌, List, [], ◌∷◌, ◌++◌, length, take, Option, Bool, true, false}
 use Rattle.std.specs.List.{concat}
 use Rattle.std.specs.Io.KnownBytes.{Appends}
 use Rattle.atomic_table.specs.Seated.{TableId}
+use Rattle.sms_pdu.specs.Grammar.{Spells}
+use Rattle.sms_session.specs.Settings.{Setting, bind_pdu}
 use Rattle.sms_bind.specs.declared.log.rule.View.{View}
 use Rattle.sms_bind.specs.declared.wire.Wire.{Wire}
 use Rattle.sms_bind.specs.LogRule.{all_parts, seat, wire_seat, first_seat}
@@ -31,6 +33,17 @@ pub record Logged (W : Type 0) : Type 0 where
 abbrev pub Wrote : Bool → Option (List ℕ) → Option (List ℕ) → List (List ℕ) → Type 0
 Wrote false before after log = Appends before after (concat log)
 Wrote true before after log = (whole : List (List ℕ)) × (last : List ℕ) × (n : ℕ) × (log ≡ whole ++ last ∷ []) × (n < length last) × Appends before after (concat whole ++ take n last)
+
+-- a bind by these settings was written whole, with this number (SMPP 3.4 4.1)
+pub record BindWritten (settings : Setting) (number : ℕ) (before after : Option (List ℕ)) : Type 0 where
+  pub octets : List ℕ
+  pub spelled : Spells (bind_pdu settings number) octets
+  pub appended : Appends before after octets
+
+-- The log begins right behind a bind by these settings; where they aren't said, behind anything
+abbrev pub BeginsBehind : Option Setting → Option (List ℕ) → Type 0
+BeginsBehind None first = Unit {0}
+BeginsBehind (Some settings) first = (number : ℕ) × (before : Option (List ℕ)) × BindWritten settings number before first
 
 -- ---- how they stand on the log's table
 
@@ -76,7 +89,8 @@ pub record RequestsStand (name badge : TableId) (views : List View) : Type 0 whe
   pub badge_is : badge ≡ name
   pub view : views ≡ seat 1 [] (claims_of views) ∷ []
 
-pub record LoggedStands {W : Type 0} (contents : W → Option (List ℕ)) (name badge : TableId) (views : List View) (wire : Wire W) : Type 0 where
+pub record LoggedStands {W : Type 0} (contents : W → Option (List ℕ)) (settings : Option Setting) (name badge : TableId) (views : List View) (wire : Wire W) : Type 0 where
   pub badge_is : badge ≡ name
   pub view : views ≡ wire_seat (first_of views) (given_of views) ∷ []
+  pub behind : BeginsBehind settings (first_of views)
   pub wrote : Wrote (is_broken wire) (first_of views) (contents (writer wire)) (given_of views)

@@ -5,6 +5,7 @@ use Rattle.sms_pdu.specs.declared.tap.Tap.{Tap}
 use Rattle.sms_pdu.specs.Devices.{device, faults_of, failures_of}
 use Rattle.sms_pdu.specs.Faults.{Counts, IsCounted}
 use Rattle.sms_pdu.specs.Turn.{most_piece, GaveAtMost, Turned}
+use Rattle.sms_bind.specs.declared.line.StopSeen.{StopSeen}
 use Rattle.sms_bind.specs.declared.ending.ReaderCause.{ReaderCause}
 use Rattle.sms_bind.specs.declared.ending.ReaderCause.TheVariants.{Ended, ReadFault, Stopped, Turns}
 
@@ -34,8 +35,8 @@ pub record ReadSoFar {R : Type 0} (remaining : R → Option (List ℕ)) (turns e
   -- `errors` counts each error that the input returned meanwhile
   pub errors_counted : errors ≡ faults_of new - faults_of old
   pub grows : faults_of old ≤ faults_of new
-  -- the reader was stopped before a turn
-  pub stopped : ended Stopped → Stops turns (remaining (device old)) (remaining (device new))
+  -- the reader saw before a turn that it was stopped
+  pub stopped : (seen : StopSeen) → ended (Stopped seen) → Stops turns (remaining (device old)) (remaining (device new))
   -- the input ended: it has nothing left
   pub end : ended Ended → IsAtEnd (remaining (device new))
   -- a read failed: the input counted an error and a failure; a reader that ends for another cause counted no failure

@@ -9,15 +9,14 @@ ghost use Rattle.sms_pdu.specs.Turn.{GaveAtMost, IsSpent};
 ghost use Rattle.sms_pdu.specs.Devices.{device, faults_of};
 ghost use Rattle.sms_pdu.specs.Faults.{IsCounted};
 ghost use Rattle.sms_bind.specs.Wires.{writer, write_faults, is_broken};
-ghost use Rattle.sms_bind.specs.Binds.{bind_pdu};
+ghost use Rattle.sms_session.specs.Settings.{bind_pdu};
 ghost use Rattle.sms_bind.specs.Answers.{most_answer, most_tries, fault_of, sent_at, is_sent, Answers, FoundNone, Fails, Passes};
 ghost use Rattle.sms_bind.specs.declared.binding.BindFault.TheVariants.{Closed, Read as ReadFault, Write as WriteFault, OutOfMemory};
 
 use crate::bound::Bound;
-use crate::settings::Settings;
 use crate::wire::Wire;
 use sms_pdu::{Fed, Frame, Framer, Frames, Mode, Tap, gave_nothing};
-use sms_session::{OpenFault, Opened};
+use sms_session::{OpenFault, Opened, Settings};
 use std::alloc::{AllocError, Global};
 use std::io::{Read, Write};
 
@@ -74,12 +73,10 @@ pub fn bind<R: Read, W: Write>(
     ensures at_end { result ≡ Err Closed → IsAtEnd (R.remaining (device reader.new)) }
     ensures read_at_most { GaveAtMost most_answer (R.remaining (device reader.old)) (R.remaining (device reader.new)) }
     ensures errors_at_most { faults_of reader.new ≤ faults_of reader.old + most_tries }
-    ensures errors_if_bound { OnOk result (faults_of reader.new < faults_of reader.old + most_tries) }
+    ensures if_bound { OnOk result ((faults_of reader.new < faults_of reader.old + most_tries) × (is_broken wire.new ≡ false)) }
     ensures read_fault { result ≡ Err ReadFault → IsCounted (faults_of reader.old) (faults_of reader.new) }
     ensures failed { result ≡ Err ReadFault → Fails reader.old reader.new }
     ensures no_failure { result ≢ Err ReadFault → Passes reader.old reader.new }
-    // A wire on which a session is bound is sound.
-    ensures sound { OnOk result (is_broken wire.new ≡ false) }
     ensures write_fault { result ≡ Err WriteFault → (is_broken wire.old ≡ true) ⊎ IsCounted (write_faults wire.old) (write_faults wire.new) }
 {
     if let Err(fault) = write_bind(alloc, wire, settings, number) {

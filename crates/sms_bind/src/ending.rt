@@ -1,5 +1,6 @@
 //! How a bind's reader ends.
 
+use crate::line::StopSeen;
 use rtrb::Producer;
 use sms_pdu::Reply;
 use sms_window::WindowSeat;
@@ -17,12 +18,14 @@ pub enum ReaderCause {
     ReadFault,
     /// A response couldn't be written.
     WriteFault,
-    /// The line was stopped.
-    Stopped,
+    /// The line was seen to be stopped.
+    Stopped(StopSeen),
     /// The turns were used up.
     Turns,
     /// Out of memory.
     OutOfMemory,
+    /// The reader never began: its sending wasn't started.
+    Unstarted,
 }
 
 /// What is left when a reader has ended.

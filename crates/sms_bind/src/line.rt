@@ -8,7 +8,13 @@ use crate::logged::LoggedWire;
 use sms_slot::SlotRow;
 use std::io::Write;
 use std::sync::Mutex;
-use std::sync::atomic::AtomicBool;
+use std::sync::atomic::{AtomicBool, Ordering};
+
+/// Evidence that a line was seen to be stopped. Only `Line::stopped` makes it, from a look that found `stop` set.
+#[derive(Clone, Copy, Debug, PartialEq, Eq)]
+pub struct StopSeen {
+    _seen: (),
+}
 
 /// What the reader and the workers of a bind share. The wire behind its lock and the value of `stop` are
 /// whatever was left there last, so no clause describes them; a `Down` is evidence that the line is down.
@@ -37,5 +43,13 @@ impl<N: LogName, W: Write> Line<N, W> {
             stop: AtomicBool::new(false),
         };
         (line, leave)
+    }
+
+    /// Evidence that the line was stopped, if it is seen to be now.
+    pub fn stopped(&self) -> Option<StopSeen> {
+        if self.stop.load(Ordering::SeqCst) {
+            return Some(StopSeen { _seen: () });
+        }
+        None
     }
 }

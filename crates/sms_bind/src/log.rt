@@ -14,19 +14,28 @@ use std::alloc::{AllocError, Global};
 use std::marker::{Brand, Model, PhantomData};
 use std::sync::Arc;
 
-/// Names the log of one run. A function that opens a log is generic in such a name; its caller passes
-/// `Brand` and picks the blank's name for it, so that the log's wires and requests are of that log and no
-/// other.
+/// Names the log of one run, and says by which settings its wires were bound. A function that opens a log is
+/// generic in such a name; its caller passes `Brand` and picks the blank's name for it, so that the log's wires
+/// and requests are of that log and no other.
 pub trait LogName {
+    ghost use Rattle.std.specs.Prelude.{Option};
     ghost use Rattle.atomic_table.specs.Seated.{TableId};
+    ghost use Rattle.sms_session.specs.Settings.{Setting};
 
     ghost log: { TableId };
+
+    /// The settings of the binds right behind which the logs of the wires begin; none where they may begin
+    /// behind anything.
+    ghost settings: { Option Setting };
 }
 
 impl LogName for Brand {
+    ghost use Rattle.std.specs.Prelude.{None};
     ghost use Rattle.sms_bind.specs.LogRule.{no_log};
 
     ghost log = { no_log };
+
+    ghost settings = { None };
 }
 
 /// The table on which a log stands.

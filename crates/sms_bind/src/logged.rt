@@ -3,7 +3,7 @@
 ghost use Rattle.std.specs.Prelude.{◌≡◌, ◌+◌, ◌-◌, ◌<◌, ◌++◌, ◌∷◌, [], true, false, IfOk, OnOk, OnErr};
 ghost use Rattle.sms_bind.specs.Frames.{IsRequest, IsResponse};
 ghost use Rattle.sms_bind.specs.LogRule.{all_parts};
-ghost use Rattle.sms_bind.specs.Logs.{Wrote};
+ghost use Rattle.sms_bind.specs.Logs.{BeginsBehind, Wrote};
 ghost use Rattle.sms_bind.specs.Wires.{Sends, writer, is_broken};
 
 use crate::log::rule::View;
@@ -18,8 +18,8 @@ use std::marker::{Brand, Model};
 use std::sync::Arc;
 
 /// A wire of a run, with the log of the frames that it was given. Contracts see what the writer had when the
-/// log began, the wire, and the log. The frames of the log are written whole and in order; where the wire is
-/// broken, the last of them in part.
+/// log began, the wire, and the log. The log began right behind a bind by the settings that its name says; the
+/// frames of the log are written whole and in order; where the wire is broken, the last of them in part.
 #[derive(Drop)]
 pub struct LoggedWire<N: LogName, W: Write> {
     wire: Wire<W>,
@@ -34,7 +34,7 @@ impl<N: LogName, W: Write> Model for LoggedWire<N, W> {
 
     ghost view = { λ w. logged w.wire w.seat.views };
 
-    ghost invariant = { λ w. LoggedStands W.contents N.log w.seat.table_id w.seat.views w.wire };
+    ghost invariant = { λ w. LoggedStands W.contents N.settings N.log w.seat.table_id w.seat.views w.wire };
 }
 
 impl<N: LogName> LogKeeper<N> {
@@ -42,6 +42,7 @@ impl<N: LogName> LogKeeper<N> {
     pub fn wire<W: Write>(&mut self, wire: Wire<W>) -> Result<LoggedWire<N, W>, Wire<W>>
         requires few { self.old.away + 1 < all_parts }
         requires sound { is_broken wire ≡ false }
+        requires behind { BeginsBehind N.settings (W.contents (writer wire)) }
         ensures away { OnOk result (self.new.away ≡ self.old.away + 1) }
         ensures same { (self.new.given ≡ self.old.given) × (self.new.requests ≡ self.old.requests) }
         ensures begun { IfOk result (λ w. (w.first ≡ W.contents (writer wire)) × (w.wire ≡ wire) × (w.log ≡ [])) }
@@ -62,6 +63,7 @@ impl<N: LogName> LogKeeper<N> {
         ensures given { self.new.given ≡ self.old.given ++ logged.log }
         ensures requests { self.new.requests ≡ self.old.requests }
         ensures wire { result ≡ logged.wire }
+        ensures behind { BeginsBehind N.settings logged.first }
         ensures wrote { Wrote (is_broken logged.wire) logged.first (W.contents (writer logged.wire)) logged.log }
     {
         let LoggedWire { wire, mut seat, .. } = logged;

@@ -8,6 +8,7 @@ ghost use Rattle.sms_session.specs.Session.{IsBound};
 ghost use Rattle.sms_bind.specs.Deeds.{stretch_of, IsWithin};
 ghost use Rattle.sms_bind.specs.Follows.{Follows};
 ghost use Rattle.sms_bind.specs.ReaderStates.{Handled};
+ghost use Rattle.sms_bind.specs.declared.line.StopSeen.{StopSeen};
 ghost use Rattle.sms_bind.specs.declared.ending.ReaderCause.TheVariants.{Ended, ReadFault, Stopped, Turns, OutOfMemory};
 
 use crate::context::ReaderContext;
@@ -63,7 +64,7 @@ impl ReaderState {
         ensures room { self.new.counts.frames + length held.new.items ≤ self.old.counts.frames + length held.old.items }
         ensures good { result ≡ None → ¬ IsBad held.new.items }
         ensures going { result ≡ None → self.new.session ≡ self.old.session }
-        ensures cause { (result ≢ Some Ended) × (result ≢ Some ReadFault) × (result ≢ Some Stopped) × (result ≢ Some Turns) × (result ≢ Some OutOfMemory) }
+        ensures cause { (result ≢ Some Ended) × (result ≢ Some ReadFault) × ((seen : StopSeen) → result ≢ Some (Stopped seen)) × (result ≢ Some Turns) × (result ≢ Some OutOfMemory) }
     {
         let (used, ended) = self.handle_stream(context, held.as_slice());
         drop_front(held, used);

@@ -13,6 +13,7 @@ ghost use Rattle.sms_bind.specs.Follows.{Follows};
 ghost use Rattle.sms_bind.specs.ReaderStates.{CanRead, GoesOn, Handled};
 ghost use Rattle.sms_bind.specs.Turns.{ReadOnce, ReadUntil};
 ghost use Rattle.sms_bind.specs.declared.ending.ReaderCause.TheVariants.{Ended, Stopped, Turns, OutOfMemory};
+ghost use Rattle.sms_bind.specs.declared.line.StopSeen.{StopSeen};
 
 use crate::context::ReaderContext;
 use crate::ending::ReaderCause;
@@ -22,7 +23,6 @@ use crate::replying::refuse_length;
 use sms_pdu::{Frame, PIECE, Tap, fault_of, is_bad};
 use std::io::{Read, Write};
 use std::sync::Wait;
-use std::sync::atomic::Ordering;
 
 impl ReaderState {
     /// Handles the frames that were read before, then reads in turns.
@@ -77,8 +77,8 @@ impl ReaderState {
         };
         let mut held = held;
         for _turn in 0..turns {
-            if context.line.stop.load(Ordering::SeqCst) {
-                return ReaderCause::Stopped;
+            if let Some(seen) = context.line.stopped() {
+                return ReaderCause::Stopped(seen);
             }
             if let Some(cause) = self.turn(context, reader, &mut piece, &mut held) {
                 return cause;
@@ -105,7 +105,7 @@ impl ReaderState {
         ensures piece { length piece.new.items ≡ 65536 }
         ensures going { result ≡ None → GoesOn self.old self.new held.old.items held.new.items }
         ensures read { ReadOnce R.remaining result reader.old reader.new }
-        ensures cause { (result ≢ Some Stopped) × (result ≢ Some Turns) }
+        ensures cause { ((seen : StopSeen) → result ≢ Some (Stopped seen)) × (result ≢ Some Turns) }
         ensures ended_input { IsSpent (R.remaining (device reader.old)) → ¬ IsCounted (faults_of reader.old) (faults_of reader.new) → result ≡ Some Ended }
     {
         match reader.read(piece.as_mut_slice()) {

@@ -1,6 +1,6 @@
 //! Readers that end before their input does, and the cause for which the line is down.
 
-ghost use Rattle.std.specs.Prelude.{◌≡◌, true};
+ghost use Rattle.std.specs.Prelude.{◌≡◌, true, None};
 ghost use Rattle.sms_bind.specs.Wires.{is_broken};
 
 use super::reader::{bound_as, line_of, read_from, want_down, want_written};
@@ -17,15 +17,16 @@ use std::test::Fail;
 const ENQUIRE_LINK_RESP: &[u8; 16] =
     b"\x00\x00\x00\x10\x80\x00\x00\x15\x00\x00\x00\x00\x00\x00\x00\x02";
 
-// A reader over a wire with this room and a source that gives nothing so often, which may be stopped.
+// A reader over a wire with this room and a source that gives nothing so often, which may be stopped: no
+// cause is wanted then but that.
 fn want_early<N: LogName, S: Abort + Wait>(
     rt: &S,
     alloc: Global,
     log: BlankLog,
     given: (usize, u32, bool),
-    wanted: (ReaderCause, u64),
+    wanted: (Option<ReaderCause>, u64),
 )
-    requires { log ≡ N.log }
+    requires { (log ≡ N.log) × (N.settings ≡ None) }
 {
     let (room, idle, stop) = given;
     let (cause, errors) = wanted;
@@ -34,8 +35,9 @@ fn want_early<N: LogName, S: Abort + Wait>(
     let bound = bound_as(rt, alloc, Mode::Transmitter);
     let source = source_of(idle, ENQUIRE_LINK, true);
     let end = read_from(rt, alloc, source, bound, Vec::new(alloc), &line, leave);
-    same(rt, (end.cause, end.errors), (cause, errors));
-    let written: &[u8] = match cause {
+    want_cause(rt, end.cause, cause);
+    same(rt, end.errors, errors);
+    let written: &[u8] = match end.cause {
         ReaderCause::WriteFault => &ENQUIRE_LINK_RESP[..10],
         ReaderCause::ReadFault => ENQUIRE_LINK_RESP.as_slice(),
         _ => b"",
@@ -43,14 +45,29 @@ fn want_early<N: LogName, S: Abort + Wait>(
     want_written(rt, line, written);
 }
 
+// None: the reader was stopped.
+fn want_cause<S: Abort>(rt: &S, cause: ReaderCause, wanted: Option<ReaderCause>) {
+    match wanted {
+        Some(wanted) => same(rt, cause, wanted),
+        None => want_stop(rt, cause),
+    }
+}
+
+fn want_stop<S: Abort>(rt: &S, cause: ReaderCause) {
+    match cause {
+        ReaderCause::Stopped(_seen) => (),
+        _ => panic!(rt; "not stopped"),
+    }
+}
+
 // A wire that breaks, a reader that fails, a line that is stopped, and turns that are used up.
 #[test]
 fn readers_that_end_early(rt: HostRuntime) -> Result<(), Fail> {
     let cases = [
-        (10, 0, false, ReaderCause::WriteFault, 0),
-        (1000, 3, false, ReaderCause::ReadFault, 4),
-        (1000, 10, false, ReaderCause::Turns, 10),
-        (1000, 0, true, ReaderCause::Stopped, 0),
+        (10, 0, false, Some(ReaderCause::WriteFault), 0),
+        (1000, 3, false, Some(ReaderCause::ReadFault), 4),
+        (1000, 10, false, Some(ReaderCause::Turns), 10),
+        (1000, 0, true, None, 0),
     ];
     for (room, idle, stop, cause, errors) in cases {
         let alloc = rt.alloc();
@@ -72,7 +89,7 @@ fn first_cause<N: LogName, S: Abort + Wait>(
     alloc: Global,
     log: BlankLog,
 ) -> Result<(), Fail>
-    requires { log ≡ N.log }
+    requires { (log ≡ N.log) × (N.settings ≡ None) }
 {
     let (line, leave) = line_of::<N, S>(rt, alloc, log, 0, 0);
     let mut broken = wire_to(0, Vec::new(alloc));

@@ -1,6 +1,6 @@
 //! Reads and writes that fail at each octet of what is read and written.
 
-ghost use Rattle.std.specs.Prelude.{◌≡◌};
+ghost use Rattle.std.specs.Prelude.{◌≡◌, None};
 
 use super::reader::{bound_as, counts, line_of, read_from, ring_of, want_written};
 use super::{
@@ -105,7 +105,7 @@ fn want_end<N: LogName, S: Abort + Wait>(
     room: usize,
     wanted: (ReaderCause, u64, u64, usize),
 ) -> Result<(), Fail>
-    requires { log ≡ N.log }
+    requires { (log ≡ N.log) × (N.settings ≡ None) }
 {
     let (cause, answered, delivered, written) = wanted;
     let (line, leave) = line_of::<N, S>(rt, alloc, log, room, 2);
@@ -166,7 +166,7 @@ fn want_nack<N: LogName, S: Abort + Wait>(
     room: usize,
     wanted: (ReaderCause, u64),
 )
-    requires { log ≡ N.log }
+    requires { (log ≡ N.log) × (N.settings ≡ None) }
 {
     let (cause, nacked) = wanted;
     let (line, leave) = line_of::<N, S>(rt, alloc, log, room, 0);

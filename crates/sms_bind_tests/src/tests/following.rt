@@ -1,6 +1,6 @@
 //! Fewer requests at once while the message centre throttles.
 
-ghost use Rattle.std.specs.Prelude.{◌≡◌, ◌≤◌};
+ghost use Rattle.std.specs.Prelude.{◌≡◌, ◌≤◌, None};
 ghost use Rattle.sms_core.specs.Limits.{most_slots};
 
 use super::reader::{bound_as, line_of, ring_of};
@@ -36,7 +36,7 @@ fn want_held<N: LogName, S: Abort + Wait>(
     given: (u32, u8, u8),
     held: u64,
 ) -> Result<(), Fail>
-    requires name { log ≡ N.log }
+    requires name { (log ≡ N.log) × (N.settings ≡ None) }
     requires limit { (1 ≤ given.0) × (given.0 ≤ most_slots) }
 {
     let (limit, throttled, good) = given;
@@ -114,7 +114,7 @@ fn beside_a_worker<N: LogName, S: Abort + Wait>(
     alloc: Global,
     log: BlankLog,
 ) -> Result<(), Fail>
-    requires { log ≡ N.log }
+    requires { (log ≡ N.log) × (N.settings ≡ None) }
 {
     let octets = answers(alloc, 3, 0)?;
     let (line, leave) = line_of::<N, S>(rt, alloc, log, 0, 3);

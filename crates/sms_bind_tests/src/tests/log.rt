@@ -1,6 +1,6 @@
 //! The log of a run's wires.
 
-ghost use Rattle.std.specs.Prelude.{◌≡◌, ◌++◌, ◌∷◌, [], IfOk, IfSome};
+ghost use Rattle.std.specs.Prelude.{◌≡◌, ◌++◌, ◌∷◌, [], IfOk, IfSome, None};
 ghost use Rattle.sms_bind.specs.Frames.{IsRequest, AreSame, requests as requests_in};
 
 use super::{Sink, blank_log, frame, same, wire_to};
@@ -84,7 +84,7 @@ fn two_threads<N: LogName + Send + Sync, R: Abort + Threads + Wait + Sync>(
     alloc: Global,
     log: BlankLog,
 ) -> Result<(), Fail>
-    requires { log ≡ N.log }
+    requires { (log ≡ N.log) × (N.settings ≡ None) }
 {
     let Ok(mut keeper) = log.open::<N>(alloc) else {
         panic!(rt; "no keeper")

@@ -2,7 +2,7 @@
 //! for each of its allocations, and where memory is refused before the call that is tested, it ends
 //! there.
 
-ghost use Rattle.std.specs.Prelude.{◌≡◌, false, IfOk};
+ghost use Rattle.std.specs.Prelude.{◌≡◌, false, IfOk, None};
 ghost use Rattle.sms_bind.specs.Wires.{is_broken};
 
 use super::faults::{RESPONSES, STREAM};
@@ -93,7 +93,7 @@ fn memory_of_a_reader(rt: HostRuntime) {
 }
 
 fn reader_in_memory<N: LogName, S: Abort + Wait>(rt: &S, alloc: Global, log: BlankLog)
-    requires { log ≡ N.log }
+    requires { (log ≡ N.log) × (N.settings ≡ None) }
 {
     let Ok(mut keeper) = log.open::<N>(alloc) else {
         return;

@@ -1,6 +1,6 @@
 //! The reader of a bind over devices in memory.
 
-ghost use Rattle.std.specs.Prelude.{◌≡◌, ◌≤◌};
+ghost use Rattle.std.specs.Prelude.{◌≡◌, ◌≤◌, None};
 ghost use Rattle.sms_bind.specs.Downs.{IsDownAt};
 ghost use Rattle.sms_core.specs.Limits.{most_slots};
 
@@ -52,7 +52,7 @@ pub(crate) fn line_of<N: LogName, S: Abort + Wait>(
     room: usize,
     waiting: u32,
 ) -> (Line<N, Sink>, ReaderLeave)
-    requires name { log ≡ N.log }
+    requires name { (log ≡ N.log) × (N.settings ≡ None) }
     requires few { waiting ≤ most_slots }
 {
     let Ok(mut keeper) = log.open::<N>(alloc) else {
@@ -170,7 +170,7 @@ fn want_stream<N: LogName, S: Abort + Wait>(
     octets: &[u8],
     expected: (ReaderCause, [u64; 7], &[u8]),
 ) -> Result<(), Fail>
-    requires { log ≡ N.log }
+    requires { (log ≡ N.log) × (N.settings ≡ None) }
 {
     let (cause, wanted, written) = expected;
     let (line, leave) = line_of::<N, S>(rt, alloc, log, 1000, 1);
@@ -254,7 +254,7 @@ fn want_rest<N: LogName, S: Abort + Wait>(
     behind: &[u8],
     wanted: (ReaderCause, u64, &[u8]),
 )
-    requires { log ≡ N.log }
+    requires { (log ≡ N.log) × (N.settings ≡ None) }
 {
     let (cause, delivered, written) = wanted;
     let bound = bound_with(rt, alloc, behind);
@@ -299,7 +299,7 @@ fn want_counts<N: LogName, S: Abort + Wait>(
     producers: Vec<Producer<Reply>>,
     wanted: [u64; 7],
 )
-    requires { log ≡ N.log }
+    requires { (log ≡ N.log) × (N.settings ≡ None) }
 {
     let octets =
         b"\x00\x00\x00\x10\x80\x00\x00\x04\x00\x00\x00\x00\x00\x00\x00\x01\x00\x00\x00\x10\x80\x00\x00\x04\x00\x00\x00\x00\x00\x00\x00\x02";
@@ -356,7 +356,7 @@ fn several_workers<N: LogName, S: Abort + Wait>(
     alloc: Global,
     log: BlankLog,
 ) -> Result<(), Fail>
-    requires { log ≡ N.log }
+    requires { (log ≡ N.log) × (N.settings ≡ None) }
 {
     let (line, leave) = line_of::<N, S>(rt, alloc, log, 0, 0);
     for (slot, worker) in [(0, 1), (1, 0), (2, 2), (3, 1), (4, 0)] {

@@ -2,7 +2,7 @@ use Rattle.std.proofs.Common.{◌≡◌, length, sym, subst, ◌∙◌, rules, a
 use Rattle.std.specs.Io.KnownBytes.{Appends}
 use Rattle.std.proofs.Math.Seq.{take-length}
 use Rattle.sms_pdu.specs.Grammar.{Spells}
-use Rattle.sms_bind.specs.Binds.{bind_pdu}
+use Rattle.sms_session.specs.Settings.{bind_pdu}
 use Rattle.sms_bind.specs.Wires.{writer}
 use Rattle.sms_bind.proofs.Binds.{same_text}
 use Rattle.sms_bind.proofs.binding.write_bind.Goals as goal

@@ -15,7 +15,7 @@ pub invariant_of-self : goal.invariant_of-self
 invariant_of-self g c =
     let sound = sym c.broken.ensures ∙ c.if-broken.false in
     let e = c.send.ensures in
-    (logged_more g.W.Write.contents _ _ _ _ _ _ _ c.args.frame c.send.result c.self.invariant c.note.ensures.table (c.note.ensures.given _ c.self.invariant.view) sound
+    (logged_more g.W.Write.contents g.N.LogName.settings _ _ _ _ _ _ _ c.args.frame c.send.result c.self.invariant c.note.ensures.table (c.note.ensures.given _ c.self.invariant.view) sound
     record { receipt = e.receipt; failed_receipt = e.failed_receipt; broken = e.broken; kept = e.kept; after = e.after; whole = e.whole; part = e.part; short = e.short; no_fault = e.no_fault; counted = e.counted; fault = e.fault }).0
 
 pub returns-clause-sends : goal.returns-clause-sends

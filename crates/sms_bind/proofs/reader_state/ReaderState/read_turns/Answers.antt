@@ -40,8 +40,8 @@ loop-turn-init g c =
       room = (let h = short_rest held c.requires.reading.rest c.requires.reading.good in omega (arith, h));
     }
 
-pub returns-then-load-clause-reads : goal.returns-then-load-clause-reads
-returns-then-load-clause-reads g c =
+pub returns-in-Some-clause-reads : goal.returns-in-Some-clause-reads
+returns-in-Some-clause-reads g c =
     let r = g.R.Read.remaining (device c.args.reader.now) in
     let t = g.R.Read.remaining (device c.loop-turn.reader) in
     let a = c.args.self.now in
@@ -49,7 +49,7 @@ returns-then-load-clause-reads g c =
     let s = a.session in
     let held = c.loop-turn.held.items in
     let i = c.loop-turn.invariant in
-    reads_ends (Handled s None a b) (Handled s (Some Stopped) a b) c.args.held.items held [] r t complete i.reads (λ fs w. handled_ends s (Some Stopped) a b fs refl refl w)
+    reads_ends (Handled s None a b) (Handled s (Some (Stopped c.in-Some.seen)) a b) c.args.held.items held [] r t complete i.reads (λ fs w. handled_ends s (Some (Stopped c.in-Some.seen)) a b fs refl refl w)
     (reads_rest (Handled s None a b) c.args.held.items held r t i.reads, i.good)
 
 pub returns-clause-reads : goal.returns-clause-reads
@@ -64,8 +64,8 @@ returns-clause-reads g c =
     reads_ends (Handled s None a b) (Handled s (Some Turns) a b) c.args.held.items held [] r t complete i.reads (λ fs w. handled_ends s (Some Turns) a b fs refl refl w)
     (reads_rest (Handled s None a b) c.args.held.items held r t i.reads, i.good)
 
-pub returns-in-Some-clause-reads : goal.returns-in-Some-clause-reads
-returns-in-Some-clause-reads g c =
+pub returns-in-Some-turn-clause-reads : goal.returns-in-Some-turn-clause-reads
+returns-in-Some-turn-clause-reads g c =
     let r = g.R.Read.remaining (device c.args.reader.now) in
     let t = g.R.Read.remaining (device c.loop-turn.reader) in
     let u = g.R.Read.remaining (device c.turn.new.reader) in
@@ -77,11 +77,11 @@ returns-in-Some-clause-reads g c =
     let begun = c.args.held.items in
     let held = c.loop-turn.held.items in
     let kept = c.turn.new.held.items in
-    let end : Option ReaderCause = Some c.in-Some.cause in
-    let one = subst (λ x. Reads (Handled x end b d) held t u (stretch_of end) kept) i.same c.in-Some.ensures.reads in
+    let end : Option ReaderCause = Some c.in-Some-turn.cause in
+    let one = subst (λ x. Reads (Handled x end b d) held t u (stretch_of end) kept) i.same c.in-Some-turn.ensures.reads in
     reads_ended (Handled s end a d) begun kept [] r u (stretch_of end)
     (reads_more (Handled s None a b) (Handled s end b d) (Handled s end a d) begun held kept r t u (stretch_of end) i.reads one (λ fs gs p q. handled_more s c.requires.reading.bound end a b d fs gs p q))
-    (λ left. leaves_end c.in-Some.cause left kept [])
+    (λ left. leaves_end c.in-Some-turn.cause left kept [])
 
 pub loop-turn-preserved : goal.loop-turn-preserved
 loop-turn-preserved g c =
@@ -128,38 +128,38 @@ returns-in_default-clause-read g c = record {
   took = λ room e. absurd cc;
   errors_counted = refl;
   grows = omega arith;
-  stopped = λ e. absurd cc;
+  stopped = λ seen e. absurd cc;
   end = λ e. absurd cc;
   fault = λ e. absurd cc;
   failed = λ e. absurd cc;
   no_failure = λ other. refl;
 }
 
-pub returns-then-load-clause-read : goal.returns-then-load-clause-read
-returns-then-load-clause-read g c =
+pub returns-in-Some-clause-read : goal.returns-in-Some-clause-read
+returns-in-Some-clause-read g c =
     let i = c.loop-turn.invariant in
     record {
       turned = turned_stops c.loop-turn._turn _ _ _ _ _ _ (search rules) (λ e. absurd cc) i.turned;
       took = λ room e. absurd cc;
       errors_counted = refl;
       grows = i.faults;
-      stopped = λ e. stops_before c.loop-turn._turn _ _ _ _ _ (search rules) i.turned;
+      stopped = λ seen e. stops_before c.loop-turn._turn _ _ _ _ _ (search rules) i.turned;
       end = λ e. absurd cc;
       fault = λ e. absurd cc;
       failed = λ e. absurd cc;
       no_failure = λ other. i.failures;
     }
 
-pub returns-in-Some-clause-read : goal.returns-in-Some-clause-read
-returns-in-Some-clause-read g c =
+pub returns-in-Some-turn-clause-read : goal.returns-in-Some-turn-clause-read
+returns-in-Some-turn-clause-read g c =
     let i = c.loop-turn.invariant in
-    let q = c.in-Some.ensures.read in
+    let q = c.in-Some-turn.ensures.read in
     record {
-      turned = turned_last c.loop-turn._turn _ _ _ _ _ _ _ _ _ (search rules) i.turned q.turned (λ e. c.in-Some.ensures.cause.1 (ap (λ x. Some x) e));
-      took = λ room e. absurd (c.in-Some.ensures.cause.1 (ap (λ x. Some x) e));
+      turned = turned_last c.loop-turn._turn _ _ _ _ _ _ _ _ _ (search rules) i.turned q.turned (λ e. c.in-Some-turn.ensures.cause.1 (ap (λ x. Some x) e));
+      took = λ room e. absurd (c.in-Some-turn.ensures.cause.1 (ap (λ x. Some x) e));
       errors_counted = refl;
       grows = (let h = i.faults in let k = q.grows in omega (arith, h, k));
-      stopped = λ e. absurd (c.in-Some.ensures.cause.0 (ap (λ x. Some x) e));
+      stopped = λ seen e. absurd (c.in-Some-turn.ensures.cause.0 seen (ap (λ x. Some x) e));
       end = λ e. q.end (ap (λ x. Some x) e);
       fault = λ e. counted_later (faults_of c.args.reader.now) (faults_of c.loop-turn.reader) (faults_of c.turn.new.reader) i.faults q.grows (q.fault (ap (λ x. Some x) e));
       failed = λ e. counted_once _ _ _ i.failures (q.failed (ap (λ x. Some x) e));
@@ -178,7 +178,7 @@ returns-clause-read g c =
           (i.took (omega (arith, all, room)));
       errors_counted = refl;
       grows = i.faults;
-      stopped = λ e. absurd cc;
+      stopped = λ seen e. absurd cc;
       end = λ e. absurd cc;
       fault = λ e. absurd cc;
       failed = λ e. absurd cc;

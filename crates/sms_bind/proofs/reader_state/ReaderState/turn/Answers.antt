@@ -35,7 +35,7 @@ returns-in-Err-clause-reads g c =
     reads_failed c.args.self.now.session c.args.self.now c.fault_of.result c.args.held.now.items _ _ c.fault_of.ensures.one c.in-Err.ensures.bytes c.requires.reading.rest c.requires.reading.good
 
 pub returns-in-Err-clause-cause : goal.returns-in-Err-clause-cause
-returns-in-Err-clause-cause g c = (not_failed c.fault_of.result ReadFault Stopped c.fault_of.ensures.one (λ e. absurd cc), not_failed c.fault_of.result ReadFault Turns c.fault_of.ensures.one (λ e. absurd cc))
+returns-in-Err-clause-cause g c = (λ seen. not_failed c.fault_of.result ReadFault (Stopped seen) c.fault_of.ensures.one (λ e. absurd cc), not_failed c.fault_of.result ReadFault Turns c.fault_of.ensures.one (λ e. absurd cc))
 
 pub returns-then-is_err-clause-ended_input : goal.returns-then-is_err-clause-ended_input
 returns-then-is_err-clause-ended_input g c = λ spent quiet. absurd (not_spent _ _ (take c.in-Ok.n c.read.new.buf) (search rules) c.in-Ok.ensures.bytes.0 spent)
@@ -49,7 +49,7 @@ returns-then-is_err-clause-read g c = record {
   took = λ room e. absurd cc;
   errors_counted = refl;
   grows = c.read.ensures.grows;
-  stopped = λ e. absurd cc;
+  stopped = λ seen e. absurd cc;
   end = λ e. absurd cc;
   fault = λ e. absurd cc;
   failed = λ e. absurd cc;
@@ -75,7 +75,7 @@ returns-in-Ok-eq0-clause-read g c = record {
   took = λ room e. absurd cc;
   errors_counted = refl;
   grows = c.read.ensures.grows;
-  stopped = λ e. absurd cc;
+  stopped = λ seen e. absurd cc;
   end = search rules;
   fault = λ e. absurd cc;
   failed = λ e. absurd cc;
@@ -88,7 +88,7 @@ returns-in-Err-clause-read g c = record {
   took = λ room e. took_fault _ _ _ _ room c.in-Err.ensures.faults c.in-Err.ensures.bytes;
   errors_counted = refl;
   grows = c.read.ensures.grows;
-  stopped = λ e. absurd (not_failed c.fault_of.result ReadFault Stopped c.fault_of.ensures.one (λ e. absurd cc) e);
+  stopped = λ seen e. absurd (not_failed c.fault_of.result ReadFault (Stopped seen) c.fault_of.ensures.one (λ e. absurd cc) e);
   end = λ e. absurd (not_failed c.fault_of.result ReadFault Ended c.fault_of.ensures.one (λ e. absurd cc) e);
   fault = search rules;
   failed = search rules;
