@@ -1,11 +1,14 @@
 -- Where the bind closed, as a run goes on.
-use Rattle.std.proofs.Common.{◌≡◌, ℕ, zero, suc, Bool, true, false, List, [], ◌∷◌, ◌++◌, Some, inl, inr, refl, sym, subst, arith}
-use Rattle.std.specs.Prelude.{IsTrue, slice_get}
+use Rattle.std.proofs.Common.{◌≡◌, ℕ, zero, suc, Bool, true, false, List, [], ◌∷◌, ◌++◌, None, Some, inl, inr, refl, sym, subst, arith}
+use Rattle.std.specs.Prelude.{◌||◌, IsTrue, Option, slice_get}
 use Rattle.sms_worker.specs.Types.{SegmentEnd, MessageEnd, MessageResult}
 use Rattle.sms_message.specs.declared.ends.MessageRefusal.TheVariants.{BindClosed}
 use Rattle.sms_message.specs.declared.ends.MessageResult.TheVariants.{Sent, Refused as NotSent}
 use Rattle.sms_message.specs.Ends.{put_in, with_part, put}
-use Rattle.sms_worker.specs.Closing.{IsClosed, StaysClosed, Closes}
+use Rattle.sms_bind.specs.declared.down.DownMark.{DownMark}
+use Rattle.sms_message.specs.declared.message.Message.{Message}
+use Rattle.sms_worker.specs.declared.state.stop.NotBegun.{NotBegun}
+use Rattle.sms_worker.specs.Closing.{IsClosed, IsRefusedOf, IsSeen, StaysClosed, Closes, stopped_by}
 use Rattle.sms_worker.proofs.EndLemmas.{got_of_append, get_low}
 
 closed_put : (r : MessageResult) (p : ℕ) (s : SegmentEnd) → r ≡ NotSent BindClosed → put_in r p s ≡ NotSent BindClosed
@@ -69,3 +72,19 @@ closes_more false es x c came goes = record {
   stays = stays_more false es x c came goes;
   open_yet = λ off k e at is. elim (got_of_append es x k e at) [ inl h ↦ c.open_yet refl k e h is | inr h ↦ (let no : false ≡ true = came (subst IsClosed h.1 is) in absurd (cc)) ];
 }
+
+-- where both stay, their disjunction does
+pub shut_stays : (closed closed' stop stop' : Bool) → (IsTrue closed → IsTrue closed') → (IsTrue stop → IsTrue stop') → IsTrue (closed || stop) → IsTrue (closed' || stop')
+shut_stays true true stop stop' a b on = refl
+shut_stays true false stop stop' a b on = absurd (let e = a refl in cc)
+shut_stays false true stop stop' a b on = refl
+shut_stays false false stop stop' a b on = b on
+
+pub not_shut : (closed stop : Bool) → (closed ≡ false) × (stop ≡ false) → (closed || stop) ≡ false
+not_shut true stop (e, f) = absurd (cc)
+not_shut false stop (e, f) = f
+
+-- why no further message began, where the bind wasn't closed
+pub stopped_so : (turns : ℕ) (mark : DownMark) (ms : List Message) (refusal : Option NotBegun) → IsRefusedOf ms refusal → IsSeen turns mark ms (stopped_by refusal) None
+stopped_so turns mark ms None of = tt
+stopped_so turns mark ms (Some refusal) of = of

@@ -1,4 +1,4 @@
--- Messages that are refused for want of credit, as a run goes on.
+-- Messages that are refused for lack of credit, as a run goes on.
 use Rattle.std.proofs.Common.{◌≡◌, ℕ, zero, suc, ◌+◌, ◌<◌, ◌≤◌, List, [], ◌∷◌, ◌++◌, length, Some, None, inl, inr, refl, sym, ap, ◌∙◌, subst, arith}
 use Rattle.std.specs.Prelude.{◌*◌, false, Option, Result, Ok, Err, OnErr, slice_get, slice_set}
 use Rattle.std.specs.Result.{is_ok}
@@ -71,7 +71,7 @@ ever_moved None move cost share i = omega arith
 ever_moved (Some a) None cost share i = omega arith
 ever_moved (Some a) (Some move) cost share i = ever_set share.amounts a i (moved_amounts move cost) (ever_more move cost)
 
--- a message that is refused for want of credit was so before one segment was put in its place
+-- a message that is refused for lack of credit was so before one segment was put in its place
 record WasRefused (es : List MessageEnd) (k : ℕ) : Type 0 where
   was : MessageEnd
   at : slice_get es k ≡ Some was

@@ -1,7 +1,7 @@
 -- Why parts and messages were not sent, as a run goes on.
-use Rattle.std.proofs.Common.{◌≡◌, ◌≢◌, ℕ, ◌<◌, Bool, true, false, List, [], ◌∷◌, ◌++◌, length, Some, None, inl, inr, refl, sym, ap, ◌∙◌, subst, arith}
+use Rattle.std.proofs.Common.{◌≡◌, ◌≢◌, ℕ, Bool, true, false, List, [], ◌∷◌, ◌++◌, length, Some, None, inl, inr, refl, sym, ap, ◌∙◌, subst, arith}
 use Rattle.std.proofs.lemmas.Bool.{lt-ltb}
-use Rattle.std.specs.Prelude.{◌⊎◌, ◌&&◌, if◌then◌else◌, IsTrue, Option, is_some, nat_lt, slice_get}
+use Rattle.std.specs.Prelude.{◌⊎◌, ◌&&◌, if◌then◌else◌, IsTrue, Option, nat_lt, slice_get}
 use Rattle.std.specs.List.{AllByRecursion}
 use Rattle.sms_core.specs.Replies.{IsRetried, is_charge, is_retry}
 use Rattle.sms_core.specs.Replies as core
@@ -188,8 +188,3 @@ module _ {most : ℕ} {ms : List Message} where
           subst (λ (y : Message). LackedMemory r' y.index) same (lacked (ap (λ (y : MessageEnd). y.result) (sym now.1) ∙ is)))
     ];
   }
-
--- a bind that was closed has a cause
-pub has_cause : {X : Type 0} (cause : Option X) (closed : Bool) → (cause ≡ None → closed ≡ false) → IsTrue closed → IsTrue (is_some cause)
-has_cause None closed none on = absurd (let e = none refl in cc)
-has_cause (Some x) closed none on = refl

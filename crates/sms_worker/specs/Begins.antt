@@ -1,5 +1,5 @@
 -- A message that is begun.
-use Rattle.std.specs.Prelude.{◌≡◌, ℕ, zero, suc, ◌+◌, ◌<◌, ◌⊎◌, Bool, IsTrue, List, Option, None, Some, [], ◌∷◌, ◌++◌, length, string_bytes}
+use Rattle.std.specs.Prelude.{◌≡◌, ℕ, zero, suc, ◌+◌, ◌<◌, ◌⊎◌, List, Option, None, Some, [], ◌∷◌, ◌++◌, length, string_bytes}
 use Rattle.sms_core.specs.Rows.{reserved_of}
 use Rattle.sms_book.specs.Name.{BookId}
 use Rattle.sms_book.specs.Portions.{amounts_at}
@@ -16,6 +16,7 @@ use Rattle.sms_message.specs.declared.ends.MessageRefusal.{MessageRefusal}
 use Rattle.sms_message.specs.declared.ends.MessageRefusal.TheVariants.{BindClosed, NoCredit, OutOfMemory, TooLong}
 use Rattle.sms_segment.specs.Message.{IsTooLong}
 use Rattle.sms_message.specs.Submits.{coded_text, reference_of}
+use Rattle.sms_worker.specs.declared.state.stop.MayBegin.{MayBegin}
 use Rattle.sms_worker.specs.declared.steps.parts.NoMessageMemory.{NoMessageMemory}
 use Rattle.sms_worker.specs.declared.steps.parts.NoParts.{NoParts}
 use Rattle.sms_worker.specs.declared.steps.parts.NoParts.TheVariants as no
@@ -66,14 +67,14 @@ abbrev pub Refuses : NoParts → MessageRefusal → Option NoMessageMemory → T
 Refuses no.TooLong refusal evidence = (refusal ≡ TooLong) × (evidence ≡ None)
 Refuses (no.Memory no_memory) refusal evidence = (refusal ≡ OutOfMemory) × (evidence ≡ Some no_memory)
 
--- a message was begun: its end stands behind the others, and it is refused as bind-closed exactly where the line is down
-pub record HasBegun (book : BookId) (rules : Rules) (m : Message) (down : Bool) (old new : TallyState) (pending : PendingState) (no_memory : Option NoMessageMemory) : Type 0 where
+-- a message was begun: its end stands behind the others, and it is refused as bind-closed exactly where nothing permits it
+pub record HasBegun (book : BookId) (rules : Rules) (m : Message) (permit : Option MayBegin) (old new : TallyState) (pending : PendingState) (no_memory : Option NoMessageMemory) : Type 0 where
   pub end : MessageEnd
   pub ends : new.ends ≡ old.ends ++ end ∷ []
   pub room : new.room ≡ old.room
   pub begins : Begins rules m old.share new.share (data_in pending) end
-  pub closed : end.result ≡ Refused BindClosed → IsTrue down
-  pub if_down : IsTrue down → end.result ≡ Refused BindClosed
+  pub closed : end.result ≡ Refused BindClosed → permit ≡ None
+  pub if_none : permit ≡ None → end.result ≡ Refused BindClosed
   pub credit : end.result ≡ Refused NoCredit → LacksFor book rules old.share m
-  -- for want of memory it is refused only with evidence
+  -- for lack of memory it is refused only with evidence
   pub memory : end.result ≡ Refused OutOfMemory → RestsOn m.index OutOfMemory no_memory

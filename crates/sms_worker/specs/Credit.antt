@@ -1,4 +1,4 @@
--- Messages that a worker refuses for want of credit, where its book has one share.
+-- Messages that a worker refuses for lack of credit, where its book has one share.
 use Rattle.std.specs.Prelude.{◌≡◌, ◌⊎◌, ℕ, ◌+◌, ◌*◌, ◌<◌, ◌≤◌, List, length, Some, slice_get, string_bytes}
 use Rattle.sms_core.specs.declared.row.Row.{Row}
 use Rattle.sms_core.specs.Limits.{most_topped}
@@ -36,7 +36,7 @@ CanReserve rows account n = (account < length rows) × (n ≤ (row_at rows accou
 abbrev pub ever : Amounts → ℕ
 ever a = a.reserved + a.charged + a.returned
 
--- Where the book has one share, the account of a message that is refused for want of credit began with fewer credits than the message costs and the share ever reserved of it
+-- Where the book has one share, the account of a message that is refused for lack of credit began with fewer credits than the message costs and the share ever reserved of it
 pub record LackCredit (book : BookId) (rules : Rules) (ms : List Message) (es : List MessageEnd) (share : Share) : Type 0 where
   pub each : book.workers ≡ 1 → (k a : ℕ) (m : Message) (e : MessageEnd) → slice_get ms k ≡ Some m → slice_get es k ≡ Some e → e.result ≡ Refused NoCredit → m.account ≡ Some a
       → opening_at book a < ever (amounts_at share.amounts a) + price_of rules m

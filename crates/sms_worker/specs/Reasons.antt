@@ -45,12 +45,12 @@ pub record HasTriesLeft (most : ℕ) (s : SegmentEnd) : Type 0 where
 abbrev pub WasGivenUp : ℕ → SegmentEnd → Type 0
 WasGivenUp most s = (s.outcome ≡ Unsent) ⊎ ((s.outcome ≡ Refused) × HasTriesLeft most s)
 
--- each part that was given up was so for a reason, or the bind was closed; memory was refused for each message that is refused for want of it
+-- each part that was given up was so for a reason, or the bind was closed; memory was refused for each message that is refused for lack of it
 pub record HaveReasons (most : ℕ) (ms : List Message) (closed : Bool) (r : ReasonState) (es : List MessageEnd) : Type 0 where
   pub parts : (k p : ℕ) (m : Message) (s : SegmentEnd) → slice_get ms k ≡ Some m → segment_at es k p ≡ Some s → WasGivenUp most s → IsTrue closed ⊎ HasReason r m.index p
   pub messages : (k : ℕ) (m : Message) (e : MessageEnd) → slice_get ms k ≡ Some m → slice_get es k ≡ Some e → e.result ≡ not_sent.Refused OutOfMemory → LackedMemory r m.index
 
--- a message with this index is refused for want of memory only with evidence that memory was refused for it
+-- a message with this index is refused for lack of memory only with evidence that memory was refused for it
 abbrev pub RestsOn : ℕ → MessageRefusal → Option NoMessageMemory → Type 0
 RestsOn index OutOfMemory None = ⊥
 RestsOn index OutOfMemory (Some evidence) = evidence.message ≡ index

@@ -6,7 +6,7 @@ use Rattle.sms_message.specs.Ends.{segments_in}
 use Rattle.sms_worker.specs.Reasons.{HasReason, LackedMemory, ReasonState, WasGivenUp}
 use Rattle.sms_worker.specs.Types.{MessageEnd, SegmentEnd}
 
--- each part of it that was given up was so for a reason, or the bind was closed; if it is refused for want of memory, memory was refused for it
+-- each part of it that was given up was so for a reason, or the bind was closed; if it is refused for lack of memory, memory was refused for it
 pub record HasReasons (most : ℕ) (closed : Type 0) (r : ReasonState) (e : MessageEnd) : Type 0 where
   pub parts : (p : ℕ) (s : SegmentEnd) → slice_get (segments_in e.result) p ≡ Some s → WasGivenUp most s → closed ⊎ HasReason r e.index p
   pub memory : e.result ≡ Refused OutOfMemory → LackedMemory r e.index

@@ -1,10 +1,11 @@
 -- What a reply does that is applied to its request.
-use Rattle.std.specs.Prelude.{◌≡◌, ◌==◌, ℕ, zero, suc, ◌+◌, ◌-◌, ◌≤◌, ◌⊎◌, List, ◌∷◌, ◌++◌, [], Bool, None, Some, drop, length, position, slice_get, take}
+use Rattle.std.specs.Prelude.{◌≡◌, ◌==◌, ℕ, zero, suc, ◌+◌, ◌-◌, ◌≤◌, ◌⊎◌, List, ◌∷◌, ◌++◌, [], Bool, None, Option, Some, drop, length, position, slice_get, take}
 use Rattle.sms_pdu.specs.declared.reply.Reply.{Reply}
 use Rattle.sms_session.specs.declared.policy.Decision.{Decision}
 use Rattle.sms_session.specs.declared.policy.Decision.TheVariants.{Charge, Refuse, RetryAfter}
 use Rattle.sms_session.specs.Decisions.{decided}
 use Rattle.sms_slot.specs.Slot.{IsNotAnswered}
+use Rattle.sms_worker.specs.declared.steps.ring.RingEmpty.{RingEmpty}
 use Rattle.sms_worker.specs.declared.steps.replies.ReplyOutcome.{ReplyOutcome}
 use Rattle.sms_worker.specs.declared.steps.replies.ReplyOutcome.TheVariants as applied
 use Rattle.sms_worker.specs.declared.steps.replies.ReplyOutcome.TheVariants.{Settled, Retried}
@@ -54,9 +55,13 @@ abbrev pub AreApplied : Rules → ℕ → RunState → RunState → Type 0
 AreApplied rules zero old new = new ≡ old
 AreApplied rules (suc n) old new = (mid : RunState) × (reply : Reply) × (did : ReplyOutcome) × AreApplied rules n old mid × (new.replies ≡ mid.replies ++ reply ∷ []) × IsApplied rules reply did mid new
 
--- a ring from which so many replies had come was found empty, or as many more came as it has room for
-abbrev pub WasDrained : ℕ → List Reply → List Reply → Type 0
-WasDrained before known received = (known ≡ []) ⊎ (before + 64 ≤ length received)
+-- why no more were taken of a ring from which so many replies had come: behind so many more it was found empty, or as many more came as it has room for
+abbrev pub WasDrained : ℕ → Option RingEmpty → List Reply → List Reply → Type 0
+WasDrained before None known received = before + 64 ≤ length received
+WasDrained before (Some empty) known received = (known ≡ []) × (length received ≡ before + empty.taken)
+
+abbrev pub HasDrained : ℕ → List Reply → List Reply → Type 0
+HasDrained before known received = (empty : Option RingEmpty) × WasDrained before empty known received
 
 -- all that were replies, if any was
 pub record AllApplied (rules : Rules) (any : Bool) (old new : RunState) : Type 0 where

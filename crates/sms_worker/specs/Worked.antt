@@ -1,5 +1,5 @@
 -- What one call of a worker did.
-use Rattle.std.specs.Prelude.{◌≡◌, ◌++◌, IsSome, List, length, Option, None}
+use Rattle.std.specs.Prelude.{◌≡◌, ◌++◌, List, length, Option, None}
 use Rattle.std.specs.List.{AllZip}
 use Rattle.rtrb.specs.Ring.{received}
 use Rattle.sms_pdu.specs.declared.reply.Reply.{Reply}
@@ -12,7 +12,7 @@ use Rattle.sms_message.specs.declared.rules.Rules.{Rules}
 use Rattle.sms_worker.specs.declared.entry.work.Worker.{Worker}
 use Rattle.sms_worker.specs.declared.entry.work.WorkerEnd.{WorkerEnd}
 use Rattle.sms_worker.specs.Apart.{NumbersApart, PlacesApart}
-use Rattle.sms_worker.specs.Closing.{IsSeen, NoneIsClosed, StaysClosed}
+use Rattle.sms_worker.specs.Closing.{IsSeen, IsShut, NoneIsClosed, StaysClosed}
 use Rattle.sms_worker.specs.Credit.{LackCredit}
 use Rattle.sms_worker.specs.EndOf.{IsEndOf}
 use Rattle.sms_worker.specs.ReasonsOf.{AllHaveReasons}
@@ -31,11 +31,11 @@ pub record HasWorked {N : Type 0} (book : BookId) (start : Start) (end : WorkerE
   pub each : AllZip (IsEndOf start.rules (length start.share.amounts)) start.messages end.ends.items
   -- once the bind was closed for a message, it was closed for all behind it
   pub closed : StaysClosed end.ends.items
-  -- it was closed for a cause: the line was seen down, which all see for that cause, or the turns were over
+  -- it was closed for a cause: the line was seen down, which all see for that cause, or the turns were over, or the gate let no further message begin
   pub why : end.closed ≡ None → NoneIsClosed end.ends.items
-  pub seen : IsSeen start.rules.turns start.mark end.closed down
-  -- each part that was given up has its reason, or the bind was closed; for each message that is refused for want of memory memory was refused
-  pub reasons : AllHaveReasons start.rules.policy.attempts (IsSome end.closed) end.reasons end.ends.items
+  pub seen : IsSeen start.rules.turns start.mark start.messages end.closed down
+  -- each part that was given up has its reason, or the bind was closed; for each message that is refused for lack of memory memory was refused
+  pub reasons : AllHaveReasons start.rules.policy.attempts (IsShut end.closed) end.reasons end.ends.items
   -- segments are sent for the first time in the order in which they stand
   pub rising : FirstsRise end.ends.items
   -- each answer was received in this call

@@ -32,6 +32,13 @@ pub trait Gate {
     /// Called with a reply to an open attempt, before it moves credits.
     fn heard(&self, _worker: usize, _reply: &Reply) {}
 
+    /// Called before a message is begun: before it is cut, and its credits are reserved. False means that the worker
+    /// begins no further message: this one and all behind it are refused as bind-closed, and the gate isn't asked
+    /// again. What was begun before is sent to its end.
+    fn may_begin(&self, _worker: usize, _message: u64) -> bool {
+        true
+    }
+
     /// Called once the credits of a message are reserved, before its first part is sent.
     fn begun(&self, _worker: usize, _message: u64) {}
 

@@ -18,6 +18,7 @@ pub use entry::work::{Worker, WorkerEnd, run_worker};
 pub use sms_message::{Message, MessageRefusal, Outcome, Rules};
 pub use state::closing::ClosedBy;
 pub use state::reasons::{Reasons, Unlisted, UnsentPart, UnsentReason};
+pub use state::stop::NotBegun;
 pub use steps::attempt::{Number, draw};
 pub use steps::call_end::NothingLeft;
 pub use steps::give_up::{

@@ -7,6 +7,7 @@ pub mod places;
 pub mod queue;
 pub mod reasons;
 pub mod segment;
+pub mod stop;
 pub mod tally;
 pub mod worker_start;
 pub mod worker_state;

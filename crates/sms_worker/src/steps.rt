@@ -9,6 +9,7 @@ pub mod give_up;
 pub mod parts;
 pub mod replies;
 pub mod retry_later;
+pub mod ring;
 pub mod settling;
 pub mod starting;
 pub mod timestamp;

@@ -1,6 +1,6 @@
 //! A worker whose answers come while it pauses, on one thread: what becomes of its messages.
 
-ghost use Rattle.std.specs.Prelude.{◌≡◌, IfSome};
+ghost use Rattle.std.specs.Prelude.{◌≡◌, IfSome, None};
 
 use self::beside::{Beside, down_if, line_with_fuse, window_of};
 use self::notes::{Log, Note, want_told};
@@ -36,8 +36,7 @@ mod told;
 mod waits;
 mod why;
 
-// Both are the same. A test that compares by a call has a short proof: what is printed where they
-// differ stands here alone.
+// Both are the same. What is printed where they differ stands here alone, and not in each test's proof.
 fn same<T: PartialEq + Debug + Drop>(rt: &impl Abort, got: T, wanted: T) {
     assert_eq!(rt; got, wanted);
 }
@@ -88,6 +87,8 @@ struct Case<'a> {
     ready_at: u32,
     /// The gate doesn't let this number be sent; 0 is none.
     stops_at: u32,
+    /// The gate lets no message begin of this index or a higher one.
+    begins_to: u64,
     /// How many octets the writer takes.
     room: u64,
     long_reference: bool,
@@ -110,6 +111,7 @@ const PLAIN: Case<'static> = Case {
     down_at: 0,
     ready_at: 0,
     stops_at: 0,
+    begins_to: 1 << 40,
     room: 1 << 40,
     long_reference: false,
     answers: &[OK],
@@ -298,7 +300,7 @@ fn works<N: BookName + LogName, R: Abort + Wait>(
     case: Case<'_>,
     messages: Vec<Message>,
 ) -> Option<Done>
-    requires { (blank.book ≡ N.book) × (wires ≡ N.log) }
+    requires { (blank.book ≡ N.book) × (wires ≡ N.log) × (N.settings ≡ None) }
 {
     let (window, seat) = window_of(alloc, case)?;
     let (producer, consumer) = RingBuffer::new(alloc, 64).ok()?;

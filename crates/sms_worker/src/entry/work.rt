@@ -16,6 +16,7 @@ use crate::state::closing::{ClosedBy, Closing};
 use crate::state::open::Open;
 use crate::state::queue::Queues;
 use crate::state::reasons::Reasons;
+use crate::state::stop::Stop;
 use crate::state::tally::Tally;
 use crate::state::worker_start::WorkerStart;
 use crate::state::worker_state::WorkerState;
@@ -53,9 +54,10 @@ pub struct WorkerEnd<N: BookName + LogName> {
     /// The requests that it gave to wires: the frames of all attempts in `ends`, and those that it had before.
     pub requests: Requests<N>,
     pub ends: Vec<MessageEnd>,
-    /// Why messages were refused as bind-closed, if any were.
+    /// Why messages were refused as bind-closed, if any were: why the bind was closed, or why no further message
+    /// was begun.
     pub closed: Option<ClosedBy>,
-    /// Why parts were given up before they were sent, and messages refused for want of memory.
+    /// Why parts were given up before they were sent, and messages refused for lack of memory.
     pub reasons: Reasons,
 }
 
@@ -98,12 +100,13 @@ fn into_end<'l, N: BookName + LogName, W: Write, G, K, R: Wait, C: WorkerStart>(
         requests,
         opened,
         closed,
+        stop,
         reasons,
         ..
     } = state;
     release_all(context, &mut seat, opened);
     let (shares, ends) = tally.into_parts();
-    let (closed, down) = closed.into_cause();
+    let (closed, down) = closed.into_cause(stop);
     *seen = down;
     WorkerEnd {
         seat,
@@ -138,7 +141,7 @@ fn work<'l, N: BookName + LogName, W: Write, G: Gate, K: Clock, P: Pause, R: Wai
     let Worker {
         seat,
         shares,
-        consumer,
+        mut consumer,
         requests,
         ..
     } = worker;
@@ -148,7 +151,6 @@ fn work<'l, N: BookName + LogName, W: Write, G: Gate, K: Clock, P: Pause, R: Wai
         opened,
     } = lists;
     let replies = Snapshot::of(&consumer);
-    let mut consumer = consumer;
     let mut state: WorkerState<'_, N, C> = WorkerState {
         messages,
         tally: Tally::new(shares, ends),
@@ -158,6 +160,7 @@ fn work<'l, N: BookName + LogName, W: Write, G: Gate, K: Clock, P: Pause, R: Wai
         queues: Queues::none(),
         next: 0,
         closed: Closing::not_yet(mark),
+        stop: Stop::not_yet(),
         seat,
         requests,
         replies,

@@ -1,8 +1,9 @@
 //! Why a bind is closed for a worker.
 
 ghost use Rattle.std.specs.Prelude.{◌≡◌, None, IsTrue, false};
-ghost use Rattle.sms_worker.specs.Closing.{IsSeen};
+ghost use Rattle.sms_worker.specs.Closing.{IsSeen, IsShut, stopped_by};
 
+use crate::state::stop::{NotBegun, Stop};
 use crate::state::worker_start::WorkerStart;
 use crate::steps::turn::TurnsTaken;
 use sms_bind::{Down, DownCause, DownMark};
@@ -15,6 +16,18 @@ pub enum ClosedBy {
     Down(DownCause),
     /// The worker's turns were over: as many as its rules say were taken.
     Turns(TurnsTaken),
+    /// The gate let no further message begin. What was begun before was sent to its end.
+    Stopped(NotBegun),
+}
+
+/// The cause where the line was not seen down and turns are left.
+fn stopped_by(no: Option<NotBegun>) -> Option<ClosedBy>
+    ensures { result ≡ stopped_by no }
+{
+    match no {
+        None => None,
+        Some(no) => Some(ClosedBy::Stopped(no)),
+    }
 }
 
 /// What closed the bind: the line that was seen down, or the worker's turns that are over.
@@ -90,14 +103,16 @@ impl<'l, C: WorkerStart> Closing<'l, C> {
         }
     }
 
-    /// Why it is closed; and the evidence that the line was seen down, if it was.
-    pub fn into_cause(self) -> (Option<ClosedBy>, Option<Down<'l>>)
-        ensures none { result.0 ≡ None → self.entry ≡ false }
-        ensures seen { IsSeen C.start.rules.turns C.start.mark result.0 result.1 }
+    /// Why it is closed, or else why no further message was begun; and the evidence that the line was seen down,
+    /// if it was.
+    pub fn into_cause(self, stop: Stop<C>) -> (Option<ClosedBy>, Option<Down<'l>>)
+        ensures none { result.0 ≡ None → (self.entry ≡ false) × (stop ≡ false) }
+        ensures shut { IsTrue self.entry → IsShut result.0 }
+        ensures seen { IsSeen C.start.rules.turns C.start.mark C.start.messages result.0 result.1 }
     {
         let Closing { mark, by, of: _ } = self;
         match by {
-            None => (None, None),
+            None => (stopped_by(stop.into_refusal()), None),
             Some(Closure::Turns(taken)) => (Some(ClosedBy::Turns(taken)), None),
             Some(Closure::Down(down)) => {
                 let cause = mark.cause(&down);

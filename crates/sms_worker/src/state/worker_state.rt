@@ -5,6 +5,7 @@ use crate::state::open::Open;
 use crate::state::pending::PendingParts;
 use crate::state::queue::Queues;
 use crate::state::reasons::Reasons;
+use crate::state::stop::Stop;
 use crate::state::tally::Tally;
 use crate::state::worker_start::WorkerStart;
 use rtrb::Consumer;
@@ -18,8 +19,8 @@ use std::snapshot::Snapshot;
 
 /// What a worker has: its messages and what became of those that it began, and what it sends with.
 /// `opened`, `queues` and `next` say where to look; what they say is checked against the ends.
-/// Contracts see the replies received so far, the ends, whether the bind is closed for it, `next`, the open
-/// requests, the queues and the pending parts.
+/// Contracts see the replies received so far, the ends, whether the bind is closed for it, whether it may begin no
+/// further message, `next`, the open requests, the queues and the pending parts.
 #[derive(Drop)]
 pub struct WorkerState<'l, N: BookName + LogName, C: WorkerStart> {
     pub messages: Vec<Message>,
@@ -35,6 +36,8 @@ pub struct WorkerState<'l, N: BookName + LogName, C: WorkerStart> {
     pub next: usize,
     /// Whether the line was seen down, or the turns are over.
     pub closed: Closing<'l, C>,
+    /// Whether the gate lets no further message begin.
+    pub stop: Stop<C>,
     pub seat: WindowSeat,
     /// The requests that it gave to wires.
     pub requests: Requests<N>,
@@ -44,7 +47,7 @@ pub struct WorkerState<'l, N: BookName + LogName, C: WorkerStart> {
 }
 
 impl<'l, N: BookName + LogName, C: WorkerStart> Model for WorkerState<'l, N, C> {
-    ghost use Rattle.std.specs.Prelude.{◌≤◌, map, vec_len, vec_capacity};
+    ghost use Rattle.std.specs.Prelude.{◌≤◌, ◌||◌, map, vec_len, vec_capacity};
     ghost use Rattle.rtrb.specs.Ring.{received};
     ghost use Rattle.sms_worker.specs.RunState.{RunState};
     ghost use Rattle.sms_worker.specs.Keeps.{Keeps};
@@ -57,12 +60,12 @@ impl<'l, N: BookName + LogName, C: WorkerStart> Model for WorkerState<'l, N, C> 
 
     ghost Value = { RunState };
 
-    ghost view = { λ r. record { replies = received r.replies.value; ends = r.tally.ends; closed = r.closed; next = r.next; opened = r.opened.items; queues = r.queues.all; pending = r.pending.items } };
+    ghost view = { λ r. record { replies = received r.replies.value; ends = r.tally.ends; closed = r.closed; stopped = r.stop; next = r.next; opened = r.opened.items; queues = r.queues.all; pending = r.pending.items } };
 
     ghost invariant = { λ r. record {
       keeps : Keeps C.start r.messages.items r.tally.ends (map data_in r.pending.items) r.opened.items r.seat r.tally.share (received r.replies.value);
       handed : Handed C.start.requests r.requests C.start.messages r.tally.ends;
-      closing : Closes r.closed r.tally.ends;
+      closing : Closes (r.closed || r.stop) r.tally.ends;
       credit : LackCredit N.book C.start.rules C.start.messages r.tally.ends r.tally.share;
       reasons : HaveReasons C.start.rules.policy.attempts C.start.messages r.closed r.reasons r.tally.ends;
       order : InOrder r.tally.ends r.next r.opened.items r.queues.all r.pending.items;

@@ -1,6 +1,6 @@
 //! Beginning a message: its parts, its credits, and its end so far.
 
-ghost use Rattle.std.specs.Prelude.{◌≡◌, ◌≢◌, ℕ, ◌<◌, ◌++◌, ◌∷◌, [], All, IsTrue, false, Err, Some, IfOk, IfErr, IfSome, OnOk, length, slice_get, vec_len};
+ghost use Rattle.std.specs.Prelude.{◌≡◌, ◌≢◌, ℕ, ◌<◌, ◌||◌, ◌++◌, ◌∷◌, [], All, IsTrue, false, Err, None, Some, IfOk, IfErr, IfSome, OnOk, length, slice_get, vec_len};
 ghost use Rattle.sms_worker.specs.Begins.{Begins, HasBegun, Refuses, end_refused, ready};
 ghost use Rattle.sms_worker.specs.Reasons.{RestsOn};
 ghost use Rattle.sms_book.specs.Tariffs.{cost_of};
@@ -15,8 +15,11 @@ ghost use Rattle.sms_message.specs.UserData.{message_data};
 ghost use Rattle.std.specs.Prelude.{string_bytes};
 ghost use Rattle.sms_message.specs.declared.ends.MessageRefusal.TheVariants.{BindClosed, NoCredit};
 
+use crate::devices::Gate;
 use crate::ends::SegmentEnd;
+use crate::state::closing::Closing;
 use crate::state::pending::PendingParts;
+use crate::state::stop::{MayBegin, Stop};
 use crate::state::tally::Tally;
 use crate::state::worker_start::WorkerStart;
 use crate::steps::parts::{NoMessageMemory, NoParts, ends_for, pending_for};
@@ -52,7 +55,7 @@ fn prepare(
     alloc: Global,
     rules: &Rules,
     accounts: usize,
-    down: bool,
+    permit: Option<MayBegin>,
     message: &Message,
 ) -> Result<Prepared, Refusal>
     ensures known { IfOk result (λ r. IsKnown accounts message.now.account × HasAddresses message.now) }
@@ -63,13 +66,13 @@ fn prepare(
     ensures refused { IfErr result (λ e. IsRefusalOf rules.now accounts message.now e.0) }
     ensures memory { IfErr result (λ e. RestsOn message.now.index e.0 e.1) }
     ensures unlinked { IfOk result (λ r. AreUnlinked r.pending) }
-    ensures closed { IfErr result (λ e. e.0 ≡ BindClosed → IsTrue down) }
+    ensures closed { IfErr result (λ e. e.0 ≡ BindClosed → permit ≡ None) }
     ensures credit { IfErr result (λ e. e.0 ≢ NoCredit) }
-    ensures down { IsTrue down → result ≡ Err (BindClosed, None) }
+    ensures none { permit ≡ None → result ≡ Err (BindClosed, None) }
 {
-    if down {
+    let Some(_) = permit else {
         return Err((MessageRefusal::BindClosed, None));
-    }
+    };
     if !is_known(message.account, accounts) {
         return Err((MessageRefusal::NoAccount, None));
     }
@@ -110,20 +113,42 @@ fn refused<N: BookName, C: WorkerStart>(
     PendingParts::none(alloc)
 }
 
-/// Begins a message: reserves its credits and adds its end, in one holding of the book's lock, or refuses it.
-/// Returns its parts, and the evidence if memory was refused for it.
+/// The gate's permission to begin the message. None where the bind is closed, or the gate lets no further message
+/// begin.
+pub(crate) fn permission<G: Gate, C: WorkerStart>(
+    closed: &Closing<'_, C>,
+    stop: &mut Stop<C>,
+    gate: &G,
+    worker: usize,
+    message: &Message,
+) -> Option<MayBegin>
+    requires given { (k : ℕ) × (slice_get C.start.messages k ≡ Some message.now) }
+    ensures may { IfSome result (λ may. may.message ≡ message.now.index) }
+    ensures none { result ≡ None → IsTrue (closed.now || stop.new) }
+    ensures some { IsTrue (closed.now || stop.new) → result ≡ None }
+    ensures stays { IsTrue stop.old → IsTrue stop.new }
+{
+    if closed.is_closed() {
+        return None;
+    }
+    stop.ask(gate, worker, message)
+}
+
+/// Begins a message: reserves its credits and adds its end, in one holding of the book's lock, or refuses it, as
+/// bind-closed where nothing permits it. Returns its parts, and the evidence if memory was refused for it.
 pub(crate) fn begun<N: BookName, R: Wait, C: WorkerStart>(
     rt: &R,
     alloc: Global,
     book: &Mutex<Book<N>>,
     rules: &Rules,
     tally: &mut Tally<N, C>,
-    down: bool,
+    permit: Option<MayBegin>,
     message: &Message,
 ) -> (PendingParts, Option<NoMessageMemory>)
+    requires permit { IfSome permit (λ may. may.message ≡ message.now.index) }
     requires next { slice_get C.start.messages (length tally.old.ends) ≡ Some message.now }
     requires room { length tally.old.ends < tally.old.room }
-    ensures begun { HasBegun N.book rules.now message.now down tally.old tally.new result.0 result.1 }
+    ensures begun { HasBegun N.book rules.now message.now permit tally.old tally.new result.0 result.1 }
     ensures unlinked { AreUnlinked result.0 }
 {
     let accounts = tally.accounts();
@@ -131,7 +156,7 @@ pub(crate) fn begun<N: BookName, R: Wait, C: WorkerStart>(
         pending,
         ends,
         cost,
-    } = match prepare(alloc, rules, accounts, down, message) {
+    } = match prepare(alloc, rules, accounts, permit, message) {
         Ok(prepared) => prepared,
         Err((refusal, no_memory)) => {
             return (refused(alloc, tally, rules, message, refusal), no_memory);

@@ -12,6 +12,7 @@ use crate::entry::context::WorkerContext;
 use crate::state::open::Open;
 use crate::state::worker_start::WorkerStart;
 use crate::state::worker_state::WorkerState;
+use crate::steps::ring::{RingEmpty, next};
 use crate::steps::timestamp::Timestamp;
 use rtrb::Consumer;
 use sms_bind::LogName;
@@ -104,30 +105,32 @@ impl<N: BookName + LogName, C: WorkerStart> WorkerState<'_, N, C> {
         }
     }
 
-    /// Takes the replies out of the ring, at most as many as it has room for.
+    /// Takes the replies out of the ring, at most as many as it has room for. Returns whether there were any, and the
+    /// evidence that the ring was found empty behind them.
     pub(crate) fn take_replies<W: Write, G: Gate, K: Clock, R: Wait>(
         &mut self,
         context: &WorkerContext<N, W, G, K, R>,
         consumer: &mut Consumer<Reply>,
-    ) -> bool
+    ) -> (bool, Option<RingEmpty>)
         requires window { context.now.window.now ≡ C.start.seat.window }
         requires rules { context.now.rules.now ≡ C.start.rules }
         requires replies { self.old.replies ≡ received consumer.old }
         ensures ring { SameConsumer consumer.old consumer.new }
         ensures replies { self.new.replies ≡ received consumer.new }
-        ensures applied { AllApplied C.start.rules result self.old self.new }
-        ensures drained { WasDrained (length self.old.replies) (known_items consumer.new) (received consumer.new) }
+        ensures applied { AllApplied C.start.rules result.0 self.old self.new }
+        ensures drained { WasDrained (length self.old.replies) result.1 (known_items consumer.new) (received consumer.new) }
         ensures closed { self.new.closed ≡ self.old.closed }
     {
         let mut any = false;
-        for _pop in 0u32..64 {
-            let Ok(reply) = consumer.pop() else {
-                return any;
+        for pop in 0u32..64 {
+            let reply = match next(consumer, pop) {
+                Ok(reply) => reply,
+                Err(empty) => return (any, Some(empty)),
             };
             any = true;
             self.take_reply(context, consumer, reply);
         }
-        any
+        (any, None)
     }
 
     /// Notes a reply that was popped, and applies it to its request.

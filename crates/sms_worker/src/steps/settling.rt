@@ -1,6 +1,6 @@
 //! Steps on one segment of a run: an answer, an attempt, the end.
 
-ghost use Rattle.std.specs.Prelude.{◌≡◌, ◌≢◌, ℕ, ◌+◌, ◌-◌, ◌≤◌, ◌<◌, ◌⊎◌, ◌++◌, ◌∷◌, [], true, false, IsTrue, Some, None, IfSome, OnSome, length, slice_get};
+ghost use Rattle.std.specs.Prelude.{◌≡◌, ◌≢◌, ℕ, ◌+◌, ◌-◌, ◌≤◌, ◌<◌, ◌⊎◌, ◌||◌, ◌++◌, ◌∷◌, [], true, false, IsTrue, Some, None, IfSome, OnSome, length, slice_get};
 ghost use Rattle.sms_worker.specs.Types.{MessageEnd, SegmentEnd};
 ghost use Rattle.sms_message.specs.declared.ends.MessageRefusal.TheVariants.{BindClosed};
 ghost use Rattle.sms_message.specs.declared.ends.MessageResult.TheVariants.{Refused};
@@ -34,7 +34,7 @@ use crate::state::tally::Tally;
 use crate::state::worker_start::WorkerStart;
 use crate::state::worker_state::WorkerState;
 use crate::steps::attempt::{TrySend, start};
-use crate::steps::begin::begun;
+use crate::steps::begin::{begun, permission};
 use crate::steps::give_up::{GiveUpReason, kept};
 use crate::steps::parts::NoMessageMemory;
 use crate::steps::timestamp::Timestamp;
@@ -336,7 +336,8 @@ impl<N: BookName + LogName, C: WorkerStart> WorkerState<'_, N, C> {
         context.window.release(&mut self.seat, open.slot);
     }
 
-    /// Begins the next message, if there is one. It is refused where the bind is closed.
+    /// Begins the next message, if there is one and the gate permits it. It is refused where the bind is closed, or
+    /// the gate lets no further message begin.
     pub(crate) fn begin<W: Write, G: Gate, K, R: Wait>(
         &mut self,
         context: &WorkerContext<N, W, G, K, R>,
@@ -344,7 +345,8 @@ impl<N: BookName + LogName, C: WorkerStart> WorkerState<'_, N, C> {
         requires rules { context.now.rules.now ≡ C.start.rules }
         ensures replies { self.new.replies ≡ self.old.replies }
         ensures all { result ≡ false → length self.new.ends ≡ length C.start.messages }
-        ensures closed { (end : MessageEnd) → self.new.ends ≡ self.old.ends ++ end ∷ [] → end.result ≡ Refused BindClosed → IsTrue self.old.closed }
+        ensures closed { (end : MessageEnd) → self.new.ends ≡ self.old.ends ++ end ∷ [] → end.result ≡ Refused BindClosed → IsTrue (self.old.closed || self.new.stopped) }
+        ensures stopped { IsTrue self.old.stopped → IsTrue self.new.stopped }
         ensures more { result ≡ true → (length self.new.ends ≡ length self.old.ends + 1) × (length self.new.ends ≤ length C.start.messages) }
         ensures next { result ≡ true → (self.new.queues ≡ self.old.queues) × (self.new.next ≡ 0) }
         ensures none { result ≡ false → self.new ≡ self.old }
@@ -354,15 +356,21 @@ impl<N: BookName + LogName, C: WorkerStart> WorkerState<'_, N, C> {
         if place >= self.messages.len() {
             return false;
         }
-        let down = self.closed.is_closed();
         let message = &self.messages[place];
+        let permit = permission(
+            &self.closed,
+            &mut self.stop,
+            context.gate,
+            context.worker,
+            message,
+        );
         let (pending, no_memory) = begun(
             context.rt,
             context.alloc,
             context.book,
             context.rules,
             &mut self.tally,
-            down,
+            permit,
             message,
         );
         list_message(&mut self.reasons, no_memory);

@@ -2,7 +2,7 @@
 
 ghost use Rattle.std.specs.Prelude.{◌≡◌, ◌+◌, ◌<◌, IfErr, IfOk, IsTrue, true, false, length};
 ghost use Rattle.rtrb.specs.Ring.{known_items, received, SameConsumer};
-ghost use Rattle.sms_worker.specs.Replies.{WasDrained};
+ghost use Rattle.sms_worker.specs.Replies.{HasDrained};
 ghost use Rattle.sms_worker.specs.Turn.{TakesTurn};
 ghost use Rattle.sms_worker.specs.declared.steps.call_end.CallEnd.TheVariants.{Closed};
 
@@ -57,12 +57,12 @@ impl<N: BookName + LogName, C: WorkerStart> WorkerState<'_, N, C> {
         requires few { taken.count < C.start.rules.turns }
         ensures ring { SameConsumer consumer.old consumer.new }
         ensures replies { self.new.replies ≡ received consumer.new }
-        ensures drained { WasDrained (length self.old.replies) (known_items consumer.new) (received consumer.new) }
+        ensures drained { HasDrained (length self.old.replies) (known_items consumer.new) (received consumer.new) }
         ensures more { IfOk result (λ all. (all.count ≡ taken.count + 1) × TakesTurn C.start true self.old self.new) }
         ensures last { IfErr result (λ end. TakesTurn C.start false self.old self.new) }
         ensures closed { IfErr result (λ end. end ≡ Closed → IsTrue self.new.closed) }
     {
-        let replies = self.take_replies(context, consumer);
+        let (replies, _empty) = self.take_replies(context, consumer);
         let down = self.sees_closed();
         let (expired, _answered) = self.expire(context, Timestamp::of(context.clock), down);
         let started = self.start_all(context, down);

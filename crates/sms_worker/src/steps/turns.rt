@@ -4,7 +4,7 @@ ghost use Rattle.std.specs.Prelude.{◌≡◌, ℕ, ◌+◌, ◌<◌, ◌⊎◌,
 ghost use Rattle.rtrb.specs.Ring.{known_items, received, SameConsumer};
 ghost use Rattle.sms_worker.specs.Types.{SegmentEnd};
 ghost use Rattle.sms_message.specs.Ends.{segment_at, segments_in};
-ghost use Rattle.sms_worker.specs.Replies.{WasDrained};
+ghost use Rattle.sms_worker.specs.Replies.{HasDrained};
 ghost use Rattle.sms_worker.specs.RunState.{HasMore, HasNothingToSend};
 ghost use Rattle.sms_worker.specs.Sweeps.{SettledTo};
 ghost use Rattle.sms_worker.specs.Turn.{TakesTurns};
@@ -157,7 +157,7 @@ impl<N: BookName + LogName, C: WorkerStart> WorkerState<'_, N, C> {
         requires replies { self.old.replies ≡ received consumer.old }
         ensures ring { SameConsumer consumer.old consumer.new }
         ensures replies { self.new.replies ≡ received consumer.new }
-        ensures drained { WasDrained (length self.old.replies) (known_items consumer.new) (received consumer.new) }
+        ensures drained { HasDrained (length self.old.replies) (known_items consumer.new) (received consumer.new) }
         ensures all { length self.new.ends ≡ length C.start.messages }
         ensures settled { SettledTo C.start.rules.policy.attempts (length C.start.messages) 0 self.new.ends }
     {

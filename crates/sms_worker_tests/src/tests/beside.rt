@@ -1,7 +1,7 @@
 //! What stands beside a worker that runs alone: its writer, and what answers it while it pauses. And
 //! what stands beside two that run at once.
 
-ghost use Rattle.std.specs.Prelude.{◌≡◌, IfSome};
+ghost use Rattle.std.specs.Prelude.{◌≡◌, IfSome, None};
 
 use super::centre::{answer_of, nack_of, status_of};
 use super::notes::{Log, Note};
@@ -63,7 +63,7 @@ pub fn line_with_fuse<N: LogName>(
     room: u64,
     log: &Log,
 ) -> Option<LineOf<N, Fuse<'_>>>
-    requires { wires ≡ N.log }
+    requires { (wires ≡ N.log) × (N.settings ≡ None) }
 {
     let Ok(mut keeper) = wires.open::<N>(alloc) else {
         return None;
@@ -144,6 +144,7 @@ pub struct Beside<'a, N: LogName, R, W: Write> {
     down_at: u32,
     ready_at: u32,
     stops_at: u32,
+    begins_to: u64,
     log: &'a Log,
 }
 
@@ -171,6 +172,7 @@ impl<'a, N: LogName, R, W: Write> Beside<'a, N, R, W> {
             down_at: case.down_at,
             ready_at: case.ready_at,
             stops_at: case.stops_at,
+            begins_to: case.begins_to,
             log,
         }
     }
@@ -186,6 +188,10 @@ impl<N: LogName, R, W: Write> Gate for Beside<'_, N, R, W> {
 
     fn ready(&self, _worker: usize) -> bool {
         self.pauses.get() >= self.ready_at
+    }
+
+    fn may_begin(&self, _worker: usize, message: u64) -> bool {
+        message < self.begins_to
     }
 
     fn sending(&self, _worker: usize, number: u32, message: u64, part: usize) -> bool {

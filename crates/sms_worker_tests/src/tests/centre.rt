@@ -1,7 +1,7 @@
 //! A message centre in memory: what a worker writes goes through a ring of octets to it, and a reader
 //! of the bind reads what it answers.
 
-ghost use Rattle.std.specs.Prelude.{◌≡◌};
+ghost use Rattle.std.specs.Prelude.{◌≡◌, None};
 
 use super::SILENT;
 use super::beside::LineOf;
@@ -49,7 +49,7 @@ pub fn line_to_centre<N: LogName>(
     alloc: Global,
     wires: BlankLog,
 ) -> Option<(LineOf<N, Way>, ReaderLeave, Consumer<u8>)>
-    requires { wires ≡ N.log }
+    requires { (wires ≡ N.log) × (N.settings ≡ None) }
 {
     let Ok(mut keeper) = wires.open::<N>(alloc) else {
         return None;
@@ -207,7 +207,7 @@ fn bound(alloc: Global) -> Option<Bound> {
     })
 }
 
-/// Reads what the centre says until the line is stopped or the input ends. None for want of memory.
+/// Reads what the centre says until the line is stopped or the input ends. None for lack of memory.
 pub fn reads<N: LogName, S: Wait>(
     rt: &S,
     alloc: Global,

@@ -143,6 +143,55 @@ fn messages_are_refused(rt: HostRuntime) -> Result<(), Fail> {
     want_closed(&rt, alloc)
 }
 
+// Whether the gate let no further message begin.
+fn is_stopped(closed: Option<ClosedBy>) -> bool {
+    match closed {
+        Some(ClosedBy::Stopped(_)) => true,
+        _ => false,
+    }
+}
+
+// What was begun is sent to its end, also what is to be sent again; and the rest is refused.
+#[test]
+fn a_stop_ends_what_was_begun(rt: HostRuntime) -> Result<(), Fail> {
+    let alloc = rt.alloc();
+    let case = Case {
+        credits: 5,
+        depth: 2,
+        answers: &[THROTTLED, OK],
+        begins_to: 2,
+        ..PLAIN
+    };
+    let done = run(&rt, alloc, case, messages_of(alloc, 4)?);
+    want_sent(&rt, &done, 0, &[(2, Outcome::Charged)]);
+    want_sent(&rt, &done, 1, &[(1, Outcome::Charged)]);
+    want_refused(&rt, &done, 2, MessageRefusal::BindClosed);
+    want_refused(&rt, &done, 3, MessageRefusal::BindClosed);
+    same(&rt, is_stopped(done.closed), true);
+    want_reasons(&rt, &done, &[]);
+    want_row(&rt, &done, (3, 0, 2, 0));
+    Ok(())
+}
+
+// A line that goes down behind a stop gives up what is to be sent again, and is the cause.
+#[test]
+fn a_line_may_go_down_behind_a_stop(rt: HostRuntime) -> Result<(), Fail> {
+    let alloc = rt.alloc();
+    let case = Case {
+        depth: 1,
+        answers: &[THROTTLED],
+        down_at: 2,
+        begins_to: 1,
+        ..PLAIN
+    };
+    let done = run(&rt, alloc, case, messages_of(alloc, 2)?);
+    want_sent(&rt, &done, 0, &[(1, Outcome::Refused)]);
+    want_refused(&rt, &done, 1, MessageRefusal::BindClosed);
+    same(&rt, done.closed, Some(ClosedBy::Down(DownCause::Write)));
+    want_row(&rt, &done, (3, 0, 0, 1));
+    Ok(())
+}
+
 // The attempt whose frame was begun is made; no later one is.
 #[test]
 fn a_broken_wire_ends_the_line(rt: HostRuntime) -> Result<(), Fail> {

@@ -1,7 +1,7 @@
 //! How answers are heard: as a generic_nack, as a wait ends, by a clock that began long ago, and not at
 //! all.
 
-ghost use Rattle.std.specs.Prelude.{◌≡◌, IfSome};
+ghost use Rattle.std.specs.Prelude.{◌≡◌, IfSome, None};
 
 use super::beside::{Beside, Fuse, line_with_fuse};
 use super::centre::answer_of;
@@ -165,7 +165,7 @@ fn works<N: BookName + LogName, R: Abort + Wait>(
     rules: &Rules,
     coming: Coming,
 ) -> Option<(Done, u32)>
-    requires { (blank.book ≡ N.book) × (wires ≡ N.log) }
+    requires { (blank.book ≡ N.book) × (wires ≡ N.log) × (N.settings ≡ None) }
 {
     let (window, seat) = Window::make_from(alloc, 64, 1).ok()?;
     let (producers, consumer) = ring_of(alloc)?;
@@ -321,7 +321,7 @@ fn two_calls<N: BookName + LogName, R: Wait>(
     rules: &Rules,
     case: Case<'_>,
 ) -> Option<((Vec<MessageEnd>, Reasons), Done)>
-    requires { (blank.book ≡ N.book) × (wires ≡ N.log) }
+    requires { (blank.book ≡ N.book) × (wires ≡ N.log) × (N.settings ≡ None) }
 {
     let (window, seat) = Window::make_from(alloc, 1, 1).ok()?;
     let (producers, consumer) = ring_of(alloc)?;

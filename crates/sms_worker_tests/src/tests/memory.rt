@@ -9,7 +9,7 @@ use sms_worker::{Message, MessageEnd, MessageRefusal, MessageResult};
 use std::alloc::{AllocError, Global};
 use std::process::Abort;
 
-// Whether the message was sent, or refused for want of memory.
+// Whether the message was sent, or refused for lack of memory.
 fn is_named(end: &MessageEnd) -> bool {
     match &end.result {
         MessageResult::Sent(segments) => segments.len() > 0,

@@ -1,6 +1,6 @@
 //! A worker that is made ready and isn't run: all that it was given comes back.
 
-ghost use Rattle.std.specs.Prelude.{◌≡◌};
+ghost use Rattle.std.specs.Prelude.{◌≡◌, None};
 
 use super::{PLAIN, book_of, messages_of, rules_of, same};
 use rtrb::RingBuffer;
@@ -20,7 +20,7 @@ fn parts_of<N: BookName + LogName>(
     rules: &Rules,
     messages: Vec<Message>,
 ) -> Option<(usize, usize, usize)>
-    requires { (blank.book ≡ N.book) × (wires ≡ N.log) }
+    requires { (blank.book ≡ N.book) × (wires ≡ N.log) × (N.settings ≡ None) }
 {
     let (_window, seat) = Window::make_from(alloc, 64, 1).ok()?;
     let (_producer, consumer) = RingBuffer::new(alloc, 64).ok()?;

@@ -1,6 +1,6 @@
 //! Runs whose ends are compared with the credits that moved.
 
-ghost use Rattle.std.specs.Prelude.{◌≡◌};
+ghost use Rattle.std.specs.Prelude.{◌≡◌, None};
 
 use super::beside::{Beside, line_with_fuse};
 use super::notes::Log;
@@ -107,7 +107,7 @@ fn two_work<N: BookName + LogName, R: Abort + Wait>(
     rules: &Rules,
     case: Case<'_>,
 ) -> (Done, Done)
-    requires { (blank.book ≡ N.book) × (wires ≡ N.log) }
+    requires { (blank.book ≡ N.book) × (wires ≡ N.log) × (N.settings ≡ None) }
 {
     let (window, one, other, _keeper) = had(rt, seats_of(rt, alloc, case.first));
     let log = Log::new(alloc);
@@ -167,7 +167,7 @@ pub fn came_to(ends: &[MessageEnd], outcome: Outcome) -> bool {
     }
 }
 
-// Whether the one message was refused for want of credits.
+// Whether the one message was refused for lack of credits.
 pub fn had_no_credit(ends: &[MessageEnd]) -> bool {
     match ends.get(0) {
         Some(end) => match &end.result {

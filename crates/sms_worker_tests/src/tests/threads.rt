@@ -1,7 +1,7 @@
 //! Two workers at once, each on a thread of its own, and the bind's reader with the message centre on
 //! a third.
 
-ghost use Rattle.std.specs.Prelude.{◌≡◌};
+ghost use Rattle.std.specs.Prelude.{◌≡◌, None};
 
 use super::beside::Together;
 use super::centre::{Centre, Way, line_to_centre, reads};
@@ -207,7 +207,7 @@ fn work_together<N: BookName + LogName + Send + Sync, R: Abort + Threads + Wait 
     rules: &Rules,
     threaded: Threaded<'_>,
 ) -> Came
-    requires { (blank.book ≡ N.book) × (wires ≡ N.log) }
+    requires { (blank.book ≡ N.book) × (wires ≡ N.log) × (N.settings ≡ None) }
 {
     let its = had(rt, messages_of(alloc, threaded.messages.0).ok());
     let others = had(rt, messages_of(alloc, threaded.messages.1).ok());
@@ -359,7 +359,9 @@ fn a_centre_answers_two_workers(rt: HostRuntime) {
     let came = go(&rt, rt.alloc(), threaded);
     want_agreement(&rt, &came, 400, 0);
     assert_eq!(&rt; (came.row.charged, came.end.answered), (400, 403));
-    assert_eq!(&rt; came.end.cause, ReaderCause::Stopped);
+    let ReaderCause::Stopped(_seen) = came.end.cause else {
+        panic!(&rt; "not stopped")
+    };
 }
 
 // Wherever the reader ends, by the end of its input or by a fault: what it handed on is recorded, and no

@@ -1,6 +1,6 @@
 //! What a gate is told, and what it may refuse.
 
-ghost use Rattle.std.specs.Prelude.{◌≡◌, IfSome};
+ghost use Rattle.std.specs.Prelude.{◌≡◌, IfSome, None};
 ghost use Rattle.sms_bind.specs.Frames.{IsResponse};
 
 use super::beside::{Beside, line_with_fuse};
@@ -261,7 +261,7 @@ fn works_watched<N: BookName + LogName, R: Abort + Wait>(
     messages: u64,
     trouble: Trouble,
 ) -> Option<Done>
-    requires { (blank.book ≡ N.book) × (wires ≡ N.log) }
+    requires { (blank.book ≡ N.book) × (wires ≡ N.log) × (N.settings ≡ None) }
 {
     let (window, seat, _other, _keeper) = seats_of(rt, alloc, case.first)?;
     let (producers, consumer, _other_consumer) = rings_of(alloc)?;

@@ -8,7 +8,7 @@ use Rattle.sms_worker.proofs.Apartness.{numbers_apart, places_apart}
 use Rattle.sms_worker.proofs.Changes.{drew_unused}
 use Rattle.sms_worker.proofs.Frames.{are_handed}
 use Rattle.sms_worker.proofs.EndsOf.{ends_of}
-use Rattle.sms_worker.proofs.Reasoning.{has_cause}
+use Rattle.sms_worker.proofs.Closing.{not_shut}
 use Rattle.sms_worker.proofs.ReasonsOf.{all_have}
 use Rattle.sms_worker.proofs.Sweeping.{settled_all}
 use Rattle.sms_worker.proofs.entry.work.into_end.Goals as goal
@@ -32,9 +32,9 @@ returns-clause-worked g c =
     record {
       each = rw parts.ends (ends_of start.rules (length start.share.amounts) (length start.received) got start.messages es all i.keeps.shape i.keeps.ends (settled_all most es (subst (λ n. SettledTo most n 0 es) (sym all) settled)));
       closed = rw parts.ends (i.closing.stays);
-      why = rw parts.ends (λ none. i.closing.open_yet (c.into_cause-closed.ensures.none none));
+      why = rw parts.ends (λ none. i.closing.open_yet (not_shut c.state.inside.closed c.state.inside.stop (c.into_cause-closed.ensures.none none)));
       seen = c.into_cause-closed.ensures.seen;
-      reasons = rw parts.ends (all_have start.rules (length start.share.amounts) start.rules.policy.attempts start.messages es c.state.inside.closed _ c.state.inside.reasons i.keeps.shape all (has_cause c.into_cause-closed.result.0 c.state.inside.closed c.into_cause-closed.ensures.none) i.reasons);
+      reasons = rw parts.ends (all_have start.rules (length start.share.amounts) start.rules.policy.attempts start.messages es c.state.inside.closed _ c.state.inside.reasons i.keeps.shape all c.into_cause-closed.ensures.shut i.reasons);
       rising = rw parts.ends (i.order.rise);
       answers = rw parts.ends (subst (λ h. AllTold start.rules (length start.received) h start.messages es) heard i.keeps.ends);
       numbers = rw parts.ends (drew);

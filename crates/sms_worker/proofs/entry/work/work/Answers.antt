@@ -1,4 +1,4 @@
-use Rattle.std.proofs.Common.{◌≤◌, [], false, refl, sym, ap, ◌∙◌, subst, map}
+use Rattle.std.proofs.Common.{◌≤◌, [], refl, sym, ap, ◌∙◌, subst, map}
 use Rattle.rtrb.specs.Ring.{received}
 use Rattle.sms_worker.specs.PendingState.{data_in}
 use Rattle.sms_worker.specs.Start.{Start}
@@ -22,7 +22,7 @@ invariant_of-state g c =
     record {
       keeps = rw c.new.ensures (keeps_opening _ _ [] _ _ _ _ _ messages seat share got refl (ap (map data_in) r.no_pending) r.none_opened);
       handed = rw c.new.ensures (handed_none _ _ _ [] (ap (λ r. r.worker.requests) given ∙ ap (λ (s : Start). s.requests) start) refl);
-      closing = rw (c.new.ensures, c.not_yet.ensures) (closes_none false);
+      closing = rw c.new.ensures (closes_none _);
       credit = rw c.new.ensures (credit_none refl);
       reasons = rw (c.new.ensures, c.none.ensures) (reasons_none refl);
       order = rw c.new.ensures (order_opening [] 0 _ _ _ refl r.no_pending r.none_opened c.none-2.ensures);

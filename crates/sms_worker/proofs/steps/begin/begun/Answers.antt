@@ -65,7 +65,7 @@ returns-clause-begun g c =
         returned = λ i. ap (λ (s : Share). (amounts_at s.amounts i).returned) share ∙ (other_ready old a (n * cost) i low).1;
       };
       closed = λ e. absurd (cc);
-      if_down = λ down. let gone = c.prepare.ensures.down down in absurd (cc);
+      if_none = λ none. let gone = c.prepare.ensures.none none in absurd (cc);
       credit = λ e. absurd (cc);
       memory = λ e. absurd (cc);
     }
@@ -80,7 +80,7 @@ returns-in-Err-clause-begun g c = record {
   room = ap (λ (t : TallyState). t.room) c.refused.ensures.only;
   begins = c.refused.ensures.begins;
   closed = λ e. c.in-Err.ensures.closed (cc);
-  if_down = λ down. ap (λ r. Refused r) (closed_so c.prepare.result c.in-Err.refusal c.in-Err.no_memory c.in-Err.is (c.prepare.ensures.down down));
+  if_none = λ none. ap (λ r. Refused r) (closed_so c.prepare.result c.in-Err.refusal c.in-Err.no_memory c.in-Err.is (c.prepare.ensures.none none));
   credit = λ e. absurd (c.in-Err.ensures.credit (cc));
   memory = λ e. rests_so c.args.message.now.index c.in-Err.refusal c.in-Err.no_memory (cc) c.in-Err.ensures.memory;
 }
@@ -108,7 +108,7 @@ returns-then-not-admit-clause-begun g c =
       room = ap (λ (t : TallyState). t.room) (c.refused-then-not-admit.ensures.only ∙ ap (λ (t : TallyState). record t { ends = t.ends ++ end_refused m NoCredit ∷ [] }) same);
       begins = rw (sym same) c.refused-then-not-admit.ensures.begins;
       closed = λ e. absurd (cc);
-      if_down = λ down. let gone = c.prepare.ensures.down down in absurd (cc);
+      if_none = λ none. let gone = c.prepare.ensures.none none in absurd (cc);
       credit = λ _. lacks_for g.N.BookName.book c.args.rules.now old m a (length c.in-Ok.prepared.ends.items) c.in-Ok.prepared.cost c.in-Some.is (λ i. parts i * price i) (λ alone. c.admit.ensures.short (search rules) alone);
       memory = λ e. absurd (cc);
     }

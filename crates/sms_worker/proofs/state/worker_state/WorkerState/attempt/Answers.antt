@@ -76,7 +76,7 @@ invariant_of-self-2 g c =
     record {
       keeps = rw back (keeps_tried _ c.args.context.now.rules.now _ es (put es k p s') _ _ c.start-tried.new.opened.items _ c.start-tried.new.seat c.self.inside.tally.share _ k p c.index-message.result.now part.part s s' c.start-tried.result i.keeps c.requires.rules there part.there at waits tried refl refl c.start-tried.ensures.window slots refl (length-put es k p s'));
       handed = rw back (handed_on _ _ c.start-tried.new.requests _ es k p c.index-message.result.now s s' i.handed (ap (λ l. slice_get l k) (sym i.keeps.messages) ∙ there) at hands);
-      closing = rw back (closes_put c.self.inside.closed es k p s' i.closing);
+      closing = rw back (closes_put _ es k p s' i.closing);
       credit = rw back (credit_put k p s' i.credit refl);
       reasons = rw back (reasons_put k p s' i.reasons (waiting_stays g.C.WorkerStart.start.rules.policy.attempts s' waits.outcome));
       order = rw back (order_tried c.args.context.now.rules.now c.index-message.result.now part.part g.C.WorkerStart.start.seat.view c.self.inside.seat.view c.start-tried.new.seat.view g.C.WorkerStart.start.messages es _ c.args.place s s' c.start-tried.result c.self.inside.next c.self.inside.opened.items c.start-tried.new.opened.items c.self.inside.queues.all c.self.inside.pending.items i.keeps.shape.within i.keeps.numbers at tried turn c.start-tried.ensures.opened refl i.order);

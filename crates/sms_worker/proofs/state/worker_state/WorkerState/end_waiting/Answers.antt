@@ -62,7 +62,7 @@ invariant_of-self-2 g c =
     record {
       keeps = rw now (keeps_given _ _ es (put es k p s') _ _ _ c.self.inside.tally.share _ _ k p m s s' i.keeps there takes.0 waits c.given_up-segment.ensures moved refl (length-put es k p s'));
       handed = rw now (handed_put _ _ _ es k p m s s' i.handed (ap (λ l. slice_get l k) (sym i.keeps.messages) ∙ there) takes.0 (ap frames_of c.given_up-segment.ensures.attempts));
-      closing = rw now (closes_put c.self.inside.closed es k p s' i.closing);
+      closing = rw now (closes_put _ es k p s' i.closing);
       credit = rw now (credit_settled k p s' s'.outcome m.account s.cost i.credit refl moved);
       reasons = rw now (reasons_given k p s' m i.reasons (ap (λ l. slice_get l k) (sym i.keeps.messages) ∙ there) (grows_part c.self.inside.reasons c.list_part.new.reasons m.index p c.args.why c.list_part.ensures.none c.list_part.ensures.some)
           (part_explained c.self.inside.closed c.self.inside.reasons c.list_part.new.reasons m.index p c.args.why (λ none. subst (λ (x : RunState). IsTrue x.closed) (sym c.self.view_is) (c.requires.why none)) c.list_part.ensures.some));

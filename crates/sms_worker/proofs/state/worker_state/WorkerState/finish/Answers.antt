@@ -17,4 +17,4 @@ sweep-requires g c = record {
 
 pub returns-clause-drained : goal.returns-clause-drained
 returns-clause-drained g c =
-    subst (λ (l : List Reply). WasDrained (length l) (known_items c.take_replies.new.consumer) (received c.take_replies.new.consumer)) c.expire.ensures.replies c.take_replies.ensures.drained
+    (c.take_replies.result.1, subst (λ (l : List Reply). WasDrained (length l) c.take_replies.result.1 (known_items c.take_replies.new.consumer) (received c.take_replies.new.consumer)) c.expire.ensures.replies c.take_replies.ensures.drained)

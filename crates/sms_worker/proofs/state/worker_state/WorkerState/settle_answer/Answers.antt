@@ -93,7 +93,7 @@ invariant_of-self-2 g c =
     record {
       keeps = rw now (keeps_answered _ _ es (put es k p s') _ _ _ c.self.inside.tally.share _ _ k p m s r s' c.args.reply d i.keeps there takes.0 replies answered made moved refl (length-put es k p s'));
       handed = rw now (handed_put _ _ _ es k p m s s' i.handed (ap (λ l. slice_get l k) (sym i.keeps.messages) ∙ there) takes.0 (ap (λ (x : SegmentEnd). frames_of x.attempts) h.after ∙ frames_heard h.front h.last (record h.last { reply = Some c.args.reply }) refl ∙ ap frames_of (sym h.before)));
-      closing = rw now (closes_put c.self.inside.closed es k p s' i.closing);
+      closing = rw now (closes_put _ es k p s' i.closing);
       credit = rw now (credit_settled k p s' (outcome_after d) m.account s.cost i.credit refl moved);
       reasons = rw now (reasons_put k p s' i.reasons (answered_stays g.C.WorkerStart.start.rules.policy.attempts g.C.WorkerStart.start.rules.policy.base_ms s r s' c.args.reply d answered.hears refl c.outcome_of-outcome.ensures decides));
       order = rw now (order_heard g.C.WorkerStart.start.rules.policy.attempts es _ k p s r s' c.args.reply d c.self.inside.next c.self.inside.opened.items c.self.inside.queues.all c.self.inside.pending.items takes.0 answered refl refl i.order);

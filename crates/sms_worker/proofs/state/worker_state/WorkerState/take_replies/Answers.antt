@@ -8,8 +8,8 @@ pub loop-pop-preserved : goal.loop-pop-preserved
 loop-pop-preserved g c = record {
   replies = c.take_reply.ensures.replies;
   ring = search rules;
-  each = one_applied g.C.WorkerStart.start.rules c.in-Ok.reply c.take_reply.result c.loop-pop._pop _ _ _ c.loop-pop.invariant.each (search rules) c.take_reply.ensures.applied;
-  some = some_then c.loop-pop._pop;
+  each = one_applied g.C.WorkerStart.start.rules c.in-Ok.reply c.take_reply.result c.loop-pop.pop _ _ _ c.loop-pop.invariant.each (search rules) c.take_reply.ensures.applied;
+  some = some_then c.loop-pop.pop;
   many =
       let next : c.take_reply.new.self.replies ≡ c.loop-pop.self.replies ++ c.in-Ok.reply ∷ [] = search rules in
       let one = ap length next ∙ length-snoc c.loop-pop.self.replies c.in-Ok.reply in

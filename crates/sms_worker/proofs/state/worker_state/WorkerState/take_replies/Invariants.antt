@@ -8,8 +8,8 @@ abbrev pub invariant-loop-pop : goal.invariant-loop-pop
 invariant-loop-pop g l = record {
   replies : l.self.replies ≡ received l.consumer;
   ring : SameConsumer l.initial.consumer l.consumer;
-  each : AreApplied g.C.WorkerStart.start.rules l._pop l.initial.self l.self;
-  some : l.any ≡ are_some l._pop;
-  many : length l.self.replies ≡ length l.initial.self.replies + l._pop;
+  each : AreApplied g.C.WorkerStart.start.rules l.pop l.initial.self l.self;
+  some : l.any ≡ are_some l.pop;
+  many : length l.self.replies ≡ length l.initial.self.replies + l.pop;
   closed : l.self.closed ≡ l.initial.self.closed;
 }

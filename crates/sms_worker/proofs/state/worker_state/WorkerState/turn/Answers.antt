@@ -55,7 +55,7 @@ pub returns-in-Some-clause-closed : goal.returns-in-Some-clause-closed
 returns-in-Some-clause-closed g c is = c.call_end.ensures.closed (search rules)
 
 pub returns-clause-drained : goal.returns-clause-drained
-returns-clause-drained g c = c.take_replies-replies.ensures.drained
+returns-clause-drained g c = (c.take_replies-replies.result.1, c.take_replies-replies.ensures.drained)
 
 pub returns-in-Some-clause-drained : goal.returns-in-Some-clause-drained
-returns-in-Some-clause-drained g c = c.take_replies-replies.ensures.drained
+returns-in-Some-clause-drained g c = (c.take_replies-replies.result.1, c.take_replies-replies.ensures.drained)
