@@ -3,7 +3,8 @@ use Rattle.std.proofs.Common.{◌≡◌, ◌+◌, ◌-◌, ◌++◌, ◌<◌, �
 use Rattle.std.specs.Prelude.{take, drop, slice_get, IsSome}
 use Rattle.std.specs.List.{AllByRecursion, AllZip}
 use Rattle.sms_worker.specs.declared.state.closing.ClosedBy.{ClosedBy}
-use Rattle.sms_worker.specs.declared.state.closing.ClosedBy.TheVariants.{Down, Turns}
+use Rattle.sms_worker.specs.declared.state.closing.ClosedBy.TheVariants.{Down, Stopped, Turns}
+use Rattle.sms_worker.specs.Closing.{IsShut}
 use Rattle.sms_worker.specs.Reasons.{ReasonState}
 use Rattle.sms_worker.specs.ReasonsOf.{AllHaveReasons}
 use Rattle.sms_worker.specs.Types.{MessageEnd}
@@ -14,7 +15,7 @@ use Rattle.sms_driver.specs.declared.bind_end.BindEnd.{BindEnd}
 use Rattle.sms_driver.specs.declared.bind_end.BindClosing.{BindClosing}
 use Rattle.sms_driver.specs.declared.bind_end.DownBy.{DownBy}
 use Rattle.sms_driver.specs.Answered.{ends_at}
-use Rattle.sms_driver.specs.Closings.{first_of, no_closing, with_cause, with_all, closing_of, AreExplained, AreReasoned, HaveClosings, HasCause, IsExplained, SaysWhy}
+use Rattle.sms_driver.specs.Closings.{first_of, no_closing, with_cause, with_all, closing_of, AreExplained, AreReasoned, BeginsNoMore, HaveClosings, HasCause, IsExplained, SaysWhy}
 use Rattle.sms_driver.specs.Seated.{of_bind}
 use Rattle.sms_driver.specs.Worked.{IsWorkOf}
 use Rattle.sms_driver.proofs.Numbering.{get_mapped, zip_of_bind}
@@ -58,6 +59,7 @@ told_at workers xs (x ∷ cs) h (suc bind) c at = told_at workers (drop workers 
 cause_stays : (c : BindClosing) (x : Option ClosedBy) → HasCause c → HasCause (with_cause c x)
 cause_stays c None has = has
 cause_stays c (Some (Turns taken)) has = inr refl
+cause_stays c (Some (Stopped refusal)) has = has
 cause_stays c (Some (Down why)) (inr over) = inr over
 cause_stays c (Some (Down why)) (inl some) = inl (found c.down some)
   where
@@ -69,20 +71,38 @@ causes_stay : (c : BindClosing) (xs : List (Option ClosedBy)) → HasCause c →
 causes_stay c [] has = has
 causes_stay c (x ∷ xs) has = causes_stay (with_cause c x) xs (cause_stays c x has)
 
-new_cause : (c : BindClosing) (y : ClosedBy) → HasCause (with_cause c (Some y))
-new_cause c (Turns taken) = inr refl
-new_cause c (Down why) = inl (found c.down)
+shut_cause : (c : BindClosing) (y : ClosedBy) → IsShut (Some y) → HasCause (with_cause c (Some y))
+shut_cause c (Turns taken) shut = inr refl
+shut_cause c (Stopped refusal) shut = absurd shut
+shut_cause c (Down why) shut = inl (found c.down)
   where
     found : (d : Option DownBy) → IsSome (first_of d why)
     found None = refl
     found (Some d) = refl
+
+-- so does a stop
+end_stays : (c : BindClosing) (x : Option ClosedBy) → BeginsNoMore c → BeginsNoMore (with_cause c x)
+end_stays c x (inl has) = inl (cause_stays c x has)
+end_stays c None (inr stopped) = inr stopped
+end_stays c (Some (Turns taken)) (inr stopped) = inr stopped
+end_stays c (Some (Down why)) (inr stopped) = inr stopped
+end_stays c (Some (Stopped refusal)) (inr stopped) = inr refl
+
+ends_stay : (c : BindClosing) (xs : List (Option ClosedBy)) → BeginsNoMore c → BeginsNoMore (with_all c xs)
+ends_stay c [] has = has
+ends_stay c (x ∷ xs) has = ends_stay (with_cause c x) xs (end_stays c x has)
+
+new_end : (c : BindClosing) (y : ClosedBy) → BeginsNoMore (with_cause c (Some y))
+new_end c (Turns taken) = inl (shut_cause c (Turns taken) tt)
+new_end c (Down why) = inl (shut_cause c (Down why) tt)
+new_end c (Stopped refusal) = inr refl
 
 explained : (c : BindClosing) (xs : List (Option ClosedBy)) (ess : List (List MessageEnd)) → AllZip SaysWhy xs ess → IsExplained (with_all c xs) ess
 explained c [] [] z w k es e theirs at is = absurd (cc)
 explained c [] (f ∷ ess) z w k es e theirs at is = absurd z
 explained c (x ∷ xs) [] z w k es e theirs at is = absurd z
 explained c (None ∷ xs) (f ∷ ess) z zero k es e theirs at is = let same : f ≡ es = cc in absurd (z.0 refl k e (ap (λ (l : List MessageEnd). slice_get l k) same ∙ at) is)
-explained c (Some y ∷ xs) (f ∷ ess) z zero k es e theirs at is = causes_stay (with_cause c (Some y)) xs (new_cause c y)
+explained c (Some y ∷ xs) (f ∷ ess) z zero k es e theirs at is = ends_stay (with_cause c (Some y)) xs (new_end c y)
 explained c (x ∷ xs) (f ∷ ess) z (suc w) k es e theirs at is = explained (with_cause c x) xs ess z.1 w k es e theirs at is
 
 -- bind by bind
@@ -93,11 +113,11 @@ are_explained workers xs ess bs z told bind b at =
     (explained no_closing (of_bind workers bind xs) (ends_at workers bind ess) (zip_of_bind SaysWhy workers bind xs ess z))
 
 -- a worker that gives a cause
-caused : (c : BindClosing) (xs : List (Option ClosedBy)) (w : ℕ) (x : Option ClosedBy) → slice_get xs w ≡ Some x → IsSome x → HasCause (with_all c xs)
-caused c [] w x at some = absurd (cc)
-caused c (None ∷ xs) zero x at some = absurd (let same : None ≡ x = cc in cc)
-caused c (Some y ∷ xs) zero x at some = causes_stay (with_cause c (Some y)) xs (new_cause c y)
-caused c (y ∷ xs) (suc w) x at some = caused (with_cause c y) xs w x at some
+caused : (c : BindClosing) (xs : List (Option ClosedBy)) (w : ℕ) (x : Option ClosedBy) → slice_get xs w ≡ Some x → IsShut x → HasCause (with_all c xs)
+caused c [] w x at shut = absurd (cc)
+caused c (None ∷ xs) zero x at shut = let same : x ≡ None = cc in absurd (subst IsShut same shut)
+caused c (Some y ∷ xs) zero x at shut = let same : x ≡ Some y = cc in causes_stay (with_cause c (Some y)) xs (shut_cause c y (subst IsShut same shut))
+caused c (y ∷ xs) (suc w) x at shut = caused (with_cause c y) xs w x at shut
 
 -- each worker says why
 pub all_say : {N : Type 0} (rules : Rules) (js : List (ReadyState N)) (ds : List (WorkerEnd N)) → AllZip (IsWorkOf rules) js ds → AllByRecursion (λ d. SaysWhy d.closed d.ends.items) ds
@@ -107,7 +127,7 @@ all_say rules (j ∷ js) [] z = absurd z
 all_say rules (j ∷ js) (d ∷ ds) z = (z.0.says_why, all_say rules js ds z.1)
 
 -- what was given up has a reason
-pub all_reasoned : {N : Type 0} (rules : Rules) (js : List (ReadyState N)) (ds : List (WorkerEnd N)) → AllZip (IsWorkOf rules) js ds → AllByRecursion (λ d. AllHaveReasons rules.policy.attempts (IsSome d.closed) d.reasons d.ends.items) ds
+pub all_reasoned : {N : Type 0} (rules : Rules) (js : List (ReadyState N)) (ds : List (WorkerEnd N)) → AllZip (IsWorkOf rules) js ds → AllByRecursion (λ d. AllHaveReasons rules.policy.attempts (IsShut d.closed) d.reasons d.ends.items) ds
 all_reasoned rules [] [] z = tt
 all_reasoned rules [] (d ∷ ds) z = absurd z
 all_reasoned rules (j ∷ js) [] z = absurd z
@@ -163,7 +183,7 @@ weaker most A B r es f all k e at =
     record { parts = λ p s there is. elim (h.parts p s there is) [ inl closed ↦ inl (f closed) | inr has ↦ inr has ]; memory = h.memory }
 
 -- bind by bind
-pub are_reasoned : {N : Type 0} (most workers : ℕ) (ds : List (WorkerEnd N)) (bs : List BindEnd) → AllByRecursion (λ d. AllHaveReasons most (IsSome d.closed) d.reasons d.ends.items) ds → HaveClosings workers (map (λ d. d.closed) ds) (map (λ b. b.closing) bs)
+pub are_reasoned : {N : Type 0} (most workers : ℕ) (ds : List (WorkerEnd N)) (bs : List BindEnd) → AllByRecursion (λ d. AllHaveReasons most (IsShut d.closed) d.reasons d.ends.items) ds → HaveClosings workers (map (λ d. d.closed) ds) (map (λ b. b.closing) bs)
     → AreReasoned most workers bs (map (λ d. d.reasons) ds) (map (λ d. d.ends.items) ds)
 are_reasoned {N} most workers ds bs all told bind b at w r es reasons ends =
     let own : List (WorkerEnd N) = of_bind workers bind ds in
@@ -175,10 +195,10 @@ are_reasoned {N} most workers ds bs all told bind b at w r es reasons ends =
     let mine = get_mapped (λ (x : WorkerEnd N). x.ends.items) own w d there in
     let theirs = ap (λ l. slice_get l w) (of_bind_map (λ (x : WorkerEnd N). x.ends.items) workers bind ds) ∙ ends in
     let all_ends : d.ends.items ≡ es = cc in
-    let has = all_here (λ (x : WorkerEnd N). AllHaveReasons most (IsSome x.closed) x.reasons x.ends.items) own w d (all_of_bind (λ (x : WorkerEnd N). AllHaveReasons most (IsSome x.closed) x.reasons x.ends.items) workers bind ds all) there in
+    let has = all_here (λ (x : WorkerEnd N). AllHaveReasons most (IsShut x.closed) x.reasons x.ends.items) own w d (all_of_bind (λ (x : WorkerEnd N). AllHaveReasons most (IsShut x.closed) x.reasons x.ends.items) workers bind ds all) there in
     let closing = get_mapped (λ (y : BindEnd). y.closing) bs bind b at in
     let is = told_at workers xs (map (λ (y : BindEnd). y.closing) bs) told bind b.closing closing in
     let cause = sym (ap (λ l. slice_get l w) (of_bind_map (λ (x : WorkerEnd N). x.closed) workers bind ds)) ∙ get_mapped (λ (x : WorkerEnd N). x.closed) own w d there in
     subst (AllHaveReasons most (HasCause b.closing) r) all_ends
     (subst (λ (x : ReasonState). AllHaveReasons most (HasCause b.closing) x d.ends.items) same
-    (weaker most (IsSome d.closed) (HasCause b.closing) d.reasons d.ends.items (λ some. subst HasCause (sym is) (caused no_closing (of_bind workers bind xs) w d.closed cause some)) has))
+    (weaker most (IsShut d.closed) (HasCause b.closing) d.reasons d.ends.items (λ some. subst HasCause (sym is) (caused no_closing (of_bind workers bind xs) w d.closed cause some)) has))

@@ -1,5 +1,5 @@
 -- The requests of all workers are the frames of their ends.
-use Rattle.std.proofs.Common.{◌≡◌, ◌++◌, ◌+◌, ℕ, List, [], ◌∷◌, map, refl, ap, ◌∙◌, subst, arith}
+use Rattle.std.proofs.Common.{◌≡◌, ◌++◌, ℕ, List, [], ◌∷◌, map, refl, ap, ◌∙◌, subst, arith}
 use Rattle.std.specs.List.{AllByRecursion, AllZip}
 use Rattle.sms_bind.specs.Frames.{weigh, AreSame}
 use Rattle.sms_bind.proofs.Weights.{weigh-append}

@@ -14,6 +14,7 @@ pub mod Moves
 pub mod Numbering
 pub mod Openings
 pub mod Refusals
+pub mod Reading
 pub mod Returning
 pub mod Placements
 pub mod Starting
@@ -22,6 +23,7 @@ pub mod Sums
 pub mod Telling
 pub mod Unbindings
 pub mod Windows
+pub mod Writing
 pub mod Dealt
 pub mod Takes
 pub mod Places

@@ -4,7 +4,7 @@ use Rattle.sms_bind.specs.declared.down.DownCause.{DownCause}
 use Rattle.sms_bind.specs.declared.down.DownCause.TheVariants as cause
 use Rattle.sms_worker.specs.Closing.{IsClosed, NoneIsClosed}
 use Rattle.sms_worker.specs.declared.state.closing.ClosedBy.{ClosedBy}
-use Rattle.sms_worker.specs.declared.state.closing.ClosedBy.TheVariants.{Down, Turns}
+use Rattle.sms_worker.specs.declared.state.closing.ClosedBy.TheVariants.{Down, Stopped, Turns}
 use Rattle.sms_worker.specs.Reasons.{ReasonState}
 use Rattle.sms_worker.specs.ReasonsOf.{AllHaveReasons}
 use Rattle.sms_worker.specs.Types.{MessageEnd}
@@ -25,13 +25,14 @@ first_of None why = Some (down_by why)
 first_of (Some found) why = Some found
 
 abbrev pub no_closing : BindClosing
-no_closing = record { down = None; turns_over = false }
+no_closing = record { down = None; turns_over = false; stopped = false }
 
 -- adds one more worker's cause
 abbrev pub with_cause : BindClosing → Option ClosedBy → BindClosing
 with_cause c None = c
-with_cause c (Some (Down why)) = record { down = first_of c.down why; turns_over = c.turns_over }
-with_cause c (Some (Turns taken)) = record { down = c.down; turns_over = true }
+with_cause c (Some (Down why)) = record c { down = first_of c.down why }
+with_cause c (Some (Turns taken)) = record c { turns_over = true }
+with_cause c (Some (Stopped refusal)) = record c { stopped = true }
 
 abbrev pub with_all : BindClosing → List (Option ClosedBy) → BindClosing
 with_all c [] = c
@@ -50,15 +51,20 @@ HaveClosings workers causes (c ∷ cs) = (c ≡ closing_of (take workers causes)
 abbrev pub SaysWhy : Option ClosedBy → List MessageEnd → Type 0
 SaysWhy why es = why ≡ None → NoneIsClosed es
 
+-- the bind was closed to a worker
 abbrev pub HasCause : BindClosing → Type 0
 HasCause c = IsSome c.down ⊎ (c.turns_over ≡ true)
 
+-- or a worker was to begin no further message
+abbrev pub BeginsNoMore : BindClosing → Type 0
+BeginsNoMore c = HasCause c ⊎ (c.stopped ≡ true)
+
 -- if one of these messages was refused as bind-closed, there is a cause
 abbrev pub IsExplained : BindClosing → List (List MessageEnd) → Type 0
-IsExplained c ess = (w k : ℕ) (es : List MessageEnd) (e : MessageEnd) → slice_get ess w ≡ Some es → slice_get es k ≡ Some e → IsClosed e → HasCause c
+IsExplained c ess = (w k : ℕ) (es : List MessageEnd) (e : MessageEnd) → slice_get ess w ≡ Some es → slice_get es k ≡ Some e → IsClosed e → BeginsNoMore c
 
 -- each of these workers' parts that was given up was so for a reason that its worker lists, or the bind was closed, which has a cause then; and memory
--- was refused for each message that is refused for want of it
+-- was refused for each message that is refused for lack of it
 abbrev pub IsReasoned : ℕ → BindClosing → List ReasonState → List (List MessageEnd) → Type 0
 IsReasoned most c rs ess = (w : ℕ) (r : ReasonState) (es : List MessageEnd) → slice_get rs w ≡ Some r → slice_get ess w ≡ Some es → AllHaveReasons most (HasCause c) r es
 

@@ -5,6 +5,7 @@ use Rattle.std.specs.List.{concat}
 use Rattle.sms_pdu.specs.Turn.{most_piece, GaveAtMost}
 use Rattle.sms_pdu.specs.declared.reply.Reply.{Reply}
 use Rattle.sms_bind.specs.declared.bound.Bound.{Bound}
+use Rattle.sms_bind.specs.declared.line.StopSeen.{StopSeen}
 use Rattle.sms_bind.specs.declared.ending.ReaderCause.TheVariants.{Ended, ReadFault, Stopped, Turns}
 use Rattle.sms_bind.specs.declared.ending.ReaderEnd.{ReaderEnd}
 use Rattle.sms_bind.specs.Ends.{HandsOn}
@@ -38,7 +39,7 @@ pub record HasEnded (all : BindSettings) (turns : ℕ) (told : Option (List ℕ)
   pub most : GaveAtMost (most_piece * turns) between left
   pub took : outcome.cause ≡ Turns → TookTurns turns outcome.errors between left
   pub ended : outcome.cause ≡ Ended → IsAtEnd left
-  pub stopped : outcome.cause ≡ Stopped → Stops turns between left
+  pub stopped : (seen : StopSeen) → outcome.cause ≡ Stopped seen → Stops turns between left
   pub fault : outcome.cause ≡ ReadFault → 0 < outcome.errors
 
 -- the same of each bind

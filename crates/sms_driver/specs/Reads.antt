@@ -9,7 +9,8 @@ use Rattle.rtrb.specs.Ring.{SameProducer, sent}
 use Rattle.sms_pdu.specs.declared.command.Mode.{Mode}
 use Rattle.sms_pdu.specs.declared.reply.Reply.{Reply}
 use Rattle.sms_bind.specs.declared.bound.Bound.{Bound}
-use Rattle.sms_bind.specs.declared.ending.ReaderCause.TheVariants.{Ended, ReadFault, Stopped, Turns}
+use Rattle.sms_bind.specs.declared.line.StopSeen.{StopSeen}
+use Rattle.sms_bind.specs.declared.ending.ReaderCause.TheVariants.{Ended, ReadFault, Stopped, Turns, Unstarted}
 use Rattle.sms_bind.specs.declared.ending.ReaderEnd.{ReaderEnd}
 use Rattle.sms_pdu.specs.declared.tap.Tap.{Tap}
 use Rattle.sms_bind.specs.Answers.{Bounds}
@@ -48,11 +49,11 @@ listener_of task = (task.seat, reading_of task)
 abbrev pub listener_promised : {Rd : Type 0} → ReaderPromise Rd → SeatState × Reading Rd
 listener_promised promise = (promise.seat.value, reading_promised promise)
 
--- the reader was stopped before its first read, and has its seat and its rings as they were
+-- the reader never began, and has its seat and its rings as they were
 pub record IsUnread (seat : SeatState) (rings : List (Producer Reply Global AnyItems)) (end : ReaderEnd) : Type 0 where
   pub same_seat : end.seat ≡ seat
   pub same_rings : end.producers.items ≡ rings
-  pub stopped : end.cause ≡ Stopped
+  pub unstarted : end.cause ≡ Unstarted
 
 -- the answers in what was read were pushed into the rings that were given; `remaining` gives what there is to read. It was read in at most this many
 -- turns: in exactly as many if the cause is that they were used up, to its end if that is the cause, and with an error if the cause is that a
@@ -66,7 +67,7 @@ pub record HasRead {Rd : Type 0} (turns : ℕ) (remaining : Rd → Option (List 
   pub follows : held.most ≡ most_held given.follow.limit
   pub most : GaveAtMost (most_piece * turns) (remaining (device given.reader)) left
   pub took : end.cause ≡ Turns → TookTurns turns end.errors (remaining (device given.reader)) left
-  pub stopped : end.cause ≡ Stopped → Stops turns (remaining (device given.reader)) left
+  pub stopped : (seen : StopSeen) → end.cause ≡ Stopped seen → Stops turns (remaining (device given.reader)) left
   pub ended : end.cause ≡ Ended → IsAtEnd left
   pub fault : end.cause ≡ ReadFault → 0 < end.errors
 

@@ -1,5 +1,5 @@
 -- What passes through a run: the job that it is given, its tasks, what its threads give back, and what is concluded from that.
-use Rattle.std.specs.Prelude.{◌≡◌, ◌++◌, ◌<◌, ℕ, [], IsSome, List, Option, length, map}
+use Rattle.std.specs.Prelude.{◌≡◌, ◌++◌, ◌<◌, ℕ, [], List, Option, length, map}
 use Rattle.std.specs.List.{AllByRecursion, AllZip}
 use Rattle.rtrb.specs.Ring.{received, IsPair}
 use Rattle.sms_bind.specs.Frames.{requests, AreSame}
@@ -9,6 +9,8 @@ use Rattle.sms_book.specs.Shares.{opening_shares}
 use Rattle.sms_book.specs.Sums.{IsSumOf}
 use Rattle.sms_message.specs.declared.message.Message.{Message}
 use Rattle.sms_message.specs.declared.rules.Rules.{Rules}
+use Rattle.sms_worker.specs.Closing.{IsShut}
+use Rattle.sms_session.specs.Settings.{Setting}
 use Rattle.sms_worker.specs.Frames.{frames_in}
 use Rattle.sms_worker.specs.ReasonsOf.{AllHaveReasons}
 use Rattle.sms_worker.specs.Rests.{HasReceived}
@@ -17,6 +19,7 @@ use Rattle.sms_driver.specs.BindEnds.{outcome_of, AreBinds}
 use Rattle.sms_driver.specs.Buffers.{IsFree}
 use Rattle.sms_driver.specs.Closings.{HaveClosings, SaysWhy}
 use Rattle.sms_driver.specs.Deals.{dealt}
+use Rattle.sms_driver.specs.Handed.{AreWritten}
 use Rattle.sms_driver.specs.Numbered.{AllDrewOnce, DrewBelow, HasNumbers}
 use Rattle.sms_driver.specs.Reads.{reading_in, reading_of, HasRead}
 use Rattle.sms_driver.specs.Rings.{flat}
@@ -80,7 +83,7 @@ pub record IsOutput {N Rd W : Type 0} (rules : Rules) (book : BookId) (workers :
   -- a worker that refused a message as bind-closed says why
   pub causes : AllByRecursion (λ d. SaysWhy d.closed d.ends.items) output.done.items
   -- what a worker gave up has a reason
-  pub reasons : AllByRecursion (λ d. AllHaveReasons rules.policy.attempts (IsSome d.closed) d.reasons d.ends.items) output.done.items
+  pub reasons : AllByRecursion (λ d. AllHaveReasons rules.policy.attempts (IsShut d.closed) d.reasons d.ends.items) output.done.items
   -- what each reader did with what it read
   pub read : AllZip (HasRead rules.turns remaining) (map reading_in bind_parts) output.readers.items
   -- the readers' and the workers' ends of the rings are still pairs, in order
@@ -103,7 +106,7 @@ pub record IsOfBinds {N W : Type 0} (shared_binds : List (SharedBind N W)) (work
   pub seats : map (λ d. d.seat.window) output.done.items ≡ windows workers (map (λ b. b.window) shared_binds)
 
 -- what a sending ends with, beside the messages' ends, by the output of a run over this many binds
-pub record IsConcluded {N : Type 0} (book : BookId) (till : List ℕ) (binds workers : ℕ) (output : RunOutput N) (sending : Sending) : Type 0 where
+pub record IsConcluded {N : Type 0} (book : BookId) (settings : Option Setting) (till : List ℕ) (binds workers : ℕ) (output : RunOutput N) (sending : Sending) : Type 0 where
   -- what each worker received is a beginning of what its reader put into its ring
   pub received : AllZip HasReceived (flat (map (λ d. d.producers.items) output.readers.items)) (map (λ d. d.consumer) output.done.items)
   -- the statement has a row for each account, with the sums over all shares
@@ -114,6 +117,8 @@ pub record IsConcluded {N : Type 0} (book : BookId) (till : List ℕ) (binds wor
   pub outcomes : map (λ b. b.reader) sending.binds.items ≡ map outcome_of output.readers.items
   -- the requests that the wires were given are those of the workers and the unbinds, each as often
   pub handed : AreSame (requests sending.log.given) (flat (map (λ d. d.requests) output.done.items) ++ flat (map (λ b. handed_in b.unbind_result) sending.binds.items))
+  -- the frames that the wires were given are those of their logs, each of which began right behind a bind
+  pub written : AreWritten settings binds [] sending.log.given
   -- each worker's reasons, in order
   pub reasons : sending.reasons.items ≡ map (λ d. d.reasons) output.done.items
   -- each bind was closed for the causes that its workers gave

@@ -1,5 +1,5 @@
 -- What a sending ends with.
-use Rattle.std.specs.Prelude.{◌*◌, ◌++◌, ℕ, List, Option, map}
+use Rattle.std.specs.Prelude.{◌*◌, ◌++◌, ℕ, List, [], Option, Some, map}
 use Rattle.std.specs.List.{AllZip}
 use Rattle.sms_message.specs.declared.message.Message.{Message}
 use Rattle.sms_bind.specs.Frames.{requests, AreSame}
@@ -10,6 +10,7 @@ use Rattle.sms_driver.specs.BindEnds.{AreBinds}
 use Rattle.sms_driver.specs.Closings.{AreExplained, AreReasoned}
 use Rattle.sms_driver.specs.Deals.{dealt}
 use Rattle.sms_driver.specs.Ended.{HaveEnded}
+use Rattle.sms_driver.specs.Handed.{AreWritten}
 use Rattle.sms_driver.specs.Numbered.{AreBelow, AreNumbered}
 use Rattle.sms_driver.specs.Rings.{flat}
 use Rattle.sms_driver.specs.Unbinds.{handed_in}
@@ -32,10 +33,13 @@ pub record Sent (settings : RunSettings) (told : ℕ → Option (List ℕ)) (acc
   pub below : AreBelow settings.workers sending.binds.items (dealt (settings.binds * settings.workers) 0 sending.ends.items)
   -- a message was refused as bind-closed only if its bind's end says why
   pub explained : AreExplained settings.workers sending.binds.items (dealt (settings.binds * settings.workers) 0 sending.ends.items)
-  -- a part was given up only if its worker's reasons say why, or its bind's end; and a message is refused for want of memory only if its worker's say so
+  -- a part was given up only if its worker's reasons say why, or its bind's end; and a message is refused for lack of memory only if its worker's say so
   pub reasons : AreReasoned settings.rules.policy.attempts settings.workers sending.binds.items sending.reasons.items (dealt (settings.binds * settings.workers) 0 sending.ends.items)
   -- the requests that the wires of the binds were given are the frames of all attempts and the unbinds, each as often
   pub handed : AreSame (requests sending.log.given) (flat (map frames_in (dealt (settings.binds * settings.workers) 0 sending.ends.items)) ++ flat (map (λ b. handed_in b.unbind_result) sending.binds.items))
+  -- those frames stand wire by wire, one wire for each bind: what was written of it since, right behind a bind by the settings, are its frames, whole
+  -- and in order, but for the last of them where the wire broke
+  pub written : AreWritten (Some settings.bind_settings.settings) settings.binds [] sending.log.given
   -- the statement has a row for each account, with the sums over the messages' ends
   pub rows : AreRows credits messages sending.ends.items sending.statement
   -- each bind was made and ended, and had its workers

@@ -1,5 +1,5 @@
 -- What the threads of a sending are given, and what they give back.
-use Rattle.std.specs.Prelude.{◌≡◌, ◌≤◌, ℕ, List, [], length, map, take, Option, Result, MatchResult, vec_capacity}
+use Rattle.std.specs.Prelude.{◌≡◌, ◌≤◌, ℕ, List, [], length, map, take, Option, Result, IsSomeAnd, MatchResult, vec_capacity}
 use Rattle.std.specs.List.{AllByRecursion, AllZip}
 use Rattle.std.specs.declared.thread.PromisedHandle.{PromisedHandle}
 use Rattle.sms_message.specs.declared.rules.Rules.{Rules}
@@ -66,6 +66,8 @@ pub record HaveReturned {N Rd W : Type 0} (rules : Rules) (remaining : Rd → Op
   pub driver : map (λ s. s.seat.window) returned.driver_seats.items ≡ map (λ b. b.window) shared_binds
   pub asked : AsksEach driver_seats returned.driver_seats.items
   pub tried : AllByRecursion HasTried returned.driver_seats.items
+  -- and that was behind the ends of all workers
+  pub behind : IsSomeAnd returned.unbound (λ u. u.workers ≡ length tasks)
 
 -- nothing was done: in order the first workers and readers, which were started, gave back what they were given; an unbind was tried once at each
 -- bind

@@ -1,5 +1,5 @@
 -- What a worker gives back.
-use Rattle.std.specs.Prelude.{◌≡◌, ◌++◌, IsSome, List, length, Result, MatchResult, Vec}
+use Rattle.std.specs.Prelude.{◌≡◌, ◌++◌, List, length, Result, MatchResult, Vec}
 use Rattle.std.specs.List.{AllZip}
 use Rattle.std.specs.declared.alloc.Global.{Global}
 use Rattle.rtrb.specs.Ring.{received, SameConsumer}
@@ -12,6 +12,7 @@ use Rattle.sms_worker.specs.Frames.{frames_in}
 use Rattle.sms_worker.specs.Types.{MessageEnd}
 use Rattle.sms_worker.specs.declared.entry.work.Worker.{Worker}
 use Rattle.sms_worker.specs.declared.entry.work.WorkerEnd.{WorkerEnd}
+use Rattle.sms_worker.specs.Closing.{IsShut}
 use Rattle.sms_worker.specs.EndOf.{IsEndOf}
 use Rattle.sms_worker.specs.Apart.{NumbersApart, PlacesApart}
 use Rattle.sms_worker.specs.Told.{AllTold, Drew, Grew}
@@ -43,7 +44,7 @@ pub record IsWorkOf {N : Type 0} (rules : Rules) (a : ReadyState N) (d : WorkerE
   -- if it gives no cause, it refused no message as bind-closed
   pub says_why : SaysWhy d.closed d.ends.items
   -- what was given up has a reason
-  pub reasons : AllHaveReasons rules.policy.attempts (IsSome d.closed) d.reasons d.ends.items
+  pub reasons : AllHaveReasons rules.policy.attempts (IsShut d.closed) d.reasons d.ends.items
 
 -- the result of an assignment that was let go: its work
 abbrev pub IsResultOf : {N E M : Type 0} → Rules → ReadyState N → Result (WorkerEnd N) (E × Worker N × M) → Type 0

@@ -5,14 +5,15 @@ pub mod following;
 pub mod rings;
 pub mod seats;
 
-ghost use Rattle.std.specs.Prelude.{◌≡◌, ℕ, ◌+◌, ◌*◌, ◌<◌, ◌≤◌, [], ◌∷◌, length, map, vec_capacity, false, Err, IfErr, IfOk, IsOk, OnOk};
+ghost use Rattle.std.specs.Prelude.{◌≡◌, ℕ, ◌+◌, ◌*◌, ◌<◌, ◌≤◌, [], ◌∷◌, length, map, vec_capacity, false, Err, Some, IfErr, IfOk, IsOk, OnOk};
 ghost use Rattle.std.specs.List.{AllByRecursion, AllZip};
 ghost use Rattle.sms_core.specs.Limits.{most_slots};
 ghost use Rattle.sms_pdu.specs.Devices.{device, faults_of};
 ghost use Rattle.sms_bind.specs.LogRule.{all_parts};
+ghost use Rattle.sms_bind.specs.Logs.{BeginsBehind, BindWritten};
 ghost use Rattle.sms_bind.specs.Wires.{is_broken, write_faults, writer};
 ghost use Rattle.sms_bind.specs.declared.binding.BindFault.TheVariants.{Read as ReadFault, Write as WriteFault};
-ghost use Rattle.sms_driver.specs.BindEnds.{follow_of, HasBound, IsSetUp};
+ghost use Rattle.sms_driver.specs.BindEnds.{follow_of, IsSetUp};
 ghost use Rattle.sms_driver.specs.Handed.{HasDealt};
 ghost use Rattle.sms_driver.specs.Reads.{AreOpened, IsOpened};
 ghost use Rattle.sms_driver.specs.Rings.{IsNewPair};
@@ -129,7 +130,7 @@ fn bind_with<Rd: Read, W: Write>(
     number: u32,
 ) -> Result<Bound, BindFault>
     requires unused { (faults_of reader.old ≡ 0) × (write_faults wire.old ≡ 0) }
-    ensures bound { OnOk result (HasBound settings.now number (W.contents (writer wire.old)) (W.contents (writer wire.new))) }
+    ensures bound { OnOk result (BindWritten settings.now number (W.contents (writer wire.old)) (W.contents (writer wire.new))) }
     ensures sound { OnOk result (is_broken wire.new ≡ false) }
     // What was read is the bind's answer and what came after it.
     ensures opened { IfOk result (IsOpened settings.now.mode (Rd.remaining (device reader.old)) (Rd.remaining (device reader.new))) }
@@ -173,7 +174,7 @@ fn dial_and_bind<D: Dial>(
     number: u32,
 ) -> Result<Connected<D::Reader, D::Writer>, SendFault>
     ensures opened { IfOk result (λ c. IsOpened settings.now.mode (D.told dial.now bind_place) (D.Reader.remaining (device c.reader)) c.bound) }
-    ensures asked { IfOk result (λ c. HasBound settings.now number (D.Writer.contents (writer c.dialled.value)) (D.Writer.contents (writer c.wire))) }
+    ensures asked { IfOk result (λ c. BindWritten settings.now number (D.Writer.contents (writer c.dialled.value)) (D.Writer.contents (writer c.wire))) }
     ensures sound { IfOk result (λ c. is_broken c.wire ≡ false) }
     ensures refused { IfErr result (IsFaultOf (D.refuses dial.now) (D.told dial.now) settings.now.mode bind_place) }
 {
@@ -206,7 +207,7 @@ fn new_driver_seat<N: LogName>(log: &mut LogKeeper<N>, seat: WindowSeat) -> Driv
     }
 }
 
-/// A line over the wire, whose log begins. The fault is want of memory.
+/// A line over the wire, whose log begins. The fault is lack of memory.
 fn line_over<N: LogName, W: Write + Drop>(
     log: &mut LogKeeper<N>,
     slots: SlotRow,
@@ -214,6 +215,7 @@ fn line_over<N: LogName, W: Write + Drop>(
 ) -> Result<(Line<N, W>, ReaderLeave), SendFault>
     requires few { log.old.away + 1 < all_parts }
     requires sound { is_broken wire ≡ false }
+    requires behind { BeginsBehind N.settings (W.contents (writer wire)) }
     ensures log { OnOk result (HasDealt 1 log.old log.new) }
     ensures slots { IfOk result (λ r. r.0.slots ≡ slots) }
     ensures refused { IfErr result (λ fault. fault ≡ OutOfMemory) }
@@ -239,12 +241,13 @@ fn make_bind<N: LogName, D: Dial>(
     requires pairs { AllZip IsNewPair rings.producers.items rings.consumers.items }
     requires bound { workers < 62 }
     requires few { log.old.away + 2 < all_parts }
+    requires settings { N.settings ≡ Some bind_settings.now.settings }
     ensures log { OnOk result (HasDealt 2 log.old log.new) }
     ensures seated { IfOk result (λ m. IsSeated workers m.shared m.parts) }
     ensures opened { IfOk result (λ m. IsOpened bind_settings.now.settings.mode (D.told dial.now bind_place) (D.Reader.remaining (device m.parts.reader)) m.parts.bound) }
     ensures set { IfOk result (λ m. IsSetUp bind_settings.now m.parts) }
     // The settings' bind was written, with the one number that was drawn from its window.
-    ensures asked { IfOk result (λ m. (number : ℕ) × (m.parts.keeper.view.numbers ≡ number ∷ []) × HasBound bind_settings.now.settings number (D.Writer.contents (writer m.dialled.value)) (D.Writer.contents (writer m.asked.value))) }
+    ensures asked { IfOk result (λ m. (number : ℕ) × (m.parts.keeper.view.numbers ≡ number ∷ []) × BindWritten bind_settings.now.settings number (D.Writer.contents (writer m.dialled.value)) (D.Writer.contents (writer m.asked.value))) }
     ensures driver_seat { IfOk result (λ m. (m.driver_seat.seat.window ≡ m.shared.window) × (m.driver_seat.requests ≡ [])) }
     ensures refused { IfErr result (IsFaultOf (D.refuses dial.now) (D.told dial.now) bind_settings.now.settings.mode bind_place) }
 {
@@ -299,7 +302,7 @@ fn bind_each<N: LogName, D: Dial>(
     binds: Binds<N, D::Reader, D::Writer>,
 ) -> (Binds<N, D::Reader, D::Writer>, Result<(), SendFault>)
     requires rings { AllByRecursion (λ r. length r.consumers.items ≡ workers) rings.items × AllByRecursion (λ r. AllZip IsNewPair r.producers.items r.consumers.items) rings.items }
-    requires bound { workers < 62 }
+    requires settings { (workers < 62) × (N.settings ≡ Some bind_settings.now.settings) }
     requires binds { (length rings.items ≤ 4) × (log.old.away + 2 * length rings.items < all_parts) }
     requires none { (binds.shared_binds.items ≡ []) × (binds.bind_parts.items ≡ []) × (binds.driver_seats.items ≡ []) }
     requires room { (length rings.items ≤ vec_capacity binds.shared_binds) × (length rings.items ≤ vec_capacity binds.bind_parts) × (length rings.items ≤ vec_capacity binds.driver_seats) }
@@ -357,9 +360,9 @@ pub(crate) fn make_binds<N: LogName, D: Dial, R: Wait>(
     settings: &RunSettings,
     rings: Vec<Rings>,
 ) -> Result<Binds<N, D::Reader, D::Writer>, SendFault>
-    requires rings { AllByRecursion (λ r. length r.consumers.items ≡ settings.now.workers) rings.items }
-    requires pairs { AllByRecursion (λ r. AllZip IsNewPair r.producers.items r.consumers.items) rings.items }
+    requires rings { AllByRecursion (λ r. length r.consumers.items ≡ settings.now.workers) rings.items × AllByRecursion (λ r. AllZip IsNewPair r.producers.items r.consumers.items) rings.items }
     requires bound { settings.now.workers < 62 }
+    requires settings { N.settings ≡ Some settings.now.bind_settings.settings }
     requires binds { (length rings.items ≤ 4) × (log.old.away + 2 * length rings.items < all_parts) }
     ensures log { OnOk result (HasDealt (2 * length rings.items) log.old log.new) × IfOk result (λ b. AllByRecursion (λ s. s.requests ≡ []) b.driver_seats.items) }
     ensures driver_seats { IfOk result (λ b. map (λ s. s.seat.window) b.driver_seats.items ≡ map (λ b. b.window) b.shared_binds.items) }

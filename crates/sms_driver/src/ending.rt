@@ -67,6 +67,7 @@ fn take_apart<N: BookName + LogName>(
     requires parts { ArePartsFor (length done.items) parts }
     requires away { length done.items ≤ log.old.away }
     ensures log { IsBack (length done.items) (flat (map (λ d. d.requests) done.items)) log.old log.new }
+    ensures given { log.new.given ≡ log.old.given }
     ensures shares { result.shares.items ≡ map (λ d. d.shares) done.items }
     ensures ends { map (λ q. q.items) result.ends.items ≡ map (λ d. d.ends.items) done.items }
     ensures seats { map (λ s. s.window) result.seats.items ≡ map (λ d. d.seat.window) done.items }
@@ -196,9 +197,9 @@ pub(crate) fn conclude<N: BookName + LogName, W: Write + Drop>(
     requires dealt { (es : List MessageEnd) × (length es ≡ count) × (map (λ d. d.ends.items) output.done.items ≡ dealt (length output.done.items) 0 es) }
     requires shares { AreAll N.book.workers (map (λ d. d.shares) output.done.items) }
     requires output { IsOfBinds shared_binds.items workers output }
-    requires log { (log.away ≡ length output.done.items + 2 * length shared_binds.items) × (log.requests ≡ []) }
+    requires log { (log.away ≡ length output.done.items + 2 * length shared_binds.items) × (log.requests ≡ []) × (log.given ≡ []) }
     ensures ends { (es : List MessageEnd) → length es ≡ count → map (λ d. d.ends.items) output.done.items ≡ dealt (length output.done.items) 0 es → result.ends.items ≡ es }
-    ensures concluded { IsConcluded N.book till (length shared_binds.items) workers output result }
+    ensures concluded { IsConcluded N.book N.settings till (length shared_binds.items) workers output result }
 {
     let RunOutput {
         done,

@@ -29,7 +29,7 @@ pub use dealing::{deal, merged};
 pub use driver::drive_all;
 pub use ending::Sending;
 pub use ending::skipped::{AllDrawn, NoFrame, NoneDrawn, SkipReason, WasDown, WireBroken};
-pub use ending::unbind::{roll_back_if_failed, unbind_all, unbind_and_wait};
+pub use ending::unbind::{UnboundBehind, roll_back_if_failed, unbind_all, unbind_and_wait};
 pub use ending::unbind_result::UnbindResult;
 pub use fault::{BindFailure, SendFault};
 pub use settings::{Devices, RunSettings};

@@ -1,6 +1,6 @@
 //! A sending, once its book is named.
 
-ghost use Rattle.std.specs.Prelude.{◌≡◌, ◌+◌, ◌*◌, [], ◌<◌, ◌≤◌, length, map, Ok, IfErr, IfOk, IsOk, OnOk};
+ghost use Rattle.std.specs.Prelude.{◌≡◌, ◌+◌, ◌*◌, [], ◌<◌, ◌≤◌, length, map, Ok, Some, IfErr, IfOk, IsOk, OnOk};
 ghost use Rattle.std.specs.List.{AllByRecursion, AllZip};
 ghost use Rattle.sms_bind.specs.LogRule.{all_parts};
 ghost use Rattle.sms_book.specs.Shares.{opening_shares};
@@ -228,6 +228,7 @@ fn output_of<N: BookName + LogName>(
         worker_results,
         readers,
         driver_seats,
+        unbound: _,
     } = returned;
     RunOutput {
         done: all_done(worker_results, done_buffer),
@@ -330,7 +331,7 @@ pub fn run<
     messages: Vec<Message>,
     devices: &Devices<'_, D, G, K, P>,
 ) -> Result<Sending, SendFault>
-    requires name { (blank.book ≡ N.book) × (log ≡ N.log) }
+    requires name { (blank.book ≡ N.book) × (log ≡ N.log) × (N.settings ≡ Some settings.now.bind_settings.settings) }
     requires count { (0 < blank.book.workers) × (blank.book.workers ≡ settings.now.binds * settings.now.workers) }
     requires bound { (settings.now.binds ≤ 4) × (settings.now.workers < 62) }
     requires accounts { length blank.credits ≡ blank.book.accounts }

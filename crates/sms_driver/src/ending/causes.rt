@@ -37,10 +37,16 @@ fn with_cause(closing: BindClosing, cause: Option<ClosedBy>) -> BindClosing
         Some(ClosedBy::Turns(_)) => BindClosing {
             down: closing.down,
             turns_over: true,
+            stopped: closing.stopped,
         },
         Some(ClosedBy::Down(cause)) => BindClosing {
             down: first_of(closing.down, cause),
             turns_over: closing.turns_over,
+            stopped: closing.stopped,
+        },
+        Some(ClosedBy::Stopped(_)) => BindClosing {
+            stopped: true,
+            ..closing
         },
     }
 }
@@ -53,6 +59,7 @@ pub(crate) fn next_closing(causes: &mut VecDeque<Option<ClosedBy>>, workers: usi
     let mut closing = BindClosing {
         down: None,
         turns_over: false,
+        stopped: false,
     };
     for _worker in 0..workers {
         match causes.pop_front() {

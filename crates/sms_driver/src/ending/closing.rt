@@ -4,7 +4,7 @@ ghost use Rattle.std.specs.Prelude.{◌≡◌, ◌*◌, ◌<◌, ◌≤◌, [], 
 ghost use Rattle.std.specs.List.{AllByRecursion};
 ghost use Rattle.atomic_table.specs.Seated.{TableId};
 ghost use Rattle.sms_driver.specs.BindEnds.{outcome_of, AreBinds};
-ghost use Rattle.sms_driver.specs.Handed.{IsBack};
+ghost use Rattle.sms_driver.specs.Handed.{AreWritten, IsBack};
 ghost use Rattle.sms_driver.specs.Rings.{flat};
 ghost use Rattle.sms_driver.specs.Unbinds.{handed_in, HasHanded, HasTried};
 ghost use Rattle.sms_driver.specs.Closings.{HaveClosings};
@@ -58,7 +58,7 @@ fn close_one<N: LogName, W: Write + Drop>(
     requires driver { driver.window ≡ shared.window }
     requires away { 0 < log.old.away }
     requires seats { (rest : List TableId) × (map (λ s. s.window) seats.old.items ≡ replicate workers shared.window ++ rest) }
-    ensures log { IsBack 1 [] log.old log.new }
+    ensures log { IsBack 1 [] log.old log.new × AreWritten N.settings 1 log.old.given log.new.given }
     ensures rest { (rest : List TableId) → map (λ s. s.window) seats.old.items ≡ replicate workers shared.window ++ rest → map (λ s. s.window) seats.new.items ≡ rest }
     ensures left { map (λ s. s.view) seats.new.items ≡ drop workers (map (λ s. s.view) seats.old.items) }
     // No two of them drew one number.
@@ -115,7 +115,7 @@ pub(crate) fn close_all<N: LogName, W: Write + Drop>(
     requires tried { AllByRecursion HasTried remains.driver_seats.items }
     requires seats { map (λ s. s.window) seats.items ≡ windows remains.workers (map (λ b. b.window) remains.shared_binds.items) }
     requires away { (2 * length remains.shared_binds.items ≤ log.old.away) × AllByRecursion HasHanded remains.driver_seats.items }
-    ensures log { IsBack (2 * length remains.shared_binds.items) (flat (map (λ b. handed_in b.unbind_result) result.items)) log.old log.new }
+    ensures log { IsBack (2 * length remains.shared_binds.items) (flat (map (λ b. handed_in b.unbind_result) result.items)) log.old log.new × AreWritten N.settings (length remains.shared_binds.items) log.old.given log.new.given }
     ensures binds { AreBinds (length remains.shared_binds.items) remains.workers result.items }
     ensures outcomes { map (λ b. b.reader) result.items ≡ map outcome_of remains.readers.items }
     ensures closed { AreClosed remains.workers (map (λ d. d.seat.view) remains.readers.items) (map (λ s. s.seat.view) remains.driver_seats.items) (map (λ s. s.view) seats.items) (map (λ b. b.window) result.items) }

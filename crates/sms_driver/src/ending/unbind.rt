@@ -8,7 +8,9 @@ ghost use Rattle.sms_driver.specs.Unbinds.{handed_in, AreDone, Asks, AsksAt, Ask
 use crate::binding::binds::{Binds, DriverSeat, SharedBind};
 use crate::ending::skipped::{SkipReason, down_now, hand_over, number_for, unbind_frame};
 use crate::ending::unbind_result::UnbindResult;
+use crate::threads::WorkerResult;
 use sms_bind::{LogName, Requests};
+use sms_book::BookName;
 use sms_window::WindowSeat;
 use sms_worker::{Clock, Pause, Rules};
 use std::alloc::Global;
@@ -187,22 +189,35 @@ fn stop_all<N: LogName, W: Write>(shared_binds: &[SharedBind<N, W>]) {
     }
 }
 
-/// Unbinds all binds, waits once for the ends of their readers, and stops those that still read.
-pub fn unbind_and_wait<N: LogName, W: Write, K: Clock, P: Pause, R: Wait>(
+/// Evidence that the binds were unbound once this many workers had ended. Only `unbind_and_wait` makes it, which is
+/// shown what they gave back.
+#[derive(Drop)]
+pub struct UnboundBehind {
+    workers: usize,
+}
+
+/// Unbinds all binds once these workers have ended, waits once for the ends of their readers, and stops those that
+/// still read.
+pub fn unbind_and_wait<N: BookName + LogName, W: Write, K: Clock, P: Pause, R: Wait>(
     rt: &R,
     alloc: Global,
+    worker_results: &[WorkerResult<N>],
     shared_binds: &[SharedBind<N, W>],
     driver_seats: &mut Vec<DriverSeat<N>>,
     rules: &Rules,
     clock: &K,
     pause: &P,
-)
+) -> UnboundBehind
     requires driver_seats { map (λ s. s.seat.window) driver_seats.old.items ≡ map (λ b. b.window) shared_binds.now }
     ensures driver_seats { map (λ s. s.seat.window) driver_seats.new.items ≡ map (λ s. s.seat.window) driver_seats.old.items }
     ensures asked { AsksEach driver_seats.old.items driver_seats.new.items }
     ensures tried { AllByRecursion HasTried driver_seats.new.items }
+    ensures behind { result.workers ≡ length worker_results.now }
 {
     unbind_all(rt, alloc, shared_binds, driver_seats);
     wait_until_down(shared_binds, driver_seats.as_slice(), rules, clock, pause);
     stop_all(shared_binds);
+    UnboundBehind {
+        workers: worker_results.len(),
+    }
 }

@@ -25,7 +25,7 @@ use std::thread::{PromisedHandle, Scope, Threads};
 /// A reader's thread, and what it gives back.
 pub type ReaderHandle<'s, Rd> = PromisedHandle<ThreadResult<'s, ReaderEnd>, ReaderPromise<Rd>>;
 
-/// The end of a reader that was stopped before its first read.
+/// The end of a reader that never began.
 fn unread(producers: Vec<Producer<Reply>>, seat: WindowSeat) -> ReaderEnd
     ensures { IsUnread seat producers.items result }
 {
@@ -38,7 +38,7 @@ fn unread(producers: Vec<Producer<Reply>>, seat: WindowSeat) -> ReaderEnd
         nacked: 0,
         unreplied: 0,
         errors: 0,
-        cause: ReaderCause::Stopped,
+        cause: ReaderCause::Unstarted,
         producers,
         seat,
     }

@@ -1,6 +1,6 @@
 //! Starts, releases and joins the threads of a sending.
 
-ghost use Rattle.std.specs.Prelude.{◌≡◌, map, MatchResult, OnOk};
+ghost use Rattle.std.specs.Prelude.{◌≡◌, length, map, IsSomeAnd, MatchResult, OnOk};
 ghost use Rattle.std.specs.List.{AllByRecursion};
 ghost use Rattle.sms_driver.specs.Unbinds.{AsksEach, HasTried};
 ghost use Rattle.sms_driver.specs.Threads.{AreSeated, HasRoom, HaveDriven, IsNoCrew};
@@ -12,7 +12,7 @@ use crate::threads::listening::{ReaderHandle, start_readers};
 use crate::threads::task::WorkerTask;
 use crate::threads::working::{WorkerHandle, start_workers};
 use crate::threads::{ReaderTask, WorkerResult, join_all};
-use crate::{DriverSeat, SharedBind, unbind_all, unbind_and_wait};
+use crate::{DriverSeat, SharedBind, UnboundBehind, unbind_all, unbind_and_wait};
 use sms_bind::{LogName, ReaderEnd};
 use sms_book::BookName;
 use sms_worker::{Clock, Gate, Pause, RunContext};
@@ -27,6 +27,8 @@ pub struct Returned<N: BookName + LogName> {
     pub worker_results: Vec<WorkerResult<N>>,
     pub readers: Vec<ReaderEnd>,
     pub driver_seats: Vec<DriverSeat<N>>,
+    /// That the binds were unbound behind the workers' ends, where these were let go.
+    pub unbound: Option<UnboundBehind>,
 }
 
 /// Why nothing was sent; and what the threads that had been started gave back, which is what they were given.
@@ -135,11 +137,13 @@ pub(crate) fn drive<
     let started = latch.fire(rt, command, trigger);
     let worker_results = join_all(rt, &started, workers, worker_results);
     let mut driver_seats = driver_seats;
-    end_binds(context, command, shared_binds, &mut driver_seats);
+    let results = worker_results.as_slice();
+    let unbound = end_binds(context, command, results, shared_binds, &mut driver_seats);
     let returned = Returned {
         worker_results,
         readers: join_all(rt, &started, readers, reader_ends),
         driver_seats,
+        unbound,
     };
     match start_result {
         Ok(()) => ThreadResult {
@@ -153,28 +157,35 @@ pub(crate) fn drive<
     }
 }
 
-/// Unbinds all binds. If their readers read, it waits for their ends, and stops them.
+/// Unbinds all binds. If their readers read, it is behind the ends of the workers, which gave these results back;
+/// then it waits for the readers' ends, and stops them.
 fn end_binds<N: BookName + LogName, W: Write, G: Gate, K: Clock, P: Pause, R: Wait>(
     context: &RunContext<N, G, K, P, R>,
     command: Command,
+    worker_results: &[WorkerResult<N>],
     shared_binds: &[SharedBind<N, W>],
     driver_seats: &mut Vec<DriverSeat<N>>,
-)
+) -> Option<UnboundBehind>
     requires driver_seats { map (λ s. s.seat.window) driver_seats.old.items ≡ map (λ b. b.window) shared_binds.now }
     ensures driver_seats { map (λ s. s.seat.window) driver_seats.new.items ≡ map (λ s. s.seat.window) driver_seats.old.items }
     ensures asked { AsksEach driver_seats.old.items driver_seats.new.items }
     ensures tried { AllByRecursion HasTried driver_seats.new.items }
+    ensures behind { command ≡ Go → IsSomeAnd result (λ u. u.workers ≡ length worker_results.now) }
 {
     match command {
-        Command::Go => unbind_and_wait(
+        Command::Go => Some(unbind_and_wait(
             context.rt,
             context.alloc,
+            worker_results,
             shared_binds,
             driver_seats,
             context.rules,
             context.clock,
             context.pause,
-        ),
-        Command::Leave => unbind_all(context.rt, context.alloc, shared_binds, driver_seats),
+        )),
+        Command::Leave => {
+            unbind_all(context.rt, context.alloc, shared_binds, driver_seats);
+            None
+        }
     }
 }

@@ -12,6 +12,7 @@ use sms_driver::{
 };
 use sms_worker::{MessageRefusal, MessageResult, Pause};
 use std::alloc::{AllocError, Global};
+use std::process::Abort;
 use std::test::Fail;
 use std::thread::Threads;
 use std::time::Duration;
@@ -36,7 +37,8 @@ struct Ending<'a> {
     room: usize,
     turns: u16,
     answer_ms: u32,
-    cause: ReaderCause,
+    // none: it is stopped
+    cause: Option<ReaderCause>,
 }
 
 // Gives the octets that it has, and then what comes behind them.
@@ -227,7 +229,7 @@ const ENDINGS: [Ending<'static>; 7] = [
         room: ALL,
         turns: 20_000,
         answer_ms: 1_000,
-        cause: ReaderCause::Ended,
+        cause: Some(ReaderCause::Ended),
     },
     Ending {
         sends: UNBINDS,
@@ -235,7 +237,7 @@ const ENDINGS: [Ending<'static>; 7] = [
         room: ALL,
         turns: 20_000,
         answer_ms: 1_000,
-        cause: ReaderCause::Unbound,
+        cause: Some(ReaderCause::Unbound),
     },
     Ending {
         sends: BAD_LENGTH,
@@ -243,7 +245,7 @@ const ENDINGS: [Ending<'static>; 7] = [
         room: ALL,
         turns: 20_000,
         answer_ms: 1_000,
-        cause: ReaderCause::Lost,
+        cause: Some(ReaderCause::Lost),
     },
     Ending {
         sends: BOUND,
@@ -251,7 +253,7 @@ const ENDINGS: [Ending<'static>; 7] = [
         room: ALL,
         turns: 20_000,
         answer_ms: 1_000,
-        cause: ReaderCause::ReadFault,
+        cause: Some(ReaderCause::ReadFault),
     },
     Ending {
         sends: ASKS,
@@ -259,7 +261,7 @@ const ENDINGS: [Ending<'static>; 7] = [
         room: BIND,
         turns: 20_000,
         answer_ms: 1_000,
-        cause: ReaderCause::WriteFault,
+        cause: Some(ReaderCause::WriteFault),
     },
     Ending {
         sends: BOUND,
@@ -267,7 +269,7 @@ const ENDINGS: [Ending<'static>; 7] = [
         room: ALL,
         turns: 20_000,
         answer_ms: 0,
-        cause: ReaderCause::Stopped,
+        cause: None,
     },
     Ending {
         sends: BOUND,
@@ -275,16 +277,30 @@ const ENDINGS: [Ending<'static>; 7] = [
         room: ALL,
         turns: 20,
         answer_ms: 1_000,
-        cause: ReaderCause::Turns,
+        cause: Some(ReaderCause::Turns),
     },
 ];
+
+fn want_cause(rt: &impl Abort, cause: ReaderCause, wanted: Option<ReaderCause>) {
+    match wanted {
+        Some(wanted) => same(rt, cause, wanted),
+        None => want_stop(rt, cause),
+    }
+}
+
+fn want_stop(rt: &impl Abort, cause: ReaderCause) {
+    match cause {
+        ReaderCause::Stopped(_seen) => (),
+        _ => panic!(rt; "not stopped"),
+    }
+}
 
 // Where nothing comes, each turn meets an error.
 #[test]
 fn each_cause_is_told(rt: HostRuntime) -> Result<(), Fail> {
     for ending in &ENDINGS {
         let told = bind_told(&rt, rt.alloc(), *ending, 1)?;
-        same(&rt, told.cause, ending.cause);
+        want_cause(&rt, told.cause, ending.cause);
         if let ReaderCause::Turns = told.cause {
             same(&rt, told.errors, u64::from(ending.turns));
         }
@@ -301,13 +317,14 @@ fn a_write_that_fails_closes_its_bind(rt: HostRuntime) -> Result<(), Fail> {
         room: BIND,
         turns: 20_000,
         answer_ms: 1_000,
-        cause: ReaderCause::Stopped,
+        cause: None,
     };
     let told = bind_told(&rt, rt.alloc(), ending, 3)?;
-    same(&rt, told.cause, ending.cause);
+    want_cause(&rt, told.cause, ending.cause);
     let wanted = BindClosing {
         down: Some(DownBy::Write),
         turns_over: false,
+        stopped: false,
     };
     same(&rt, (told.closing, told.refused), (wanted, 2));
     same(&rt, told.down, Some(DownCause::Write));

@@ -22,6 +22,7 @@ const REFUSES: &str = "bind_status = 14\nanswers = [\"status 0\"]";
 const OPEN: BindClosing = BindClosing {
     down: None,
     turns_over: false,
+    stopped: false,
 };
 
 // That a bind had so many workers, was open to them, and was unbound.

@@ -3,7 +3,7 @@ use Rattle.sms_driver.proofs.Refusals.{some_counted, some_written}
 use Rattle.sms_driver.proofs.binding.bind_with.Goals as goal
 
 pub returns-in-Ok-clause-bound : goal.returns-in-Ok-clause-bound
-returns-in-Ok-clause-bound g c octets spelled = c.in-Ok.ensures.sent octets spelled refl
+returns-in-Ok-clause-bound g c = let (octets, spelled, appended) = c.in-Ok.ensures.written refl in record { octets = octets; spelled = spelled; appended = appended }
 
 pub returns-in-Ok-clause-opened : goal.returns-in-Ok-clause-opened
 returns-in-Ok-clause-opened g c =

@@ -1,7 +1,10 @@
-use Rattle.std.proofs.Common.{◌-◌, ◌∙◌, ap, arith, length, rules, subst, sym}
+use Rattle.std.proofs.Common.{Option, ◌-◌, ◌∙◌, ap, arith, length, rules, subst, sym}
 use Rattle.std.proofs.lemmas.List.{length-map}
 use Rattle.std.specs.List.{AllZip}
 use Rattle.sms_driver.specs.Rings.{IsNewPair}
+use Rattle.sms_bind.specs.Logs.{BeginsBehind}
+use Rattle.sms_bind.specs.Wires.{writer}
+use Rattle.sms_session.specs.Settings.{Setting}
 use Rattle.sms_window.specs.declared.view.View.{View}
 use Rattle.sms_window.proofs.Names.{can_split}
 use Rattle.sms_driver.proofs.binding.make_bind.Goals as goal
@@ -48,6 +51,11 @@ new_driver_seat-driver_seat-requires g c = (let few = c.requires.few in record {
 
 pub line_over-requires-clause-few : goal.line_over-requires-clause-few
 line_over-requires-clause-few g c = (let few = c.requires.few in let more = c.new_driver_seat-driver_seat.ensures.log.away in omega arith)
+
+pub line_over-requires-clause-behind : goal.line_over-requires-clause-behind
+line_over-requires-clause-behind g c =
+    let dialled = g.D.Writer.Write.contents (writer c.in_ok-reader.field-0.dialled.value) in
+    subst (λ (s : Option Setting). BeginsBehind s (g.D.Writer.Write.contents (writer c.in_ok-reader.field-0.wire))) (sym c.requires.settings) (c.in_ok-window.field-0.number, dialled, c.in_ok-reader.ensures.asked)
 
 pub returns-clause-log : goal.returns-clause-log
 returns-clause-log g c =

@@ -18,6 +18,7 @@ use Rattle.sms_worker.specs.declared.entry.work.WorkerEnd.{WorkerEnd}
 use Rattle.sms_worker.specs.Rests.{HasReceived}
 use Rattle.sms_driver.proofs.Places.{same_length}
 use Rattle.sms_bind.specs.Frames.{requests, AreSame}
+use Rattle.sms_driver.specs.Handed.{WireEnd}
 use Rattle.sms_driver.specs.Rings.{flat}
 use Rattle.sms_driver.specs.Unbinds.{handed_in, HasHanded}
 use Rattle.sms_driver.specs.Buffers.{IsFree}
@@ -49,7 +50,16 @@ returns-clause-concluded g c =
           subst (λ (n : ℕ). AreBinds n c.args.workers binds) (ap (λ v. length v.items) joined.shared_binds)
           (subst (λ (w : ℕ). AreBinds (length c.join_ends-joined.result.shared_binds.items) w binds) joined.workers closed.binds);
       outcomes = closed.outcomes ∙ joined.outcomes;
-      handed = (let back = apart.log.requests ∙ ap (λ l. l ++ flat (map (λ (d : WorkerEnd g.row.N.Denot). d.requests) c.args.output.done.items)) c.requires.log.1 in subst (AreSame (requests c.settle.result.given)) (closed.log.requests ∙ ap (λ l. l ++ flat (map (λ (b : BindEnd). handed_in b.unbind_result) binds)) back) (subst (λ l. AreSame (requests l) c.close_all-binds.new.log.requests) (sym c.settle.ensures.given) c.settle.ensures.settled));
+      handed = (let back = apart.log.requests ∙ ap (λ l. l ++ flat (map (λ (d : WorkerEnd g.row.N.Denot). d.requests) c.args.output.done.items)) c.requires.log.1 in subst (AreSame (requests c.settle.result.given)) (closed.log.0.requests ∙ ap (λ l. l ++ flat (map (λ (b : BindEnd). handed_in b.unbind_result) binds)) back) (subst (λ l. AreSame (requests l) c.close_all-binds.new.log.requests) (sym c.settle.ensures.given) c.settle.ensures.settled));
+      written =
+          (let w = closed.log.1 in
+          let none = apart.given ∙ c.requires.log.2 in
+          record {
+            wires = w.wires;
+            all = w.all ∙ ap (λ v. length v.items) joined.shared_binds;
+            each = w.each;
+            given = c.settle.ensures.given ∙ w.given ∙ ap (λ l. l ++ flat (map (λ (e : WireEnd). e.log) w.wires)) none;
+          });
       reasons = apart.reasons;
       closings =
           subst (λ (xs : List (Option ClosedBy)). HaveClosings c.args.workers xs closings) apart.causes
@@ -86,5 +96,5 @@ settle-requires g c =
     let all = c.requires.log.0 in
     let back = c.take_apart-apart.ensures.log.away in
     let same = ap (λ v. length v.items) c.join_ends-joined.ensures.shared_binds in
-    let rest = c.close_all-binds.ensures.log.away in
+    let rest = c.close_all-binds.ensures.log.0.away in
     record { all = omega arith }

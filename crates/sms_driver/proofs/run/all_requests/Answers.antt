@@ -1,4 +1,4 @@
-use Rattle.std.proofs.Common.{◌≡◌, ◌+◌, ◌≤◌, ◌∙◌, [], length, rules, arith}
+use Rattle.std.proofs.Common.{◌≡◌, ◌+◌, ◌≤◌, ◌∙◌, [], rules, arith}
 use Rattle.sms_driver.proofs.Returning.{more_hold}
 use Rattle.sms_driver.proofs.run.all_requests.Goals as goal
 

@@ -1,4 +1,4 @@
-use Rattle.std.proofs.Common.{◌≡◌, ◌+◌, ◌≤◌, [], length, vec_capacity}
+use Rattle.std.proofs.Common.{◌≡◌, ◌≤◌, [], length, vec_capacity}
 use Rattle.std.specs.List.{AllByRecursion}
 use Rattle.sms_driver.specs.Handed.{HasDealt}
 use Rattle.sms_driver.proofs.run.all_requests.Given as goal

@@ -1,4 +1,4 @@
-use Rattle.std.proofs.Common.{◌≡◌, ◌<◌, ◌≤◌, ◌*◌, ℕ, List, length, map, rules, arith, sym, ap, ◌∙◌, subst, inl, refl}
+use Rattle.std.proofs.Common.{[], Option, Some, ◌≡◌, ◌<◌, ◌≤◌, ◌*◌, ℕ, List, length, map, rules, arith, sym, ap, ◌∙◌, subst, inl, refl}
 use Rattle.std.specs.List.{AllZip}
 use Rattle.sms_bind.specs.Frames.{requests}
 use Rattle.sms_book.specs.Name.{BookId}
@@ -25,6 +25,8 @@ use Rattle.sms_driver.specs.Numbered.{AllDrewOnce, AreBelow, AreNumbered, HasNum
 use Rattle.sms_driver.proofs.Endings.{have_ended}
 use Rattle.sms_driver.proofs.Handing.{are_handed_on}
 use Rattle.sms_driver.proofs.Places.{all_handed, same_length}
+use Rattle.sms_session.specs.Settings.{Setting}
+use Rattle.sms_driver.specs.Handed.{AreWritten}
 use Rattle.sms_driver.specs.Rings.{flat}
 use Rattle.sms_driver.specs.Unbinds.{handed_in}
 use Rattle.sms_driver.specs.declared.bind_end.BindEnd.{BindEnd}
@@ -146,6 +148,7 @@ returns-clause-sent g c =
           subst (λ (l : List (List MessageEnd)). AreReasoned rules.policy.attempts w binds c.conclude.result.reasons.items l) ess
           (subst (λ (rs : List ReasonState). AreReasoned rules.policy.attempts w binds rs (map ends_of ds)) (sym concluded.reasons) (are_reasoned rules.policy.attempts w ds binds output.reasons concluded.closings));
       handed = are_handed_on ds (requests c.conclude.result.log.given) (flat (map (λ (b : BindEnd). handed_in b.unbind_result) binds)) (dealt (settings.binds * w) 0 c.conclude.result.ends.items) output.handed ess concluded.handed;
+      written = subst (λ (n : ℕ). AreWritten (Some settings.bind_settings.settings) n [] c.conclude.result.log.given) each (subst (λ (s : Option Setting). AreWritten s (length shared_binds) [] c.conclude.result.log.given) c.requires.name.2 concluded.written);
       rows =
           subst (λ (x : List MessageEnd). AreRows opened ms x rows) (sym ends)
           (rows_of opened ms s.es shares rows s.sums (concluded.accounts ∙ accounts ∙ sym c.requires.accounts)
@@ -197,4 +200,4 @@ conclude-requires-clause-log g c =
     let binds = log.away in
     let rings = c.in_ok-made.ensures.length in
     let done = c.in_ok-output.ensures.output.all in
-    (omega arith, log.requests ∙ more.requests ∙ keeper.2)
+    (omega arith, log.requests ∙ more.requests ∙ keeper.2, log.given ∙ more.given ∙ keeper.1)

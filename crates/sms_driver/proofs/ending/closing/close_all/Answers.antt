@@ -1,7 +1,8 @@
-use Rattle.std.proofs.Common.{◌≡◌, ◌*◌, append-nil, append_assoc, rules, arith, ◌∙◌, [], ◌∷◌, ◌++◌, ap, sym, refl, length, map}
+use Rattle.std.proofs.Common.{◌≡◌, ℕ, subst, length-append, append-nil, append_assoc, rules, arith, ◌∙◌, [], ◌∷◌, ◌++◌, ap, sym, refl, length, map}
 use Rattle.std.proofs.lemmas.List.{length-map}
 use Rattle.std.specs.Vec.Iter.{into_iter_items}
 use Rattle.sms_driver.specs.BindEnds.{outcome_of, IsBindEnd}
+use Rattle.sms_driver.specs.Handed.{AreWritten}
 use Rattle.sms_driver.specs.Rings.{flat}
 use Rattle.sms_driver.specs.Unbinds.{handed_in, HasHanded, HasTried}
 use Rattle.sms_driver.proofs.Drawn.{all_closed, closed_more, first_once, none_closed}
@@ -14,6 +15,7 @@ use Rattle.sms_driver.proofs.Windows.{map_more}
 use Rattle.sms_driver.proofs.Unbindings.{is_unbound}
 use Rattle.sms_driver.proofs.Returning.{firsts, first_windows, first_holds, more_hold}
 use Rattle.sms_driver.proofs.Places.{same_length}
+use Rattle.sms_driver.proofs.Writing.{none_written, written_more}
 use Rattle.sms_driver.proofs.ending.closing.close_all.Goals as goal
 
 pub take_first-reader-requires : goal.take_first-reader-requires
@@ -45,6 +47,7 @@ loop-shared-init g c = record {
   handed = search rules;
   requests = (let none : c.args.room.items ≡ [] = search rules in sym (append-nil c.args.log.now.requests) ∙ ap (λ l. c.args.log.now.requests ++ flat (map (λ (b : BindEnd). handed_in b.unbind_result) l)) (sym none));
   ended = search rules;
+  written = (let none : 0 ≡ length c.args.room.items = search rules in subst (λ (n : ℕ). AreWritten g.N.LogName.settings n c.args.log.now.given c.args.log.now.given) none (none_written g.N.LogName.settings c.args.log.now.given));
   room = search rules;
 }
 
@@ -68,10 +71,13 @@ loop-shared-preserved g c =
       closings = λ rest h. told_more c.args.remains.workers _ _ _ _ rest _ (HaveClosings c.args.remains.workers c.args.causes.items) (ap (map (λ b. b.closing)) adds ∙ map_more (λ b. b.closing) c.loop-shared.ends.items _) c.next_closing-closing.ensures.left c.next_closing-closing.ensures.closing h (i.closings (_ ∷ rest));
       closed = λ rest h. closed_more c.args.remains.workers _ _ _ _ _ _ _ _ _ _ rest _ (AreClosed c.args.remains.workers (map (λ d. d.seat.view) c.args.remains.readers.items) (map (λ s. s.seat.view) c.args.remains.driver_seats.items) (map (λ s. s.view) c.args.seats.items)) (ap (map (λ b. b.window)) adds ∙ map_more (λ b. b.window) c.loop-shared.ends.items _) (ap (map (λ d. d.seat.view)) c.take_first-reader.ensures) (ap (map (λ s. s.seat.view)) c.take_first-driver_seat.ensures) c.close_one-window.ensures.left c.close_one-window.ensures.closed h (i.closed (_ ∷ rest));
       once = λ rest. i.once (first_once c.args.remains.workers _ _ c.in-Some.shared (map (λ s. s.view) c.loop-shared.seats.items) _ steps c.close_one-window.ensures.left c.close_one-window.ensures.once rest);
-      away = (let a = i.away in let back = c.take.ensures.away in let less = c.close_one-window.ensures.log.away in let some = c.requires.away.0 in omega arith);
+      away = (let a = i.away in let back = c.take.ensures.away in let less = c.close_one-window.ensures.log.0.away in let some = c.requires.away.0 in omega arith);
       handed = own.1;
-      requests = c.close_one-window.ensures.log.requests ∙ append-nil _ ∙ c.take.ensures.requests ∙ (λ j. i.requests j ++ own.0 j) ∙ append_assoc c.args.log.now.requests _ _ ∙ ap (λ l. c.args.log.now.requests ++ l) (sym (flat_more (λ (b : BindEnd). handed_in b.unbind_result) c.loop-shared.ends.items _ _ adds));
+      requests = c.close_one-window.ensures.log.0.requests ∙ append-nil _ ∙ c.take.ensures.requests ∙ (λ j. i.requests j ++ own.0 j) ∙ append_assoc c.args.log.now.requests _ _ ∙ ap (λ l. c.args.log.now.requests ++ l) (sym (flat_more (λ (b : BindEnd). handed_in b.unbind_result) c.loop-shared.ends.items _ _ adds));
       ended = more_hold (IsBindEnd c.args.remains.workers) c.loop-shared.ends.items _ _ adds i.ended (record { workers_are = refl; unbound = is_unbound _ _ _ _ _ _ tried.0.1 c.close_one-window.ensures.closed });
+      written =
+          written_more g.N.LogName.settings (length c.loop-shared.ends.items) 1 _ _ _ _ (ap length adds ∙ length-append c.loop-shared.ends.items _)
+          (subst (AreWritten g.N.LogName.settings (length c.loop-shared.ends.items) c.args.log.now.given) (sym c.take.ensures.given) i.written) c.close_one-window.ensures.log.1;
       room = search rules;
     }
 
@@ -111,4 +117,5 @@ pub returns-clause-log : goal.returns-clause-log
 returns-clause-log g c =
     let none : length (into_iter_items c.loop-shared.shared-iterator) ≡ 0 = search rules in
     let a = c.loop-shared.invariant.away in
-    record { away = omega arith; requests = c.loop-shared.invariant.requests }
+    let all : length c.loop-shared.ends.items ≡ length c.args.remains.shared_binds.items = (let each = c.loop-shared.invariant.each in omega arith) in
+    (record { away = omega arith; requests = c.loop-shared.invariant.requests }, subst (λ (n : ℕ). AreWritten g.N.LogName.settings n c.args.log.now.given c.loop-shared.log.given) all c.loop-shared.invariant.written)

@@ -2,6 +2,7 @@ use Rattle.std.proofs.Common.{◌≡◌, ◌≤◌, ◌+◌, ◌*◌, ◌++◌, 
 use Rattle.std.specs.List.{AllByRecursion}
 use Rattle.std.specs.Vec.Iter.{into_iter_items}
 use Rattle.sms_driver.specs.BindEnds.{outcome_of, IsBindEnd}
+use Rattle.sms_driver.specs.Handed.{AreWritten}
 use Rattle.sms_driver.specs.Rings.{flat}
 use Rattle.sms_driver.specs.Unbinds.{handed_in, HasHanded, HasTried}
 use Rattle.sms_window.specs.declared.outcome.Closed.{Closed}
@@ -28,5 +29,6 @@ invariant-loop-shared g l = record {
   handed : AllByRecursion HasHanded l.driver_seats.items;
   requests : l.log.requests ≡ l.initial.log.requests ++ flat (map (λ b. handed_in b.unbind_result) l.ends.items);
   ended : AllByRecursion (IsBindEnd l.workers) l.ends.items;
+  written : AreWritten g.N.LogName.settings (length l.ends.items) l.initial.log.given l.log.given;
   room : vec_len l.ends + length (into_iter_items l.shared-iterator) ≤ vec_capacity l.ends;
 }

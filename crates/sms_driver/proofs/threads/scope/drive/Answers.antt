@@ -1,6 +1,7 @@
 use Rattle.std.proofs.Common.{◌≡◌, ◌≤◌, ℕ, length, map, take, arith, refl, sym, ap, ◌∙◌, subst}
 use Rattle.std.specs.List.{AllZip}
-use Rattle.std.specs.Prelude.{IfErr, vec_capacity}
+use Rattle.std.specs.Prelude.{IfErr, IsSomeAnd, vec_capacity}
+use Rattle.std.proofs.lemmas.List.{length-map}
 use Rattle.sms_message.specs.declared.rules.Rules.{Rules}
 use Rattle.sms_driver.specs.declared.start_gate.StartGate.{StartGate}
 use Rattle.sms_driver.specs.declared.start_gate.Command.TheVariants.{Go, Leave}
@@ -59,6 +60,13 @@ returns-in-Ok g c =
     let readers = c.start_readers-listening.new.handles.items in
     let results = c.join_all-worker_results.result.items in
     let ends = c.join_all.result.items in
+    let done =
+    subst (λ l. AllZip (IsResultOf rules) l results) all.1
+    (back_zip _ (command_of c.fire-started.result) (λ p. p.assignment.value) (λ p. (p.rules.value ≡ rules) × (p.latch.value ≡ latch)) (IsResultOf rules)
+    (λ p r f b. subst (λ (x : Rules). IsResultOf x p.assignment.value r) f.0 (subst (λ x. IsResultOf p.rules.value p.assignment.value x) b.is (b.keeps.on_go (b.command_is ∙ command))))
+    workers results c.start_workers-start_result.ensures.started.given c.join_all-worker_results.ensures.each)
+    in
+    let long : length c.as_slice-results.result.now ≡ length c.args.tasks.items = ap length c.as_slice-results.ensures.value ∙ zip_length (IsResultOf rules) (map (λ t. t.assignment) c.args.tasks.items) results done ∙ length-map c.args.tasks.items (λ t. t.assignment) in
     let heard =
     subst (λ l. AllZip (λ l d. (d.seat.window ≡ l.0.window) × HasRead rules.turns remaining l.1 d) l ends) listening.1
     (back_zip _ (command_of c.fire-started.result) (λ p. listener_promised p) (λ p. (p.latch.value ≡ latch) × (p.turns ≡ rules.turns)) (λ l d. (d.seat.window ≡ l.0.window) × HasRead rules.turns remaining l.1 d)
@@ -71,11 +79,7 @@ returns-in-Ok g c =
         value = (
           command,
           record {
-            results =
-                subst (λ l. AllZip (IsResultOf rules) l results) all.1
-                (back_zip _ (command_of c.fire-started.result) (λ p. p.assignment.value) (λ p. (p.rules.value ≡ rules) × (p.latch.value ≡ latch)) (IsResultOf rules)
-                (λ p r f b. subst (λ (x : Rules). IsResultOf x p.assignment.value r) f.0 (subst (λ x. IsResultOf p.rules.value p.assignment.value x) b.is (b.keeps.on_go (b.command_is ∙ command))))
-                workers results c.start_workers-start_result.ensures.started.given c.join_all-worker_results.ensures.each);
+            results = done;
             readers =
                 kept_windows (λ l. l.0.window) (λ d. d.seat.window) (map listener_of c.args.reader_tasks.items) ends
                 (zip_to (λ l d. (d.seat.window ≡ l.0.window) × HasRead rules.turns remaining l.1 d) (λ l d. d.seat.window ≡ l.0.window) (λ l d k. k.0) (map listener_of c.args.reader_tasks.items) ends heard)
@@ -83,9 +87,10 @@ returns-in-Ok g c =
             read =
                 subst (λ l. AllZip (HasRead rules.turns remaining) l ends) (map_map listener_of (λ l. l.1) c.args.reader_tasks.items)
                 (zip_given (λ l. l.1) (λ l d. (d.seat.window ≡ l.0.window) × HasRead rules.turns remaining l.1 d) (HasRead rules.turns remaining) (λ l d k. k.1) (map listener_of c.args.reader_tasks.items) ends heard);
-            driver = c.end_binds.ensures.driver_seats ∙ c.requires.seated.driver;
-            asked = c.end_binds.ensures.asked;
-            tried = c.end_binds.ensures.tried;
+            driver = c.end_binds-unbound.ensures.driver_seats ∙ c.requires.seated.driver;
+            asked = c.end_binds-unbound.ensures.asked;
+            tried = c.end_binds-unbound.ensures.tried;
+            behind = subst (λ (n : ℕ). IsSomeAnd c.end_binds-unbound.result (λ u. u.workers ≡ n)) long (c.end_binds-unbound.ensures.behind go);
           },
         );
       };
@@ -131,9 +136,9 @@ returns-in-Err g c =
                   (back_zip _ (command_of c.fire-started.result) (λ p. listener_promised p) (λ p. (p.latch.value ≡ latch) × (p.turns ≡ rules.turns)) (λ given end. IsUnread given.0 given.1.rings end)
                   (λ p r f b. subst (λ x. IsUnread p.seat.value p.producers.value.items x) b.is (b.keeps.on_leave (b.command_is ∙ command)))
                   readers ends c.start_readers-listening.ensures.started.given c.join_all.ensures.each);
-              driver = c.end_binds.ensures.driver_seats ∙ c.requires.seated.driver;
-              asked = c.end_binds.ensures.asked;
-              tried = c.end_binds.ensures.tried;
+              driver = c.end_binds-unbound.ensures.driver_seats ∙ c.requires.seated.driver;
+              asked = c.end_binds-unbound.ensures.asked;
+              tried = c.end_binds-unbound.ensures.tried;
             };
           },
         );
