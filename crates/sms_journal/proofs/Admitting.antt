@@ -1,18 +1,18 @@
 -- What is found of messages and requests among what is kept.
 use Rattle.std.proofs.Common.{◌≡◌, ℕ, ◌+◌, ◌-◌, ◌<◌, List, [], ◌∷◌, ◌++◌, length, Some, None, inl, inr, refl, sym, ap, ◌∙◌, subst, Bool, true, false, take, get_or, arith}
-use Rattle.std.specs.Prelude.{Option, IfSome, IsNone, IsSome, nat_eq, slice_get, if◌then◌else◌, ◌==◌}
-use Rattle.std.specs.HashMap.{get}
+use Rattle.std.specs.Prelude.{Option, IfSome, IsNone, IsSome, slice_get, if◌then◌else◌, ◌==◌}
 use Rattle.std.proofs.lemmas.Option.{get_or_from_slice_get}
 use Rattle.sms_message.specs.declared.message.Message.{Message}
 use Rattle.sms_message.specs.declared.rules.Rules.{Rules}
 use Rattle.sms_journal.specs.declared.notes.note.RequestId.{RequestId}
 use Rattle.sms_journal.specs.declared.notes.note.Note.{Note}
 use Rattle.sms_journal.specs.Recovered.{or_else, fate_of, start_of}
-use Rattle.sms_journal.specs.RunSize.{all_workers}
+use Rattle.sms_journal.specs.DenseMap.{value_at}
+use Rattle.sms_journal.specs.RunSize.{IsDealt, all_workers}
 use Rattle.sms_journal.specs.declared.notes.run_size.RunSize.{RunSize}
 use Rattle.sms_journal.specs.declared.notes.seen.Seen.{Seen}
 use Rattle.sms_journal.specs.declared.notes.seen.Tries.{Tries}
-use Rattle.sms_journal.specs.Lawful.{HasParts, HasTurn, IsRetried, MayTry, message_of, requests_of, with_index}
+use Rattle.sms_journal.specs.Lawful.{HasParts, HasTurn, IsDealtTo, IsRetried, MayTry, message_of, place_from, place_of, requests_of, with_index}
 use Rattle.sms_journal.specs.Seen.{AreTries, IsCounted, IsPlace, Sees}
 use Rattle.sms_journal.proofs.Firsts.{first_snoc}
 use Rattle.sms_journal.proofs.Lists.{got_before, got_last, length_front, take_snoc}
@@ -75,16 +75,75 @@ some_tries rules notes m p may = let few : length (requests_of notes m p) < rule
 
 -- ---- turns
 
-pub some_turn : (rules : Rules) (size : RunSize) (ms : List Message) (notes : List Note) (seen : Seen) (i before : ℕ) → Sees rules size ms notes seen → get nat_eq seen.starts i ≡ None → before + all_workers size ≡ i
-    → IsSome (get nat_eq seen.starts before) → HasTurn size notes i
-some_turn rules size ms notes seen i before sees none is some = record {
-  first = sym (sees.starts i) ∙ none;
-  next = λ b e. let same : before ≡ b = omega (arith, is, e) in subst (λ (k : ℕ). IsSome (start_of notes k)) same (subst IsSome (sees.starts before) some);
+pub no_turn : (size : RunSize) (given : List ℕ) (notes : List Note) (i : ℕ) → place_of given i ≡ None → HasTurn size given notes i → ⊥
+no_turn size given notes i none turn = let is = turn.there in absurd (cc)
+
+-- the first message that a worker was dealt waits for none
+pub first_turn : (size : RunSize) (given : List ℕ) (notes : List Note) (i at : ℕ) → start_of notes i ≡ None → place_of given i ≡ Some at → at < all_workers size → HasTurn size given notes i
+first_turn size given notes i at first there low = record { place = at; there = there; first = first; next = λ before j is got. absurd (omega (arith, low, is)) }
+
+pub no_other : (size : RunSize) (given : List ℕ) (notes : List Note) (i at before : ℕ) → start_of notes i ≡ None → place_of given i ≡ Some at → before + all_workers size ≡ at → slice_get given before ≡ None → HasTurn size given notes i
+no_other size given notes i at before first there is nothing = record {
+  place = at;
+  there = there;
+  first = first;
+  next = λ other j e got. let same : other ≡ before = omega (arith, is, e) in let none : slice_get given other ≡ None = ap (slice_get given) same ∙ nothing in absurd (cc);
 }
 
-pub turn_some : (rules : Rules) (size : RunSize) (ms : List Message) (notes : List Note) (seen : Seen) (i before : ℕ) → Sees rules size ms notes seen → before + all_workers size ≡ i → HasTurn size notes i
-    → IsSome (get nat_eq seen.starts before)
-turn_some rules size ms notes seen i before sees is turn = subst IsSome (sym (sees.starts before)) (turn.next before is)
+pub some_turn : (rules : Rules) (size : RunSize) (ms : List Message) (given : List ℕ) (notes : List Note) (seen : Seen) (i at before j : ℕ) → Sees rules size ms notes seen → start_of notes i ≡ None → place_of given i ≡ Some at
+    → before + all_workers size ≡ at → slice_get given before ≡ Some j → IsSome (value_at seen.starts j) → HasTurn size given notes i
+some_turn rules size ms given notes seen i at before j sees first there is got some = record {
+  place = at;
+  there = there;
+  first = first;
+  next = λ other k e found.
+      let same : other ≡ before = omega (arith, is, e) in
+      let here : slice_get given before ≡ Some k = ap (slice_get given) (sym same) ∙ found in
+      let one : j ≡ k = cc in
+      subst (λ (l : ℕ). IsSome (start_of notes l)) one (subst IsSome (sees.starts j) some);
+}
+
+pub turn_some : (rules : Rules) (size : RunSize) (ms : List Message) (given : List ℕ) (notes : List Note) (seen : Seen) (i at before j : ℕ) → Sees rules size ms notes seen → place_of given i ≡ Some at
+    → before + all_workers size ≡ at → slice_get given before ≡ Some j → HasTurn size given notes i → IsSome (value_at seen.starts j)
+turn_some rules size ms given notes seen i at before j sees there is got turn =
+    let here = turn.there in
+    let same : at ≡ turn.place = cc in
+    subst IsSome (sym (sees.starts j)) (turn.next before j (is ∙ same) got)
+
+-- ---- workers
+
+pub no_place : (size : RunSize) (given : List ℕ) (i worker : ℕ) → place_of given i ≡ None → IsDealtTo size given i worker → ⊥
+no_place size given i worker none h = let is = h.there in absurd (cc)
+
+pub dealt_there : (size : RunSize) (given : List ℕ) (i worker at : ℕ) → place_of given i ≡ Some at → IsDealtTo size given i worker → IsDealt size at worker
+dealt_there size given i worker at here h = let is = h.there in let same : h.place ≡ at = cc in subst (λ (k : ℕ). IsDealt size k worker) same h.its
+
+-- one more index stands behind the others
+order_from : (k : ℕ) (js : List ℕ) (j i : ℕ) → place_from k (js ++ j ∷ []) i ≡ or_else (place_from k js i) (if j == i then Some (k + length js) else None)
+order_from k [] j i = here (j == i)
+  where
+    here : (b : Bool) → (if b then Some k else None) ≡ (if b then Some (k + 0) else None)
+    here true = ap Some (omega arith)
+    here false = refl
+order_from k (x ∷ js) j i = here (x == i) (order_from (k + 1) js j i)
+  where
+    long : (k + 1) + length js ≡ k + length (x ∷ js)
+    long = omega arith
+
+    here : (b : Bool) → place_from (k + 1) (js ++ j ∷ []) i ≡ or_else (place_from (k + 1) js i) (if j == i then Some ((k + 1) + length js) else None)
+        → (if b then Some k else place_from (k + 1) (js ++ j ∷ []) i) ≡ or_else (if b then Some k else place_from (k + 1) js i) (if j == i then Some (k + length (x ∷ js)) else None)
+    here true h = refl
+    here false h = h ∙ ap (λ (n : ℕ). or_else (place_from (k + 1) js i) (if j == i then Some n else None)) long
+
+pub order_more : (js : List ℕ) (k j i : ℕ) (o : Option ℕ) → slice_get js k ≡ Some j → o ≡ place_of (take k js) i → or_else o (if j == i then Some k else None) ≡ place_of (take (k + 1) js) i
+order_more js k j i o there h =
+    let long = length_front js k j there in
+    let count : 0 + length (take k js) ≡ k = omega (arith, long) in
+    let split : place_of (take (k + 1) js) i ≡ place_of (take k js ++ j ∷ []) i = ap (λ (l : List ℕ). place_of l i) (take_snoc js k j there) in
+    let more : place_of (take k js ++ j ∷ []) i ≡ or_else (place_of (take k js) i) (if j == i then Some (0 + length (take k js)) else None) = order_from 0 (take k js) j i in
+    let same : or_else (place_of (take k js) i) (if j == i then Some (0 + length (take k js)) else None) ≡ or_else (place_of (take k js) i) (if j == i then Some k else None) =
+    ap (λ (n : ℕ). or_else (place_of (take k js) i) (if j == i then Some n else None)) count in
+    ap (λ (p : Option ℕ). or_else p (if j == i then Some k else None)) h ∙ sym (split ∙ more ∙ same)
 
 -- ---- counts
 

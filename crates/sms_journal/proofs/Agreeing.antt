@@ -13,6 +13,7 @@ use Rattle.sms_journal.specs.declared.notes.note.Note.{Note}
 use Rattle.sms_message.specs.declared.ends.MessageEnd.{MessageEnd}
 use Rattle.sms_message.specs.declared.ends.Attempt.{Attempt}
 use Rattle.sms_journal.specs.Recovered.{IsRecoveredEnd}
+use Rattle.sms_journal.specs.Rounds.{IsRunEnd, told_by}
 use Rattle.sms_journal.specs.Sums.{segment_without_evidence, result_without_evidence, end_without_evidence}
 use Rattle.sms_journal.proofs.Once.{ends_are_unique}
 use Rattle.sms_files.specs.Report as report
@@ -79,6 +80,14 @@ same_ends rules notes (m ∷ ms) [] fs a b = absurd a
 same_ends rules notes (m ∷ ms) (e ∷ es) [] a b = absurd b
 same_ends rules notes (m ∷ ms) (e ∷ es) (f ∷ fs) a b = λ j. ends_are_unique rules notes m e f a.0 b.0 j ∷ same_ends rules notes ms es fs a.1 b.1 j
 
+pub run_ends_once : (rules : Rules) (notes : List Note) (ms : List Message) (es fs : List (MessageEnd (Unit {0}))) → AllZip (IsRunEnd rules notes) ms es → AllZip (IsRunEnd rules notes) ms fs → es ≡ fs
+run_ends_once rules notes [] [] [] a b = refl
+run_ends_once rules notes [] [] (f ∷ fs) a b = absurd b
+run_ends_once rules notes [] (e ∷ es) fs a b = absurd a
+run_ends_once rules notes (m ∷ ms) [] fs a b = absurd a
+run_ends_once rules notes (m ∷ ms) (e ∷ es) [] a b = absurd b
+run_ends_once rules notes (m ∷ ms) (e ∷ es) (f ∷ fs) a b = λ j. ends_are_unique rules (told_by m.index notes) m e f a.0 b.0 j ∷ run_ends_once rules notes ms es fs a.1 b.1 j
+
 same_at_all : {X : Type 0} (xs ys : List X) → length xs ≡ length ys → ((i : ℕ) (x y : X) → slice_get xs i ≡ Some x → slice_get ys i ≡ Some y → x ≡ y) → xs ≡ ys
 same_at_all [] [] long each = refl
 same_at_all [] (y ∷ ys) long each = absurd (omega (arith, long))
@@ -96,7 +105,7 @@ rows_same os ms found rows others a b = same_at_all rows others (a.count ∙ sym
 
 pub runs_are_recovered : RunsAreRecovered
 runs_are_recovered rules size os ms notes found rows es statement is tells rows_are =
-    let same = same_ends rules notes ms found (map end_without_evidence es) is.tells tells in
+    let same = run_ends_once rules notes ms found (map end_without_evidence es) is.tells tells in
     let its : AreRecoveredRows os ms (map end_without_evidence es) rows = rw (← same) is.rows_are in
     let rows_is = rows_same os ms (map end_without_evidence es) rows statement its rows_are in
     ap (λ (t : List (MessageEnd (Unit {0}))). report_of os t rows) same ∙ ap (report_of os (map end_without_evidence es)) rows_is ∙ reports_agree os es statement

@@ -5,11 +5,11 @@ use Rattle.std.specs.List.{AllByRecursion, position_or_len}
 use Rattle.std.proofs.lemmas.Bool.{both_ways, or_parts, eq-eqb, lt-ltb}
 use Rattle.std.proofs.lemmas.List.Concat.{flat_map-cons}
 use Rattle.sms_journal.specs.declared.notes.note.Note.{Note}
-use Rattle.sms_journal.specs.declared.notes.note.Note.TheVariants.{Begun, Sent, Unsent, Heard, Refused, End}
+use Rattle.sms_journal.specs.declared.notes.note.Note.TheVariants.{Begun, Sent, Unsent, Heard, Refused, End, Round}
 use Rattle.sms_journal.specs.Text.{flag, id_text, note_text}
 use Rattle.sms_message.specs.Names.{refusal_name}
 use Rattle.sms_journal.specs.Lines.{AreNotes, AreU64, IsNote, IsU64, feed_at, timed_text}
-use Rattle.sms_journal.proofs.Fields.{HasNoEnd, begun_line, end_line, flag_low, heard_line, no_end_id, no_end_number, no_end_refusal, refused_line, sent_line, unsent_line}
+use Rattle.sms_journal.proofs.Fields.{HasNoEnd, begun_line, end_line, flag_low, heard_line, no_end_id, no_end_number, no_end_refusal, refused_line, round_line, sent_line, unsent_line}
 use Rattle.sms_journal.proofs.Records.{line_once}
 
 -- no line feed stands in this text
@@ -81,6 +81,12 @@ note_is_line time (Refused m refusal) low h =
 note_is_line time (End status) low h =
     subst IsLine (sym (end_line time status)) (with_field (codes "end") (decimal time ++ 44 ∷ (decimal status ++ 10 ∷ [])) (search rules)
     (with_field (decimal time) (decimal status ++ 10 ∷ []) (no_end_number time low) (last_field (decimal status) (no_end_number status (omega (arith, h))))))
+note_is_line time (Round number binds workers) low h =
+    let X2 = decimal workers ++ 10 ∷ [] in
+    let X1 = decimal binds ++ 44 ∷ X2 in
+    let X0 = decimal number ++ 44 ∷ X1 in
+    subst IsLine (sym (round_line time number binds workers)) (with_field (codes "round") (decimal time ++ 44 ∷ X0) (search rules) (with_field (decimal time) X0 (no_end_number time low)
+    (with_field (decimal number) X1 (no_end_number number (omega (arith, h.0))) (with_field (decimal binds) X2 (no_end_number binds (omega (arith, h.1))) (last_field (decimal workers) (no_end_number workers (omega (arith, h.2))))))))
 
 -- ---- what begins with a line begins with no other
 

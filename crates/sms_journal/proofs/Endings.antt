@@ -9,5 +9,5 @@ use Rattle.sms_journal.specs.Lawful.{IsStatusOf, MayEnd}
 use Rattle.sms_journal.specs.Recovered.{IsRecoveredEnd}
 use Rattle.sms_journal.proofs.Agreeing.{same_ends}
 
-pub status_once : (rules : Rules) (ms : List Message) (notes : List Note) (es : List (MessageEnd (Unit {0}))) (status : ℕ) → AllZip (IsRecoveredEnd rules notes) ms es → MayEnd rules ms notes status → IsStatusOf es status
-status_once rules ms notes es status h may = subst (λ (l : List (MessageEnd (Unit {0}))). IsStatusOf l status) (same_ends rules notes ms may.ends es may.are h) may.status_is
+pub status_once : (rules : Rules) (ms : List Message) (given : List ℕ) (notes : List Note) (es : List (MessageEnd (Unit {0}))) (status : ℕ) → AllZip (IsRecoveredEnd rules notes) ms es → MayEnd rules ms given notes status → IsStatusOf es status
+status_once rules ms given notes es status h may = subst (λ (l : List (MessageEnd (Unit {0}))). IsStatusOf l status) (same_ends rules notes ms may.ends es may.are h) may.status_is

@@ -19,12 +19,12 @@ use Rattle.sms_message.specs.declared.ends.MessageRefusal.TheVariants.{NoAccount
 use Rattle.sms_files.proofs.Lists.{take_whole}
 use Rattle.sms_journal.specs.declared.notes.note.RequestId.{RequestId}
 use Rattle.sms_journal.specs.declared.notes.note.Note.{Note}
-use Rattle.sms_journal.specs.declared.notes.note.Note.TheVariants.{Begun, Sent, Unsent, Heard, Refused, End}
+use Rattle.sms_journal.specs.declared.notes.note.Note.TheVariants.{Begun, Sent, Unsent, Heard, Refused, End, Round}
 use Rattle.sms_journal.specs.declared.text.note_fields.Escape.TheVariants.{Plain, First}
 use Rattle.sms_journal.specs.Text.{flag, hex_digit, hex_octet, id_octet, id_text, is_plain, note_text, number_field}
 use Rattle.sms_message.specs.Names.{refusal_name, refusal_named}
 use Rattle.sms_journal.specs.Lines.{AreIdOctets, IsId, IsNote, IsU32, IsU64}
-use Rattle.sms_journal.specs.Reading.{begun_in, behind_field, digit_in, end_at, end_in, field_in, flag_in, heard_in, heard_of, id_in, is_end, kind_in, note_in, octets_in, refused_in, refused_of, sent_in, time_in, u32_in, u64_in, u8_in, unsent_in}
+use Rattle.sms_journal.specs.Reading.{begun_in, behind_field, digit_in, end_at, end_in, field_in, flag_in, heard_in, heard_of, id_in, is_end, kind_in, note_in, octets_in, refused_in, refused_of, round_in, sent_in, time_in, u32_in, u64_in, u8_in, unsent_in}
 
 -- ---- fields
 
@@ -203,6 +203,20 @@ begun_is m low = ap (λ (f : List ℕ). option_map (λ n. Begun n) (u64_in f)) (
 end_is : (status : ℕ) → status < 256 → end_in (decimal status ++ 10 ∷ []) ≡ Some (End status)
 end_is s low = ap (λ (f : List ℕ). option_map (λ n. End n) (u8_in f)) (number_field_is s 10 [] (omega arith) feed) ∙ ap (option_map (λ n. End n)) (u8_found s low)
 
+round_is : (number binds workers : ℕ) → IsU32 number → IsU32 binds → IsU32 workers → round_in (decimal number ++ 44 ∷ (decimal binds ++ 44 ∷ (decimal workers ++ 10 ∷ []))) ≡ Some (Round number binds workers)
+round_is number binds workers hn hb hw =
+    let X2 = decimal workers ++ 10 ∷ [] in
+    let X1 = decimal binds ++ 44 ∷ X2 in
+    let f0 : field_in (decimal number ++ 44 ∷ X1) ≡ decimal number = number_field_is number 44 X1 (omega arith) comma in
+    let b0 : behind_field (decimal number ++ 44 ∷ X1) ≡ X1 = behind_number_is number 44 X1 (omega arith) comma in
+    let f1 : field_in X1 ≡ decimal binds = number_field_is binds 44 X2 (omega arith) comma in
+    let b1 : behind_field X1 ≡ X2 = behind_number_is binds 44 X2 (omega arith) comma in
+    let f2 : field_in X2 ≡ decimal workers = number_field_is workers 10 [] (omega arith) feed in
+    let u0 : u32_in (decimal number) ≡ Some number = u32_found number hn in
+    let u1 : u32_in (decimal binds) ≡ Some binds = u32_found binds hb in
+    let u2 : u32_in (decimal workers) ≡ Some workers = u32_found workers hw in
+    rw (b0, b1, f0, f1, f2, u0, u1, u2) refl
+
 unsent_is : (request : RequestId) → IsU32 request.worker → IsU32 request.number → unsent_in (decimal request.worker ++ 44 ∷ (decimal request.number ++ 10 ∷ [])) ≡ Some (Unsent request)
 unsent_is request hw hn =
     let w = request.worker in
@@ -282,6 +296,9 @@ refused_is m refusal low =
 regroup5 : (a b c d e : List ℕ) → (((a ++ b) ++ c) ++ d) ++ e ≡ a ++ (b ++ (c ++ (d ++ e)))
 regroup5 a b c d e = simp append_assoc
 
+regroup6 : (a b c d e f : List ℕ) → ((((a ++ b) ++ c) ++ d) ++ e) ++ f ≡ a ++ (b ++ (c ++ (d ++ (e ++ f))))
+regroup6 a b c d e f = simp append_assoc
+
 regroup7 : (a b c d e f g : List ℕ) → (((((a ++ b) ++ c) ++ d) ++ e) ++ f) ++ g ≡ a ++ (b ++ (c ++ (d ++ (e ++ (f ++ g)))))
 regroup7 a b c d e f g = simp append_assoc
 
@@ -309,6 +326,10 @@ refused_line time m refusal = simp append_assoc
 pub end_line : (time status : ℕ) → note_text time (End status) ≡ codes "end" ++ 44 ∷ (decimal time ++ 44 ∷ (decimal status ++ 10 ∷ []))
 end_line time status = simp append_assoc
 
+pub round_line : (time number binds workers : ℕ)
+    → note_text time (Round number binds workers) ≡ codes "round" ++ 44 ∷ (decimal time ++ 44 ∷ (decimal number ++ 44 ∷ (decimal binds ++ 44 ∷ (decimal workers ++ 10 ∷ []))))
+round_line time number binds workers = regroup6 (codes "round") (number_field time) (number_field number) (number_field binds) (number_field workers) (codes "\n")
+
 -- a line that is written of a note is read as the note
 pub note_found : (time : ℕ) (note : Note) → IsU64 time → IsNote note → note_in (note_text time note) ≡ Some note
 note_found time (Begun m) low h = ap note_in (begun_line time m) ∙ head_is (codes "begun") time (decimal m ++ 10 ∷ []) (search rules) low ∙ begun_is m h
@@ -324,6 +345,9 @@ note_found time (Heard by reply) low h =
 note_found time (Refused m refusal) low h =
     ap note_in (refused_line time m refusal) ∙ head_is (codes "refused") time (decimal m ++ 44 ∷ (refusal_name refusal ++ 10 ∷ [])) (search rules) low ∙ refused_is m refusal h
 note_found time (End status) low h = ap note_in (end_line time status) ∙ head_is (codes "end") time (decimal status ++ 10 ∷ []) (search rules) low ∙ end_is status h
+note_found time (Round number binds workers) low h =
+    ap note_in (round_line time number binds workers) ∙ head_is (codes "round") time (decimal number ++ 44 ∷ (decimal binds ++ 44 ∷ (decimal workers ++ 10 ∷ []))) (search rules) low
+    ∙ round_is number binds workers h.0 h.1 h.2
 
 pub time_found : (time : ℕ) (note : Note) → IsU64 time → time_in (note_text time note) ≡ Some time
 time_found time (Begun m) low = ap time_in (begun_line time m) ∙ time_is (codes "begun") time (decimal m ++ 10 ∷ []) (search rules) low
@@ -335,3 +359,5 @@ time_found time (Heard by reply) low =
     ∙ time_is (codes "heard") time (decimal by ++ 44 ∷ (decimal reply.number ++ 44 ∷ (decimal reply.status ++ 44 ∷ (decimal (flag reply.nack) ++ 44 ∷ (id_text reply.id ++ 10 ∷ []))))) (search rules) low
 time_found time (Refused m refusal) low = ap time_in (refused_line time m refusal) ∙ time_is (codes "refused") time (decimal m ++ 44 ∷ (refusal_name refusal ++ 10 ∷ [])) (search rules) low
 time_found time (End status) low = ap time_in (end_line time status) ∙ time_is (codes "end") time (decimal status ++ 10 ∷ []) (search rules) low
+time_found time (Round number binds workers) low =
+    ap time_in (round_line time number binds workers) ∙ time_is (codes "round") time (decimal number ++ 44 ∷ (decimal binds ++ 44 ∷ (decimal workers ++ 10 ∷ []))) (search rules) low

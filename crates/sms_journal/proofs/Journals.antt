@@ -11,7 +11,7 @@ use Rattle.sms_message.specs.declared.rules.Rules.{Rules}
 use Rattle.sms_message.specs.declared.ends.MessageRefusal.{MessageRefusal}
 use Rattle.sms_journal.specs.declared.notes.note.RequestId.{RequestId}
 use Rattle.sms_journal.specs.declared.notes.note.Note.{Note}
-use Rattle.sms_journal.specs.declared.notes.note.Note.TheVariants.{Begun, Sent, Unsent, Heard, Refused, End}
+use Rattle.sms_journal.specs.declared.notes.note.Note.TheVariants.{Begun, Sent, Unsent, Heard, Refused, End, Round}
 use Rattle.sms_message.specs.declared.ends.SegmentEnd.{SegmentEnd}
 use Rattle.sms_message.specs.declared.ends.Attempt.{Attempt}
 use Rattle.sms_message.specs.declared.ends.MessageResult.{MessageResult}
@@ -19,7 +19,7 @@ use Rattle.sms_message.specs.declared.ends.MessageResult.TheVariants as result
 use Rattle.sms_journal.specs.Recovered.{AreRecoveredSegments, IsRecoveredRefusal, IsRecoveredResult, answers_of, fate_in, fate_of, start_in, start_of, attempts_with, attempts_in, attempts_of}
 use Rattle.sms_journal.specs.declared.notes.run_size.RunSize.{RunSize}
 use Rattle.sms_journal.specs.Sums.{parts_in}
-use Rattle.sms_journal.specs.Lawful.{IsJournal, IsRetried, MayFollow}
+use Rattle.sms_journal.specs.Lawful.{IsJournal, IsRetried, MayFollow, indexes_of}
 use Rattle.sms_journal.specs.Laws.{ChargesStayCharges, FrontsAreLawful, HasChargedPart}
 use Rattle.sms_journal.proofs.Charges.{charges_stay}
 use Rattle.sms_journal.proofs.Firsts.{first_of_front}
@@ -53,7 +53,7 @@ module _ {X : Type 0} where
 
 pub front_lawful : FrontsAreLawful
 front_lawful rules size ms notes later all k n at =
-    subst (λ (l : List Note). MayFollow rules size ms l n) (take-append-le k notes later (omega (arith, slice_get_within notes k n at))) (all k n (got_whole notes later k n at))
+    subst (λ (l : List Note). MayFollow rules size ms (indexes_of ms) l n) (take-append-le k notes later (omega (arith, slice_get_within notes k n at))) (all k n (got_whole notes later k n at))
 
 -- ---- each request for a part but its last was answered by a retry status
 
@@ -81,6 +81,7 @@ sent_of notes m p (Unsent request) k t e = absurd (cc)
 sent_of notes m p (Heard by reply) k t e = absurd (cc)
 sent_of notes m p (Refused i r) k t e = absurd (cc)
 sent_of notes m p (End s) k t e = absurd (cc)
+sent_of notes m p (Round number binds workers) k t e = absurd (cc)
 
 -- one request before others
 retried_step : (number : ℕ) (o : Option (Option Reply)) (rest : List (Attempt (Unit {0}))) → AreRetried (answers_of rest) → ((y : Attempt (Unit {0})) (ys : List (Attempt (Unit {0}))) → rest ≡ y ∷ ys → IsRetried o) → AreRetried (answers_of (attempts_with number o ++ rest))
@@ -115,6 +116,7 @@ all_retried notes m p (n ∷ ns) over = step n refl (all_retried notes m p ns (�
     step (Heard by reply) is all = all
     step (Refused i r) is all = all
     step (End s) is all = all
+    step (Round number binds workers) is all = all
 
 pub journal_retried : (rules : Rules) (size : RunSize) (ms : List Message) (notes : List Note) (m p : ℕ) → IsJournal rules size ms notes → AreRetried (answers_of (attempts_of notes m p))
 journal_retried rules size ms notes m p all = all_retried notes m p notes (earlier_over rules size ms notes m p all)

@@ -1,11 +1,11 @@
 -- Lines that are read one after another.
-use Rattle.std.proofs.Common.{◌≡◌, ℕ, false, List, [], ◌∷◌, ◌++◌, length, take, Some, None, refl, sym, ap, ◌∙◌, append-nil}
+use Rattle.std.proofs.Common.{◌≡◌, ℕ, false, List, [], ◌∷◌, ◌++◌, length, take, Some, None, inl, refl, sym, ap, ◌∙◌, append-nil}
 use Rattle.std.specs.Prelude.{flat_map}
 use Rattle.std.proofs.Math.Seq.{take-append_seam}
 use Rattle.std.proofs.lemmas.Grind.{flat_map-append}
 use Rattle.std.proofs.lemmas.List.{map-append}
 use Rattle.sms_journal.specs.declared.notes.note.Note.{Note}
-use Rattle.sms_journal.specs.declared.text.header.Digests.{Digests}
+use Rattle.sms_journal.specs.declared.text.digests.FileTies.{FileTies}
 use Rattle.sms_journal.specs.declared.text.header.JournalKind.TheVariants.{Run, Trial}
 use Rattle.sms_journal.specs.Text.{header_text, note_text}
 use Rattle.sms_journal.specs.Lines.{AreLines, AreU64, IsLineOf, IsNote, IsTruncated, IsU64, IsUnbegun, TruncatesHeader, timed_text}
@@ -61,5 +61,5 @@ lines_more lines line notes note so here =
 -- ---- headers
 
 -- a text without an octet is that of a run
-pub unbegun_trial : (digests : Digests) (text : List ℕ) → IsTruncated Run digests text false → TruncatesHeader Trial digests text → IsUnbegun Trial digests text
-unbegun_trial digests text other is = record { truncated = is; empty = λ none. absurd (other (header_text Run digests, ap (λ (l : List ℕ). l ++ header_text Run digests) (sym none))) }
+pub unbegun_trial : (files : FileTies) (text : List ℕ) → IsTruncated Run files text false → TruncatesHeader Trial files text → IsUnbegun Trial files text
+unbegun_trial files text other is = record { truncated = is; empty = λ none. absurd (other (inl (header_text Run files.digests, ap (λ (l : List ℕ). l ++ header_text Run files.digests) (sym none)))) }

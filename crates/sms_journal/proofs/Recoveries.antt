@@ -12,11 +12,10 @@ use Rattle.sms_message.specs.declared.rules.Rules.{Rules}
 use Rattle.sms_journal.specs.declared.notes.note.Note.{Note}
 use Rattle.sms_journal.specs.declared.notes.run_size.RunSize.{RunSize}
 use Rattle.sms_message.specs.declared.ends.MessageEnd.{MessageEnd}
-use Rattle.sms_journal.specs.Lawful.{IsFirstFault, IsJournal}
-use Rattle.sms_journal.specs.Recovered.{IsRecoveredEnd}
+use Rattle.sms_journal.specs.Rounds.{IsFirstRunFault, IsRunEnd, IsRunJournal}
 use Rattle.sms_journal.specs.Sums.{AreCovered}
 use Rattle.sms_journal.specs.Files.{IsCut, octets_read}
-use Rattle.sms_journal.specs.Recovering.{IsRecovered, Recovers, IsFaultOfNotes, IsFaultOfRecovery}
+use Rattle.sms_journal.specs.Recovering.{IsRecovered, Recovers, IsFaultOfNotes, IsFaultOfRecovery, IsFaultOfReport}
 use Rattle.sms_files.specs.Report.{report_of, ends_status}
 use Rattle.sms_journal.specs.declared.recovery.fault.RecoveryFault.{RecoveryFault}
 use Rattle.sms_journal.specs.Faults.{out_of_memory}
@@ -28,7 +27,7 @@ tariff_read None = refl
 tariff_read (Some x) = refl
 
 -- the fault of a note that may not follow
-pub note_fault : (rules : Rules) (size : RunSize) (ms : List Message) (notes : List Note) (fault : RecoveryFault) (place : ℕ) → (place < length notes → fault ≡ Journal (place + 2)) → IsFirstFault rules size ms notes place
+pub note_fault : (rules : Rules) (size : RunSize) (ms : List Message) (notes : List Note) (fault : RecoveryFault) (place : ℕ) → (place < length notes → fault ≡ Journal (place + 2)) → IsFirstRunFault rules size ms notes place
     → IsFaultOfNotes rules size ms notes fault
 note_fault rules size ms notes fault place is h = inr (place, is (slice_get_within notes place h.note h.there), h)
 
@@ -40,6 +39,10 @@ module _ (rules : Rules) (size : RunSize) (os : List Opening) (ms : List Message
   cut_off rows is fault (inl memory) = inl (inl memory)
   cut_off rows is fault (inr h) = inr (inr (h.0, record { ends = ends; rows = rows; is = is; front = h.1 }))
 
-  pub overdrawn : IsJournal rules size ms notes → AllZip (IsRecoveredEnd rules notes) ms ends → (fault : RecoveryFault) → (fault ≡ out_of_memory) ⊎ ((fault ≡ Overdrawn) × ¬ AreCovered os ms ends) → IsFaultOfRecovery rules size os ms notes old new fault
+  pub overdrawn : IsRunJournal rules size ms notes → AllZip (IsRunEnd rules notes) ms ends → (fault : RecoveryFault) → (fault ≡ out_of_memory) ⊎ ((fault ≡ Overdrawn) × ¬ AreCovered os ms ends) → IsFaultOfReport rules size os ms notes fault
   overdrawn lawful tells fault (inl memory) = inl (inl memory)
-  overdrawn lawful tells fault (inr h) = inr (inl (h.0, record { lawful = lawful; ends = ends; tells = tells; overdrawn = h.1 }))
+  overdrawn lawful tells fault (inr h) = inr (h.0, record { lawful = lawful; ends = ends; tells = tells; overdrawn = h.1 })
+
+  pub of_report : (fault : RecoveryFault) → IsFaultOfReport rules size os ms notes fault → IsFaultOfRecovery rules size os ms notes old new fault
+  of_report fault (inl h) = inl h
+  of_report fault (inr h) = inr (inl h)

@@ -1,6 +1,6 @@
 -- What is kept of notes, with one more.
-use Rattle.std.proofs.Common.{◌≡◌, ℕ, ◌+◌, ◌-◌, ◌*◌, List, [], ◌∷◌, ◌++◌, length, Some, None, inl, inr, refl, sym, ap, ◌∙◌, subst, Bool, true, false, true≢false, arith}
-use Rattle.std.specs.Prelude.{Option, take, if◌then◌else◌, ◌==◌, ◌&&◌, nat_eq}
+use Rattle.std.proofs.Common.{◌≡◌, ℕ, ◌+◌, ◌-◌, List, [], ◌∷◌, ◌++◌, length, Some, None, inl, inr, refl, sym, ap, ◌∙◌, subst, Bool, true, false, true≢false, arith}
+use Rattle.std.specs.Prelude.{◌↔◌, Option, IsSome, take, if◌then◌else◌, ◌==◌, ◌&&◌, nat_eq}
 use Rattle.std.specs.HashMap.{get}
 use Rattle.std.proofs.Common.{append-nil, length-append}
 use Rattle.std.proofs.lemmas.Bool.{eqb-true, eqb-false, eq-eqb}
@@ -11,12 +11,14 @@ use Rattle.sms_message.specs.declared.rules.Rules.{Rules}
 use Rattle.sms_message.specs.declared.ends.MessageRefusal.{MessageRefusal}
 use Rattle.sms_journal.specs.declared.notes.note.RequestId.{RequestId}
 use Rattle.sms_journal.specs.declared.notes.note.Note.{Note}
-use Rattle.sms_journal.specs.declared.notes.note.Note.TheVariants.{Begun, Sent, Unsent, Heard, Refused, End}
+use Rattle.sms_journal.specs.declared.notes.note.Note.TheVariants.{Begun, Sent, Unsent, Heard, Refused, End, Round}
 use Rattle.sms_journal.specs.declared.notes.seen.Seen.{Seen}
-use Rattle.sms_journal.specs.Recovered.{or_else, fate_in, fate_of, start_in, start_of}
+use Rattle.sms_journal.specs.DenseMap.{value_at, value_in}
+use Rattle.sms_journal.specs.Recovered.{or_else, fate_in, fate_of, first_in, start_in, start_of}
+use Rattle.sms_journal.specs.RunSize.{bind_of}
 use Rattle.sms_journal.specs.declared.notes.seen.Tries.{Tries}
 use Rattle.sms_journal.specs.declared.notes.run_size.RunSize.{RunSize}
-use Rattle.sms_journal.specs.Lawful.{Follows, HasParts, IsAbove, IsJournal, IsRetried, MayFollow, MayTry, end_in, requests_in, requests_of, sent_in, user_in}
+use Rattle.sms_journal.specs.Lawful.{Follows, HasParts, IsAbove, IsRetried, IsRound, MayFollow, MayTry, end_in, requests_in, requests_of, sent_in, user_in, user_of}
 use Rattle.sms_journal.specs.Seen.{AreTries, IsCounted, IsCountFor, IsKept, IsGreatest, IsLast, IsLatest, Sees, count_in, latest_in, left_by, tries_in}
 use Rattle.sms_files.proofs.Lists.{got_of_append}
 use Rattle.sms_journal.proofs.Firsts.{first_snoc}
@@ -76,6 +78,7 @@ latest_more notes (Unsent request) w o above h = latest_same notes (Unsent reque
 latest_more notes (Heard by reply) w o above h = latest_same notes (Heard by reply) w o (λ request m p e. absurd (cc)) h
 latest_more notes (Refused i r) w o above h = latest_same notes (Refused i r) w o (λ request m p e. absurd (cc)) h
 latest_more notes (End s) w o above h = latest_same notes (End s) w o (λ request m p e. absurd (cc)) h
+latest_more notes (Round number binds workers) w o above h = latest_same notes (Round number binds workers) w o (λ request m p e. absurd (cc)) h
 
 -- ---- the requests for a part
 
@@ -101,6 +104,7 @@ no_request (Unsent request) m p new = refl
 no_request (Heard by reply) m p new = refl
 no_request (Refused i r) m p new = refl
 no_request (End s) m p new = refl
+no_request (Round number binds workers) m p new = refl
 
 same_requests : (notes : List Note) (n : Note) (m p : ℕ) → ((request : RequestId) → n ≡ Sent request m p → ⊥) → requests_of (notes ++ n ∷ []) m p ≡ requests_of notes m p
 same_requests notes n m p new = requests_more notes n m p ∙ ap (λ l. requests_of notes m p ++ l) (no_request n m p new) ∙ append-nil (requests_of notes m p)
@@ -155,23 +159,24 @@ tries_new rules notes request m p o may h = (last_new rules notes request m p ma
 tries_more : (rules : Rules) (notes : List Note) (n : Note) (m p : ℕ) (o : Option Tries) → ((request : RequestId) (i q : ℕ) → n ≡ Sent request i q → MayTry rules notes i q) → AreTries rules notes m p o
     → AreTries rules (notes ++ n ∷ []) m p (tries_in rules.policy.attempts m p n o)
 tries_more rules notes (Begun i) m p o again h = tries_same rules notes (Begun i) m p o (λ request e. absurd (cc)) h
-tries_more rules notes (Sent request i q) m p o again h = here (i == m && (q == p)) refl
+tries_more rules notes (Sent request i q) m p o again h = here (q == p && (i == m)) refl
   where
     new : Option Tries
     new = Some (record { last = request; left = left_by rules.policy.attempts o - 1 })
 
-    here : (b : Bool) → (i == m && (q == p)) ≡ b → AreTries rules (notes ++ Sent request i q ∷ []) m p (if b then new else o)
+    here : (b : Bool) → (q == p && (i == m)) ≡ b → AreTries rules (notes ++ Sent request i q ∷ []) m p (if b then new else o)
     here true e =
-        let f = both (i == m) (q == p) e in
-        let x = eqb-true i m f.0 in
-        let y = eqb-true q p f.1 in
+        let f = both (q == p) (i == m) e in
+        let x = eqb-true i m f.1 in
+        let y = eqb-true q p f.0 in
         let may = subst (λ (j : ℕ). MayTry rules notes j p) x (subst (λ (j : ℕ). MayTry rules notes i j) y (again request i q refl)) in
         subst (λ (j : ℕ). AreTries rules (notes ++ Sent request j q ∷ []) m p new) (sym x) (subst (λ (j : ℕ). AreTries rules (notes ++ Sent request m j ∷ []) m p new) (sym y) (tries_new rules notes request m p o may h))
-    here false e = tries_same rules notes (Sent request i q) m p o (λ other f. let x : i ≡ m = cc in let y : q ≡ p = cc in true≢false (sym (equal i m x q p y) ∙ e)) h
+    here false e = tries_same rules notes (Sent request i q) m p o (λ other f. let x : i ≡ m = cc in let y : q ≡ p = cc in true≢false (sym (equal q p y i m x) ∙ e)) h
 tries_more rules notes (Unsent request) m p o again h = tries_same rules notes (Unsent request) m p o (λ request e. absurd (cc)) h
 tries_more rules notes (Heard by reply) m p o again h = tries_same rules notes (Heard by reply) m p o (λ request e. absurd (cc)) h
 tries_more rules notes (Refused i r) m p o again h = tries_same rules notes (Refused i r) m p o (λ request e. absurd (cc)) h
 tries_more rules notes (End s) m p o again h = tries_same rules notes (End s) m p o (λ request e. absurd (cc)) h
+tries_more rules notes (Round number binds workers) m p o again h = tries_same rules notes (Round number binds workers) m p o (λ request e. absurd (cc)) h
 
 -- ---- how many parts a message has
 
@@ -199,33 +204,93 @@ counted_more rules size ms (Refused j r) count i start o counts h = here (j == i
     here true begun = h (refused_first start r begun)
     here false begun = h (none_first start begun)
 counted_more rules size ms (End s) count i start o counts h = λ begun. h (none_first start begun)
+counted_more rules size ms (Round number binds workers) count i start o counts h = λ begun. h (none_first start begun)
+
+-- ---- what is a request's
+
+none_more : (s : Option Note) (u : Option ℕ) (w : ℕ) → IsSome s ↔ (u ≡ Some w) → IsSome (or_else s None) ↔ (or_else u None ≡ Some w)
+none_more None None w h = h
+none_more None (Some x) w h = h
+none_more (Some n) None w h = h
+none_more (Some n) (Some x) w h = h
+
+some_before : (s : Option Note) → IsSome (or_else s None) → IsSome s
+some_before None h = h
+some_before (Some n) h = h
+
+some_since : (s : Option Note) (n : Note) → IsSome (or_else s (Some n))
+some_since None n = refl
+some_since (Some m) n = refl
+
+-- a number that nobody at the bind used, by its worker and by another
+sent_new : (s : Option Note) (u : Option ℕ) (n : Note) (w x : ℕ) → u ≡ None → x ≡ w → IsSome (or_else s (Some n)) ↔ (or_else u (Some x) ≡ Some w)
+sent_new s u n w x unused same = ((λ yes. ap (λ o. or_else o (Some x)) unused ∙ ap Some same), (λ is. some_since s n))
+
+sent_by_another : (s : Option Note) (u : Option ℕ) (w x : ℕ) → u ≡ None → (x ≡ w → ⊥) → IsSome s ↔ (u ≡ Some w) → IsSome (or_else s None) ↔ (or_else u (Some x) ≡ Some w)
+sent_by_another s u w x unused other h = (
+  (λ yes. let is : u ≡ Some w = h.0 (some_before s yes) in absurd (cc)),
+  (λ is. let e : or_else None (Some x) ≡ Some w = ap (λ o. or_else o (Some x)) (sym unused) ∙ is in let same : x ≡ w = cc in absurd (other same)),
+)
+
+sent_more : (size : RunSize) (n : Note) (w k : ℕ) (s : Option Note) (u : Option ℕ) → ((request : RequestId) (m p : ℕ) → n ≡ Sent request m p → bind_of size request.worker ≡ bind_of size w → request.number ≡ k → u ≡ None)
+    → IsSome s ↔ (u ≡ Some w) → IsSome (or_else s (sent_in w k n)) ↔ (or_else u (user_in size (bind_of size w) k n) ≡ Some w)
+sent_more size (Begun i) w k s u new h = none_more s u w h
+sent_more size (Sent request i p) w k s u new h = here (request.worker == w) (request.number == k) (bind_of size request.worker == bind_of size w) refl refl refl
+  where
+    unused : (request.number == k) ≡ true → (bind_of size request.worker == bind_of size w) ≡ true → u ≡ None
+    unused number bind = new request i p refl (eqb-true (bind_of size request.worker) (bind_of size w) bind) (eqb-true request.number k number)
+
+    here : (a b c : Bool) → (request.worker == w) ≡ a → (request.number == k) ≡ b → (bind_of size request.worker == bind_of size w) ≡ c
+        → IsSome (or_else s (if a && b then Some (Sent request i p) else None)) ↔ (or_else u (if c && b then Some request.worker else None) ≡ Some w)
+    here true true true e f g = sent_new s u (Sent request i p) w request.worker (unused f g) (eqb-true request.worker w e)
+    here true true false e f g = absurd (eqb-false (bind_of size request.worker) (bind_of size w) g (ap (bind_of size) (eqb-true request.worker w e)))
+    here false true true e f g = sent_by_another s u w request.worker (unused f g) (eqb-false request.worker w e) h
+    here false true false e f g = none_more s u w h
+    here true false true e f g = none_more s u w h
+    here true false false e f g = none_more s u w h
+    here false false true e f g = none_more s u w h
+    here false false false e f g = none_more s u w h
+sent_more size (Unsent request) w k s u new h = none_more s u w h
+sent_more size (Heard by reply) w k s u new h = none_more s u w h
+sent_more size (Refused i r) w k s u new h = none_more s u w h
+sent_more size (End status) w k s u new h = none_more s u w h
+sent_more size (Round number binds workers) w k s u new h = none_more s u w h
 
 -- ---- all of it
 
-above_of : (rules : Rules) (size : RunSize) (ms : List Message) (notes : List Note) (n : Note) → Follows rules size ms notes n → (request : RequestId) (m p : ℕ) → n ≡ Sent request m p → IsAbove notes request
-above_of rules size ms notes n may request m p e = (subst (Follows rules size ms notes) e may).number.above
+unused_of : (rules : Rules) (size : RunSize) (ms : List Message) (given : List ℕ) (notes : List Note) (n : Note) → Follows rules size ms given notes n → (request : RequestId) (m p : ℕ) → n ≡ Sent request m p
+    → user_of size notes (bind_of size request.worker) request.number ≡ None
+unused_of rules size ms given notes n may request m p e = (subst (Follows rules size ms given notes) e may).number.unused
 
-again_of : (rules : Rules) (size : RunSize) (ms : List Message) (notes : List Note) (n : Note) → Follows rules size ms notes n → (request : RequestId) (m p : ℕ) → n ≡ Sent request m p → MayTry rules notes m p
-again_of rules size ms notes n may request m p e = (subst (Follows rules size ms notes) e may).again
+above_of : (rules : Rules) (size : RunSize) (ms : List Message) (given : List ℕ) (notes : List Note) (n : Note) → Follows rules size ms given notes n → (request : RequestId) (m p : ℕ) → n ≡ Sent request m p → IsAbove notes request
+above_of rules size ms given notes n may request m p e = (subst (Follows rules size ms given notes) e may).number.above
 
-pub sees_more : (rules : Rules) (size : RunSize) (ms : List Message) (notes : List Note) (n : Note) (count : ℕ) (old new : Seen) → IsKept rules size n count old new → Sees rules size ms notes old
-    → MayFollow rules size ms notes n → IsCountFor rules size ms n count → Sees rules size ms (notes ++ n ∷ []) new
-sees_more rules size ms notes n count old new kept sees may counts = record {
+again_of : (rules : Rules) (size : RunSize) (ms : List Message) (given : List ℕ) (notes : List Note) (n : Note) → Follows rules size ms given notes n → (request : RequestId) (m p : ℕ) → n ≡ Sent request m p → MayTry rules notes m p
+again_of rules size ms given notes n may request m p e = (subst (Follows rules size ms given notes) e may).again
+
+pub sees_more : (rules : Rules) (size : RunSize) (ms : List Message) (given : List ℕ) (notes : List Note) (n : Note) (count : ℕ) (old new : Seen) → IsKept rules size n count old new → Sees rules size ms notes old
+    → MayFollow rules size ms given notes n → IsCountFor rules size ms n count → Sees rules size ms (notes ++ n ∷ []) new
+sees_more rules size ms given notes n count old new kept sees may counts = record {
   starts = λ i. kept.starts i ∙ ap (λ o. or_else o (start_in i n)) (sees.starts i) ∙ sym (first_snoc (start_in i) notes n);
   counts = λ i begun. subst (IsCounted rules size ms i) (sym (kept.counts i))
-      (counted_more rules size ms n count i (start_of notes i) (get nat_eq old.counts i) counts (sees.counts i) (sym (first_snoc (start_in i) notes n) ∙ begun));
-  sent = λ w k low. kept.sent w k low ∙ ap (λ o. or_else o (sent_in w k n)) (sees.sent w k low) ∙ sym (first_snoc (sent_in w k) notes n);
-  fates = λ w k low. kept.fates w k low ∙ ap (λ o. or_else o (fate_in w k n)) (sees.fates w k low) ∙ sym (first_snoc (fate_in w k) notes n);
-  latest = λ w. subst (IsLatest (notes ++ n ∷ []) w) (sym (kept.latest w)) (latest_more notes n w (get nat_eq old.latest w) (above_of rules size ms notes n may.follows) (sees.latest w));
-  users = λ b k low. kept.users b k low ∙ ap (λ o. or_else o (user_in size b k n)) (sees.users b k low) ∙ sym (first_snoc (user_in size b k) notes n);
-  tries = λ m p low. subst (AreTries rules (notes ++ n ∷ []) m p) (sym (kept.tries m p low)) (tries_more rules notes n m p (get nat_eq old.tries (m * 256 + p)) (again_of rules size ms notes n may.follows) (sees.tries m p low));
+      (counted_more rules size ms n count i (start_of notes i) (value_at old.counts i) counts (sees.counts i) (sym (first_snoc (start_in i) notes n) ∙ begun));
+  sent = λ w k.
+      let unused = λ (request : RequestId) (m p : ℕ) (e : n ≡ Sent request m p) (bind : bind_of size request.worker ≡ bind_of size w) (number : request.number ≡ k).
+      sees.users (bind_of size w) k ∙ ap (λ b. user_of size notes b k) (sym bind) ∙ ap (λ j. user_of size notes (bind_of size request.worker) j) (sym number) ∙ unused_of rules size ms given notes n may.follows request m p e in
+      subst (λ (s : Option Note). IsSome s ↔ (value_in new.users (bind_of size w) k ≡ Some w)) (sym (first_snoc (sent_in w k) notes n))
+      (subst (λ (u : Option ℕ). IsSome (or_else (first_in (sent_in w k) notes) (sent_in w k n)) ↔ (u ≡ Some w)) (sym (kept.users (bind_of size w) k))
+      (sent_more size n w k (first_in (sent_in w k) notes) (value_in old.users (bind_of size w) k) unused (sees.sent w k)));
+  fates = λ w k. kept.fates w k ∙ ap (λ o. or_else o (fate_in w k n)) (sees.fates w k) ∙ sym (first_snoc (fate_in w k) notes n);
+  latest = λ w. subst (IsLatest (notes ++ n ∷ []) w) (sym (kept.latest w)) (latest_more notes n w (get nat_eq old.latest w) (above_of rules size ms given notes n may.follows) (sees.latest w));
+  users = λ b k. kept.users b k ∙ ap (λ o. or_else o (user_in size b k n)) (sees.users b k) ∙ sym (first_snoc (user_in size b k) notes n);
+  tries = λ m p. subst (AreTries rules (notes ++ n ∷ []) m p) (sym (kept.tries m p)) (tries_more rules notes n m p (value_in old.tries p m) (again_of rules size ms given notes n may.follows) (sees.tries m p));
   end = kept.end ∙ ap (λ o. or_else o (end_in n)) sees.end ∙ sym (first_snoc end_in notes n);
 }
 
-pub journal_more : (rules : Rules) (size : RunSize) (ms : List Message) (notes : List Note) (n : Note) → IsJournal rules size ms notes → MayFollow rules size ms notes n → IsJournal rules size ms (notes ++ n ∷ [])
-journal_more rules size ms notes n all may k x there = elim (got_of_append notes n k x there) [
-  | inl before ↦ subst (λ (l : List Note). MayFollow rules size ms l x) (sym (take_within notes n k x before)) (all k x before)
+pub round_more : (rules : Rules) (size : RunSize) (ms : List Message) (given : List ℕ) (notes : List Note) (n : Note) → IsRound rules size ms given notes → MayFollow rules size ms given notes n → IsRound rules size ms given (notes ++ n ∷ [])
+round_more rules size ms given notes n all may k x there = elim (got_of_append notes n k x there) [
+  | inl before ↦ subst (λ (l : List Note). MayFollow rules size ms given l x) (sym (take_within notes n k x before)) (all k x before)
   | inr last ↦
-      subst (λ (j : ℕ). MayFollow rules size ms (take j (notes ++ n ∷ [])) x) (sym last.0)
-      (subst (λ (l : List Note). MayFollow rules size ms l x) (sym (take_before notes n)) (subst (MayFollow rules size ms notes) (sym last.1) may))
+      subst (λ (j : ℕ). MayFollow rules size ms given (take j (notes ++ n ∷ [])) x) (sym last.0)
+      (subst (λ (l : List Note). MayFollow rules size ms given l x) (sym (take_before notes n)) (subst (MayFollow rules size ms given notes) (sym last.1) may))
 ]

@@ -1,5 +1,5 @@
 -- How far the first records of a report are.
-use Rattle.std.proofs.Common.{◌≡◌, ◌≢◌, ◌≤◌, ◌⊎◌, ◌∙◌, inl, inr, refl, sym, ap, ℕ, zero, suc, ◌+◌, true, false, List, [], ◌∷◌, length, map, take, subst, Some, None, add-one, arith}
+use Rattle.std.proofs.Common.{◌≡◌, ◌≢◌, ◌≤◌, ◌⊎◌, ◌∙◌, inr, refl, sym, ap, ℕ, zero, suc, ◌+◌, true, false, List, [], ◌∷◌, length, map, take, subst, Some, None, add-one, arith}
 use Rattle.std.specs.Prelude.{Option, slice_get, string_bytes}
 use Rattle.sms_book.specs.declared.opening.Opening.{Opening}
 use Rattle.sms_core.specs.declared.row.Row.{Row}

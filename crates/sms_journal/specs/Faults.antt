@@ -2,7 +2,7 @@
 use Rattle.sms_files.specs.declared.report.fault.OutputFault.{OutputFault}
 use Rattle.sms_files.specs.declared.report.fault.OutputFault.TheVariants as output
 use Rattle.sms_journal.specs.declared.recovery.fault.RecoveryFault.{RecoveryFault}
-use Rattle.std.specs.Prelude.{ℕ, ⊤}
+use Rattle.std.specs.Prelude.{⊤}
 use Rattle.sms_journal.specs.declared.recovery.fault.RecoveryFault.TheVariants.{Output, OutOfMemory}
 use Rattle.sms_journal.specs.declared.error.JournalError.{JournalError}
 use Rattle.sms_journal.specs.declared.error.JournalError.TheVariants as journal

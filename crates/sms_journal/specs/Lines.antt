@@ -3,12 +3,14 @@ use Rattle.std.specs.Prelude.{◌≡◌, ◌≢◌, ℕ, ◌+◌, ◌<◌, ◌�
 use Rattle.sms_journal.specs.declared.error.JournalError.{JournalError}
 use Rattle.sms_journal.specs.declared.error.JournalError.TheVariants.{BadRecord, OtherFiles, BadNote, Overdrawn, OutOfMemory}
 use Rattle.sms_journal.specs.declared.text.digests.RunFile.{RunFile}
+use Rattle.sms_journal.specs.declared.text.digests.FileTies.{FileTies}
+use Rattle.sms_journal.specs.declared.text.header.ConfigTie.{ConfigTie}
 use Rattle.sms_journal.specs.declared.text.header.Digests.{Digests}
 use Rattle.sms_journal.specs.declared.text.header.JournalKind.{JournalKind}
 use Rattle.sms_journal.specs.declared.text.header.JournalKind.TheVariants.{Run}
-use Rattle.sms_journal.specs.Digests.{AreDigests, DiffersFirst}
+use Rattle.sms_journal.specs.Digests.{AreDigests, DiffersFirst, IsTie, first_in_tie, keyed, tied_as}
 use Rattle.sms_journal.specs.declared.notes.note.Note.{Note}
-use Rattle.sms_journal.specs.declared.notes.note.Note.TheVariants.{Begun, Sent, Unsent, Heard, Refused, End}
+use Rattle.sms_journal.specs.declared.notes.note.Note.TheVariants.{Begun, Sent, Unsent, Heard, Refused, End, Round}
 use Rattle.sms_journal.specs.Text.{header_text, note_text}
 
 -- ---- notes that a run can write: their numbers are those of their fields
@@ -35,6 +37,7 @@ IsNote (Unsent request) = IsU32 request.worker × IsU32 request.number
 IsNote (Heard by reply) = IsU32 by × IsU32 reply.number × IsU32 reply.status × IsId reply.id
 IsNote (Refused m refusal) = IsU64 m
 IsNote (End status) = status < 256
+IsNote (Round number binds workers) = IsU32 number × IsU32 binds × IsU32 workers
 
 -- ---- lines
 
@@ -103,48 +106,65 @@ pub record IsBadLine (place : ℕ) (text : List ℕ) : Type 0 where
 pub record IsBegun (kind : JournalKind) (digests : Digests) (text behind : List ℕ) : Type 0 where
   pub is : text ≡ header_text kind digests ++ behind
 
--- the text is a truncated header
-abbrev pub TruncatesHeader : JournalKind → Digests → List ℕ → Type 0
-TruncatesHeader kind digests text = (rest : List ℕ) × (header_text kind digests ≡ text ++ rest)
+-- the text is a truncated header that says these digests
+abbrev pub IsFrontOf : JournalKind → Digests → List ℕ → Type 0
+IsFrontOf kind digests text = (rest : List ℕ) × (header_text kind digests ≡ text ++ rest)
 
-abbrev pub IsTruncated : JournalKind → Digests → List ℕ → Bool → Type 0
-IsTruncated kind digests text true = TruncatesHeader kind digests text
-IsTruncated kind digests text false = ¬ TruncatesHeader kind digests text
+abbrev pub IsFront : JournalKind → Digests → List ℕ → Bool → Type 0
+IsFront kind digests text true = IsFrontOf kind digests text
+IsFront kind digests text false = ¬ IsFrontOf kind digests text
+
+-- or one of these files, tied to their config in one way or the other
+abbrev pub TruncatesHeader : JournalKind → FileTies → List ℕ → Type 0
+TruncatesHeader kind files text = IsFrontOf kind files.digests text ⊎ IsFrontOf kind (keyed files.keys files.digests) text
+
+abbrev pub IsTruncated : JournalKind → FileTies → List ℕ → Bool → Type 0
+IsTruncated kind files text true = TruncatesHeader kind files text
+IsTruncated kind files text false = ¬ TruncatesHeader kind files text
 
 -- so nothing was noted; where there is no octet the journal is of a run
-pub record IsUnbegun (kind : JournalKind) (digests : Digests) (text : List ℕ) : Type 0 where
-  pub truncated : TruncatesHeader kind digests text
+pub record IsUnbegun (kind : JournalKind) (files : FileTies) (text : List ℕ) : Type 0 where
+  pub truncated : TruncatesHeader kind files text
   pub empty : text ≡ [] → kind ≡ Run
 
--- the text is a journal of this kind, of these files, that has these notes
-abbrev pub IsJournalText : Digests → List ℕ → JournalKind → List Note → Type 0
-IsJournalText digests text kind notes = ((behind : List ℕ) × IsBegun kind digests text behind × AreNotes behind notes) ⊎ (IsUnbegun kind digests text × (notes ≡ []))
+-- the text begins with the header of a journal of these files, tied to their config so
+pub record IsBegunSo (kind : JournalKind) (tie : ConfigTie) (files : FileTies) (text behind : List ℕ) : Type 0 where
+  pub tied : IsTie tie
+  pub begun : IsBegun kind (tied_as tie files) text behind
+  pub same : (tied_as tie files).config ≡ tie
 
--- the text begins with the header of a journal of other files, of which this is the first that differs
-pub record IsOfOthers (digests : Digests) (text : List ℕ) (file : RunFile) : Type 0 where
+-- the text is a journal of this kind, of these files, that says these binds and workers of its run's first round, if any, and has these notes
+abbrev pub IsJournalText : FileTies → List ℕ → JournalKind → Option (ℕ × ℕ) → List Note → Type 0
+IsJournalText files text kind first notes =
+    ((tie : ConfigTie) × (behind : List ℕ) × IsBegunSo kind tie files text behind × (first ≡ first_in_tie tie) × AreNotes behind notes)
+    ⊎ (IsUnbegun kind files text × (first ≡ None) × (notes ≡ []))
+
+-- the text begins with the header of a journal of others, of which this is the first that differs
+pub record IsOfOthers (files : FileTies) (text : List ℕ) (what : RunFile) : Type 0 where
   pub kind : JournalKind
   pub others : Digests
   pub behind : List ℕ
   pub are : AreDigests others
   pub begun : IsBegun kind others text behind
-  pub differs : DiffersFirst others digests file
+  pub differs : DiffersFirst others (tied_as others.config files) what
 
 -- its first record is no header, of whatever files, and the text isn't a truncated header of these files
-pub record HasNoHeader (digests : Digests) (text : List ℕ) : Type 0 where
+pub record HasNoHeader (files : FileTies) (text : List ℕ) : Type 0 where
   pub begun : (kind : JournalKind) (others : Digests) (behind : List ℕ) → AreDigests others → text ≢ header_text kind others ++ behind
-  pub unbegun : (kind : JournalKind) → IsTruncated kind digests text false
+  pub unbegun : (kind : JournalKind) → IsTruncated kind files text false
 
 -- the first faulty record of the text is the one at this place
-abbrev pub IsBadRecord : Digests → List ℕ → ℕ → Type 0
-IsBadRecord digests text place = ((place ≡ 1) × HasNoHeader digests text) ⊎ ((kind : JournalKind) × (behind : List ℕ) × IsBegun kind digests text behind × IsBadLine place behind)
+abbrev pub IsBadRecord : FileTies → List ℕ → ℕ → Type 0
+IsBadRecord files text place =
+    ((place ≡ 1) × HasNoHeader files text) ⊎ ((kind : JournalKind) × (tie : ConfigTie) × (behind : List ℕ) × IsBegunSo kind tie files text behind × IsBadLine place behind)
 
 -- what is wrong with it
-abbrev pub IsFaultyText : Digests → List ℕ → JournalError → Type 0
-IsFaultyText digests text (BadRecord place) = IsBadRecord digests text place
-IsFaultyText digests text (OtherFiles file) = IsOfOthers digests text file
-IsFaultyText digests text (BadNote place) = ⊥
-IsFaultyText digests text Overdrawn = ⊥
-IsFaultyText digests text (OutOfMemory refused) = ⊤
+abbrev pub IsFaultyText : FileTies → List ℕ → JournalError → Type 0
+IsFaultyText files text (BadRecord place) = IsBadRecord files text place
+IsFaultyText files text (OtherFiles what) = IsOfOthers files text what
+IsFaultyText files text (BadNote place) = ⊥
+IsFaultyText files text Overdrawn = ⊥
+IsFaultyText files text (OutOfMemory refused) = ⊤
 
 abbrev pub AreFaultyLines : List ℕ → JournalError → Type 0
 AreFaultyLines text (BadRecord place) = IsBadLine place text

@@ -6,7 +6,7 @@ use Rattle.sms_core.specs.Decimal.{decimal_in}
 use Rattle.sms_pdu.specs.Reply.{id_text as id_before_zero}
 use Rattle.sms_message.specs.Names.{refusal_named}
 use Rattle.sms_journal.specs.declared.notes.note.Note.{Note}
-use Rattle.sms_journal.specs.declared.notes.note.Note.TheVariants.{Begun, Sent, Unsent, Heard, Refused, End}
+use Rattle.sms_journal.specs.declared.notes.note.Note.TheVariants.{Begun, Sent, Unsent, Heard, Refused, End, Round}
 use Rattle.sms_journal.specs.declared.text.note_fields.Escape.{Escape}
 use Rattle.sms_journal.specs.declared.text.note_fields.Escape.TheVariants.{Plain, First, Second}
 
@@ -91,6 +91,12 @@ refused_in text = refused_of (field_in text) (field_in (behind_field text))
 abbrev pub end_in : List ℕ → Option Note
 end_in text = option_map (λ s. End s) (u8_in (field_in text))
 
+abbrev pub round_of : List ℕ → List ℕ → List ℕ → Option Note
+round_of number binds workers = option_and_then (λ n. option_and_then (λ b. option_map (λ w. Round n b w) (u32_in workers)) (u32_in binds)) (u32_in number)
+
+abbrev pub round_in : List ℕ → Option Note
+round_in text = round_of (field_in text) (field_in (behind_field text)) (field_in (behind_field (behind_field text)))
+
 abbrev pub kind_in : List ℕ → List ℕ → Option Note
 kind_in word text =
     if bytes_eq word (codes "sent") then sent_in text
@@ -98,7 +104,8 @@ kind_in word text =
     else (if bytes_eq word (codes "begun") then begun_in text
     else (if bytes_eq word (codes "refused") then refused_in text
     else (if bytes_eq word (codes "unsent") then unsent_in text
-    else (if bytes_eq word (codes "end") then end_in text else None)))))
+    else (if bytes_eq word (codes "end") then end_in text
+    else (if bytes_eq word (codes "round") then round_in text else None))))))
 
 -- ---- lines
 

@@ -15,7 +15,7 @@ use Rattle.sms_message.specs.Submits.{coded_text, message_parts, reference_of}
 use Rattle.sms_message.specs.Admission.{IsShort}
 use Rattle.sms_message.specs.Results.{read_reply}
 use Rattle.sms_journal.specs.declared.notes.note.Note.{Note}
-use Rattle.sms_journal.specs.declared.notes.note.Note.TheVariants.{Begun, Sent, Unsent, Heard, Refused, End}
+use Rattle.sms_journal.specs.declared.notes.note.Note.TheVariants.{Begun, Sent, Unsent, Heard, Refused, End, Round}
 use Rattle.sms_message.specs.declared.ends.Attempt.{Attempt}
 use Rattle.sms_message.specs.declared.ends.SegmentEnd.{SegmentEnd}
 use Rattle.sms_message.specs.declared.ends.MessageResult.{MessageResult}
@@ -46,6 +46,7 @@ fate_in worker number (Unsent request) = if request.worker == worker && (request
 fate_in worker number (Heard by reply) = if by == worker && (reply.number == number) then Some (Some reply) else None
 fate_in worker number (Refused m refusal) = None
 fate_in worker number (End status) = None
+fate_in worker number (Round round binds workers) = None
 
 -- what the first note of that says
 abbrev pub fate_of : List Note → ℕ → ℕ → Option (Option Reply)
@@ -67,6 +68,7 @@ attempts_in notes m p (Unsent request) = []
 attempts_in notes m p (Heard worker reply) = []
 attempts_in notes m p (Refused m' refusal) = []
 attempts_in notes m p (End status) = []
+attempts_in notes m p (Round number binds workers) = []
 
 -- all of them, in the order of the notes
 abbrev pub attempts_of : List Note → ℕ → ℕ → List (Attempt (Unit {0}))
@@ -91,19 +93,11 @@ start_in m (Unsent request) = None
 start_in m (Heard worker reply) = None
 start_in m (Refused m' refusal) = if m' == m then Some (Some refusal) else None
 start_in m (End status) = None
+start_in m (Round number binds workers) = None
 
 -- what the first note of that says
 abbrev pub start_of : List Note → ℕ → Option (Option MessageRefusal)
 start_of notes m = first_in (start_in m) notes
-
--- the note itself, where it is one of this message
-abbrev pub note_about : ℕ → Note → List Note
-note_about m (Begun m') = if m' == m then Begun m' ∷ [] else []
-note_about m (Sent request m' p) = if m' == m then Sent request m' p ∷ [] else []
-note_about m (Unsent request) = []
-note_about m (Heard worker reply) = []
-note_about m (Refused m' refusal) = if m' == m then Refused m' refusal ∷ [] else []
-note_about m (End status) = []
 
 -- it was begun, and has a part for each of its cutting
 pub record AreRecoveredSegments (rules : Rules) (notes : List Note) (m : Message) (parts : List (SegmentEnd (Unit {0}))) : Type 0 where

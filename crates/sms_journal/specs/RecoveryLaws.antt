@@ -8,7 +8,7 @@ use Rattle.sms_message.specs.declared.rules.Rules.{Rules}
 use Rattle.sms_journal.specs.declared.notes.note.Note.{Note}
 use Rattle.sms_journal.specs.declared.notes.run_size.RunSize.{RunSize}
 use Rattle.sms_message.specs.declared.ends.MessageEnd.{MessageEnd}
-use Rattle.sms_journal.specs.Recovered.{IsRecoveredEnd}
+use Rattle.sms_journal.specs.Rounds.{IsRunEnd}
 use Rattle.sms_journal.specs.Sums.{end_without_evidence}
 use Rattle.sms_files.specs.Report.{ends_status, report_of}
 use Rattle.sms_journal.specs.Recovering.{AreRecoveredRows, IsRecovered}
@@ -25,7 +25,7 @@ StatusesAgree = (ends : List (MessageEnd (List ℕ))) → ends_status (map end_w
 abbrev pub RunsAreRecovered : Type 0
 RunsAreRecovered =
     (rules : Rules) (size : RunSize) (os : List Opening) (ms : List Message) (notes : List Note) (found : List (MessageEnd (Unit {0}))) (rows : List Row) (ends : List (MessageEnd (List ℕ))) (statement : List Row)
-    → IsRecovered rules size os ms notes found rows → AllZip (IsRecoveredEnd rules notes) ms (map end_without_evidence ends) → AreRecoveredRows os ms (map end_without_evidence ends) statement
+    → IsRecovered rules size os ms notes found rows → AllZip (IsRunEnd rules notes) ms (map end_without_evidence ends) → AreRecoveredRows os ms (map end_without_evidence ends) statement
     → report_of os found rows ≡ report_of os ends statement
 
 -- in each row of what is recovered no more is reserved and charged than the account opened with

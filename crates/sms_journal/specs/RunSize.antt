@@ -9,7 +9,7 @@ all_workers size = size.binds * size.workers
 abbrev pub bind_of : RunSize → ℕ → ℕ
 bind_of size worker = worker / max size.workers 1
 
--- the message with this index is this worker's
-pub record IsDealt (size : RunSize) (i worker : ℕ) : Type 0 where
+-- the message at this place is this worker's
+pub record IsDealt (size : RunSize) (place worker : ℕ) : Type 0 where
   pub exists : worker < all_workers size
-  pub turn : i % all_workers size ≡ worker
+  pub turn : place % all_workers size ≡ worker

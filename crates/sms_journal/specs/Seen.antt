@@ -1,17 +1,22 @@
 -- What a checker of notes keeps of those that it has seen.
-use Rattle.std.specs.Prelude.{◌≡◌, ◌⊎◌, ℕ, ◌+◌, ◌-◌, ◌*◌, ◌<◌, ◌≤◌, ◌==◌, ◌&&◌, nat_eq, List, [], length, Option, Some, None, slice_get, if◌then◌else◌}
-use Rattle.std.specs.HashMap.{HashMap, get}
+use Rattle.std.specs.Prelude.{◌≡◌, ◌⊎◌, ◌↔◌, ℕ, ◌-◌, ◌≤◌, ◌==◌, ◌&&◌, nat_eq, List, [], length, Option, Some, None, IsSome, slice_get, if◌then◌else◌}
+use Rattle.std.specs.HashMap.{get}
 use Rattle.sms_message.specs.declared.message.Message.{Message}
 use Rattle.sms_message.specs.declared.rules.Rules.{Rules}
+use Rattle.sms_message.specs.declared.ends.MessageRefusal.{MessageRefusal}
 use Rattle.sms_journal.specs.declared.notes.note.RequestId.{RequestId}
 use Rattle.sms_journal.specs.declared.notes.note.Note.{Note}
-use Rattle.sms_journal.specs.declared.notes.note.Note.TheVariants.{Begun, Sent, Unsent, Heard, Refused, End}
+use Rattle.sms_journal.specs.declared.notes.note.Note.TheVariants.{Begun, Sent, Unsent, Heard, Refused, End, Round}
 use Rattle.sms_journal.specs.declared.notes.run_size.RunSize.{RunSize}
 use Rattle.sms_journal.specs.declared.notes.seen.Seen.{Seen}
 use Rattle.sms_journal.specs.declared.notes.seen.Tries.{Tries}
+use Rattle.sms_journal.specs.declared.notes.given.Given.{Given}
+use Rattle.sms_journal.specs.declared.notes.dense_map.DenseMap.{DenseMap}
+use Rattle.sms_journal.specs.DenseMap.{value_at, value_in}
 use Rattle.sms_journal.specs.Index.{AreFates}
-use Rattle.sms_journal.specs.Lawful.{HasParts, IsRetried, end_in, end_of, message_of, requests_of, sent_in, user_in, user_of}
+use Rattle.sms_journal.specs.Lawful.{HasParts, IsRetried, end_in, end_of, message_of, place_of, requests_of, sent_in, user_in, user_of}
 use Rattle.sms_journal.specs.Recovered.{or_else, fate_in, fate_of, first_in, start_in, start_of}
+use Rattle.sms_journal.specs.RunSize.{bind_of}
 
 -- ---- messages by their indexes
 
@@ -20,8 +25,17 @@ abbrev pub IsPlace : List Message → ℕ → Option ℕ → Type 0
 IsPlace ms i None = message_of ms i ≡ None
 IsPlace ms i (Some k) = (m : Message) × (slice_get ms k ≡ Some m) × (message_of ms i ≡ Some m)
 
-abbrev pub ArePlaces : {S : Type 0} → List Message → HashMap ℕ ℕ S → Type 0
-ArePlaces ms places = (i : ℕ) → IsPlace ms i (get nat_eq places i)
+abbrev pub ArePlaces : List Message → DenseMap ℕ → Type 0
+ArePlaces ms places = (i : ℕ) → IsPlace ms i (value_at places i)
+
+-- the places of indexes in a list
+abbrev pub AreOrdered : List ℕ → DenseMap ℕ → Type 0
+AreOrdered js order = (i : ℕ) → value_at order i ≡ place_of js i
+
+-- the places of all messages, and those of the messages that the round was given
+pub record IsGiven (ms : List Message) (g : Given) : Type 0 where
+  pub places : ArePlaces ms g.places
+  pub order : AreOrdered g.indexes.items g.order
 
 -- ---- what a note makes of what is kept
 
@@ -33,6 +47,7 @@ latest_in worker (Unsent request) kept = kept
 latest_in worker (Heard by reply) kept = kept
 latest_in worker (Refused m refusal) kept = kept
 latest_in worker (End status) kept = kept
+latest_in worker (Round number binds workers) kept = kept
 
 -- how often a part may be sent yet, before another request for it
 abbrev pub left_by : ℕ → Option Tries → ℕ
@@ -42,11 +57,12 @@ left_by attempts (Some tries) = tries.left
 -- the latest request of a part, and how often it may be sent after that
 abbrev pub tries_in : ℕ → ℕ → ℕ → Note → Option Tries → Option Tries
 tries_in attempts m p (Begun m') kept = kept
-tries_in attempts m p (Sent request m' p') kept = if m' == m && (p' == p) then Some (record { last = request; left = left_by attempts kept - 1 }) else kept
+tries_in attempts m p (Sent request m' p') kept = if p' == p && (m' == m) then Some (record { last = request; left = left_by attempts kept - 1 }) else kept
 tries_in attempts m p (Unsent request) kept = kept
 tries_in attempts m p (Heard by reply) kept = kept
 tries_in attempts m p (Refused m' refusal) kept = kept
 tries_in attempts m p (End status) kept = kept
+tries_in attempts m p (Round number binds workers) kept = kept
 
 -- how many parts a message has that was begun
 abbrev pub count_in : ℕ → ℕ → Note → Option ℕ → Option ℕ
@@ -56,6 +72,7 @@ count_in count m (Unsent request) kept = kept
 count_in count m (Heard by reply) kept = kept
 count_in count m (Refused m' refusal) kept = kept
 count_in count m (End status) kept = kept
+count_in count m (Round number binds workers) kept = kept
 
 -- ---- what that says of the notes
 
@@ -93,15 +110,19 @@ abbrev pub IsCounted : Rules → RunSize → List Message → ℕ → Option ℕ
 IsCounted rules size ms i None = ⊥
 IsCounted rules size ms i (Some count) = HasParts rules size ms i count
 
--- a worker's number and a part's are below 2^32 and 2^8, so that keys are distinct
+-- how each message was begun
+abbrev pub HasStarts : List Note → DenseMap (Option MessageRefusal) → Type 0
+HasStarts notes starts = (i : ℕ) → value_at starts i ≡ start_of notes i
+
+-- a request was noted where its worker used its number: no other worker of its bind used that
 pub record Sees (rules : Rules) (size : RunSize) (ms : List Message) (notes : List Note) (seen : Seen) : Type 0 where
-  pub starts : (i : ℕ) → get nat_eq seen.starts i ≡ start_of notes i
-  pub counts : (i : ℕ) → start_of notes i ≡ Some None → IsCounted rules size ms i (get nat_eq seen.counts i)
-  pub sent : (worker number : ℕ) → number < 4294967296 → get nat_eq seen.sent (worker * 4294967296 + number) ≡ first_in (sent_in worker number) notes
+  pub starts : HasStarts notes seen.starts
+  pub counts : (i : ℕ) → start_of notes i ≡ Some None → IsCounted rules size ms i (value_at seen.counts i)
+  pub sent : (worker number : ℕ) → IsSome (first_in (sent_in worker number) notes) ↔ (value_in seen.users (bind_of size worker) number ≡ Some worker)
   pub fates : AreFates notes seen.fates
   pub latest : (worker : ℕ) → IsLatest notes worker (get nat_eq seen.latest worker)
-  pub users : (bind number : ℕ) → number < 4294967296 → get nat_eq seen.users (bind * 4294967296 + number) ≡ user_of size notes bind number
-  pub tries : (m p : ℕ) → p < 256 → AreTries rules notes m p (get nat_eq seen.tries (m * 256 + p))
+  pub users : (bind number : ℕ) → value_in seen.users bind number ≡ user_of size notes bind number
+  pub tries : (m p : ℕ) → AreTries rules notes m p (value_in seen.tries p m)
   pub end : seen.end ≡ end_of notes
 
 -- the count that is kept with the note of a message's beginning
@@ -112,14 +133,14 @@ IsCountFor rules size ms (Unsent request) count = Unit {0}
 IsCountFor rules size ms (Heard by reply) count = Unit {0}
 IsCountFor rules size ms (Refused i refusal) count = Unit {0}
 IsCountFor rules size ms (End status) count = Unit {0}
+IsCountFor rules size ms (Round number binds workers) count = Unit {0}
 
 -- each map as it was with what the note makes of it
 pub record IsKept (rules : Rules) (size : RunSize) (n : Note) (count : ℕ) (old new : Seen) : Type 0 where
-  pub starts : (i : ℕ) → get nat_eq new.starts i ≡ or_else (get nat_eq old.starts i) (start_in i n)
-  pub counts : (i : ℕ) → get nat_eq new.counts i ≡ count_in count i n (get nat_eq old.counts i)
-  pub sent : (w k : ℕ) → k < 4294967296 → get nat_eq new.sent (w * 4294967296 + k) ≡ or_else (get nat_eq old.sent (w * 4294967296 + k)) (sent_in w k n)
-  pub fates : (w k : ℕ) → k < 4294967296 → get nat_eq new.fates (w * 4294967296 + k) ≡ or_else (get nat_eq old.fates (w * 4294967296 + k)) (fate_in w k n)
+  pub starts : (i : ℕ) → value_at new.starts i ≡ or_else (value_at old.starts i) (start_in i n)
+  pub counts : (i : ℕ) → value_at new.counts i ≡ count_in count i n (value_at old.counts i)
+  pub fates : (w k : ℕ) → value_in new.fates w k ≡ or_else (value_in old.fates w k) (fate_in w k n)
   pub latest : (w : ℕ) → get nat_eq new.latest w ≡ latest_in w n (get nat_eq old.latest w)
-  pub users : (b k : ℕ) → k < 4294967296 → get nat_eq new.users (b * 4294967296 + k) ≡ or_else (get nat_eq old.users (b * 4294967296 + k)) (user_in size b k n)
-  pub tries : (m p : ℕ) → p < 256 → get nat_eq new.tries (m * 256 + p) ≡ tries_in rules.policy.attempts m p n (get nat_eq old.tries (m * 256 + p))
+  pub users : (b k : ℕ) → value_in new.users b k ≡ or_else (value_in old.users b k) (user_in size b k n)
+  pub tries : (m p : ℕ) → value_in new.tries p m ≡ tries_in rules.policy.attempts m p n (value_in old.tries p m)
   pub end : new.end ≡ or_else old.end (end_in n)

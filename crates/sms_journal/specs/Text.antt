@@ -1,11 +1,13 @@
 -- The text of a journal: a header, and a line for each note. Lines are records of CSV, of which no field wants quotes.
 use Rattle.std.specs.Prelude.{ℕ, ◌+◌, ◌/◌, ◌%◌, ◌==◌, ◌&&◌, not, nat_le, nat_lt, Bool, List, [], ◌∷◌, ◌++◌, Option, Some, None, if◌then◌else◌, codes, decimal, flat_map}
 use Rattle.sms_message.specs.Names.{refusal_name}
+use Rattle.sms_journal.specs.declared.text.header.ConfigTie.{ConfigTie}
+use Rattle.sms_journal.specs.declared.text.header.ConfigTie.TheVariants.{Keys, Octets}
 use Rattle.sms_journal.specs.declared.text.header.Digests.{Digests}
 use Rattle.sms_journal.specs.declared.text.header.JournalKind.{JournalKind}
 use Rattle.sms_journal.specs.declared.text.header.JournalKind.TheVariants.{Run, Trial}
 use Rattle.sms_journal.specs.declared.notes.note.Note.{Note}
-use Rattle.sms_journal.specs.declared.notes.note.Note.TheVariants.{Begun, Sent, Unsent, Heard, Refused, End}
+use Rattle.sms_journal.specs.declared.notes.note.Note.TheVariants.{Begun, Sent, Unsent, Heard, Refused, End, Round}
 
 -- ---- hexadecimal digits, the greater half first
 
@@ -47,6 +49,7 @@ note_text time (Heard by reply) =
     codes "heard" ++ number_field time ++ number_field by ++ number_field reply.number ++ number_field reply.status ++ number_field (flag reply.nack) ++ codes "," ++ id_text reply.id ++ codes "\n"
 note_text time (Refused m refusal) = codes "refused" ++ number_field time ++ number_field m ++ codes "," ++ refusal_name refusal ++ codes "\n"
 note_text time (End status) = codes "end" ++ number_field time ++ number_field status ++ codes "\n"
+note_text time (Round number binds workers) = codes "round" ++ number_field time ++ number_field number ++ number_field binds ++ number_field workers ++ codes "\n"
 
 -- a digest; nothing stands for that of a file that there isn't
 abbrev pub digest_field : List ℕ → List ℕ
@@ -60,6 +63,11 @@ abbrev pub kind_word : JournalKind → List ℕ
 kind_word Run = codes "journal"
 kind_word Trial = codes "trial"
 
+-- what a journal is tied to of its run's config: all its octets (version 1), or what a report is computed by (version 2)
+abbrev pub tie_text : ConfigTie → List ℕ
+tie_text (Octets digest) = codes ",1" ++ digest_field digest
+tie_text (Keys keys) = codes ",2" ++ number_field keys.attempts ++ number_field (flag keys.long_reference) ++ number_field keys.binds ++ number_field keys.workers
+
 -- the first line: of what the journal is, and of which files
 abbrev pub header_text : JournalKind → Digests → List ℕ
-header_text kind d = kind_word kind ++ codes ",1" ++ digest_field d.config ++ digest_field d.accounts ++ digest_field d.messages ++ tariff_field d.tariff ++ codes "\n"
+header_text kind d = kind_word kind ++ tie_text d.config ++ digest_field d.accounts ++ digest_field d.messages ++ tariff_field d.tariff ++ codes "\n"

@@ -3,17 +3,25 @@
 
 #![tactic(auto)]
 
+pub mod audit;
+pub mod bill;
 mod error;
+pub mod further;
 pub mod laws;
 mod notes;
 pub mod recovery;
 pub mod rest;
 mod text;
 
+pub use audit::{AuditFault, run_audit};
+pub use bill::{Listing, run_listing};
 pub use error::JournalError;
-pub use notes::{Note, RequestId, RunSize, check_notes, recover, recovered_rows};
-pub use recovery::{Recovered, RecoveryFault, run_recover};
+pub use notes::{
+    Note, RequestId, RunSize, check_notes, check_rounds, recover, recover_rounds, recovered_rows,
+};
+pub use recovery::{JournaledRun, Recovered, RecoveryFault, read_run, run_recover};
 pub use rest::{run_rest, run_rest_accounts};
 pub use text::{
-    Digests, JournalKind, JournalNotes, RunFile, digests_of, read_notes, write_header, write_note,
+    ConfigTie, Digests, FileTies, JournalKind, JournalNotes, ReportKeys, RunFile, digests_of,
+    keys_of, read_notes, write_header, write_note,
 };

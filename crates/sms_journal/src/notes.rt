@@ -1,18 +1,27 @@
 //! Notes: whether a run can have written them, and what they say of each message and each account.
 
 mod checking;
+mod dense_map;
 mod ending;
 mod ends;
-mod fates;
+pub(crate) mod fates;
+mod given;
 mod grouping;
 mod note;
+mod rounds;
 mod rows;
+mod run_ends;
 mod run_size;
 mod seen;
+mod starts;
 mod verdict;
 
 pub use checking::check_notes;
 pub use ends::recover;
 pub use note::{Note, RequestId};
+pub use rounds::check_rounds;
+pub(crate) use rounds::check_with_ends;
 pub use rows::recovered_rows;
+pub use run_ends::recover_rounds;
+pub(crate) use run_ends::round_in;
 pub use run_size::RunSize;

@@ -6,7 +6,9 @@ mod files;
 mod journaled;
 pub mod laws;
 mod recovering;
+mod resuming;
 
 pub use fault::RecoveryFault;
 pub(crate) use files::input_of;
 pub use recovering::{Recovered, run_recover};
+pub use resuming::{JournaledRun, read_run};

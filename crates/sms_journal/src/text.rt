@@ -7,7 +7,9 @@ mod note_fields;
 mod note_line;
 mod reader;
 
-pub use digests::{RunFile, digests_of};
-pub use header::{Digests, JournalKind, write_header};
+pub use digests::{FileTies, RunFile, digests_of, keys_of};
+pub use header::{ConfigTie, Digests, JournalKind, ReportKeys, write_header};
+pub(crate) use note_fields::time_in;
 pub use note_line::write_note;
 pub use reader::{JournalNotes, read_notes};
+pub(crate) use reader::{feed_at, read_line};

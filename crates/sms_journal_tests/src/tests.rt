@@ -34,6 +34,7 @@ enum Row {
     Heard(u32, u32, bool),
     Refused(u64),
     End,
+    Round,
 }
 
 /// The end of a message: the outcome of its one part, and the number of its attempts.
@@ -202,6 +203,7 @@ fn note_of(row: Row) -> Note {
         ),
         Row::Refused(message) => Note::Refused(message, MessageRefusal::NoCredit),
         Row::End => Note::End(0),
+        Row::Round => Note::Round(2, 4, 8),
     }
 }
 

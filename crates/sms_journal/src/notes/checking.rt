@@ -1,29 +1,38 @@
 //! The check that a run can have written these notes.
 
-ghost use Rattle.std.specs.Prelude.{◌≡◌, ◌↔◌, ℕ, if◌then◌else◌, [], List, Some, None, IfErr, IfOk, IfSome, IsNone, IsErrOf, IsTrue, OnOk, take};
+ghost use Rattle.std.specs.Prelude.{◌≡◌, ◌↔◌, ℕ, if◌then◌else◌, [], List, Some, None, IfErr, IfOk, IfSome, IsNone, IsErrOf, IsTrue, OnOk, slice_get, take};
 ghost use Rattle.sms_message.specs.declared.message.Message.{Message as TheMessage};
 ghost use Rattle.sms_message.specs.declared.rules.Rules.{Rules as TheRules};
 ghost use Rattle.sms_journal.specs.declared.notes.note.Note.{Note as TheNote};
 ghost use Rattle.sms_journal.specs.declared.notes.run_size.RunSize.{RunSize as TheRunSize};
-ghost use Rattle.sms_journal.specs.Lawful.{Follows, HasParts, HasRefusal, HasTurn, IsFirstFault, IsJournal, MayEnd, MayFollow, MaySend};
-ghost use Rattle.sms_journal.specs.Seen.{ArePlaces, IsCountFor, IsKept, Sees};
+ghost use Rattle.sms_journal.specs.Lawful.{Follows, HasParts, HasRefusal, HasTurn, IsFirstFault, IsFirstOff, IsJournal, IsRound, MayEnd, MayFollow, MaySend};
+ghost use Rattle.sms_journal.specs.Seen.{AreOrdered, IsCountFor, IsGiven, IsKept, Sees};
 ghost use Rattle.sms_journal.specs.Faults.{IsOfNotes};
 ghost use Rattle.sms_journal.specs.declared.error.JournalError.TheVariants.{BadNote};
 
 use crate::error::JournalError;
+use crate::notes::dense_map::{DenseMap, get_in};
 use crate::notes::ending::may_end;
-use crate::notes::fates::{keep_fate, key};
+use crate::notes::fates::keep_fate;
+use crate::notes::given::{Given, all_given};
 use crate::notes::note::{Note, RequestId};
 use crate::notes::run_size::{RunSize, all_workers, bind_of, is_dealt};
 use crate::notes::seen::{
-    Seen, keep_count, keep_end, keep_latest, keep_sent, keep_start, keep_tries, keep_user, part_key,
+    Seen, keep_count, keep_end, keep_latest, keep_start, keep_tries, keep_user,
 };
-use crate::notes::verdict::{has_refusal, parts_of, places_of};
+use crate::notes::verdict::{has_refusal, parts_of};
 use sms_core::{TOP_NUMBER, is_retry};
 use sms_files::memory::NoMemory;
 use sms_message::{Message, MessageRefusal, Rules};
 use std::alloc::Global;
 use std::collections::HashMap;
+
+/// The index at a place.
+fn index_at(indexes: &[u64], place: usize) -> Option<u64>
+    ensures { result ≡ slice_get indexes.now place }
+{
+    indexes.get(place).copied()
+}
 
 impl Seen {
     ghost use Rattle.std.specs.Prelude.{◌≡◌, ◌↔◌, ℕ, List, IsTrue, None, OnOk, []};
@@ -34,14 +43,20 @@ impl Seen {
     ghost use Rattle.sms_journal.specs.Lawful.{HasTurn, IsAbove, IsNewNumber, IsOpen, IsRetried, MayTry, user_of};
     ghost use Rattle.sms_journal.specs.RunSize.{bind_of as its_bind};
     ghost use Rattle.sms_journal.specs.Recovered.{fate_of};
-    ghost use Rattle.sms_journal.specs.Seen.{Sees};
+    ghost use Rattle.sms_journal.specs.Seen.{AreOrdered, Sees};
 
     /// Whether the request was noted, and neither an answer to it nor that it was not sent.
-    fn is_open(&self, worker: u32, number: u32) -> bool
-        ensures { (rules : TheRules) (size : TheRunSize) (ms : List TheMessage) (notes : List TheNote) → Sees rules size ms notes self.now → IsTrue result ↔ IsOpen notes worker number }
+    fn is_open(&self, size: RunSize, worker: u32, number: u32) -> bool
+        ensures { (rules : TheRules) (ms : List TheMessage) (notes : List TheNote) → Sees rules size ms notes self.now → IsTrue result ↔ IsOpen notes worker number }
     {
-        let key = key(worker, number);
-        self.sent.contains_key(&key) && !self.fates.contains_key(&key)
+        let number = u64::from(number);
+        if get_in(&self.fates, worker, number).is_some() {
+            return false;
+        }
+        match get_in(&self.users, bind_of(size, worker), number) {
+            Some(user) => user == worker,
+            None => false,
+        }
     }
 
     /// Whether its number is above those of all requests of its worker so far.
@@ -58,8 +73,8 @@ impl Seen {
     fn is_unused(&self, size: RunSize, request: RequestId) -> bool
         ensures { (rules : TheRules) (ms : List TheMessage) (notes : List TheNote) → Sees rules size ms notes self.now → IsTrue result ↔ (user_of size notes (its_bind size request.worker) request.number ≡ None) }
     {
-        let key = key(bind_of(size, request.worker), request.number);
-        !self.users.contains_key(&key)
+        let bind = bind_of(size, request.worker);
+        get_in(&self.users, bind, u64::from(request.number)).is_none()
     }
 
     /// Whether its number is a sequence_number that its worker can have drawn next.
@@ -82,11 +97,7 @@ impl Seen {
     fn is_retried(&self, request: RequestId) -> bool
         ensures { (rules : TheRules) (size : TheRunSize) (ms : List TheMessage) (notes : List TheNote) → Sees rules size ms notes self.now → IsTrue result ↔ IsRetried (fate_of notes request.worker request.number) }
     {
-        match self
-            .fates
-            .get(&key(request.worker, request.number))
-            .copied()
-        {
+        match get_in(&self.fates, request.worker, u64::from(request.number)) {
             None => false,
             Some(None) => false,
             Some(Some(reply)) => is_retry(reply.status, reply.nack),
@@ -97,7 +108,7 @@ impl Seen {
     fn may_try(&self, rules: &Rules, message: u64, part: u8) -> bool
         ensures { (size : TheRunSize) (ms : List TheMessage) (notes : List TheNote) → Sees rules.now size ms notes self.now → IsTrue result ↔ MayTry rules.now notes message part }
     {
-        match self.tries.get(&part_key(message, part)).copied() {
+        match get_in(&self.tries, u32::from(part), message) {
             None => rules.policy.attempts > 0,
             Some(tries) => {
                 if tries.left < 1 {
@@ -109,14 +120,21 @@ impl Seen {
     }
 
     /// Whether the turn of the message with this index has come.
-    fn has_turn(&self, size: RunSize, index: u64) -> bool
-        ensures { (rules : TheRules) (ms : List TheMessage) (notes : List TheNote) → Sees rules size ms notes self.now → IsTrue result ↔ HasTurn size notes index }
+    fn has_turn(&self, size: RunSize, given: &Given, index: u64) -> bool
+        requires { AreOrdered given.now.indexes.items given.now.order }
+        ensures { (rules : TheRules) (ms : List TheMessage) (notes : List TheNote) → Sees rules size ms notes self.now → IsTrue result ↔ HasTurn size given.now.indexes.items notes index }
     {
-        if self.starts.contains_key(&index) {
+        if self.starts.has(index) {
             return false;
         }
-        match index.checked_sub(all_workers(size)) {
-            Some(before) => self.starts.contains_key(&before),
+        let Some(place) = given.order.get(index) else {
+            return false;
+        };
+        let Some(before) = (place as u64).checked_sub(all_workers(size)) else {
+            return true;
+        };
+        match index_at(given.indexes.as_slice(), before as usize) {
+            Some(other) => self.starts.has(other),
             None => true,
         }
     }
@@ -127,19 +145,24 @@ fn may_send(
     seen: &Seen,
     rules: &Rules,
     size: RunSize,
+    given: &Given,
     request: RequestId,
     index: u64,
     part: u8,
 ) -> bool
-    ensures { (ms : List TheMessage) (notes : List TheNote) → Sees rules.now size ms notes seen.now → IsTrue result ↔ MaySend rules.now size ms notes request index part }
+    requires { AreOrdered given.now.indexes.items given.now.order }
+    ensures { (ms : List TheMessage) (notes : List TheNote) → Sees rules.now size ms notes seen.now → IsTrue result ↔ MaySend rules.now size ms given.now.indexes.items notes request index part }
 {
-    let Some(None) = seen.starts.get(&index).copied() else {
+    let Some(None) = seen.starts.get(index) else {
         return false;
     };
-    let Some(count) = seen.counts.get(&index).copied() else {
+    let Some(count) = seen.counts.get(index) else {
         return false;
     };
-    if !is_dealt(size, index, request.worker) {
+    let Some(place) = given.order.get(index) else {
+        return false;
+    };
+    if !is_dealt(size, place as u64, request.worker) {
         return false;
     }
     if part < 1 {
@@ -160,19 +183,19 @@ fn may_begin(
     messages: &[Message],
     rules: &Rules,
     size: RunSize,
-    places: &HashMap<u64, usize>,
+    given: &Given,
     seen: &Seen,
     index: u64,
 ) -> Result<Option<usize>, NoMemory>
-    requires { ArePlaces messages.now places.now }
-    ensures turn { IfOk result (λ found. IfSome found (λ count. (notes : List TheNote) → Sees rules.now size messages.now notes seen.now → HasTurn size notes index)) }
+    requires { IsGiven messages.now given.now }
+    ensures turn { IfOk result (λ found. IfSome found (λ count. (notes : List TheNote) → Sees rules.now size messages.now notes seen.now → HasTurn size given.now.indexes.items notes index)) }
     ensures count { IfOk result (λ found. IfSome found (HasParts rules.now size messages.now index)) }
-    ensures refused { IfOk result (λ found. IsNone found → (notes : List TheNote) → Sees rules.now size messages.now notes seen.now → HasTurn size notes index → (count : ℕ) → HasParts rules.now size messages.now index count → ⊥) }
+    ensures refused { IfOk result (λ found. IsNone found → (notes : List TheNote) → Sees rules.now size messages.now notes seen.now → HasTurn size given.now.indexes.items notes index → (count : ℕ) → HasParts rules.now size messages.now index count → ⊥) }
 {
-    if !seen.has_turn(size, index) {
+    if !seen.has_turn(size, given, index) {
         return Ok(None);
     }
-    match parts_of(alloc, messages, rules, size, places, index)? {
+    match parts_of(alloc, messages, rules, size, &given.places, index)? {
         Some(count) => Ok(Some(count)),
         None => Ok(None),
     }
@@ -184,18 +207,18 @@ fn may_refuse(
     messages: &[Message],
     rules: &Rules,
     size: RunSize,
-    places: &HashMap<u64, usize>,
+    given: &Given,
     seen: &Seen,
     index: u64,
     refusal: MessageRefusal,
 ) -> Result<bool, NoMemory>
-    requires { ArePlaces messages.now places.now }
-    ensures { IfOk result (λ may. (notes : List TheNote) → Sees rules.now size messages.now notes seen.now → IsTrue may ↔ (HasTurn size notes index × HasRefusal rules.now size messages.now index refusal)) }
+    requires { IsGiven messages.now given.now }
+    ensures { IfOk result (λ may. (notes : List TheNote) → Sees rules.now size messages.now notes seen.now → IsTrue may ↔ (HasTurn size given.now.indexes.items notes index × HasRefusal rules.now size messages.now index refusal)) }
 {
-    if !seen.has_turn(size, index) {
+    if !seen.has_turn(size, given, index) {
         return Ok(false);
     }
-    has_refusal(alloc, messages, rules, size, places, index, refusal)
+    has_refusal(alloc, messages, rules, size, &given.places, index, refusal)
 }
 
 /// No parts to keep, where a note is admitted.
@@ -212,37 +235,39 @@ fn follows(
     messages: &[Message],
     rules: &Rules,
     size: RunSize,
-    places: &HashMap<u64, usize>,
+    given: &Given,
     before: &[Note],
     seen: &Seen,
     note: &Note,
 ) -> Result<Option<usize>, NoMemory>
-    requires places { ArePlaces messages.now places.now }
+    requires given { IsGiven messages.now given.now }
     requires sees { Sees rules.now size messages.now before.now seen.now }
-    ensures follows { IfOk result (λ found. IfSome found (λ count. Follows rules.now size messages.now before.now note.now)) }
+    ensures follows { IfOk result (λ found. IfSome found (λ count. Follows rules.now size messages.now given.now.indexes.items before.now note.now)) }
     ensures count { IfOk result (λ found. IfSome found (IsCountFor rules.now size messages.now note.now)) }
-    ensures refused { IfOk result (λ found. IsNone found → ¬ Follows rules.now size messages.now before.now note.now) }
+    ensures refused { IfOk result (λ found. IsNone found → ¬ Follows rules.now size messages.now given.now.indexes.items before.now note.now) }
 {
     match *note {
         Note::Begun(index) => {
-            match may_begin(alloc, messages, rules, size, places, seen, index)? {
+            match may_begin(alloc, messages, rules, size, given, seen, index)? {
                 Some(count) => Ok(Some(count)),
                 None => Ok(None),
             }
         }
         Note::Sent(request, index, part) => {
-            Ok(when(may_send(seen, rules, size, request, index, part)))
+            let may = may_send(seen, rules, size, given, request, index, part);
+            Ok(when(may))
         }
-        Note::Unsent(request) => Ok(when(seen.is_open(request.worker, request.number))),
-        Note::Heard(by, reply) => Ok(when(seen.is_open(by, reply.number))),
+        Note::Unsent(request) => Ok(when(seen.is_open(size, request.worker, request.number))),
+        Note::Heard(by, reply) => Ok(when(seen.is_open(size, by, reply.number))),
         Note::Refused(index, refusal) => {
-            let may = may_refuse(alloc, messages, rules, size, places, seen, index, refusal)?;
+            let may = may_refuse(alloc, messages, rules, size, given, seen, index, refusal)?;
             Ok(when(may))
         }
         Note::End(status) => {
-            let may = may_end(alloc, messages, rules, before, seen, status)?;
+            let may = may_end(alloc, messages, rules, given, before, seen, status)?;
             Ok(when(may))
         }
+        Note::Round(_, _, _) => Ok(None),
     }
 }
 
@@ -252,25 +277,26 @@ fn admitted(
     messages: &[Message],
     rules: &Rules,
     size: RunSize,
-    places: &HashMap<u64, usize>,
+    given: &Given,
     before: &[Note],
     seen: &Seen,
     note: &Note,
 ) -> Result<Option<usize>, NoMemory>
-    requires places { ArePlaces messages.now places.now }
+    requires given { IsGiven messages.now given.now }
     requires sees { Sees rules.now size messages.now before.now seen.now }
-    ensures admitted { IfOk result (λ found. IfSome found (λ count. MayFollow rules.now size messages.now before.now note.now)) }
+    ensures admitted { IfOk result (λ found. IfSome found (λ count. MayFollow rules.now size messages.now given.now.indexes.items before.now note.now)) }
     ensures count { IfOk result (λ found. IfSome found (IsCountFor rules.now size messages.now note.now)) }
-    ensures refused { IfOk result (λ found. IsNone found → ¬ MayFollow rules.now size messages.now before.now note.now) }
+    ensures refused { IfOk result (λ found. IsNone found → ¬ MayFollow rules.now size messages.now given.now.indexes.items before.now note.now) }
 {
     if seen.end.is_some() {
         return Ok(None);
     }
-    follows(alloc, messages, rules, size, places, before, seen, note)
+    follows(alloc, messages, rules, size, given, before, seen, note)
 }
 
 /// Keeps what a note says.
 fn keep(
+    alloc: Global,
     seen: &mut Seen,
     rules: &Rules,
     size: RunSize,
@@ -281,12 +307,11 @@ fn keep(
 {
     keep_start(&mut seen.starts, note)?;
     keep_count(&mut seen.counts, note, count)?;
-    keep_sent(&mut seen.sent, note)?;
-    keep_fate(&mut seen.fates, note)?;
+    keep_fate(alloc, &mut seen.fates, note)?;
     keep_latest(&mut seen.latest, note)?;
-    keep_user(&mut seen.users, size, note)?;
+    keep_user(alloc, &mut seen.users, size, note)?;
     keep_end(&mut seen.end, note);
-    keep_tries(&mut seen.tries, rules.policy.attempts, note)
+    keep_tries(alloc, &mut seen.tries, rules.policy.attempts, note)
 }
 
 /// Nothing is seen yet.
@@ -294,9 +319,8 @@ fn nothing_seen(alloc: Global) -> Seen
     ensures { (rules : TheRules) (size : TheRunSize) (ms : List TheMessage) → Sees rules size ms [] result }
 {
     Seen {
-        starts: HashMap::new(alloc),
-        counts: HashMap::new(alloc),
-        sent: HashMap::new(alloc),
+        starts: DenseMap::new(alloc),
+        counts: DenseMap::new(alloc),
         fates: HashMap::new(alloc),
         latest: HashMap::new(alloc),
         users: HashMap::new(alloc),
@@ -305,9 +329,37 @@ fn nothing_seen(alloc: Global) -> Seen
     }
 }
 
-/// Checks that a run of this size with these messages can have written these notes: each may follow those
-/// before it. `BadNote` has the place of the first that may not. The time grows with the number of messages
-/// and of notes.
+/// Checks that these are notes of a round of this size that was given these of the messages: each may follow
+/// those before it.
+pub(crate) fn check_round(
+    alloc: Global,
+    messages: &[Message],
+    rules: &Rules,
+    size: RunSize,
+    given: &Given,
+    notes: &[Note],
+) -> Result<(), JournalError>
+    requires { IsGiven messages.now given.now }
+    ensures lawful { OnOk result (IsRound rules.now size messages.now given.now.indexes.items notes.now) }
+    ensures faulty { (k : ℕ) → IsErrOf result (BadNote k) → IsFirstOff rules.now size messages.now given.now.indexes.items notes.now k }
+    ensures kinds { IfErr result IsOfNotes }
+{
+    let mut seen = nothing_seen(alloc);
+    for place in 0..notes.len() {
+        let before = &notes[..place];
+        let note = &notes[place];
+        let found = admitted(alloc, messages, rules, size, given, before, &seen, note)?;
+        let Some(count) = found else {
+            return Err(JournalError::BadNote(place));
+        };
+        keep(alloc, &mut seen, rules, size, note, count)?;
+    }
+    Ok(())
+}
+
+/// Checks that a run of one round, of this size and with these messages, can have written these notes: each may
+/// follow those before it. `BadNote` has the place of the first that may not. The time grows with the number of
+/// messages and of notes.
 pub fn check_notes(
     alloc: Global,
     messages: &[Message],
@@ -319,16 +371,6 @@ pub fn check_notes(
     ensures faulty { (k : ℕ) → IsErrOf result (BadNote k) → IsFirstFault rules.now size messages.now notes.now k }
     ensures kinds { IfErr result IsOfNotes }
 {
-    let places = places_of(alloc, messages)?;
-    let mut seen = nothing_seen(alloc);
-    for place in 0..notes.len() {
-        let before = &notes[..place];
-        let note = &notes[place];
-        let found = admitted(alloc, messages, rules, size, &places, before, &seen, note)?;
-        let Some(count) = found else {
-            return Err(JournalError::BadNote(place));
-        };
-        keep(&mut seen, rules, size, note, count)?;
-    }
-    Ok(())
+    let given = all_given(alloc, messages)?;
+    check_round(alloc, messages, rules, size, &given, notes)
 }

@@ -1,19 +1,21 @@
 //! The end of each message by a run's notes: what the run would have reported if every connection had
 //! dropped just after the last of them. The notes are the only evidence of what was sent.
 
-ghost use Rattle.std.specs.Prelude.{◌≡◌, ℕ, ◌+◌, None, Some, IfOk, slice_get, length};
+ghost use Rattle.std.specs.Prelude.{◌≡◌, ℕ, ◌+◌, ◌++◌, None, Some, IfOk, OnOk, flat_map, slice_get, length};
 ghost use Rattle.std.specs.List.{AllZip};
 ghost use Rattle.sms_core.specs.Replies.{outcome_of};
 ghost use Rattle.sms_message.specs.Ends.{phase_of};
 ghost use Rattle.sms_message.specs.Admission.{IsShort};
 ghost use Rattle.sms_message.specs.Submits.{message_parts};
 ghost use Rattle.sms_message.specs.declared.ends.SegmentEnd.{SegmentEnd as TheSegmentEnd};
-ghost use Rattle.sms_journal.specs.Index.{AreFates, AreSorted, notes_about};
-ghost use Rattle.sms_journal.specs.Recovered.{start_in, start_of, listed, attempts_in, attempts_of, answers_of, IsRecoveredSegment, IsRecoveredResult, IsRecoveredEnd};
+ghost use Rattle.sms_journal.specs.Index.{AreFates, AreSorted, attempts_by};
+ghost use Rattle.sms_journal.specs.Recovered.{start_of, listed, attempts_of, answers_of, IsRecoveredSegment, IsRecoveredResult, IsRecoveredEnd};
 
+use crate::notes::dense_map::DenseMap;
 use crate::notes::fates::{fate, fates};
-use crate::notes::grouping::{groups, notes_of_message};
+use crate::notes::grouping::{PartRequest, groups, others_of};
 use crate::notes::note::Note;
+use crate::notes::starts::starts_of;
 use sms_core::is_charge;
 use sms_files::memory::{self, NoMemory};
 use sms_message::{
@@ -31,78 +33,30 @@ struct Evidence<'a> {
     /// The notes of the run.
     notes: &'a [Note],
     /// What became of their requests.
-    fates: &'a HashMap<u64, Option<Reply>>,
-    /// Those of the notes that name the message.
-    own: &'a [Note],
+    fates: &'a HashMap<u32, DenseMap<Option<Reply>>>,
+    /// How the message was begun.
+    start: Option<Option<MessageRefusal>>,
+    /// The requests for it.
+    first: Option<PartRequest>,
+    others: &'a [PartRequest],
     message: &'a Message,
 }
 
-/// What a note says of how a message was begun: `Some(None)` that its credits were reserved, `Some(Some(_))`
-/// that it was refused.
-fn start_in_note(note: &Note, message: u64) -> Option<Option<MessageRefusal>>
-    ensures { result ≡ start_in message note.now }
-{
-    match *note {
-        Note::Begun(index) => {
-            if index == message {
-                return Some(None);
-            }
-            None
-        }
-        Note::Refused(index, refusal) => {
-            if index == message {
-                return Some(Some(refusal));
-            }
-            None
-        }
-        _ => None,
-    }
-}
-
-/// What the first note of a message's beginning says.
-fn start(notes: &[Note], message: u64) -> Option<Option<MessageRefusal>>
-    ensures { result ≡ start_of notes.now message }
-{
-    for note in notes {
-        let start = start_in_note(note, message);
-        if start.is_some() {
-            return start;
-        }
-    }
-    None
-}
-
-/// The same, found among the notes of this message alone.
-fn message_start(
+/// The attempt for a part that a request is, if it is for this part.
+fn attempt_by(
     notes: &[Note],
-    message_notes: &[Note],
-    message: u64,
-) -> Option<Option<MessageRefusal>>
-    requires { message_notes.now ≡ notes_about notes.now message }
-    ensures { result ≡ start_of notes.now message }
-{
-    start(message_notes, message)
-}
-
-/// The attempt for a part that a note is of.
-fn attempt_in(
-    notes: &[Note],
-    fates: &HashMap<u64, Option<Reply>>,
-    message: u64,
+    fates: &HashMap<u32, DenseMap<Option<Reply>>>,
     part: usize,
-    note: &Note,
+    sent: PartRequest,
 ) -> Option<Attempt<()>>
     requires { AreFates notes.now fates.now }
-    ensures { listed result ≡ attempts_in notes.now message part note.now }
+    ensures { listed result ≡ attempts_by notes.now part sent }
 {
-    let Note::Sent(request, index, place) = *note else {
-        return None;
-    };
-    if index != message || usize::from(place) != part {
+    if usize::from(sent.part) != part {
         return None;
     }
-    let number = request.number;
-    match fate(notes, fates, request.worker, number) {
+    let number = sent.request.number;
+    match fate(notes, fates, sent.request.worker, number) {
         None => Some(Attempt {
             number,
             sent: (),
@@ -117,18 +71,49 @@ fn attempt_in(
     }
 }
 
-/// The attempts for a part, in the order of its message's notes.
+/// Adds that attempt to those before it.
+fn add_attempt(
+    attempts: &mut Vec<Attempt<()>>,
+    notes: &[Note],
+    fates: &HashMap<u32, DenseMap<Option<Reply>>>,
+    part: usize,
+    sent: PartRequest,
+) -> Result<(), NoMemory>
+    requires { AreFates notes.now fates.now }
+    ensures { OnOk result (attempts.new.items ≡ attempts.old.items ++ attempts_by notes.now part sent) }
+{
+    if let Some(attempt) = attempt_by(notes, fates, part, sent) {
+        memory::push(attempts, attempt)?;
+    }
+    Ok(())
+}
+
+/// The attempts for a part by the first request for its message.
+fn first_attempts(
+    alloc: Global,
+    evidence: &Evidence,
+    part: usize,
+) -> Result<Vec<Attempt<()>>, NoMemory>
+    requires { AreFates evidence.now.notes.now evidence.now.fates.now }
+    ensures { IfOk result (λ attempts. attempts.items ≡ flat_map (attempts_by evidence.now.notes.now part) (listed evidence.now.first)) }
+{
+    // Most parts have one attempt.
+    let mut attempts = memory::list_for(alloc, &[part])?;
+    let Some(first) = evidence.first else {
+        return Ok(attempts);
+    };
+    add_attempt(&mut attempts, evidence.notes, evidence.fates, part, first)?;
+    Ok(attempts)
+}
+
+/// The attempts for a part, in the order of the requests for its message.
 fn attempts(alloc: Global, evidence: &Evidence, part: usize) -> Result<Vec<Attempt<()>>, NoMemory>
-    requires { AreSorted evidence.now.notes.now evidence.now.fates.now evidence.now.own.now evidence.now.message.now.index }
+    requires { AreSorted evidence.now.notes.now evidence.now.fates.now evidence.now.start evidence.now.first evidence.now.others.now evidence.now.message.now.index }
     ensures { IfOk result (λ attempts. attempts.items ≡ attempts_of evidence.now.notes.now evidence.now.message.now.index part) }
 {
-    let (notes, fates) = (evidence.notes, evidence.fates);
-    let message = evidence.message.index;
-    let mut attempts = Vec::new(alloc);
-    for note in evidence.own {
-        if let Some(attempt) = attempt_in(notes, fates, message, part, note) {
-            memory::push(&mut attempts, attempt)?;
-        }
+    let mut attempts = first_attempts(alloc, evidence, part)?;
+    for sent in evidence.others {
+        add_attempt(&mut attempts, evidence.notes, evidence.fates, part, *sent)?;
     }
     Ok(attempts)
 }
@@ -154,7 +139,7 @@ fn outcome(attempts: &[Attempt<()>]) -> Outcome
 
 /// The end of the part with this number, from 1.
 fn segment_end(alloc: Global, evidence: &Evidence, part: usize) -> Result<SegmentEnd<()>, NoMemory>
-    requires { AreSorted evidence.now.notes.now evidence.now.fates.now evidence.now.own.now evidence.now.message.now.index }
+    requires { AreSorted evidence.now.notes.now evidence.now.fates.now evidence.now.start evidence.now.first evidence.now.others.now evidence.now.message.now.index }
     ensures { IfOk result (λ s. IsRecoveredSegment evidence.now.rules.now evidence.now.notes.now evidence.now.message.now part s) }
 {
     let cost = part_cost(&evidence.rules.tariff, evidence.message);
@@ -174,11 +159,12 @@ fn segment_ends(
     evidence: &Evidence,
     count: u8,
 ) -> Result<Vec<SegmentEnd<()>>, NoMemory>
-    requires { AreSorted evidence.now.notes.now evidence.now.fates.now evidence.now.own.now evidence.now.message.now.index }
+    requires { AreSorted evidence.now.notes.now evidence.now.fates.now evidence.now.start evidence.now.first evidence.now.others.now evidence.now.message.now.index }
     ensures count { IfOk result (λ parts. length parts.items ≡ count) }
     ensures each { IfOk result (λ parts. (p : ℕ) (s : TheSegmentEnd (Unit {0})) → slice_get parts.items p ≡ Some s → IsRecoveredSegment evidence.now.rules.now evidence.now.notes.now evidence.now.message.now (p + 1) s) }
 {
-    let mut parts = Vec::new(alloc);
+    // Most messages have one part.
+    let mut parts = memory::list_for(alloc, &[count])?;
     for place in 0..usize::from(count) {
         memory::push(&mut parts, segment_end(alloc, evidence, place + 1)?)?;
     }
@@ -191,7 +177,7 @@ fn begun_result(
     evidence: &Evidence,
     count: u8,
 ) -> Result<MessageResult<()>, NoMemory>
-    requires sorted { AreSorted evidence.now.notes.now evidence.now.fates.now evidence.now.own.now evidence.now.message.now.index }
+    requires sorted { AreSorted evidence.now.notes.now evidence.now.fates.now evidence.now.start evidence.now.first evidence.now.others.now evidence.now.message.now.index }
     requires begun { start_of evidence.now.notes.now evidence.now.message.now.index ≡ Some None }
     requires short { IsShort evidence.now.rules.now evidence.now.message.now }
     requires count { count ≡ length (message_parts evidence.now.rules.now evidence.now.message.now) }
@@ -203,11 +189,11 @@ fn begun_result(
 
 /// The result of a message. One that no note begins was not sent when the last connection dropped.
 fn message_result(alloc: Global, evidence: &Evidence) -> Result<MessageResult<()>, NoMemory>
-    requires { AreSorted evidence.now.notes.now evidence.now.fates.now evidence.now.own.now evidence.now.message.now.index }
+    requires { AreSorted evidence.now.notes.now evidence.now.fates.now evidence.now.start evidence.now.first evidence.now.others.now evidence.now.message.now.index }
     ensures { IfOk result (λ r. IsRecoveredResult evidence.now.rules.now evidence.now.notes.now evidence.now.message.now r) }
 {
     let message = evidence.message;
-    match message_start(evidence.notes, evidence.own, message.index) {
+    match evidence.start {
         None => Ok(MessageResult::Refused(MessageRefusal::BindClosed)),
         Some(Some(refusal)) => Ok(MessageResult::Refused(refusal)),
         Some(None) => match memory::count_parts(alloc, evidence.rules.long_reference, message)? {
@@ -219,7 +205,7 @@ fn message_result(alloc: Global, evidence: &Evidence) -> Result<MessageResult<()
 
 /// The end of a message.
 fn message_end(alloc: Global, evidence: &Evidence) -> Result<MessageEnd<()>, NoMemory>
-    requires { AreSorted evidence.now.notes.now evidence.now.fates.now evidence.now.own.now evidence.now.message.now.index }
+    requires { AreSorted evidence.now.notes.now evidence.now.fates.now evidence.now.start evidence.now.first evidence.now.others.now evidence.now.message.now.index }
     ensures { IfOk result (λ e. IsRecoveredEnd evidence.now.rules.now evidence.now.notes.now evidence.now.message.now e) }
 {
     let result = message_result(alloc, evidence)?;
@@ -241,14 +227,17 @@ pub fn recover(
     ensures { IfOk result (λ ends. AllZip (IsRecoveredEnd rules.now notes.now) messages.now ends.items) }
 {
     let fates = fates(alloc, notes)?;
+    let starts = starts_of(alloc, notes)?;
     let groups = groups(alloc, notes)?;
-    let mut ends = Vec::new(alloc);
+    let mut ends = memory::list_for(alloc, messages)?;
     for message in messages {
         let evidence = Evidence {
             rules,
             notes,
             fates: &fates,
-            own: notes_of_message(notes, &groups, message.index),
+            start: starts.get(message.index),
+            first: groups.firsts.get(message.index),
+            others: others_of(&groups.others, message.index),
             message,
         };
         memory::push(&mut ends, message_end(alloc, &evidence)?)?;

@@ -25,4 +25,6 @@ pub enum Note {
     Refused(u64, MessageRefusal),
     /// The report was formed, with this exit status.
     End(u8),
+    /// A further round begins: its number, from 2, how many binds it has, and how many workers at each bind.
+    Round(u32, u32, u32),
 }

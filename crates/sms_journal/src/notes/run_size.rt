@@ -25,11 +25,11 @@ pub(crate) fn bind_of(size: RunSize, worker: u32) -> u32
     worker / size.workers.max(1)
 }
 
-/// Whether the message with this index is the worker's: they are dealt out to all workers in turn.
-pub(crate) fn is_dealt(size: RunSize, index: u64, worker: u32) -> bool
-    ensures { IsTrue result ↔ IsDealt size index worker }
+/// Whether the message at this place is the worker's: they are dealt out to all workers in turn.
+pub(crate) fn is_dealt(size: RunSize, place: u64, worker: u32) -> bool
+    ensures { IsTrue result ↔ IsDealt size place worker }
 {
     let all = all_workers(size);
     let worker = u64::from(worker);
-    worker < all && index % all == worker
+    worker < all && place % all == worker
 }

@@ -1,12 +1,13 @@
 //! What the check of notes keeps of those that it has read.
 
-ghost use Rattle.std.specs.Prelude.{◌≡◌, ℕ, ◌+◌, ◌-◌, ◌*◌, ◌<◌, ◌==◌, if◌then◌else◌, Some, None, OnOk, nat_eq};
+ghost use Rattle.std.specs.Prelude.{◌≡◌, ℕ, ◌-◌, ◌==◌, ◌&&◌, if◌then◌else◌, Some, OnOk, nat_eq};
 ghost use Rattle.std.specs.HashMap.{get};
-ghost use Rattle.sms_journal.specs.Lawful.{end_in, sent_in, user_in};
+ghost use Rattle.sms_journal.specs.DenseMap.{value_at, value_in};
+ghost use Rattle.sms_journal.specs.Lawful.{end_in, user_in};
 ghost use Rattle.sms_journal.specs.Recovered.{or_else, start_in};
 ghost use Rattle.sms_journal.specs.Seen.{count_in, latest_in, left_by, tries_in};
 
-use crate::notes::fates::key;
+use crate::notes::dense_map::{DenseMap, get_in, put_first_in, put_in};
 use crate::notes::note::{Note, RequestId};
 use crate::notes::run_size::{RunSize, bind_of};
 use sms_files::memory::{self, NoMemory};
@@ -23,84 +24,43 @@ pub(crate) struct Tries {
 }
 
 /// Of the notes so far: how each message was begun, and the number of its parts where its credits were
-/// reserved; each request and its fate; the latest number of each worker; who used each number of each bind;
-/// the requests for each part; the exit status, if the run has ended.
+/// reserved; the fates of each worker's requests, and its latest number; who used each bind's numbers; the
+/// requests for each part, by its number and its message; the exit status, if the run has ended.
 #[derive(Drop)]
 pub(crate) struct Seen {
-    pub(crate) starts: HashMap<u64, Option<MessageRefusal>>,
-    pub(crate) counts: HashMap<u64, usize>,
-    pub(crate) sent: HashMap<u64, Note>,
-    pub(crate) fates: HashMap<u64, Option<Reply>>,
+    pub(crate) starts: DenseMap<Option<MessageRefusal>>,
+    pub(crate) counts: DenseMap<usize>,
+    pub(crate) fates: HashMap<u32, DenseMap<Option<Reply>>>,
     pub(crate) latest: HashMap<u32, u32>,
-    pub(crate) users: HashMap<u64, u32>,
-    pub(crate) tries: HashMap<u128, Tries>,
+    pub(crate) users: HashMap<u32, DenseMap<u32>>,
+    pub(crate) tries: HashMap<u32, DenseMap<Tries>>,
     pub(crate) end: Option<u8>,
-}
-
-/// The key of a part.
-pub(crate) fn part_key(message: u64, part: u8) -> u128
-    ensures key { result ≡ message * 256 + part }
-    ensures bound { part < 256 }
-{
-    u128::from(message) * 256 + u128::from(part)
-}
-
-fn keep_first_start(
-    starts: &mut HashMap<u64, Option<MessageRefusal>>,
-    index: u64,
-    start: Option<MessageRefusal>,
-) -> Result<(), NoMemory>
-    ensures { OnOk result ((q : ℕ) → get nat_eq starts.new q ≡ or_else (get nat_eq starts.old q) (if index == q then Some start else None)) }
-{
-    if !starts.contains_key(&index) {
-        memory::insert(starts, index, start)?;
-    }
-    Ok(())
 }
 
 /// Keeps how a message was begun.
 pub(crate) fn keep_start(
-    starts: &mut HashMap<u64, Option<MessageRefusal>>,
+    starts: &mut DenseMap<Option<MessageRefusal>>,
     note: &Note,
 ) -> Result<(), NoMemory>
-    ensures { OnOk result ((q : ℕ) → get nat_eq starts.new q ≡ or_else (get nat_eq starts.old q) (start_in q note.now)) }
+    ensures { OnOk result ((q : ℕ) → value_at starts.new q ≡ or_else (value_at starts.old q) (start_in q note.now)) }
 {
     match *note {
-        Note::Begun(index) => keep_first_start(starts, index, None),
-        Note::Refused(index, refusal) => keep_first_start(starts, index, Some(refusal)),
+        Note::Begun(index) => starts.put_first(index, None),
+        Note::Refused(index, refusal) => starts.put_first(index, Some(refusal)),
         _ => Ok(()),
     }
 }
 
 /// Keeps how many parts a message has that is begun.
 pub(crate) fn keep_count(
-    counts: &mut HashMap<u64, usize>,
+    counts: &mut DenseMap<usize>,
     note: &Note,
     count: usize,
 ) -> Result<(), NoMemory>
-    ensures { OnOk result ((q : ℕ) → get nat_eq counts.new q ≡ count_in count q note.now (get nat_eq counts.old q)) }
+    ensures { OnOk result ((q : ℕ) → value_at counts.new q ≡ count_in count q note.now (value_at counts.old q)) }
 {
     if let Note::Begun(index) = *note {
-        memory::insert(counts, index, count)?;
-    }
-    Ok(())
-}
-
-fn keep_first_sent(sent: &mut HashMap<u64, Note>, key: u64, note: Note) -> Result<(), NoMemory>
-    ensures { OnOk result ((q : ℕ) → get nat_eq sent.new q ≡ or_else (get nat_eq sent.old q) (if key == q then Some note else None)) }
-{
-    if !sent.contains_key(&key) {
-        memory::insert(sent, key, note)?;
-    }
-    Ok(())
-}
-
-/// Keeps a request.
-pub(crate) fn keep_sent(sent: &mut HashMap<u64, Note>, note: &Note) -> Result<(), NoMemory>
-    ensures { OnOk result ((worker number : ℕ) → number < 4294967296 → get nat_eq sent.new (worker * 4294967296 + number) ≡ or_else (get nat_eq sent.old (worker * 4294967296 + number)) (sent_in worker number note.now)) }
-{
-    if let Note::Sent(request, _, _) = *note {
-        keep_first_sent(sent, key(request.worker, request.number), *note)?;
+        counts.put(index, count)?;
     }
     Ok(())
 }
@@ -115,26 +75,19 @@ pub(crate) fn keep_latest(latest: &mut HashMap<u32, u32>, note: &Note) -> Result
     Ok(())
 }
 
-fn keep_first_user(users: &mut HashMap<u64, u32>, key: u64, worker: u32) -> Result<(), NoMemory>
-    ensures { OnOk result ((q : ℕ) → get nat_eq users.new q ≡ or_else (get nat_eq users.old q) (if key == q then Some worker else None)) }
-{
-    if !users.contains_key(&key) {
-        memory::insert(users, key, worker)?;
-    }
-    Ok(())
-}
-
 /// Keeps who used a number of a bind.
 pub(crate) fn keep_user(
-    users: &mut HashMap<u64, u32>,
+    alloc: Global,
+    users: &mut HashMap<u32, DenseMap<u32>>,
     size: RunSize,
     note: &Note,
 ) -> Result<(), NoMemory>
-    ensures { OnOk result ((bind number : ℕ) → number < 4294967296 → get nat_eq users.new (bind * 4294967296 + number) ≡ or_else (get nat_eq users.old (bind * 4294967296 + number)) (user_in size bind number note.now)) }
+    ensures { OnOk result ((bind number : ℕ) → value_in users.new bind number ≡ or_else (value_in users.old bind number) (user_in size bind number note.now)) }
 {
     if let Note::Sent(request, _, _) = *note {
         let bind = bind_of(size, request.worker);
-        keep_first_user(users, key(bind, request.number), request.worker)?;
+        let number = u64::from(request.number);
+        put_first_in(alloc, users, bind, number, request.worker)?;
     }
     Ok(())
 }
@@ -150,28 +103,32 @@ pub(crate) fn left_of(attempts: u32, kept: Option<Tries>) -> u32
 }
 
 fn keep_last(
-    tries: &mut HashMap<u128, Tries>,
-    key: u128,
+    alloc: Global,
+    tries: &mut HashMap<u32, DenseMap<Tries>>,
+    message: u64,
+    part: u8,
     attempts: u32,
     last: RequestId,
 ) -> Result<(), NoMemory>
-    ensures { OnOk result ((q : ℕ) → get nat_eq tries.new q ≡ (if key == q then Some (record { last = last; left = left_by attempts (get nat_eq tries.old key) - 1 }) else get nat_eq tries.old q)) }
+    ensures { OnOk result ((m p : ℕ) → value_in tries.new p m ≡ (if part == p && (message == m) then Some (record { last = last; left = left_by attempts (value_in tries.old part message) - 1 }) else value_in tries.old p m)) }
 {
-    let left = left_of(attempts, tries.get(&key).copied()).saturating_sub(1);
-    memory::insert(tries, key, Tries { last, left })?;
+    let row = u32::from(part);
+    let left = left_of(attempts, get_in(tries, row, message)).saturating_sub(1);
+    put_in(alloc, tries, row, message, Tries { last, left })?;
     Ok(())
 }
 
 /// Keeps the latest request for a part, which may be sent `attempts` times.
 pub(crate) fn keep_tries(
-    tries: &mut HashMap<u128, Tries>,
+    alloc: Global,
+    tries: &mut HashMap<u32, DenseMap<Tries>>,
     attempts: u32,
     note: &Note,
 ) -> Result<(), NoMemory>
-    ensures { OnOk result ((m p : ℕ) → p < 256 → get nat_eq tries.new (m * 256 + p) ≡ tries_in attempts m p note.now (get nat_eq tries.old (m * 256 + p))) }
+    ensures { OnOk result ((m p : ℕ) → value_in tries.new p m ≡ tries_in attempts m p note.now (value_in tries.old p m)) }
 {
     if let Note::Sent(request, index, part) = *note {
-        keep_last(tries, part_key(index, part), attempts, request)?;
+        keep_last(alloc, tries, index, part, attempts, request)?;
     }
     Ok(())
 }

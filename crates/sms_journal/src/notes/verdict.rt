@@ -1,39 +1,24 @@
 //! The messages of a run by their indexes, and what the checks say that admit them.
 
-ghost use Rattle.std.specs.Prelude.{◌≡◌, ◌↔◌, ℕ, ◌==◌, if◌then◌else◌, Some, None, IfOk, IfSome, IsNone, IsTrue, OnOk, nat_eq};
-ghost use Rattle.std.specs.HashMap.{get};
-ghost use Rattle.sms_journal.specs.Recovered.{or_else};
+ghost use Rattle.std.specs.Prelude.{◌≡◌, ◌↔◌, ℕ, IfOk, IfSome, IsNone, IsTrue};
 ghost use Rattle.sms_journal.specs.Lawful.{HasParts, HasRefusal};
 ghost use Rattle.sms_journal.specs.Seen.{ArePlaces};
 ghost use Rattle.sms_journal.specs.Verdicts.{IsVerdict, IsVerdictAt, allows as allowed_by, parts_by as counted_by};
 
+use crate::notes::dense_map::DenseMap;
 use crate::notes::run_size::RunSize;
 use sms_files::memory::{self, NoMemory};
 use sms_message::{Message, MessageRefusal, Rules, has_addresses, is_known};
 use std::alloc::Global;
-use std::collections::HashMap;
-
-/// Keeps the first place of an index.
-fn keep_place(places: &mut HashMap<u64, usize>, index: u64, place: usize) -> Result<(), NoMemory>
-    ensures { OnOk result ((q : ℕ) → get nat_eq places.new q ≡ or_else (get nat_eq places.old q) (if index == q then Some place else None)) }
-{
-    if !places.contains_key(&index) {
-        memory::insert(places, index, place)?;
-    }
-    Ok(())
-}
 
 /// The places of the messages, by their indexes.
-pub(crate) fn places_of(
-    alloc: Global,
-    messages: &[Message],
-) -> Result<HashMap<u64, usize>, NoMemory>
+pub(crate) fn places_of(alloc: Global, messages: &[Message]) -> Result<DenseMap<usize>, NoMemory>
     ensures { IfOk result (λ places. ArePlaces messages.now places) }
 {
-    let mut places = HashMap::new(alloc);
+    let mut places = DenseMap::new(alloc);
     for place in 0..messages.len() {
         let message = &messages[place];
-        keep_place(&mut places, message.index, place)?;
+        places.put_first(message.index, place)?;
     }
     Ok(places)
 }
@@ -75,13 +60,13 @@ fn verdict_at(
     messages: &[Message],
     rules: &Rules,
     size: RunSize,
-    places: &HashMap<u64, usize>,
+    places: &DenseMap<usize>,
     index: u64,
 ) -> Result<Option<Verdict>, NoMemory>
     requires { ArePlaces messages.now places.now }
     ensures { IfOk result (IsVerdictAt rules.now size messages.now index) }
 {
-    let Some(place) = places.get(&index).copied() else {
+    let Some(place) = places.get(index) else {
         return Ok(None);
     };
     let message = &messages[place];
@@ -121,7 +106,7 @@ pub(crate) fn parts_of(
     messages: &[Message],
     rules: &Rules,
     size: RunSize,
-    places: &HashMap<u64, usize>,
+    places: &DenseMap<usize>,
     index: u64,
 ) -> Result<Option<usize>, NoMemory>
     requires { ArePlaces messages.now places.now }
@@ -138,7 +123,7 @@ pub(crate) fn has_refusal(
     messages: &[Message],
     rules: &Rules,
     size: RunSize,
-    places: &HashMap<u64, usize>,
+    places: &DenseMap<usize>,
     index: u64,
     refusal: MessageRefusal,
 ) -> Result<bool, NoMemory>

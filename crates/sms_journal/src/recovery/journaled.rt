@@ -2,16 +2,17 @@
 
 ghost use Rattle.std.specs.Prelude.{◌≡◌, ◌≢◌, ◌⊎◌, ◌+◌, ◌<◌, IfErr, IfOk, OnOk, length};
 ghost use Rattle.std.specs.Io.KnownBytes.{Appends};
-ghost use Rattle.sms_journal.specs.Lawful.{IsJournal};
+ghost use Rattle.std.specs.List.{AllZip};
+ghost use Rattle.sms_journal.specs.Rounds.{IsRunEnd, IsRunJournal};
 ghost use Rattle.sms_journal.specs.Sums.{AreCovered};
-ghost use Rattle.sms_journal.specs.Recovering.{AreRecoveredRows, Recovers, IsFaultOfNotes, IsFaultOfRecovery};
+ghost use Rattle.sms_journal.specs.Recovering.{AreRecoveredRows, IsFaultOfNotes, IsFaultOfRecovery, IsFaultOfReport, IsRecovered, Recovers};
 ghost use Rattle.sms_journal.specs.Files.{IsCut};
 ghost use Rattle.sms_files.specs.Report.{report_of, ends_status};
 ghost use Rattle.sms_journal.specs.Faults.{out_of_memory, output_failed};
 ghost use Rattle.sms_journal.specs.declared.recovery.fault.RecoveryFault.TheVariants.{Journal, Overdrawn};
 
 use crate::error::JournalError;
-use crate::notes::{Note, RunSize, check_notes, recover, recovered_rows};
+use crate::notes::{Note, RunSize, check_with_ends, recover_rounds, recovered_rows};
 use crate::recovery::fault::RecoveryFault;
 use sms_book::Opening;
 use sms_core::Row;
@@ -27,18 +28,20 @@ fn fault_at(notes: &[Note], place: usize) -> RecoveryFault
     RecoveryFault::Journal(place.min(notes.len()) + 2)
 }
 
-/// Checks that a run can have noted this.
+/// Checks that a run can have noted this, by which these are the ends of its messages.
 fn checked(
     alloc: Global,
     rules: &Rules,
     size: RunSize,
     messages: &[Message],
     notes: &[Note],
+    ends: &[MessageEnd<()>],
 ) -> Result<(), RecoveryFault>
-    ensures lawful { OnOk result (IsJournal rules.now size messages.now notes.now) }
+    requires { AllZip (IsRunEnd rules.now notes.now) messages.now ends.now }
+    ensures lawful { OnOk result (IsRunJournal rules.now size messages.now notes.now) }
     ensures refused { IfErr result (IsFaultOfNotes rules.now size messages.now notes.now) }
 {
-    match check_notes(alloc, messages, rules, size, notes) {
+    match check_with_ends(alloc, messages, rules, size, notes, ends) {
         Ok(()) => Ok(()),
         Err(error) => match error {
             JournalError::BadNote(place) => Err(fault_at(notes, place)),
@@ -89,8 +92,37 @@ fn print_report<W: Write>(
     }
 }
 
-/// Prints what the run of this size with these messages would have reported if every connection had dropped just after
-/// the last of these notes, and returns the exit status that it would have had.
+/// What the run of these messages, whose first round has this size, would have reported if every connection had
+/// dropped just after the last of these notes: the end of each message, and the row of each account.
+pub fn reported(
+    alloc: Global,
+    rules: &Rules,
+    size: RunSize,
+    openings: &[Opening],
+    messages: &[Message],
+    notes: &[Note],
+) -> Result<(Vec<MessageEnd<()>>, Vec<Row>), RecoveryFault>
+    ensures is { IfOk result (λ found. IsRecovered rules.now size openings.now messages.now notes.now found.0.items found.1.items) }
+    ensures refused { IfErr result (IsFaultOfReport rules.now size openings.now messages.now notes.now) }
+{
+    let ends = match recover_rounds(alloc, messages, rules, notes) {
+        Ok(ends) => ends,
+        Err(refused) => return Err(RecoveryFault::OutOfMemory(refused)),
+    };
+    if let Err(fault) = checked(alloc, rules, size, messages, notes, ends.as_slice()) {
+        drop(ends);
+        return Err(fault);
+    }
+    match rows_of(alloc, openings, messages, ends.as_slice()) {
+        Ok(rows) => Ok((ends, rows)),
+        Err(fault) => {
+            drop(ends);
+            Err(fault)
+        }
+    }
+}
+
+/// Prints that report, and returns the exit status that the run would have had.
 pub fn recover_notes<W: Write>(
     alloc: Global,
     rules: &Rules,
@@ -104,16 +136,8 @@ pub fn recover_notes<W: Write>(
     ensures refused { IfErr result (IsFaultOfRecovery rules.now size openings.now messages.now notes.now (W.contents output.old) (W.contents output.new)) }
     ensures quiet { IfErr result (λ fault. fault ≢ output_failed → output.new ≡ output.old) }
 {
-    if let Err(fault) = checked(alloc, rules, size, messages, notes) {
-        return Err(fault);
+    match reported(alloc, rules, size, openings, messages, notes) {
+        Ok((ends, rows)) => print_report(alloc, openings, ends.as_slice(), rows.as_slice(), output),
+        Err(fault) => Err(fault),
     }
-    let ends = match recover(alloc, messages, rules, notes) {
-        Ok(ends) => ends,
-        Err(refused) => return Err(RecoveryFault::OutOfMemory(refused)),
-    };
-    let rows = match rows_of(alloc, openings, messages, ends.as_slice()) {
-        Ok(rows) => rows,
-        Err(fault) => return Err(fault),
-    };
-    print_report(alloc, openings, ends.as_slice(), rows.as_slice(), output)
 }

@@ -1,9 +1,8 @@
 //! The report of a run, from its files and its journal.
 
 ghost use Rattle.std.specs.Prelude.{◌≡◌, ◌≢◌, IfErr, IfOk, length, option_copied};
-ghost use Rattle.sms_journal.specs.Digests.{digests_of as of_files};
 ghost use Rattle.sms_journal.specs.Lines.{IsJournalText};
-ghost use Rattle.sms_journal.specs.Recovering.{IsTaken, RecoversInput, RecoversJournal, IsFaultOfInput, IsFaultOfJournal, IsFaultOfText};
+ghost use Rattle.sms_journal.specs.Recovering.{IsTaken, RecoversInput, RecoversJournal, IsFaultOfInput, IsFaultOfJournal, IsFaultOfText, sized, ties_in};
 ghost use Rattle.sms_journal.specs.Faults.{output_failed};
 
 use crate::error::JournalError;
@@ -11,7 +10,7 @@ use crate::notes::{Note, RunSize};
 use crate::recovery::fault::RecoveryFault;
 use crate::recovery::files::input_of;
 use crate::recovery::journaled::recover_notes;
-use crate::text::{JournalKind, JournalNotes, digests_of, read_notes};
+use crate::text::{FileTies, JournalKind, JournalNotes, digests_of, keys_of, read_notes};
 use sms_book::Opening;
 use sms_files::{Config, Input, Limits, rules_of};
 use std::alloc::Global;
@@ -25,21 +24,33 @@ pub struct Recovered {
     pub kind: JournalKind,
 }
 
-/// The notes of a run of these files, or of a trial where `trial` allows one.
-fn notes_in(
-    alloc: Global,
+/// What a journal of these files may be tied to, of which this input was read.
+pub(crate) fn ties_of(
     config: &[u8],
     accounts: &[u8],
     messages: &[u8],
     tariff: Option<&[u8]>,
+    input: &Input,
+) -> FileTies
+    ensures { result ≡ ties_in config.now accounts.now messages.now (option_copied tariff.entry) input.now }
+{
+    FileTies {
+        digests: digests_of(config, accounts, messages, tariff),
+        keys: keys_of(input.config()),
+    }
+}
+
+/// The notes of a run of these files, or of a trial where `trial` allows one.
+pub(crate) fn notes_in(
+    alloc: Global,
+    files: &FileTies,
     journal: &[u8],
     trial: bool,
 ) -> Result<JournalNotes, RecoveryFault>
-    ensures notes { IfOk result (λ read. IsJournalText (of_files config.now accounts.now messages.now (option_copied tariff.entry)) journal.now read.kind read.notes.items × IsTaken trial read.kind) }
-    ensures refused { IfErr result (IsFaultOfText (of_files config.now accounts.now messages.now (option_copied tariff.entry)) trial journal.now) }
+    ensures notes { IfOk result (λ read. IsJournalText files.now journal.now read.kind read.first read.notes.items × IsTaken trial read.kind) }
+    ensures refused { IfErr result (IsFaultOfText files.now trial journal.now) }
 {
-    let digests = digests_of(config, accounts, messages, tariff);
-    match read_notes(alloc, journal, &digests) {
+    match read_notes(alloc, journal, files) {
         Ok(read) => {
             if read.kind == JournalKind::Trial && !trial {
                 return Err(RecoveryFault::Trial);
@@ -55,14 +66,18 @@ fn notes_in(
     }
 }
 
-/// How large a run with these accounts is.
-fn size_by(openings: &[Opening], limits: Limits) -> RunSize
-    ensures { result ≡ record { accounts = length openings.now; binds = limits.binds; workers = limits.workers } }
+/// How large the first round of a run with these accounts is: as its journal's first line says, or as its config does.
+pub(crate) fn size_by(openings: &[Opening], limits: Limits, first: Option<(u32, u32)>) -> RunSize
+    ensures { result ≡ sized (length openings.now) limits first }
 {
+    let (binds, workers) = match first {
+        Some(first) => first,
+        None => (limits.binds, limits.workers),
+    };
     RunSize {
         accounts: openings.len(),
-        binds: limits.binds,
-        workers: limits.workers,
+        binds,
+        workers,
     }
 }
 
@@ -71,11 +86,12 @@ fn size_by(openings: &[Opening], limits: Limits) -> RunSize
 fn recover_input<W: Write>(
     alloc: Global,
     input: Input,
+    first: Option<(u32, u32)>,
     notes: &[Note],
     output: &mut W,
 ) -> Result<u8, RecoveryFault>
-    ensures recovered { IfOk result (RecoversInput input notes.now (W.contents output.old) (W.contents output.new)) }
-    ensures refused { IfErr result (IsFaultOfInput input notes.now (W.contents output.old) (W.contents output.new)) }
+    ensures recovered { IfOk result (RecoversInput input first notes.now (W.contents output.old) (W.contents output.new)) }
+    ensures refused { IfErr result (IsFaultOfInput input first notes.now (W.contents output.old) (W.contents output.new)) }
     ensures quiet { IfErr result (λ fault. fault ≢ output_failed → output.new ≡ output.old) }
 {
     let (config, openings, messages, tariff) = input.into_parts();
@@ -87,7 +103,7 @@ fn recover_input<W: Write>(
     } = config;
     let rules = rules_of(retry, limits, flags, tariff, 0);
     let accounts = openings.as_slice();
-    let size = size_by(accounts, limits);
+    let size = size_by(accounts, limits, first);
     recover_notes(
         alloc,
         &rules,
@@ -121,14 +137,15 @@ pub fn run_recover<W: Write>(
         Ok(input) => input,
         Err(fault) => return Err(fault),
     };
-    let read = match notes_in(alloc, config, accounts, messages, tariff, journal, trial) {
+    let files = ties_of(config, accounts, messages, tariff, &input);
+    let read = match notes_in(alloc, &files, journal, trial) {
         Ok(read) => read,
         Err(fault) => {
             drop(input);
             return Err(fault);
         }
     };
-    match recover_input(alloc, input, read.notes.as_slice(), output) {
+    match recover_input(alloc, input, read.first, read.notes.as_slice(), output) {
         Ok(status) => Ok(Recovered {
             status,
             kind: read.kind,

@@ -114,7 +114,7 @@ fn push_all_left(
 }
 
 /// The records after the first.
-fn behind_first(records: &[ByteRecord]) -> &[ByteRecord]
+pub(crate) fn behind_first(records: &[ByteRecord]) -> &[ByteRecord]
     ensures { map fields_of result.now ≡ drop 1 (map fields_of records.now) }
 {
     if records.is_empty() {

@@ -1,14 +1,36 @@
 //! The first line of a journal: its kind, and the digests of the run's files.
 
 ghost use Rattle.std.specs.Prelude.{◌≡◌, ◌++◌, ◌<◌, OnOk, string_bytes};
-ghost use Rattle.sms_journal.specs.Text.{digest_field, header_text, hex_digit as digit_of, hex_octet, hex_text, kind_word as word_of_kind, tariff_field};
+ghost use Rattle.sms_journal.specs.Text.{digest_field, header_text, hex_digit as digit_of, hex_octet, hex_text, kind_word as word_of_kind, number_field, tariff_field, tie_text};
 
 use sms_files::memory::{self, NoMemory};
 
-/// The SHA-256 digests (FIPS 180-4) of a run's files.
+/// What of a config a run's report is computed by.
+#[derive(Clone, Copy, Debug, PartialEq, Eq)]
+pub struct ReportKeys {
+    /// How often a part is sent at most, 1 to 10.
+    pub attempts: u32,
+    /// Whether the references of concatenated messages have 16 bits.
+    pub long_reference: bool,
+    /// Binds of the first round, 1 to 4.
+    pub binds: u32,
+    /// Workers of each of them, 1 to 8.
+    pub workers: u32,
+}
+
+/// What a journal is tied to of its run's config.
+#[derive(Clone, Copy, Debug, PartialEq, Eq)]
+pub enum ConfigTie {
+    /// The SHA-256 digest (FIPS 180-4) of its octets (`journal,1`).
+    Octets([u8; 32]),
+    /// What a report is computed by, and nothing else (`journal,2`): the other keys may be changed between rounds.
+    Keys(ReportKeys),
+}
+
+/// What a journal is tied to: of the config, and the SHA-256 digests (FIPS 180-4) of the run's other files.
 #[derive(Clone, Copy, Debug, PartialEq, Eq)]
 pub struct Digests {
-    pub config: [u8; 32],
+    pub config: ConfigTie,
     pub accounts: [u8; 32],
     pub messages: [u8; 32],
     /// That of the tariff, where there is one.
@@ -79,13 +101,38 @@ fn write_tariff(text: &mut String, digest: &Option<[u8; 32]>) -> Result<(), NoMe
     }
 }
 
+/// A comma and the number after it.
+fn write_field(text: &mut String, number: u32) -> Result<(), NoMemory>
+    ensures { OnOk result (string_bytes text.new ≡ string_bytes text.old ++ number_field number) }
+{
+    memory::append_number(text, ",", u64::from(number))
+}
+
+/// The version, and what the journal is tied to of its run's config.
+fn write_tie(text: &mut String, tie: &ConfigTie) -> Result<(), NoMemory>
+    ensures { OnOk result (string_bytes text.new ≡ string_bytes text.old ++ tie_text tie.now) }
+{
+    match tie {
+        ConfigTie::Octets(digest) => {
+            memory::append(text, ",1")?;
+            write_digest(text, digest)
+        }
+        ConfigTie::Keys(keys) => {
+            memory::append(text, ",2")?;
+            write_field(text, keys.attempts)?;
+            write_field(text, u32::from(keys.long_reference))?;
+            write_field(text, keys.binds)?;
+            write_field(text, keys.workers)
+        }
+    }
+}
+
 /// Writes the first line of a journal of this kind.
 pub fn write_header(text: &mut String, kind: JournalKind, digests: &Digests) -> Result<(), NoMemory>
     ensures { OnOk result (string_bytes text.new ≡ string_bytes text.old ++ header_text kind digests.now) }
 {
     memory::append(text, kind_word(kind))?;
-    memory::append(text, ",1")?;
-    write_digest(text, &digests.config)?;
+    write_tie(text, &digests.config)?;
     write_digest(text, &digests.accounts)?;
     write_digest(text, &digests.messages)?;
     write_tariff(text, &digests.tariff)?;

@@ -1,14 +1,14 @@
 //! The header read: a journal's kind, and the digests of the run's files.
 
-ghost use Rattle.std.specs.Prelude.{◌≡◌, ◌≢◌, ℕ, ◌+◌, ◌++◌, ◌<◌, List, IfOk, MatchOption, length};
+ghost use Rattle.std.specs.Prelude.{◌≡◌, ◌≢◌, ℕ, ◌+◌, ◌++◌, ◌<◌, List, IfOk, MatchOption, None, Some, length};
 ghost use Rattle.sms_journal.specs.declared.text.header.Digests.{Digests as TheDigests};
 ghost use Rattle.sms_journal.specs.declared.text.header.JournalKind.{JournalKind as TheKind};
 ghost use Rattle.sms_journal.specs.Digests.{AreDigests};
-ghost use Rattle.sms_journal.specs.Heads.{digest_in as digest_said, digests_in as digests_said, head_in as head_said, kind_in as kind_said, octet_at as octet_said, tariff_in as tariff_said};
+ghost use Rattle.sms_journal.specs.Heads.{behind_keys, digest_in as digest_said, digests_in as digests_said, head_in as head_said, keys_in as keys_said, kind_in as kind_said, likely as likely_said, octet_at as octet_said, tariff_in as tariff_said, tie_in as tie_said};
 ghost use Rattle.sms_journal.specs.Text.{header_text};
 
-use crate::text::header::{Digests, JournalKind, write_header};
-use crate::text::note_fields::{cut, digit_in};
+use crate::text::header::{ConfigTie, Digests, JournalKind, ReportKeys, write_header};
+use crate::text::note_fields::{cut, digit_in, flag_in, u32_in};
 use sms_files::memory::NoMemory;
 
 /// What follows `front`, where the text begins with it.
@@ -55,14 +55,71 @@ fn tariff_in(field: &[u8]) -> Option<Option<[u8; 32]>>
     Some(Some(digest_in(field)?))
 }
 
-fn digests_in(text: &[u8]) -> Option<Digests>
-    ensures { result ≡ digests_said text.now }
+/// Keys that a config can have.
+fn likely(keys: ReportKeys) -> Option<ReportKeys>
+    ensures { result ≡ likely_said keys }
 {
-    let (config, rest) = cut(text);
+    if (keys.attempts >= 1 && keys.attempts <= 10)
+        && ((keys.binds >= 1 && keys.binds <= 4) && (keys.workers >= 1 && keys.workers <= 8))
+    {
+        Some(keys)
+    } else {
+        None
+    }
+}
+
+/// The keys of a header, and what follows them.
+fn keys_in(text: &[u8]) -> (Option<ReportKeys>, &[u8])
+    ensures keys { result.0 ≡ keys_said text.now }
+    ensures rest { result.1.now ≡ behind_keys text.now }
+{
+    let (attempts, rest) = cut(text);
+    let (long_reference, rest) = cut(rest);
+    let (binds, rest) = cut(rest);
+    let (workers, rest) = cut(rest);
+    match (u32_in(attempts), u32_in(binds), u32_in(workers)) {
+        (Some(attempts), Some(binds), Some(workers)) => {
+            let keys = ReportKeys {
+                attempts,
+                long_reference: flag_in(long_reference),
+                binds,
+                workers,
+            };
+            (likely(keys), rest)
+        }
+        _ => (None, rest),
+    }
+}
+
+/// What the header of this version says that its journal is tied to of the config, and what follows that.
+fn tie_in<'a>(version: &[u8], text: &'a [u8]) -> Option<(ConfigTie, &'a [u8])>
+    ensures { MatchOption result (tie_said version.now text.now ≡ None) (λ found. tie_said version.now text.now ≡ Some (found.0, found.1.now)) }
+{
+    if version == b"1".as_slice() {
+        let (digest, rest) = cut(text);
+        return match digest_in(digest) {
+            Some(digest) => Some((ConfigTie::Octets(digest), rest)),
+            None => None,
+        };
+    }
+    if version == b"2".as_slice() {
+        let (keys, rest) = keys_in(text);
+        return match keys {
+            Some(keys) => Some((ConfigTie::Keys(keys), rest)),
+            None => None,
+        };
+    }
+    None
+}
+
+/// What a header says that its journal is tied to.
+fn digests_in(version: &[u8], text: &[u8]) -> Option<Digests>
+    ensures { result ≡ digests_said version.now text.now }
+{
+    let (config, rest) = tie_in(version, text)?;
     let (accounts, rest) = cut(rest);
     let (messages, rest) = cut(rest);
     let (tariff, _rest) = cut(rest);
-    let config = digest_in(config)?;
     let accounts = digest_in(accounts)?;
     let messages = digest_in(messages)?;
     let tariff = tariff_in(tariff)?;
@@ -91,9 +148,9 @@ fn head_in(text: &[u8]) -> Option<(JournalKind, Digests)>
     ensures { result ≡ head_said text.now }
 {
     let (word, rest) = cut(text);
-    let (_version, rest) = cut(rest);
+    let (version, rest) = cut(rest);
     let kind = kind_in(word)?;
-    let digests = digests_in(rest)?;
+    let digests = digests_in(version, rest)?;
     Some((kind, digests))
 }
 

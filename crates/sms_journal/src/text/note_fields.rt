@@ -1,7 +1,7 @@
 //! The fields of a note's line.
 
 ghost use Rattle.std.specs.Prelude.{◌≡◌, ◌≤◌, ℕ, List, ◌∷◌, ◌++◌, IfOk, OnOk, length};
-ghost use Rattle.sms_journal.specs.Reading.{behind_field, begun_in as begun_said, digit_in as digit_said, end_at as first_end, end_in as end_said, field_in, flag_in as flag_said, heard_in as heard_said, id_in as id_said, is_end as ends, kind_in as kind_said, note_in as note_said, octets_in, refused_in as refused_said, sent_in as sent_said, time_in as time_said, u32_in as u32_said, u64_in as u64_said, u8_in as u8_said, unsent_in as unsent_said};
+ghost use Rattle.sms_journal.specs.Reading.{behind_field, begun_in as begun_said, digit_in as digit_said, end_at as first_end, end_in as end_said, field_in, flag_in as flag_said, heard_in as heard_said, id_in as id_said, is_end as ends, kind_in as kind_said, note_in as note_said, octets_in, refused_in as refused_said, round_in as round_said, sent_in as sent_said, time_in as time_said, u32_in as u32_said, u64_in as u64_said, u8_in as u8_said, unsent_in as unsent_said};
 ghost use Rattle.sms_journal.specs.declared.text.note_fields.Escape.TheVariants.{Plain};
 
 use crate::notes::{Note, RequestId};
@@ -51,7 +51,7 @@ fn u64_in(field: &[u8]) -> Option<u64>
 }
 
 #[tactic(auto, unfolding(crate::specs::Reading::u32_in))]
-fn u32_in(field: &[u8]) -> Option<u32>
+pub(crate) fn u32_in(field: &[u8]) -> Option<u32>
     ensures { result ≡ u32_said field.now }
 {
     match decimal_of(field, u64::from(u32::MAX)) {
@@ -70,7 +70,7 @@ fn u8_in(field: &[u8]) -> Option<u8>
     }
 }
 
-fn flag_in(field: &[u8]) -> bool
+pub(crate) fn flag_in(field: &[u8]) -> bool
     ensures { result ≡ flag_said field.now }
 {
     field == b"1".as_slice()
@@ -224,6 +224,18 @@ fn end_in(text: &[u8]) -> Option<Note>
     Some(Note::End(u8_in(status)?))
 }
 
+fn round_in(text: &[u8]) -> Option<Note>
+    ensures { result ≡ round_said text.now }
+{
+    let (number, rest) = cut(text);
+    let (binds, rest) = cut(rest);
+    let (workers, _rest) = cut(rest);
+    let number = u32_in(number)?;
+    let binds = u32_in(binds)?;
+    let workers = u32_in(workers)?;
+    Some(Note::Round(number, binds, workers))
+}
+
 /// A note by its word, and what stands after its time.
 fn kind_in(room: &mut Vec<u8>, word: &[u8], text: &[u8]) -> Result<Option<Note>, NoMemory>
     ensures { IfOk result (λ note. note ≡ kind_said word.now text.now) }
@@ -245,6 +257,9 @@ fn kind_in(room: &mut Vec<u8>, word: &[u8], text: &[u8]) -> Result<Option<Note>,
     }
     if word == b"end".as_slice() {
         return Ok(end_in(text));
+    }
+    if word == b"round".as_slice() {
+        return Ok(round_in(text));
     }
     Ok(None)
 }

@@ -1,7 +1,7 @@
 //! The line of each note.
 
 ghost use Rattle.std.specs.Prelude.{◌≡◌, ◌++◌, OnOk, string_bytes};
-ghost use Rattle.sms_journal.specs.declared.notes.note.Note.TheVariants.{Begun, End, Heard, Refused, Sent, Unsent};
+ghost use Rattle.sms_journal.specs.declared.notes.note.Note.TheVariants.{Begun, End, Heard, Refused, Round, Sent, Unsent};
 ghost use Rattle.sms_journal.specs.Text.{flag as flag_of, id_octet, id_text, is_plain as plain, note_text, number_field};
 
 use crate::notes::{Note, RequestId};
@@ -66,12 +66,12 @@ fn write_head(text: &mut String, word: &str, time: u64) -> Result<(), NoMemory>
     write_number(text, time)
 }
 
-/// A request's worker and number.
-fn write_call(text: &mut String, worker: u32, number: u32) -> Result<(), NoMemory>
-    ensures { OnOk result (string_bytes text.new ≡ string_bytes text.old ++ number_field worker ++ number_field number) }
+/// Two numbers.
+fn write_pair(text: &mut String, first: u32, second: u32) -> Result<(), NoMemory>
+    ensures { OnOk result (string_bytes text.new ≡ string_bytes text.old ++ number_field first ++ number_field second) }
 {
-    write_number(text, u64::from(worker))?;
-    write_number(text, u64::from(number))
+    write_number(text, u64::from(first))?;
+    write_number(text, u64::from(second))
 }
 
 fn write_sent(
@@ -84,7 +84,7 @@ fn write_sent(
     ensures { OnOk result (string_bytes text.new ≡ string_bytes text.old ++ note_text time (Sent request message part)) }
 {
     write_head(text, "sent", time)?;
-    write_call(text, request.worker, request.number)?;
+    write_pair(text, request.worker, request.number)?;
     write_number(text, message)?;
     write_number(text, u64::from(part))?;
     memory::append(text, "\n")
@@ -94,7 +94,7 @@ fn write_unsent(text: &mut String, time: u64, request: RequestId) -> Result<(), 
     ensures { OnOk result (string_bytes text.new ≡ string_bytes text.old ++ note_text time (Unsent request)) }
 {
     write_head(text, "unsent", time)?;
-    write_call(text, request.worker, request.number)?;
+    write_pair(text, request.worker, request.number)?;
     memory::append(text, "\n")
 }
 
@@ -102,7 +102,7 @@ fn write_heard(text: &mut String, time: u64, by: u32, reply: &Reply) -> Result<(
     ensures { OnOk result (string_bytes text.new ≡ string_bytes text.old ++ note_text time (Heard by reply.now)) }
 {
     write_head(text, "heard", time)?;
-    write_call(text, by, reply.number)?;
+    write_pair(text, by, reply.number)?;
     write_number(text, u64::from(reply.status))?;
     write_number(text, flag(reply.nack))?;
     memory::append(text, ",")?;
@@ -141,6 +141,21 @@ fn write_end(text: &mut String, time: u64, status: u8) -> Result<(), NoMemory>
     memory::append(text, "\n")
 }
 
+fn write_round(
+    text: &mut String,
+    time: u64,
+    number: u32,
+    binds: u32,
+    workers: u32,
+) -> Result<(), NoMemory>
+    ensures { OnOk result (string_bytes text.new ≡ string_bytes text.old ++ note_text time (Round number binds workers)) }
+{
+    write_head(text, "round", time)?;
+    write_number(text, u64::from(number))?;
+    write_pair(text, binds, workers)?;
+    memory::append(text, "\n")
+}
+
 /// Writes the line of a note that is made at this time, in milliseconds since 1970 UTC, or 0 where
 /// it isn't known.
 pub fn write_note(text: &mut String, time: u64, note: &Note) -> Result<(), NoMemory>
@@ -153,5 +168,6 @@ pub fn write_note(text: &mut String, time: u64, note: &Note) -> Result<(), NoMem
         Note::Heard(by, reply) => write_heard(text, time, *by, reply),
         Note::Refused(message, refusal) => write_refused(text, time, *message, *refusal),
         Note::End(status) => write_end(text, time, *status),
+        Note::Round(number, binds, workers) => write_round(text, time, *number, *binds, *workers),
     }
 }

@@ -1,14 +1,14 @@
 //! The lines of notes, and the header.
 
 use super::{Row, THROTTLED, note_of, same};
-use sms_journal::{Digests, JournalKind, Note, write_header, write_note};
+use sms_journal::{ConfigTie, Digests, JournalKind, Note, ReportKeys, write_header, write_note};
 use sms_pdu::reply_of;
 use std::alloc::{AllocError, Global};
 use std::process::Abort;
 use std::test::Fail;
 
 /// Notes and their lines, made at 1,700,000,000,123 ms.
-const LINES: [(Row, &str); 6] = [
+const LINES: [(Row, &str); 7] = [
     (Row::Begun(0), "begun,1700000000123,0\n"),
     (Row::Sent(12, 3, 2), "sent,1700000000123,0,12,3,2\n"),
     (Row::Unsent(12), "unsent,1700000000123,0,12\n"),
@@ -18,6 +18,7 @@ const LINES: [(Row, &str); 6] = [
     ),
     (Row::Refused(9), "refused,1700000000123,9,no-credit\n"),
     (Row::End, "end,1700000000123,0\n"),
+    (Row::Round, "round,1700000000123,2,4,8\n"),
 ];
 
 fn line_of(alloc: Global, note: &Note) -> Result<String, AllocError> {
@@ -61,9 +62,9 @@ fn message_ids_stand_on_one_line(rt: HostRuntime) -> Result<(), Fail> {
     Ok(())
 }
 
-fn header_of(alloc: Global, kind: JournalKind) -> Result<String, AllocError> {
+fn header_of(alloc: Global, kind: JournalKind, config: ConfigTie) -> Result<String, AllocError> {
     let digests = Digests {
-        config: [0; 32],
+        config,
         accounts: [1; 32],
         messages: [0xAB; 32],
         tariff: None,
@@ -75,9 +76,11 @@ fn header_of(alloc: Global, kind: JournalKind) -> Result<String, AllocError> {
     }
 }
 
-/// The digests in the headers of those files.
+/// The digest of the config in the headers of those files.
+const CONFIG_FIELD: &str = "0000000000000000000000000000000000000000000000000000000000000000";
+
+/// The other digests.
 const FIELDS: &str = concat!(
-    "0000000000000000000000000000000000000000000000000000000000000000,",
     "0101010101010101010101010101010101010101010101010101010101010101,",
     "abababababababababababababababababababababababababababababababab,\n"
 );
@@ -86,9 +89,24 @@ const FIELDS: &str = concat!(
 fn the_header_has_the_kind_and_the_digests(rt: HostRuntime) -> Result<(), Fail> {
     let alloc = rt.alloc();
     for (kind, word) in [(JournalKind::Run, "journal"), (JournalKind::Trial, "trial")] {
-        let got = header_of(alloc, kind)?;
-        let wanted = format!(in alloc; "{word},1,{FIELDS}")?;
+        let got = header_of(alloc, kind, ConfigTie::Octets([0; 32]))?;
+        let wanted = format!(in alloc; "{word},1,{CONFIG_FIELD},{FIELDS}")?;
         same(&rt, got.as_str(), wanted.as_str());
     }
+    Ok(())
+}
+
+#[test]
+fn the_header_has_the_keys_that_a_report_is_computed_by(rt: HostRuntime) -> Result<(), Fail> {
+    let alloc = rt.alloc();
+    let keys = ReportKeys {
+        attempts: 10,
+        long_reference: false,
+        binds: 2,
+        workers: 3,
+    };
+    let got = header_of(alloc, JournalKind::Run, ConfigTie::Keys(keys))?;
+    let wanted = format!(in alloc; "journal,2,10,0,2,3,{FIELDS}")?;
+    same(&rt, got.as_str(), wanted.as_str());
     Ok(())
 }

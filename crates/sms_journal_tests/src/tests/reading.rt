@@ -1,9 +1,11 @@
-//! Journals written by hand and read, and the digests of files.
+//! Journals written by hand and read.
+
+mod others;
 
 use super::same;
 use sms_journal::{
-    Digests, JournalError, JournalKind, Note, RequestId, RunFile, digests_of, read_notes,
-    write_header, write_note,
+    ConfigTie, Digests, FileTies, JournalError, JournalKind, Note, ReportKeys, RequestId,
+    read_notes, write_header, write_note,
 };
 use sms_message::MessageRefusal;
 use sms_pdu::reply_of;
@@ -12,10 +14,22 @@ use std::process::Abort;
 use std::test::Fail;
 
 const DIGESTS: Digests = Digests {
-    config: [0x10; 32],
+    config: ConfigTie::Octets([0x10; 32]),
     accounts: [0x2A; 32],
     messages: [0xFF; 32],
     tariff: None,
+};
+
+const KEYS: ReportKeys = ReportKeys {
+    attempts: 3,
+    long_reference: true,
+    binds: 4,
+    workers: 8,
+};
+
+const FILES: FileTies = FileTies {
+    digests: DIGESTS,
+    keys: KEYS,
 };
 
 /// The header of these files.
@@ -176,7 +190,7 @@ fn text_of(alloc: Global, front: &str, behind: &str) -> Result<String, AllocErro
 
 /// How many notes are read, or which record is faulty.
 fn count_of(alloc: Global, text: &str) -> Result<Result<usize, usize>, JournalError> {
-    match read_notes(alloc, text.as_bytes(), &DIGESTS) {
+    match read_notes(alloc, text.as_bytes(), &FILES) {
         Ok(read) => Ok(Ok(read.notes.len())),
         Err(JournalError::BadRecord(place)) => Ok(Err(place)),
         Err(other) => Err(other),
@@ -198,13 +212,16 @@ fn journals_are_read(rt: HostRuntime) -> Result<(), Fail> {
 }
 
 /// Texts, from their first octet on.
-const WHOLE: [(&str, Result<usize, usize>); 11] = [
+const WHOLE: [(&str, Result<usize, usize>); 14] = [
     // The run ended before it had noted anything.
     ("", Ok(0)),
     ("journal,1,10", Ok(0)),
     ("trial,1,1010", Ok(0)),
     // No journal, and truncated headers of other files.
+    ("journal,2,3,1,4", Ok(0)),
+    ("trial,2,3,1,4", Ok(0)),
     ("journal,2,10", Err(1)),
+    ("journal,3,3,1,4", Err(1)),
     ("trials,1,10", Err(1)),
     ("journal,1,11", Err(1)),
     ("trial,1,\n", Err(1)),
@@ -254,10 +271,11 @@ fn what_was_written_is_read(rt: HostRuntime) -> Result<(), Fail> {
         Note::Heard(7, reply),
         Note::Refused(9, MessageRefusal::NoCredit),
         Note::End(4),
+        Note::Round(2, 4, 8),
     ];
     for kind in [JournalKind::Run, JournalKind::Trial] {
         let text = written(alloc, kind, notes.as_slice())?;
-        let read = read_notes(alloc, text.as_bytes(), &DIGESTS)?;
+        let read = read_notes(alloc, text.as_bytes(), &FILES)?;
         same(&rt, read.kind, kind);
         same(&rt, read.notes.as_slice(), notes.as_slice());
     }
@@ -279,7 +297,7 @@ fn kind_of(
     octets: usize,
 ) -> Result<Result<JournalKind, JournalError>, JournalError> {
     let text = written(alloc, kind, &[])?;
-    match read_notes(alloc, front_of(text.as_bytes(), octets), &DIGESTS) {
+    match read_notes(alloc, front_of(text.as_bytes(), octets), &FILES) {
         Ok(read) => Ok(Ok(read.kind)),
         Err(fault) => match fault {
             JournalError::OutOfMemory(_) => Err(fault),
@@ -308,85 +326,5 @@ fn truncated_headers_are_of_their_kind(rt: HostRuntime) -> Result<(), Fail> {
             Ok(JournalKind::Trial),
         );
     }
-    Ok(())
-}
-
-/// Of a journal of the files with [`DIGESTS`], read as that of others, the file that differs.
-fn other_file(
-    alloc: Global,
-    kind: JournalKind,
-    others: &Digests,
-) -> Result<Option<RunFile>, JournalError> {
-    let notes = [Note::Begun(3)];
-    let text = written(alloc, kind, notes.as_slice())?;
-    match read_notes(alloc, text.as_bytes(), others) {
-        Ok(_) => Ok(None),
-        Err(JournalError::OtherFiles(file)) => Ok(Some(file)),
-        Err(fault) => Err(fault),
-    }
-}
-
-fn with_config(digests: Digests) -> Digests {
-    Digests {
-        config: [0xFF; 32],
-        ..digests
-    }
-}
-
-fn with_accounts(digests: Digests) -> Digests {
-    Digests {
-        accounts: [0x10; 32],
-        ..digests
-    }
-}
-
-fn with_messages(digests: Digests) -> Digests {
-    Digests {
-        messages: [0x2A; 32],
-        ..digests
-    }
-}
-
-fn with_tariff(digests: Digests) -> Digests {
-    Digests {
-        tariff: Some([0xFF; 32]),
-        ..digests
-    }
-}
-
-#[test]
-fn the_first_file_that_differs_is_named(rt: HostRuntime) -> Result<(), Fail> {
-    let alloc = rt.alloc();
-    let tariff = with_tariff(DIGESTS);
-    let messages = with_messages(tariff);
-    let accounts = with_accounts(messages);
-    let cases = [
-        (DIGESTS, None),
-        (tariff, Some(RunFile::Tariff)),
-        (messages, Some(RunFile::Messages)),
-        (accounts, Some(RunFile::Accounts)),
-        (with_config(accounts), Some(RunFile::Config)),
-    ];
-    for (others, wanted) in &cases {
-        for kind in [JournalKind::Run, JournalKind::Trial] {
-            same(&rt, other_file(alloc, kind, others)?, *wanted);
-        }
-    }
-    Ok(())
-}
-
-/// The digest of nothing, and of `abc` (FIPS 180-4's example).
-const OF_NOTHING: [u8; 4] = [0xE3, 0xB0, 0xC4, 0x42];
-
-const OF_ABC: [u8; 4] = [0xBA, 0x78, 0x16, 0xBF];
-
-#[test]
-fn files_have_digests(rt: HostRuntime) -> Result<(), Fail> {
-    let digests = digests_of(b"abc", b"", b"abc", Some(b"abc".as_slice()));
-    same(&rt, &digests.config[..4], OF_ABC.as_slice());
-    same(&rt, &digests.accounts[..4], OF_NOTHING.as_slice());
-    same(&rt, &digests.messages[..4], OF_ABC.as_slice());
-    same(&rt, digests.tariff, Some(digests.config));
-    same(&rt, digests_of(b"", b"", b"", None).tariff, None);
     Ok(())
 }

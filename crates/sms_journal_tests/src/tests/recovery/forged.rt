@@ -5,6 +5,7 @@ use super::head::head_of;
 use super::same::same;
 use sms_journal::{Digests, JournalKind, digests_of, run_recover};
 use std::alloc::{AllocError, Global};
+use std::process::Abort;
 use std::test::Fail;
 
 /// Messages are dealt to four workers, of which two are at each bind.
@@ -180,6 +181,78 @@ const JOURNALS: [(&str, &str); 50] = [
     ),
 ];
 
+/// Records of journals of several rounds, and what is said of them.
+const ROUNDS: [(&str, &str); 27] = [
+    // A number that was used before, and what was refused for a lost bind, are new in the next round.
+    (
+        "begun,1,0\nsent,1,0,2,0,1\nround,1,2,1,1\nbegun,1,1\nsent,1,0,2,1,1\nheard,1,0,2,0,0,m\n",
+        "4",
+    ),
+    ("refused,1,0,bind-closed\nround,1,2,1,1\nbegun,1,0\n", "0"),
+    // Messages are dealt by their places among those that were left.
+    (
+        "begun,1,0\nround,1,2,1,2\nbegun,1,2\nsent,1,1,2,2,1\nbegun,1,1\nsent,1,0,1,1,1\n",
+        "4",
+    ),
+    (
+        "begun,1,0\nround,1,2,1,2\nbegun,1,1\nsent,1,1,1,1,1\n",
+        "journal record 5",
+    ),
+    ("begun,1,0\nround,1,2,1,2\nbegun,1,3\n", "journal record 4"),
+    ("begun,1,0\nround,1,2,1,1\nbegun,1,2\n", "journal record 4"),
+    // No message is begun twice, or sent, or answered, in a round that didn't begin it.
+    ("begun,1,0\nround,1,2,1,1\nbegun,1,0\n", "journal record 4"),
+    (
+        "begun,1,0\nround,1,2,1,1\nrefused,1,0,bind-closed\n",
+        "journal record 4",
+    ),
+    (
+        "begun,1,0\nround,1,2,1,1\nsent,1,0,2,0,1\n",
+        "journal record 4",
+    ),
+    (
+        "begun,1,0\nsent,1,0,2,0,1\nround,1,2,1,1\nheard,1,0,2,0,0,m\n",
+        "journal record 5",
+    ),
+    (
+        "begun,1,0\nsent,1,0,2,0,1\nround,1,2,1,1\nunsent,1,0,2\n",
+        "journal record 5",
+    ),
+    (
+        "begun,1,1\nrefused,1,5,no-account\nround,1,2,1,1\nrefused,1,5,no-account\n",
+        "journal record 5",
+    ),
+    // Rounds are counted, and have as many binds and workers as a config can ask for.
+    ("round,1,2,4,8\nround,1,3,1,1\n", "0"),
+    ("round,1,1,1,1\n", "journal record 2"),
+    ("round,1,3,1,1\n", "journal record 2"),
+    ("round,1,2,1,1\nround,1,2,1,1\n", "journal record 3"),
+    ("round,1,2,0,1\n", "journal record 2"),
+    ("round,1,2,1,0\n", "journal record 2"),
+    ("round,1,2,5,1\n", "journal record 2"),
+    ("round,1,2,1,9\n", "journal record 2"),
+    ("round,1,2,1\n", "journal record 2"),
+    // The end of the run is by all its rounds.
+    ("begun,1,0\nsent,1,0,2,0,1\nround,1,2,1,1\nend,1,4\n", "4"),
+    (
+        "begun,1,0\nsent,1,0,2,0,1\nround,1,2,1,1\nend,1,0\n",
+        "journal record 5",
+    ),
+    (
+        "begun,1,0\nround,1,2,1,1\nend,1,0\nround,1,3,1,1\nbegun,1,1\n",
+        "0",
+    ),
+    (
+        "begun,1,0\nround,1,2,1,1\nend,1,0\nbegun,1,1\n",
+        "journal record 5",
+    ),
+    (
+        "begun,1,0\nround,1,2,1,1\nbegun,1,1\nend,1,0\n",
+        "journal record 5",
+    ),
+    ("end,1,0\n", "journal record 2"),
+];
+
 /// The status of what is recovered of a journal with these records, or the fault.
 fn said(alloc: Global, messages: &[u8], digests: &Digests, records: &str) -> Result<String, Fail> {
     let mut journal = head_of(alloc, JournalKind::Run, digests)?;
@@ -203,14 +276,22 @@ fn said(alloc: Global, messages: &[u8], digests: &Digests, records: &str) -> Res
     }
 }
 
-#[test]
-fn a_journal_that_no_run_wrote_is_refused(rt: HostRuntime) -> Result<(), Fail> {
-    let alloc = rt.alloc();
+fn check_journals(rt: &impl Abort, alloc: Global, journals: &[(&str, &str)]) -> Result<(), Fail> {
     let messages = messages_of(alloc)?;
     let digests = digests_of(CONFIG, ACCOUNTS, messages.as_bytes(), None);
-    for (records, wanted) in JOURNALS {
-        let got = said(alloc, messages.as_bytes(), &digests, records)?;
-        same(&rt, got.as_str(), wanted);
+    for (records, wanted) in journals {
+        let got = said(alloc, messages.as_bytes(), &digests, *records)?;
+        same(rt, got.as_str(), *wanted);
     }
     Ok(())
+}
+
+#[test]
+fn a_journal_that_no_run_wrote_is_refused(rt: HostRuntime) -> Result<(), Fail> {
+    check_journals(&rt, rt.alloc(), JOURNALS.as_slice())
+}
+
+#[test]
+fn rounds_that_no_run_had_are_refused(rt: HostRuntime) -> Result<(), Fail> {
+    check_journals(&rt, rt.alloc(), ROUNDS.as_slice())
 }

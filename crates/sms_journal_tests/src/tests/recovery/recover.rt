@@ -18,7 +18,7 @@ const STATEMENT: &str = "account,topped,free,reserved,charged,returned\nmain,3,"
 
 /// Records of a journal behind its header, the lines and the amounts that are recovered from them, and the
 /// exit status.
-const RUNS: [(&str, &str, &str, u8); 9] = [
+const RUNS: [(&str, &str, &str, u8); 12] = [
     (
         "",
         "0,0,0,bind-closed,,\n1,0,0,bind-closed,,\n",
@@ -71,6 +71,30 @@ const RUNS: [(&str, &str, &str, u8); 9] = [
     (
         "begun,5,0\nsent,6,0,1,0,1",
         "0,1,0,unsent,,\n1,0,0,bind-closed,,\n",
+        "3,0,0,1",
+        0,
+    ),
+    // What a round left is sent in the next, with a number that was used before.
+    (
+        concat!(
+            "begun,5,0\nsent,6,0,1,0,1\nheard,7,0,1,0,0,m1\nrefused,7,1,bind-closed\nround,8,2,1,1\n",
+            "begun,9,1\nsent,9,0,1,1,1\nheard,9,0,1,0,0,m2\nend,9,0\n",
+        ),
+        "0,1,1,charged,0,m1\n1,1,1,charged,0,m2\n",
+        "1,0,2,0",
+        0,
+    ),
+    // What is unanswered stays so, and a round that was begun and no more leaves what it was given.
+    (
+        "begun,5,0\nsent,6,0,1,0,1\nround,8,2,1,1\nround,9,3,4,8\n",
+        "0,1,1,unanswered,,\n1,0,0,bind-closed,,\n",
+        "2,1,0,0",
+        4,
+    ),
+    // A message that was refused for its credits is not left.
+    (
+        "refused,5,0,no-credit\nround,8,2,1,1\nbegun,9,1\n",
+        "0,0,0,no-credit,,\n1,1,0,unsent,,\n",
         "3,0,0,1",
         0,
     ),

@@ -1,35 +1,10 @@
-use Rattle.std.proofs.Common.{rules, ◌≡◌, List, subst, sym, take, arith}
-use Rattle.sms_journal.specs.declared.notes.note.Note.{Note}
-use Rattle.sms_journal.specs.Lawful.{IsJournal, IsFirstFault}
-use Rattle.sms_journal.specs.Seen.{Sees}
-use Rattle.sms_files.proofs.Lists.{take_whole}
-use Rattle.sms_journal.proofs.Lists.{got_at, some_of, take_snoc}
-use Rattle.sms_journal.proofs.Seeing.{journal_more, sees_more}
+use Rattle.std.proofs.Common.{List, ℕ, subst}
+use Rattle.std.specs.Prelude.{OnOk}
+use Rattle.sms_journal.specs.Lawful.{IsFirstOff, IsRound}
 use Rattle.sms_journal.proofs.notes.checking.check_notes.Goals as goal
 
-pub loop-place-preserved : goal.loop-place-preserved
-loop-place-preserved c =
-    let there = got_at c.args.notes.now c.loop-place.place c.index-notes-place.result (omega arith) c.index-notes-place.is in
-    let front = take c.loop-place.place c.args.notes.now in
-    let more = take_snoc c.args.notes.now c.loop-place.place c.index-notes-place.result there in
-    let may = some_of _ c.in_ok-found.found c.in-Some.count c.in-Some.is (c.in_ok-found.ensures.admitted) in
-    let counts = some_of _ c.in_ok-found.found c.in-Some.count c.in-Some.is c.in_ok-found.ensures.count in
-    record {
-      sees = subst (λ (l : List Note). Sees c.args.rules.now c.args.size c.args.messages.now l c.keep.new.seen) (sym more)
-          (sees_more c.args.rules.now c.args.size c.args.messages.now front c.index-notes-place.result c.in-Some.count c.loop-place.seen c.keep.new.seen c.in_ok-keep.ensures c.loop-place.invariant.sees may counts);
-      journal = subst (λ (l : List Note). IsJournal c.args.rules.now c.args.size c.args.messages.now l) (sym more)
-          (journal_more c.args.rules.now c.args.size c.args.messages.now front c.index-notes-place.result c.loop-place.invariant.journal may);
-    }
-
-pub returns-in_default-clause-faulty : goal.returns-in_default-clause-faulty
-returns-in_default-clause-faulty c = λ k is.
-    let there = got_at c.args.notes.now c.loop-place.place c.index-notes-place.result (omega arith) c.index-notes-place.is in
-    let same : c.loop-place.place ≡ k = cc in
-    subst (IsFirstFault c.args.rules.now c.args.size c.args.messages.now c.args.notes.now) same
-    (record { front = c.loop-place.invariant.journal; note = c.index-notes-place.result; there = there; refused = c.in_ok-found.ensures.refused (search rules) })
-
 pub returns-clause-lawful : goal.returns-clause-lawful
-returns-clause-lawful c = subst (λ (l : List Note). IsJournal c.args.rules.now c.args.size c.args.messages.now l) (take_whole c.args.notes.now c.loop-place.place (omega arith)) c.loop-place.invariant.journal
+returns-clause-lawful c = subst (λ (given : List ℕ). OnOk c.check_round.result (IsRound c.args.rules.now c.args.size c.args.messages.now given c.args.notes.now)) c.in_ok-given.ensures.all c.check_round.ensures.lawful
 
-pub loop-place-init : goal.loop-place-init
-loop-place-init c = record { sees = c.nothing_seen-seen.ensures c.args.rules.now c.args.size c.args.messages.now; journal = λ k n there. absurd (cc) }
+pub returns-clause-faulty : goal.returns-clause-faulty
+returns-clause-faulty c = λ k is. subst (λ (given : List ℕ). IsFirstOff c.args.rules.now c.args.size c.args.messages.now given c.args.notes.now k) c.in_ok-given.ensures.all (c.check_round.ensures.faulty k is)

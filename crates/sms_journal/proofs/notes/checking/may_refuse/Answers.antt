@@ -23,5 +23,5 @@ returns c =
     let ms = c.args.messages.now in
     let has = HasRefusal rs size ms c.args.index c.args.refusal in
     IfOk-weaker c.has_refusal.result (λ (may : Bool). IsTrue may ↔ has)
-    (λ (may : Bool). (notes : List Note) → Sees rs size ms notes c.args.seen.now → IsTrue may ↔ (HasTurn size notes c.args.index × has))
+    (λ (may : Bool). (notes : List Note) → Sees rs size ms notes c.args.seen.now → IsTrue may ↔ (HasTurn size c.args.given.now.indexes.items notes c.args.index × has))
     (λ may h notes sees. ((λ e. ((c.has_turn.ensures rs ms notes sees).0 some, h.0 e)), (λ g. h.1 g.1))) c.has_refusal.ensures

@@ -5,4 +5,4 @@ use Rattle.sms_journal.proofs.recovery.journaled.checked.Goals as goal
 pub returns-in-BadNote-clause-refused : goal.returns-in-BadNote-clause-refused
 returns-in-BadNote-clause-refused c =
     note_fault c.args.rules.now c.args.size c.args.messages.now c.args.notes.now c.fault_at.result c.in-BadNote.place c.fault_at.ensures
-    (c.check_notes.ensures.faulty c.in-BadNote.place (search rules))
+    (c.check_with_ends.ensures.faulty c.in-BadNote.place (search rules))

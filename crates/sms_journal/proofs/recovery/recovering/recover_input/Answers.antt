@@ -4,7 +4,7 @@ use Rattle.sms_book.specs.Tariffs.{Price}
 use Rattle.sms_book.specs.declared.opening.Opening.{Opening}
 use Rattle.sms_message.specs.declared.message.Message.{Message}
 use Rattle.sms_files.specs.declared.config.Config.{Config}
-use Rattle.sms_journal.specs.Recovering.{Recovers, RecoversInput, IsFaultOfInput, IsFaultOfRecovery, size_of}
+use Rattle.sms_journal.specs.Recovering.{Recovers, RecoversInput, IsFaultOfInput, IsFaultOfRecovery, size_in, sized}
 use Rattle.sms_files.specs.RunRules.{IsRulesOf}
 use Rattle.sms_journal.specs.declared.notes.run_size.RunSize.{RunSize}
 use Rattle.sms_journal.proofs.NoteLists.{recovers_input, tells_input}
@@ -22,10 +22,10 @@ returns-clause-recovered g c =
     let size : RunSize = c.size_by-size.result in
     let limits : c.into_parts-config.result.0.limits ≡ input.config.limits = ap (λ (k : Config). k.limits) e.config in
     let os : c.as_slice-accounts.result.now ≡ input.openings.items = c.as_slice-accounts.ensures.value ∙ ap (λ (v : Vec Opening Global). v.items) e.openings in
-    let sized : size ≡ size_of input = c.size_by-size.ensures ∙ (λ i. record { accounts = length (os i); binds = (limits i).binds; workers = (limits i).workers }) in
+    let large : size ≡ size_in input c.args.first = c.size_by-size.ensures ∙ (λ i. sized (length (os i)) (limits i) c.args.first) in
     let ms : c.as_slice.result.now ≡ input.messages.items = c.as_slice.ensures.value ∙ ap (λ (v : Vec Message Global). v.items) e.messages in
-    IfOk-weaker c.recover_notes.result (Recovers rules size c.as_slice-accounts.result.now c.as_slice.result.now c.args.notes.now old new) (RecoversInput input c.args.notes.now old new)
-    (recovers_input input c.args.notes.now old new rules size c.as_slice-accounts.result.now c.as_slice.result.now says os ms sized) c.recover_notes.ensures.recovered
+    IfOk-weaker c.recover_notes.result (Recovers rules size c.as_slice-accounts.result.now c.as_slice.result.now c.args.notes.now old new) (RecoversInput input c.args.first c.args.notes.now old new)
+    (recovers_input input c.args.first c.args.notes.now old new rules size c.as_slice-accounts.result.now c.as_slice.result.now says os ms large) c.recover_notes.ensures.recovered
 
 pub returns-clause-refused : goal.returns-clause-refused
 returns-clause-refused g c =
@@ -39,7 +39,7 @@ returns-clause-refused g c =
     let size : RunSize = c.size_by-size.result in
     let limits : c.into_parts-config.result.0.limits ≡ input.config.limits = ap (λ (k : Config). k.limits) e.config in
     let os : c.as_slice-accounts.result.now ≡ input.openings.items = c.as_slice-accounts.ensures.value ∙ ap (λ (v : Vec Opening Global). v.items) e.openings in
-    let sized : size ≡ size_of input = c.size_by-size.ensures ∙ (λ i. record { accounts = length (os i); binds = (limits i).binds; workers = (limits i).workers }) in
+    let large : size ≡ size_in input c.args.first = c.size_by-size.ensures ∙ (λ i. sized (length (os i)) (limits i) c.args.first) in
     let ms : c.as_slice.result.now ≡ input.messages.items = c.as_slice.ensures.value ∙ ap (λ (v : Vec Message Global). v.items) e.messages in
-    IfErr-weaker c.recover_notes.result (IsFaultOfRecovery rules size c.as_slice-accounts.result.now c.as_slice.result.now c.args.notes.now old new) (IsFaultOfInput input c.args.notes.now old new)
-    (tells_input input c.args.notes.now old new rules size c.as_slice-accounts.result.now c.as_slice.result.now says os ms sized) c.recover_notes.ensures.refused
+    IfErr-weaker c.recover_notes.result (IsFaultOfRecovery rules size c.as_slice-accounts.result.now c.as_slice.result.now c.args.notes.now old new) (IsFaultOfInput input c.args.first c.args.notes.now old new)
+    (tells_input input c.args.first c.args.notes.now old new rules size c.as_slice-accounts.result.now c.as_slice.result.now says os ms large) c.recover_notes.ensures.refused

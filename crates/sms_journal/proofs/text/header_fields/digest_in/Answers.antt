@@ -1,6 +1,6 @@
 use Rattle.std.proofs.Common.{◌≡◌, ◌∙◌, length, arith, rules}
 use Rattle.std.proofs.lemmas.List.{length-set}
-use Rattle.sms_journal.proofs.Heads.{all_octets, digest_read, more_octets}
+use Rattle.sms_journal.proofs.DigestTexts.{all_octets, digest_read, more_octets}
 use Rattle.sms_journal.proofs.text.header_fields.digest_in.Goals as goal
 
 pub loop-place-preserved : goal.loop-place-preserved

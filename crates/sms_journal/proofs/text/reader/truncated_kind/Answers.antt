@@ -6,8 +6,8 @@ use Rattle.sms_journal.proofs.text.reader.truncated_kind.Goals as goal
 
 pub returns-then-branch-2 : goal.returns-then-branch-2
 returns-then-branch-2 c =
-    let digests = c.args.digests.now in
+    let files = c.args.files.now in
     let text = c.args.text.now in
-    let other : IsTruncated Run digests text false = search rules in
-    let is : TruncatesHeader Trial digests text = search rules in
-    unbegun_trial digests text other is
+    let other : IsTruncated Run files text false = search rules in
+    let is : TruncatesHeader Trial files text = search rules in
+    unbegun_trial files text other is

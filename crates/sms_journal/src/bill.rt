@@ -1,0 +1,15 @@
+//! What a business bills from, and what a person has to decide: a record of each part of a run's messages, by
+//! its files and its journal.
+
+mod calendar;
+mod instants;
+pub mod laws;
+mod lines;
+mod listing;
+mod moments;
+mod parts;
+mod printing;
+mod run;
+
+pub use listing::Listing;
+pub use run::run_listing;
