@@ -1,6 +1,6 @@
 -- What a run gives back of distinct accounts.
 use Rattle.std.proofs.Common.{◌≡◌, ℕ, ◌+◌, List, [], ◌∷◌, ◌++◌, Some, None, refl, sym, ap, ◌∙◌, subst}
-use Rattle.std.specs.Prelude.{◌≢◌, ◌&&◌, Option}
+use Rattle.std.specs.Prelude.{◌≢◌, Option}
 use Rattle.std.specs.Str.{bytes_eq}
 use Rattle.sms_core.specs.declared.row.Row.{Row as RunRow}
 use Rattle.sms_ledger.specs.declared.entry.Stand.{Stand}

@@ -1,9 +1,11 @@
 pub mod Balancing
 pub mod Causes
 pub mod Counts
+pub mod DecidedOnce
 pub mod Escapes
 pub mod Feeds
 pub mod Fields
+pub mod Following
 pub mod GivingBack
 pub mod NameFields
 pub mod Once

@@ -1,5 +1,7 @@
 pub mod Balance
 pub mod Books
+pub mod Decisions
+pub mod InMemory
 pub mod Kept
 pub mod Laws
 pub mod Lines

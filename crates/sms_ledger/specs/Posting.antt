@@ -11,7 +11,7 @@ use Rattle.sms_ledger.specs.declared.entry.Entry.{Entry}
 use Rattle.sms_ledger.specs.declared.entry.Entry.TheVariants.{Paid, Taken, Returned}
 use Rattle.sms_ledger.specs.declared.refusal.Refusal.{Refusal}
 use Rattle.sms_ledger.specs.Books.{AreBooked, IsBooked, IsRefused, State, Unless, after_all, payment_in, refusal_of, stand_of}
-use Rattle.sms_ledger.specs.Text.{entry_text}
+use Rattle.sms_ledger.specs.Text.{entry_text, header_text}
 
 -- ---- a top-up that is booked once
 
@@ -60,6 +60,11 @@ pub record StopsAt (es : List Entry) (s : State) (r : Refusal) : Type 0 where
 
 abbrev pub IsStopped : List Entry → State → Refusal → Type 0
 IsStopped es s r = Unless r (StopsAt es s r)
+
+-- what goes behind the whole lines of a file: these lines, and before the first one the header
+abbrev pub appended_text : List ℕ → List ℕ → List ℕ
+appended_text [] lines = header_text ++ lines
+appended_text (c ∷ cs) lines = lines
 
 -- ---- what a run takes, and gives back
 

@@ -1,12 +1,13 @@
 -- What holds of all that commands book, by the definitions alone.
-use Rattle.std.specs.Prelude.{◌≡◌, ◌≢◌, ⊤, ℕ, ◌==◌, List, [], ◌∷◌, Option, Some, None, if◌then◌else◌, ◌++◌, ◌+◌}
+use Rattle.std.specs.Prelude.{◌≡◌, ◌≢◌, take, ⊤, ℕ, ◌==◌, List, [], ◌∷◌, Option, Some, None, if◌then◌else◌, ◌++◌, ◌+◌}
 use Rattle.sms_core.specs.declared.row.Row.{Row as RunRow}
 use Rattle.sms_ledger.specs.declared.entry.Entry.{Entry}
 use Rattle.sms_ledger.specs.declared.entry.Stand.{Stand}
 use Rattle.sms_ledger.specs.declared.entry.Stand.TheVariants.{Back, Out}
-use Rattle.sms_ledger.specs.Books.{AreBooked, IsLedger, State, after_all, books_of, row_at, stand_of}
-use Rattle.sms_ledger.specs.Lines.{IsEntry, IsU64, IsWholeText}
-use Rattle.sms_ledger.specs.Posting.{lines_of, returns_of, takings_of}
+use Rattle.sms_ledger.specs.Books.{AreBooked, IsBooked, IsLedger, State, after_all, books_of, row_at, stand_of}
+use Rattle.sms_ledger.specs.Lines.{IsEntry, IsFileOf, IsU64, IsWholeLength, IsWholeText}
+use Rattle.sms_ledger.specs.Posting.{appended_text, lines_of, returns_of, takings_of}
+use Rattle.sms_ledger.specs.Text.{entry_text}
 
 abbrev pub IsNoneOf : List ℕ → List (List ℕ) → Type 0
 IsNoneOf name [] = ⊤
@@ -79,3 +80,15 @@ PostsAppend = (text : List ℕ) (es more : List Entry) (time : ℕ) → IsWholeT
 -- which it is where they may follow
 abbrev pub BookedAppend : Type 0
 BookedAppend = (es more : List Entry) → IsLedger es → AreBooked (books_of es) more → IsLedger (es ++ more) × (books_of (es ++ more) ≡ after_all more (books_of es))
+
+-- and so are the octets of a file, of which a line that was truncated is cut off: they are the ledger with those entries
+abbrev pub FilesGoOn : Type 0
+FilesGoOn =
+    (text : List ℕ) (n time : ℕ) (s : State) (more : List Entry) → IsFileOf text s → IsWholeLength text n → IsU64 time → AreEntries more → AreBooked s more
+    → IsFileOf (take n text ++ appended_text (take n text) (lines_of time more)) (after_all more s)
+
+-- the same of one entry
+abbrev pub FilesTakeEntries : Type 0
+FilesTakeEntries =
+    (text : List ℕ) (n time : ℕ) (s t : State) (e : Entry) → IsFileOf text s → IsWholeLength text n → IsU64 time → IsEntry e → IsBooked e s t
+    → IsFileOf (take n text ++ appended_text (take n text) (entry_text time e)) t

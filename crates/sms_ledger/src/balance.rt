@@ -2,7 +2,7 @@
 
 ghost use Rattle.std.specs.Prelude.{◌≡◌, ◌++◌, IfOk, OnOk, string_bytes};
 ghost use Rattle.sms_ledger.specs.Kept.{IsSound, state_of};
-ghost use Rattle.sms_ledger.specs.Balance.{balance_line, balance_text as text_of_balance, numbers_text};
+ghost use Rattle.sms_ledger.specs.Balance.{account_text as text_of_account, balance_line, balance_text as text_of_balance, numbers_text};
 
 use crate::booking::row_or_none;
 use crate::books::Books;
@@ -12,6 +12,9 @@ use crate::name::Name;
 use crate::text::write_number;
 use sms_files::memory::{self, NoMemory};
 use std::alloc::Global;
+
+/// The header of the balance.
+const HEADER: &str = "account,paid,free,out,doubt,spent\n";
 
 fn write_numbers(text: &mut String, row: Row) -> Result<(), NoMemory>
     ensures { OnOk result (string_bytes text.new ≡ string_bytes text.old ++ numbers_text row) }
@@ -38,10 +41,19 @@ impl Ledger {
     pub fn balance_text(&self, alloc: Global) -> Result<String, NoMemory>
         ensures { IfOk result (λ text. string_bytes text ≡ text_of_balance (state_of self.now.books)) }
     {
-        let mut text = memory::text_of(alloc, "account,paid,free,out,doubt,spent\n")?;
+        let mut text = memory::text_of(alloc, HEADER)?;
         for account in self.books.opened.as_slice() {
             write_balance(&mut text, &self.books, account)?;
         }
+        Ok(text)
+    }
+
+    /// The balance of one account alone: the header and its record.
+    pub fn account_text(&self, alloc: Global, account: &Name) -> Result<String, NoMemory>
+        ensures { IfOk result (λ text. string_bytes text ≡ text_of_account (state_of self.now.books) account.now) }
+    {
+        let mut text = memory::text_of(alloc, HEADER)?;
+        write_balance(&mut text, &self.books, account)?;
         Ok(text)
     }
 }

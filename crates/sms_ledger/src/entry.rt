@@ -3,7 +3,7 @@
 use crate::name::{Name, Run, RunAccount};
 
 /// Credits that are paid for an account.
-#[derive(Drop)]
+#[derive(Debug, Drop)]
 pub struct Payment {
     pub account: Name,
     pub credits: u64,

@@ -2,7 +2,7 @@
 
 ghost use Rattle.sms_ledger.specs.Names.{OctetsAreSpelled, SpellingsAreOne};
 ghost use Rattle.sms_ledger.specs.Laws.{AccountsAreBounded, AccountsAreListed, PrefixesAreLedgers, PrefixesBalance, PartsAreDecidedOnce, PartsAreNamedApart, PaymentsAreBookedOnce, RunsBringBackOnce, RunsHoldApart, StatementsAreWhole};
-ghost use Rattle.sms_ledger.specs.PostingLaws.{BookedAppend, PostsAppend, ReturnsAreBooked, ReturnsBringBack, TakingsAreBooked, TakingsTakeAll};
+ghost use Rattle.sms_ledger.specs.PostingLaws.{BookedAppend, FilesGoOn, FilesTakeEntries, PostsAppend, ReturnsAreBooked, ReturnsBringBack, TakingsAreBooked, TakingsTakeAll};
 ghost use Rattle.sms_ledger.specs.TextLaws.{CutsLoseOne, EntriesAppend, PrefixesSpellPrefixes, HeadersBegin, LinesAppend, TextsSpellOnce, WholesSpell, BooksAreOne, FaultsSpellNone, UnbegunHasNone, WholeLinesAreWhole};
 
 /// Each prefix of a ledger is a ledger, in which every account balances.
@@ -93,4 +93,10 @@ pub fn returns_are_booked()
 pub fn posts_append()
     ensures lines { PostsAppend }
     ensures entries { BookedAppend }
+{}
+
+/// What is appended to a file's whole lines makes it the ledger with the entries that were booked.
+pub fn files_go_on()
+    ensures entries { FilesGoOn }
+    ensures entry { FilesTakeEntries }
 {}

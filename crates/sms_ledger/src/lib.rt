@@ -1,5 +1,5 @@
 //! A business's ledger: one append-only file, from which it can be read at any moment where each credit of
-//! each account is. No command uses it yet.
+//! each account is.
 //!
 //! Its text is CSV without quotes, a record a line, and each record is an entry that its predecessors allow:
 //!
@@ -20,6 +20,7 @@
 mod balance;
 mod booking;
 mod books;
+mod decisions;
 mod entry;
 mod escape;
 mod fault;
@@ -37,7 +38,7 @@ pub use books::Books;
 pub use entry::{Decision, Deposit, Entry, Fate, Payment, Row, Stake, Stand, Statement, Taking};
 pub use fault::Fault;
 pub use ledger::Ledger;
-pub use lines::whole_len;
+pub use lines::{whole_len, with_header};
 pub use name::{Name, Run, RunAccount};
 pub use refusal::Refusal;
 pub use text::write_entry;

@@ -1,8 +1,9 @@
 //! A ledger's octets read.
 
-ghost use Rattle.std.specs.Prelude.{◌≡◌, ◌≢◌, ◌<◌, ◌≤◌, ◌++◌, ℕ, List, IfErr, IfOk, IfSome, OnErr, OnOk, MatchOption, length};
+ghost use Rattle.std.specs.Prelude.{◌≡◌, ◌≢◌, ◌<◌, ◌≤◌, ◌++◌, ℕ, List, IfErr, IfOk, IfSome, OnErr, OnOk, MatchOption, length, string_bytes};
 ghost use Rattle.sms_ledger.specs.Kept.{state_of};
 ghost use Rattle.sms_ledger.specs.Books.{IsBooked};
+ghost use Rattle.sms_ledger.specs.Posting.{appended_text};
 ghost use Rattle.sms_ledger.specs.Lines.{BeginsWith, HasNoFeed, IsFaulty, IsFaultyBehind, IsFileOf, IsFileBehind, IsRead, IsRefusedAt, feed_at as first_feed, IsWholeLength};
 
 use crate::entry::Entry;
@@ -11,7 +12,7 @@ use crate::ledger::Ledger;
 use crate::reading::{entry_in, time_in};
 use crate::refusal::Refusal;
 use crate::text::write_entry;
-use sms_files::memory::NoMemory;
+use sms_files::memory::{self, NoMemory};
 use std::alloc::Global;
 
 /// The first line.
@@ -83,6 +84,18 @@ pub fn whole_len(text: &[u8]) -> usize
         left = rest;
     }
     whole
+}
+
+/// What is appended behind the whole lines of a file, for lines that were booked: before the first ones the header.
+pub fn with_header(alloc: Global, whole: &[u8], lines: String) -> Result<String, NoMemory>
+    ensures { IfOk result (λ text. string_bytes text ≡ appended_text whole.now (string_bytes lines)) }
+{
+    if !whole.is_empty() {
+        return Ok(lines);
+    }
+    let mut text = memory::text_of(alloc, HEADER)?;
+    memory::append(&mut text, lines.as_str())?;
+    Ok(text)
 }
 
 /// Books the entry of a record.

@@ -55,7 +55,7 @@ fn ascii_text(alloc: Global, octets: &[u8]) -> Result<String, NoMemory>
 
 /// The name of an account or of a payment: 1 to 192 characters, which spell its octets as a journal
 /// does. Contracts see the characters.
-#[derive(Drop)]
+#[derive(Debug, Drop)]
 pub struct Name {
     text: String,
 }

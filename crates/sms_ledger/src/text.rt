@@ -88,7 +88,7 @@ fn fate_word(fate: Fate) -> &'static str
     }
 }
 
-fn write_decided(text: &mut String, time: u64, d: &Decision) -> Result<(), NoMemory>
+pub(crate) fn write_decided(text: &mut String, time: u64, d: &Decision) -> Result<(), NoMemory>
     ensures { OnOk result (string_bytes text.new ≡ string_bytes text.old ++ entry_text time (Decided d.now)) }
 {
     write_head(text, "decided", time)?;

@@ -1,5 +1,6 @@
 //! Ledgers read from octets, and entries that are booked to them.
 
+mod deciding;
 mod posting;
 mod reading;
 
