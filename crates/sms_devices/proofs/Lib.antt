@@ -5,3 +5,4 @@ pub mod Woken
 pub mod Buckets
 pub mod Stops
 pub mod Grown
+pub mod Appended

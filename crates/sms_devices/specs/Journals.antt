@@ -1,8 +1,9 @@
 -- A journal as it goes to its file, and the requests that are noted in it.
-use Rattle.std.specs.Prelude.{◌≡◌, ◌≤◌, ◌<◌, ◌+◌, ◌++◌, ◌⊎◌, ℕ, Bool, true, false, List, Option, Some, None, if◌then◌else◌}
+use Rattle.std.specs.Prelude.{◌≡◌, ◌≤◌, ◌<◌, ◌+◌, ◌++◌, ◌⊎◌, ℕ, Bool, true, false, List, Option, Some, None, String, if◌then◌else◌}
 use Rattle.std.specs.Io.KnownBytes.{Appends}
 use Rattle.std.specs.Option.{is_some}
 use Rattle.std.specs.String.{string_bytes, string_capacity, string_len}
+use Rattle.std.specs.declared.alloc.Global.{Global}
 use Rattle.std.specs.declared.io.ErrorKind.{ErrorKind}
 use Rattle.std.specs.declared.io.ErrorKind.TheVariants as kind
 use Rattle.sms_journal.specs.declared.notes.note.Note.{Note}
@@ -31,6 +32,10 @@ failed_for reason lines = if is_some lines.failure then lines else record lines 
 -- notes that this journal has let out are durable
 abbrev pub is_durable : {F : Type 0} → Journal F → Bool
 is_durable journal = journal.is_synced
+
+-- the name of the sign by which the run of this journal is asked to stop
+abbrev pub stop_sign_of : {F : Type 0} → Journal F → Option (String Global)
+stop_sign_of journal = journal.stop.sign
 
 -- what each write to a connection waits for in a run with a journal or without
 abbrev pub wait_for : {F : Type 0} → Option (Journal F) → WaitsFor

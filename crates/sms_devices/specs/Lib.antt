@@ -3,6 +3,7 @@ pub mod Outboxes
 pub mod Centres
 pub mod Standard
 pub mod Journals
+pub mod Ledgers
 pub mod Openings
 pub mod Buckets
 pub mod Headers

@@ -24,7 +24,7 @@ pub(crate) use crate::gate::parts::Connections;
 use crate::gate::parts::{FindsSilence, LimitsRate};
 use crate::gate::rate_limiter::{PermitFlags, RateLimiter};
 use crate::gate::silence::{Silence, SilenceLimit};
-use crate::gate::timestamp::Timestamp;
+pub(crate) use crate::gate::timestamp::Timestamp;
 use crate::gate::watchdog::Watchdog;
 use crate::places::WorkerPlace;
 use crate::terminal::{Progress, TakesNotices};
@@ -61,6 +61,7 @@ pub struct GateLimits {
 ///   4. the rate limiter takes the worker's permit.
 /// - When an answer comes (`heard`), before it moves credits: the journal notes it, the outbox counts it as
 ///   answered, and the watchdog starts its count anew.
+/// - Before a message begins (`may_begin`) it may be refused, since the run was asked to stop.
 /// - A message that begins, a message that is refused, and a request that wasn't sent after all are noted
 ///   in the journal. Some of the messages that begin get memory for those that follow.
 /// - At the end of a turn (`see`) a person sees how far the run is, the watchdog gives the bind up if it has
@@ -122,6 +123,13 @@ impl<'r, 'j, S, N, K: Clock, R: Wait, F: Write + OpenFile> RunGate<'r, 'j, S, N,
             watchdog,
         }
     }
+
+    /// The binds are made anew for a further round. The rate holds over all rounds.
+    pub fn renew(&self) {
+        if let Some(watchdog) = &self.watchdog {
+            watchdog.renew();
+        }
+    }
 }
 
 impl<'r, S, N, K: Clock, C: Connections, L: LimitsRate, W: FindsSilence> SendGate<
@@ -179,6 +187,12 @@ impl<'r, S: Eprint, N: TakesNotices, K: Clock, C: Connections, L: LimitsRate, W:
             }
             None => true,
         }
+    }
+
+    fn may_begin(&self, _worker: usize, _message: u64) -> bool
+        ensures { C.lets_begin self.now.connections.now result }
+    {
+        self.connections.may_begin()
     }
 
     fn pass(&self, _worker: usize, _number: u32) -> bool

@@ -1,6 +1,6 @@
 //! What the program needs of the process that it runs in.
 
-use crate::journal::JournalFiles;
+use crate::journal::{JournalFiles, StopSigns};
 use crate::terminal::Screen;
 use crate::transport::Connects;
 use std::io::Eprint;
@@ -13,6 +13,7 @@ use std::time::Clock;
 pub trait Host: AllocGlobal
     + Files
     + JournalFiles
+    + StopSigns
     + Connects
     + Input
     + Threads
@@ -27,6 +28,7 @@ where
     R: AllocGlobal
         + Files
         + JournalFiles
+        + StopSigns
         + Connects
         + Input
         + Threads

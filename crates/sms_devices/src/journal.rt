@@ -7,9 +7,9 @@
 //! none of its own if its notes were among those. Who has the file's lock may ask for the lines', never the other
 //! way round.
 
-ghost use Rattle.std.specs.Prelude.{◌≡◌, IfOk, option_copied};
+ghost use Rattle.std.specs.Prelude.{◌≡◌, IfOk, None, Some, false, option_copied};
 ghost use Rattle.sms_journal.specs.Lines.{IsU64};
-ghost use Rattle.sms_devices.specs.Journals.{HasEnded, is_durable, wait_for};
+ghost use Rattle.sms_devices.specs.Journals.{HasEnded, is_durable, stop_sign_of, wait_for};
 
 mod failure;
 mod files;
@@ -17,11 +17,14 @@ mod line;
 mod lines;
 mod made_file;
 mod pages;
+mod stop;
 
 use crate::journal::line::{header_line, note_line};
 use crate::journal::lines::Lines;
 use crate::journal::pages::Pages;
+use crate::journal::stop::StopWatch;
 pub use failure::JournalFailure;
+pub(crate) use files::{folder_of, sync_folder};
 pub use files::{JournalFiles, Unmade};
 pub use made_file::{MadeFile, Origin};
 use sms_journal::{Digests, JournalKind, Note};
@@ -31,6 +34,7 @@ use std::io::Write;
 use std::sync::atomic::{AtomicBool, Ordering};
 use std::sync::{Mutex, Wait};
 use std::time::{Clock, SystemTime, UNIX_EPOCH};
+pub use stop::{StopSigns, stop_sign};
 
 /// The journal of a run. It is shared by all threads that note, and by all that write to a connection.
 #[derive(Drop)]
@@ -41,12 +45,14 @@ pub struct Journal<F> {
     lines: Mutex<Lines>,
     pages: Mutex<Pages<F>>,
     has_failed: AtomicBool,
+    stop: StopWatch,
 }
 
 impl<F: Write + OpenFile> Journal<F> {
     /// A journal in an empty file, without notes. With `is_synced` what is written is made durable at once.
     pub fn new(alloc: Global, file: F, is_synced: bool) -> Journal<F>
-        ensures { is_durable result ≡ is_synced }
+        ensures durable { is_durable result ≡ is_synced }
+        ensures unasked { stop_sign_of result ≡ None }
     {
         Journal {
             alloc,
@@ -54,7 +60,38 @@ impl<F: Write + OpenFile> Journal<F> {
             lines: Mutex::new(Lines::new(alloc)),
             pages: Mutex::new(Pages::new(alloc, file, is_synced)),
             has_failed: AtomicBool::new(false),
+            stop: StopWatch::new(None),
         }
+    }
+
+    /// The same journal of a run that looks for the stop sign of this name.
+    pub fn with_stop_sign(self, sign: String) -> Journal<F>
+        ensures durable { is_durable result ≡ is_durable self }
+        ensures sign { stop_sign_of result ≡ Some sign }
+    {
+        let Journal {
+            alloc,
+            is_synced,
+            lines,
+            pages,
+            has_failed,
+            stop: _,
+        } = self;
+        Journal {
+            alloc,
+            is_synced,
+            lines,
+            pages,
+            has_failed,
+            stop: StopWatch::new(Some(sign)),
+        }
+    }
+
+    /// Whether the run was asked to stop, by this time of its clock.
+    pub(crate) fn is_stopped<R: StopSigns>(&self, rt: &R, now_ms: u64) -> bool
+        ensures unasked { stop_sign_of self.now ≡ None → result ≡ false }
+    {
+        self.stop.is_seen(rt, now_ms)
     }
 
     /// Notes the kind of the run, and the digests of its files. It must be the first note.
@@ -138,13 +175,14 @@ impl<F: Write + OpenFile + Drop> Journal<F> {
             lines,
             pages,
             has_failed: _,
+            stop: _,
         } = self;
         pages.into_inner().close(lines.into_inner(), &end)
     }
 }
 
 /// The system's time in milliseconds since 1970 UTC; 0 if it can't be read.
-fn unix_ms<R: Clock>(rt: &R) -> u64
+pub fn unix_ms<R: Clock>(rt: &R) -> u64
     ensures { IsU64 result }
 {
     let Ok(now) = SystemTime::now(rt) else {

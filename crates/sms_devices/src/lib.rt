@@ -4,6 +4,7 @@
 //! - `waking`: how workers wait for answers, and how a bind's reader wakes them;
 //! - `gate`: what is asked before a request goes out: rate, journal, watchdog;
 //! - `journal`: the journal's way to its file;
+//! - `ledger`: a ledger's file, held while it is read and appended to;
 //! - `terminal`: standard streams, and the progress that a person sees;
 //! - `clock`: the time of a run.
 
@@ -13,6 +14,7 @@ mod clock;
 mod gate;
 mod host;
 mod journal;
+mod ledger;
 mod limits;
 mod places;
 mod terminal;
@@ -20,14 +22,17 @@ mod transport;
 mod waking;
 
 pub use clock::Ticks;
-pub use gate::{GateLimits, SendGate};
+pub use gate::{GateLimits, RunGate, SendGate};
 pub use host::Host;
-pub use journal::{Journal, JournalFailure, JournalFiles, MadeFile, Origin, Unmade};
+pub use journal::{
+    Journal, JournalFailure, JournalFiles, MadeFile, Origin, StopSigns, Unmade, stop_sign, unix_ms,
+};
+pub use ledger::{HeldFile, LedgerFailure, LedgerFiles, append_text};
 pub use terminal::{
     Notice, Notices, Pen, Progress, Screen, TakesNotices, Telling, Terminal, is_verbose, stand_ins,
 };
 pub use transport::{
     Connects, Deadline, Guarded, LoopDial, Opening, Outbox, OutboxWriter, Outboxes, Reason,
-    TcpDial, Unconnected,
+    RoundBind, TcpDial, Unconnected,
 };
 pub use waking::{Bells, Incoming, Parking, WakingReader};

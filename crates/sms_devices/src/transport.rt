@@ -14,7 +14,7 @@ mod room;
 mod serving;
 
 pub use connecting::{Reason, Unconnected};
-pub use connects::Connects;
+pub use connects::{Connects, RoundBind};
 pub use dial::{LoopDial, TcpDial};
 pub use guarded::Guarded;
 pub use opening::{Deadline, Opening};

@@ -6,6 +6,7 @@ mod ending;
 mod journal;
 mod journal_files;
 mod journal_threads;
+mod ledger_files;
 mod loopback;
 mod network;
 mod paper;

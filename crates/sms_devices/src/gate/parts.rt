@@ -78,6 +78,9 @@ pub trait Connections {
 
     ghost gives_up: { Self → WorkerPlace → Type 0 };
 
+    // Whether a message may begin.
+    ghost lets_begin: { Self → Bool → Type 0 };
+
     /// Where the worker with this number stands.
     fn place_of(&self, worker: usize) -> WorkerPlace
         ensures { result ≡ place_of (workers self.now) worker };
@@ -98,4 +101,8 @@ pub trait Connections {
     /// Gives the connection of the worker's bind up: its line goes down.
     fn give_up(&self, place: WorkerPlace)
         ensures { gives_up self.now place };
+
+    /// Whether a message may begin: the run was not asked to stop.
+    fn may_begin(&self) -> bool
+        ensures { lets_begin self.now result };
 }

@@ -76,6 +76,18 @@ impl<'j, R: Wait> Watchdog<'j, R, Mutex<Silence>> {
     }
 }
 
+impl<'j, R: Wait, C: SharedSilence> Watchdog<'j, R, C> {
+    /// The binds are made anew: no bind is silent.
+    pub(crate) fn renew(&self)
+        ensures { C.ends self.now.silences.first × C.ends self.now.silences.second × C.ends self.now.silences.third × C.ends self.now.silences.fourth }
+    {
+        self.silences.first.answer(self.rt);
+        self.silences.second.answer(self.rt);
+        self.silences.third.answer(self.rt);
+        self.silences.fourth.answer(self.rt);
+    }
+}
+
 impl<'j, R: Wait, C: SharedSilence> FindsSilence for Watchdog<'j, R, C> {
     ghost counts = { λ s place now. IfSome (of_bind s.silences place.bind) (λ c. C.counts c s.limit now) };
 

@@ -40,6 +40,15 @@ pub(crate) fn failure_of(kind: ErrorKind) -> JournalFailure
     }
 }
 
+impl JournalFailure {
+    /// Why a file fails with an error of this kind.
+    pub fn of(kind: ErrorKind) -> JournalFailure
+        ensures { result ≡ failure_of kind }
+    {
+        failure_of(kind)
+    }
+}
+
 /// A file that remembers its last failure.
 #[derive(Drop)]
 pub(crate) struct Watched<F> {

@@ -59,6 +59,8 @@ impl WorkerProgress {
 #[derive(Drop)]
 pub(crate) struct ProgressBoard {
     places: [WorkerProgress; MOST_WORKERS],
+    /// What the rounds before came to.
+    before: WorkerProgress,
     /// When the total is shown next.
     due_ms: AtomicU64,
 }
@@ -68,6 +70,7 @@ impl ProgressBoard {
     pub(crate) fn new(begun_ms: u64) -> ProgressBoard {
         ProgressBoard {
             places: array::from_fn(|_| WorkerProgress::new()),
+            before: WorkerProgress::new(),
             due_ms: AtomicU64::new(begun_ms.saturating_add(RENEWAL_MS)),
         }
     }
@@ -101,9 +104,18 @@ impl ProgressBoard {
         }
     }
 
-    /// The tally of all workers.
+    /// A further round begins, before which so many messages have ended. No worker has begun in it.
+    pub(crate) fn renew(&self, ended: &Tally) {
+        let before = self.before.get();
+        self.before.put(&before.with(ended));
+        for place in &self.places {
+            place.put(&Tally::none());
+        }
+    }
+
+    /// The tally of all workers, and of the rounds before.
     pub(crate) fn total(&self) -> Tally {
-        let mut tally = Tally::none();
+        let mut tally = self.before.get();
         for place in &self.places {
             tally = tally.with(&place.get());
         }

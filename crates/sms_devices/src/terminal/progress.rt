@@ -8,6 +8,7 @@ use crate::terminal::board::ProgressBoard;
 use crate::terminal::notices::{Notice, TakesNotices};
 use sms_book::Statement;
 use sms_files::{EndLine, Tally, WayLine, summary_of};
+use sms_message::MessageEnd as Ended;
 use sms_worker::{Clock, MessageEnd};
 use std::io::Eprint;
 
@@ -99,7 +100,7 @@ impl<'r, S: Eprint, N: TakesNotices, K: Clock> Progress<'r, S, N, K> {
     }
 
     /// The line at the end, if it is now.
-    fn end_line(&self, ends: &[MessageEnd], statement: &Statement, now_ms: u64) -> EndLine
+    fn end_line<E>(&self, ends: &[Ended<E>], statement: &Statement, now_ms: u64) -> EndLine
         ensures summary { result.summary ≡ summary_in ends.now statement.now }
         ensures ms { result.ms ≡ now_ms - self.now.begun_ms }
         ensures trial { result.trial ≡ self.now.trial }
@@ -132,7 +133,7 @@ impl<'r, S: Eprint, N: TakesNotices, K: Clock> Progress<'r, S, N, K> {
     }
 
     /// Writes the result of the run, once its report is printed.
-    pub fn sum_up(&self, ends: &[MessageEnd], statement: &Statement) {
+    pub fn sum_up<E>(&self, ends: &[Ended<E>], statement: &Statement) {
         if self.telling == Telling::Nothing {
             return;
         }
@@ -154,6 +155,11 @@ impl<'r, S: Eprint, N: TakesNotices, K: Clock> Progress<'r, S, N, K> {
         if self.board.update(worker, ends, open, now_ms) {
             self.show(now_ms);
         }
+    }
+
+    /// A further round begins, after one in which so many messages have ended.
+    pub fn renew(&self, ended: &Tally) {
+        self.board.renew(ended);
     }
 
     /// Takes what became of all messages of a worker.

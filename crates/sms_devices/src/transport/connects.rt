@@ -16,6 +16,15 @@ use std::time::{Clock, Duration};
 /// How many milliseconds a read waits for octets.
 const READ_MS: u64 = 100;
 
+/// A bind of one of a run's rounds.
+#[derive(Clone, Copy, Debug, PartialEq, Eq)]
+pub struct RoundBind {
+    /// The round's number; the first of a run is 1.
+    pub round: u64,
+    /// The bind's number, counted from 0.
+    pub bind: u32,
+}
+
 /// Makes connections. Before a connection is written to, all notes of the run's journal are written, if it has one.
 pub trait Connects: Wait {
     ghost use Rattle.std.specs.Prelude.{◌≡◌, ℕ, Bool, List, Option, None, IfOk, map, string_bytes};
@@ -26,38 +35,38 @@ pub trait Connects: Wait {
     /// The reading end of a connection.
     type Incoming: Read + Send + Drop;
 
-    // The octets that a connection to this centre will give, in a run with a journal or without, for the bind with this
-    // number, if they are known.
-    ghost tells: { Self → CentreAt → Bool → ℕ → Option (List ℕ) } = { λ _ _ _ _. None };
+    // The octets that a connection to this centre will give, in a run with a journal or without, in the round with this
+    // number, for the bind with that one, if they are known.
+    ghost tells: { Self → CentreAt → Bool → ℕ → ℕ → Option (List ℕ) } = { λ _ _ _ _ _. None };
 
     /// A listener on a free port of the loopback interface.
     fn listen(&self) -> Option<TcpListener>;
 
-    /// A connection to the message centre at a port of a host, or why there is none. It is waited for until the
+    /// A new connection to the message centre at a port of a host, or why there is none. It is waited for until the
     /// deadline, if there is one.
     fn reach<'j, F: Write + OpenFile>(
         &self,
         outboxes: &Outboxes<'j, Self, F>,
-        bind: u32,
+        place: RoundBind,
         host: &str,
         port: u16,
         deadline: Option<Deadline>,
     ) -> Result<(Self::Incoming, Guarded<'j, TcpStream, Self, F>), Unconnected>
-        ensures octets { IfOk result (λ ends. Self.Incoming.remaining ends.0 ≡ tells self.now (Named host.now port) (has_journal outboxes.now) bind) };
+        ensures octets { IfOk result (λ ends. Self.Incoming.remaining ends.0 ≡ tells self.now (Named host.now port) (has_journal outboxes.now) place.round place.bind) };
 
-    /// A connection through the listener to a test centre with this script, or why there is none. The centre is
+    /// A new connection through the listener to a test centre with this script, or why there is none. The centre is
     /// started for this connection, in a thread of its own.
     fn reach_own<'j, F: Write + OpenFile>(
         &self,
         alloc: Global,
         outboxes: &Outboxes<'j, Self, F>,
-        bind: u32,
+        place: RoundBind,
         listener: &TcpListener,
         bind_status: u32,
         answers: &[String],
         deadline: Option<Deadline>,
     ) -> Result<(Self::Incoming, Guarded<'j, TcpStream, Self, F>), Unconnected>
-        ensures octets { IfOk result (λ ends. Self.Incoming.remaining ends.0 ≡ tells self.now (Own bind_status (map string_bytes answers.now)) (has_journal outboxes.now) bind) };
+        ensures octets { IfOk result (λ ends. Self.Incoming.remaining ends.0 ≡ tells self.now (Own bind_status (map string_bytes answers.now)) (has_journal outboxes.now) place.round place.bind) };
 }
 
 impl<R: Net<Stream = TcpStream, Listener = TcpListener> + Threads + Clock + Wait> Connects for R {
@@ -70,7 +79,7 @@ impl<R: Net<Stream = TcpStream, Listener = TcpListener> + Threads + Clock + Wait
     fn reach<'j, F: Write + OpenFile>(
         &self,
         outboxes: &Outboxes<'j, R, F>,
-        _bind: u32,
+        _place: RoundBind,
         host: &str,
         port: u16,
         deadline: Option<Deadline>,
@@ -83,7 +92,7 @@ impl<R: Net<Stream = TcpStream, Listener = TcpListener> + Threads + Clock + Wait
         &self,
         alloc: Global,
         outboxes: &Outboxes<'j, R, F>,
-        _bind: u32,
+        _place: RoundBind,
         listener: &TcpListener,
         bind_status: u32,
         answers: &[String],

@@ -5,7 +5,7 @@ ghost use Rattle.sms_devices.specs.Centres.CentreAt.{Named, Own};
 ghost use Rattle.sms_devices.specs.Outboxes.{has_journal};
 
 use crate::transport::connecting::Unconnected;
-use crate::transport::connects::Connects;
+use crate::transport::connects::{Connects, RoundBind};
 use crate::transport::guarded::Guarded;
 use crate::transport::opening::Deadline;
 use crate::transport::outbox::Outbox;
@@ -114,12 +114,14 @@ fn finish_dial<'r, 'j, S: Drop, R: Wait + Clock, F: Write + OpenFile>(
     outbox.dialled(outboxes.rt(), ends)
 }
 
-/// Connects to a message centre.
+/// Connects to a message centre, for the binds of one round.
 #[derive(Drop)]
 pub struct TcpDial<'r, 'j, R: Wait, F: Write + OpenFile> {
     pub rt: &'j R,
     pub alloc: Global,
     pub outboxes: &'r Outboxes<'j, R, F>,
+    /// The round's number; the first of a run is 1.
+    pub round: u64,
     /// How many milliseconds it may take to connect and to bind. None is without a limit, but the answer to the
     /// bind may take no more than a minute once there is a connection.
     pub connect_ms: Option<u32>,
@@ -129,7 +131,7 @@ pub struct TcpDial<'r, 'j, R: Wait, F: Write + OpenFile> {
 
 impl<'r, 'j, R: Connects + Clock + Sync, F: Write + OpenFile + Send + Drop> Dial
     for TcpDial<'r, 'j, R, F> {
-    ghost told = { λ d bind. R.tells d.rt.now (Named d.host.now d.port) (has_journal d.outboxes.now) bind };
+    ghost told = { λ d bind. R.tells d.rt.now (Named d.host.now d.port) (has_journal d.outboxes.now) d.round bind };
 
     type Reader = WakingReader<'r, 'j, R::Incoming, R, F>;
 
@@ -146,23 +148,27 @@ impl<'r, 'j, R: Connects + Clock + Sync, F: Write + OpenFile + Send + Drop> Dial
     > {
         let outbox = self.outboxes.get(bind)?;
         let deadline = outbox.dialled(self.rt, deadline_of(self.rt, self.connect_ms))?;
+        let round = self.round;
+        let place = RoundBind { round, bind };
         let reached = self
             .rt
-            .reach(self.outboxes, bind, self.host, self.port, deadline);
+            .reach(self.outboxes, place, self.host, self.port, deadline);
         finish_dial(self.alloc, self.outboxes, outbox, bind, deadline, reached)
     }
 }
 
-/// Connects to a test centre for each bind, which is started in a thread of its own.
+/// Connects to a test centre for each bind of one round, which is started in a thread of its own.
 #[derive(Drop)]
 pub struct LoopDial<'r, 'j, R: Wait, F: Write + OpenFile> {
     pub rt: &'j R,
     pub alloc: Global,
     pub outboxes: &'r Outboxes<'j, R, F>,
+    /// The round's number; the first of a run is 1.
+    pub round: u64,
     /// How many milliseconds it may take to connect and to bind. None is without a limit, but the answer to the
     /// bind may take no more than a minute once there is a connection.
     pub connect_ms: Option<u32>,
-    pub listener: TcpListener,
+    pub listener: &'r TcpListener,
     /// The script of the test centres.
     pub bind_status: u32,
     pub answers: &'r [String],
@@ -170,7 +176,7 @@ pub struct LoopDial<'r, 'j, R: Wait, F: Write + OpenFile> {
 
 impl<'r, 'j, R: Connects + Clock + Sync, F: Write + OpenFile + Send + Drop> Dial
     for LoopDial<'r, 'j, R, F> {
-    ghost told = { λ d bind. R.tells d.rt.now (Own d.bind_status (map string_bytes d.answers.now)) (has_journal d.outboxes.now) bind };
+    ghost told = { λ d bind. R.tells d.rt.now (Own d.bind_status (map string_bytes d.answers.now)) (has_journal d.outboxes.now) d.round bind };
 
     type Reader = WakingReader<'r, 'j, R::Incoming, R, F>;
 
@@ -187,11 +193,13 @@ impl<'r, 'j, R: Connects + Clock + Sync, F: Write + OpenFile + Send + Drop> Dial
     > {
         let outbox = self.outboxes.get(bind)?;
         let deadline = outbox.dialled(self.rt, deadline_of(self.rt, self.connect_ms))?;
+        let round = self.round;
+        let place = RoundBind { round, bind };
         let reached = self.rt.reach_own(
             self.alloc,
             self.outboxes,
-            bind,
-            &self.listener,
+            place,
+            self.listener,
             self.bind_status,
             self.answers,
             deadline,

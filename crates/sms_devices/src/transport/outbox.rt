@@ -107,6 +107,12 @@ impl<'j, R: Wait, F: Write + OpenFile> Outbox<'j, R, F> {
         *self.unconnected.lock(rt)
     }
 
+    /// Lets go of the connection, if there is one, before the bind is made anew.
+    pub(crate) fn renew(&self, rt: &R) {
+        *self.connection.lock(rt) = None;
+        self.requests.renew();
+    }
+
     /// One of the bind's requests was answered.
     pub(crate) fn answer(&self) {
         self.requests.answer();

@@ -1,13 +1,13 @@
 //! The outboxes of all binds, with what their connections share: the journal, the bells and the clock.
 
-ghost use Rattle.std.specs.Prelude.{◌≡◌, option_copied, ⊤};
+ghost use Rattle.std.specs.Prelude.{◌≡◌, false, option_copied, true, ⊤};
 ghost use Rattle.std.specs.Option.{is_some};
 ghost use Rattle.sms_devices.specs.Journals.{IsMadeIn};
 ghost use Rattle.sms_devices.specs.Outboxes.{has_journal, outbox_of, workers_of};
 
 use crate::clock::Ticks;
-use crate::gate::{Connections, make_note};
-use crate::journal::{Journal, let_out_of};
+use crate::gate::{Connections, Timestamp, make_note};
+use crate::journal::{Journal, StopSigns, let_out_of};
 use crate::places::{PerBind, WorkerPlace};
 use crate::transport::connecting::{Reason, Unconnected};
 use crate::transport::guarded::Guarded;
@@ -148,6 +148,15 @@ impl<'j, R: Wait, F: Write + OpenFile> Outboxes<'j, R, F> {
         }
     }
 
+    /// Lets go of all connections, before the binds are made anew.
+    pub fn renew(&self) {
+        self.each.first.renew(self.rt);
+        self.each.second.renew(self.rt);
+        self.each.third.renew(self.rt);
+        self.each.fourth.renew(self.rt);
+        self.bells.renew();
+    }
+
     /// Writes what waits for any connection, and then the notes that are still in memory.
     pub fn flush(&self) {
         self.each.first.flush();
@@ -158,7 +167,19 @@ impl<'j, R: Wait, F: Write + OpenFile> Outboxes<'j, R, F> {
     }
 }
 
-impl<'j, R: Wait + Clock, F: Write + OpenFile> Connections for Outboxes<'j, R, F> {
+impl<'j, R: Wait + Clock + StopSigns, F: Write + OpenFile> Outboxes<'j, R, F> {
+    /// Whether the run was asked to stop. Without a journal it can't be.
+    pub fn is_stopped(&self) -> bool
+        ensures unasked { has_journal self.now ≡ false → result ≡ false }
+    {
+        match self.journal {
+            Some(journal) => journal.is_stopped(self.rt, Timestamp::of(&self.clock).ms()),
+            None => false,
+        }
+    }
+}
+
+impl<'j, R: Wait + Clock + StopSigns, F: Write + OpenFile> Connections for Outboxes<'j, R, F> {
     ghost workers = { λ o. workers_of o };
 
     ghost keeps = { λ _ _ _. ⊤ };
@@ -168,6 +189,8 @@ impl<'j, R: Wait + Clock, F: Write + OpenFile> Connections for Outboxes<'j, R, F
     ghost answers = { λ _ _. ⊤ };
 
     ghost gives_up = { λ _ _. ⊤ };
+
+    ghost lets_begin = { λ o begins. has_journal o ≡ false → begins ≡ true };
 
     fn place_of(&self, worker: usize) -> WorkerPlace {
         self.bells.place_of(worker)
@@ -193,5 +216,9 @@ impl<'j, R: Wait + Clock, F: Write + OpenFile> Connections for Outboxes<'j, R, F
         if let Some(outbox) = self.each.of(place) {
             outbox.give_up(self.rt);
         }
+    }
+
+    fn may_begin(&self) -> bool {
+        !self.is_stopped()
     }
 }

@@ -53,6 +53,13 @@ impl Requests {
         self.answered.fetch_add(1, Ordering::SeqCst);
     }
 
+    /// The bind is made anew: no request is counted yet.
+    pub(crate) fn renew(&self) {
+        self.put.store(0, Ordering::SeqCst);
+        self.gone.store(0, Ordering::SeqCst);
+        self.answered.store(0, Ordering::SeqCst);
+    }
+
     /// Whether every request is answered that may have gone out.
     pub(crate) fn are_answered(&self) -> bool {
         self.answered.load(Ordering::SeqCst) >= self.gone.load(Ordering::SeqCst)

@@ -135,6 +135,13 @@ impl Bells {
         self.ring_bind(rt, bind);
     }
 
+    /// The binds are made anew: no write failed yet.
+    pub(crate) fn renew(&self) {
+        for has_failed in &self.has_failed {
+            has_failed.store(false, Ordering::SeqCst);
+        }
+    }
+
     /// Whether a bell rings for everything that a worker of the bind waits for, except what is due by the
     /// clock. False once a write failed, and beyond the last bind.
     pub(crate) fn rings_for_all(&self, bind: usize) -> bool {

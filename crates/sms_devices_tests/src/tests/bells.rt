@@ -4,7 +4,7 @@
 use super::loopback::{connected, expect_nothing, no_journal, put};
 use super::paper::{ManualClock, Nowhere, limits, no_progress};
 use super::same::same;
-use sms_devices::{Outboxes, Parking, SendGate};
+use sms_devices::{Outboxes, Parking, SendGate, StopSigns};
 use sms_worker::{Gate, Pause};
 use std::fs::File;
 use std::io::{Read, Write};
@@ -71,7 +71,7 @@ fn receive_singly<R: Abort>(rt: &R, far: &mut TcpStream, reader: &mut impl Read,
 }
 
 // A worker sends the request with this number, through a gate of its own: the owners of numbers are kept beside it.
-fn send<R: AllocGlobal + Wait + time::Clock + Abort>(
+fn send<R: AllocGlobal + Wait + time::Clock + StopSigns + Abort>(
     rt: &R,
     outboxes: &Outboxes<'_, R, File>,
     worker: usize,

@@ -78,8 +78,9 @@ fn gives_another_reason_if_no_centre_is_started(rt: HostRuntime) {
         rt: &rt,
         alloc: rt.alloc(),
         outboxes: &outboxes,
+        round: 1,
         connect_ms: Some(0),
-        listener,
+        listener: &listener,
         bind_status: 0,
         answers: &[],
     };

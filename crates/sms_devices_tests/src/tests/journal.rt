@@ -5,8 +5,8 @@ use super::paper::{
     Line, ManualClock, Nowhere, PaperFile, STILL_MS, Sheet, Still, limits, no_progress,
 };
 use super::same::same;
-use sms_devices::{Guarded, Journal, Outboxes, SendGate};
-use sms_journal::{Digests, JournalKind};
+use sms_devices::{Guarded, Journal, Outboxes, SendGate, StopSigns};
+use sms_journal::{ConfigTie, Digests, JournalKind};
 use sms_pdu::{MessageId, Reply};
 use sms_worker::{Gate, MessageRefusal};
 use std::alloc::{AllocError, Global};
@@ -22,7 +22,7 @@ use std::time::Clock;
 const ALL: usize = 1 << 20;
 
 const DIGESTS: Digests = Digests {
-    config: [1; 32],
+    config: ConfigTie::Octets([1; 32]),
     accounts: [2; 32],
     messages: [0xAB; 32],
     tariff: None,
@@ -68,7 +68,7 @@ fn send_two<G: Gate>(rt: &impl Abort, gate: &G) {
 }
 
 // The same, noted in a journal.
-fn note_two<'j, R: Wait + Clock, F: Write + OpenFile>(
+fn note_two<'j, R: Wait + Clock + StopSigns, F: Write + OpenFile>(
     rt: &impl Abort,
     alloc: Global,
     still: &'j R,
@@ -82,7 +82,7 @@ fn note_two<'j, R: Wait + Clock, F: Write + OpenFile>(
 }
 
 // Whether a request passes in a run with this journal.
-fn lets_a_request_out<'j, R: Wait + Clock, F: Write + OpenFile>(
+fn lets_a_request_out<'j, R: Wait + Clock + StopSigns, F: Write + OpenFile>(
     rt: &'j R,
     alloc: Global,
     journal: &'j Journal<F>,
@@ -220,7 +220,7 @@ fn send_requests<G: Gate, W: Write>(gate: &G, writer: &mut W) -> u32 {
 }
 
 // Sends them over a connection in a run with this journal. Gives what the connection took, and how many passed.
-fn send_over<'j, R: Wait + Clock, F: Write + OpenFile>(
+fn send_over<'j, R: Wait + Clock + StopSigns, F: Write + OpenFile>(
     rt: &'j R,
     alloc: Global,
     journal: &'j Journal<F>,

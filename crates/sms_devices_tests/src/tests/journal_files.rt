@@ -34,6 +34,22 @@ fn unmade(rt: &(impl JournalFiles + Abort), name: &str) -> Unmade {
     }
 }
 
+// The journal's file of this name, which is there.
+fn opened<R: JournalFiles<JournalFile = File> + Abort>(rt: &R, name: &str) -> File {
+    match rt.open_journal(name) {
+        Ok(file) => file,
+        Err(_) => panic!(rt; "no file"),
+    }
+}
+
+// Why it can't be opened.
+fn unopened(rt: &(impl JournalFiles + Abort), name: &str) -> Unmade {
+    match rt.open_journal(name) {
+        Ok(_file) => panic!(rt; "a file"),
+        Err(why) => why,
+    }
+}
+
 // The file takes these octets.
 fn put(rt: &impl Abort, file: &mut File, octets: &[u8]) {
     assert!(rt; file.write_all(octets).is_ok());
@@ -61,6 +77,32 @@ fn holds_the_file_that_it_makes(rt: HostRuntime) {
         );
     }
     assert!(rt; fs::remove_file(&rt, NAME).is_ok());
+}
+
+/// A journal's file is opened if it is there and nobody holds it; whoever has it open holds it. What is written goes behind
+/// what stands in it.
+#[test]
+fn holds_the_file_that_it_opens(rt: HostRuntime) {
+    const NAME: &str = "opened-journal-of-a-test.csv";
+    let mut file = made(&rt, NAME, false);
+    put(&rt, &mut file, b"one\n");
+    same(&rt, unopened(&rt, NAME), Unmade::Held);
+    drop(file);
+    let mut file = opened(&rt, NAME);
+    assert!(rt; rt.is_held(NAME));
+    same(&rt, unopened(&rt, NAME), Unmade::Held);
+    put(&rt, &mut file, b"two\n");
+    drop(file);
+    match fs::read_to_string(&rt, NAME) {
+        Ok(text) => same(&rt, text.as_str(), "one\ntwo\n"),
+        Err(_) => panic!(rt; "no text"),
+    }
+    assert!(rt; fs::remove_file(&rt, NAME).is_ok());
+    same(
+        &rt,
+        unopened(&rt, NAME),
+        Unmade::Failed(ErrorKind::NotFound),
+    );
 }
 
 /// What isn't there, and what is no regular file, is held by nobody. The system says why no file can be made.

@@ -40,6 +40,7 @@ pub fn dial_to<'r, 'j, R: AllocGlobal + Wait, F: Write + OpenFile>(
         rt,
         alloc: rt.alloc(),
         outboxes,
+        round: 1,
         connect_ms,
         host: "127.0.0.1",
         port,

@@ -172,8 +172,9 @@ fn serves_its_own_sender(rt: HostRuntime) {
         rt: &rt,
         alloc: rt.alloc(),
         outboxes: &outboxes,
+        round: 1,
         connect_ms: None,
-        listener,
+        listener: &listener,
         bind_status: 0,
         answers: &answers,
     };

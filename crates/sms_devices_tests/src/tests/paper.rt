@@ -1,7 +1,7 @@
 //! Devices in memory: a file with little room, a connection, clocks that stand still or are set by hand, and a
 //! standard error that drops what it is given.
 
-use sms_devices::{GateLimits, Notice, Progress, TakesNotices, Telling};
+use sms_devices::{GateLimits, Notice, Progress, StopSigns, TakesNotices, Telling};
 use std::alloc::Global;
 use std::env::{Env, FillError};
 use std::fmt::Display;
@@ -23,6 +23,8 @@ pub struct Still<'r, R> {
 }
 
 impl<'r, R: Wait> Wait for Still<'r, R> {}
+
+impl<'r, R> StopSigns for Still<'r, R> {}
 
 impl<'r, R> Clock for Still<'r, R> {
     fn monotonic(&self) -> io::Result<Duration> {
