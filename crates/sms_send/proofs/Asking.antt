@@ -16,17 +16,17 @@ use Rattle.sms_send.specs.declared.args.job.Job.{Job}
 pub of_asked : (has : Option (List Text) → Type 0) (verbose : Bool) (job : Job) (P : Job → Type 0) → AsksForJob has verbose job → P job → OfAsked has P
 of_asked has verbose job P asks holds = (asks.words, asks.given, job, asks.is, holds)
 
-pub works_asked : {S : Type 0} (r : Result ℕ Fault) (has : Option (List Text) → Type 0) (verbose : Bool) (job : Job) (standard : S → Told) (finds : List ℕ → Option Told → Type 0) (tells : CentreAt → Bool → ℕ → Told) (beside : Job → Type 0)
-    (old new : Option (List ℕ)) → AsksForJob has verbose job → IfOk r (IsStatusOf job) → IfOk r (Does standard finds tells job old new) → OnOk r (beside job) → IfOk r (WorksAsAsked has standard finds tells beside old new)
-works_asked (Ok status) has verbose job standard finds tells beside old new asks is done warned =
-    of_asked has verbose job (λ job. IsStatusOf job status × Does standard finds tells job old new status × beside job) asks (is, done, warned)
-works_asked (Err fault) has verbose job standard finds tells beside old new asks is done warned = tt
+pub works_asked : {S : Type 0} (r : Result ℕ Fault) (has : Option (List Text) → Type 0) (verbose : Bool) (job : Job) (standard : S → Told) (finds : List ℕ → Option Told → Type 0) (tells : CentreAt → Bool → ℕ → ℕ → Told) (books : Job → Option (List ℕ) → Option (List ℕ) → Type 0) (beside : Job → Type 0)
+    (old new : Option (List ℕ)) → AsksForJob has verbose job → IfOk r (IsStatusOf job) → IfOk r (Does standard finds tells books job old new) → OnOk r (beside job) → IfOk r (WorksAsAsked has standard finds tells books beside old new)
+works_asked (Ok status) has verbose job standard finds tells books beside old new asks is done warned =
+    of_asked has verbose job (λ job. IsStatusOf job status × Does standard finds tells books job old new status × beside job) asks (is, done, warned)
+works_asked (Err fault) has verbose job standard finds tells books beside old new asks is done warned = tt
 
-pub fails_asked : {S : Type 0} (r : Result ℕ Fault) (has : Option (List Text) → Type 0) (verbose : Bool) (job : Job) (begins : JournalFile → Fault → Type 0) (holds : List ℕ → Type 0) (standard : S → Told) (finds : List ℕ → Option Told → Type 0)
-    (tells : CentreAt → Bool → ℕ → Told) (old new : Option (List ℕ)) → AsksForJob has verbose job → IfErr r (FailsJob begins holds standard finds tells job old new) → IfErr r (FailsAsAsked has begins holds standard finds tells old new)
-fails_asked (Ok status) has verbose job begins holds standard finds tells old new asks fails = tt
-fails_asked (Err fault) has verbose job begins holds standard finds tells old new asks fails =
-    inr (of_asked has verbose job (λ job. FailsJob begins holds standard finds tells job old new fault) asks fails)
+pub fails_asked : {S : Type 0} (r : Result ℕ Fault) (has : Option (List Text) → Type 0) (verbose : Bool) (job : Job) (begins : JournalFile → Fault → Type 0) (refuses holds : List ℕ → Type 0) (unbooked : Job → Option (List ℕ) → Option (List ℕ) → Fault → Type 0) (standard : S → Told) (finds : List ℕ → Option Told → Type 0)
+    (tells : CentreAt → Bool → ℕ → ℕ → Told) (old new : Option (List ℕ)) → AsksForJob has verbose job → IfErr r (FailsJob begins refuses holds unbooked standard finds tells job old new) → IfErr r (FailsAsAsked has begins refuses holds unbooked standard finds tells old new)
+fails_asked (Ok status) has verbose job begins refuses holds unbooked standard finds tells old new asks fails = tt
+fails_asked (Err fault) has verbose job begins refuses holds unbooked standard finds tells old new asks fails =
+    inr (of_asked has verbose job (λ job. FailsJob begins refuses holds unbooked standard finds tells job old new fault) asks fails)
 
 pub ok_asked : (r : Result ℕ Fault) (has : Option (List Text) → Type 0) (verbose : Bool) (job : Job) (P : Job → Type 0) → AsksForJob has verbose job → P job → OnOk r (OfAsked has P)
 ok_asked (Ok status) has verbose job P asks holds = of_asked has verbose job P asks holds

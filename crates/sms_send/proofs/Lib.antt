@@ -6,9 +6,14 @@ pub mod Covering
 pub mod JobsDone
 pub mod Lines
 pub mod Noting
+pub mod OneRound
 pub mod Plans
 pub mod Quoting
 pub mod Replaying
+pub mod RoundRuns
+pub mod RoundSteps
+pub mod RoundSums
+pub mod RunCharges
 pub mod Runs
 pub mod Sendings
 pub mod SendJobs
@@ -18,5 +23,8 @@ pub mod Telling
 pub mod Reading
 pub mod Reasons
 pub mod Recovering
+pub mod Resuming
 pub mod Reaching
 pub mod Characters
+pub mod Paying
+pub mod ModelRuns

@@ -3,17 +3,18 @@ use Rattle.std.proofs.Common.{◌≡◌, ◌∙◌, inr, ap, ℕ, Bool, List, Op
 use Rattle.sms_devices.specs.Centres.{CentreAt}
 use Rattle.sms_driver.specs.declared.start.StartPhase.{StartPhase}
 use Rattle.sms_files.specs.Inputs.{Told}
-use Rattle.sms_files.specs.declared.input.Input.{Input}
 use Rattle.sms_send.specs.Faults.{with_reason}
-use Rattle.sms_send.specs.Sent.{FailsSending, FailsOver, SendingEnd, SendsInput, unknown}
+use Rattle.sms_send.specs.Sent.{FailsSending, FailsOver, SendingEnd, SendsWork, unknown}
+use Rattle.sms_send.specs.declared.args.send_args.Again.{Again}
 use Rattle.sms_send.specs.declared.faults.fault.Fault.{Fault}
+use Rattle.sms_send.specs.declared.sending.work.Work.{Work}
 use Rattle.sms_send.proofs.Starts.{IsOf, reason_at}
 
 -- the sending ended so, and the fault has a reason
-pub reasoned_end : {W : Type 0} (r x : Result ℕ Fault) (centre : CentreAt) (told : ℕ → Told) (strict : Bool) (given : Input) (begun : StartPhase) (before after : W) (old new : Option (List ℕ))
-    → IfOk r (λ s. x ≡ Ok s) → IfErr r (IsOf x) → SendingEnd strict (SendsInput told strict given old new) (FailsOver unknown told given old new) begun before after x
-    → SendingEnd strict (SendsInput told strict given old new) (FailsSending centre told given old new) begun before after r
-reasoned_end (Ok s) x centre told strict given begun before after old new same of end = record {
+pub reasoned_end : {W : Type 0} (r x : Result ℕ Fault) (centre : CentreAt) (tells : ℕ → ℕ → Told) (again : Option Again) (strict : Bool) (given : Work) (begun : StartPhase) (before after : W) (old new : Option (List ℕ))
+    → IfOk r (λ s. x ≡ Ok s) → IfErr r (IsOf x) → SendingEnd strict (SendsWork tells again strict given old new) (FailsOver unknown tells again given old new) begun before after x
+    → SendingEnd strict (SendsWork tells again strict given old new) (FailsSending centre tells again given old new) begun before after r
+reasoned_end (Ok s) x centre tells again strict given begun before after old new same of end = record {
   sent = rw same at end.sent;
   status = rw same at end.status;
   started = rw same at end.started;
@@ -21,7 +22,7 @@ reasoned_end (Ok s) x centre told strict given begun before after old new same o
   phase = tt;
   unwritten = tt;
 }
-reasoned_end (Err e) x centre told strict given begun before after old new same (f, is, why, with_why) end = record {
+reasoned_end (Err e) x centre tells again strict given begun before after old new same (f, is, why, with_why) end = record {
   sent = tt;
   status = tt;
   started = tt;

@@ -32,16 +32,16 @@ abbrev pub OfAsked : (Option (List Text) → Type 0) → (Job → Type 0) → Ty
 OfAsked has P = (words : List Text) × has (Some words) × (job : Job) × IsJob (subcommand_in words) job × P job
 
 -- it was done with this status, and standard error has this of it
-abbrev pub WorksAsAsked : {S : Type 0} → (Option (List Text) → Type 0) → (S → Told) → (List ℕ → Option Told → Type 0) → (CentreAt → Bool → ℕ → Told) → (Job → Type 0) → Option (List ℕ) → Option (List ℕ) → ℕ → Type 0
-WorksAsAsked has standard finds tells beside old new status = OfAsked has (λ job. IsStatusOf job status × Does standard finds tells job old new status × beside job)
+abbrev pub WorksAsAsked : {S : Type 0} → (Option (List Text) → Type 0) → (S → Told) → (List ℕ → Option Told → Type 0) → (CentreAt → Bool → ℕ → ℕ → Told) → (Job → Option (List ℕ) → Option (List ℕ) → Type 0) → (Job → Type 0) → Option (List ℕ) → Option (List ℕ) → ℕ → Type 0
+WorksAsAsked has standard finds tells books beside old new status = OfAsked has (λ job. IsStatusOf job status × Does standard finds tells books job old new status × beside job)
 
 -- there is no job: the arguments can't be had, or they are refused
 abbrev pub LacksJob : (Option (List Text) → Type 0) → Fault → Type 0
 LacksJob has fault = LacksWords has fault ⊎ ((words : List Text) × has (Some words) × RefusesWords words fault)
 
 -- there is none, or it failed
-abbrev pub FailsAsAsked : {S : Type 0} → (Option (List Text) → Type 0) → (JournalFile → Fault → Type 0) → (List ℕ → Type 0) → (S → Told) → (List ℕ → Option Told → Type 0) → (CentreAt → Bool → ℕ → Told) → Option (List ℕ) → Option (List ℕ) → Fault → Type 0
-FailsAsAsked has begins holds standard finds tells old new fault = LacksJob has fault ⊎ OfAsked has (λ job. FailsJob begins holds standard finds tells job old new fault)
+abbrev pub FailsAsAsked : {S : Type 0} → (Option (List Text) → Type 0) → (JournalFile → Fault → Type 0) → (List ℕ → Type 0) → (List ℕ → Type 0) → (Job → Option (List ℕ) → Option (List ℕ) → Fault → Type 0) → (S → Told) → (List ℕ → Option Told → Type 0) → (CentreAt → Bool → ℕ → ℕ → Told) → Option (List ℕ) → Option (List ℕ) → Fault → Type 0
+FailsAsAsked has begins refuses holds unbooked standard finds tells old new fault = LacksJob has fault ⊎ OfAsked has (λ job. FailsJob begins refuses holds unbooked standard finds tells job old new fault)
 
 -- whether an argument asks for the detail lines of this fault; none does where the fault is that the arguments can't be had
 abbrev pub AsksForDetails : (Option (List Text) → Type 0) → Bool → Fault → Type 0

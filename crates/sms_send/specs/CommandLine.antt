@@ -1,5 +1,5 @@
 -- The command line, in the words of the parser, and the job that it asks for.
-use Rattle.std.specs.Prelude.{◌≡◌, ◌≢◌, ◌⊎◌, ◌||◌, nat_le, ℕ, String, Bool, true, false, List, [], ◌∷◌, Option, Some, None, codes, option_and_then, option_map, if◌then◌else◌}
+use Rattle.std.specs.Prelude.{◌≡◌, ◌≢◌, ◌⊎◌, ◌||◌, nat_le, ℕ, String, Bool, true, false, List, [], ◌∷◌, ◌++◌, Option, Some, None, codes, is_some, option_and_then, option_map, if◌then◌else◌}
 use Rattle.std.specs.Str.{bytes_eq}
 use Rattle.std.specs.String.{string_bytes}
 use Rattle.std.specs.declared.alloc.Global.{Global}
@@ -10,15 +10,26 @@ use Rattle.clap.specs.declared.builder.action.ArgAction.TheVariants.{SetTrue}
 use Rattle.clap.specs.declared.error.kind.ErrorKind.{ErrorKind}
 use Rattle.clap.specs.declared.error.kind.ErrorKind.TheVariants as kind
 use Rattle.sms_core.specs.Decimal.{decimal_in}
+use Rattle.sms_journal.specs.declared.bill.listing.Listing.{Listing}
+use Rattle.sms_journal.specs.declared.bill.listing.Listing.TheVariants.{Bill, Doubtful}
+use Rattle.sms_ledger.specs.Names.{name_said, octets_text}
+use Rattle.sms_ledger.specs.declared.entry.Payment.{Payment}
 use Rattle.sms_send.specs.Faults.{IsWords}
 use Rattle.sms_send.specs.declared.faults.argument_error.NumberOption.{NumberOption}
-use Rattle.sms_send.specs.declared.faults.argument_error.NumberOption.TheVariants.{ConnectMs, Rate, StopAfter}
+use Rattle.sms_send.specs.declared.faults.argument_error.NumberOption.TheVariants.{Again, AgainMs, ConnectMs, Rate, StopAfter}
 use Rattle.sms_send.specs.declared.faults.fault.Fault.{Fault}
 use Rattle.sms_send.specs.declared.faults.fault.Fault.TheVariants.{Words, Help, Version, OutOfMemory}
 use Rattle.sms_send.specs.declared.args.job.Job.{Job}
-use Rattle.sms_send.specs.declared.args.job.Job.TheVariants.{Loop, Plan, Quote, Recover, Replay, Rest, Send}
+use Rattle.sms_send.specs.declared.args.job.Job.TheVariants.{Audit, Balance, List as Lists, Loop, Plan, Quote, Recover, Replay, Rest, Resume, Send, Stop, TopUp}
 use Rattle.sms_send.specs.declared.args.job.Subcommand.{Subcommand}
+use Rattle.sms_send.specs.declared.args.ledger_args.TopUpArgs.{TopUpArgs}
+use Rattle.sms_send.specs.declared.args.send_args.Again.{Again as AgainArgs}
+use Rattle.sms_send.specs.declared.args.send_args.AuditArgs.{AuditArgs}
 use Rattle.sms_send.specs.declared.args.send_args.JournalFile.{JournalFile}
+use Rattle.sms_send.specs.declared.args.send_args.ListArgs.{ListArgs}
+use Rattle.sms_send.specs.declared.args.send_args.RecoverArgs.{RecoverArgs}
+use Rattle.sms_send.specs.declared.args.send_args.RestArgs.{RestArgs}
+use Rattle.sms_send.specs.declared.args.send_args.ResumeArgs.{ResumeArgs}
 use Rattle.sms_send.specs.declared.args.send_args.SendArgs.{SendArgs}
 use Rattle.sms_send.specs.declared.args.send_args.Throttle.{Throttle}
 use Rattle.sms_send.specs.declared.args.job.Subcommand.TheVariants as sub
@@ -66,11 +77,28 @@ quote_line = with_rules (new_app (codes "quote")) (file_rule (codes "config") �
 abbrev pub throttle_rules : List Rule
 throttle_rules = value_rule (codes "connect-ms") ∷ value_rule (codes "rate") ∷ value_rule (codes "stop-after") ∷ []
 
+-- how often it goes on in a further round
+abbrev pub again_rules : List Rule
+again_rules = value_rule (codes "again") ∷ value_rule (codes "again-ms") ∷ []
+
+-- what each sending is asked for before its journal, and behind it
+abbrev pub config_rules : List Rule
+config_rules = file_rule (codes "config") ∷ flag_rule (codes "quiet") ∷ []
+
+abbrev pub sending_rules : List Rule
+sending_rules = flag_rule (codes "sync") ∷ flag_rule (codes "strict") ∷ verbose_rule ∷ throttle_rules ++ again_rules
+
 -- `loop --config FILE` or `send --config FILE`, with the other words or without
 abbrev pub sender_line : Text → App
-sender_line name = with_rules
-    (with_rules (new_app name) (file_rule (codes "config") ∷ flag_rule (codes "quiet") ∷ value_rule (codes "journal") ∷ flag_rule (codes "sync") ∷ flag_rule (codes "strict") ∷ verbose_rule ∷ []))
-    throttle_rules
+sender_line name = with_rules (with_rule (with_rules (new_app name) config_rules) (value_rule (codes "journal"))) sending_rules
+
+-- `resume --config FILE --journal FILE`, with the other words of a sending or without
+abbrev pub resume_line : App
+resume_line = with_rules (with_rule (with_rules (new_app (codes "resume")) config_rules) (file_rule (codes "journal"))) sending_rules
+
+-- `stop --journal FILE`
+abbrev pub stop_line : App
+stop_line = with_rules (new_app (codes "stop")) (file_rule (codes "journal") ∷ verbose_rule ∷ [])
 
 -- `recover --config FILE --journal FILE`, with `--trial` or without, and `rest --config FILE --report FILE`, with `--accounts` or without
 abbrev pub recover_line : App
@@ -78,6 +106,27 @@ recover_line = with_rules (new_app (codes "recover")) (file_rule (codes "config"
 
 abbrev pub rest_line : App
 rest_line = with_rules (new_app (codes "rest")) (file_rule (codes "config") ∷ file_rule (codes "report") ∷ flag_rule (codes "accounts") ∷ verbose_rule ∷ [])
+
+-- a subcommand of this name over a run's journal
+abbrev pub list_line : Text → App
+list_line name = with_rules (new_app name) (file_rule (codes "config") ∷ file_rule (codes "journal") ∷ verbose_rule ∷ [])
+
+abbrev pub bill_line : App
+bill_line = list_line (codes "bill")
+
+abbrev pub doubtful_line : App
+doubtful_line = list_line (codes "doubtful")
+
+-- `audit --config FILE --report FILE`
+abbrev pub audit_line : App
+audit_line = with_rules (new_app (codes "audit")) (file_rule (codes "config") ∷ file_rule (codes "report") ∷ verbose_rule ∷ [])
+
+-- `topup --ledger FILE ACCOUNT CREDITS`, with `--ref REF` or without, and `balance --ledger FILE`
+abbrev pub topup_line : App
+topup_line = with_rules (new_app (codes "topup")) (file_rule (codes "ledger") ∷ name_rule (codes "ACCOUNT") ∷ name_rule (codes "CREDITS") ∷ value_rule (codes "ref") ∷ verbose_rule ∷ [])
+
+abbrev pub balance_line : App
+balance_line = with_rules (new_app (codes "balance")) (file_rule (codes "ledger") ∷ verbose_rule ∷ [])
 
 -- the program before its subcommands: it has a version, and its own name is not among the words
 abbrev pub program_line : App
@@ -88,8 +137,8 @@ program_line =
 -- no word, or a subcommand
 abbrev pub command_line : App
 command_line =
-    with_subcommand (with_subcommand (with_subcommand (with_subcommand (with_subcommand (with_subcommand (with_subcommand program_line replay_line.top) plan_line.top) quote_line.top)
-    (sender_line (codes "loop")).top) (sender_line (codes "send")).top) recover_line.top) rest_line.top
+    with_subcommand (with_subcommand (with_subcommand (with_subcommand (with_subcommand (with_subcommand (with_subcommand (with_subcommand (with_subcommand (with_subcommand (with_subcommand (with_subcommand (with_subcommand (with_subcommand program_line replay_line.top) plan_line.top) quote_line.top)
+    (sender_line (codes "loop")).top) (sender_line (codes "send")).top) resume_line.top) stop_line.top) recover_line.top) rest_line.top) bill_line.top) doubtful_line.top) audit_line.top) topup_line.top) balance_line.top
 
 -- the subcommand and its matches that the parser reads from the words
 abbrev pub subcommand_in : List Text → Option (Text × List Row)
@@ -116,8 +165,15 @@ subcommand_named name =
     else (if bytes_eq name (codes "quote") then Some sub.Quote
     else (if bytes_eq name (codes "loop") then Some sub.Loop
     else (if bytes_eq name (codes "send") then Some sub.Send
+    else (if bytes_eq name (codes "resume") then Some sub.Resume
+    else (if bytes_eq name (codes "stop") then Some sub.Stop
     else (if bytes_eq name (codes "recover") then Some sub.Recover
-    else (if bytes_eq name (codes "rest") then Some sub.Rest else None))))))
+    else (if bytes_eq name (codes "rest") then Some sub.Rest
+    else (if bytes_eq name (codes "bill") then Some sub.Bill
+    else (if bytes_eq name (codes "doubtful") then Some sub.Doubtful
+    else (if bytes_eq name (codes "audit") then Some sub.Audit
+    else (if bytes_eq name (codes "topup") then Some sub.TopUp
+    else (if bytes_eq name (codes "balance") then Some sub.Balance else None)))))))))))))
 
 -- a flag was given, by the parser's value of it
 abbrev pub is_set : Option Text → Bool
@@ -147,6 +203,14 @@ pub record HasThrottle (rows : List Row) (throttle : Throttle) : Type 0 where
   pub rate : number_of 100000 (first_of (codes "rate") rows) ≡ Some throttle.rate
   pub stop_after : number_of 1000000 (first_of (codes "stop-after") rows) ≡ Some throttle.stop_after
 
+-- how often they ask it to go on, and how long it is to wait before: a second where that isn't said
+abbrev pub AsksAgain : List Row → Option AgainArgs → Type 0
+AsksAgain rows None = (first_of (codes "again") rows ≡ None) × (first_of (codes "again-ms") rows ≡ None)
+AsksAgain rows (Some again) =
+    (number_of 1000000 (first_of (codes "again") rows) ≡ Some (Some again.most))
+    × (number_of 600000 (first_of (codes "again-ms") rows) ≡ Some (if is_some (first_of (codes "again-ms") rows) then Some again.wait_ms else None))
+    × (first_of (codes "again-ms") rows ≡ None → again.wait_ms ≡ 1000)
+
 -- the sending that they ask for
 pub record AsksToSend (rows : List Row) (order : SendArgs) : Type 0 where
   pub config : first_of (codes "config") rows ≡ Some (string_bytes order.config)
@@ -154,11 +218,64 @@ pub record AsksToSend (rows : List Row) (order : SendArgs) : Type 0 where
   pub verbose : is_set (first_of (codes "verbose") rows) ≡ order.verbose
   pub journal : AsksToNote rows order.journal
   pub throttle : HasThrottle rows order.throttle
+  pub again : AsksAgain rows order.again
+  pub strict : is_set (first_of (codes "strict") rows) ≡ order.strict
+
+-- the further round of a run that they ask for
+pub record AsksToResume (rows : List Row) (order : ResumeArgs) : Type 0 where
+  pub config : first_of (codes "config") rows ≡ Some (string_bytes order.config)
+  pub quiet : is_set (first_of (codes "quiet") rows) ≡ order.quiet
+  pub verbose : is_set (first_of (codes "verbose") rows) ≡ order.verbose
+  pub journal : AsksToNote rows (Some order.journal)
+  pub throttle : HasThrottle rows order.throttle
+  pub again : AsksAgain rows order.again
   pub strict : is_set (first_of (codes "strict") rows) ≡ order.strict
 
 -- the names of the config and of the file of this other option
 abbrev pub HasNames : Text → List Row → String Global → String Global → Type 0
 HasNames other rows config name = (first_of (codes "config") rows ≡ Some (string_bytes config)) × (first_of other rows ≡ Some (string_bytes name))
+
+-- the report by a journal that they ask for
+abbrev pub AsksToRecover : List Row → RecoverArgs → Type 0
+AsksToRecover rows order = HasNames (codes "journal") rows order.config order.journal × (is_set (first_of (codes "trial") rows) ≡ order.trial)
+
+-- what is left of a run that they ask for
+abbrev pub AsksForRest : List Row → RestArgs → Type 0
+AsksForRest rows order = HasNames (codes "report") rows order.config order.report × (is_set (first_of (codes "accounts") rows) ≡ order.accounts)
+
+-- what is listed of a run that they ask for
+abbrev pub AsksToList : Listing → List Row → ListArgs → Type 0
+AsksToList listing rows order = HasNames (codes "journal") rows order.config order.journal × (order.listing ≡ listing)
+
+-- the run that they ask to be audited
+abbrev pub AsksToAudit : List Row → AuditArgs → Type 0
+AsksToAudit rows order = HasNames (codes "report") rows order.config order.report
+
+-- the name of a ledger's that a text spells, if it does
+abbrev pub name_in : Text → Option (List ℕ)
+name_in text = name_said (octets_text text)
+
+abbrev pub name_given : Option Text → Option (List ℕ)
+name_given text = option_and_then name_in text
+
+-- what is said of a reference that needn't be given; nothing where its text spells no name
+abbrev pub reference_in : Option Text → Option (Option (List ℕ))
+reference_in None = Some None
+reference_in (Some text) = option_map (λ name. Some name) (name_in text)
+
+-- credits that are paid: 1 to 2^40
+abbrev pub credits_in : Option Text → Option ℕ
+credits_in text = option_and_then (number_in 0x100_0000_0000) text
+
+-- the payment that they ask for
+pub record IsPaymentOf (rows : List Row) (payment : Payment) : Type 0 where
+  pub account : name_given (first_of (codes "ACCOUNT") rows) ≡ Some payment.account
+  pub credits : credits_in (first_of (codes "CREDITS") rows) ≡ Some payment.credits
+  pub reference : reference_in (first_of (codes "ref") rows) ≡ Some payment.reference
+
+-- the top-up that they ask for
+abbrev pub AsksToTopUp : List Row → TopUpArgs → Type 0
+AsksToTopUp rows order = (first_of (codes "ledger") rows ≡ Some (string_bytes order.ledger)) × IsPaymentOf rows order.payment
 
 -- the job that a subcommand with these matches asks for
 abbrev pub AsksFor : Subcommand → List Row → Job → Type 0
@@ -167,8 +284,15 @@ AsksFor sub.Plan rows (Plan messages long) = (first_of (codes "messages") rows �
 AsksFor sub.Quote rows (Quote config verbose) = (first_of (codes "config") rows ≡ Some (string_bytes config)) × (is_set (first_of (codes "verbose") rows) ≡ verbose)
 AsksFor sub.Loop rows (Loop order) = AsksToSend rows order
 AsksFor sub.Send rows (Send order) = AsksToSend rows order
-AsksFor sub.Recover rows (Recover order) = HasNames (codes "journal") rows order.config order.journal × (is_set (first_of (codes "trial") rows) ≡ order.trial)
-AsksFor sub.Rest rows (Rest order) = HasNames (codes "report") rows order.config order.report × (is_set (first_of (codes "accounts") rows) ≡ order.accounts)
+AsksFor sub.Resume rows (Resume order) = AsksToResume rows order
+AsksFor sub.Stop rows (Stop journal) = first_of (codes "journal") rows ≡ Some (string_bytes journal)
+AsksFor sub.Recover rows (Recover order) = AsksToRecover rows order
+AsksFor sub.Rest rows (Rest order) = AsksForRest rows order
+AsksFor sub.Bill rows (Lists order) = AsksToList Bill rows order
+AsksFor sub.Doubtful rows (Lists order) = AsksToList Doubtful rows order
+AsksFor sub.Audit rows (Audit order) = AsksToAudit rows order
+AsksFor sub.TopUp rows (TopUp order) = AsksToTopUp rows order
+AsksFor sub.Balance rows (Balance ledger) = first_of (codes "ledger") rows ≡ Some (string_bytes ledger)
 AsksFor _ rows _ = ⊥
 
 -- the job of a subcommand and its matches; without one it is to replay standard input
@@ -190,28 +314,55 @@ abbrev pub IsWrongNumber : NumberOption → List Row → Type 0
 IsWrongNumber ConnectMs rows = number_of 600000 (first_of (codes "connect-ms") rows) ≡ None
 IsWrongNumber Rate rows = number_of 100000 (first_of (codes "rate") rows) ≡ None
 IsWrongNumber StopAfter rows = number_of 1000000 (first_of (codes "stop-after") rows) ≡ None
+IsWrongNumber Again rows = number_of 1000000 (first_of (codes "again") rows) ≡ None
+IsWrongNumber AgainMs rows = number_of 600000 (first_of (codes "again-ms") rows) ≡ None
 
--- one of those that bound a sending is
+-- one of those that bound a sending or its further rounds is
 abbrev pub IsWrongThrottle : List Row → Type 0
 IsWrongThrottle rows = (option : NumberOption) × IsWrongNumber option rows
 
+-- how long it waits before a further round is said of a sending that has none
+abbrev pub IsWrongWait : List Row → Type 0
+IsWrongWait rows = (first_of (codes "again") rows ≡ None) × (first_of (codes "again-ms") rows ≢ None)
+
+abbrev pub IsWrongPace : List Row → Type 0
+IsWrongPace rows = IsWrongThrottle rows ⊎ IsWrongWait rows
+
 -- what is wrong with the matches of a sender
 abbrev pub AreRefusedArgs : List Row → Type 0
-AreRefusedArgs rows = (first_of (codes "config") rows ≡ None) ⊎ IsWrongSync rows ⊎ IsWrongThrottle rows
+AreRefusedArgs rows = (first_of (codes "config") rows ≡ None) ⊎ IsWrongSync rows ⊎ IsWrongPace rows
 
 -- the name of the config or of the file of this other option is missing
 abbrev pub LacksName : Text → List Row → Type 0
 LacksName other rows = (first_of (codes "config") rows ≡ None) ⊎ (first_of other rows ≡ None)
 
--- what is wrong with the matches of a subcommand that asks for no job: a name is missing, or it is a sender's
+-- and of one that goes on with a run
+abbrev pub AreRefusedResumeArgs : List Row → Type 0
+AreRefusedResumeArgs rows = LacksName (codes "journal") rows ⊎ IsWrongPace rows
+
+-- they ask for no payment, and for no top-up
+abbrev pub IsNoPayment : List Row → Type 0
+IsNoPayment rows = (name_given (first_of (codes "ACCOUNT") rows) ≡ None) ⊎ (credits_in (first_of (codes "CREDITS") rows) ≡ None) ⊎ (reference_in (first_of (codes "ref") rows) ≡ None)
+
+abbrev pub AreRefusedTopUp : List Row → Type 0
+AreRefusedTopUp rows = (first_of (codes "ledger") rows ≡ None) ⊎ IsNoPayment rows
+
+-- what is wrong with the matches of a subcommand that asks for no job: a name is missing, it is a sender's, or a payment's
 abbrev pub IsRefused : Subcommand → List Row → Type 0
 IsRefused sub.Replay rows = first_of (codes "FILE") rows ≡ None
 IsRefused sub.Plan rows = first_of (codes "messages") rows ≡ None
 IsRefused sub.Quote rows = first_of (codes "config") rows ≡ None
 IsRefused sub.Loop rows = AreRefusedArgs rows
 IsRefused sub.Send rows = AreRefusedArgs rows
+IsRefused sub.Resume rows = AreRefusedResumeArgs rows
+IsRefused sub.Stop rows = first_of (codes "journal") rows ≡ None
 IsRefused sub.Recover rows = LacksName (codes "journal") rows
 IsRefused sub.Rest rows = LacksName (codes "report") rows
+IsRefused sub.Bill rows = LacksName (codes "journal") rows
+IsRefused sub.Doubtful rows = LacksName (codes "journal") rows
+IsRefused sub.Audit rows = LacksName (codes "report") rows
+IsRefused sub.TopUp rows = AreRefusedTopUp rows
+IsRefused sub.Balance rows = first_of (codes "ledger") rows ≡ None
 
 -- why the subcommand that the parser met asks for no job, where it took the words: there is none of the name, or its
 -- matches ask for none

@@ -1,12 +1,14 @@
 -- The first line of a fault, the exit status that it ends the program with, and the faults that those of the crates below become.
-use Rattle.std.specs.Prelude.{◌≡◌, ◌⊎◌, ℕ, String, List, ◌++◌, codes, decimal, string_bytes}
+use Rattle.std.specs.Prelude.{◌≡◌, ◌⊎◌, ⊤, ℕ, None, Some, String, List, ◌++◌, codes, decimal, string_bytes}
 use Rattle.std.specs.declared.alloc.Global.{Global}
 use Rattle.sms_send.specs.Shown.{shown}
 use Rattle.sms_send.specs.declared.faults.argument_error.ArgumentError.{ArgumentError}
 use Rattle.sms_send.specs.declared.faults.fault.Fault.{Fault}
-use Rattle.sms_send.specs.declared.faults.fault.Fault.TheVariants.{Words, Help, Version, File, UnreadFile, Unreadable, BadRecord, NotToml, BadKey, BindRefused, BindFailed, Unconnected, BadNote, BadReport, Unmade, JournalHeld, Unbegun, Journal, Overdrawn, Trial, OtherFile, Output, OutOfMemory, Unreported}
+use Rattle.sms_send.specs.declared.faults.fault.Fault.TheVariants.{Words, Help, Version, File, UnreadFile, Unreadable, BadRecord, NotToml, BadKey, BindRefused, BindFailed, Unconnected, BadNote, BadReport, Unmade, JournalHeld, JournalFree, Unbegun, Journal, Overdrawn, Trial, OtherFile, OtherAttempts, OtherReference, LongSchedule, LedgerFile, Ledger, BadEntry, Payment, Output, OutOfMemory, Unreported}
 use Rattle.sms_devices.specs.declared.transport.connecting.Unconnected.{Unconnected as Why}
 use Rattle.sms_devices.specs.declared.journal.failure.JournalFailure.{JournalFailure}
+use Rattle.sms_devices.specs.declared.ledger.failure.LedgerFailure.{LedgerFailure}
+use Rattle.sms_devices.specs.declared.ledger.failure.LedgerFailure.TheVariants as ledger
 use Rattle.sms_driver.specs.declared.fault.BindFailure.TheVariants as failure
 use Rattle.sms_driver.specs.declared.fault.SendFault.{SendFault}
 use Rattle.sms_driver.specs.declared.fault.SendFault.TheVariants as send
@@ -17,8 +19,15 @@ use Rattle.sms_files.specs.Faults.{source_name}
 use Rattle.sms_files.specs.declared.fault.InputFault.{InputFault}
 use Rattle.sms_files.specs.declared.fault.InputFault.TheVariants as input
 use Rattle.sms_journal.specs.declared.text.digests.RunFile.{RunFile}
+use Rattle.sms_journal.specs.declared.text.digests.RunFile.TheVariants.{Accounts, Attempts, Config, LongReference, Messages, Tariff}
+use Rattle.sms_journal.specs.declared.audit.fault.AuditFault.{AuditFault}
+use Rattle.sms_journal.specs.declared.audit.fault.AuditFault.TheVariants as audit
 use Rattle.sms_journal.specs.declared.recovery.fault.RecoveryFault.{RecoveryFault}
 use Rattle.sms_journal.specs.declared.recovery.fault.RecoveryFault.TheVariants as recovery
+use Rattle.sms_ledger.specs.declared.fault.Fault.{Fault as LedgerFault}
+use Rattle.sms_ledger.specs.declared.fault.Fault.TheVariants as flaw
+use Rattle.sms_ledger.specs.declared.refusal.Refusal.{Refusal}
+use Rattle.sms_ledger.specs.declared.refusal.Refusal.TheVariants as refusal
 use Rattle.sms_files.specs.declared.report.fault.OutputFault.{OutputFault}
 use Rattle.sms_files.specs.declared.report.fault.OutputFault.TheVariants as output
 
@@ -56,11 +65,19 @@ fault_text (BadNote place) = codes "fault: journal record " ++ decimal place
 fault_text (BadReport place) = codes "fault: report record " ++ decimal place
 fault_text (Unmade name kind) = codes "fault: file " ++ shown (string_bytes name)
 fault_text JournalHeld = codes "fault: journal"
+fault_text JournalFree = codes "fault: journal"
 fault_text (Unbegun why) = codes "fault: journal"
 fault_text (Journal why) = codes "fault: journal"
 fault_text Overdrawn = codes "fault: journal"
 fault_text Trial = codes "fault: journal of a trial: no message centre saw any of it"
 fault_text (OtherFile name) = codes "fault: journal record 1"
+fault_text OtherAttempts = codes "fault: journal record 1"
+fault_text OtherReference = codes "fault: journal record 1"
+fault_text LongSchedule = codes "fault: schedule"
+fault_text (LedgerFile name kind) = codes "fault: file " ++ shown (string_bytes name)
+fault_text (Ledger why) = codes "fault: ledger"
+fault_text (BadEntry place cause) = codes "fault: ledger record " ++ decimal place
+fault_text (Payment cause) = codes "fault: payment"
 fault_text (Output unwritten) = codes "fault: output"
 fault_text OutOfMemory = codes "fault: out of memory"
 fault_text (Unreported refused) = codes "fault: out of memory"
@@ -121,25 +138,70 @@ with_reason why fault = fault
 abbrev pub HasReason : (Fault → Type 0) → Fault → Type 0
 HasReason P fault = (f : Fault) × P f × (why : Why) × (fault ≡ with_reason why f)
 
+-- for what a journal of others is of: a key of the config, or a file that has no name here
+abbrev pub fault_of_others : RunFile → Fault
+fault_of_others Config = BadNote 1
+fault_of_others Attempts = OtherAttempts
+fault_of_others LongReference = OtherReference
+fault_of_others Accounts = BadNote 1
+fault_of_others Messages = BadNote 1
+fault_of_others Tariff = BadNote 1
+
 -- for why nothing is recovered
 abbrev pub fault_of_recovery : RecoveryFault → Fault
 fault_of_recovery (recovery.Input fault) = fault_of_input fault
 fault_of_recovery (recovery.Journal place) = BadNote place
-fault_of_recovery (recovery.OtherFiles file) = BadNote 1
+fault_of_recovery (recovery.OtherFiles what) = fault_of_others what
 fault_of_recovery recovery.Trial = Trial
 fault_of_recovery recovery.Overdrawn = Overdrawn
 fault_of_recovery (recovery.Report place) = BadReport place
 fault_of_recovery (recovery.Output unwritten) = Output unwritten
 fault_of_recovery (recovery.OutOfMemory refused) = OutOfMemory
 
+-- it is a file, and no key of the config
+abbrev pub IsFile : RunFile → Type 0
+IsFile Config = ⊤
+IsFile Attempts = ⊥
+IsFile LongReference = ⊥
+IsFile Accounts = ⊤
+IsFile Messages = ⊤
+IsFile Tariff = ⊤
+
 -- it is that fault, or has the name of the file of which the journal isn't
 abbrev pub IsFaultOfRecovery : RecoveryFault → Fault → Type 0
-IsFaultOfRecovery f fault = (fault ≡ fault_of_recovery f) ⊎ ((file : RunFile) × (f ≡ recovery.OtherFiles file) × (name : String Global) × (fault ≡ OtherFile name))
+IsFaultOfRecovery f fault =
+    (fault ≡ fault_of_recovery f) ⊎ ((file : RunFile) × (f ≡ recovery.OtherFiles file) × IsFile file × (name : String Global) × (fault ≡ OtherFile name))
+
+-- of an audit: the run is refused, or its schedule is too long
+abbrev pub fault_of_audit : AuditFault → Fault
+fault_of_audit (audit.Run f) = fault_of_recovery f
+fault_of_audit audit.TooLong = LongSchedule
 
 -- for why a text isn't written
 abbrev pub fault_of_output : OutputFault → Fault
 fault_of_output (output.Output unwritten) = Output unwritten
 fault_of_output (output.OutOfMemory refused) = OutOfMemory
+
+-- for what is wrong with a ledger's octets
+abbrev pub fault_of_ledger : LedgerFault → Fault
+fault_of_ledger (flaw.Unreadable place) = BadEntry place None
+fault_of_ledger (flaw.Refused place cause) = BadEntry place (Some cause)
+fault_of_ledger (flaw.Memory refused) = OutOfMemory
+
+-- for why a payment isn't booked
+abbrev pub fault_of_payment : Refusal → Fault
+fault_of_payment (refusal.OutOfMemory refused) = OutOfMemory
+fault_of_payment cause = Payment cause
+
+-- for why a ledger's file can't be used
+abbrev pub fault_of_use : LedgerFailure → Fault
+fault_of_use (ledger.OutOfMemory refused) = OutOfMemory
+fault_of_use why = Ledger why
+
+-- and for why that of a name can't be had
+abbrev pub fault_of_opening : String Global → LedgerFailure → Fault
+fault_of_opening name (ledger.Unopened kind) = LedgerFile name kind
+fault_of_opening name why = fault_of_use why
 
 -- the fault is of something read, and this holds of that
 abbrev pub IsReadFault : (InputFault → Type 0) → Fault → Type 0

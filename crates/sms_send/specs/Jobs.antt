@@ -2,29 +2,33 @@
 use Rattle.std.specs.Prelude.{◌≡◌, ◌⊎◌, Bool, ℕ, List, Option, None, Some, Result, IfOk, is_some, string_bytes}
 use Rattle.std.specs.Io.KnownBytes.{Appends}
 use Rattle.sms_devices.specs.Centres.{CentreAt}
+use Rattle.sms_send.specs.Audited.{AuditsBy, FailsAuditJob}
 use Rattle.sms_send.specs.ConfigFiles.{OfConfig}
 use Rattle.sms_send.specs.Faults.{ComesAt}
 use Rattle.sms_files.specs.Fields.{records_of}
 use Rattle.sms_files.specs.Inputs.{Told}
 use Rattle.sms_files.specs.Messages.{messages_fault}
 use Rattle.sms_files.specs.PlanText.{kind_of, plan_of}
-use Rattle.sms_send.specs.Noted.{NotesEnd}
+use Rattle.sms_send.specs.Listed.{FailsListJob, ListsBy}
 use Rattle.sms_send.specs.Opened.{OfFile, OfInput, FailsOpening}
 use Rattle.sms_send.specs.Plans.{FailsPlan, Warns, BeginsWarning}
 use Rattle.sms_send.specs.Quoted.{FailsQuoteJob, BeginsAsAsked, QuotesAsAsked, QuotesFiles}
 use Rattle.sms_files.specs.Output.{WritesFront}
 use Rattle.sms_send.specs.Recovered.{PrintsLeft, RecoversAndWarns, RecoversBy, FailsRecoverJob, FailsRestJob, trial_line}
 use Rattle.sms_send.specs.Replays.{Replays, FailsReplay}
+use Rattle.sms_send.specs.Resumed.{ComesInResume, FailsResumeJob, HasBegunResume, ResumesBy}
 use Rattle.sms_send.specs.Runs.{IsRun}
 use Rattle.sms_send.specs.Statuses.{IsStatus, IsStatusBy}
 use Rattle.sms_send.specs.SendJobs.{FailsSendJob, SendsBy}
+use Rattle.sms_send.specs.Stopped.{FailsStop}
 use Rattle.sms_driver.specs.declared.start_gate.Command.TheVariants.{Go}
 use Rattle.sms_driver.specs.declared.start.StartPhase.{StartPhase}
 use Rattle.sms_driver.specs.declared.start.StartPhase.TheVariants.{Idle, Released}
 use Rattle.sms_send.specs.declared.faults.fault.Fault.{Fault}
 use Rattle.sms_send.specs.declared.args.job.Job.{Job}
 use Rattle.sms_send.specs.declared.args.send_args.JournalFile.{JournalFile}
-use Rattle.sms_send.specs.declared.args.job.Job.TheVariants.{Loop, Plan, Quote, Recover, Replay, Rest, Send}
+use Rattle.sms_send.specs.declared.args.send_args.ResumeArgs.{ResumeArgs}
+use Rattle.sms_send.specs.declared.args.job.Job.TheVariants.{Audit, Balance, List as Lists, Loop, Plan, Quote, Recover, Replay, Rest, Resume, Send, Stop, TopUp}
 use Rattle.sms_send.specs.declared.files.run_files.RunFiles.{RunFiles}
 use Rattle.sms_send.specs.declared.sending.target.TargetKind.TheVariants.{Loopback, Remote}
 
@@ -39,19 +43,32 @@ IsStatusOf (Plan name long) status = status ≡ 0
 IsStatusOf (Quote config verbose) status = status ≡ 0
 IsStatusOf (Loop order) status = IsStatusBy order.strict status
 IsStatusOf (Send order) status = IsStatusBy order.strict status
+IsStatusOf (Resume order) status = IsStatusBy order.strict status
+IsStatusOf (Stop journal) status = status ≡ 0
 IsStatusOf (Recover order) status = IsStatus status
 IsStatusOf (Rest order) status = status ≡ 0
+IsStatusOf (Lists order) status = status ≡ 0
+IsStatusOf (Audit order) status = status ≡ 0
+IsStatusOf (TopUp order) status = status ≡ 0
+IsStatusOf (Balance ledger) status = status ≡ 0
 
--- the job was done with this status: standard input or the file of the name was replayed, that file planned, the files that the config names quoted, or sent to the centre that is asked for, or what is left of a run printed
-abbrev pub Does : {S : Type 0} → (S → Told) → (List ℕ → Option Told → Type 0) → (CentreAt → Bool → ℕ → Told) → Job → Option (List ℕ) → Option (List ℕ) → ℕ → Type 0
-Does standard finds tells (Replay None) old new status = OfInput standard (λ bytes. Replays bytes old new)
-Does standard finds tells (Replay (Some name)) old new status = OfFile finds (string_bytes name) (λ bytes. Replays bytes old new)
-Does standard finds tells (Plan name long) old new status = OfFile finds (string_bytes name) (λ bytes. Plans long bytes old new)
-Does standard finds tells (Quote config verbose) old new status = OfConfig finds (string_bytes config) (QuotesFiles finds old new)
-Does standard finds tells (Loop order) old new status = OfConfig finds (string_bytes order.config) (SendsBy finds tells Loopback order.strict (is_some order.journal) old new status)
-Does standard finds tells (Send order) old new status = OfConfig finds (string_bytes order.config) (SendsBy finds tells Remote order.strict (is_some order.journal) old new status)
-Does standard finds tells (Recover order) old new status = RecoversBy finds order old new status
-Does standard finds tells (Rest order) old new status = (run : RunFiles) × IsRun finds (string_bytes order.config) (string_bytes order.report) run × PrintsLeft order.accounts run old new
+-- the job was done with this status: standard input or the file of the name was replayed, that file planned, the files that the config names quoted, or sent to the centre that is asked for, or what is left of a run printed, or its
+-- parts, or its schedule; or a ledger's file was used, in a world that says what that is
+abbrev pub Does : {S : Type 0} → (S → Told) → (List ℕ → Option Told → Type 0) → (CentreAt → Bool → ℕ → ℕ → Told) → (Job → Option (List ℕ) → Option (List ℕ) → Type 0) → Job → Option (List ℕ) → Option (List ℕ) → ℕ → Type 0
+Does standard finds tells books (Replay None) old new status = OfInput standard (λ bytes. Replays bytes old new)
+Does standard finds tells books (Replay (Some name)) old new status = OfFile finds (string_bytes name) (λ bytes. Replays bytes old new)
+Does standard finds tells books (Plan name long) old new status = OfFile finds (string_bytes name) (λ bytes. Plans long bytes old new)
+Does standard finds tells books (Quote config verbose) old new status = OfConfig finds (string_bytes config) (QuotesFiles finds old new)
+Does standard finds tells books (Loop order) old new status = OfConfig finds (string_bytes order.config) (SendsBy finds tells Loopback order.again order.strict (is_some order.journal) old new status)
+Does standard finds tells books (Send order) old new status = OfConfig finds (string_bytes order.config) (SendsBy finds tells Remote order.again order.strict (is_some order.journal) old new status)
+Does standard finds tells books (Resume order) old new status = ResumesBy finds tells order old new status
+Does standard finds tells books (Stop journal) old new status = new ≡ old
+Does standard finds tells books (Recover order) old new status = RecoversBy finds order old new status
+Does standard finds tells books (Rest order) old new status = (run : RunFiles) × IsRun finds (string_bytes order.config) (string_bytes order.report) run × PrintsLeft order.accounts run old new
+Does standard finds tells books (Lists order) old new status = ListsBy finds order old new
+Does standard finds tells books (Audit order) old new status = AuditsBy finds order old new
+Does standard finds tells books (TopUp order) old new status = books (TopUp order) old new
+Does standard finds tells books (Balance ledger) old new status = books (Balance ledger) old new
 
 -- what standard error has of a job that was done: by a plan whether a quote is open, by a quote what there is to warn of and, at length, its files' full
 -- names, by a recovery whether it is of a trial; by any other nothing (the progress of a sending is written there by threads of its own)
@@ -61,11 +78,13 @@ WritesBeside finds is_full details (Quote config verbose) old new error_old erro
 WritesBeside finds is_full details (Recover order) old new error_old error_new = RecoversAndWarns finds order old new error_old error_new
 WritesBeside finds is_full details _ old new error_old error_new = error_new ≡ error_old
 
--- the journal of a job that was done, if it wrote one, is the file that was made by its name, and ends with the job's status
-abbrev pub NotesJob : {F : Type 0} → (F → Option (List ℕ)) → (List ℕ → F → Type 0) → Job → Result ℕ Fault → Type 0
-NotesJob contents makes (Loop order) result = IfOk result (NotesEnd contents makes order.journal)
-NotesJob contents makes (Send order) result = IfOk result (NotesEnd contents makes order.journal)
-NotesJob contents makes _ result = Unit {0}
+-- what a job that was done did beside its output: the journal that it wrote ends so, or that of the run that it went on with, or a run was asked to stop
+abbrev pub NotesJob : (Option JournalFile → ℕ → Type 0) → (ResumeArgs → Option (List ℕ) → Option (List ℕ) → ℕ → Type 0) → (List ℕ → Type 0) → Job → Option (List ℕ) → Option (List ℕ) → Result ℕ Fault → Type 0
+NotesJob notes resumes stops (Loop order) old new result = IfOk result (notes order.journal)
+NotesJob notes resumes stops (Send order) old new result = IfOk result (notes order.journal)
+NotesJob notes resumes stops (Resume order) old new result = IfOk result (resumes order old new)
+NotesJob notes resumes stops (Stop journal) old new result = IfOk result (λ status. stops (string_bytes journal))
+NotesJob notes resumes stops _ old new result = Unit {0}
 
 -- and of one of which the output failed: the beginning of that
 abbrev pub BeginsBeside : (List ℕ → Option Told → Type 0) → (List ℕ → List ℕ → Type 0) → (Bool → Type 0) → Job → Option (List ℕ) → Option (List ℕ) → Type 0
@@ -74,26 +93,34 @@ BeginsBeside finds is_full details (Quote config verbose) error_old error_new = 
 BeginsBeside finds is_full details (Recover order) error_old error_new = WritesFront error_old error_new trial_line
 BeginsBeside finds is_full details _ error_old error_new = error_new ≡ error_old
 
--- why a job failed, in a world where a journal's beginning fails so, and which holds journals of these names: its file can't be opened, or the fault is of the
+-- why a job failed, in a world where a journal's beginning fails so, which refuses files of these names, which holds journals of those, and whose ledgers fail so: its file can't be opened, or the fault is of the
 -- input
-abbrev pub FailsJob : {S : Type 0} → (JournalFile → Fault → Type 0) → (List ℕ → Type 0) → (S → Told) → (List ℕ → Option Told → Type 0) → (CentreAt → Bool → ℕ → Told) → Job → Option (List ℕ) → Option (List ℕ) → Fault → Type 0
-FailsJob begins holds standard finds tells (Replay None) old new fault = OfInput standard (λ bytes. FailsReplay (records_of bytes) fault)
-FailsJob begins holds standard finds tells (Replay (Some name)) old new fault = FailsOpening finds name fault ⊎ OfFile finds (string_bytes name) (λ bytes. FailsReplay (records_of bytes) fault)
-FailsJob begins holds standard finds tells (Plan name long) old new fault = FailsOpening finds name fault ⊎ OfFile finds (string_bytes name) (λ bytes. FailsPlan (records_of bytes) fault)
-FailsJob begins holds standard finds tells (Quote config verbose) old new fault = FailsQuoteJob finds config old new fault
-FailsJob begins holds standard finds tells (Loop order) old new fault = FailsSendJob begins finds tells Loopback order old new fault
-FailsJob begins holds standard finds tells (Send order) old new fault = FailsSendJob begins finds tells Remote order old new fault
-FailsJob begins holds standard finds tells (Recover order) old new fault = FailsRecoverJob holds finds order old new fault
-FailsJob begins holds standard finds tells (Rest order) old new fault = FailsRestJob finds order old new fault
+abbrev pub FailsJob : {S : Type 0} → (JournalFile → Fault → Type 0) → (List ℕ → Type 0) → (List ℕ → Type 0) → (Job → Option (List ℕ) → Option (List ℕ) → Fault → Type 0) → (S → Told) → (List ℕ → Option Told → Type 0) → (CentreAt → Bool → ℕ → ℕ → Told) → Job → Option (List ℕ) → Option (List ℕ) → Fault → Type 0
+FailsJob begins refuses holds unbooked standard finds tells (Replay None) old new fault = OfInput standard (λ bytes. FailsReplay (records_of bytes) fault)
+FailsJob begins refuses holds unbooked standard finds tells (Replay (Some name)) old new fault = FailsOpening finds name fault ⊎ OfFile finds (string_bytes name) (λ bytes. FailsReplay (records_of bytes) fault)
+FailsJob begins refuses holds unbooked standard finds tells (Plan name long) old new fault = FailsOpening finds name fault ⊎ OfFile finds (string_bytes name) (λ bytes. FailsPlan (records_of bytes) fault)
+FailsJob begins refuses holds unbooked standard finds tells (Quote config verbose) old new fault = FailsQuoteJob finds config old new fault
+FailsJob begins refuses holds unbooked standard finds tells (Loop order) old new fault = FailsSendJob begins finds tells Loopback order old new fault
+FailsJob begins refuses holds unbooked standard finds tells (Send order) old new fault = FailsSendJob begins finds tells Remote order old new fault
+FailsJob begins refuses holds unbooked standard finds tells (Resume order) old new fault = FailsResumeJob refuses holds finds tells order old new fault
+FailsJob begins refuses holds unbooked standard finds tells (Stop journal) old new fault = FailsStop refuses (string_bytes journal) fault
+FailsJob begins refuses holds unbooked standard finds tells (Recover order) old new fault = FailsRecoverJob holds finds order old new fault
+FailsJob begins refuses holds unbooked standard finds tells (Rest order) old new fault = FailsRestJob finds order old new fault
+FailsJob begins refuses holds unbooked standard finds tells (Lists order) old new fault = FailsListJob holds finds order old new fault
+FailsJob begins refuses holds unbooked standard finds tells (Audit order) old new fault = FailsAuditJob finds order old new fault
+FailsJob begins refuses holds unbooked standard finds tells (TopUp order) old new fault = unbooked (TopUp order) old new fault
+FailsJob begins refuses holds unbooked standard finds tells (Balance ledger) old new fault = unbooked (Balance ledger) old new fault
 
 -- the phase of its sending once a job was done: all workers were started, of one that sends
 abbrev pub HasBegun : Job → StartPhase → Type 0
 HasBegun (Loop order) begun = begun ≡ Released Go
 HasBegun (Send order) begun = begun ≡ Released Go
+HasBegun (Resume order) begun = HasBegunResume begun
 HasBegun _ begun = begun ≡ Idle
 
 -- in which phase of its sending a fault of the job comes; a job that doesn't send starts no worker
 abbrev pub ComesIn : Job → StartPhase → Fault → Type 0
 ComesIn (Loop order) begun fault = ComesAt begun fault
 ComesIn (Send order) begun fault = ComesAt begun fault
+ComesIn (Resume order) begun fault = ComesInResume begun fault
 ComesIn _ begun fault = begun ≡ Idle

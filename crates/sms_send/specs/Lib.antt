@@ -4,6 +4,7 @@ pub mod Faults
 pub mod FaultReports
 pub mod FullNames
 pub mod Opened
+pub mod Audited
 pub mod CommandLine
 pub mod ConfigFiles
 pub mod Plans
@@ -22,5 +23,13 @@ pub mod Laws
 pub mod Noted
 pub mod Jobs
 pub mod FilesRead
+pub mod ModelLaws
 pub mod Modes
 pub mod Shown
+pub mod Rounds
+pub mod RunLaws
+pub mod Resumed
+pub mod Stopped
+pub mod Settings
+pub mod Ledgers
+pub mod Listed

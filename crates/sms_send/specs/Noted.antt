@@ -10,15 +10,26 @@ use Rattle.sms_devices.specs.declared.journal.files.Unmade.TheVariants as unmade
 use Rattle.sms_devices.specs.declared.journal.failure.JournalFailure.{JournalFailure}
 use Rattle.sms_files.specs.Inputs.{Told}
 use Rattle.sms_files.specs.declared.input.Input.{Input}
+use Rattle.sms_journal.specs.Digests.{keyed, keys_of}
+use Rattle.sms_journal.specs.declared.text.header.Digests.{Digests}
 use Rattle.sms_journal.specs.declared.text.header.JournalKind.{JournalKind}
 use Rattle.sms_journal.specs.declared.text.header.JournalKind.TheVariants.{Run, Trial}
 use Rattle.sms_send.specs.Faults.{HasLostJournal}
-use Rattle.sms_send.specs.Sent.{FailsSending, SendsInput}
+use Rattle.sms_send.specs.Sent.{FailsSending, SendsWork}
+use Rattle.sms_send.specs.declared.args.send_args.Again.{Again}
 use Rattle.sms_send.specs.declared.args.send_args.JournalFile.{JournalFile}
 use Rattle.sms_send.specs.declared.faults.fault.Fault.{Fault}
 use Rattle.sms_send.specs.declared.faults.fault.Fault.TheVariants.{JournalHeld, Unbegun, Unmade}
 use Rattle.sms_send.specs.declared.sending.target.Target.{Target}
+use Rattle.sms_send.specs.declared.sending.work.Work.{Work}
+use Rattle.sms_send.specs.declared.sending.work.Work.TheVariants.{All}
 use Rattle.sms_send.specs.declared.sending.target.Target.TheVariants.{Loopback, Remote}
+
+-- what the first line says of files with these digests, by their input: of a run that may have further rounds it is tied to no more of the config than its report
+-- is computed by, so that the other keys may be changed before a later round
+abbrev pub head_by : Option Again → Input → Digests → Digests
+head_by None input digests = digests
+head_by (Some again) input digests = keyed (keys_of input.config) digests
 
 -- a file was made by the journal's name
 abbrev pub IsMade : {F : Type 0} → (List ℕ → F → Type 0) → JournalFile → Type 0
@@ -46,6 +57,10 @@ IsUnmade refuses journal fault = (kind : ErrorKind) × (fault ≡ Unmade journal
 abbrev pub LacksFirstLine : Fault → Type 0
 LacksFirstLine fault = (why : JournalFailure) × (fault ≡ Unbegun why)
 
+-- and one that is there no further round
+abbrev pub TakesNoRound : Fault → Type 0
+TakesNoRound fault = (why : JournalFailure) × (fault ≡ Unbegun why)
+
 -- what was made by the journal's name didn't
 abbrev pub IsUnbegun : {F : Type 0} → (List ℕ → F → Type 0) → JournalFile → Fault → Type 0
 IsUnbegun makes journal fault = LacksFirstLine fault × IsMade makes journal
@@ -66,8 +81,12 @@ abbrev pub NotesEnd : {F : Type 0} → (F → Option (List ℕ)) → (List ℕ �
 NotesEnd contents makes None status = Unit {0}
 NotesEnd contents makes (Some journal) status = IsNotedIn contents (makes (string_bytes journal.name)) status
 
--- why an input wasn't sent with a journal: that wasn't begun, and nothing was written; the sending failed; or the journal failed after the report
-abbrev pub FailsNoted : (Fault → Type 0) → CentreAt → (ℕ → Told) → Bool → Input → Option (List ℕ) → Option (List ℕ) → Fault → Type 0
-FailsNoted begins centre told strict input old new fault =
-    (begins fault × (new ≡ old))
-    ⊎ (FailsSending centre told input old new fault ⊎ (HasLostJournal fault × (status : ℕ) × SendsInput told strict input old new status))
+-- why what there is wasn't sent with a journal that was begun: the sending failed; or the journal failed after the report
+abbrev pub FailsNotedWork : CentreAt → (ℕ → ℕ → Told) → Option Again → Bool → Work → Option (List ℕ) → Option (List ℕ) → Fault → Type 0
+FailsNotedWork centre tells again strict work old new fault =
+    FailsSending centre tells again work old new fault ⊎ (HasLostJournal fault × (status : ℕ) × SendsWork tells again strict work old new status)
+
+-- why an input wasn't sent with a journal: that wasn't begun, and nothing was written; or it failed so
+abbrev pub FailsNoted : (Fault → Type 0) → CentreAt → (ℕ → ℕ → Told) → Option Again → Bool → Input → Option (List ℕ) → Option (List ℕ) → Fault → Type 0
+FailsNoted begins centre tells again strict input old new fault =
+    (begins fault × (new ≡ old)) ⊎ FailsNotedWork centre tells again strict (All input) old new fault

@@ -1,12 +1,12 @@
 -- What `recover` and `rest` print of a run, and why they fail.
-use Rattle.std.specs.Prelude.{◌≡◌, ◌⊎◌, ℕ, Bool, true, false, List, Option, String, codes, string_bytes}
+use Rattle.std.specs.Prelude.{◌≡◌, ◌⊎◌, ℕ, Bool, true, false, List, Option, Some, None, String, codes, string_bytes}
 use Rattle.std.specs.declared.alloc.Global.{Global}
 use Rattle.std.specs.Io.KnownBytes.{Appends}
 use Rattle.sms_files.specs.Inputs.{Told}
 use Rattle.sms_files.specs.declared.config.FileNames.{FileNames}
 use Rattle.sms_files.specs.declared.input.Input.{Input}
 use Rattle.sms_journal.specs.declared.text.digests.RunFile.{RunFile}
-use Rattle.sms_journal.specs.declared.text.digests.RunFile.TheVariants.{Accounts, Config, Messages, Tariff}
+use Rattle.sms_journal.specs.declared.text.digests.RunFile.TheVariants.{Accounts, Attempts, Config, LongReference, Messages, Tariff}
 use Rattle.sms_journal.specs.declared.text.header.JournalKind.{JournalKind}
 use Rattle.sms_journal.specs.declared.text.header.JournalKind.TheVariants.{Run, Trial}
 use Rattle.sms_journal.specs.Recovering.{RecoversJournal, IsFaultOfJournal}
@@ -45,12 +45,14 @@ abbrev pub PrintsLeft : Bool → RunFiles → Option (List ℕ) → Option (List
 PrintsLeft accounts run old new =
     Prints run.config.items run.named.accounts.items run.named.messages.items (tariff_in run.named) run.written.items (left_of accounts run) old new
 
--- the name of a file of a run, by that of its config and by those that it names
-abbrev pub name_of : List ℕ → FileNames → RunFile → List ℕ
-name_of config names Config = config
-name_of config names Accounts = string_bytes names.accounts
-name_of config names Messages = string_bytes names.messages
-name_of config names Tariff = string_bytes names.tariff
+-- the name of a file of a run, by that of its config and by those that it names; a key of the config is no file
+abbrev pub name_of : List ℕ → FileNames → RunFile → Option (List ℕ)
+name_of config names Config = Some config
+name_of config names Attempts = None
+name_of config names LongReference = None
+name_of config names Accounts = Some (string_bytes names.accounts)
+name_of config names Messages = Some (string_bytes names.messages)
+name_of config names Tariff = Some (string_bytes names.tariff)
 
 -- the journal is of other files, with the name of one of them where there was memory for it
 abbrev pub IsOfOtherFile : Fault → Type 0

@@ -12,6 +12,7 @@ use Rattle.sms_send.specs.ConfigFiles.{FailsReadingConfig, OfConfig}
 use Rattle.sms_send.specs.Opened.{AreFound, OfFile, FailsOpeningFiles, FailsReadingFile}
 use Rattle.sms_send.specs.declared.faults.fault.Fault.{Fault}
 use Rattle.sms_send.specs.declared.faults.fault.Fault.TheVariants.{OutOfMemory, Unreadable}
+use Rattle.sms_send.specs.declared.files.config_file.ConfigFile.{ConfigFile}
 use Rattle.sms_send.specs.declared.files.named_files.NamedFiles.{NamedFiles}
 use Rattle.sms_send.specs.declared.files.run_files.RunFiles.{RunFiles}
 
@@ -43,6 +44,13 @@ pub record IsRun (finds : List ℕ → Option Told → Type 0) (name written : L
   pub named : AreNamed finds config.files run.named
   pub written_is : OfFile finds written (λ bytes. run.written.items ≡ bytes)
 
+-- the same by a config that was read: the files that it names, and the one of a name
+pub record IsRunBy (finds : List ℕ → Option Told → Type 0) (read : ConfigFile) (written : List ℕ) (run : RunFiles) : Type 0 where
+  pub config_is : run.config ≡ read.octets
+  pub names_are : run.names ≡ read.config.files
+  pub named : AreNamed finds read.config.files run.named
+  pub written_is : OfFile finds written (λ bytes. run.written.items ≡ bytes)
+
 -- this source can't be read; only a device that answered an error gives a `DeviceError`
 abbrev pub IsUnreadable : Source → Fault → Type 0
 IsUnreadable source fault = (error : DeviceError) × (fault ≡ Unreadable source error)
@@ -65,3 +73,7 @@ abbrev pub FailsRunFiles : (List ℕ → Option Told → Type 0) → String Glob
 FailsRunFiles finds config written fault =
     FailsReadingConfig finds config fault
     ⊎ OfConfig finds (string_bytes config) (λ read. FailsNamedFiles finds read.files fault ⊎ FailsReadingFile finds written fault)
+
+-- the same of files whose names say this
+abbrev pub FailsNamed : (List ℕ → Option Told → Type 0) → List ℕ → List ℕ → Fault → Type 0
+FailsNamed finds config written fault = (c : String Global) × (w : String Global) × (string_bytes c ≡ config) × (string_bytes w ≡ written) × FailsRunFiles finds c w fault

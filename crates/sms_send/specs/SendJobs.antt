@@ -1,5 +1,5 @@
 -- What `loop` and `send` do, and why they fail.
--- What connections to a centre will give, written to behind a journal or not, is a relation of the world that the program runs in: `tells`.
+-- What connections to a centre will give, written to behind a journal or not, in each round to each bind, is a relation of the world that the program runs in: `tells`.
 use Rattle.std.specs.Prelude.{◌⊎◌, ◌||◌, ℕ, Bool, true, false, List, Option, Some, None, is_some, string_bytes}
 use Rattle.sms_devices.specs.Centres.{CentreAt}
 use Rattle.sms_files.specs.Inputs.{Told}
@@ -10,29 +10,31 @@ use Rattle.sms_send.specs.Noted.{FailsNoted}
 use Rattle.sms_send.specs.Reached.{centre_in}
 use Rattle.sms_send.specs.Reading.{IsRead, IsUnread}
 use Rattle.sms_send.specs.Sent.{FailsSending, SendsInput}
+use Rattle.sms_send.specs.declared.args.send_args.Again.{Again}
 use Rattle.sms_send.specs.declared.args.send_args.JournalFile.{JournalFile}
 use Rattle.sms_send.specs.declared.args.send_args.SendArgs.{SendArgs}
 use Rattle.sms_send.specs.declared.faults.fault.Fault.{Fault}
 use Rattle.sms_send.specs.declared.sending.target.TargetKind.{TargetKind}
+use Rattle.sms_send.specs.declared.sending.work.Work.TheVariants.{All}
 
 -- the files that the config names were read, to their ends first where that is strict or for a journal, and what they say was sent to the centre that it names
-pub record SendsBy (finds : List ℕ → Option Told → Type 0) (tells : CentreAt → Bool → ℕ → Told) (kind : TargetKind) (strict noted : Bool) (old new : Option (List ℕ)) (status : ℕ) (config : Config) : Type 0 where
+pub record SendsBy (finds : List ℕ → Option Told → Type 0) (tells : CentreAt → Bool → ℕ → ℕ → Told) (kind : TargetKind) (again : Option Again) (strict noted : Bool) (old new : Option (List ℕ)) (status : ℕ) (config : Config) : Type 0 where
   pub input : Input
   pub read : IsRead finds (strict || noted) strict config input
-  pub sends : SendsInput (tells (centre_in kind config) noted) strict input old new status
+  pub sends : SendsInput (tells (centre_in kind config) noted) again strict input old new status
 
 -- why the input wasn't sent, with a journal or without
-abbrev pub FailsInput : (JournalFile → Fault → Type 0) → CentreAt → (Bool → ℕ → Told) → Bool → Option JournalFile → Input → Option (List ℕ) → Option (List ℕ) → Fault → Type 0
-FailsInput begins centre told strict None input old new fault = FailsSending centre (told false) input old new fault
-FailsInput begins centre told strict (Some journal) input old new fault = FailsNoted (begins journal) centre (told true) strict input old new fault
+abbrev pub FailsInput : (JournalFile → Fault → Type 0) → CentreAt → (Bool → ℕ → ℕ → Told) → Option Again → Bool → Option JournalFile → Input → Option (List ℕ) → Option (List ℕ) → Fault → Type 0
+FailsInput begins centre tells again strict None input old new fault = FailsSending centre (tells false) again (All input) old new fault
+FailsInput begins centre tells again strict (Some journal) input old new fault = FailsNoted (begins journal) centre (tells true) again strict input old new fault
 
 -- why nothing was sent by this config: a file isn't there or is faulty, or the sending failed
-abbrev pub FailsBy : (JournalFile → Fault → Type 0) → (List ℕ → Option Told → Type 0) → (CentreAt → Bool → ℕ → Told) → TargetKind → Bool → Option JournalFile → Option (List ℕ) → Option (List ℕ) → Fault → Config → Type 0
-FailsBy begins finds tells kind strict journal old new fault config =
+abbrev pub FailsBy : (JournalFile → Fault → Type 0) → (List ℕ → Option Told → Type 0) → (CentreAt → Bool → ℕ → ℕ → Told) → TargetKind → Option Again → Bool → Option JournalFile → Option (List ℕ) → Option (List ℕ) → Fault → Config → Type 0
+FailsBy begins finds tells kind again strict journal old new fault config =
     IsUnread finds (strict || is_some journal) strict config fault
-    ⊎ ((input : Input) × IsRead finds (strict || is_some journal) strict config input × FailsInput begins (centre_in kind config) (tells (centre_in kind config)) strict journal input old new fault)
+    ⊎ ((input : Input) × IsRead finds (strict || is_some journal) strict config input × FailsInput begins (centre_in kind config) (tells (centre_in kind config)) again strict journal input old new fault)
 
 -- by these arguments: the config can't be read, memory ran out, or it failed so
-abbrev pub FailsSendJob : (JournalFile → Fault → Type 0) → (List ℕ → Option Told → Type 0) → (CentreAt → Bool → ℕ → Told) → TargetKind → SendArgs → Option (List ℕ) → Option (List ℕ) → Fault → Type 0
+abbrev pub FailsSendJob : (JournalFile → Fault → Type 0) → (List ℕ → Option Told → Type 0) → (CentreAt → Bool → ℕ → ℕ → Told) → TargetKind → SendArgs → Option (List ℕ) → Option (List ℕ) → Fault → Type 0
 FailsSendJob begins finds tells kind order old new fault =
-    FailsReadingConfig finds order.config fault ⊎ OfConfig finds (string_bytes order.config) (FailsBy begins finds tells kind order.strict order.journal old new fault)
+    FailsReadingConfig finds order.config fault ⊎ OfConfig finds (string_bytes order.config) (FailsBy begins finds tells kind order.again order.strict order.journal old new fault)

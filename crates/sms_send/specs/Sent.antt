@@ -1,5 +1,5 @@
 -- What a sending promises of what was read.
-use Rattle.std.specs.Prelude.{◌≡◌, ◌≢◌, ◌⊎◌, ◌*◌, ◌++◌, ℕ, Bool, List, Option, Result, IfErr, IfOk, OnOk, length, map}
+use Rattle.std.specs.Prelude.{◌≡◌, ◌≢◌, ◌⊎◌, ◌*◌, ◌++◌, ℕ, Bool, List, [], Option, Some, None, Result, Ok, Err, IfErr, IfOk, OnOk, length, map}
 use Rattle.std.specs.Io.KnownBytes.{Appends}
 use Rattle.std.specs.List.{AllZip}
 use Rattle.sms_book.specs.Openings.{credits_of}
@@ -16,6 +16,7 @@ use Rattle.sms_driver.specs.Ended.{HaveEnded}
 use Rattle.sms_driver.specs.Closings.{AreExplained, AreReasoned}
 use Rattle.sms_driver.specs.Numbered.{AreBelow, AreNumbered}
 use Rattle.sms_driver.specs.Rings.{flat}
+use Rattle.sms_driver.specs.Handed.{AreWritten}
 use Rattle.sms_driver.specs.Unbinds.{handed_in}
 use Rattle.sms_driver.specs.declared.bind_end.BindEnd.{BindEnd}
 use Rattle.sms_files.specs.Inputs.{IsInput, Told, TellsInput}
@@ -23,6 +24,8 @@ use Rattle.sms_devices.specs.Centres.{CentreAt}
 use Rattle.sms_devices.specs.Centres.CentreAt.{Named, Own}
 use Rattle.sms_devices.specs.declared.gate.GateLimits.{GateLimits}
 use Rattle.sms_send.specs.Faults.{ComesAt, HasLostJournal, HasReason, IsReadFault, fault_of_sending, output_failed, unreported}
+use Rattle.sms_send.specs.Rounds.{IsResumed, IsRun, OfARound, most_rounds}
+use Rattle.sms_send.specs.Settings.{AreRunSettings, AreSettingsOf}
 use Rattle.sms_send.specs.Statuses.{IsStatusBy, status_by}
 use Rattle.sms_files.specs.Output.{WritesFront}
 use Rattle.sms_files.specs.Report.{report_of}
@@ -40,25 +43,20 @@ use Rattle.sms_driver.specs.declared.fault.BindFailure.TheVariants.{NoConnection
 use Rattle.sms_driver.specs.declared.start_gate.Command.TheVariants.{Go}
 use Rattle.sms_driver.specs.declared.start.StartPhase.{StartPhase}
 use Rattle.sms_driver.specs.declared.start.StartPhase.TheVariants.{Released}
+use Rattle.sms_send.specs.declared.args.send_args.Again.{Again}
 use Rattle.sms_send.specs.declared.args.send_args.Throttle.{Throttle}
 use Rattle.sms_send.specs.declared.faults.fault.Fault.{Fault}
 use Rattle.sms_send.specs.declared.faults.fault.Fault.TheVariants.{BindFailed}
 use Rattle.sms_files.specs.declared.input.Input.{Input}
 use Rattle.sms_files.specs.declared.config.limits.Limits.{Limits}
+use Rattle.sms_journal.specs.declared.recovery.resuming.JournaledRun.{JournaledRun}
+use Rattle.sms_send.specs.declared.sending.resumed.Resumed.{Resumed as TheResumed}
 use Rattle.sms_send.specs.declared.sending.sender.Ended.{Ended}
-
--- all binds have the config's window, follow as it says, and are asked for with what it says (SMPP 3.4 4.1)
-pub record AreSettingsOf (connection : Connection) (limits : Limits) (flags : Flags) (all : BindSettings) : Type 0 where
-  pub settings : all.settings ≡ connection.settings
-  pub limit : all.limit ≡ limits.window
-  pub follow : all.follow ≡ flags.follow
-
--- a sending has as many binds and workers as the config says, and the rules of config and tariff
-pub record AreRunSettings (config : Config) (tariff : List Price) (run : RunSettings) : Type 0 where
-  pub binds : run.binds ≡ config.limits.binds
-  pub workers : run.workers ≡ config.limits.workers
-  pub asks : AreSettingsOf config.connection config.limits config.flags run.bind_settings
-  pub says : IsRulesOf config.retry config.limits config.flags tariff most_turns run.rules
+use Rattle.sms_send.specs.declared.sending.work.SentWork.{SentWork}
+use Rattle.sms_send.specs.declared.sending.work.SentWork.TheVariants.{Resumed, Whole}
+use Rattle.sms_send.specs.declared.sending.work.Work.{Work}
+use Rattle.sms_send.specs.declared.sending.work.Work.TheVariants.{All, Left}
+use Rattle.sms_message.specs.declared.message.Message.{Message}
 
 -- the gate of a sending lets so many requests out in a second, and so many without an answer, as the arguments say; how long an answer may take is the config's
 abbrev pub limits_by : Config → Throttle → GateLimits
@@ -75,8 +73,9 @@ unbinds_in binds = flat (map (λ b. handed_in b.unbind_result) binds)
 -- other attempt of the bind has its sequence_number, which is below the one that the bind's window would have given next;
 -- and the end of each bind says how its reader ended: the bind was opened, and the reader followed, as the config says;
 -- and why it was closed to its workers, where they refused a message as bind-closed; and each part that was given up was so for a reason that its
--- worker lists, or since the bind was closed, and memory was refused for each message that is refused for want of it; and the requests that the
--- wires of the binds were given are the frames of all attempts and the unbinds, each as often
+-- worker lists, or since the bind was closed, and memory was refused for each message that is refused for lack of it; and the requests that the
+-- wires of the binds were given are the frames of all attempts and the unbinds, each as often; and each wire's frames were written right behind a bind by
+-- the config's settings, whole and in order
 pub record IsSent (told : ℕ → Told) (input : Input) (ended : Ended) : Type 0 where
   pub openings : ended.openings ≡ input.openings
   pub rules : Rules
@@ -92,27 +91,35 @@ pub record IsSent (told : ℕ → Told) (input : Input) (ended : Ended) : Type 0
   pub explained : AreExplained input.config.limits.workers ended.binds.items (dealt (input.config.limits.binds * input.config.limits.workers) 0 ended.ends.items)
   pub reasons : AreReasoned rules.policy.attempts input.config.limits.workers ended.binds.items ended.reasons.items (dealt (input.config.limits.binds * input.config.limits.workers) 0 ended.ends.items)
   pub handed : AreSame (requests ended.log.given) (flat (map frames_in (dealt (input.config.limits.binds * input.config.limits.workers) 0 ended.ends.items)) ++ unbinds_in ended.binds.items)
+  pub written : AreWritten (Some settings.settings) input.config.limits.binds [] ended.log.given
   pub heard : AreHeard told input.config.limits.binds input.config.limits.workers (dealt (input.config.limits.binds * input.config.limits.workers) 0 ended.ends.items)
 
 -- of a bind without a connection a dial over TCP says nothing to contracts
-abbrev pub unknown : ℕ → Type 0
-unknown = λ bind. Unit {0}
+abbrev pub unknown : ℕ → ℕ → Type 0
+unknown = λ round bind. Unit {0}
 
 -- the report of what was sent
 abbrev pub report_in : Ended → List ℕ
 report_in ended = report_of ended.openings.items ended.ends.items ended.statement
 
+-- an input was sent, in one round or in as many as it took; `tells` has what will be read of each bind, round by round
+abbrev pub HasSent : (ℕ → ℕ → Told) → Option Again → Input → Ended → Type 0
+HasSent tells None input ended = IsSent (tells 1) input ended
+HasSent tells (Some again) input ended = IsRun tells again input ended
+
 -- the input was sent; the report of that was written and nothing else, and the status is by the ends
-pub record SendsInput (told : ℕ → Told) (strict : Bool) (input : Input) (old new : Option (List ℕ)) (status : ℕ) : Type 0 where
+pub record SendsInput (tells : ℕ → ℕ → Told) (again : Option Again) (strict : Bool) (input : Input) (old new : Option (List ℕ)) (status : ℕ) : Type 0 where
   pub ended : Ended
-  pub sent : IsSent told input ended
+  pub sent : HasSent tells again input ended
   pub written : Appends old new (report_in ended)
   pub status_is : status ≡ status_by strict ended.ends.items
 
 -- the config, the accounts, the messages and the tariff were read, and sent so
 abbrev pub RunsSender : (ℕ → Told) → Bool → List ℕ → Told → Told → Option Told → Option (List ℕ) → Option (List ℕ) → ℕ → Type 0
 RunsSender told strict config accounts messages tariff old new status =
-    (input : Input) × IsInput config accounts messages tariff input × SendsInput told strict input old new status
+    (input : Input) × IsInput config accounts messages tariff input × SendsInput (λ round. told) None strict input old new status
+
+-- ---- why nothing was sent in a round
 
 -- a fault is of one of the config's binds, and agrees with what was read of it or with a missing connection, or it is of memory
 abbrev pub IsFaultIn : (ℕ → Type 0) → (ℕ → Told) → Config → SendFault → Type 0
@@ -122,19 +129,97 @@ IsFaultIn refuses told config = IsFaultOfOne refuses told config.connection.sett
 abbrev pub FailsDriving : (ℕ → Type 0) → (ℕ → Told) → Config → StartPhase → Fault → Type 0
 FailsDriving refuses told config begun fault = (f : SendFault) × IsFaultIn refuses told config f × TellsStart begun f × (fault ≡ fault_of_sending f)
 
+-- nothing was sent, for this fault
+abbrev pub IsUnsentFor : (ℕ → Type 0) → (ℕ → Told) → Config → Fault → Type 0
+IsUnsentFor refuses told config fault = (f : SendFault) × IsFaultIn refuses told config f × (fault ≡ fault_of_sending f)
+
 -- why an input that was read has no report: nothing was sent, since a bind failed or memory was refused; or all was sent, and the
 -- output failed after the beginning of the report of that, or memory was refused for the report and none of it was written
-abbrev pub FailsOver : (ℕ → Type 0) → (ℕ → Told) → Input → Option (List ℕ) → Option (List ℕ) → Fault → Type 0
-FailsOver refuses told input old new fault =
-    ((f : SendFault) × IsFaultIn refuses told input.config f × (fault ≡ fault_of_sending f))
-    ⊎ (((fault ≡ output_failed) × (ended : Ended) × IsSent told input ended × WritesFront old new (report_in ended))
-    ⊎ ((fault ≡ unreported) × (ended : Ended) × IsSent told input ended × (new ≡ old)))
+abbrev pub FailsInputOver : (ℕ → ℕ → Type 0) → (ℕ → ℕ → Told) → Option Again → Input → Option (List ℕ) → Option (List ℕ) → Fault → Type 0
+FailsInputOver refuses tells again input old new fault =
+    OfARound 0 (most_rounds again) (λ round. IsUnsentFor (refuses round) (tells round) input.config fault)
+    ⊎ (((fault ≡ output_failed) × (ended : Ended) × HasSent tells again input ended × WritesFront old new (report_in ended))
+    ⊎ ((fault ≡ unreported) × (ended : Ended) × HasSent tells again input ended × (new ≡ old)))
 
 -- why these octets have no report: the fault is of the first that have one, or of the sending of what they all say
 abbrev pub FailsSender : (ℕ → Type 0) → (ℕ → Told) → List ℕ → Told → Told → Option Told → Option (List ℕ) → Option (List ℕ) → Fault → Type 0
 FailsSender refuses told config accounts messages tariff old new fault =
     IsReadFault (TellsInput config accounts messages tariff) fault
-    ⊎ ((input : Input) × IsInput config accounts messages tariff input × FailsOver refuses told input old new fault)
+    ⊎ ((input : Input) × IsInput config accounts messages tariff input × FailsInputOver (λ round. refuses) (λ round. told) None input old new fault)
+
+-- ---- what there is to send: what was read, or what a run has left
+
+abbrev pub config_in : Work → Config
+config_in (All input) = input.config
+config_in (Left run) = run.config
+
+abbrev pub messages_in : Work → List Message
+messages_in (All input) = input.messages.items
+messages_in (Left run) = run.messages.items
+
+-- a run's journal says of each account what became of it
+abbrev pub HasRows : Work → Type 0
+HasRows (All input) = Unit {0}
+HasRows (Left run) = length run.rows.items ≡ length run.openings.items
+
+-- it was sent
+abbrev pub IsWorkDone : (ℕ → ℕ → Told) → Option Again → Work → SentWork → Type 0
+IsWorkDone tells again (All input) (Whole ended) = HasSent tells again input ended
+IsWorkDone tells again (Left run) (Resumed resumed) = IsResumed tells again run resumed
+IsWorkDone tells again _ _ = ⊥
+
+-- what was sent of all messages that were read, or why it was not
+abbrev pub IsWholeOf : Result Ended Fault → Result SentWork Fault → Type 0
+IsWholeOf (Ok ended) result = result ≡ Ok (Whole ended)
+IsWholeOf (Err fault) result = result ≡ Err fault
+
+-- a report is missing, in the phase in which that comes
+abbrev pub IsLate : StartPhase → Fault → Type 0
+IsLate begun fault = (fault ≡ unreported) × (begun ≡ Released Go)
+
+-- why what there is was not sent, in whichever round; or why it has no report
+abbrev pub FailsLeft : (ℕ → ℕ → Type 0) → (ℕ → ℕ → Told) → Option Again → JournaledRun → StartPhase → Fault → Type 0
+FailsLeft refuses tells again run begun fault = OfARound run.rounds (most_rounds again) (λ round. FailsDriving (refuses round) (tells round) run.config begun fault) ⊎ IsLate begun fault
+
+abbrev pub FailsWork : (ℕ → ℕ → Type 0) → (ℕ → ℕ → Told) → Option Again → Work → StartPhase → Fault → Type 0
+FailsWork refuses tells again (All input) begun fault = OfARound 0 (most_rounds again) (λ round. FailsDriving (refuses round) (tells round) input.config begun fault)
+FailsWork refuses tells again (Left run) begun fault = FailsLeft refuses tells again run begun fault
+
+-- what is printed of it, and the status
+abbrev pub report_of_sent : SentWork → List ℕ
+report_of_sent (Whole ended) = report_in ended
+report_of_sent (Resumed run) = report_of run.openings.items run.ends.items run.statement
+
+abbrev pub status_of_sent : Bool → SentWork → ℕ
+status_of_sent strict (Whole ended) = status_by strict ended.ends.items
+status_of_sent strict (Resumed run) = status_by strict run.ends.items
+
+pub record PrintsSent (strict : Bool) (sent : SentWork) (old new : Option (List ℕ)) (status : ℕ) : Type 0 where
+  pub written : Appends old new (report_of_sent sent)
+  pub status_is : status ≡ status_of_sent strict sent
+
+abbrev pub FailsPrinting : SentWork → Option (List ℕ) → Option (List ℕ) → Fault → Type 0
+FailsPrinting sent old new fault = ((fault ≡ output_failed) × WritesFront old new (report_of_sent sent)) ⊎ ((fault ≡ unreported) × (new ≡ old))
+
+-- a run that its journal leaves was sent on; the report of the whole run was written and nothing else, and the status is by its ends
+pub record SendsLeft (tells : ℕ → ℕ → Told) (again : Option Again) (strict : Bool) (run : JournaledRun) (old new : Option (List ℕ)) (status : ℕ) : Type 0 where
+  pub resumed : TheResumed
+  pub is : IsResumed tells again run resumed
+  pub prints : PrintsSent strict (Resumed resumed) old new status
+
+abbrev pub SendsWork : (ℕ → ℕ → Told) → Option Again → Bool → Work → Option (List ℕ) → Option (List ℕ) → ℕ → Type 0
+SendsWork tells again strict (All input) old new status = SendsInput tells again strict input old new status
+SendsWork tells again strict (Left run) old new status = SendsLeft tells again strict run old new status
+
+abbrev pub FailsLeftOver : (ℕ → ℕ → Type 0) → (ℕ → ℕ → Told) → Option Again → JournaledRun → Option (List ℕ) → Option (List ℕ) → Fault → Type 0
+FailsLeftOver refuses tells again run old new fault =
+    OfARound run.rounds (most_rounds again) (λ round. IsUnsentFor (refuses round) (tells round) run.config fault)
+    ⊎ (((fault ≡ output_failed) × (resumed : TheResumed) × IsResumed tells again run resumed × WritesFront old new (report_of_sent (Resumed resumed)))
+    ⊎ ((fault ≡ unreported) × (new ≡ old)))
+
+abbrev pub FailsOver : (ℕ → ℕ → Type 0) → (ℕ → ℕ → Told) → Option Again → Work → Option (List ℕ) → Option (List ℕ) → Fault → Type 0
+FailsOver refuses tells again (All input) old new fault = FailsInputOver refuses tells again input old new fault
+FailsOver refuses tells again (Left run) old new fault = FailsLeftOver refuses tells again run old new fault
 
 -- how a sending ended with this result: it sends so, or fails so
 pub record SendingEnd (strict : Bool) (sends : ℕ → Type 0) (fails : Fault → Type 0) (begun : StartPhase) {W : Type 0} (before after : W) (result : Result ℕ Fault) : Type 0 where
@@ -156,6 +241,6 @@ abbrev pub IsDeaf : CentreAt → Fault → Type 0
 IsDeaf (Own bind_status answers) fault = fault ≡ BindFailed 0 NoConnection
 IsDeaf (Named host port) fault = ⊥
 
--- why an input wasn't sent to a centre: that can't listen, or the fault of the sending, with the reason of a missing connection
-abbrev pub FailsSending : CentreAt → (ℕ → Told) → Input → Option (List ℕ) → Option (List ℕ) → Fault → Type 0
-FailsSending centre told input old new fault = IsDeaf centre fault ⊎ HasReason (FailsOver unknown told input old new) fault
+-- why what there is wasn't sent to a centre: that can't listen, or the fault of the sending, with the reason of a missing connection
+abbrev pub FailsSending : CentreAt → (ℕ → ℕ → Told) → Option Again → Work → Option (List ℕ) → Option (List ℕ) → Fault → Type 0
+FailsSending centre tells again work old new fault = IsDeaf centre fault ⊎ HasReason (FailsOver unknown tells again work old new) fault

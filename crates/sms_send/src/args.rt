@@ -2,6 +2,11 @@
 
 pub mod command_line;
 pub mod job;
+pub mod ledger_args;
+mod ledger_commands;
+pub mod parser_fault;
 pub mod program_args;
+pub mod run_args;
+mod run_commands;
 pub mod send_args;
 pub mod values;

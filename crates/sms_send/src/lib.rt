@@ -13,8 +13,11 @@ mod sending;
 mod terminal;
 
 pub use args::job::{Job, job_of};
+pub use args::ledger_args::TopUpArgs;
 pub use args::program_args::ProgramWords;
-pub use args::send_args::{JournalFile, RecoverArgs, RestArgs, SendArgs, Throttle};
+pub use args::send_args::{
+    Again, AuditArgs, JournalFile, ListArgs, RecoverArgs, RestArgs, ResumeArgs, SendArgs, Throttle,
+};
 pub use faults::argument_error::{ArgumentError, NumberOption};
 pub use faults::context::{Address, FaultContext, JobContext, JobKind, JobNames};
 pub use faults::details::files_read::FilesRead;
@@ -31,4 +34,5 @@ pub use jobs::replay::run_replay;
 pub use jobs::send_job::run_sender;
 pub use program::{Untold, do_job, run, status_after, tell};
 pub use sending::status::status_of;
+pub use sms_journal::Listing;
 pub use terminal::standard_error::{StandardError, TakesLines};

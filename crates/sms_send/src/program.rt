@@ -8,7 +8,10 @@ ghost use Rattle.sms_send.specs.Asked.{AsksForDetails, AsksForJob, FailsAsAsked,
 ghost use Rattle.sms_send.specs.FaultReports.{ReportsFault};
 ghost use Rattle.sms_send.specs.Faults.{HasLostJournal, status_of, output_failed};
 ghost use Rattle.sms_send.specs.Jobs.{ComesIn, Does, FailsJob, HasBegun, IsStatusOf, NotesJob, WritesBeside, BeginsBeside};
-ghost use Rattle.sms_send.specs.Noted.{FailsBegin};
+ghost use Rattle.sms_send.specs.Ledgers.{BooksJob, FailsBooksJob};
+ghost use Rattle.sms_send.specs.Noted.{FailsBegin, NotesEnd};
+ghost use Rattle.sms_send.specs.Resumed.{NotesRound};
+ghost use Rattle.sms_send.specs.Stopped.{StopsRun};
 
 use crate::args::job::{Job, job_of};
 use crate::args::program_args::ProgramWords;
@@ -19,14 +22,19 @@ use crate::faults::fault::Fault;
 use crate::faults::full_names::FullNames;
 use crate::faults::report::{FaultReport, details_of, fixed_details};
 use crate::files::opened::{InputFiles, open};
+use crate::jobs::audit_job::audit_job;
+use crate::jobs::ledger_job::{balance_job, topup_job};
+use crate::jobs::list_job::list_job;
 use crate::jobs::plan_job::plan_job;
 use crate::jobs::quote_job::quote_job;
 use crate::jobs::recover_job::{recover_job, rest_job};
 use crate::jobs::replay::run_replay;
+use crate::jobs::resume_job::resume_job;
 use crate::jobs::send_job::send_job;
+use crate::jobs::stop_job::stop_job;
 use crate::sending::target::TargetKind;
 use crate::terminal::standard_error::TakesLines;
-use sms_devices::{Host, Screen};
+use sms_devices::{Host, LedgerFiles, Screen};
 use sms_driver::{Start, StartGate};
 use sms_files::write_out;
 use std::io::{self, Write};
@@ -60,19 +68,18 @@ fn asked_job<R: AllocGlobal + ProgramWords>(
 
 /// Does the job that the program's arguments ask for, and gives the exit status. Warnings of a plan or a quote go to
 /// standard error.
-pub fn run<R: FileModes + FullNames + Host + InputFiles + ProgramWords, W: Write, E: Write>(
-    rt: &R,
-    context: &mut FaultContext,
-    output: &mut W,
-    error: &mut E,
-) -> Result<u8, Fault>
-    ensures done { IfOk result (WorksAsAsked (R.has rt.now) R.Reader.remaining (R.finds rt.now) (R.tells rt.now) (λ job. WritesBeside (R.finds rt.now) (R.is_full rt.now) (R.details rt.now) job (W.contents output.old) (W.contents output.new) (E.contents error.old) (E.contents error.new)) (W.contents output.old) (W.contents output.new)) }
-    ensures refused { IfErr result (FailsAsAsked (R.has rt.now) (FailsBegin (R.makes rt.now) (R.refuses rt.now) (R.holds rt.now)) (R.holds rt.now) R.Reader.remaining (R.finds rt.now) (R.tells rt.now) (W.contents output.old) (W.contents output.new)) }
+pub fn run<
+    R: FileModes + FullNames + Host + InputFiles + LedgerFiles + ProgramWords,
+    W: Write,
+    E: Write,
+>(rt: &R, context: &mut FaultContext, output: &mut W, error: &mut E) -> Result<u8, Fault>
+    ensures done { IfOk result (WorksAsAsked (R.has rt.now) R.Reader.remaining (R.finds rt.now) (R.tells rt.now) (BooksJob (R.holds_ledger rt.now) R.LedgerFile.octets R.LedgerFile.stored R.LedgerFile.opening R.LedgerFile.is_closed) (λ job. WritesBeside (R.finds rt.now) (R.is_full rt.now) (R.details rt.now) job (W.contents output.old) (W.contents output.new) (E.contents error.old) (E.contents error.new)) (W.contents output.old) (W.contents output.new)) }
+    ensures refused { IfErr result (FailsAsAsked (R.has rt.now) (FailsBegin (R.makes rt.now) (R.refuses rt.now) (R.holds rt.now)) (R.refuses rt.now) (R.holds rt.now) (FailsBooksJob (R.holds_ledger rt.now) (R.lacks_ledger rt.now) R.LedgerFile.errs R.LedgerFile.octets R.LedgerFile.stored R.LedgerFile.opening R.LedgerFile.is_closed) R.Reader.remaining (R.finds rt.now) (R.tells rt.now) (W.contents output.old) (W.contents output.new)) }
     ensures unwritten { IfErr result (λ fault. fault ≢ output_failed → ¬ HasLostJournal fault → output.new ≡ output.old) }
     ensures front { IfErr result (λ fault. fault ≡ output_failed → OfAsked (R.has rt.now) (λ job. BeginsBeside (R.finds rt.now) (R.is_full rt.now) (R.details rt.now) job (E.contents error.old) (E.contents error.new))) }
     ensures untold { IfErr result (λ fault. fault ≢ output_failed → error.new ≡ error.old) }
     ensures verbose { IfErr result (AsksForDetails (R.has rt.now) context.new.verbose) }
-    ensures noted { OnOk result (OfAsked (R.has rt.now) (λ job. NotesJob R.JournalFile.contents (R.makes rt.now) job result)) }
+    ensures noted { OnOk result (OfAsked (R.has rt.now) (λ job. NotesJob (NotesEnd R.JournalFile.contents (R.makes rt.now)) (NotesRound R.JournalFile.contents (R.opens rt.now) (R.finds rt.now)) (StopsRun (R.holds rt.now) (R.stops rt.now)) job (W.contents output.old) (W.contents output.new) result)) }
 {
     let job = match asked_job(rt, context) {
         Ok(job) => job,
@@ -85,7 +92,7 @@ pub fn run<R: FileModes + FullNames + Host + InputFiles + ProgramWords, W: Write
 
 /// Does a job, and gives the exit status. Where the job sends, the start says how far the sending came. The context
 /// notes what the config names.
-pub fn do_job<R: FileModes + FullNames + Host + InputFiles, W: Write, E: Write>(
+pub fn do_job<R: FileModes + FullNames + Host + InputFiles + LedgerFiles, W: Write, E: Write>(
     rt: &R,
     context: &mut JobContext,
     start: &mut Start<'_>,
@@ -97,11 +104,11 @@ pub fn do_job<R: FileModes + FullNames + Host + InputFiles, W: Write, E: Write>(
     ensures latch { start.new.latch ≡ start.old.latch }
     ensures started { OnOk result (HasBegun job start.new.begun) }
     ensures status { IfOk result (IsStatusOf job) }
-    ensures done { IfOk result (Does R.Reader.remaining (R.finds rt.now) (R.tells rt.now) job (W.contents output.old) (W.contents output.new)) }
+    ensures done { IfOk result (Does R.Reader.remaining (R.finds rt.now) (R.tells rt.now) (BooksJob (R.holds_ledger rt.now) R.LedgerFile.octets R.LedgerFile.stored R.LedgerFile.opening R.LedgerFile.is_closed) job (W.contents output.old) (W.contents output.new)) }
     ensures beside { OnOk result (WritesBeside (R.finds rt.now) (R.is_full rt.now) (R.details rt.now) job (W.contents output.old) (W.contents output.new) (E.contents error.old) (E.contents error.new)) }
     ensures front { IfErr result (λ fault. fault ≡ output_failed → BeginsBeside (R.finds rt.now) (R.is_full rt.now) (R.details rt.now) job (E.contents error.old) (E.contents error.new)) }
-    ensures refused { IfErr result (FailsJob (FailsBegin (R.makes rt.now) (R.refuses rt.now) (R.holds rt.now)) (R.holds rt.now) R.Reader.remaining (R.finds rt.now) (R.tells rt.now) job (W.contents output.old) (W.contents output.new)) }
-    ensures noted { NotesJob R.JournalFile.contents (R.makes rt.now) job result }
+    ensures refused { IfErr result (FailsJob (FailsBegin (R.makes rt.now) (R.refuses rt.now) (R.holds rt.now)) (R.refuses rt.now) (R.holds rt.now) (FailsBooksJob (R.holds_ledger rt.now) (R.lacks_ledger rt.now) R.LedgerFile.errs R.LedgerFile.octets R.LedgerFile.stored R.LedgerFile.opening R.LedgerFile.is_closed) R.Reader.remaining (R.finds rt.now) (R.tells rt.now) job (W.contents output.old) (W.contents output.new)) }
+    ensures noted { NotesJob (NotesEnd R.JournalFile.contents (R.makes rt.now)) (NotesRound R.JournalFile.contents (R.opens rt.now) (R.finds rt.now)) (StopsRun (R.holds rt.now) (R.stops rt.now)) job (W.contents output.old) (W.contents output.new) result }
     ensures phase { IfErr result (ComesIn job start.new.begun) }
     ensures unwritten { IfErr result (λ fault. fault ≢ output_failed → ¬ HasLostJournal fault → output.new ≡ output.old) }
     ensures untold { IfErr result (λ fault. fault ≢ output_failed → error.new ≡ error.old) }
@@ -113,8 +120,14 @@ pub fn do_job<R: FileModes + FullNames + Host + InputFiles, W: Write, E: Write>(
         Job::Quote(config, verbose) => quote_job(rt, context, config, verbose, output, error),
         Job::Loop(order) => send_job(rt, context, start, TargetKind::Loopback, order, output),
         Job::Send(order) => send_job(rt, context, start, TargetKind::Remote, order, output),
+        Job::Resume(order) => resume_job(rt, context, start, order, output),
+        Job::Stop(journal) => stop_job(rt, journal),
         Job::Recover(order) => recover_job(rt, context, order, output, error),
         Job::Rest(order) => rest_job(rt, context, order, output),
+        Job::List(order) => list_job(rt, context, order, output),
+        Job::Audit(order) => audit_job(rt, context, order, output),
+        Job::TopUp(order) => topup_job(rt, order, output),
+        Job::Balance(ledger) => balance_job(rt, ledger, output),
     }
 }
 

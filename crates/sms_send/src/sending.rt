@@ -1,29 +1,47 @@
 //! A sending: how messages go to their message centre, and how the report of it is written.
 
-ghost use Rattle.std.specs.Prelude.{◌≡◌, is_some};
+ghost use Rattle.std.specs.Prelude.{◌≡◌, ◌⊎◌, IfErr, IfOk, is_some};
 ghost use Rattle.sms_driver.specs.declared.start.StartPhase.TheVariants.{Idle};
 ghost use Rattle.sms_send.specs.Reached.{centre_of};
-ghost use Rattle.sms_send.specs.Sent.{FailsOver, FailsSending, SendingEnd, SendsInput, limits_by};
+ghost use Rattle.std.specs.Io.KnownBytes.{Appends};
+ghost use Rattle.sms_files.specs.Output.{WritesFront};
+ghost use Rattle.sms_files.specs.Report.{report_of};
+ghost use Rattle.sms_send.specs.Faults.{output_failed, unreported};
+ghost use Rattle.sms_send.specs.Sent.{FailsOver, FailsPrinting, FailsSending, HasRows, PrintsSent, SendingEnd, SendsWork, limits_by};
+ghost use Rattle.sms_send.specs.Statuses.{status_by};
 
+pub mod came;
+pub mod interval;
 pub mod noted;
 pub mod remarks;
+pub mod resumed;
+pub mod round_dial;
+pub mod rounds;
 pub mod sender;
 pub mod status;
 pub mod target;
+pub mod work;
 
-use crate::args::send_args::Throttle;
+use crate::args::send_args::{Again, Throttle};
 use crate::faults::fault::Fault;
 use crate::faults::unconnected::reasoned;
 use crate::faults::unsent::report_unsent;
+use crate::sending::interval::Between;
 use crate::sending::remarks::Remarks;
-use crate::sending::sender::{send_all, write_report};
+use crate::sending::round_dial::RoundDial;
+use crate::sending::sender::{Ended, write_ends};
+use crate::sending::status::status_of;
 use crate::sending::target::Target;
+use crate::sending::work::{SentWork, Work, send_work};
+use sms_book::{Opening, Statement};
 use sms_devices::{
-    GateLimits, Host, Journal, LoopDial, Outboxes, Parking, Progress, SendGate, TcpDial, Terminal,
+    GateLimits, Host, Journal, LoopDial, Outboxes, Parking, Progress, SendGate, TakesNotices,
+    TcpDial, Terminal,
 };
-use sms_driver::{BindFailure, Dial, Start};
-use sms_files::{Config, Input};
-use sms_worker::Pause;
+use sms_driver::{BindFailure, Devices, Start};
+use sms_files::Config;
+use sms_message::MessageEnd;
+use sms_worker::{Clock, Pause};
 use std::fs::OpenFile;
 use std::io::Write;
 use std::mem;
@@ -37,6 +55,8 @@ pub struct Sending<'r, R> {
     pub target: Target,
     /// How long is waited for the binds, and how fast and how far is sent.
     pub throttle: Throttle,
+    /// How often it goes on in a further round; never where it is none.
+    pub again: Option<Again>,
     /// What standard error has of it beside a fault.
     pub remarks: Remarks,
     /// Whether the exit status says that a message was not sent whole.
@@ -55,7 +75,7 @@ fn gate_limits(config: &Config, throttle: Throttle) -> GateLimits
 }
 
 /// Whether the journal of a run has failed, where it has one.
-fn has_failed<F: Write + OpenFile>(journal: Option<&Journal<F>>) -> bool {
+pub(crate) fn has_failed<F: Write + OpenFile>(journal: Option<&Journal<F>>) -> bool {
     match journal {
         Some(journal) => journal.has_failed(),
         None => false,
@@ -63,22 +83,22 @@ fn has_failed<F: Write + OpenFile>(journal: Option<&Journal<F>>) -> bool {
 }
 
 impl<'r, R: Host> Sending<'r, R> {
-    /// Connects to the message centre, sends the messages of an input, each noted in the journal if there is
+    /// Connects to the message centre, sends what there is to send, each message noted in the journal if there is
     /// one, and writes the report. Gives the exit status.
     pub fn run<'j, F: Write + OpenFile + Send + Drop, W: Write>(
         &'j self,
         start: &mut Start<'_>,
-        input: Input,
+        work: Work,
         journal: Option<&'j Journal<F>>,
         output: &mut W,
     ) -> Result<u8, Fault>
         requires not_started { start.old.begun ≡ Idle }
+        requires rows { HasRows work }
         ensures latch { start.new.latch ≡ start.old.latch }
-        ensures ended { SendingEnd self.now.strict (SendsInput (R.tells self.now.rt.now (centre_of self.now.target) (is_some journal.entry)) self.now.strict input (W.contents output.old) (W.contents output.new)) (FailsSending (centre_of self.now.target) (R.tells self.now.rt.now (centre_of self.now.target) (is_some journal.entry)) input (W.contents output.old) (W.contents output.new)) start.new.begun output.old output.new result }
+        ensures ended { SendingEnd self.now.strict (SendsWork (R.tells self.now.rt.now (centre_of self.now.target) (is_some journal.entry)) self.now.again self.now.strict work (W.contents output.old) (W.contents output.new)) (FailsSending (centre_of self.now.target) (R.tells self.now.rt.now (centre_of self.now.target) (is_some journal.entry)) self.now.again work (W.contents output.old) (W.contents output.new)) start.new.begun output.old output.new result }
     {
         let rt = self.rt;
-        let workers = input.config().limits.workers;
-        let outboxes = Outboxes::new(rt, journal, workers);
+        let outboxes = Outboxes::new(rt, journal, work.config().limits.workers);
         let pause = Parking {
             rt,
             outboxes: &outboxes,
@@ -89,11 +109,12 @@ impl<'r, R: Host> Sending<'r, R> {
                     rt,
                     alloc: rt.alloc(),
                     outboxes: &outboxes,
+                    round: 1,
                     connect_ms: self.throttle.connect_ms,
                     host: host.as_str(),
                     port: *port,
                 };
-                let sent = self.send_over(start, input, &outboxes, &dial, &pause, output);
+                let sent = self.send_over(start, work, &outboxes, &dial, &pause, output);
                 reasoned(&outboxes, sent)
             }
             Target::Loopback(bind_status, answers) => {
@@ -104,35 +125,36 @@ impl<'r, R: Host> Sending<'r, R> {
                     rt,
                     alloc: rt.alloc(),
                     outboxes: &outboxes,
+                    round: 1,
                     connect_ms: self.throttle.connect_ms,
-                    listener,
+                    listener: &listener,
                     bind_status: *bind_status,
                     answers: answers.as_slice(),
                 };
-                let sent = self.send_over(start, input, &outboxes, &dial, &pause, output);
+                let sent = self.send_over(start, work, &outboxes, &dial, &pause, output);
                 reasoned(&outboxes, sent)
             }
         }
     }
 
-    /// Sends the messages over the connections that the dial makes, and writes the report. The journal is
-    /// complete before the report is formed. A person sees the progress, and the outcome also where the
-    /// report couldn't be written.
-    fn send_over<'j, F: Write + OpenFile + Send + Drop, D: Dial, P: Pause + Sync, W: Write>(
+    /// Sends over the connections that the dial makes, and writes the report. The journal is complete before the
+    /// report is formed. A person sees the progress, and the outcome also where the report couldn't be written.
+    fn send_over<'j, F: Write + OpenFile + Send + Drop, D: RoundDial, P: Pause + Sync, W: Write>(
         &'j self,
         start: &mut Start<'_>,
-        input: Input,
+        work: Work,
         outboxes: &Outboxes<'j, R, F>,
         dial: &D,
         pause: &P,
         output: &mut W,
     ) -> Result<u8, Fault>
         requires not_started { start.old.begun ≡ Idle }
+        requires rows { HasRows work }
         ensures latch { start.new.latch ≡ start.old.latch }
-        ensures ended { SendingEnd self.now.strict (SendsInput (D.told dial.now) self.now.strict input (W.contents output.old) (W.contents output.new)) (FailsOver (D.refuses dial.now) (D.told dial.now) input (W.contents output.old) (W.contents output.new)) start.new.begun output.old output.new result }
+        ensures ended { SendingEnd self.now.strict (SendsWork (λ round. D.told (D.of_round dial.now round)) self.now.again self.now.strict work (W.contents output.old) (W.contents output.new)) (FailsOver (λ round. D.refuses (D.of_round dial.now round)) (λ round. D.told (D.of_round dial.now round)) self.now.again work (W.contents output.old) (W.contents output.new)) start.new.begun output.old output.new result }
     {
         let rt = self.rt;
-        let limits = gate_limits(input.config(), self.throttle);
+        let limits = gate_limits(work.config(), self.throttle);
         outboxes.set_patience(limits.answer_ms);
         let clock = outboxes.start_clock();
         let progress = Progress::new(
@@ -140,28 +162,95 @@ impl<'r, R: Host> Sending<'r, R> {
             Terminal::new(rt),
             clock,
             self.remarks.telling,
-            input.messages().len(),
+            work.count(),
             self.remarks.trial,
         );
         let gate = SendGate::new(rt.alloc(), &*outboxes, clock, &progress, limits);
-        let sent = send_all(rt, rt.alloc(), start, input, dial, &gate, clock, pause);
+        let interval = Between::new(self, work.config(), &*outboxes, &gate, &progress);
+        let devices = Devices {
+            dial,
+            gate: &gate,
+            clock,
+            pause,
+        };
+        let sent = send_work(rt, rt.alloc(), start, work, self.again, &devices, &interval);
         outboxes.flush();
         progress.clear();
-        let ended = match sent {
-            Ok(ended) => ended,
-            Err(fault) => return Err(fault),
-        };
-        let written = write_report(rt.alloc(), &ended, output);
-        progress.sum_up(ended.ends(), ended.statement());
-        let is_lost = has_failed(outboxes.journal());
-        report_unsent(rt, &ended, self.remarks.at_length, self.throttle, is_lost);
-        match written {
-            Ok(()) => {}
-            Err(fault) => return Err(fault),
+        match sent {
+            Ok(sent) => self.print_sent(sent, outboxes, &progress, output),
+            Err(fault) => Err(fault),
         }
-        let status = ended.exit_status(self.strict);
-        // The process ends next, which frees it at once.
-        mem::forget(ended);
-        Ok(status)
+    }
+
+    /// Writes the report of what was sent, and what there is to say of it beside. Gives the exit status.
+    fn print_sent<'j, F: Write + OpenFile, N: TakesNotices, K: Clock, W: Write>(
+        &self,
+        sent: SentWork,
+        outboxes: &Outboxes<'j, R, F>,
+        progress: &Progress<'_, R, N, K>,
+        output: &mut W,
+    ) -> Result<u8, Fault>
+        ensures printed { IfOk result (λ status. PrintsSent self.now.strict sent (W.contents output.old) (W.contents output.new) status) }
+        ensures failed { IfErr result (FailsPrinting sent (W.contents output.old) (W.contents output.new)) }
+        ensures quiet { IfErr result (λ fault. fault ≡ unreported → output.new ≡ output.old) }
+    {
+        match sent {
+            SentWork::Whole(ended) => {
+                let (openings, ends, statement) = (
+                    ended.openings(),
+                    ended.ends(),
+                    ended.statement(),
+                );
+                let status = self.print(openings, ends, statement, progress, output);
+                self.tell_unsent(&ended, outboxes);
+                // The process ends next, which frees it at once.
+                mem::forget(ended);
+                status
+            }
+            SentWork::Resumed(run) => {
+                let (openings, ends, statement) = (run.openings(), run.ends(), run.statement());
+                let status = self.print(openings, ends, statement, progress, output);
+                mem::forget(run);
+                status
+            }
+        }
+    }
+
+    /// Writes the report of these ends and, for a person, what they come to. Gives the exit status.
+    fn print<S, N: TakesNotices, K: Clock, W: Write>(
+        &self,
+        openings: &[Opening],
+        ends: &[MessageEnd<S>],
+        statement: &Statement,
+        progress: &Progress<'_, R, N, K>,
+        output: &mut W,
+    ) -> Result<u8, Fault>
+        ensures printed { IfOk result (λ status. Appends (W.contents output.old) (W.contents output.new) (report_of openings.now ends.now statement.now) × (status ≡ status_by self.now.strict ends.now)) }
+        ensures failed { IfErr result (λ fault. (fault ≡ output_failed) ⊎ (fault ≡ unreported)) }
+        ensures front { IfErr result (λ fault. fault ≡ output_failed → WritesFront (W.contents output.old) (W.contents output.new) (report_of openings.now ends.now statement.now)) }
+        ensures quiet { IfErr result (λ fault. fault ≡ unreported → output.new ≡ output.old) }
+    {
+        let written = write_ends(self.rt.alloc(), openings, ends, statement, output);
+        progress.sum_up(ends, statement);
+        match written {
+            Ok(()) => Ok(status_of(ends, self.strict)),
+            Err(fault) => Err(fault),
+        }
+    }
+
+    /// At length, says why messages were not sent. Over several rounds that was said at the end of each.
+    fn tell_unsent<'j, F: Write + OpenFile>(&self, ended: &Ended, outboxes: &Outboxes<'j, R, F>) {
+        if self.again.is_none() {
+            let is_lost = has_failed(outboxes.journal());
+            let at_length = self.remarks.at_length;
+            report_unsent(
+                self.rt,
+                ended.ends(),
+                ended.binds(),
+                at_length,
+                self.throttle,
+                is_lost,
+            );
+        }
     }
 }

@@ -1,6 +1,7 @@
 //! The jobs of the program, and whole sendings over a message centre in memory, worked out by hand.
 
 mod answers;
+mod audited;
 mod broken;
 mod details;
 mod frames;
@@ -8,13 +9,20 @@ mod full_names;
 mod held;
 mod jobs;
 mod journal;
+mod ledger;
+mod listed;
+mod near_centre;
 mod plan;
 mod quote;
 mod refusals;
 mod report;
+mod resume;
+mod rounds;
+mod run_words;
 mod same;
 mod sending;
 mod simulator;
+mod stop;
 mod strict;
 mod told;
 mod trial;

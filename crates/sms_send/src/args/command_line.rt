@@ -2,8 +2,12 @@
 
 ghost use Rattle.std.specs.Prelude.{◌≡◌, false, IfOk, IsOkAnd};
 ghost use Rattle.clap.specs.Words.{AddsSubcommand, App, Rule, app_of, new_app, rule_of, with_rule};
-ghost use Rattle.sms_send.specs.CommandLine.{IsLine, command_line as words_allowed, file_rule, flag_rule, name_rule, throttle_rules, plan_line, program_line, quote_line, recover_line, replay_line, rest_line, sender_line, value_rule, verbose_rule, with_rules};
+ghost use Rattle.sms_send.specs.CommandLine.{IsLine, command_line as words_allowed, file_rule, flag_rule, name_rule, throttle_rules, again_rules, config_rules, plan_line, program_line, quote_line, replay_line, resume_line, sender_line, sending_rules, stop_line, value_rule, verbose_rule, with_rules};
 
+use crate::args::ledger_commands::{balance_command, topup_command};
+use crate::args::run_commands::{
+    audit_command, bill_command, doubtful_command, recover_command, rest_command,
+};
 use clap::{Arg, ArgAction, Command};
 use std::alloc::{AllocError, Global};
 
@@ -33,8 +37,15 @@ pub fn command_line<'a>(alloc: Global) -> Result<Command<'a>, AllocError>
         "Sends the messages that the config names to its message centre, and prints a report",
     );
     let both = with_subcommand(either, sending)?;
-    let recovering = with_subcommand(both, recover_command(alloc))?;
-    with_subcommand(recovering, rest_command(alloc))
+    let going_on = with_subcommand(both, resume_command(alloc))?;
+    let stopping = with_subcommand(going_on, stop_command(alloc))?;
+    let recovering = with_subcommand(stopping, recover_command(alloc))?;
+    let left = with_subcommand(recovering, rest_command(alloc))?;
+    let billing = with_subcommand(left, bill_command(alloc))?;
+    let doubting = with_subcommand(billing, doubtful_command(alloc))?;
+    let auditing = with_subcommand(doubting, audit_command(alloc))?;
+    let paying = with_subcommand(auditing, topup_command(alloc))?;
+    with_subcommand(paying, balance_command(alloc))
 }
 
 /// The command with this subcommand too, where there was memory for both.
@@ -70,7 +81,7 @@ fn program_command<'a>(alloc: Global) -> Result<Command<'a>, AllocError>
 }
 
 /// The flag that every subcommand has.
-fn verbose_flag<'a>(alloc: Global) -> Arg<'a>
+pub(crate) fn verbose_flag<'a>(alloc: Global) -> Arg<'a>
     ensures rule { rule_of result ≡ verbose_rule }
     ensures local { result.global ≡ false }
 {
@@ -131,48 +142,37 @@ fn quote_command<'a>(alloc: Global) -> Result<Command<'a>, AllocError>
     with_argument(configured, verbose_flag(alloc))
 }
 
-/// The subcommand `recover`.
-fn recover_command<'a>(alloc: Global) -> Result<Command<'a>, AllocError>
-    ensures { IfOk result (IsLine recover_line) }
+/// The subcommand `resume`.
+fn resume_command<'a>(alloc: Global) -> Result<Command<'a>, AllocError>
+    ensures { IfOk result (IsLine resume_line) }
 {
-    let config = file_option(alloc, "config", "The config of the run");
-    let journal = file_option(alloc, "journal", "The journal of the run");
-    let trial = flag(
-        alloc,
-        "trial",
-        "Prints the report of a trial, a journal of loop, too",
-    );
     let begun = subcommand(
         alloc,
-        "recover",
-        "Prints the report of a run that was interrupted, from its journal",
+        "resume",
+        "Sends what a run has not begun yet, by its journal, and prints the report of the whole run",
     );
-    let configured = with_argument(Ok(begun), config);
-    let noted = with_argument(configured, journal);
-    let tried = with_argument(noted, trial);
-    with_argument(tried, verbose_flag(alloc))
+    let journal = file_option(
+        alloc,
+        "journal",
+        "The journal of the run, which goes on in it",
+    );
+    let quieted = with_config(alloc, Ok(begun));
+    let noted = with_argument(quieted, journal);
+    with_sending(alloc, noted)
 }
 
-/// The subcommand `rest`.
-fn rest_command<'a>(alloc: Global) -> Result<Command<'a>, AllocError>
-    ensures { IfOk result (IsLine rest_line) }
+/// The subcommand `stop`.
+fn stop_command<'a>(alloc: Global) -> Result<Command<'a>, AllocError>
+    ensures { IfOk result (IsLine stop_line) }
 {
-    let config = file_option(alloc, "config", "The config of the run");
-    let report = file_option(alloc, "report", "The report of the run");
-    let accounts = flag(
-        alloc,
-        "accounts",
-        "Prints the accounts with the credits that they have left, instead of the messages",
-    );
+    let journal = file_option(alloc, "journal", "The journal of the run");
     let begun = subcommand(
         alloc,
-        "rest",
-        "Prints the messages of which a run sent nothing, from its report",
+        "stop",
+        "Asks a run to begin no further message, and waits for its end",
     );
-    let configured = with_argument(Ok(begun), config);
-    let reported = with_argument(configured, report);
-    let counted = with_argument(reported, accounts);
-    with_argument(counted, verbose_flag(alloc))
+    let noted = with_argument(Ok(begun), journal);
+    with_argument(noted, verbose_flag(alloc))
 }
 
 /// The subcommand `loop` or `send`.
@@ -183,18 +183,41 @@ fn sender_command<'a>(
 ) -> Result<Command<'a>, AllocError>
     ensures { IfOk result (IsLine (sender_line name.now)) }
 {
-    let config = file_option(alloc, "config", "The config, which names the other files");
-    let quiet = flag(
-        alloc,
-        "quiet",
-        "Prints nothing but faults on standard error",
-    );
     let journal = value_option(
         alloc,
         "journal",
         "FILE",
         "Writes a journal of what is sent and received to this new file",
     );
+    let quieted = with_config(alloc, Ok(subcommand(alloc, name, about)));
+    let noted = with_argument(quieted, journal);
+    with_sending(alloc, noted)
+}
+
+/// The command with the options that each sending has before its journal.
+fn with_config<'a>(
+    alloc: Global,
+    command: Result<Command<'a>, AllocError>,
+) -> Result<Command<'a>, AllocError>
+    ensures { (line : App) → IfOk command.entry (IsLine line) → IfOk result (IsLine (with_rules line config_rules)) }
+{
+    let config = file_option(alloc, "config", "The config, which names the other files");
+    let quiet = flag(
+        alloc,
+        "quiet",
+        "Prints nothing but faults on standard error",
+    );
+    let configured = with_argument(command, config);
+    with_argument(configured, quiet)
+}
+
+/// The command with the options that each sending has behind its journal.
+fn with_sending<'a>(
+    alloc: Global,
+    command: Result<Command<'a>, AllocError>,
+) -> Result<Command<'a>, AllocError>
+    ensures { (line : App) → IfOk command.entry (IsLine line) → IfOk result (IsLine (with_rules line sending_rules)) }
+{
     let sync = flag(
         alloc,
         "sync",
@@ -205,13 +228,34 @@ fn sender_command<'a>(
         "strict",
         "Ends with status 5 if a message was not sent whole and no part is unanswered",
     );
-    let begun = with_argument(Ok(subcommand(alloc, name, about)), config);
-    let quieted = with_argument(begun, quiet);
-    let noted = with_argument(quieted, journal);
-    let synced = with_argument(noted, sync);
+    let synced = with_argument(command, sync);
     let stricter = with_argument(synced, strict);
     let told = with_argument(stricter, verbose_flag(alloc));
-    with_throttle(alloc, told)
+    let throttled = with_throttle(alloc, told);
+    with_again(alloc, throttled)
+}
+
+/// The command with the options of its further rounds too.
+fn with_again<'a>(
+    alloc: Global,
+    command: Result<Command<'a>, AllocError>,
+) -> Result<Command<'a>, AllocError>
+    ensures { (line : App) → IfOk command.entry (IsLine line) → IfOk result (IsLine (with_rules line again_rules)) }
+{
+    let again = value_option(
+        alloc,
+        "again",
+        "N",
+        "Goes on in at most N further rounds while messages are left, 1 to 1000000",
+    );
+    let wait = value_option(
+        alloc,
+        "again-ms",
+        "N",
+        "Waits so many milliseconds before each of them, 1 to 600000; 1000 without the option",
+    );
+    let rounds = with_argument(command, again);
+    with_argument(rounds, wait)
 }
 
 /// The command with the options of its pace too.
@@ -245,14 +289,14 @@ fn with_throttle<'a>(
 }
 
 /// A subcommand before its arguments.
-fn subcommand<'a>(alloc: Global, name: &'a str, about: &'a str) -> Command<'a>
+pub(crate) fn subcommand<'a>(alloc: Global, name: &'a str, about: &'a str) -> Command<'a>
     ensures { IsLine (new_app name.now) result }
 {
     Command::new(alloc, name).about(about)
 }
 
 /// The command with this argument too, where there was memory for both.
-fn with_argument<'a>(
+pub(crate) fn with_argument<'a>(
     command: Result<Command<'a>, AllocError>,
     argument: Arg<'a>,
 ) -> Result<Command<'a>, AllocError>
@@ -269,7 +313,7 @@ fn with_argument<'a>(
 }
 
 /// A word that has to be given.
-fn name_argument<'a>(alloc: Global, name: &'a str, help: &'a str) -> Arg<'a>
+pub(crate) fn name_argument<'a>(alloc: Global, name: &'a str, help: &'a str) -> Arg<'a>
     ensures rule { rule_of result ≡ name_rule name.now }
     ensures local { result.global ≡ false }
 {
@@ -277,7 +321,7 @@ fn name_argument<'a>(alloc: Global, name: &'a str, help: &'a str) -> Arg<'a>
 }
 
 /// An option that has to be given a file.
-fn file_option<'a>(alloc: Global, name: &'a str, help: &'a str) -> Arg<'a>
+pub(crate) fn file_option<'a>(alloc: Global, name: &'a str, help: &'a str) -> Arg<'a>
     ensures rule { rule_of result ≡ file_rule name.now }
     ensures local { result.global ≡ false }
 {
@@ -289,7 +333,12 @@ fn file_option<'a>(alloc: Global, name: &'a str, help: &'a str) -> Arg<'a>
 }
 
 /// An option that may be given a value.
-fn value_option<'a>(alloc: Global, name: &'a str, value: &'a str, help: &'a str) -> Arg<'a>
+pub(crate) fn value_option<'a>(
+    alloc: Global,
+    name: &'a str,
+    value: &'a str,
+    help: &'a str,
+) -> Arg<'a>
     ensures rule { rule_of result ≡ value_rule name.now }
     ensures local { result.global ≡ false }
 {
@@ -300,7 +349,7 @@ fn value_option<'a>(alloc: Global, name: &'a str, value: &'a str, help: &'a str)
 }
 
 /// An option that is given or not.
-fn flag<'a>(alloc: Global, name: &'a str, help: &'a str) -> Arg<'a>
+pub(crate) fn flag<'a>(alloc: Global, name: &'a str, help: &'a str) -> Arg<'a>
     ensures rule { rule_of result ≡ flag_rule name.now }
     ensures local { result.global ≡ false }
 {

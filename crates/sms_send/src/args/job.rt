@@ -1,18 +1,23 @@
 //! What the command line asks for.
 
-ghost use Rattle.std.specs.Prelude.{◌≡◌, ◌≢◌, ◌↔◌, [], None, Some, IfErr, IfOk, OnOk, map, string_bytes};
-ghost use Rattle.clap.specs.Words.{HasKind, Kinds, found_of, kind_of, rows_of, subcommand_rows_of};
-ghost use Rattle.sms_send.specs.CommandLine.{AsksFor, AsksToNote, AsksToSend, HasNames, HasThrottle, IsJob, IsRefused, AreRefusedArgs, IsWrongNumber, IsWrongSync, LacksName, RefusesFor, RefusesMatch, RefusesAs, RefusesWords, bytes_of, file_named, refusals_of, subcommand_in, subcommand_named as named};
+ghost use Rattle.std.specs.Prelude.{◌≡◌, [], None, Some, IfErr, IfOk, IsErr, OnOk, map, string_bytes};
+ghost use Rattle.clap.specs.Words.{found_of, rows_of, subcommand_rows_of};
+ghost use Rattle.sms_send.specs.CommandLine.{AreRefusedResumeArgs, AsksAgain, AsksFor, AsksToNote, AsksToResume, AsksToSend, HasThrottle, IsJob, IsRefused, AreRefusedArgs, IsWrongNumber, IsWrongPace, IsWrongSync, RefusesFor, RefusesMatch, RefusesWords, bytes_of, file_named, refusals_of, subcommand_in, subcommand_named as named};
 ghost use Rattle.sms_send.specs.Faults.{IsWords};
-ghost use Rattle.sms_send.specs.declared.faults.fault.Fault.TheVariants.{OutOfMemory};
 
 use crate::args::command_line::command_line;
-use crate::args::send_args::{JournalFile, RecoverArgs, RestArgs, SendArgs, Throttle};
+use crate::args::ledger_args::{TopUpArgs, balance_job_of, top_up_job_of};
+use crate::args::parser_fault::fault_of;
+use crate::args::run_args::{
+    audit_job_of, bill_job_of, doubtful_job_of, names_of, recover_job_of, rest_job_of,
+};
+use crate::args::send_args::{
+    Again, AuditArgs, JournalFile, ListArgs, RecoverArgs, RestArgs, ResumeArgs, SendArgs, Throttle,
+};
 use crate::args::values::{is_given, number_given, text_given, text_if_given};
 use crate::faults::argument_error::{ArgumentError, NumberOption};
 use crate::faults::fault::Fault;
-use clap::error::ErrorKind;
-use clap::{ArgMatches, Error};
+use clap::ArgMatches;
 use std::alloc::Global;
 
 /// The most milliseconds until a bind has to be made.
@@ -23,6 +28,14 @@ const MOST_RATE: u64 = 100_000;
 
 /// The most unanswered requests in a row.
 const MOST_UNANSWERED: u64 = 1_000_000;
+
+/// The most further rounds.
+const MOST_ROUNDS: u64 = 1_000_000;
+
+/// The most milliseconds before a further round, and how many there are where that isn't said.
+const MOST_WAIT_MS: u64 = 600_000;
+
+const USUAL_WAIT_MS: u32 = 1_000;
 
 /// What the program is asked to do.
 #[derive(Debug, Drop)]
@@ -37,10 +50,22 @@ pub enum Job {
     Loop(SendArgs),
     /// The same to the message centre that the config names.
     Send(SendArgs),
+    /// To go on with a run in a further round, by its journal.
+    Resume(ResumeArgs),
+    /// To ask the run whose journal has this name to stop, and to wait for its end.
+    Stop(String),
     /// To print what a run would have reported, by its journal.
     Recover(RecoverArgs),
     /// To print what a run did not send at all, by its report.
     Rest(RestArgs),
+    /// To print what is listed of a run, by its journal.
+    List(ListArgs),
+    /// To print a run, by its report, as a run of the model.
+    Audit(AuditArgs),
+    /// To book a payment in a ledger.
+    TopUp(TopUpArgs),
+    /// To print where the credits of the ledger in the file of this name are.
+    Balance(String),
 }
 
 /// What the first word asks for.
@@ -51,8 +76,15 @@ enum Subcommand {
     Quote,
     Loop,
     Send,
+    Resume,
+    Stop,
     Recover,
     Rest,
+    Bill,
+    Doubtful,
+    Audit,
+    TopUp,
+    Balance,
 }
 
 /// The job that the words after the program's name ask for.
@@ -103,10 +135,24 @@ fn subcommand_named(name: &str) -> Option<Subcommand>
         Some(Subcommand::Loop)
     } else if name == "send" {
         Some(Subcommand::Send)
+    } else if name == "resume" {
+        Some(Subcommand::Resume)
+    } else if name == "stop" {
+        Some(Subcommand::Stop)
     } else if name == "recover" {
         Some(Subcommand::Recover)
     } else if name == "rest" {
         Some(Subcommand::Rest)
+    } else if name == "bill" {
+        Some(Subcommand::Bill)
+    } else if name == "doubtful" {
+        Some(Subcommand::Doubtful)
+    } else if name == "audit" {
+        Some(Subcommand::Audit)
+    } else if name == "topup" {
+        Some(Subcommand::TopUp)
+    } else if name == "balance" {
+        Some(Subcommand::Balance)
     } else {
         None
     }
@@ -139,40 +185,21 @@ fn job_asked(alloc: Global, subcommand: Subcommand, found: &ArgMatches<'_>) -> R
             Ok(order) => Ok(Job::Send(order)),
             Err(fault) => Err(fault),
         },
-        Subcommand::Recover => match names_of(alloc, found, "journal") {
-            Ok((config, journal)) => Ok(Job::Recover(RecoverArgs {
-                config,
-                journal,
-                trial: is_given(found, "trial"),
-            })),
+        Subcommand::Resume => match resume_args_of(alloc, found) {
+            Ok(order) => Ok(Job::Resume(order)),
             Err(fault) => Err(fault),
         },
-        Subcommand::Rest => match names_of(alloc, found, "report") {
-            Ok((config, report)) => Ok(Job::Rest(RestArgs {
-                config,
-                report,
-                accounts: is_given(found, "accounts"),
-            })),
+        Subcommand::Stop => match text_given(alloc, found, "journal") {
+            Ok(journal) => Ok(Job::Stop(journal)),
             Err(fault) => Err(fault),
         },
-    }
-}
-
-/// The names of the config and of the file of this other option.
-fn names_of(alloc: Global, found: &ArgMatches<'_>, other: &str) -> Result<(String, String), Fault>
-    ensures names { IfOk result (λ names. HasNames other.now (rows_of (found_of found.now)) names.0 names.1) }
-    ensures refused { IfErr result (RefusesFor (LacksName other.now (rows_of (found_of found.now)))) }
-{
-    let config = match text_given(alloc, found, "config") {
-        Ok(config) => config,
-        Err(fault) => return Err(fault),
-    };
-    match text_given(alloc, found, other) {
-        Ok(name) => Ok((config, name)),
-        Err(fault) => {
-            drop(config);
-            Err(fault)
-        }
+        Subcommand::Recover => recover_job_of(alloc, found),
+        Subcommand::Rest => rest_job_of(alloc, found),
+        Subcommand::Bill => bill_job_of(alloc, found),
+        Subcommand::Doubtful => doubtful_job_of(alloc, found),
+        Subcommand::Audit => audit_job_of(alloc, found),
+        Subcommand::TopUp => top_up_job_of(alloc, found),
+        Subcommand::Balance => balance_job_of(alloc, found),
     }
 }
 
@@ -181,9 +208,9 @@ fn send_args_of(alloc: Global, found: &ArgMatches<'_>) -> Result<SendArgs, Fault
     ensures order { IfOk result (AsksToSend (rows_of (found_of found.now))) }
     ensures refused { IfErr result (RefusesFor (AreRefusedArgs (rows_of (found_of found.now)))) }
 {
-    let throttle = match throttle_of(found) {
-        Ok(throttle) => throttle,
-        Err(option) => return Err(Fault::Words(ArgumentError::Number(option))),
+    let (throttle, again) = match pace_of(found) {
+        Ok(pace) => pace,
+        Err(fault) => return Err(fault),
     };
     let journal = match journal_of(alloc, found) {
         Ok(journal) => journal,
@@ -196,12 +223,75 @@ fn send_args_of(alloc: Global, found: &ArgMatches<'_>) -> Result<SendArgs, Fault
             verbose: is_given(found, "verbose"),
             journal,
             throttle,
+            again,
             strict: is_given(found, "strict"),
         }),
         Err(fault) => {
             drop(journal);
             Err(fault)
         }
+    }
+}
+
+/// What `resume` is asked for.
+fn resume_args_of(alloc: Global, found: &ArgMatches<'_>) -> Result<ResumeArgs, Fault>
+    ensures order { IfOk result (AsksToResume (rows_of (found_of found.now))) }
+    ensures refused { IfErr result (RefusesFor (AreRefusedResumeArgs (rows_of (found_of found.now)))) }
+{
+    let (throttle, again) = match pace_of(found) {
+        Ok(pace) => pace,
+        Err(fault) => return Err(fault),
+    };
+    let (quiet, verbose) = (is_given(found, "quiet"), is_given(found, "verbose"));
+    let (sync, strict) = (is_given(found, "sync"), is_given(found, "strict"));
+    match names_of(alloc, found, "journal") {
+        Ok((config, name)) => Ok(ResumeArgs {
+            config,
+            quiet,
+            verbose,
+            journal: JournalFile { name, sync },
+            throttle,
+            again,
+            strict,
+        }),
+        Err(fault) => Err(fault),
+    }
+}
+
+/// What bounds a sending, and how often it goes on.
+fn pace_of(found: &ArgMatches<'_>) -> Result<(Throttle, Option<Again>), Fault>
+    ensures pace { IfOk result (λ pace. HasThrottle (rows_of (found_of found.now)) pace.0 × AsksAgain (rows_of (found_of found.now)) pace.1) }
+    ensures refused { IfErr result (λ fault. IsWords fault × IsWrongPace (rows_of (found_of found.now))) }
+{
+    let throttle = match throttle_of(found) {
+        Ok(throttle) => throttle,
+        Err(option) => return Err(Fault::Words(ArgumentError::Number(option))),
+    };
+    match again_of(found) {
+        Ok(again) => Ok((throttle, again)),
+        Err(why) => Err(Fault::Words(why)),
+    }
+}
+
+/// How often a sending goes on in a further round. How long it waits before can't be asked without that.
+fn again_of(found: &ArgMatches<'_>) -> Result<Option<Again>, ArgumentError>
+    ensures again { IfOk result (AsksAgain (rows_of (found_of found.now))) }
+    ensures refused { IsErr result → IsWrongPace (rows_of (found_of found.now)) }
+{
+    let Some(most) = number_given(found, "again", MOST_ROUNDS) else {
+        return Err(ArgumentError::Number(NumberOption::Again));
+    };
+    let Some(wait_ms) = number_given(found, "again-ms", MOST_WAIT_MS) else {
+        return Err(ArgumentError::Number(NumberOption::AgainMs));
+    };
+    match (most, wait_ms) {
+        (Some(most), Some(wait_ms)) => Ok(Some(Again { most, wait_ms })),
+        (Some(most), None) => Ok(Some(Again {
+            most,
+            wait_ms: USUAL_WAIT_MS,
+        })),
+        (None, Some(_)) => Err(ArgumentError::AgainMsAlone),
+        (None, None) => Ok(None),
     }
 }
 
@@ -248,33 +338,5 @@ fn file_of(name: String) -> Option<String>
         None
     } else {
         Some(name)
-    }
-}
-
-/// The parser's message; empty where memory is refused for it.
-fn text_of(alloc: Global, error: &Error) -> String {
-    match error.to_string(alloc) {
-        Ok(text) => text,
-        Err(_) => String::new(alloc),
-    }
-}
-
-/// The fault that the parser's error is.
-fn fault_of(alloc: Global, error: &Error) -> Fault
-    ensures refused { (kinds : Kinds) → HasKind kinds error.now → RefusesAs kinds result }
-    ensures memory { kind_of error.now ≡ ErrorKind.OutOfMemory → result ≡ OutOfMemory }
-    ensures words { IsWords result ↔ ((kind_of error.now ≢ ErrorKind.OutOfMemory) × (kind_of error.now ≢ ErrorKind.DisplayHelp) × (kind_of error.now ≢ ErrorKind.DisplayVersion)) }
-{
-    match error.kind() {
-        ErrorKind::OutOfMemory => Fault::OutOfMemory,
-        ErrorKind::DisplayHelp => match error.to_string(alloc) {
-            Ok(text) => Fault::Help(text),
-            Err(_) => Fault::OutOfMemory,
-        },
-        ErrorKind::DisplayVersion => match error.to_string(alloc) {
-            Ok(text) => Fault::Version(text),
-            Err(_) => Fault::OutOfMemory,
-        },
-        _ => Fault::Words(ArgumentError::Parser(text_of(alloc, error))),
     }
 }

@@ -1,5 +1,7 @@
 //! What the arguments of the subcommands that send, and that look at what was sent, ask for.
 
+use sms_journal::Listing;
+
 /// A sending as the command line asks for it.
 #[derive(Debug, Drop)]
 pub struct SendArgs {
@@ -13,14 +15,44 @@ pub struct SendArgs {
     pub journal: Option<JournalFile>,
     /// How long is waited for the binds, and how fast and how far is sent.
     pub throttle: Throttle,
+    /// How often it goes on in a further round; never without the option.
+    pub again: Option<Again>,
     /// Whether the exit status says that a message was not sent whole.
     pub strict: bool,
+}
+
+/// A further round of a run as the command line asks for it.
+#[derive(Debug, Drop)]
+pub struct ResumeArgs {
+    /// The name of the config of the run.
+    pub config: String,
+    /// Whether nothing but a fault is printed on standard error.
+    pub quiet: bool,
+    /// Whether details are printed there of what needs an operator.
+    pub verbose: bool,
+    /// The journal of the run, which goes on in it.
+    pub journal: JournalFile,
+    /// How long is waited for the binds, and how fast and how far is sent.
+    pub throttle: Throttle,
+    /// How often it goes on in a further round after this one; never without the option.
+    pub again: Option<Again>,
+    /// Whether the exit status says that a message was not sent whole.
+    pub strict: bool,
+}
+
+/// When a sending goes on in a further round: where messages are left of which nothing was begun.
+#[derive(Clone, Copy, Debug, PartialEq, Eq)]
+pub struct Again {
+    /// How many further rounds there are at most, 1 to 1,000,000.
+    pub most: u32,
+    /// How many milliseconds lie before each, 1 to 600,000.
+    pub wait_ms: u32,
 }
 
 /// The journal that a sending is to write.
 #[derive(Debug, Drop)]
 pub struct JournalFile {
-    /// The name of its file, which is made new.
+    /// The name of its file.
     pub name: String,
     /// Whether the disk has it before a request goes out.
     pub sync: bool,
@@ -46,6 +78,26 @@ pub struct RestArgs {
     pub report: String,
     /// Whether the accounts are asked for, and not the messages.
     pub accounts: bool,
+}
+
+/// What is listed of a run as the command line asks for it.
+#[derive(Debug, Drop)]
+pub struct ListArgs {
+    /// The name of the config of the run.
+    pub config: String,
+    /// The name of its journal.
+    pub journal: String,
+    /// What is listed.
+    pub listing: Listing,
+}
+
+/// A run as the command line asks for it to be audited.
+#[derive(Debug, Drop)]
+pub struct AuditArgs {
+    /// The name of the config of the run.
+    pub config: String,
+    /// The name of its report.
+    pub report: String,
 }
 
 /// What bounds a sending. Without its option nothing does.

@@ -6,6 +6,8 @@ pub enum NumberOption {
     ConnectMs,
     Rate,
     StopAfter,
+    Again,
+    AgainMs,
 }
 
 /// Why the arguments are refused.
@@ -21,4 +23,12 @@ pub enum ArgumentError {
     Number(NumberOption),
     /// `--sync` was given without `--journal`.
     SyncAlone,
+    /// `--again-ms` was given without `--again`.
+    AgainMsAlone,
+    /// The text is the name of no account.
+    Account,
+    /// The text is no number of credits that may be paid.
+    Credits,
+    /// The text of `--ref` is the name of no payment.
+    Reference,
 }

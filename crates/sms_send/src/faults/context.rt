@@ -17,6 +17,10 @@ pub enum JobKind {
     Loop,
     /// It sends them to the message centre that the config names.
     Send,
+    /// It sends there what a run has left, by its journal.
+    Resume,
+    /// It sends none: it books a payment.
+    TopUp,
 }
 
 /// The message centre of a bind.
@@ -39,6 +43,7 @@ pub struct JobNames {
     pub tariff: Option<String>,
     pub journal: Option<String>,
     pub report: Option<String>,
+    pub ledger: Option<String>,
 }
 
 /// What is known of a job.
@@ -89,6 +94,7 @@ impl JobNames {
             tariff: None,
             journal: None,
             report: None,
+            ledger: None,
         }
     }
 
@@ -130,6 +136,12 @@ impl JobContext {
             Job::Quote(config, _) => self.names.config = kept(alloc, config.as_str()),
             Job::Loop(order) => self.note_sending(alloc, JobKind::Loop, order),
             Job::Send(order) => self.note_sending(alloc, JobKind::Send, order),
+            Job::Resume(order) => {
+                self.kind = JobKind::Resume;
+                self.names.config = kept(alloc, order.config.as_str());
+                self.names.journal = kept(alloc, order.journal.name.as_str());
+            }
+            Job::Stop(journal) => self.names.journal = kept(alloc, journal.as_str()),
             Job::Recover(order) => {
                 self.names.config = kept(alloc, order.config.as_str());
                 self.names.journal = kept(alloc, order.journal.as_str());
@@ -138,6 +150,19 @@ impl JobContext {
                 self.names.config = kept(alloc, order.config.as_str());
                 self.names.report = kept(alloc, order.report.as_str());
             }
+            Job::List(order) => {
+                self.names.config = kept(alloc, order.config.as_str());
+                self.names.journal = kept(alloc, order.journal.as_str());
+            }
+            Job::Audit(order) => {
+                self.names.config = kept(alloc, order.config.as_str());
+                self.names.report = kept(alloc, order.report.as_str());
+            }
+            Job::TopUp(order) => {
+                self.kind = JobKind::TopUp;
+                self.names.ledger = kept(alloc, order.ledger.as_str());
+            }
+            Job::Balance(ledger) => self.names.ledger = kept(alloc, ledger.as_str()),
         }
     }
 
@@ -151,7 +176,7 @@ impl JobContext {
     /// Notes what the config says: the files that it names, and the message centre where messages go to that.
     pub fn note_config(&mut self, alloc: Global, config: &Config) {
         self.note_files(alloc, &config.files);
-        if self.kind == JobKind::Send {
+        if self.kind == JobKind::Send || self.kind == JobKind::Resume {
             let connection = &config.connection;
             self.centre = centre_of(alloc, connection.host.as_str(), connection.port);
         }

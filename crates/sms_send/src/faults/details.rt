@@ -7,6 +7,7 @@ pub mod file;
 pub mod files_read;
 pub mod journal;
 pub mod key;
+pub mod ledger;
 pub mod lines;
 pub mod mode;
 pub mod record;

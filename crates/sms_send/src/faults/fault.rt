@@ -2,23 +2,25 @@
 
 ghost use Rattle.std.specs.Fmt.{WritesOnOk};
 ghost use Rattle.std.specs.Prelude.{◌≡◌, ◌++◌, codes, decimal};
+ghost use Rattle.sms_send.specs.Faults.{fault_of_others};
 ghost use Rattle.sms_send.specs.Shown.{shown};
 
 use crate::faults::argument_error::ArgumentError;
 use crate::faults::details::shown::write_shown;
-use sms_devices::{JournalFailure, Reason};
+use sms_devices::{JournalFailure, LedgerFailure, Reason};
 use sms_driver::{BindFailure, SendFault};
 use sms_files::memory::NoMemory;
 use sms_files::{ConfigValue, InputFault, OutputFault, RecordFlaw, Source, TomlFlaw, Unwritten};
-use sms_journal::RecoveryFault;
+use sms_journal::{AuditFault, RecoveryFault, RunFile};
+use sms_ledger::Refusal;
 use sms_pdu::DeviceError;
 use std::alloc::{AllocError, AllocFailed};
 use std::fmt;
 use std::io::ErrorKind;
 use thiserror::Error;
 
-/// Why the program ends before its work is done. Its text is the line that the program tells it
-/// with, and stands in [`Display`](fmt::Display) below, so that it is proved.
+/// Why the program ends before its work is done. Its text is the line by which the program
+/// reports it, and stands in [`Display`](fmt::Display) below, so that it is proved.
 #[derive(Debug, Drop, Error)]
 pub enum Fault {
     /// The arguments are refused, and this is why.
@@ -53,6 +55,8 @@ pub enum Fault {
     Unmade(String, ErrorKind),
     /// A process holds the journal: its run is still going on.
     JournalHeld,
+    /// No process was found that holds the journal: there is no run to stop.
+    JournalFree,
     /// The first line of a new journal can't be written, and this is why. Nothing was sent.
     Unbegun(JournalFailure),
     /// The journal could not be written on, and this is why. All else was done.
@@ -63,6 +67,20 @@ pub enum Fault {
     Trial,
     /// The file of this name isn't the one that the journal is of.
     OtherFile(String),
+    /// The config's `attempts` is another than the one that the journal says.
+    OtherAttempts,
+    /// The config's `long_reference` is another than the one that the journal says.
+    OtherReference,
+    /// The schedule of a run has more events than `replay` takes.
+    LongSchedule,
+    /// The ledger of this name can't be opened or made: the system refused it with an error of this kind.
+    LedgerFile(String, ErrorKind),
+    /// A ledger's file can't be used, and this is why.
+    Ledger(LedgerFailure),
+    /// The record of a ledger, counted from 1, isn't as an entry is written, or its entry can't follow for this cause.
+    BadEntry(usize, Option<Refusal>),
+    /// A ledger refuses the payment for this cause.
+    Payment(Refusal),
     /// What is to be printed can't be written.
     Output(Unwritten),
     /// Memory was refused, or a thread, and nothing was sent.
@@ -82,9 +100,10 @@ impl fmt::Display for Fault {
         match self {
             Fault::Words(_) => f.write_str("fault: words"),
             Fault::Help(text) | Fault::Version(text) => f.write_str(text.as_str()),
-            Fault::File(name, _) | Fault::UnreadFile(name, _, _) | Fault::Unmade(name, _) => {
-                write_named(f, "fault: file ", name.as_str())
-            }
+            Fault::File(name, _)
+            | Fault::UnreadFile(name, _, _)
+            | Fault::Unmade(name, _)
+            | Fault::LedgerFile(name, _) => write_named(f, "fault: file ", name.as_str()),
             Fault::Unreadable(source, _) => write_source(f, source.name()),
             Fault::BadRecord(source, place, _) => write_record(f, source.name(), *place),
             Fault::NotToml(_) => f.write_str("fault: config"),
@@ -94,13 +113,21 @@ impl fmt::Display for Fault {
             Fault::Unconnected(reason) => write_failed(f, reason.bind),
             Fault::BadNote(place) => write_record(f, "journal", *place),
             Fault::BadReport(place) => write_record(f, "report", *place),
-            Fault::JournalHeld | Fault::Unbegun(_) | Fault::Journal(_) | Fault::Overdrawn => {
-                f.write_str("fault: journal")
-            }
+            Fault::LongSchedule => f.write_str("fault: schedule"),
+            Fault::JournalHeld
+            | Fault::JournalFree
+            | Fault::Unbegun(_)
+            | Fault::Journal(_)
+            | Fault::Overdrawn => f.write_str("fault: journal"),
             Fault::Trial => {
                 f.write_str("fault: journal of a trial: no message centre saw any of it")
             }
-            Fault::OtherFile(_) => f.write_str("fault: journal record 1"),
+            Fault::OtherFile(_) | Fault::OtherAttempts | Fault::OtherReference => {
+                f.write_str("fault: journal record 1")
+            }
+            Fault::Ledger(_) => f.write_str("fault: ledger"),
+            Fault::BadEntry(place, _) => write_record(f, "ledger", *place),
+            Fault::Payment(_) => f.write_str("fault: payment"),
             Fault::Output(_) => f.write_str("fault: output"),
             Fault::OutOfMemory | Fault::Unreported(_) => f.write_str("fault: out of memory"),
         }
@@ -223,6 +250,19 @@ impl From<OutputFault> for Fault {
     }
 }
 
+/// The fault of a journal of others, of which this is the first that differs, where a file has no name.
+fn of_other_files(what: RunFile) -> Fault
+    ensures { result ≡ fault_of_others what }
+{
+    match what {
+        RunFile::Attempts => Fault::OtherAttempts,
+        RunFile::LongReference => Fault::OtherReference,
+        RunFile::Config | RunFile::Accounts | RunFile::Messages | RunFile::Tariff => {
+            Fault::BadNote(1)
+        }
+    }
+}
+
 impl From<RecoveryFault> for Fault {
     ghost use Rattle.sms_send.specs.Faults.{fault_of_recovery};
 
@@ -232,12 +272,52 @@ impl From<RecoveryFault> for Fault {
         match fault {
             RecoveryFault::Input(fault) => Fault::from(fault),
             RecoveryFault::Journal(place) => Fault::BadNote(place),
-            RecoveryFault::OtherFiles(_) => Fault::BadNote(1),
+            RecoveryFault::OtherFiles(what) => of_other_files(what),
             RecoveryFault::Trial => Fault::Trial,
             RecoveryFault::Overdrawn => Fault::Overdrawn,
             RecoveryFault::Report(place) => Fault::BadReport(place),
             RecoveryFault::Output(unwritten) => Fault::Output(unwritten),
             RecoveryFault::OutOfMemory(_) => Fault::OutOfMemory,
+        }
+    }
+}
+
+impl From<AuditFault> for Fault {
+    ghost use Rattle.sms_send.specs.Faults.{fault_of_audit};
+
+    ghost from_gives = { λ fault f. f ≡ fault_of_audit fault };
+
+    fn from(fault: AuditFault) -> Fault {
+        match fault {
+            AuditFault::Run(fault) => Fault::from(fault),
+            AuditFault::TooLong => Fault::LongSchedule,
+        }
+    }
+}
+
+impl From<sms_ledger::Fault> for Fault {
+    ghost use Rattle.sms_send.specs.Faults.{fault_of_ledger};
+
+    ghost from_gives = { λ fault f. f ≡ fault_of_ledger fault };
+
+    fn from(fault: sms_ledger::Fault) -> Fault {
+        match fault {
+            sms_ledger::Fault::Unreadable(place) => Fault::BadEntry(place, None),
+            sms_ledger::Fault::Refused(place, cause) => Fault::BadEntry(place, Some(cause)),
+            sms_ledger::Fault::Memory(_) => Fault::OutOfMemory,
+        }
+    }
+}
+
+impl From<Refusal> for Fault {
+    ghost use Rattle.sms_send.specs.Faults.{fault_of_payment};
+
+    ghost from_gives = { λ refusal f. f ≡ fault_of_payment refusal };
+
+    fn from(refusal: Refusal) -> Fault {
+        match refusal {
+            Refusal::OutOfMemory(_) => Fault::OutOfMemory,
+            cause => Fault::Payment(cause),
         }
     }
 }

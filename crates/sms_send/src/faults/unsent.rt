@@ -1,13 +1,13 @@
 //! What is printed of the messages that a sending didn't send.
 
-ghost use Rattle.std.specs.Prelude.{◌≡◌};
+ghost use Rattle.std.specs.Prelude.{◌≡◌, ◌<◌, length};
 ghost use Rattle.sms_send.specs.Unsent.{is_bind_closed as is_closed, is_kept_by, is_of_bind as stands_in, kept_by_memory, unsent_from, without_memory};
 
 use crate::args::send_args::Throttle;
 use crate::faults::details::unsent::{Ender, UnsentLine, closing_text};
-use crate::sending::sender::Ended;
 use crate::terminal::standard_error::write_beside;
 use sms_devices::Screen;
+use sms_driver::BindEnd;
 use sms_worker::{MessageEnd, MessageRefusal, MessageResult};
 use std::io::Eprint;
 use std::thread::Threads;
@@ -98,11 +98,51 @@ fn write_line<R: AllocGlobal + Threads + Clock + Eprint + Screen>(rt: &R, line: 
     }
 }
 
+/// What there is to say of the messages of a bind that were not sent since it was closed.
+fn line_of_bind(ends: &[MessageEnd], binds: &[BindEnd], bind: usize, ender: Ender) -> UnsentLine
+    requires { bind < length binds.now }
+{
+    let end = &binds[bind];
+    UnsentLine {
+        count: unsent_of(ends, end.workers(), binds.len(), bind),
+        bind: Some(bind),
+        why: closing_text(end, ender),
+    }
+}
+
+/// What there is to say of those that were not sent since memory was refused.
+fn line_of_memory(ends: &[MessageEnd]) -> UnsentLine {
+    UnsentLine {
+        count: unsent_for_memory(ends),
+        bind: None,
+        why: "memory was refused",
+    }
+}
+
+/// What there is to say of messages that were not sent: of the first bind that was closed to some, or else of those for
+/// which memory was refused.
+pub(crate) fn first_unsent(
+    ends: &[MessageEnd],
+    binds: &[BindEnd],
+    throttle: Throttle,
+    has_failed: bool,
+) -> UnsentLine {
+    let ender = ender_of(has_failed, throttle.stop_after.is_some());
+    for bind in 0..binds.len() {
+        let line = line_of_bind(ends, binds, bind, ender);
+        if line.count > 0 {
+            return line;
+        }
+    }
+    line_of_memory(ends)
+}
+
 /// At length, prints of each bind how many of its messages were not sent since it was closed, and why it
 /// was; and how many were not sent since memory was refused. The journal may have failed.
 pub fn report_unsent<R: AllocGlobal + Threads + Clock + Eprint + Screen>(
     rt: &R,
-    ended: &Ended,
+    ends: &[MessageEnd],
+    binds: &[BindEnd],
     at_length: bool,
     throttle: Throttle,
     has_failed: bool,
@@ -111,20 +151,8 @@ pub fn report_unsent<R: AllocGlobal + Threads + Clock + Eprint + Screen>(
         return;
     }
     let ender = ender_of(has_failed, throttle.stop_after.is_some());
-    let (ends, binds) = (ended.ends(), ended.binds());
     for bind in 0..binds.len() {
-        let end = &binds[bind];
-        let line = UnsentLine {
-            count: unsent_of(ends, end.workers(), binds.len(), bind),
-            bind: Some(bind),
-            why: closing_text(end, ender),
-        };
-        write_line(rt, line);
+        write_line(rt, line_of_bind(ends, binds, bind, ender));
     }
-    let line = UnsentLine {
-        count: unsent_for_memory(ends),
-        bind: None,
-        why: "memory was refused",
-    };
-    write_line(rt, line);
+    write_line(rt, line_of_memory(ends));
 }

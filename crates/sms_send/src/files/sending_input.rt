@@ -15,6 +15,8 @@ use sms_files::{Config, Input, check_quotes};
 use sms_journal::{Digests, digests_of};
 use std::alloc::Global;
 use std::io::Read;
+use std::thread;
+use std::thread::Threads;
 
 /// Refuses a messages file that ends within a quote, of which this input was read.
 fn check_open(alloc: Global, named: &NamedFiles, input: &Input) -> Result<(), Fault>
@@ -109,9 +111,38 @@ fn digests_in(config: &[u8], named: &NamedFiles) -> Digests
     )
 }
 
+/// What the octets of files say beside a config of these octets, and their digests, which are made in a thread of
+/// their own: they take as long as the records.
+fn read_digested<R: Threads>(
+    rt: &R,
+    alloc: Global,
+    octets: &[u8],
+    config: Config,
+    named: &NamedFiles,
+    strict: bool,
+) -> Result<NotedInput, Fault>
+    ensures read { IfOk result (λ noted. IsInputOf config named.now noted.input) }
+    ensures closed { IfOk result (λ noted. strict ≡ true → ¬ EndsQuoted named.now.messages.items) }
+    ensures digests { IfOk result (λ noted. noted.digests ≡ of_files octets.now named.now.accounts.items named.now.messages.items (tariff_in named.now)) }
+    ensures refused { IfErr result (IsFaultOfOctets strict config named.now) }
+{
+    let (digests, input) = thread::join(
+        rt,
+        || -> Digests
+            ensures { result ≡ of_files octets.entry.now named.entry.now.accounts.items named.entry.now.messages.items (tariff_in named.entry.now) }
+        { digests_in(octets, named) },
+        move || input_of(alloc, config, named, strict),
+    );
+    match input {
+        Ok(input) => Ok(NotedInput { input, digests }),
+        Err(fault) => Err(fault),
+    }
+}
+
 /// Reads the files of a sending with a journal to their ends, by a config of these octets. Strictly, a messages
 /// file that ends within a quote is refused.
-pub fn read_noted<F: Read + Drop>(
+pub fn read_noted<R: Threads, F: Read + Drop>(
+    rt: &R,
     alloc: Global,
     octets: &[u8],
     opened: OpenInput<F>,
@@ -131,9 +162,8 @@ pub fn read_noted<F: Read + Drop>(
         Ok(named) => named,
         Err(fault) => return Err(fault),
     };
-    let digests = digests_in(octets, &named);
-    match input_of(alloc, config, &named, strict) {
-        Ok(input) => Ok(NotedInput { input, digests }),
+    match read_digested(rt, alloc, octets, config, &named, strict) {
+        Ok(noted) => Ok(noted),
         Err(fault) => Err(fault),
     }
 }

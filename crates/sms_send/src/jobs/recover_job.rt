@@ -1,13 +1,13 @@
 //! The jobs of `recover` and `rest`: what is left of a run, by its journal or its report.
 
-ghost use Rattle.std.specs.Prelude.{◌≡◌, ◌≢◌, ◌⊎◌, IfErr, IfOk, OnOk, false, string_bytes, true};
+ghost use Rattle.std.specs.Prelude.{◌≡◌, ◌≢◌, ◌⊎◌, IfErr, IfOk, MatchOption, None, OnOk, Some, false, string_bytes, true};
 ghost use Rattle.sms_journal.specs.declared.text.header.JournalKind.TheVariants.{Trial};
 ghost use Rattle.sms_journal.specs.declared.recovery.recovering.Recovered.{Recovered as IsDone};
 ghost use Rattle.sms_files.specs.Output.{WritesFront};
 ghost use Rattle.sms_send.specs.Statuses.{IsStatus};
 ghost use Rattle.sms_send.specs.Recovered.{LosesTrial, PrintsLeft, RecoversAndWarns, RecoversBy, RecoversRun, WritesKind, FailsRest, IsOfOtherFile, FailsRecovering, FailsRecoverFree, FailsRecoverJob, FailsRestJob, name_of, trial_line};
 ghost use Rattle.sms_send.specs.Runs.{IsRun};
-ghost use Rattle.sms_send.specs.Faults.{output_failed};
+ghost use Rattle.sms_send.specs.Faults.{IsFaultOfRecovery, output_failed};
 ghost use Rattle.sms_send.specs.declared.files.run_files.RunFiles.{RunFiles as TheRunFiles};
 
 use crate::args::send_args::{RecoverArgs, RestArgs};
@@ -121,22 +121,38 @@ fn recovered<W: Write>(
     );
     match recovered {
         Ok(done) => Ok(done),
-        Err(RecoveryFault::OtherFiles(file)) => {
-            Err(of_other_file(alloc, name_in(name, &run.names, file)))
-        }
-        Err(fault) => Err(Fault::from(fault)),
+        Err(fault) => Err(fault_of_run(alloc, name, &run.names, fault)),
     }
 }
 
-/// The name of a file of a run, of which the config has this name.
-fn name_in<'a>(config: &'a str, names: &'a FileNames, file: RunFile) -> &'a str
-    ensures { result.now ≡ name_of config.now names.now file }
+/// The fault of a run's journal, by a config of this name and the names in it.
+pub(crate) fn fault_of_run(
+    alloc: Global,
+    name: &str,
+    names: &FileNames,
+    fault: RecoveryFault,
+) -> Fault
+    ensures { IsFaultOfRecovery fault result }
 {
-    match file {
-        RunFile::Config => config,
-        RunFile::Accounts => names.accounts.as_str(),
-        RunFile::Messages => names.messages.as_str(),
-        RunFile::Tariff => names.tariff.as_str(),
+    match fault {
+        RecoveryFault::OtherFiles(what) => match name_in(name, names, what) {
+            Some(name) => of_other_file(alloc, name),
+            None => Fault::from(RecoveryFault::OtherFiles(what)),
+        },
+        fault => Fault::from(fault),
+    }
+}
+
+/// The name of a file of a run, of which the config has this name. A key of the config has none.
+fn name_in<'a>(config: &'a str, names: &'a FileNames, what: RunFile) -> Option<&'a str>
+    ensures { MatchOption result (name_of config.now names.now what ≡ None) (λ name. name_of config.now names.now what ≡ Some name.now) }
+{
+    match what {
+        RunFile::Config => Some(config),
+        RunFile::Attempts | RunFile::LongReference => None,
+        RunFile::Accounts => Some(names.accounts.as_str()),
+        RunFile::Messages => Some(names.messages.as_str()),
+        RunFile::Tariff => Some(names.tariff.as_str()),
     }
 }
 

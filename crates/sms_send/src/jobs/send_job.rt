@@ -22,11 +22,13 @@ use crate::sending::Sending;
 use crate::sending::remarks::Remarks;
 use crate::sending::sender::{send_all, write_report};
 use crate::sending::target::{Target, TargetKind};
-use sms_devices::Host;
+use crate::sending::work::Work;
+use sms_devices::{Host, MadeFile};
 use sms_driver::{Dial, Start};
 use sms_worker::{Clock, Gate, Pause};
 use std::alloc::Global;
 use std::io::{Read, Write};
+use std::marker::Brand;
 use std::sync::Wait;
 use std::thread::Threads;
 
@@ -86,7 +88,7 @@ pub fn send_job<R: FileModes + Host + InputFiles, W: Write>(
 ) -> Result<u8, Fault>
     requires not_started { start.old.begun ≡ Idle }
     ensures latch { start.new.latch ≡ start.old.latch }
-    ensures ended { SendingEnd order.strict (λ status. OfConfig (R.finds rt.now) (string_bytes order.config) (SendsBy (R.finds rt.now) (R.tells rt.now) kind order.strict (is_some order.journal) (W.contents output.old) (W.contents output.new) status)) (FailsSendJob (FailsBegin (R.makes rt.now) (R.refuses rt.now) (R.holds rt.now)) (R.finds rt.now) (R.tells rt.now) kind order (W.contents output.old) (W.contents output.new)) start.new.begun output.old output.new result }
+    ensures ended { SendingEnd order.strict (λ status. OfConfig (R.finds rt.now) (string_bytes order.config) (SendsBy (R.finds rt.now) (R.tells rt.now) kind order.again order.strict (is_some order.journal) (W.contents output.old) (W.contents output.new) status)) (FailsSendJob (FailsBegin (R.makes rt.now) (R.refuses rt.now) (R.holds rt.now)) (R.finds rt.now) (R.tells rt.now) kind order (W.contents output.old) (W.contents output.new)) start.new.begun output.old output.new result }
     // A journal that was asked for is the file that was made by its name, and ends with the note of this.
     ensures noted { IfOk result (NotesEnd R.JournalFile.contents (R.makes rt.now) order.journal) }
 {
@@ -96,6 +98,7 @@ pub fn send_job<R: FileModes + Host + InputFiles, W: Write>(
         verbose,
         journal,
         throttle,
+        again,
         strict,
     } = order;
     let trial = kind == TargetKind::Loopback;
@@ -109,16 +112,17 @@ pub fn send_job<R: FileModes + Host + InputFiles, W: Write>(
         rt,
         target,
         throttle,
+        again,
         remarks,
         strict,
     };
     match journal {
         None => {
             let input = read_plain(rt.alloc(), opened, strict)?;
-            sending.run::<R::JournalFile, W>(start, input, None, output)
+            sending.run::<MadeFile<R::JournalFile, Brand>, W>(start, Work::All(input), None, output)
         }
         Some(wanted) => {
-            let noted = read_noted(rt.alloc(), octets.as_slice(), opened, strict)?;
+            let noted = read_noted(rt, rt.alloc(), octets.as_slice(), opened, strict)?;
             sending.run_noted(start, noted.input, &noted.digests, wanted, output)
         }
     }

@@ -5,7 +5,8 @@ ghost use Rattle.std.specs.Io.KnownBytes.{Appends};
 ghost use Rattle.sms_files.specs.Output.{WritesFront};
 ghost use Rattle.sms_files.specs.Report.{report_of};
 ghost use Rattle.sms_send.specs.Faults.{ComesAt, output_failed, unreported};
-ghost use Rattle.sms_send.specs.Sent.{AreRunSettings, AreSettingsOf, IsSent, FailsDriving};
+ghost use Rattle.sms_send.specs.Sent.{IsSent, FailsDriving};
+ghost use Rattle.sms_send.specs.Settings.{AreRunSettings, AreSettingsOf};
 ghost use Rattle.sms_send.specs.Statuses.{status_by};
 ghost use Rattle.sms_driver.specs.declared.start_gate.Command.TheVariants.{Go};
 ghost use Rattle.sms_driver.specs.declared.start.StartPhase.TheVariants.{Idle, Released};
@@ -16,6 +17,7 @@ use sms_bind::SettledLog;
 use sms_book::{Opening, Statement, Tariff};
 use sms_driver::{BindEnd, BindSettings, Devices, Dial, RunSettings, Sending, Start, drive_all};
 use sms_files::{Config, Connection, Flags, Input, Limits, OutputFault, rules_of, write_report_of};
+use sms_message::MessageEnd as End;
 use sms_worker::{Clock, Gate, MessageEnd, Pause, Reasons};
 use std::alloc::Global;
 use std::io::Write;
@@ -41,6 +43,32 @@ pub struct Ended {
 }
 
 impl Ended {
+    /// What a sending, or the rounds of a run, from these accounts ended with.
+    pub(crate) fn new(openings: Vec<Opening>, sending: Sending) -> Ended
+        ensures openings { result.openings ≡ openings }
+        ensures ends { result.ends ≡ sending.ends }
+        ensures statement { result.statement ≡ sending.statement }
+        ensures binds { result.binds ≡ sending.binds }
+        ensures reasons { result.reasons ≡ sending.reasons }
+        ensures log { result.log ≡ sending.log }
+    {
+        let Sending {
+            ends,
+            statement,
+            binds,
+            reasons,
+            log,
+        } = sending;
+        Ended {
+            openings,
+            ends,
+            statement,
+            binds,
+            reasons,
+            log,
+        }
+    }
+
     /// The accounts as they were opened.
     pub fn openings(&self) -> &[Opening]
         ensures { result.now ≡ self.now.openings.items }
@@ -90,7 +118,7 @@ fn bind_settings_of(connection: Connection, limits: Limits, flags: Flags) -> Bin
 }
 
 /// How messages are sent by a config and a tariff.
-fn settings_of(config: Config, tariff: Tariff) -> RunSettings
+pub(crate) fn settings_of(config: Config, tariff: Tariff) -> RunSettings
     ensures settings { AreRunSettings config tariff result }
     ensures bound { (result.binds ≤ 4) × (result.workers ≤ 8) }
 {
@@ -185,14 +213,29 @@ pub fn write_report<W: Write>(alloc: Global, ended: &Ended, output: &mut W) -> R
     ensures front { IfErr result (λ fault. fault ≡ output_failed → WritesFront (W.contents output.old) (W.contents output.new) (report_of ended.now.openings.items ended.now.ends.items ended.now.statement)) }
     ensures quiet { IfErr result (λ fault. fault ≡ unreported → output.new ≡ output.old) }
 {
-    let written = write_report_of(
+    write_ends(
         alloc,
         ended.openings(),
         ended.ends(),
         ended.statement(),
         output,
-    );
-    match written {
+    )
+}
+
+/// The same of ends with other evidence that their requests were sent.
+pub fn write_ends<S, W: Write>(
+    alloc: Global,
+    openings: &[Opening],
+    ends: &[End<S>],
+    statement: &Statement,
+    output: &mut W,
+) -> Result<(), Fault>
+    ensures written { OnOk result (Appends (W.contents output.old) (W.contents output.new) (report_of openings.now ends.now statement.now)) }
+    ensures failed { IfErr result (λ fault. (fault ≡ output_failed) ⊎ (fault ≡ unreported)) }
+    ensures front { IfErr result (λ fault. fault ≡ output_failed → WritesFront (W.contents output.old) (W.contents output.new) (report_of openings.now ends.now statement.now)) }
+    ensures quiet { IfErr result (λ fault. fault ≡ unreported → output.new ≡ output.old) }
+{
+    match write_report_of(alloc, openings, ends, statement, output) {
         Ok(()) => Ok(()),
         Err(fault) => match fault {
             OutputFault::Output(unwritten) => Err(Fault::Output(unwritten)),

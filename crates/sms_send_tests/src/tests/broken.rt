@@ -1,6 +1,13 @@
 //! Devices that fail, for the tests.
 
+use super::ledger::done;
+use super::same::same;
+use super::told::told_of;
+use sms_devices::{Host, LedgerFiles};
+use sms_send::{FileModes, FullNames, InputFiles, Job};
 use std::io;
+use std::process::Abort;
+use std::test::Fail;
 
 /// Gives the octets that it has, and then fails.
 #[derive(Drop)]
@@ -36,4 +43,17 @@ impl io::Write for FailingOutput {
     fn flush(&mut self) -> io::Result<()> {
         Err(io::Error::from(io::ErrorKind::BrokenPipe))
     }
+}
+
+/// That a job ends with a fault of the output, which takes so many octets.
+pub fn want_unprinted<R: FileModes + FullNames + Host + InputFiles + LedgerFiles + Abort>(
+    rt: &R,
+    job: Job,
+    room: usize,
+) -> Result<(), Fail> {
+    match done(rt, job, &mut FailingOutput { room }) {
+        Ok(_) => panic!(rt; "no fault"),
+        Err(fault) => same(rt, told_of(rt.alloc(), fault)?.as_str(), "fault: output"),
+    }
+    Ok(())
 }

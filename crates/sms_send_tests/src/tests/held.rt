@@ -2,7 +2,7 @@
 
 use super::same::same;
 use super::told::told_of;
-use sms_devices::Host;
+use sms_devices::{Host, LedgerFiles};
 use sms_driver::{Start, StartGate};
 use sms_send::{
     Fault, FileModes, FullNames, InputFiles, Job, JobContext, JournalFile, RecoverArgs, SendArgs,
@@ -45,6 +45,7 @@ fn noted_job(alloc: Global) -> Result<Job, AllocError> {
             rate: None,
             stop_after: None,
         },
+        again: None,
         strict: false,
     }))
 }
@@ -58,6 +59,11 @@ fn recover_job(alloc: Global) -> Result<Job, AllocError> {
     }))
 }
 
+// The job to stop the run of the journal.
+fn stop_job(alloc: Global) -> Result<Job, AllocError> {
+    Ok(Job::Stop(String::from_str(alloc, JOURNAL)?))
+}
+
 // The text of the fault that a job ends with.
 fn fault_text(rt: &impl Abort, alloc: Global, done: Result<u8, Fault>) -> Result<String, Fail> {
     match done {
@@ -67,7 +73,7 @@ fn fault_text(rt: &impl Abort, alloc: Global, done: Result<u8, Fault>) -> Result
 }
 
 // That a job is refused with this fault, and writes nothing.
-fn want_refused<R: FileModes + FullNames + Host + InputFiles + Abort>(
+fn want_refused<R: FileModes + FullNames + Host + InputFiles + LedgerFiles + Abort>(
     rt: &R,
     job: Job,
     wanted: &str,
@@ -122,7 +128,9 @@ fn leaves_a_held_journal_alone(rt: HostRuntime) -> Result<(), Fail> {
     want_refused(&rt, noted_job(rt.alloc())?, "fault: file held-journal.csv")?;
     assert!(rt; fs::write(&rt, JOURNAL, "none\n").is_ok());
     want_refused(&rt, recover_job(rt.alloc())?, "fault: journal record 1")?;
+    want_refused(&rt, stop_job(rt.alloc())?, "fault: journal")?;
     remove_files(&rt);
+    want_refused(&rt, stop_job(rt.alloc())?, "fault: journal")?;
     Ok(())
 }
 
@@ -142,7 +150,7 @@ const PLANNED: [(&str, usize, &str); 3] = [
 ];
 
 // That this is warned of a messages file.
-fn want_warning<R: FileModes + FullNames + Host + InputFiles + Files + Abort>(
+fn want_warning<R: FileModes + FullNames + Host + InputFiles + LedgerFiles + Files + Abort>(
     rt: &R,
     text: &str,
     lines: usize,

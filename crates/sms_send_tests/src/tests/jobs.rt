@@ -146,7 +146,7 @@ const UNBOUND: Throttle = Throttle {
     stop_after: None,
 };
 
-// A sending by this config, of which nothing but a fault is told.
+// A sending by this config, of which nothing but a fault is reported.
 fn quiet_order(config: String) -> SendArgs {
     SendArgs {
         config,
@@ -154,6 +154,7 @@ fn quiet_order(config: String) -> SendArgs {
         verbose: false,
         journal: None,
         throttle: UNBOUND,
+        again: None,
         strict: false,
     }
 }
@@ -169,7 +170,7 @@ fn job_with(word: &str, name: String) -> Job {
     }
 }
 
-// That a fault is told, of this text, with the status 1.
+// That a fault is reported, of this text, with the status 1.
 fn want_fault(rt: &(impl AllocGlobal + Abort), done: Result<u8, Fault>, wanted: &str) {
     let Err(fault) = done else {
         panic!(rt; "no fault")

@@ -44,6 +44,7 @@ fn noted_job(alloc: Global) -> Result<Job, AllocError> {
             rate: None,
             stop_after: None,
         },
+        again: None,
         strict: false,
     }))
 }
@@ -57,7 +58,7 @@ fn recover_job(alloc: Global, trial: bool) -> Result<Job, AllocError> {
     }))
 }
 
-// That a job was not done, and what is told.
+// That a job was not done, and what is reported.
 fn want_fault(
     rt: &impl Abort,
     alloc: Global,

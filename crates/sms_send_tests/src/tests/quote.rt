@@ -173,7 +173,7 @@ fn want_broken_reader(rt: &(impl AllocGlobal + Abort), left: &[u8]) {
     }
 }
 
-// That a quote fails with the output where its warnings can't be told, once all of it stands.
+// That a quote fails with the output where its warnings can't be reported, once all of it stands.
 fn want_untold(rt: &(impl AllocGlobal + Abort), room: usize) {
     let no_tariff: Option<&[u8]> = None;
     let mut printed = Vec::new(rt.alloc());

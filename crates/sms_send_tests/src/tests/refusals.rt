@@ -1,5 +1,5 @@
 //! Devices that fail at each octet, and memory that is refused at each allocation: the report agrees
-//! with the statement to the credit, or nothing is printed and the fault is told. `tools/refuse-memory`
+//! with the statement to the credit, or nothing is printed and the fault is reported. `tools/refuse-memory`
 //! runs each test named `memory_` once for each of its allocations; where memory is refused before the
 //! sending begins, it ends there.
 
@@ -84,7 +84,7 @@ fn said_of<R: Threads + Wait + Sync>(
     send(rt, alloc, &sending, &OpenGate)
 }
 
-/// Nothing is printed, and this fault is told.
+/// Nothing is printed, and this fault is reported.
 fn want_fault(rt: &impl Abort, said: &Said, fault: &str, status: u8, at: u64) {
     same(
         rt,
@@ -192,7 +192,7 @@ fn is_memory_fault(said: &Said) -> bool {
     said.fault.as_str() == "fault: out of memory" && said.status == 1
 }
 
-/// A whole report that balances, or a fault that names memory or a bind that failed for want of it.
+/// A whole report that balances, or a fault that names memory or a bind that failed for lack of it.
 fn want_report_or_fault(rt: &impl Abort, alloc: Global, said: &Said, topped: u64) {
     if said.fault.is_empty() {
         want_report(rt, alloc, said, topped);

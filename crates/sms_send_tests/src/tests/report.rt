@@ -47,7 +47,7 @@ fn context_of(alloc: Global, kind: JobKind) -> Result<FaultContext, AllocError> 
 }
 
 // That a fault of a job of this kind is written so.
-fn want_of(
+pub fn want_of(
     rt: &(impl AllocGlobal + FullNames + Screen + Abort),
     kind: JobKind,
     fault: &Fault,
@@ -67,7 +67,7 @@ fn want_of(
 }
 
 // The same of a sending.
-fn want(
+pub fn want(
     rt: &(impl AllocGlobal + FullNames + Screen + Abort),
     fault: &Fault,
     wanted: &str,
@@ -76,7 +76,7 @@ fn want(
 }
 
 // The fault of an output that fails at once.
-fn output_fault(rt: &(impl AllocGlobal + Abort)) -> Fault {
+pub fn output_fault(rt: &(impl AllocGlobal + Abort)) -> Fault {
     match replay_fault(rt.alloc(), SCHEDULE, &mut FailingOutput { room: 0 }) {
         Some(fault) => fault,
         None => panic!(rt; "no fault"),
@@ -325,12 +325,34 @@ fn says_why_files_failed(rt: HostRuntime) -> Result<(), Fail> {
     )
 }
 
+/// The journal of a run that was to go on is its record: it is kept, and the same is typed again.
+#[test]
+fn keeps_the_journal_of_a_run(rt: HostRuntime) -> Result<(), Fail> {
+    want_of(
+        &rt,
+        JobKind::Resume,
+        &Fault::Unbegun(JournalFailure::StorageFull),
+        "fault: journal\n  no space left on the device\n  nothing was sent in this round; keep the journal, and resume once it can be written\n",
+    )?;
+    want_of(
+        &rt,
+        JobKind::Resume,
+        &Fault::Journal(JournalFailure::ReadOnly),
+        "fault: journal\n  its file system is read-only\n  what was not noted was not sent; the report is right\n  next: sms-send resume --config c.toml --journal j.csv sends them, once it can be written\n",
+    )
+}
+
 #[test]
 fn says_why_a_journal_is_not_recovered(rt: HostRuntime) -> Result<(), Fail> {
     want(
         &rt,
         &Fault::JournalHeld,
         "fault: journal\n  its run is still going on\n",
+    )?;
+    want(
+        &rt,
+        &Fault::JournalFree,
+        "fault: journal\n  no run is going on with it\n",
     )?;
     want(
         &rt,
@@ -348,5 +370,15 @@ fn says_why_a_journal_is_not_recovered(rt: HostRuntime) -> Result<(), Fail> {
         &rt,
         &Fault::OtherFile(name),
         "fault: journal record 1\n  m.csv is not the file that this run was begun with\n",
+    )?;
+    want(
+        &rt,
+        &Fault::OtherAttempts,
+        "fault: journal record 1\n  attempts in the config is not what this run was begun with\n",
+    )?;
+    want(
+        &rt,
+        &Fault::OtherReference,
+        "fault: journal record 1\n  long_reference in the config is not what this run was begun with\n",
     )
 }

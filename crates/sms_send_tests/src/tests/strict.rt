@@ -10,7 +10,7 @@ use std::process::Abort;
 use std::test::Fail;
 
 /// The results of messages, a letter each: charged, refused by the centre, unanswered, not sent, or refused for
-/// no Account, no credit (p), a bad Destination, a Too long text, a lost Bind or want of Memory. And the
+/// no Account, no credit (p), a bad Destination, a Too long text, a lost Bind or lack of Memory. And the
 /// status of such a sending, and with `--strict`.
 const STATUSES: [(&str, u8, u8); 22] = [
     ("", 0, 0),

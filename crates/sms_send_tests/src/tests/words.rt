@@ -1,13 +1,13 @@
 //! The words of the command line, and the jobs that they ask for.
 
 use super::same::same;
-use sms_send::{Fault, Job, JournalFile, SendArgs, job_of};
+use sms_send::{Fault, Job, JournalFile, Listing, SendArgs, job_of};
 use std::alloc::Global;
 use std::process::Abort;
 use std::test::Fail;
 
 /// Words, and the file of the job, or the text of the fault.
-const READ: [(&str, &str); 80] = [
+const READ: [(&str, &str); 101] = [
     ("", "standard input"),
     ("replay -", "standard input"),
     ("replay events.csv", "events.csv"),
@@ -94,10 +94,34 @@ const READ: [(&str, &str); 80] = [
     ("rest --config c --report r --verbose", "rest of r"),
     ("send --config c --verbose --verbose", "fault: words"),
     ("--verbose", "fault: words"),
+    ("resume --config c --journal j", "resumption of j"),
+    (
+        "resume --journal=j --config=c --quiet --sync",
+        "resumption of j",
+    ),
+    ("resume --config c", "fault: words"),
+    ("resume --journal j", "fault: words"),
+    ("resume --config c --journal j --trial", "fault: words"),
+    ("resume --config c --journal j --rate 0", "fault: words"),
+    ("resume --config c --journal j --again-ms 5", "fault: words"),
+    ("recover --config c --journal j --again 5", "fault: words"),
+    ("stop --journal j", "stop of j"),
+    ("stop --verbose --journal=j", "stop of j"),
+    ("stop", "fault: words"),
+    ("stop j", "fault: words"),
+    ("stop --config c --journal j", "fault: words"),
+    ("topup --ledger l bank 500", "top-up of l"),
+    ("topup --ledger l bank", "fault: words"),
+    ("topup bank 5", "fault: words"),
+    ("topup --ledger l bank 5 6", "fault: words"),
+    ("balance --ledger l", "balance of l"),
+    ("balance --verbose --ledger=l", "balance of l"),
+    ("balance l", "fault: words"),
+    ("balance --ledger l --ref r", "fault: words"),
 ];
 
-// The words of a line.
-fn words_of(rt: &(impl AllocGlobal + Abort), line: &str) -> Vec<String> {
+/// The words of a line.
+pub fn words_of(rt: &(impl AllocGlobal + Abort), line: &str) -> Vec<String> {
     let mut words = Vec::new(rt.alloc());
     for word in line.split_whitespace() {
         let Ok(word) = String::from_str(rt.alloc(), word) else {
@@ -125,10 +149,17 @@ fn called(job: &Job) -> &str {
         Job::Loop(_) => "loop of ",
         Job::Send(order) if order.quiet => "quiet send of ",
         Job::Send(_) => "send of ",
+        Job::Resume(_) => "resumption of ",
+        Job::Stop(_) => "stop of ",
         Job::Recover(order) if order.trial => "trial of ",
         Job::Recover(_) => "recovery of ",
         Job::Rest(order) if order.accounts => "accounts left of ",
         Job::Rest(_) => "rest of ",
+        Job::List(order) if order.listing == Listing::Bill => "bill of ",
+        Job::List(_) => "doubts of ",
+        Job::Audit(_) => "audit of ",
+        Job::TopUp(_) => "top-up of ",
+        Job::Balance(_) => "balance of ",
     }
 }
 
@@ -137,10 +168,16 @@ fn file_of(job: &Job) -> &str {
     match job {
         Job::Replay(None) => "",
         Job::Replay(Some(name)) => name.as_str(),
-        Job::Plan(name, _) | Job::Quote(name, _) => name.as_str(),
+        Job::Plan(name, _) | Job::Quote(name, _) | Job::Stop(name) | Job::Balance(name) => {
+            name.as_str()
+        }
         Job::Loop(order) | Job::Send(order) => order.config.as_str(),
+        Job::Resume(order) => order.journal.name.as_str(),
         Job::Recover(order) => order.journal.as_str(),
         Job::Rest(order) => order.report.as_str(),
+        Job::List(order) => order.journal.as_str(),
+        Job::Audit(order) => order.report.as_str(),
+        Job::TopUp(order) => order.ledger.as_str(),
     }
 }
 
@@ -152,8 +189,8 @@ fn want_job(rt: &impl Abort, job: &Job, wanted: &str) {
     }
 }
 
-// That this is read of the words.
-fn want_read(rt: &(impl AllocGlobal + Abort), words: &[String], wanted: &str) {
+/// That this is read of the words.
+pub fn want_read(rt: &(impl AllocGlobal + Abort), words: &[String], wanted: &str) {
     match job_of(rt.alloc(), words) {
         Ok(job) => want_job(rt, &job, wanted),
         Err(fault) => match fault.to_string(rt.alloc()) {
@@ -266,6 +303,60 @@ fn reads_what_bounds_a_sending(rt: HostRuntime) {
     }
 }
 
+/// Words behind `--config c.toml --journal j`, and the most further rounds with the milliseconds before each that they
+/// ask for; 0 and 0 where they ask for none, and nothing where they are refused.
+const AGAIN: [(&str, Option<(u32, u32)>); 13] = [
+    ("", Some((0, 0))),
+    ("--again 1", Some((1, 1_000))),
+    ("--again=1000000", Some((1_000_000, 1_000))),
+    ("--again 5 --again-ms 1", Some((5, 1))),
+    ("--again-ms 600000 --again 5", Some((5, 600_000))),
+    ("--again 0", None),
+    ("--again 1000001", None),
+    ("--again", None),
+    ("--again 5 --again-ms 0", None),
+    ("--again 5 --again-ms 600001", None),
+    ("--again-ms 5", None),
+    ("--again 5 --again 5", None),
+    ("--again 5 --again-ms 5s", None),
+];
+
+// How often a job is to go on, and how long it waits before; 0 and 0 where it isn't.
+fn again_in(rt: &impl Abort, job: &Job) -> (u32, u32) {
+    let again = match job {
+        Job::Loop(order) | Job::Send(order) => order.again,
+        Job::Resume(order) => order.again,
+        _ => panic!(rt; "another job"),
+    };
+    match again {
+        Some(again) => (again.most, again.wait_ms),
+        None => (0, 0),
+    }
+}
+
+// That this is read of the words.
+fn want_again(rt: &impl Abort, read: Result<Job, Fault>, wanted: Option<(u32, u32)>) {
+    match (read, wanted) {
+        (Ok(job), Some(wanted)) => same(rt, again_in(rt, &job), wanted),
+        (Err(fault), None) => same(rt, fault.exit_status(), 2),
+        _ => panic!(rt; "read otherwise"),
+    }
+}
+
+#[test]
+fn reads_how_often_a_sending_goes_on(rt: HostRuntime) {
+    for (line, wanted) in &AGAIN {
+        for name in ["loop", "send", "resume"] {
+            let Ok(whole) = format!(in rt.alloc(); "{name} --config c.toml --journal j {line}")
+            else {
+                panic!(rt; "no memory")
+            };
+            let words = words_of(&rt, whole.as_str());
+            want_again(&rt, job_of(rt.alloc(), words.as_slice()), *wanted);
+        }
+    }
+}
+
 /// The fault that these words are answered with.
 fn answer_to(alloc: Global, words: &str) -> Result<Fault, Fail> {
     let mut given = Vec::new(alloc);
@@ -286,8 +377,13 @@ fn gives_help_and_version(rt: HostRuntime) -> Result<(), Fail> {
         ("help loop", "--journal <FILE>"),
         ("help send", "--connect-ms <N>"),
         ("help loop", "--strict"),
+        ("help send", "--again <N>"),
+        ("resume --help", "Usage: sms-send resume"),
         ("quote --help", "Usage: sms-send quote"),
         ("help replay", "Usage: sms-send replay"),
+        ("help bill", "Usage: sms-send bill"),
+        ("doubtful -h", "--journal <FILE>"),
+        ("audit --help", "--report <FILE>"),
     ] {
         let fault = answer_to(rt.alloc(), words)?;
         assert!(rt; matches!(&fault, Fault::Help(text) if text.as_str().contains(usage)));

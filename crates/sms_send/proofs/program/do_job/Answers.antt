@@ -24,6 +24,12 @@ returns-in-Quote-clause-unwritten g c = both_quiet c.quote_job.result _ _ c.quot
 pub returns-in-Rest-clause-unwritten : goal.returns-in-Rest-clause-unwritten
 returns-in-Rest-clause-unwritten g c = quiet_too c.rest_job.result _ c.rest_job.ensures.unwritten
 
+pub returns-in-List-clause-unwritten : goal.returns-in-List-clause-unwritten
+returns-in-List-clause-unwritten g c = quiet_too c.list_job.result _ c.list_job.ensures.unwritten
+
+pub returns-in-Audit-clause-unwritten : goal.returns-in-Audit-clause-unwritten
+returns-in-Audit-clause-unwritten g c = quiet_too c.audit_job.result _ c.audit_job.ensures.unwritten
+
 pub returns-in-Replay-None-clause-unwritten : goal.returns-in-Replay-None-clause-unwritten
 returns-in-Replay-None-clause-unwritten g c = quiet_too c.run_replay.result _ c.run_replay.ensures.unwritten
 
@@ -68,3 +74,33 @@ returns-in-Loop-clause-noted g c = rw c.in-Loop.is c.send_job.ensures.noted
 
 pub returns-in-Send-clause-noted : goal.returns-in-Send-clause-noted
 returns-in-Send-clause-noted g c = rw c.in-Send.is c.send_job-in-Send.ensures.noted
+
+pub returns-in-Resume-clause-noted : goal.returns-in-Resume-clause-noted
+returns-in-Resume-clause-noted g c = rw c.in-Resume.is c.resume_job.ensures.noted
+
+pub returns-in-Resume-clause-started : goal.returns-in-Resume-clause-started
+returns-in-Resume-clause-started g c = rw c.in-Resume.is c.resume_job.ensures.started
+
+pub returns-in-Resume-clause-status : goal.returns-in-Resume-clause-status
+returns-in-Resume-clause-status g c = rw c.in-Resume.is c.resume_job.ensures.status
+
+pub returns-in-Resume-clause-done : goal.returns-in-Resume-clause-done
+returns-in-Resume-clause-done g c = rw c.in-Resume.is c.resume_job.ensures.resumed
+
+pub returns-in-Resume-clause-refused : goal.returns-in-Resume-clause-refused
+returns-in-Resume-clause-refused g c = rw c.in-Resume.is c.resume_job.ensures.refused
+
+pub returns-in-Resume-clause-phase : goal.returns-in-Resume-clause-phase
+returns-in-Resume-clause-phase g c = rw c.in-Resume.is c.resume_job.ensures.phase
+
+pub returns-in-Resume-clause-unwritten : goal.returns-in-Resume-clause-unwritten
+returns-in-Resume-clause-unwritten g c = c.resume_job.ensures.unwritten
+
+pub returns-in-Stop-clause-noted : goal.returns-in-Stop-clause-noted
+returns-in-Stop-clause-noted g c = rw c.in-Stop.is c.stop_job.ensures.stopped
+
+pub returns-in-TopUp-clause-unwritten : goal.returns-in-TopUp-clause-unwritten
+returns-in-TopUp-clause-unwritten g c = quiet_too c.topup_job.result _ c.topup_job.ensures.unwritten
+
+pub returns-in-Balance-clause-unwritten : goal.returns-in-Balance-clause-unwritten
+returns-in-Balance-clause-unwritten g c = quiet_too c.balance_job.result _ c.balance_job.ensures.unwritten

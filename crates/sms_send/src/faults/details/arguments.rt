@@ -14,6 +14,10 @@ pub(crate) fn write_argument_error(
         ArgumentError::Missing => "an argument is missing",
         ArgumentError::Number(option) => range_of(*option),
         ArgumentError::SyncAlone => "--sync needs --journal FILE",
+        ArgumentError::AgainMsAlone => "--again-ms needs --again N",
+        ArgumentError::Account => "ACCOUNT is a name of 1 to 192 characters",
+        ArgumentError::Credits => "CREDITS is a whole number from 1 to 1099511627776",
+        ArgumentError::Reference => "--ref takes a name of 1 to 192 characters",
     })
 }
 
@@ -23,5 +27,7 @@ fn range_of(option: NumberOption) -> &'static str {
         NumberOption::ConnectMs => "--connect-ms takes a whole number from 1 to 600000",
         NumberOption::Rate => "--rate takes a whole number from 1 to 100000",
         NumberOption::StopAfter => "--stop-after takes a whole number from 1 to 1000000",
+        NumberOption::Again => "--again takes a whole number from 1 to 1000000",
+        NumberOption::AgainMs => "--again-ms takes a whole number from 1 to 600000",
     }
 }

@@ -8,10 +8,11 @@ use std::alloc::AllocError;
 use std::fmt::Write as _;
 use std::io::ErrorKind;
 
-/// Why a file can't be opened, by the system's error.
-pub(crate) fn opening_text(kind: ErrorKind) -> &'static str {
+/// Why a file can't be opened, to be read or also to be written on, by the system's error.
+pub(crate) fn opening_text(is_written: bool, kind: ErrorKind) -> &'static str {
     match kind {
         ErrorKind::NotFound => "there is no such file",
+        ErrorKind::PermissionDenied if is_written => "this user may not read and write it",
         ErrorKind::PermissionDenied => "this user may not read it",
         ErrorKind::IsADirectory => "it is no file, but a folder",
         ErrorKind::NotADirectory => "a part of its path is no folder",

@@ -7,7 +7,7 @@ use std::alloc::AllocError;
 use std::fmt::Write as _;
 
 /// Why a journal can't be written.
-fn writing_text(why: JournalFailure) -> &'static str {
+pub(crate) fn writing_text(why: JournalFailure) -> &'static str {
     match why {
         JournalFailure::OutOfMemory => "out of memory",
         JournalFailure::StorageFull => "no space left on the device",
@@ -20,13 +20,24 @@ fn writing_text(why: JournalFailure) -> &'static str {
     }
 }
 
-/// Writes why a journal can't be begun.
-pub(crate) fn write_unbegun(text: &mut String, why: JournalFailure) -> Result<(), AllocError> {
+/// Writes why a journal can't be begun, or takes no further round: then it is the record of the run, and is kept.
+pub(crate) fn write_unbegun(
+    text: &mut String,
+    job: &JobContext,
+    why: JournalFailure,
+) -> Result<(), AllocError> {
     let why = writing_text(why);
-    write!(
-        text,
-        "{why}\nnothing was sent; remove this journal before the next run"
-    )
+    if job.kind == JobKind::Resume {
+        write!(
+            text,
+            "{why}\nnothing was sent in this round; keep the journal, and resume once it can be written"
+        )
+    } else {
+        write!(
+            text,
+            "{why}\nnothing was sent; remove this journal before the next run"
+        )
+    }
 }
 
 /// Writes why a journal can't be written on, and how to send what is left.
@@ -40,15 +51,22 @@ pub(crate) fn write_unnoted(
         text,
         "{why}\nwhat was not noted was not sent; the report is right"
     )?;
-    match text_of(&job.names.config) {
-        Some(config) => {
+    match (text_of(&job.names.config), text_of(&job.names.journal)) {
+        (Some(config), Some(journal)) if job.kind == JobKind::Resume => {
+            let (config, journal) = (Shown(config), Shown(journal));
+            write!(
+                text,
+                "\nnext: sms-send resume --config {config} --journal {journal} sends them, once it can be written"
+            )
+        }
+        (Some(config), _) => {
             let config = Shown(config);
             write!(
                 text,
                 "\nnext: sms-send rest --config {config} --report REPORT prints the messages that were not sent"
             )
         }
-        None => Ok(()),
+        _ => Ok(()),
     }
 }
 
@@ -57,7 +75,8 @@ pub(crate) fn write_unprinted(text: &mut String, job: &JobContext) -> Result<(),
     match job.kind {
         JobKind::Other => text.push_str("nothing was sent"),
         JobKind::Loop => write_sent(text, job, "--trial "),
-        JobKind::Send => write_sent(text, job, ""),
+        JobKind::Send | JobKind::Resume => write_sent(text, job, ""),
+        JobKind::TopUp => text.push_str("the payment is booked"),
     }
 }
 

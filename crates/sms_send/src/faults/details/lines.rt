@@ -1,6 +1,6 @@
 //! The detail lines of each fault.
 
-use crate::faults::context::JobContext;
+use crate::faults::context::{JobContext, JobKind, text_of};
 use crate::faults::details::arguments::write_argument_error;
 use crate::faults::details::bind::{
     connection_text, failure_text, write_bind_failure, write_status,
@@ -11,6 +11,7 @@ use crate::faults::details::file::{
 };
 use crate::faults::details::journal::{write_unbegun, write_unnoted, write_unprinted};
 use crate::faults::details::key::{write_key, write_toml_flaw};
+use crate::faults::details::ledger::write_ledger_lines;
 use crate::faults::details::record::{write_note, write_record, write_report_record};
 use crate::faults::fault::Fault;
 use crate::faults::full_names::FullNames;
@@ -20,11 +21,23 @@ use std::alloc::AllocError;
 pub(crate) fn fixed_text(fault: &Fault) -> &'static str {
     match fault {
         Fault::JournalHeld => "its run is still going on",
+        Fault::JournalFree => "no run is going on with it",
         Fault::Overdrawn => "it takes more of an account than that has",
+        Fault::LongSchedule => "the run has more than 1000000 events, the most that replay takes",
         Fault::Trial => "--trial prints its report",
+        Fault::OtherAttempts => "attempts in the config is not what this run was begun with",
+        Fault::OtherReference => "long_reference in the config is not what this run was begun with",
         Fault::OutOfMemory => "memory or a thread was refused; nothing was sent",
         Fault::Unreported(_) => "memory or a thread was refused; messages may have been sent",
         _ => "",
+    }
+}
+
+/// Whether the file of this name is the journal of a run that is to go on. It is read and written on.
+fn is_resumed(job: &JobContext, name: &str) -> bool {
+    match text_of(&job.names.journal) {
+        Some(journal) => job.kind == JobKind::Resume && journal == name,
+        None => false,
     }
 }
 
@@ -38,7 +51,8 @@ pub(crate) fn write_lines<R: AllocGlobal + FullNames>(
     match fault {
         Fault::Words(error) => write_argument_error(text, error),
         Fault::File(name, kind) => {
-            write_named_file(rt, text, name.as_str(), opening_text(*kind))
+            let why = opening_text(is_resumed(job, name.as_str()), *kind);
+            write_named_file(rt, text, name.as_str(), why)
         }
         Fault::UnreadFile(name, _, kind) => {
             write_named_file(rt, text, name.as_str(), reading_text(*kind))
@@ -57,11 +71,10 @@ pub(crate) fn write_lines<R: AllocGlobal + FullNames>(
         Fault::BadNote(place) => write_note(text, &job.names.journal, *place),
         Fault::BadReport(place) => write_report_record(text, &job.names.report, *place),
         Fault::Unmade(_, kind) => text.push_str(making_text(*kind)),
-        Fault::Unbegun(why) => write_unbegun(text, *why),
+        Fault::Unbegun(why) => write_unbegun(text, job, *why),
         Fault::Journal(why) => write_unnoted(text, job, *why),
         Fault::OtherFile(name) => write_other_file(text, name.as_str()),
         Fault::Output(_) => write_unprinted(text, job),
-        // The others have a fixed line, or none.
-        _ => Ok(()),
+        _ => write_ledger_lines(text, &job.names, fault),
     }
 }

@@ -34,12 +34,49 @@ impl fmt::Display for UnsentLine {
     }
 }
 
+/// A line that says that a further round begins, and why.
+#[derive(Clone, Copy, Debug, PartialEq, Eq, Drop)]
+pub(crate) struct RoundLine {
+    pub round: u32,
+    /// How many messages it is to send.
+    pub left: usize,
+    /// What kept them from being sent before.
+    pub why: RoundCause,
+}
+
+/// What kept messages from being sent before a further round.
+#[derive(Clone, Copy, Debug, PartialEq, Eq, Drop)]
+pub(crate) enum RoundCause {
+    /// They were not sent, as this line says.
+    Unsent(UnsentLine),
+    /// The bind of this number was not made.
+    Unbound(u32, &'static str),
+    /// The process ended before.
+    Interrupted,
+}
+
+impl fmt::Display for RoundLine {
+    fn fmt<W: fmt::Write>(&self, f: &mut fmt::Formatter<W>) -> fmt::Result {
+        let (round, left) = (self.round, self.left);
+        write!(f, "round {round}: messages {left}")?;
+        match self.why {
+            RoundCause::Unsent(line) => match line.bind {
+                Some(bind) => write!(f, " (bind {bind} {})\n", line.why),
+                None => write!(f, " ({})\n", line.why),
+            },
+            RoundCause::Unbound(bind, why) => write!(f, " (bind {bind}: {why})\n"),
+            RoundCause::Interrupted => f.write_str("\n"),
+        }
+    }
+}
+
 /// Why a bind was closed to its workers.
 pub(crate) fn closing_text(end: &BindEnd, ender: Ender) -> &'static str {
     match end.closing().down {
         Some(DownBy::Reader) => reader_text(end.reader().cause, ender),
         Some(DownBy::Write) => ended_text(ender, "could not be written"),
-        None => "took too many turns",
+        None if end.closing().turns_over => "took too many turns",
+        None => "was asked to stop",
     }
 }
 
@@ -51,7 +88,7 @@ fn reader_text(cause: ReaderCause, ender: Ender) -> &'static str {
         ReaderCause::Lost => "was lost to a bad command_length",
         ReaderCause::ReadFault => "could not be read",
         ReaderCause::WriteFault => unwritten_text(ender),
-        ReaderCause::Stopped => "was stopped",
+        ReaderCause::Stopped(_) | ReaderCause::Unstarted => "was stopped",
         ReaderCause::Turns => "took too many turns",
         ReaderCause::OutOfMemory => "ran out of memory",
     }

@@ -1,7 +1,7 @@
 use Rattle.std.proofs.Common.{codes, ◌≡◌}
 use Rattle.std.proofs.lemmas.Result.{IfOk-weaker}
 use Rattle.clap.specs.Words.{App, app_of, with_subcommand}
-use Rattle.sms_send.specs.CommandLine.{plan_line, program_line, quote_line, recover_line, replay_line, sender_line}
+use Rattle.sms_send.specs.CommandLine.{audit_line, bill_line, doubtful_line, plan_line, program_line, quote_line, recover_line, replay_line, rest_line, resume_line, sender_line, stop_line, topup_line}
 use Rattle.sms_send.proofs.JobsDone.{subcommand-added}
 use Rattle.sms_send.proofs.args.command_line.command_line.Goals as goal
 
@@ -12,6 +12,14 @@ quoting_line = with_subcommand (with_subcommand (with_subcommand program_line re
 -- and with those that send
 abbrev senders_line : App
 senders_line = with_subcommand (with_subcommand quoting_line (sender_line (codes "loop")).top) (sender_line (codes "send")).top
+
+-- and with those that look at what was sent
+abbrev left_line : App
+left_line = with_subcommand (with_subcommand (with_subcommand (with_subcommand senders_line resume_line.top) stop_line.top) recover_line.top) rest_line.top
+
+-- and with those that list its parts
+abbrev listing_line : App
+listing_line = with_subcommand (with_subcommand left_line bill_line.top) doubtful_line.top
 
 pub returns : goal.returns
 returns c =
@@ -25,6 +33,20 @@ returns c =
     subcommand-added _ _ _ _ c.sender_command-looping.result c.in_ok-either.ensures c.sender_command-looping.ensures quoting in
     let both : app_of c.in_ok-both.both ≡ senders_line =
     subcommand-added _ _ _ _ c.sender_command-sending.result c.in_ok-both.ensures c.sender_command-sending.ensures either in
-    let recovering : app_of c.in_ok-recovering.recovering ≡ with_subcommand senders_line recover_line.top =
-    subcommand-added _ _ _ _ c.recover_command.result c.in_ok-recovering.ensures c.recover_command.ensures both in
-    IfOk-weaker c.with_subcommand-7.result _ _ (λ r adds. subcommand-added _ r _ _ c.rest_command.result adds c.rest_command.ensures recovering) c.with_subcommand-7.ensures
+    let going_on : app_of c.in_ok-going_on.going_on ≡ with_subcommand senders_line resume_line.top =
+    subcommand-added _ _ _ _ c.resume_command.result c.in_ok-going_on.ensures c.resume_command.ensures both in
+    let stopping : app_of c.in_ok-stopping.stopping ≡ with_subcommand (with_subcommand senders_line resume_line.top) stop_line.top =
+    subcommand-added _ _ _ _ c.stop_command.result c.in_ok-stopping.ensures c.stop_command.ensures going_on in
+    let recovering : app_of c.in_ok-recovering.recovering ≡ with_subcommand (with_subcommand (with_subcommand senders_line resume_line.top) stop_line.top) recover_line.top =
+    subcommand-added _ _ _ _ c.recover_command.result c.in_ok-recovering.ensures c.recover_command.ensures stopping in
+    let left : app_of c.in_ok-left.left ≡ left_line =
+    subcommand-added _ _ _ _ c.rest_command.result c.in_ok-left.ensures c.rest_command.ensures recovering in
+    let billing : app_of c.in_ok-billing.billing ≡ with_subcommand left_line bill_line.top =
+    subcommand-added _ _ _ _ c.bill_command.result c.in_ok-billing.ensures c.bill_command.ensures left in
+    let doubting : app_of c.in_ok-doubting.doubting ≡ listing_line =
+    subcommand-added _ _ _ _ c.doubtful_command.result c.in_ok-doubting.ensures c.doubtful_command.ensures billing in
+    let auditing : app_of c.in_ok-auditing.auditing ≡ with_subcommand listing_line audit_line.top =
+    subcommand-added _ _ _ _ c.audit_command.result c.in_ok-auditing.ensures c.audit_command.ensures doubting in
+    let paying : app_of c.in_ok-paying.paying ≡ with_subcommand (with_subcommand listing_line audit_line.top) topup_line.top =
+    subcommand-added _ _ _ _ c.topup_command.result c.in_ok-paying.ensures c.topup_command.ensures auditing in
+    IfOk-weaker c.with_subcommand-14.result _ _ (λ r adds. subcommand-added _ r _ _ c.balance_command.result adds c.balance_command.ensures paying) c.with_subcommand-14.ensures

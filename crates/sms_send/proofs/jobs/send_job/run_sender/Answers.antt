@@ -1,6 +1,6 @@
 use Rattle.std.proofs.Common.{inl, inr, refl, ap}
 use Rattle.sms_send.proofs.Telling.{told_so}
-use Rattle.sms_send.proofs.Sendings.{unwritten_told}
+use Rattle.sms_send.proofs.Sendings.{unsent_once, unwritten_told}
 use Rattle.sms_send.proofs.Starts.{read_at, unwritten_at}
 use Rattle.sms_send.proofs.jobs.send_job.run_sender.Goals as goal
 
@@ -17,7 +17,7 @@ returns-in_err-input-clause-refused g c = told_so c.from_residual.result _ _ c.f
 pub returns-in_err-ended-clause-refused : goal.returns-in_err-ended-clause-refused
 returns-in_err-ended-clause-refused g c =
     told_so c.from_residual-in_err-ended.result _ _ c.from_residual-in_err-ended.ensures.1
-    (inr (c.in_ok-input.input, c.in_ok-input.ensures.read, inl (c.in_err-ended.ensures.refused.0, c.in_err-ended.ensures.refused.1, c.in_err-ended.ensures.refused.3)))
+    (inr (c.in_ok-input.input, c.in_ok-input.ensures.read, inl (unsent_once (g.D.Dial.refuses c.args.dial.now) (g.D.Dial.told c.args.dial.now) c.in_ok-input.input.config _ _ c.in_err-ended.ensures.refused)))
 
 pub returns-in_err-write_report-clause-refused : goal.returns-in_err-write_report-clause-refused
 returns-in_err-write_report-clause-refused g c =
@@ -25,7 +25,7 @@ returns-in_err-write_report-clause-refused g c =
     (inr (
       c.in_ok-input.input,
       c.in_ok-input.ensures.read,
-      unwritten_told (g.D.Dial.refuses c.args.dial.now) _ _ c.in_ok-ended.ended _ _ _ c.in_ok-ended.ensures.sent c.in_err-write_report.ensures.failed c.in_err-write_report.ensures.front (λ memory. ap g.W.Write.contents (c.in_err-write_report.ensures.quiet memory)),
+      unwritten_told (λ round. g.D.Dial.refuses c.args.dial.now) (λ round. g.D.Dial.told c.args.dial.now) _ c.in_ok-ended.ended _ _ _ c.in_ok-ended.ensures.sent c.in_err-write_report.ensures.failed c.in_err-write_report.ensures.front (λ memory. ap g.W.Write.contents (c.in_err-write_report.ensures.quiet memory)),
     ))
 
 pub returns-in_err-input-clause-unwritten : goal.returns-in_err-input-clause-unwritten

@@ -13,7 +13,7 @@ use Rattle.sms_send.proofs.jobs.send_job.send_job.Goals as goal
 pub returns-in-None-clause-ended : goal.returns-in-None-clause-ended
 returns-in-None-clause-ended g c = record {
   sent = IfOk-weaker c.run.result _ _
-      (λ status sends. sends_by (g.R.InputFiles.finds c.args.rt.now) (g.R.Connects.tells c.args.rt.now) _ c.args.kind c.in_ok-read.read (centre_of c.in_ok-target.target) c.in_ok-opened.opened.config _ _ _ c.args.order.strict c.args.order.strict false _ c.in_ok-input-in-None.input _ _ status
+      (λ status sends. sends_by (g.R.InputFiles.finds c.args.rt.now) (g.R.Connects.tells c.args.rt.now) _ c.args.kind c.in_ok-read.read (centre_of c.in_ok-target.target) c.in_ok-opened.opened.config _ _ _ c.args.order.again c.args.order.strict c.args.order.strict false _ c.in_ok-input-in-None.input _ _ status
       c.in_ok-read.ensures.read (record { config_is = c.in_ok-opened.ensures.config; found = c.in_ok-opened.ensures.found }) c.in_ok-target.ensures.centre (or_false c.args.order.strict) (ap is_some c.in-None.is) c.in_ok-input-in-None.ensures.read sends)
       c.run.ensures.ended.sent;
   status = c.run.ensures.ended.status;
@@ -29,7 +29,7 @@ returns-in-None-clause-ended g c = record {
 pub returns-clause-ended : goal.returns-clause-ended
 returns-clause-ended g c = record {
   sent = IfOk-weaker c.run_noted.result _ _
-      (λ status sends. sends_by (g.R.InputFiles.finds c.args.rt.now) (g.R.Connects.tells c.args.rt.now) _ c.args.kind c.in_ok-read.read (centre_of c.in_ok-target.target) c.in_ok-opened.opened.config _ _ _ true c.args.order.strict true _ c.in_ok-noted-in-Some.noted.input _ _ status
+      (λ status sends. sends_by (g.R.InputFiles.finds c.args.rt.now) (g.R.Connects.tells c.args.rt.now) _ c.args.kind c.in_ok-read.read (centre_of c.in_ok-target.target) c.in_ok-opened.opened.config _ _ _ c.args.order.again true c.args.order.strict true _ c.in_ok-noted-in-Some.noted.input _ _ status
       c.in_ok-read.ensures.read (record { config_is = c.in_ok-opened.ensures.config; found = c.in_ok-opened.ensures.found }) c.in_ok-target.ensures.centre (or_true c.args.order.strict) (ap is_some c.in-Some.is) c.in_ok-noted-in-Some.ensures.read sends)
       c.run_noted.ensures.ended.sent;
   status = c.run_noted.ensures.ended.status;

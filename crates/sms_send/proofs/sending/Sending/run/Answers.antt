@@ -2,7 +2,7 @@ use Rattle.std.proofs.Common.{inl, refl, ap, sym, subst}
 use Rattle.std.specs.Prelude.{map, string_bytes}
 use Rattle.sms_driver.specs.declared.fault.BindFailure.TheVariants.{NoConnection}
 use Rattle.sms_send.specs.Reached.{centre_of}
-use Rattle.sms_send.specs.Sent.{IsDeaf, FailsOver, SendingEnd, SendsInput, unknown}
+use Rattle.sms_send.specs.Sent.{IsDeaf, FailsOver, SendingEnd, SendsWork, unknown}
 use Rattle.sms_send.specs.declared.faults.fault.Fault.TheVariants.{BindFailed}
 use Rattle.sms_send.specs.declared.sending.target.Target.{Target}
 use Rattle.sms_send.proofs.Reasons.{reasoned_end}
@@ -11,10 +11,10 @@ use Rattle.sms_send.proofs.sending.Sending.run.Goals as goal
 
 pub returns-in-Remote-clause-ended : goal.returns-in-Remote-clause-ended
 returns-in-Remote-clause-ended g c =
-    reasoned_end c.reasoned.result c.send_over-sent.result _ _ _ _ _ _ _ _ _ c.reasoned.ensures.sent c.reasoned.ensures.told
+    reasoned_end c.reasoned.result c.send_over-sent.result _ _ _ _ _ _ _ _ _ _ c.reasoned.ensures.sent c.reasoned.ensures.told
     (over_remote (g.R.Connects.tells c.args.self.now.rt.now) c.args.self.now.target
-    (λ told. SendingEnd c.args.self.now.strict (SendsInput told c.args.self.now.strict c.args.input (g.W.Write.contents c.args.output.now) (g.W.Write.contents c.send_over-sent.new.output))
-    (FailsOver unknown told c.args.input (g.W.Write.contents c.args.output.now) (g.W.Write.contents c.send_over-sent.new.output)) c.send_over-sent.new.start.begun c.args.output.now c.send_over-sent.new.output c.send_over-sent.result)
+    (λ tells. SendingEnd c.args.self.now.strict (SendsWork tells c.args.self.now.again c.args.self.now.strict c.args.work (g.W.Write.contents c.args.output.now) (g.W.Write.contents c.send_over-sent.new.output))
+    (FailsOver unknown tells c.args.self.now.again c.args.work (g.W.Write.contents c.args.output.now) (g.W.Write.contents c.send_over-sent.new.output)) c.send_over-sent.new.start.begun c.args.output.now c.send_over-sent.new.output c.send_over-sent.result)
     _ _ _ _ _ c.in-Remote.is c.as_str.ensures.value c.new-outboxes.ensures.journal c.send_over-sent.ensures.ended)
 
 pub returns-in_default-clause-ended : goal.returns-in_default-clause-ended
@@ -29,8 +29,8 @@ returns-in_default-clause-ended g c = record {
 
 pub returns-clause-ended : goal.returns-clause-ended
 returns-clause-ended g c =
-    reasoned_end c.reasoned-in-Loopback.result c.send_over-sent-in-Loopback.result _ _ _ _ _ _ _ _ _ c.reasoned-in-Loopback.ensures.sent c.reasoned-in-Loopback.ensures.told
+    reasoned_end c.reasoned-in-Loopback.result c.send_over-sent-in-Loopback.result _ _ _ _ _ _ _ _ _ _ c.reasoned-in-Loopback.ensures.sent c.reasoned-in-Loopback.ensures.told
     (over_loopback (g.R.Connects.tells c.args.self.now.rt.now) c.args.self.now.target
-    (λ told. SendingEnd c.args.self.now.strict (SendsInput told c.args.self.now.strict c.args.input (g.W.Write.contents c.args.output.now) (g.W.Write.contents c.send_over-sent-in-Loopback.new.output))
-    (FailsOver unknown told c.args.input (g.W.Write.contents c.args.output.now) (g.W.Write.contents c.send_over-sent-in-Loopback.new.output)) c.send_over-sent-in-Loopback.new.start.begun c.args.output.now c.send_over-sent-in-Loopback.new.output c.send_over-sent-in-Loopback.result)
+    (λ tells. SendingEnd c.args.self.now.strict (SendsWork tells c.args.self.now.again c.args.self.now.strict c.args.work (g.W.Write.contents c.args.output.now) (g.W.Write.contents c.send_over-sent-in-Loopback.new.output))
+    (FailsOver unknown tells c.args.self.now.again c.args.work (g.W.Write.contents c.args.output.now) (g.W.Write.contents c.send_over-sent-in-Loopback.new.output)) c.send_over-sent-in-Loopback.new.start.begun c.args.output.now c.send_over-sent-in-Loopback.new.output c.send_over-sent-in-Loopback.result)
     _ _ _ _ _ c.in-Loopback.is (ap (map string_bytes) c.as_slice.ensures.value) c.new-outboxes.ensures.journal c.send_over-sent-in-Loopback.ensures.ended)

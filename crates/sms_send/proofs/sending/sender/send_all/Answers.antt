@@ -1,4 +1,4 @@
-use Rattle.std.proofs.Common.{◌*◌, ◌≡◌, ◌∙◌, ◌++◌, ap, subst, sym, ℕ, List, length, map, Vec, Global}
+use Rattle.std.proofs.Common.{[], Some, ◌*◌, ◌≡◌, ◌∙◌, ◌++◌, ap, subst, sym, ℕ, List, length, map, Vec, Global}
 use Rattle.std.specs.List.{AllZip}
 use Rattle.sms_book.specs.Openings.{credits_of}
 use Rattle.sms_book.specs.Tariffs.{Price}
@@ -8,10 +8,11 @@ use Rattle.sms_worker.specs.EndOf.{IsEndOf}
 use Rattle.sms_worker.specs.Frames.{frames_in}
 use Rattle.sms_message.specs.declared.message.Message.{Message}
 use Rattle.sms_pdu.specs.declared.command.Mode.{Mode}
-use Rattle.sms_bind.specs.declared.settings.Settings.{Settings}
+use Rattle.sms_session.specs.declared.settings.Settings.{Settings}
 use Rattle.sms_driver.specs.Answered.{AreHeard}
 use Rattle.sms_driver.specs.BindEnds.{AreBinds}
 use Rattle.sms_driver.specs.Deals.{dealt}
+use Rattle.sms_driver.specs.Handed.{AreWritten}
 use Rattle.sms_driver.specs.Closings.{AreExplained, AreReasoned}
 use Rattle.sms_driver.specs.Numbered.{AreBelow, AreNumbered}
 use Rattle.sms_driver.specs.Rings.{flat}
@@ -20,7 +21,8 @@ use Rattle.sms_driver.specs.Statements.{AreRows}
 use Rattle.sms_files.specs.declared.config.Config.{Config}
 use Rattle.sms_send.proofs.Sendings.{fault_at, for_settings}
 use Rattle.sms_send.specs.Faults.{ComesAt}
-use Rattle.sms_send.specs.Sent.{AreRunSettings, unbinds_in}
+use Rattle.sms_send.specs.Sent.{unbinds_in}
+use Rattle.sms_send.specs.Settings.{AreRunSettings}
 use Rattle.sms_send.proofs.sending.sender.send_all.Goals as goal
 
 pub returns-clause-sent : goal.returns-clause-sent
@@ -53,6 +55,7 @@ returns-clause-sent g c =
       explained = for_settings input.config input.tariff run is (λ b w. AreExplained w binds (dealt (b * w) 0 ends)) sent.explained;
       reasons = for_settings input.config input.tariff run is (λ b w. AreReasoned run.rules.policy.attempts w binds reasons (dealt (b * w) 0 ends)) sent.reasons;
       handed = for_settings input.config input.tariff run is (λ b w. AreSame (requests c.in-Ok.sending.log.given) (flat (map frames_in (dealt (b * w) 0 ends)) ++ unbinds_in binds)) sent.handed;
+      written = for_settings input.config input.tariff run is (λ b w. AreWritten (Some run.bind_settings.settings) b [] c.in-Ok.sending.log.given) sent.written;
       heard = for_settings input.config input.tariff run is (λ b w. AreHeard told b w (dealt (b * w) 0 ends)) sent.heard;
     }
 

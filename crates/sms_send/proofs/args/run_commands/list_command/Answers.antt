@@ -1,8 +1,7 @@
-use Rattle.sms_send.proofs.args.command_line.recover_command.Goals as goal
+use Rattle.sms_send.proofs.args.run_commands.list_command.Goals as goal
 
 pub returns : goal.returns
 returns c =
     let configured = c.with_argument-configured.ensures _ _ c.file_option-config.ensures.rule c.subcommand-begun.ensures in
     let noted = c.with_argument-noted.ensures _ _ c.file_option-journal.ensures.rule configured in
-    let tried = c.with_argument-tried.ensures _ _ c.flag-trial.ensures.rule noted in
-    c.with_argument.ensures _ _ c.verbose_flag.ensures.rule tried
+    c.with_argument.ensures _ _ c.verbose_flag.ensures.rule noted

@@ -1,8 +1,7 @@
-use Rattle.sms_send.proofs.args.command_line.rest_command.Goals as goal
+use Rattle.sms_send.proofs.args.run_commands.audit_command.Goals as goal
 
 pub returns : goal.returns
 returns c =
     let configured = c.with_argument-configured.ensures _ _ c.file_option-config.ensures.rule c.subcommand-begun.ensures in
     let reported = c.with_argument-reported.ensures _ _ c.file_option-report.ensures.rule configured in
-    let counted = c.with_argument-counted.ensures _ _ c.flag-accounts.ensures.rule reported in
-    c.with_argument.ensures _ _ c.verbose_flag.ensures.rule counted
+    c.with_argument.ensures _ _ c.verbose_flag.ensures.rule reported

@@ -1,0 +1,9 @@
+use Rattle.sms_send.proofs.args.command_line.with_sending.Goals as goal
+
+pub returns : goal.returns
+returns c = λ line was.
+    let synced = c.with_argument-synced.ensures _ _ c.flag-sync.ensures.rule was in
+    let stricter = c.with_argument-stricter.ensures _ _ c.flag-strict.ensures.rule synced in
+    let told = c.with_argument-told.ensures _ _ c.verbose_flag.ensures.rule stricter in
+    let throttled = c.with_throttle-throttled.ensures _ told in
+    c.with_again.ensures _ throttled
