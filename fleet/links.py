@@ -1,17 +1,18 @@
 """What stands of a run, by its files, and what comes next. A run is noted in `journal` while it is sent, and has ended where its
-`report.csv` is there: that is put there whole."""
+`report.csv` is there, which is put there whole, and it isn't being sent again."""
 import enum
 import fcntl
 import functools
 import os
 import re
-import shutil
 
-from jobs import CONFIG, MESSAGES, NAMES, NUMBERS, read_accounts, read_numbers
-from reports import NOT_SENT, Report, is_unsent
-from tables import Fault, put_lines, put_octets, records, rename, table
+from jobs import NAMES, read_accounts
+from reports import Report
+from tables import Fault, put_octets, rename
 
 BEGUN, JOURNAL, REPORT_NAME = "begun", "journal", "report.csv"
+# What a message was refused for that a further round sends.
+LEFT = ("bind-closed", "out-of-memory")
 # A journal that noted nothing: its head, and a line that was truncated. Whatever else there is counts as a note.
 NOTHING_NOTED = re.compile(rb"((journal|trial),1,[0-9a-f,]{0,300}\n)?[ -~]{0,400}")
 
@@ -27,7 +28,7 @@ class State(enum.Enum):
 
 def state_of(names, has_notes, doubt=None):
     """A run's state by the names of its files, whether its journal noted anything, and what makes that doubtful."""
-    if REPORT_NAME in names:
+    if REPORT_NAME in names and BEGUN not in names:
         return State.ENDED
     if NAMES["accounts"] not in names:
         return State.WAITING
@@ -90,37 +91,22 @@ def state_of_folder(folder):
     return state_of(names, noted(folder), doubt)
 
 
-def left_of(report):
-    """The places of the messages that a run didn't send at all, if one of them is among them that more credits wouldn't have
-    helped: a run that is to be gone on with."""
-    left = [k for k, it in enumerate(report.ends) if is_unsent(it)]
-    lost = NOT_SENT - {"no-credit"} | {"unsent"}
-    return left if any(report.ends[k][0][2] in lost for k in left) else []
+def is_left(report):
+    """Whether a report leaves messages that a further round of its run would send."""
+    return any(it[0][2] in LEFT for it in report.ends)
 
 
 @functools.cache
-def leaves_messages(folder):
-    """Whether a run that has ended is to be gone on with; its report never changes."""
-    return bool(left_of(Report(f"{folder}/{REPORT_NAME}")))
-
-
-def next_name(folder, names):
-    """The name of the run that goes on with what this one left: K.1 behind K, K.2 behind K.1; `names` are the part's."""
-    run = os.path.basename(folder)
-    first, _, more = run.partition(".")
-    name = f"{first}.{int(more or 0) + 1}"
-    return None if name in names else name
+def leaves_messages(name, _changed):
+    return is_left(Report(name))
 
 
 def next_run(runs):
     """Which run of a part is to be done and how its files stand: the first, in their order, that has not ended, or whose report
-    leaves messages that no later run took over. None where the part is done."""
-    names = {os.path.basename(it) for it in runs}
+    leaves messages. None where the part is done."""
     for it in runs:
-        state = state_of_folder(it)
-        if state is not State.ENDED:
-            return it, state
-        if next_name(it, names) and leaves_messages(it):
+        state, name = state_of_folder(it), f"{it}/{REPORT_NAME}"
+        if state is not State.ENDED or leaves_messages(name, os.stat(name).st_mtime_ns):
             return it, state
     return None
 
@@ -133,27 +119,3 @@ def put_accounts(accounts, folder, report):
     if read_accounts(said) != free:
         raise Fault(said, f"what `sms-send rest --accounts` tells is not what {report.name} leaves free")
     rename(said, f"{folder}/{NAMES['accounts']}")
-
-
-def write_rest(folder, messages, accounts):
-    """Puts what a run left beside it as a run of its own: these texts are what `sms-send rest` says, and have to be the messages
-    that the report calls unsent."""
-    report = Report(f"{folder}/{REPORT_NAME}")
-    left = left_of(report)
-    its = [it for _, it in table(f"{folder}/{NAMES['messages']}", MESSAGES)]
-    numbers = read_numbers(f"{folder}/numbers.csv")
-    if not len(report.ends) == len(its) == len(numbers):
-        raise Fault(report.name, f"{len(report.ends)} messages, and {NAMES['messages']} and numbers.csv have {len(its)} and {len(numbers)}")
-    new = os.path.join(os.path.dirname(folder), "new")
-    shutil.rmtree(new, ignore_errors=True)
-    os.makedirs(new)
-    put_octets(messages, f"{new}/{NAMES['messages']}")
-    if [it for _, it in records(f"{new}/{NAMES['messages']}")] != [MESSAGES] + [its[k] for k in left]:
-        raise Fault(f"{new}/{NAMES['messages']}", f"what `sms-send rest` tells is not what {report.name} leaves")
-    put_accounts(accounts, new, report)
-    put_lines([NUMBERS] + [[str(numbers[k])] for k in left], f"{new}/numbers.csv")
-    for name in (CONFIG, NAMES["tariff"]):
-        if os.path.exists(f"{folder}/{name}"):
-            with open(f"{folder}/{name}", "rb") as file:
-                put_octets(file.read(), f"{new}/{name}")
-    rename(new, os.path.join(os.path.dirname(folder), next_name(folder, set())))

@@ -5,7 +5,7 @@ import subprocess
 import sys
 
 from jobs import CONFIG, runs_of_part
-from links import BEGUN, JOURNAL, REPORT_NAME, State, beginning, is_held, next_run, put_accounts, write_rest
+from links import BEGUN, JOURNAL, REPORT_NAME, State, beginning, is_held, next_run, put_accounts
 from reports import Report
 from tables import Fault, put_octets, put_text, sync_folder
 
@@ -38,17 +38,17 @@ class Part:
             raise Stopped(f"{run}: `{self.program} {words[0]}` {how}", ended.stdout if is_whole else b"")
         return ended.stdout
 
-    def rest(self, run, *more):
-        return self.ask(run, "rest", "--config", CONFIG, "--report", REPORT_NAME, *more)
-
-    def send(self, run):
-        """Sends a run that was not begun. Its report is put in place when the program is done with it, also where its journal failed."""
-        if os.path.exists(f"{run}/{JOURNAL}"):
+    def send(self, run, goes_on):
+        """Sends a run that was not begun, or goes on with one. A trial begins anew, since no centre saw any of it. The report is put in
+        place when the program is done with it, also where its journal failed."""
+        goes_on = goes_on and self.words[0] == "send"
+        if not goes_on and os.path.exists(f"{run}/{JOURNAL}"):
             os.remove(f"{run}/{JOURNAL}")
         put_text(beginning(self.is_synced), f"{run}/{BEGUN}")
         sync = ["--sync"] if self.is_synced else []
+        words = ["resume" if goes_on else self.words[0], *self.words[1:]]
         try:
-            report = self.ask(run, *self.words, "--quiet", "--config", CONFIG, "--journal", JOURNAL, *sync)
+            report = self.ask(run, *words, "--quiet", "--config", CONFIG, "--journal", JOURNAL, *sync)
         except (Stopped, OSError) as why:
             if isinstance(why, Stopped) and why.report:
                 put_octets(why.report, f"{run}/{REPORT_NAME}")
@@ -65,36 +65,27 @@ class Part:
         os.remove(f"{run}/{BEGUN}")
         sync_folder(run)
 
-    def recover(self, run):
-        """Computes the report of a run that was cut from what it noted."""
-        trial = ["--trial"] if self.words[0] == "loop" else []
-        put_octets(self.ask(run, "recover", "--config", CONFIG, "--journal", JOURNAL, *trial), f"{run}/{REPORT_NAME}")
-
     def give_accounts(self, run):
         """Gives a run the credits that the one before it left free."""
         runs = runs_of_part(self.folder)
         before = runs[runs.index(run) - 1]
-        put_accounts(self.rest(before, "--accounts"), run, Report(f"{before}/{REPORT_NAME}"))
+        accounts = self.ask(before, "rest", "--config", CONFIG, "--report", REPORT_NAME, "--accounts")
+        put_accounts(accounts, run, Report(f"{before}/{REPORT_NAME}"))
 
     def step(self, run, state, sent):
         """One step of a run; gives whether it was sent. A run that was sent here and left messages is not gone on with at once,
         since a centre that lost it may lose the next one too."""
         if state is not State.ENDED and is_held(run):
             raise Stopped(f"{run}: its run is still going on")
-        if state is State.READY:
-            self.send(run)
-            return True
         if state in (State.DOUBTFUL, State.ELSEWHERE):
             raise Stopped(f"{run}: it {state.value}; remove the file {BEGUN} there when that is clear, and it goes on by its journal")
-        if state is State.CUT:
-            self.recover(run)
-        elif state is State.WAITING:
+        if state is State.WAITING:
             self.give_accounts(run)
-        elif run in sent:
+            return False
+        if run in sent:
             raise Stopped(f"{run}: messages were not sent, since a bind was lost or memory refused; run it again to go on")
-        else:
-            write_rest(run, self.rest(run), self.rest(run, "--accounts"))
-        return False
+        self.send(run, state is not State.READY)
+        return True
 
     def work(self):
         """Does what there is to do in the part, under a lock that keeps a second one out."""

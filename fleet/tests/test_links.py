@@ -1,7 +1,7 @@
 import os
 
 import tables
-from links import NOTHING_NOTED, State, beginning, doubt_of, here, left_of, next_name, state_of
+from links import NOTHING_NOTED, State, beginning, doubt_of, here, is_left, state_of
 from tests.helpers import Case, ending
 
 
@@ -21,7 +21,9 @@ class Links(Case):
         for doubt in (State.DOUBTFUL, State.ELSEWHERE):
             self.assertIs(state_of(given | {"begun", "journal"}, True, doubt), doubt)
             self.assertIs(state_of(given | {"begun", "journal"}, False, doubt), doubt)
-            self.assertIs(state_of(given | {"begun", "journal", "report.csv"}, True, doubt), State.ENDED)
+            self.assertIs(state_of(given | {"begun", "journal", "report.csv"}, True, doubt), doubt)
+        self.assertIs(state_of(given | {"begun", "journal", "report.csv"}, True), State.CUT)
+        self.assertIs(state_of(given | {"journal", "report.csv"}, True), State.ENDED)
 
     def test_a_journal_that_noted_nothing(self):
         head = b"journal,1," + b",".join([b"ab" * 32] * 3) + b",\n"
@@ -44,16 +46,11 @@ class Links(Case):
         self.assertIsNone(doubt_of(beginning(False), here(), False))
 
     def test_what_was_lost_is_gone_on_with(self):
-        self.assertEqual(left_of(Ends(["charged"], ["bind-closed"], ["unsent", "unsent"], ["no-credit"])), [1, 2, 3])
-        self.assertEqual(left_of(Ends(["charged"], ["out-of-memory"])), [1])
+        self.assertTrue(is_left(Ends(["charged"], ["bind-closed"], ["no-credit"])))
+        self.assertTrue(is_left(Ends(["charged"], ["out-of-memory"])))
 
-    def test_what_only_lacks_credits_is_left_as_it_is(self):
-        self.assertEqual(left_of(Ends(["charged"], ["no-credit"], ["unsent", "charged"], ["refused"], ["bad-address"])), [])
-
-    def test_names_of_runs(self):
-        self.assertEqual(next_name("x/3", {"3", "4"}), "3.1")
-        self.assertEqual(next_name("x/3.9", {"3", "3.9"}), "3.10")
-        self.assertIsNone(next_name("x/3", {"3", "3.1"}))
+    def test_what_was_begun_or_lacks_credits_is_left_as_it_is(self):
+        self.assertFalse(is_left(Ends(["charged"], ["no-credit"], ["unsent", "charged"], ["unsent"], ["refused"], ["bad-address"])))
 
 
 class Files(Case):

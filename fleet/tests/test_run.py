@@ -76,18 +76,16 @@ class Running(Case):
                 self.run_part()
                 self.once(self.merge(4), unanswered=1)
                 names = [os.path.basename(it) for it in runs_of_part(f"{self.folder}/parts/01")]
-                self.assertEqual(names, ["1", "2", "3"] if count == 9 else ["1", "1.1", "2", "3"])
+                self.assertEqual(names, ["1", "2", "3"])
 
-    def test_a_rest_that_is_killed_too(self):
+    def test_a_further_round_that_is_killed_too(self):
         self.job({"a": 9})
         split(self.folder, 1)
-        self.does("01/1", "kill 2")
-        self.does("01/1.1", "kill 3")
-        self.run_part(1)
-        self.run_part(1)
+        for count in (2, 3):
+            self.does("01/1", f"kill {count}")
+            self.run_part(1)
         self.run_part()
         self.once(self.merge(4), unanswered=2)
-        self.assertEqual([len(Report(f"{it}/report.csv").ends) for it in runs_of_part(f"{self.folder}/parts/01")], [9, 6, 2])
 
     def test_a_bind_that_is_refused_sent_nothing(self):
         self.job({"a": 5, "b": 5})
@@ -96,7 +94,6 @@ class Running(Case):
         self.assertIn("ended with 3", self.run_job(1))
         self.run_job()
         self.once(self.merge())
-        self.assertEqual(os.listdir(f"{self.folder}/parts/02").count("1.1"), 0)
 
     def test_a_lost_centre_is_tried_again_by_the_next_call(self):
         self.job({"a": 5, "b": 5})
@@ -162,8 +159,9 @@ class Running(Case):
         said = self.run_part(1)
         self.assertIn("fault: journal of a trial: no message centre saw any of it\n", said)
         self.assertIs(state_of_folder(f"{self.folder}/parts/01/1"), State.CUT)
+        os.remove(f"{self.folder}/submits")
         self.run_part(0, "--loop")
-        self.once(self.merge(4), unanswered=1)
+        self.once(self.merge())
 
     def test_a_run_goes_on_alone_where_what_started_it_was_killed(self):
         self.job({"a": 5})
@@ -308,6 +306,8 @@ class Running(Case):
         self.does("01/1", "kill 2")
         words = ["--program", f"{self.folder}/program", "--with=--rate 50 --stop-after 3"]
         self.run_job(1, *words)
+        self.run_job(0, *words)
+        os.remove(f"{self.folder}/parts/01/1/report.csv")
         self.run_job(0, *words, "--no-sync", "--loop")
         with open(asked) as file:
             said = file.read().splitlines()
@@ -315,7 +315,8 @@ class Running(Case):
         said = [it.removeprefix("1 ") for it in said]
         self.assertEqual(said[0], "send --rate 50 --stop-after 3 --quiet --config send.toml --journal journal --sync")
         self.assertEqual(said[-1], "loop --rate 50 --stop-after 3 --quiet --config send.toml --journal journal")
-        self.assertEqual([it.split()[0] for it in said], ["send", "recover", "rest", "rest", "loop"])
+        self.assertEqual(said[1], said[0].replace("send ", "resume ", 1))
+        self.assertEqual(len(said), 3)
 
     @unittest.skipIf(shutil.which("sms-send", path="/usr/bin:/bin"), "sms-send is installed")
     def test_the_program_is_found(self):
@@ -340,18 +341,13 @@ class Running(Case):
                 self.assertIn(wanted, ended.stderr)
             shutil.rmtree(f"{self.folder}/parts")
 
-    def test_a_rest_that_is_another(self):
+    def test_credits_that_are_others(self):
         self.job({"a": 5})
-        split(self.folder, 1)
-        self.does("01/1", "lose 3")
-        self.run_part(1)
+        split(self.folder, 1, 3)
         liar = f"{self.folder}/liar"
-        for what, told in (("--accounts", "leaves free"), ("--report", "is not what")):
-            put_text(f'#!/bin/sh\ncase "$*" in *{what}*) echo account,source,destination,text;; *) exec {PROGRAM} "$@";; esac\n', liar)
-            if what == "--accounts":
-                put_text(f'#!/bin/sh\ncase "$*" in *{what}*) printf "account,credits\\na,100\\n";; *) exec {PROGRAM} "$@";; esac\n', liar)
-            os.chmod(liar, 0o755)
-            self.assertIn(told, self.run_part(1, "--program", liar))
+        put_text(f'#!/bin/sh\ncase "$*" in *--accounts*) printf "account,credits\\na,100\\n";; *) exec {PROGRAM} "$@";; esac\n', liar)
+        os.chmod(liar, 0o755)
+        self.assertIn("leaves free", self.run_part(1, "--program", liar))
         self.run_part()
         self.once(self.merge())
 

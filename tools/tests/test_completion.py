@@ -37,7 +37,7 @@ class Completion(unittest.TestCase):
         self.assertEqual(self.offered("send", "--config", "="), wanted)
 
     def test_other_options_take_each_file(self):
-        for option in ("--journal", "--report", "--messages"):
+        for option in ("--journal", "--report", "--messages", "--ledger"):
             self.assertEqual(self.offered("recover", option, "a"), ["a b.toml", "a.csv", "a.toml", "accounts", "app.toml", "archive"])
 
     def test_a_number_has_no_offers(self):
@@ -46,7 +46,16 @@ class Completion(unittest.TestCase):
     def test_options(self):
         self.assertEqual(self.offered("recover", "--t"), ["--trial"])
         self.assertEqual(self.offered("loop", "--s"), ["--stop-after", "--strict", "--sync"])
-        self.assertEqual(self.offered("re"), ["recover", "replay", "rest"])
+        self.assertEqual(self.offered("re"), ["recover", "replay", "rest", "resume"])
+        self.assertEqual(self.offered("st"), ["stop"])
+        self.assertEqual(self.offered("stop", "--"), ["--help", "--journal", "--verbose"])
+        self.assertEqual(self.offered("b"), ["balance", "bill"])
+        for word in ("bill", "doubtful"):
+            self.assertEqual(self.offered(word, "--"), ["--config", "--help", "--journal", "--verbose"])
+        self.assertEqual(self.offered("audit", "--"), ["--config", "--help", "--report", "--verbose"])
+        self.assertEqual(self.offered("topup", "--"), ["--help", "--ledger", "--ref", "--verbose"])
+        self.assertEqual(self.offered("balance", "--"), ["--help", "--ledger", "--verbose"])
+        self.assertEqual(self.offered("topup", "--ref", ""), [])
 
 
 if __name__ == "__main__":

@@ -91,6 +91,17 @@ class Plots(unittest.TestCase):
         trial = text.replace("journal", "trial", 1)
         self.assertEqual(plot.requests(self.written(trial)), plot.requests(self.written(text, "other")))
 
+    def test_rounds_have_their_own_numbers(self):
+        text = journal(20)
+        again = f"{text}round,{START + 200},2,1,1\n" + text.removeprefix(HEAD)
+        once, twice = plot.requests(self.written(text)), plot.requests(self.written(again, "other"))
+        self.assertEqual(twice, once * 2)
+
+    def test_a_journal_of_the_other_kind(self):
+        text = journal(20)
+        other = text.replace("journal,1," + "ab" * 32, "journal,2,3,0,1,1", 1)
+        self.assertEqual(plot.requests(self.written(other)), plot.requests(self.written(text, "other")))
+
     def test_faults_have_name_and_line(self):
         cases = {
             "sent,1,0,1,0,1\n": ":1: no note",
@@ -98,7 +109,9 @@ class Plots(unittest.TestCase):
             HEAD + "what,1\n": ":2: no note",
             HEAD + HEAD: ":2: no note",
             HEAD + HEAD.replace("journal", "trial"): ":2: no note",
-            HEAD.replace(",1,", ",2,", 1): ":1: a journal of the kind 2",
+            HEAD.replace(",1,", ",3,", 1): ":1: a journal of the kind 3",
+            HEAD.replace(",1,", ",2,", 1): ":1: no note",
+            "journal\n": ":1: no note",
             HEAD + "begun,x,1\n": ":2: 'x' is no time",
             HEAD + "heard,1,0,1,0,0,\n": "heard of a request that was not sent: worker 0, number 1",
         }

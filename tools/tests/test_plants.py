@@ -76,18 +76,28 @@ class Answers(unittest.TestCase):
         self.assertEqual(plants.without_answer(ANSWERS, "returns-clause"), ANSWERS)
 
     def test_those_that_no_longer_fit_go(self):
-        place = ("src/book.rt", "keep", 1, 9)
+        place = ("src/book.rt", "keep", 1, 9, "Book")
         self.assertEqual(self.cut(place, "returns"), {self.file: plants.without_answer(ANSWERS, "returns")})
         self.assertNotIn("pub ", self.cut(place, "returns", "returns-clause-long")[self.file])
         self.assertEqual(self.cut(place), {})
 
     def test_those_of_other_functions_stay(self):
-        self.assertEqual(self.cut(("src/book.rt", "drop", 1, 9), "returns"), {})
-        self.assertEqual(self.cut(("src/share.rt", "keep", 1, 9), "returns"), {})
+        self.assertEqual(self.cut(("src/book.rt", "drop", 1, 9, "Book"), "returns"), {})
+        self.assertEqual(self.cut(("src/book.rt", "keep", 1, 9, ""), "returns"), {})
+        self.assertEqual(self.cut(("src/share.rt", "keep", 1, 9, "Share"), "returns"), {})
 
     def test_a_function_and_a_method(self):
-        for path in ("src/book/Book.rt", "src/book.rt"):
-            self.assertIn(self.file, self.cut((path, "keep", 1, 9), "returns"))
+        for place in (("src/book/Book.rt", "keep", 1, 9, ""), ("src/book.rt", "keep", 1, 9, "Book"), ("src/keeping.rt", "keep", 1, 9, "Book")):
+            self.assertIn(self.file, self.cut(place, "returns"))
+
+    def test_the_type_of_a_method(self):
+        heads = {
+            "impl Book ": "Book",
+            "impl<N: BookName + LogName, F: Fn(u8) -> u8> Book<'_, N, F> ": "Book",
+            "impl<W: Write> io::Write for &mut files::Kept<W> where W: From<u8> ": "KeptWrite",
+            "pub fn keep() -> u32 ": "",
+        }
+        self.assertEqual({head: plants.type_of(head) for head in heads}, heads)
 
 
 SOURCE = """pub fn keep() -> u32 {
