@@ -1,5 +1,5 @@
 -- A book with one share: what its rows have beside free credits is in that share.
-use Rattle.std.proofs.Common.{◌≡◌, ℕ, zero, suc, ◌<◌, ◌≤◌, List, [], ◌∷◌, length, map, set, Some, refl, sym, ap, ◌∙◌, subst, arith, length-set}
+use Rattle.std.proofs.Common.{◌≡◌, Bool, true, false, ℕ, zero, suc, ◌<◌, ◌≤◌, List, [], ◌∷◌, length, map, set, Some, refl, sym, ap, ◌∙◌, subst, arith, length-set}
 use Rattle.std.specs.Prelude.{slice_get, slice_index_or}
 use Rattle.std.proofs.lemmas.List.{get_or_read, get_or-map, get_or-set_same, get_or-set_other, length-map}
 use native.Mathlib.Decide.{ℕ_discrete}
@@ -13,7 +13,7 @@ use Rattle.sms_book.specs.declared.money.Move.TheVariants.{Reserve, Charge, Give
 use Rattle.sms_book.specs.declared.rule.Portion.{Portion}
 use Rattle.sms_book.specs.declared.rule.Entry.{Entry}
 use Rattle.sms_book.specs.declared.rule.View.{View}
-use Rattle.sms_book.specs.Alone.{IsOfOne, AreOpened, IsOfTill, TillFirst, opening_at}
+use Rattle.sms_book.specs.Alone.{IsOfOne, IsOpened, AreOpened, IsOfTill, TillFirst, opening_at}
 use Rattle.sms_book.specs.Money.{moved_row}
 use Rattle.sms_book.specs.Name.{BookId}
 use Rattle.sms_book.specs.Openings.{opening_row}
@@ -23,17 +23,13 @@ use Rattle.sms_book.specs.Standing.{BookStands, ShareStands}
 use Rattle.sms_book.specs.Sums.{total, AddUp, IsTotal, IsSmall}
 use Rattle.sms_book.proofs.Turns.{row_total, worker_at}
 
--- a row that changes has as many top-ups as before, or more
-opened_set : (opening : List ℕ) (rows : List Row) (account : ℕ) (r : Row) → account < length rows → (row_at rows account).topped ≤ r.topped → AreOpened opening rows → AreOpened opening (set rows account r)
-opened_set opening rows account r within more all i bound = by_place (ℕ_discrete i account)
+-- a row that changes has as many top-ups as its account began with, or more, and in a sealed book as many
+opened_set : (sealed : Bool) (opening : List ℕ) (rows : List Row) (account : ℕ) (r : Row) → account < length rows → (IsOpened sealed (topped_at opening account) (row_at rows account) → IsOpened sealed (topped_at opening account) r) → AreOpened sealed opening rows
+    → AreOpened sealed opening (set rows account r)
+opened_set sealed opening rows account r within keeps all i bound = by_place (ℕ_discrete i account)
   where
-    by_place : Dec (i ≡ account) → topped_at opening i ≤ (row_at (set rows account r) i).topped
-    by_place (yes is) =
-        let here : row_at (set rows account r) i ≡ r = ap (row_at (set rows account r)) is ∙ get_or-set_same rows account r no_row within in
-        let now = ap (λ (x : Row). x.topped) here in
-        let was = ap (λ j. (row_at rows j).topped) is in
-        let low = all i (let l = length-set rows account r in omega arith) in
-        omega arith
+    by_place : Dec (i ≡ account) → IsOpened sealed (topped_at opening i) (row_at (set rows account r) i)
+    by_place (yes is) = subst (λ (j : ℕ). IsOpened sealed (topped_at opening j) (row_at (set rows account r) j)) (sym is) (rw (get_or-set_same rows account r no_row within) (keeps (all account within)))
     by_place (no ne) = rw (get_or-set_other rows account i r no_row ne) (all i (let l = length-set rows account r in omega arith))
 
 turned_topped : (what : Move) (n : ℕ) (r : Row) → (moved_row what n r).topped ≡ r.topped
@@ -41,27 +37,31 @@ turned_topped Reserve n r = refl
 turned_topped Charge n r = refl
 turned_topped GiveBack n r = refl
 
+-- a row with as many top-ups as another
+as_many : (sealed : Bool) (opening : ℕ) (r s : Row) → r.topped ≡ s.topped → IsOpened sealed opening r → IsOpened sealed opening s
+as_many sealed opening r s same h = record { least = subst (λ (n : ℕ). opening ≤ n) same h.least; most = λ closed. subst (λ (n : ℕ). n ≤ opening) same (h.most closed) }
+
 pub opened_turned : {name : BookId} {table seat : TableId} {vs : List View} {w : ℕ} {rows : List Row} (i : BookStands name table seat vs w rows) (account : ℕ) (what : Move) (n : ℕ) (r : Row) → account < length rows → r ≡ slice_index_or rows account r
-    → AreOpened name.opening (set rows account (moved_row what n r))
+    → AreOpened name.sealed name.opening (set rows account (moved_row what n r))
 opened_turned {name = name} {rows = rows} i account what n r within is-r =
     let row : r ≡ row_at rows account = get_or_read rows account r within is-r no_row in
-    let same = turned_topped what n r in
-    let was = ap (λ (x : Row). x.topped) row in
-    opened_set name.opening rows account (moved_row what n r) within (omega arith) i.opened
+    let topped : (row_at rows account).topped ≡ (moved_row what n r).topped = ap (λ (x : Row). x.topped) (sym row) ∙ sym (turned_topped what n r) in
+    opened_set name.sealed name.opening rows account (moved_row what n r) within (as_many name.sealed (topped_at name.opening account) (row_at rows account) (moved_row what n r) topped) i.opened
 
-pub opened_topped : {name : BookId} {table seat : TableId} {vs : List View} {w : ℕ} {rows : List Row} (i : BookStands name table seat vs w rows) (account n : ℕ) (r : Row) → account < length rows → r ≡ slice_index_or rows account r
-    → AreOpened name.opening (set rows account (row_topped_up n r))
-opened_topped {name = name} {rows = rows} i account n r within is-r =
+-- more top-ups, in a book that isn't sealed
+pub opened_topped : {name : BookId} {table seat : TableId} {vs : List View} {w : ℕ} {rows : List Row} (i : BookStands name table seat vs w rows) (account n : ℕ) (r : Row) → name.sealed ≡ false → account < length rows → r ≡ slice_index_or rows account r
+    → AreOpened name.sealed name.opening (set rows account (row_topped_up n r))
+opened_topped {name = name} {rows = rows} i account n r unsealed within is-r =
     let row : r ≡ row_at rows account = get_or_read rows account r within is-r no_row in
     let was = ap (λ (x : Row). x.topped) row in
-    opened_set name.opening rows account (row_topped_up n r) within (omega arith) i.opened
+    opened_set name.sealed name.opening rows account (row_topped_up n r) within (λ h. record { least = (let low = h.least in omega arith); most = λ closed. absurd (cc) }) i.opened
 
-pub opened-opening : (credits : List ℕ) → AreOpened credits (map opening_row credits)
-opened-opening credits i below =
+pub opened-opening : (sealed : Bool) (credits : List ℕ) → AreOpened sealed credits (map opening_row credits)
+opened-opening sealed credits i below =
     let low : i < length credits = let l = length-map credits opening_row in omega arith in
     let row : row_at (map opening_row credits) i ≡ opening_row (topped_at credits i) = get_or-map opening_row credits i 0 no_row low in
     let topped = ap (λ (x : Row). x.topped) row in
-    omega arith
+    record { least = omega arith; most = λ closed. omega arith }
 
 pub till_has : (topped : List ℕ) (i : ℕ) → IsOfTill (portion_at (map of_till topped) i)
 till_has [] i = record { reserved = refl; charged = refl; returned = refl }
@@ -103,7 +103,7 @@ seen_one {name = name} {rows = rows} {a = a} i s account r entry sums within is-
     let was : IsTotal (of_row (row_at rows account)) account i.entries = subst (λ (p : Portion). IsTotal p account i.entries) (row_total rows account within) (sums account) in
     let two : length i.entries ≡ 2 = (let l = i.long in omega arith) in
     let law : IsBalanced r × IsSmall r = rw row (i.sound account within) in
-    let opened : topped_at name.opening account ≤ (row_at rows account).topped = i.opened account within in
+    let opened : topped_at name.opening account ≤ (row_at rows account).topped = (i.opened account within).least in
     let topped = ap (λ (x : Row). x.topped) row in
     let sum = λ (f : Portion → ℕ) (none : (p : Portion) → IsOfTill p → f p ≡ 0). one_total f account i.entries s.number (map of_worker a) two s.worker entry i.till none ∙ ap f at in
     let reserved : r.reserved ≡ (amounts_at a account).reserved = ap (λ (x : Row). x.reserved) row ∙ was.reserved ∙ sum (λ p. p.reserved) (λ p t. t.reserved) in

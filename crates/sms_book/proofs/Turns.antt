@@ -1,5 +1,5 @@
 -- What a call does to a row and to what its caller has of the account, where both are known.
-use Rattle.std.proofs.Common.{◌≡◌, ◌≢◌, ℕ, zero, suc, ◌+◌, ◌<◌, ◌≤◌, List, [], ◌∷◌, length, set, Some, refl, arith, sym, ◌∙◌, ap, subst}
+use Rattle.std.proofs.Common.{◌≡◌, ◌≢◌, Bool, ℕ, zero, suc, ◌+◌, ◌<◌, ◌≤◌, List, [], ◌∷◌, length, set, Some, refl, arith, sym, ◌∙◌, ap, subst}
 use Rattle.std.specs.Prelude.{slice_get, slice_index_or, map}
 use Rattle.std.proofs.lemmas.List.{get_or_read, get_or-map, map-set, length-map}
 use Rattle.sms_core.specs.declared.row.Row.{Row}
@@ -149,7 +149,7 @@ pub record TopsUp (rows : List Row) (t : List ℕ) (account n : ℕ) (r : Row) (
   pub moves : MoveBy (map of_till t) (map of_till (set t account (h + n))) (map of_row rows) (map of_row (set rows account (row_topped_up n r)))
 
 -- a top-up, where the book's entry of the till is known
-pub topped : {name : BookId} {table seat other : TableId} {vs ws : List View} {w : ℕ} {rows : List Row} {t : List ℕ} (i : BookStands name table seat vs w rows) (s : TillStands name other ws t)
+pub topped : {sealed : Bool} {name : BookId} {table seat other : TableId} {vs ws : List View} {w : ℕ} {rows : List Row} {t : List ℕ} (i : BookStands name table seat vs w rows) (s : TillStands sealed name other ws t)
     (account n : ℕ) (r : Row) (h : ℕ) → slice_get i.entries 0 ≡ Some (away (map of_till t)) → AddUp (map of_row rows) i.entries
     → account < length rows → r ≡ slice_index_or rows account r → h ≡ slice_index_or t account h → (row_at rows account).topped + n ≤ most_topped
     → TopsUp rows t account n r h

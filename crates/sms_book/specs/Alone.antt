@@ -1,5 +1,5 @@
 -- What is known of a book with one share: all that its rows have beside free credits is in that share.
-use Rattle.std.specs.Prelude.{◌≡◌, ℕ, ◌+◌, ◌<◌, ◌≤◌, List, [], ◌∷◌, length}
+use Rattle.std.specs.Prelude.{◌≡◌, ℕ, ◌+◌, ◌<◌, ◌≤◌, Bool, List, [], ◌∷◌, length, true}
 use Rattle.sms_core.specs.declared.row.Row.{Row}
 use Rattle.sms_core.specs.Limits.{most_topped}
 use Rattle.sms_book.specs.declared.amounts.Amounts.{Amounts}
@@ -20,9 +20,14 @@ pub record IsOfOne (opening : ℕ) (a : Amounts) (r : Row) : Type 0 where
   pub free : opening ≤ r.free + a.reserved + a.charged
   pub small : opening ≤ most_topped
 
--- each row's top-ups are at least what its account began with
-abbrev pub AreOpened : List ℕ → List Row → Type 0
-AreOpened opening rows = (i : ℕ) → i < length rows → topped_at opening i ≤ (row_at rows i).topped
+-- a row of an account that began with so many credits: its top-ups are at least these, and in a sealed book no more
+pub record IsOpened (sealed : Bool) (opening : ℕ) (r : Row) : Type 0 where
+  pub least : opening ≤ r.topped
+  pub most : sealed ≡ true → r.topped ≤ opening
+
+-- each row's top-ups are at least what its account began with, and in a sealed book no more
+abbrev pub AreOpened : Bool → List ℕ → List Row → Type 0
+AreOpened sealed opening rows = (i : ℕ) → i < length rows → IsOpened sealed (topped_at opening i) (row_at rows i)
 
 -- the till reserves, charges and returns nothing
 pub record IsOfTill (p : Portion) : Type 0 where

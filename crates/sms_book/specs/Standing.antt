@@ -1,5 +1,5 @@
 -- How a book, its till, its shares and a blank stand on the book's table: what each of these values keeps.
-use Rattle.std.specs.Prelude.{◌≡◌, ℕ, ◌+◌, ◌<◌, ◌≤◌, List, [], ◌∷◌, length, map}
+use Rattle.std.specs.Prelude.{◌≡◌, ℕ, ◌+◌, ◌<◌, ◌≤◌, Bool, List, [], ◌∷◌, length, map}
 use Rattle.atomic_table.specs.Seated.{TableId}
 use Rattle.sms_core.specs.declared.row.Row.{Row}
 use Rattle.sms_book.specs.declared.amounts.Amounts.{Amounts}
@@ -23,8 +23,8 @@ pub record BookStands (name : BookId) (table seat : TableId) (views : List View)
   pub workers_are : workers ≡ name.workers
   -- each row balances, within its bounds
   pub sound : AreSound rows
-  -- no row has fewer top-ups than it opened with
-  pub opened : AreOpened name.opening rows
+  -- no row has fewer top-ups than it opened with, nor more where the book is sealed
+  pub opened : AreOpened name.sealed name.opening rows
   -- the seat's totals are the rows', and each number is away
   pub entries : List Entry
   pub view : views ≡ Book entries (map of_row rows) ∷ []
@@ -33,8 +33,9 @@ pub record BookStands (name : BookId) (table seat : TableId) (views : List View)
   -- the first entry is the till's
   pub till : TillFirst entries
 
--- the till: its seat holds the number 0, with its top-ups
-pub record TillStands (name : BookId) (seat : TableId) (views : List View) (topped : List ℕ) : Type 0 where
+-- the till of a sealed book, or of one that isn't: its seat holds the number 0, with its top-ups
+pub record TillStands (sealed : Bool) (name : BookId) (seat : TableId) (views : List View) (topped : List ℕ) : Type 0 where
+  pub kind : name.sealed ≡ sealed
   pub seat_is : seat ≡ name.table
   pub accounts : length topped ≡ name.accounts
   pub view : views ≡ Holder 0 (map of_till topped) ∷ []

@@ -5,6 +5,7 @@ ghost use Rattle.sms_book.specs.declared.rule.View.TheVariants.{Book as BookView
 ghost use Rattle.sms_book.specs.declared.rule.Entry.{Entry};
 ghost use Rattle.sms_book.specs.declared.rule.Portion.{Portion};
 ghost use Rattle.sms_book.specs.Limits.{most_workers};
+ghost use Rattle.sms_book.specs.Name.{as_sealed};
 ghost use Rattle.sms_book.specs.Portions.{no_amounts, nothing};
 ghost use Rattle.sms_book.specs.Shares.{opening_shares};
 ghost use Rattle.sms_book.specs.Rule.{at_home, away};
@@ -17,7 +18,7 @@ use crate::room::{Room, room_for};
 use crate::rule::{BookRule, Opened, View};
 use crate::share::Shares;
 use crate::steps::{BookTable, deal};
-use crate::till::Till;
+use crate::till::{Sealed, Sealing, Till};
 use atomic_table::{Badge, Table};
 use std::alloc::{AllocError, Global};
 use std::marker::{Brand, Model, PhantomData};
@@ -34,13 +35,13 @@ pub struct Blank {
 }
 
 impl Model for Blank {
-    ghost use Rattle.std.specs.Prelude.{length};
+    ghost use Rattle.std.specs.Prelude.{false, length};
     ghost use Rattle.sms_book.specs.Name.{Unopened};
     ghost use Rattle.sms_book.specs.Standing.{BlankStands};
 
     ghost Value = { Unopened };
 
-    ghost view = { λ b. record { book = record { table = b.table.shared.table_id; accounts = length b.credits.items; workers = b.workers; opening = b.credits.items }; credits = b.credits.items } };
+    ghost view = { λ b. record { book = record { table = b.table.shared.table_id; accounts = length b.credits.items; workers = b.workers; opening = b.credits.items; sealed = false }; credits = b.credits.items } };
 
     ghost invariant = { λ b. BlankStands b.table.shared.table_id b.seat.table_id b.seat.views b.workers b.credits.items };
 }
@@ -101,9 +102,30 @@ impl Blank {
         }
     }
 
+    /// The same, with a book that is sealed: each account keeps the top-ups that it begins with.
+    pub fn open_sealed<N: BookName>(
+        self,
+        alloc: Global,
+    ) -> Result<(Mutex<Book<N>>, Till<N, Sealed>, Vec<Shares<N>>), (AllocError, Blank)>
+        requires { as_sealed self.book ≡ N.book }
+        ensures till { IfOk result (λ o. o.1 ≡ self.credits) }
+        ensures shares { IfOk result (λ o. o.2.items ≡ opening_shares self.book.accounts self.book.workers) }
+        ensures back { IfErr result (λ e. e.1 ≡ self) }
+    {
+        let room = match room_for(alloc, self.credits.as_slice(), self.workers) {
+            Ok(room) => room,
+            Err(refused) => return Err((refused, self)),
+        };
+        let (book, till, shares) = self.deal_out(room);
+        Ok((Mutex::new(book), till, shares))
+    }
+
     /// Deals the numbers out: the till's first, then one to each worker.
-    fn deal_out<N: BookName>(self, room: Room<N>) -> (Book<N>, Till<N>, Vec<Shares<N>>)
-        requires name { self.book ≡ N.book }
+    fn deal_out<N: BookName, S: Sealing>(
+        self,
+        room: Room<N>,
+    ) -> (Book<N>, Till<N, S>, Vec<Shares<N>>)
+        requires name { record self.book { sealed = S.sealed } ≡ N.book }
         requires rows { room.rows.items ≡ map opening_row self.credits }
         requires amounts { map (λ a. a.items) room.amounts.items ≡ replicate self.book.workers (replicate self.book.accounts no_amounts) }
         requires shares { (room.shares.items ≡ []) × (self.book.workers ≤ vec_capacity room.shares) }
@@ -121,6 +143,7 @@ impl Blank {
             topped: credits,
             seat: deal::<Brand>(&table.shared, &mut seat, 0),
             of: PhantomData,
+            sealing: PhantomData,
         };
         let shares = deal_shares(&table.shared, &mut seat, room.amounts, room.shares);
         let book = Book {

@@ -1,12 +1,12 @@
 //! The book: each account's row, and the calls that move its credits.
 
-ghost use Rattle.std.specs.Prelude.{◌≡◌, ◌≢◌, ℕ, ◌+◌, ◌-◌, ◌<◌, ◌≤◌, ◌↔◌, length, slice_set, OnOk, OnErr, IsErrOf, IsOk, IsSome, IfSome};
+ghost use Rattle.std.specs.Prelude.{◌≡◌, ◌≢◌, ℕ, ◌+◌, ◌-◌, ◌<◌, ◌≤◌, ◌↔◌, length, slice_set, true, OnOk, OnErr, IsErrOf, IsOk, IsSome, IfSome};
 ghost use Rattle.sms_core.specs.Limits.{most_topped};
 ghost use Rattle.sms_core.specs.RowMoves.{row_topped_up, row_reserved, row_charged, row_given_back};
 ghost use Rattle.sms_core.specs.Rows.{IsBalanced};
 ghost use Rattle.sms_book.specs.Limits.{most_returned};
 ghost use Rattle.sms_book.specs.Sums.{IsSmall};
-ghost use Rattle.sms_book.specs.Alone.{IsOfOne, opening_at};
+ghost use Rattle.sms_book.specs.Alone.{IsOfOne, IsOpened, opening_at};
 ghost use Rattle.sms_book.specs.Portions.{amounts_at, topped_at, row_at};
 ghost use Rattle.sms_book.specs.Shares.{changed};
 ghost use Rattle.sms_book.specs.Money.{reserved_more, charged_more, returned_more, CanMove, moved_row, moved_amounts};
@@ -87,6 +87,7 @@ impl<N: BookName> Book<N> {
         requires { account < length self.now }
         ensures is { result ≡ row_at self.now account }
         ensures sound { IsBalanced result × IsSmall result }
+        ensures opened { IsOpened N.book.sealed (opening_at N.book account) result }
     {
         self.rows[account]
     }
@@ -127,7 +128,8 @@ impl<N: BookName> Book<N> {
     /// Reserves so many free credits of an account for the share. `NoAccount` where there is no such
     /// account, then `NoCredit` where fewer are free, then `AmountTooLarge` where what was ever
     /// returned and what is reserved would pass 2^60. Where the book has one share, a refusal tells that
-    /// all that isn't free is in that share.
+    /// all that isn't free is in that share. Of a sealed book no account ever reserves more at once than
+    /// it began with.
     pub fn reserve(
         &mut self,
         share: &mut Shares<N>,
@@ -142,6 +144,7 @@ impl<N: BookName> Book<N> {
         ensures share { OnOk result (share.new ≡ changed share.old account (reserved_more n)) }
         ensures refused { OnErr result ((self.new ≡ self.old) × (share.new ≡ share.old)) }
         ensures alone { OnErr result (N.book.workers ≡ 1 → account < length self.old → IsOfOne (opening_at N.book account) (amounts_at share.old.amounts account) (row_at self.old account)) }
+        ensures covered { OnOk result (N.book.sealed ≡ true → n ≤ opening_at N.book account) }
         ensures exists { length share.old.amounts ≡ length self.old }
     {
         let accounts = self.accounts();

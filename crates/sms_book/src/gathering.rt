@@ -12,16 +12,16 @@ use crate::name::BookName;
 use crate::share::Shares;
 use crate::statement::Statement;
 use crate::steps::keep;
-use crate::till::Till;
+use crate::till::{Sealing, Till};
 
 /// The statement of a book whose till and shares all come back: each row balances, its top-ups are
 /// the till's, and its other amounts are the sums over the shares, in whatever order they come.
 /// Where a share isn't there, all that was handed in comes back.
-pub fn gather<N: BookName>(
+pub fn gather<N: BookName, S: Sealing>(
     book: Book<N>,
-    till: Till<N>,
+    till: Till<N, S>,
     shares: Vec<Shares<N>>,
-) -> Result<Statement, (GatherFault, Book<N>, Till<N>, Vec<Shares<N>>)>
+) -> Result<Statement, (GatherFault, Book<N>, Till<N, S>, Vec<Shares<N>>)>
     ensures rows { IfOk result (λ s. s ≡ book) }
     ensures sums { IfOk result (λ s. (i : ℕ) → i < length s → IsSumOf (row_at s i) i till shares.items) }
     ensures length { IfOk result (λ s. length s ≡ N.book.accounts) }

@@ -2,8 +2,8 @@
 //!
 //! `open_book` makes a `Blank`, and `Blank::open` the book under its lock, the cashier's till and a
 //! share for each worker. Each worker reserves, charges and gives back through its own share;
-//! `gather` takes every share back and tells the rows. A `Tariff` says what a segment costs, by the
-//! prefix of its destination.
+//! `gather` takes every share back and tells the rows. A book that `Blank::open_sealed` opens is
+//! never topped up. A `Tariff` says what a segment costs, by the prefix of its destination.
 
 #![tactic(auto)]
 
@@ -39,4 +39,4 @@ pub use rate::Rate;
 pub use share::Shares;
 pub use statement::Statement;
 pub use tariff::{Tariff, without_plus};
-pub use till::Till;
+pub use till::{Sealed, Sealing, Till, Unsealed};

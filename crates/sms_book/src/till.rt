@@ -7,16 +7,45 @@ use crate::rule::View;
 use atomic_table::Badge;
 use std::marker::{Model, PhantomData};
 
-/// The cashier's share of the book of that name, through which accounts are topped up. Contracts
-/// see the credits that went through it, by account, the opening credits among them.
+/// Whether a book is sealed.
+pub trait Sealing {
+    ghost use Rattle.std.specs.Prelude.{Bool};
+
+    ghost sealed: { Bool };
+}
+
+/// A book whose accounts may be topped up.
 #[derive(Drop)]
-pub struct Till<N: BookName> {
+pub struct Unsealed;
+
+impl Sealing for Unsealed {
+    ghost use Rattle.std.specs.Prelude.{false};
+
+    ghost sealed = { false };
+}
+
+/// A book whose accounts keep the top-ups that they begin with: its till tops nothing up.
+#[derive(Drop)]
+pub struct Sealed;
+
+impl Sealing for Sealed {
+    ghost use Rattle.std.specs.Prelude.{true};
+
+    ghost sealed = { true };
+}
+
+/// The cashier's share of the book of that name, through which accounts are topped up; that of a
+/// sealed book tops nothing up, and `gather` alone takes it. Contracts see the credits that went
+/// through it, by account, the opening credits among them.
+#[derive(Drop)]
+pub struct Till<N: BookName, S: Sealing = Unsealed> {
     pub(crate) topped: Vec<u64>,
     pub(crate) seat: Badge<View>,
     pub(crate) of: PhantomData<N>,
+    pub(crate) sealing: PhantomData<S>,
 }
 
-impl<N: BookName> Model for Till<N> {
+impl<N: BookName, S: Sealing> Model for Till<N, S> {
     ghost use Rattle.std.specs.Prelude.{ℕ, List};
     ghost use Rattle.sms_book.specs.Standing.{TillStands};
 
@@ -24,10 +53,10 @@ impl<N: BookName> Model for Till<N> {
 
     ghost view = { λ t. t.topped.items };
 
-    ghost invariant = { λ t. TillStands N.book t.seat.table_id t.seat.views t.topped.items };
+    ghost invariant = { λ t. TillStands S.sealed N.book t.seat.table_id t.seat.views t.topped.items };
 }
 
-impl<N: BookName> Till<N> {
+impl<N: BookName, S: Sealing> Till<N, S> {
     /// How many accounts the book has.
     #[inline(always)]
     pub(crate) fn accounts(&self) -> usize

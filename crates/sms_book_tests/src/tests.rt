@@ -1,6 +1,7 @@
 //! Money that moves, gathered and compared.
 
 ghost use Rattle.std.specs.Prelude.{◌≡◌};
+ghost use Rattle.sms_book.specs.Name.{as_sealed};
 
 use self::calls::{
     charge_one, gathered, give_back, last_share, not_gathered, only_row, opened, opened_at_last,
@@ -101,6 +102,30 @@ fn moves<N: BookName>(rt: &impl Abort, alloc: Global, blank: Blank)
 fn money_moves(rt: HostRuntime) {
     let blank = blank_of(&rt, rt.alloc(), 0, 1);
     moves::<Brand>(&rt, rt.alloc(), blank);
+}
+
+// A sealed book has 5 credits and no more: 6 can't be reserved, and it is gathered as any other.
+fn moves_sealed<N: BookName>(rt: &impl Abort, alloc: Global, blank: Blank)
+    requires { as_sealed blank.book ≡ N.book }
+{
+    let Ok((book, till, mut shares)) = blank.open_sealed::<N>(alloc) else {
+        panic!(rt; "no book")
+    };
+    let mut book = book.into_inner();
+    let mut share = last_share(rt, &mut shares);
+    let few = BookError::NoCredit { free: 5, needed: 6 };
+    want_reserve(rt, &mut book, &mut share, 0, 6, Err(few));
+    want_reserve(rt, &mut book, &mut share, 0, 2, Ok(()));
+    charge_one(rt, &mut book, &mut share, 2);
+    give_back(rt, &mut book, &mut share, 1, 1);
+    had(rt, shares.push(share));
+    same(rt, only_row(rt, book, till, shares), row_of(5, 4, 0, 1, 1));
+}
+
+#[test]
+fn sealed_money_moves(rt: HostRuntime) {
+    let blank = blank_of(&rt, rt.alloc(), 5, 1);
+    moves_sealed::<Brand>(&rt, rt.alloc(), blank);
 }
 
 // A book of these accounts for so many workers is refused so, or opens.

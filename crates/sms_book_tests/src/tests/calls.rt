@@ -3,17 +3,19 @@
 ghost use Rattle.std.specs.Prelude.{◌≡◌};
 
 use super::{had, same};
-use sms_book::{Blank, Book, BookError, BookName, GatherFault, Shares, Statement, Till, gather};
+use sms_book::{
+    Blank, Book, BookError, BookName, GatherFault, Sealing, Shares, Statement, Till, gather,
+};
 use sms_core::Row;
 use std::alloc::Global;
 use std::process::Abort;
 use std::sync::Mutex;
 
 // The statement of a book whose till and shares all come back.
-pub(crate) fn gathered<N: BookName>(
+pub(crate) fn gathered<N: BookName, S: Sealing>(
     rt: &impl Abort,
     book: Book<N>,
-    till: Till<N>,
+    till: Till<N, S>,
     shares: Vec<Shares<N>>,
 ) -> Statement {
     match gather(book, till, shares) {
@@ -36,10 +38,10 @@ fn row_alone(rt: &impl Abort, statement: Statement) -> Row {
 }
 
 // The only row of a book whose till and shares all come back.
-pub(crate) fn only_row<N: BookName>(
+pub(crate) fn only_row<N: BookName, S: Sealing>(
     rt: &impl Abort,
     book: Book<N>,
-    till: Till<N>,
+    till: Till<N, S>,
     shares: Vec<Shares<N>>,
 ) -> Row {
     row_alone(rt, gathered(rt, book, till, shares))

@@ -29,7 +29,7 @@ pub deal_shares-shares-requires-clause-book : goal.deal_shares-shares-requires-c
 deal_shares-shares-requires-clause-book g c =
     let s = c.self.inside in
     let ts = map of_till s.credits.items in
-    let name = ap (λ (u : Unopened). u.book) c.self.view_is ∙ c.requires.name in
+    let name = ap (λ (u : Unopened). record u.book { sealed = g.S.Sealing.sealed }) c.self.view_is ∙ c.requires.name in
     let book = c.deal.ensures.book (opening_entries s.credits.items s.workers) ts ts c.self.invariant.view refl in
     (away ts, ts, book ∙ ap (λ (b : BookId). Book (away ts ∷ replicate b.workers (at_home (replicate b.accounts nothing))) ts ∷ []) name)
 
@@ -38,7 +38,7 @@ invariant_of-book g c =
     let i = c.self.invariant in
     let s = c.self.inside in
     let ts = map of_till s.credits.items in
-    let name = ap (λ (u : Unopened). u.book) c.self.view_is ∙ c.requires.name in
+    let name = ap (λ (u : Unopened). record u.book { sealed = g.S.Sealing.sealed }) c.self.view_is ∙ c.requires.name in
     let w = g.N.BookName.book.workers in
     let out = away (replicate g.N.BookName.book.accounts nothing) in
     let rows : c.args.room.rows.items ≡ map opening_row s.credits.items = c.requires.rows ∙ ap (λ (u : Unopened). map opening_row u.credits) (sym c.self.view_is) in
@@ -51,7 +51,7 @@ invariant_of-book g c =
       accounts = ap length rows ∙ length-map s.credits.items opening_row ∙ ap (λ (b : BookId). b.accounts) name;
       workers_are = ap (λ (b : BookId). b.workers) name;
       sound = subst AreSound (sym rows) (sound-opening s.credits.items i.small);
-      opened = subst (λ (x : List ℕ × List Row). AreOpened x.0 x.1) (λ j. (ap (λ (b : BookId). b.opening) name j, sym rows j)) (opened-opening s.credits.items);
+      opened = subst (λ (x : BookId × List Row). AreOpened x.0.sealed x.0.opening x.1) (λ j. (name j, sym rows j)) (opened-opening g.S.Sealing.sealed s.credits.items);
       entries = es;
       view = c.deal_shares-shares.ensures.book (away ts) ts before ∙ ap (λ (x : List Portion). Book es x ∷ []) (totals-opening s.credits.items ∙ ap (map of_row) (sym rows));
       away = (refl, AllAway-replicate w (replicate g.N.BookName.book.accounts nothing));
@@ -64,8 +64,9 @@ invariant_of-till g c =
     let i = c.self.invariant in
     let s = c.self.inside in
     let ts = map of_till s.credits.items in
-    let name = ap (λ (u : Unopened). u.book) c.self.view_is ∙ c.requires.name in
+    let name = ap (λ (u : Unopened). record u.book { sealed = g.S.Sealing.sealed }) c.self.view_is ∙ c.requires.name in
     record {
+      kind = sym (ap (λ (b : BookId). b.sealed) name);
       seat_is = c.deal.ensures.table.1 ∙ i.seat_is ∙ ap (λ (b : BookId). b.table) name;
       accounts = ap (λ (b : BookId). b.accounts) name;
       view = c.deal.ensures.holder (opening_entries s.credits.items s.workers) ts ts i.view refl;

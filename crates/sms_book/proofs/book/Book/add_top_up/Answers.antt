@@ -49,7 +49,7 @@ invariant_of-self g c =
       accounts = length-set c.self.inside.rows.items c.args.account _ ∙ i.accounts;
       workers_are = i.workers_are;
       sound = t.sound;
-      opened = opened_topped i c.args.account c.args.n c.index-row.result.now (rw c.self.view_is c.requires.exists) c.index-row.ensures;
+      opened = opened_topped i c.args.account c.args.n c.index-row.result.now s.kind (rw c.self.view_is c.requires.exists) c.index-row.ensures;
       entries = es;
       view = book ∙ ap (λ (rows : List Row). Book es (map of_row rows) ∷ []) c.as_slice.ensures.value;
       away = AllAway-set i.entries 0 new i.away;
@@ -64,6 +64,7 @@ invariant_of-till g c =
     let lent = c.check_in.ensures.book i.entries _ 0 _ i.view s.view in
     let given = c.check_out.ensures.holder i.entries _ 0 _ lent in
     record {
+      kind = s.kind;
       seat_is = c.check_out.ensures.table.1 ∙ c.check_in.ensures.table ∙ i.seat_is;
       accounts = length-set c.till.inside.topped.items c.args.account _ ∙ s.accounts;
       view = rw (← c.as_slice-2.ensures.value) given;
