@@ -1,5 +1,5 @@
 -- A message that is begun.
-use Rattle.std.specs.Prelude.{◌≡◌, ℕ, zero, suc, ◌+◌, ◌<◌, ◌⊎◌, List, Option, None, Some, [], ◌∷◌, ◌++◌, length, string_bytes}
+use Rattle.std.specs.Prelude.{◌≡◌, ℕ, zero, suc, ◌+◌, ◌<◌, ◌⊎◌, true, List, Option, None, Some, [], ◌∷◌, ◌++◌, length, string_bytes}
 use Rattle.sms_core.specs.Rows.{reserved_of}
 use Rattle.sms_book.specs.Name.{BookId}
 use Rattle.sms_book.specs.Portions.{amounts_at}
@@ -23,7 +23,7 @@ use Rattle.sms_worker.specs.declared.steps.parts.NoParts.TheVariants as no
 use Rattle.sms_worker.specs.Reasons.{RestsOn}
 use Rattle.sms_message.specs.declared.ends.MessageResult.TheVariants.{Refused, Sent}
 use Rattle.sms_message.specs.declared.ends.Outcome.TheVariants.{Unanswered}
-use Rattle.sms_worker.specs.Credit.{LacksFor}
+use Rattle.sms_worker.specs.Credit.{IsCovered, LacksFor}
 use Rattle.sms_worker.specs.PendingState.{PendingState, data_in}
 use Rattle.sms_worker.specs.Tally.{TallyState}
 
@@ -76,5 +76,6 @@ pub record HasBegun (book : BookId) (rules : Rules) (m : Message) (permit : Opti
   pub closed : end.result ≡ Refused BindClosed → permit ≡ None
   pub if_none : permit ≡ None → end.result ≡ Refused BindClosed
   pub credit : end.result ≡ Refused NoCredit → LacksFor book rules old.share m
+  pub covered : book.sealed ≡ true → IsCovered book.opening rules m end
   -- for lack of memory it is refused only with evidence
   pub memory : end.result ≡ Refused OutOfMemory → RestsOn m.index OutOfMemory no_memory

@@ -60,7 +60,7 @@ pub record IsCause (turns : ℕ) (mark own : DownMark) (closure : Option Closure
   pub same : own ≡ mark
   pub cause : IsCauseAt turns own closure
 
--- a line that is told as seen down was seen so: all that see it down see this cause; turns that are told as over were taken, so many; and the gate
+-- a line that is reported as seen down was seen so: all that see it down see this cause; turns that are reported as over were taken, so many; and the gate
 -- refused one of these messages if it is told that it let no further one begin
 abbrev pub IsSeen : ℕ → DownMark → List Message → Option ClosedBy → Option DownSeen → Type 0
 IsSeen turns mark ms None seen = Unit {0}

@@ -1,5 +1,5 @@
 -- What one call of a worker did.
-use Rattle.std.specs.Prelude.{◌≡◌, ◌++◌, List, length, Option, None}
+use Rattle.std.specs.Prelude.{◌≡◌, ◌++◌, List, length, Option, None, true}
 use Rattle.std.specs.List.{AllZip}
 use Rattle.rtrb.specs.Ring.{received}
 use Rattle.sms_pdu.specs.declared.reply.Reply.{Reply}
@@ -13,7 +13,7 @@ use Rattle.sms_worker.specs.declared.entry.work.Worker.{Worker}
 use Rattle.sms_worker.specs.declared.entry.work.WorkerEnd.{WorkerEnd}
 use Rattle.sms_worker.specs.Apart.{NumbersApart, PlacesApart}
 use Rattle.sms_worker.specs.Closing.{IsSeen, IsShut, NoneIsClosed, StaysClosed}
-use Rattle.sms_worker.specs.Credit.{LackCredit}
+use Rattle.sms_worker.specs.Credit.{IsCovered, LackCredit}
 use Rattle.sms_worker.specs.EndOf.{IsEndOf}
 use Rattle.sms_worker.specs.ReasonsOf.{AllHaveReasons}
 use Rattle.sms_worker.specs.Frames.{frames_in}
@@ -50,6 +50,8 @@ pub record HasWorked {N : Type 0} (book : BookId) (start : Start) (end : WorkerE
   pub credits : Grew start.share.amounts end.shares.amounts start.messages end.ends.items
   -- where the book has no other share, a message lacks credit only where its account has too little
   pub lacking : LackCredit book start.rules start.messages end.ends.items end.shares
+  -- where the book is sealed, a message was begun only where its account was opened with what it costs
+  pub covered : book.sealed ≡ true → AllZip (IsCovered book.opening start.rules) start.messages end.ends.items
   -- the seat holds the slots that it held, of the same window
   pub slots : (end.seat.view.slots ≡ start.seat.view.slots) × (end.seat.window ≡ start.seat.window)
   -- the share is the same one's

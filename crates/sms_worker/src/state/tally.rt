@@ -1,6 +1,6 @@
 //! A worker's share of the book, together with the ends of its messages, of which it is the sums.
 
-ghost use Rattle.std.specs.Prelude.{◌≡◌, ℕ, ◌+◌, ◌*◌, ◌<◌, ◌≤◌, ◌↔◌, ◌++◌, ◌∷◌, [], IsTrue, false, Some, None, IfNone, IfSome, length, slice_get, slice_set, vec_capacity};
+ghost use Rattle.std.specs.Prelude.{◌≡◌, ℕ, ◌+◌, ◌*◌, ◌<◌, ◌≤◌, ◌↔◌, ◌++◌, ◌∷◌, [], IsTrue, false, true, Some, None, IfNone, IfSome, length, slice_get, slice_set, vec_capacity};
 ghost use Rattle.sms_book.specs.Alone.{opening_at};
 ghost use Rattle.sms_book.specs.Money.{reserved_more};
 ghost use Rattle.sms_book.specs.Portions.{amounts_at, row_at};
@@ -59,6 +59,7 @@ fn reserve_all<N: BookName>(
     ensures share { IsTrue result → shares.new ≡ changed shares.old account (reserved_more (parts * cost)) }
     ensures refused { result ≡ false → (book.new ≡ book.old) × (shares.new ≡ shares.old) }
     ensures short { result ≡ false → N.book.workers ≡ 1 → account < length shares.old.amounts → Lacks (opening_at N.book account) (amounts_at shares.old.amounts account) (parts * cost) }
+    ensures covered { IsTrue result → N.book.sealed ≡ true → parts * cost ≤ opening_at N.book account }
 {
     let credits = (parts as u64).saturating_mul(u64::from(cost));
     book.reserve(shares, account, credits).is_ok()
@@ -137,6 +138,7 @@ impl<N: BookName, C: WorkerStart> Tally<N, C> {
         ensures exact { IsTrue result ↔ CanReserve book.old account (length segments.items * cost) }
         ensures book { IsTrue result → book.new ≡ slice_set book.old account (row_reserved (length segments.items * cost) (row_at book.old account)) }
         ensures short { result ≡ false → N.book.workers ≡ 1 → Lacks (opening_at N.book account) (amounts_at self.old.share.amounts account) (length segments.items * cost) }
+        ensures covered { IsTrue result → N.book.sealed ≡ true → length segments.items * cost ≤ opening_at N.book account }
     {
         if !reserve_all(book, &mut self.shares, account, segments.len(), cost) {
             return false;

@@ -56,7 +56,7 @@ impl<'l, N: BookName + LogName, C: WorkerStart> Model for WorkerState<'l, N, C> 
     ghost use Rattle.sms_worker.specs.Closing.{Closes};
     ghost use Rattle.sms_worker.specs.Reasons.{HaveReasons};
     ghost use Rattle.sms_worker.specs.Rising.{InOrder};
-    ghost use Rattle.sms_worker.specs.Credit.{LackCredit};
+    ghost use Rattle.sms_worker.specs.Credit.{CreditStands};
 
     ghost Value = { RunState };
 
@@ -66,7 +66,7 @@ impl<'l, N: BookName + LogName, C: WorkerStart> Model for WorkerState<'l, N, C> 
       keeps : Keeps C.start r.messages.items r.tally.ends (map data_in r.pending.items) r.opened.items r.seat r.tally.share (received r.replies.value);
       handed : Handed C.start.requests r.requests C.start.messages r.tally.ends;
       closing : Closes (r.closed || r.stop) r.tally.ends;
-      credit : LackCredit N.book C.start.rules C.start.messages r.tally.ends r.tally.share;
+      credit : CreditStands N.book C.start.rules C.start.messages r.tally.ends r.tally.share;
       reasons : HaveReasons C.start.rules.policy.attempts C.start.messages r.closed r.reasons r.tally.ends;
       order : InOrder r.tally.ends r.next r.opened.items r.queues.all r.pending.items;
       ends_fit : vec_len r.messages ≤ r.tally.room;

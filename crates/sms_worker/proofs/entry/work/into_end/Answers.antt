@@ -1,12 +1,14 @@
 use Rattle.std.proofs.Common.{◌≡◌, [], length, ap, sym, subst, ◌∙◌}
 use Rattle.rtrb.specs.Ring.{received}
 use Rattle.sms_worker.specs.Apart.{PlacesApart}
+use Rattle.sms_worker.specs.Credit.{IsCovered}
 use Rattle.sms_worker.specs.RunState.{RunState}
 use Rattle.sms_worker.specs.Sweeps.{SettledTo}
 use Rattle.sms_worker.specs.Told.{AllTold}
 use Rattle.sms_worker.proofs.Apartness.{numbers_apart, places_apart}
 use Rattle.sms_worker.proofs.Changes.{drew_unused}
 use Rattle.sms_worker.proofs.Frames.{are_handed}
+use Rattle.sms_worker.proofs.Credit.{zip_of_each}
 use Rattle.sms_worker.proofs.EndsOf.{ends_of}
 use Rattle.sms_worker.proofs.Closing.{not_shut}
 use Rattle.sms_worker.proofs.ReasonsOf.{all_have}
@@ -42,7 +44,8 @@ returns-clause-worked g c =
       places = rw parts.ends (subst (λ h. PlacesApart h es) heard (places_apart start.rules (length start.received) got start.seat.view c.release_all.new.seat.view start.messages es i.keeps.shape.within drew i.keeps.ends));
       handed = rw parts.ends (are_handed _ _ start.messages es i.keeps.shape.within i.handed);
       credits = rw (parts.ends, parts.share) i.keeps.money;
-      lacking = rw (parts.ends, parts.share) i.credit;
+      lacking = rw (parts.ends, parts.share) i.credit.lacking;
+      covered = rw parts.ends (λ sealed. zip_of_each (IsCovered g.N.BookName.book.opening start.rules) start.messages es all (i.credit.covered sealed));
       slots = (c.release_all.ensures.slots start.seat.view.slots i.keeps.slots, c.release_all.ensures.window ∙ i.keeps.window);
       number = rw parts.share i.keeps.number;
       replies = (i.keeps.replies_more.0, sym heard ∙ i.keeps.replies_more.1);

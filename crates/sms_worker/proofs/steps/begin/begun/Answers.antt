@@ -14,7 +14,7 @@ use Rattle.sms_message.specs.Admission.{IsKnown}
 use Rattle.sms_message.specs.declared.ends.MessageRefusal.TheVariants.{NoCredit}
 use Rattle.sms_message.specs.declared.ends.MessageResult.TheVariants.{Refused}
 use Rattle.sms_worker.proofs.Beginnings.{closed_so, length-ready, reserved_ready, other_ready}
-use Rattle.sms_worker.proofs.Credit.{lacks_for}
+use Rattle.sms_worker.proofs.Credit.{covers_for, lacks_for}
 use Rattle.sms_worker.proofs.Reasoning.{rests_so}
 use Rattle.sms_worker.proofs.steps.begin.begun.Goals as goal
 
@@ -67,6 +67,7 @@ returns-clause-begun g c =
       closed = λ e. absurd (cc);
       if_none = λ none. let gone = c.prepare.ensures.none none in absurd (cc);
       credit = λ e. absurd (cc);
+      covered = λ sealed. covers_for g.N.BookName.book.opening c.args.rules.now m (end_sent m c.in-Ok.prepared.ends.items) a (length c.in-Ok.prepared.ends.items * c.in-Ok.prepared.cost) c.in-Some.is amount (c.admit.ensures.covered (search rules) sealed);
       memory = λ e. absurd (cc);
     }
 
@@ -82,6 +83,7 @@ returns-in-Err-clause-begun g c = record {
   closed = λ e. c.in-Err.ensures.closed (cc);
   if_none = λ none. ap (λ r. Refused r) (closed_so c.prepare.result c.in-Err.refusal c.in-Err.no_memory c.in-Err.is (c.prepare.ensures.none none));
   credit = λ e. absurd (c.in-Err.ensures.credit (cc));
+  covered = λ sealed segments a is acc. absurd (cc);
   memory = λ e. rests_so c.args.message.now.index c.in-Err.refusal c.in-Err.no_memory (cc) c.in-Err.ensures.memory;
 }
 
@@ -110,5 +112,6 @@ returns-then-not-admit-clause-begun g c =
       closed = λ e. absurd (cc);
       if_none = λ none. let gone = c.prepare.ensures.none none in absurd (cc);
       credit = λ _. lacks_for g.N.BookName.book c.args.rules.now old m a (length c.in-Ok.prepared.ends.items) c.in-Ok.prepared.cost c.in-Some.is (λ i. parts i * price i) (λ alone. c.admit.ensures.short (search rules) alone);
+      covered = λ sealed segments b is acc. absurd (cc);
       memory = λ e. absurd (cc);
     }

@@ -1,5 +1,6 @@
-use Rattle.std.proofs.Common.{◌≡◌, ◌↔◌, ◌<◌, ◌*◌, ◌++◌, ◌∷◌, [], length, Some, true, false, ap, sym, subst, rules, ◌∙◌}
+use Rattle.std.proofs.Common.{◌≡◌, ◌↔◌, ◌<◌, ◌≤◌, ◌*◌, ◌++◌, ◌∷◌, [], length, Some, true, false, ap, sym, subst, rules, ◌∙◌}
 use Rattle.std.specs.Prelude.{IsTrue, slice_get, slice_set}
+use Rattle.sms_book.specs.Alone.{opening_at}
 use Rattle.sms_book.specs.Money.{reserved_more}
 use Rattle.sms_book.specs.Portions.{row_at}
 use Rattle.sms_book.specs.Shares.{changed}
@@ -39,3 +40,8 @@ pub returns-clause-book : goal.returns-clause-book
 returns-clause-book g c on =
     let parts : c.len.result ≡ length c.args.segments.items = search rules in
     c.reserve_all.ensures.book (search rules) ∙ ap (λ k. slice_set c.args.book.now c.args.account (row_reserved (k * c.args.cost) (row_at c.args.book.now c.args.account))) parts
+
+pub returns-clause-covered : goal.returns-clause-covered
+returns-clause-covered g c on sealed =
+    let parts : c.len.result ≡ length c.args.segments.items = search rules in
+    subst (λ k. k * c.args.cost ≤ opening_at g.N.BookName.book c.args.account) parts (c.reserve_all.ensures.covered (search rules) sealed)

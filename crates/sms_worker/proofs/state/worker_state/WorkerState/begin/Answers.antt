@@ -60,7 +60,7 @@ invariant_of-self g c =
       handed = rw b.ends (handed_begun _ _ _ es m b.end _ b.begins.count i.handed there' b.begins.segments);
       closing = rw b.ends (closes_more (closed || stop) es b.end (closes_stays (closed || c.self.inside.stop) (closed || stop) es (shut_stays closed closed c.self.inside.stop stop (λ on. on) c.permission-permit.ensures.stays) i.closing)
           (λ is. c.permission-permit.ensures.none (b.closed is)) (λ on. b.if_none (c.permission-permit.ensures.some on)));
-      credit = rw b.ends (credit_begun es c.self.inside.tally.share c.begun-pending.new.tally.share m (data_in c.begun-pending.result.0) b.end i.credit there' b.begins b.credit);
+      credit = rw b.ends (credit_begun es c.self.inside.tally.share c.begun-pending.new.tally.share m (data_in c.begun-pending.result.0) b.end i.credit there' b.begins b.credit b.covered);
       reasons = rw b.ends (reasons_begun b.end m _ b.begins.count i.reasons there' b.begins.segments (grows_message c.self.inside.reasons c.list_message.new.reasons c.begun-pending.result.1 c.list_message.ensures.none c.list_message.ensures.some)
           (λ out. message_explained c.self.inside.reasons c.list_message.new.reasons m.index c.begun-pending.result.1 c.list_message.ensures.some (b.memory out)));
       order = rw (b.ends, c.push_reserved.ensures.items) (order_begun es b.end c.self.inside.pending.items c.begun-pending.result.0 _ b.begins.count b.begins.segments c.self.inside.next c.self.inside.opened.items c.self.inside.queues.all c.begun-pending.ensures.unlinked i.order);
