@@ -27,6 +27,7 @@ use Rattle.sms_worker.specs.Apart.{IsAttempt, PlacesApart}
 use Rattle.sms_worker.specs.EndOf.{IsEndOf}
 use Rattle.sms_worker.specs.Told.{HeardSince, AllTold, IsAnswered}
 use Rattle.sms_worker.specs.Types.{Attempt, MessageEnd}
+use Rattle.sms_book.specs.Name.{BookId}
 use Rattle.sms_message.specs.declared.message.Message.{Message}
 use Rattle.sms_message.specs.declared.rules.Rules.{Rules}
 use Rattle.sms_worker.specs.declared.entry.work.WorkerEnd.{WorkerEnd}
@@ -214,10 +215,10 @@ ends_within rules accounts (m ∷ ms) [] z = absurd z
 ends_within rules accounts (m ∷ ms) (e ∷ es) z = let x = ends_within rules accounts ms es z.1 in omega arith
 
 -- so of all workers
-pub all_hears : {N : Type 0} (rules : Rules) (js : List (ReadyState N)) (ds : List (WorkerEnd N)) → AllZip (IsWorkOf rules) js ds → AllByRecursion (λ d. Hears (received d.consumer) d.ends.items) ds
-all_hears rules [] [] z = tt
-all_hears rules [] (d ∷ ds) z = absurd z
-all_hears rules (j ∷ js) [] z = absurd z
-all_hears rules (j ∷ js) (d ∷ ds) z =
+pub all_hears : {N : Type 0} (book : BookId) (rules : Rules) (js : List (ReadyState N)) (ds : List (WorkerEnd N)) → AllZip (IsWorkOf book rules) js ds → AllByRecursion (λ d. Hears (received d.consumer) d.ends.items) ds
+all_hears book rules [] [] z = tt
+all_hears book rules [] (d ∷ ds) z = absurd z
+all_hears book rules (j ∷ js) [] z = absurd z
+all_hears book rules (j ∷ js) (d ∷ ds) z =
     let p = z.0 in
-    (hears_of rules _ (received d.consumer) j.messages d.ends.items (ends_within rules _ j.messages d.ends.items p.worked.ends) p.answers p.places, all_hears rules js ds z.1)
+    (hears_of rules _ (received d.consumer) j.messages d.ends.items (ends_within rules _ j.messages d.ends.items p.worked.ends) p.answers p.places, all_hears book rules js ds z.1)

@@ -8,6 +8,7 @@ use Rattle.sms_worker.specs.Closing.{IsShut}
 use Rattle.sms_worker.specs.Reasons.{ReasonState}
 use Rattle.sms_worker.specs.ReasonsOf.{AllHaveReasons}
 use Rattle.sms_worker.specs.Types.{MessageEnd}
+use Rattle.sms_book.specs.Name.{BookId}
 use Rattle.sms_message.specs.declared.rules.Rules.{Rules}
 use Rattle.sms_worker.specs.declared.entry.work.WorkerEnd.{WorkerEnd}
 use Rattle.sms_worker.specs.ReadyState.{ReadyState}
@@ -120,18 +121,18 @@ caused c (Some y ∷ xs) zero x at shut = let same : x ≡ Some y = cc in causes
 caused c (y ∷ xs) (suc w) x at shut = caused (with_cause c y) xs w x at shut
 
 -- each worker says why
-pub all_say : {N : Type 0} (rules : Rules) (js : List (ReadyState N)) (ds : List (WorkerEnd N)) → AllZip (IsWorkOf rules) js ds → AllByRecursion (λ d. SaysWhy d.closed d.ends.items) ds
-all_say rules [] [] z = tt
-all_say rules [] (d ∷ ds) z = absurd z
-all_say rules (j ∷ js) [] z = absurd z
-all_say rules (j ∷ js) (d ∷ ds) z = (z.0.says_why, all_say rules js ds z.1)
+pub all_say : {N : Type 0} (book : BookId) (rules : Rules) (js : List (ReadyState N)) (ds : List (WorkerEnd N)) → AllZip (IsWorkOf book rules) js ds → AllByRecursion (λ d. SaysWhy d.closed d.ends.items) ds
+all_say book rules [] [] z = tt
+all_say book rules [] (d ∷ ds) z = absurd z
+all_say book rules (j ∷ js) [] z = absurd z
+all_say book rules (j ∷ js) (d ∷ ds) z = (z.0.says_why, all_say book rules js ds z.1)
 
 -- what was given up has a reason
-pub all_reasoned : {N : Type 0} (rules : Rules) (js : List (ReadyState N)) (ds : List (WorkerEnd N)) → AllZip (IsWorkOf rules) js ds → AllByRecursion (λ d. AllHaveReasons rules.policy.attempts (IsShut d.closed) d.reasons d.ends.items) ds
-all_reasoned rules [] [] z = tt
-all_reasoned rules [] (d ∷ ds) z = absurd z
-all_reasoned rules (j ∷ js) [] z = absurd z
-all_reasoned rules (j ∷ js) (d ∷ ds) z = (z.0.reasons, all_reasoned rules js ds z.1)
+pub all_reasoned : {N : Type 0} (book : BookId) (rules : Rules) (js : List (ReadyState N)) (ds : List (WorkerEnd N)) → AllZip (IsWorkOf book rules) js ds → AllByRecursion (λ d. AllHaveReasons rules.policy.attempts (IsShut d.closed) d.reasons d.ends.items) ds
+all_reasoned book rules [] [] z = tt
+all_reasoned book rules [] (d ∷ ds) z = absurd z
+all_reasoned book rules (j ∷ js) [] z = absurd z
+all_reasoned book rules (j ∷ js) (d ∷ ds) z = (z.0.reasons, all_reasoned book rules js ds z.1)
 
 module _ {A : Type 0} where
   take_map : {B : Type 0} (f : A → B) (n : ℕ) (xs : List A) → map f (take n xs) ≡ take n (map f xs)

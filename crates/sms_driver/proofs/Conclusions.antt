@@ -1,5 +1,5 @@
 -- From what each worker gave back to the ends and the rows of the run.
-use Rattle.std.proofs.Common.{◌≡◌, ℕ, zero, suc, ◌+◌, ◌<◌, List, [], ◌∷◌, length, map, refl, sym, ap, ◌∙◌, subst, arith, Result, Ok, MatchResult}
+use Rattle.std.proofs.Common.{◌≡◌, ℕ, zero, suc, ◌+◌, ◌<◌, true, List, [], ◌∷◌, length, map, refl, sym, ap, ◌∙◌, subst, arith, Result, Ok, MatchResult}
 use Rattle.std.proofs.lemmas.List.{length-map}
 use Rattle.sms_driver.proofs.Joins.{all_ok}
 use Rattle.std.specs.List.{AllZip, AllByRecursion}
@@ -7,6 +7,7 @@ use Rattle.sms_core.specs.declared.row.Row.{Row}
 use Rattle.sms_core.specs.Numbers.{AreDrawn}
 use Rattle.sms_core.specs.Rows.{reserved_of, charged_of, returned_of}
 use Rattle.sms_pdu.proofs.Fronts.{AllByRecursion-append}
+use Rattle.sms_book.specs.Name.{BookId}
 use Rattle.sms_book.specs.Portions.{no_amounts, row_at}
 use Rattle.sms_book.specs.Shares.{Share, blank_share, opening_shares, AreAll}
 use Rattle.sms_book.proofs.OpeningShares.{opening_shares_all}
@@ -18,6 +19,7 @@ use Rattle.sms_message.specs.Ends.{credit, credits}
 use Rattle.sms_driver.specs.Deals.{dealt}
 use Rattle.sms_driver.specs.Settled.{totals}
 use Rattle.sms_driver.specs.Worked.{Worked}
+use Rattle.sms_worker.specs.Credit.{IsCovered}
 use Rattle.sms_worker.specs.EndOf.{IsEndOf}
 use Rattle.sms_driver.specs.Statements.{AreRows}
 use Rattle.sms_driver.specs.Settled.{Summed, AreSettled}
@@ -61,10 +63,10 @@ blank_lengths : (accounts workers : ℕ) → AllByRecursion (λ (s : Share). len
 blank_lengths accounts zero = tt
 blank_lengths accounts (suc w) = AllByRecursion-append (λ (s : Share). length s.amounts ≡ accounts) (opening_shares accounts w) (blank_share accounts (suc w) ∷ []) (blank_lengths accounts w) (length-blank accounts (suc w), tt)
 
-module _ {T D : Type 0} (share : T → Share) (given : T → List Message) (back : D → Share) (ends : D → List MessageEnd) (rules : Rules) where
+module _ {T D : Type 0} (share : T → Share) (given : T → List Message) (back : D → Share) (ends : D → List MessageEnd) (book : BookId) (rules : Rules) where
   -- what comes back is of the messages and the share that were given, with the share's number
   abbrev HasWorked : T → D → Type 0
-  HasWorked t d = Worked rules (share t).amounts (back d).amounts (given t) (ends d) × ((back d).number ≡ (share t).number)
+  HasWorked t d = Worked book rules (share t).amounts (back d).amounts (given t) (ends d) × ((back d).number ≡ (share t).number)
 
   each_end : (accounts : ℕ) (ts : List T) (ds : List D) → AllByRecursion (λ (s : Share). length s.amounts ≡ accounts) (map share ts) → AllZip HasWorked ts ds → AllZip (AllZip (IsEndOf rules accounts)) (map given ts) (map ends ds)
   each_end accounts [] [] l z = tt
@@ -85,6 +87,14 @@ module _ {T D : Type 0} (share : T → Share) (given : T → List Message) (back
       let e = each_end accounts ts ds (subst (AllByRecursion (λ (s : Share). length s.amounts ≡ accounts)) (sym shares) (blank_lengths accounts count)) z in
       zip_dealt (IsEndOf rules accounts) count 0 ms es some (sym long)
       (subst (λ x. AllZip (AllZip (IsEndOf rules accounts)) (dealt count 0 ms) x) back_is (subst (λ x. AllZip (AllZip (IsEndOf rules accounts)) x (map ends ds)) batches e))
+
+  -- in order, no message was begun that its account could never have paid
+  covered_in_order : book.sealed ≡ true → (count : ℕ) (ms : List Message) (es : List MessageEnd) (ts : List T) (ds : List D) → 0 < count → map given ts ≡ dealt count 0 ms → AllZip HasWorked ts ds
+      → length es ≡ length ms → map ends ds ≡ dealt count 0 es → AllZip (IsCovered book.opening rules) ms es
+  covered_in_order sealed count ms es ts ds some batches z long back_is =
+      let e = zip_map given ends HasWorked (AllZip (IsCovered book.opening rules)) (λ t d w. w.0.covered sealed) ts ds z in
+      zip_dealt (IsCovered book.opening rules) count 0 ms es some (sym long)
+      (subst (λ x. AllZip (AllZip (IsCovered book.opening rules)) (dealt count 0 ms) x) back_is (subst (λ x. AllZip (AllZip (IsCovered book.opening rules)) x (map ends ds)) batches e))
 
   column : (f : Column) → f.amount no_amounts ≡ 0 → (accounts count : ℕ) (ms : List Message) (es : List MessageEnd) (ts : List T) (ds : List D) → 0 < count → map given ts ≡ dealt count 0 ms → map share ts ≡ opening_shares accounts count
       → length es ≡ length ms → map ends ds ≡ dealt count 0 es → AllZip (λ t d. GrewBy f (share t).amounts (back d).amounts (given t) (ends d)) ts ds → (i : ℕ) → over_shares f.amount i (map back ds) ≡ credits f.counts i ms es
@@ -110,25 +120,26 @@ module _ {T D : Type 0} (share : T → Share) (given : T → List Message) (back
       map_map back (λ (s : Share). s.number) ds ∙ kept ∙ sym (map_map share (λ (s : Share). s.number) ts) ∙ ap (map (λ (s : Share). s.number)) shares in
       subst (AreDrawn 1 (count + 1)) (sym numbers) (opening_shares_all accounts count)
 
-  pub settled : (accounts count : ℕ) (ms : List Message) (ts : List T) (ds : List D) → 0 < count → map given ts ≡ dealt count 0 ms → map share ts ≡ opening_shares accounts count → AllZip HasWorked ts ds
-      → AreSettled rules accounts count ms (map back ds) (map ends ds)
-  settled accounts count ms ts ds some batches shares z =
-      let (es, long, dealt_is) = dealt_ends accounts count ms ts ds some batches shares z in
+  pub settled : (ms : List Message) (ts : List T) (ds : List D) → 0 < book.workers → map given ts ≡ dealt book.workers 0 ms → map share ts ≡ opening_shares book.accounts book.workers → AllZip HasWorked ts ds
+      → AreSettled book rules ms (map back ds) (map ends ds)
+  settled ms ts ds some batches shares z =
+      let (es, long, dealt_is) = dealt_ends book.accounts book.workers ms ts ds some batches shares z in
       record {
         es = es;
         long = long;
         dealt_is = dealt_is;
-        ends = ends_in_order accounts count ms es ts ds some batches shares z long dealt_is;
-        sums = summed accounts count ms es ts ds some batches shares z long dealt_is;
-        all = all_shares accounts count ts ds shares z;
+        ends = ends_in_order book.accounts book.workers ms es ts ds some batches shares z long dealt_is;
+        covered = λ sealed. covered_in_order sealed book.workers ms es ts ds some batches z long dealt_is;
+        sums = summed book.accounts book.workers ms es ts ds some batches shares z long dealt_is;
+        all = all_shares book.accounts book.workers ts ds shares z;
       }
 
-  pub all_settled : {K E : Type 0} (assignment : K → T) (P : T → D → Type 0) (Q : T → E → Type 0) → ((t : T) (d : D) → P t d → HasWorked t d) → (accounts count : ℕ) (ms : List Message) (ks : List K) (ds : List D) (bs : List (Result D E)) → 0 < count
-      → map (λ k. given (assignment k)) ks ≡ dealt count 0 ms → map (λ k. share (assignment k)) ks ≡ opening_shares accounts count → AllZip (λ a r. MatchResult r (P a) (Q a)) (map assignment ks) bs → map (λ d. Ok d) ds ≡ bs
-      → AreSettled rules accounts count ms (map back ds) (map ends ds)
-  all_settled assignment P Q means accounts count ms ks ds bs some batches shares z is =
+  pub all_settled : {K E : Type 0} (assignment : K → T) (P : T → D → Type 0) (Q : T → E → Type 0) → ((t : T) (d : D) → P t d → HasWorked t d) → (ms : List Message) (ks : List K) (ds : List D) (bs : List (Result D E)) → 0 < book.workers
+      → map (λ k. given (assignment k)) ks ≡ dealt book.workers 0 ms → map (λ k. share (assignment k)) ks ≡ opening_shares book.accounts book.workers → AllZip (λ a r. MatchResult r (P a) (Q a)) (map assignment ks) bs → map (λ d. Ok d) ds ≡ bs
+      → AreSettled book rules ms (map back ds) (map ends ds)
+  all_settled assignment P Q means ms ks ds bs some batches shares z is =
       let y = all_ok P Q (map assignment ks) ds (subst (AllZip (λ a r. MatchResult r (P a) (Q a)) (map assignment ks)) (sym is) z) in
-      settled accounts count ms (map assignment ks) ds some (map_map assignment given ks ∙ batches) (map_map assignment share ks ∙ shares) (zip_to P HasWorked means (map assignment ks) ds y)
+      settled ms (map assignment ks) ds some (map_map assignment given ks ∙ batches) (map_map assignment share ks ∙ shares) (zip_to P HasWorked means (map assignment ks) ds y)
 
 pub all_back : {T D K E : Type 0} (assignment : K → T) (P : T → D → Type 0) (Q : T → E → Type 0) (ks : List K) (ds : List D) (bs : List (Result D E)) → AllZip (λ a r. MatchResult r (P a) (Q a)) (map assignment ks) bs → map (λ d. Ok d) ds ≡ bs → length ds ≡ length ks
 all_back assignment P Q ks ds bs z is = zip_length P (map assignment ks) ds (all_ok P Q (map assignment ks) ds (subst (AllZip (λ a r. MatchResult r (P a) (Q a)) (map assignment ks)) (sym is) z)) ∙ length-map ks assignment

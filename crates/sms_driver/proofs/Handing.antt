@@ -3,6 +3,7 @@ use Rattle.std.proofs.Common.{◌≡◌, ◌++◌, ℕ, List, [], ◌∷◌, map
 use Rattle.std.specs.List.{AllByRecursion, AllZip}
 use Rattle.sms_bind.specs.Frames.{weigh, AreSame}
 use Rattle.sms_bind.proofs.Weights.{weigh-append}
+use Rattle.sms_book.specs.Name.{BookId}
 use Rattle.sms_message.specs.declared.rules.Rules.{Rules}
 use Rattle.sms_worker.specs.Frames.{frames_in}
 use Rattle.sms_worker.specs.ReadyState.{ReadyState}
@@ -12,12 +13,12 @@ use Rattle.sms_driver.specs.Rings.{flat}
 use Rattle.sms_driver.specs.Worked.{IsWorkOf}
 
 -- where no worker had any before, each has the frames of its ends
-pub all_handed_on : {N : Type 0} (rules : Rules) (assignments : List (ReadyState N)) (ds : List (WorkerEnd N)) → AllByRecursion (λ r. r ≡ []) (map (λ a. a.worker.requests) assignments) → AllZip (IsWorkOf rules) assignments ds
+pub all_handed_on : {N : Type 0} (book : BookId) (rules : Rules) (assignments : List (ReadyState N)) (ds : List (WorkerEnd N)) → AllByRecursion (λ r. r ≡ []) (map (λ a. a.worker.requests) assignments) → AllZip (IsWorkOf book rules) assignments ds
     → AllByRecursion (λ d. AreSame d.requests (frames_in d.ends.items)) ds
-all_handed_on rules [] [] none works = tt
-all_handed_on rules [] (d ∷ ds) none works = absurd works
-all_handed_on rules (a ∷ others) [] none works = absurd works
-all_handed_on rules (a ∷ others) (d ∷ ds) none works = (subst (λ (l : List (List ℕ)). AreSame d.requests (l ++ frames_in d.ends.items)) none.0 works.0.handed, all_handed_on rules others ds none.1 works.1)
+all_handed_on book rules [] [] none works = tt
+all_handed_on book rules [] (d ∷ ds) none works = absurd works
+all_handed_on book rules (a ∷ others) [] none works = absurd works
+all_handed_on book rules (a ∷ others) (d ∷ ds) none works = (subst (λ (l : List (List ℕ)). AreSame d.requests (l ++ frames_in d.ends.items)) none.0 works.0.handed, all_handed_on book rules others ds none.1 works.1)
 
 weigh_flat : {N : Type 0} (h : List ℕ → ℕ) (ds : List (WorkerEnd N)) → AllByRecursion (λ d. AreSame d.requests (frames_in d.ends.items)) ds
     → weigh h (flat (map (λ d. d.requests) ds)) ≡ weigh h (flat (map frames_in (map (λ d. d.ends.items) ds)))

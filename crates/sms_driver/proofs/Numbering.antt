@@ -11,6 +11,7 @@ use Rattle.sms_worker.specs.Apart.{IsAttempt, NumbersApart}
 use Rattle.sms_message.specs.Ends.{segments_in, segment_at, total, total_in, uses}
 use Rattle.sms_worker.specs.Told.{Drew}
 use Rattle.sms_worker.specs.Types.{Attempt, SegmentEnd, MessageEnd}
+use Rattle.sms_book.specs.Name.{BookId}
 use Rattle.sms_message.specs.declared.message.Message.{Message}
 use Rattle.sms_message.specs.declared.rules.Rules.{Rules}
 use Rattle.sms_worker.specs.declared.entry.work.WorkerEnd.{WorkerEnd}
@@ -61,13 +62,13 @@ has_numbers before v ms es long drew apart = record { apart = apart; drawn = one
         omega arith
 
 -- so each worker's seat has its attempts' numbers
-pub all_numbers : {N : Type 0} (rules : Rules) (js : List (ReadyState N)) (ds : List (WorkerEnd N)) → AllZip (IsWorkOf rules) js ds → AllByRecursion (λ d. HasNumbers d.seat.view d.ends.items) ds
-all_numbers rules [] [] z = tt
-all_numbers rules [] (d ∷ ds) z = absurd z
-all_numbers rules (j ∷ js) [] z = absurd z
-all_numbers rules (j ∷ js) (d ∷ ds) z =
+pub all_numbers : {N : Type 0} (book : BookId) (rules : Rules) (js : List (ReadyState N)) (ds : List (WorkerEnd N)) → AllZip (IsWorkOf book rules) js ds → AllByRecursion (λ d. HasNumbers d.seat.view d.ends.items) ds
+all_numbers book rules [] [] z = tt
+all_numbers book rules [] (d ∷ ds) z = absurd z
+all_numbers book rules (j ∷ js) [] z = absurd z
+all_numbers book rules (j ∷ js) (d ∷ ds) z =
     let p = z.0 in
-    (has_numbers _ d.seat.view j.messages d.ends.items (ends_within rules _ j.messages d.ends.items p.worked.ends) p.numbers p.apart, all_numbers rules js ds z.1)
+    (has_numbers _ d.seat.view j.messages d.ends.items (ends_within rules _ j.messages d.ends.items p.worked.ends) p.numbers p.apart, all_numbers book rules js ds z.1)
 
 one_in : (x es : List MessageEnd) (k p i : ℕ) (a : Attempt) → Some x ≡ Some es → IsAttempt es k p i a → IsAttempt x k p i a
 one_in x es k p i a at is = let e : x ≡ es = cc in subst (λ (l : List MessageEnd). IsAttempt l k p i a) (sym e) is

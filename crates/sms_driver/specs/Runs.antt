@@ -71,7 +71,7 @@ pub record IsOutput {N Rd W : Type 0} (rules : Rules) (book : BookId) (workers :
   -- each worker gave back its end
   pub all : length output.done.items ≡ book.workers
   -- the ends are those of all messages, however these were dealt out, and the shares hold their sums
-  pub settled : (ms : List Message) → batches ≡ dealt book.workers 0 ms → AreSettled rules book.accounts book.workers ms (map (λ d. d.shares) output.done.items) (map (λ d. d.ends.items) output.done.items)
+  pub settled : (ms : List Message) → batches ≡ dealt book.workers 0 ms → AreSettled book rules ms (map (λ d. d.shares) output.done.items) (map (λ d. d.ends.items) output.done.items)
   -- each worker's seat is of its bind's window
   pub seats : map (λ d. d.seat.window) output.done.items ≡ windows workers (map (λ b. b.window) shared_binds)
   -- each answered attempt of a worker rests on an answer that the worker received

@@ -3,6 +3,7 @@ use Rattle.std.specs.Prelude.{◌*◌, ◌++◌, ℕ, List, [], Option, Some, ma
 use Rattle.std.specs.List.{AllZip}
 use Rattle.sms_message.specs.declared.message.Message.{Message}
 use Rattle.sms_bind.specs.Frames.{requests, AreSame}
+use Rattle.sms_worker.specs.Credit.{IsCovered}
 use Rattle.sms_worker.specs.EndOf.{IsEndOf}
 use Rattle.sms_worker.specs.Frames.{frames_in}
 use Rattle.sms_driver.specs.Answered.{AreHeard}
@@ -23,6 +24,8 @@ use Rattle.sms_driver.specs.declared.settings.RunSettings.{RunSettings}
 pub record Sent (settings : RunSettings) (told : ℕ → Option (List ℕ)) (accounts : ℕ) (credits : List ℕ) (messages : List Message) (sending : Sending) : Type 0 where
   -- each message has an end by the rules, in order
   pub ends : AllZip (IsEndOf settings.rules accounts) messages sending.ends.items
+  -- and was begun only where its account was opened with what all of its parts cost
+  pub covered : AllZip (IsCovered credits settings.rules) messages sending.ends.items
   -- bind by bind, each answered attempt of its workers rests on an answer of its own that was read of the bind
   pub heard : AreHeard told settings.binds settings.workers (dealt (settings.binds * settings.workers) 0 sending.ends.items)
   -- the cause and the counts of each bind's reader are those of what was read of the bind

@@ -2,6 +2,7 @@
 use Rattle.std.specs.Prelude.{◌≡◌, ◌≤◌, ℕ, List, [], length, map, take, Option, Result, IsSomeAnd, MatchResult, vec_capacity}
 use Rattle.std.specs.List.{AllByRecursion, AllZip}
 use Rattle.std.specs.declared.thread.PromisedHandle.{PromisedHandle}
+use Rattle.sms_book.specs.Name.{BookId}
 use Rattle.sms_message.specs.declared.rules.Rules.{Rules}
 use Rattle.sms_driver.specs.declared.start_gate.StartGate.{StartGate}
 use Rattle.sms_driver.specs.declared.start_gate.ThreadResult.{ThreadResult}
@@ -59,8 +60,8 @@ pub record AreReaders {N Rd W T : Type 0} (turns : ℕ) (latch : StartGate) (tas
 
 -- in order there is a result of each assignment, and each reader's end, which agrees with what it read; an unbind was tried once at
 -- each bind
-pub record HaveReturned {N Rd W : Type 0} (rules : Rules) (remaining : Rd → Option (List ℕ)) (tasks : List (WorkerTask N W)) (reader_tasks : List (ReaderTask N Rd W)) (driver_seats : List (DriverSeat N)) (shared_binds : List (SharedBind N W)) (returned : Returned N) : Type 0 where
-  pub results : AllZip (IsResultOf rules) (map (λ t. t.assignment) tasks) returned.worker_results.items
+pub record HaveReturned {N Rd W : Type 0} (book : BookId) (rules : Rules) (remaining : Rd → Option (List ℕ)) (tasks : List (WorkerTask N W)) (reader_tasks : List (ReaderTask N Rd W)) (driver_seats : List (DriverSeat N)) (shared_binds : List (SharedBind N W)) (returned : Returned N) : Type 0 where
+  pub results : AllZip (IsResultOf book rules) (map (λ t. t.assignment) tasks) returned.worker_results.items
   pub readers : map (λ d. d.seat.window) returned.readers.items ≡ map (λ t. t.seat.window) reader_tasks
   pub read : AllZip (HasRead rules.turns remaining) (map reading_of reader_tasks) returned.readers.items
   pub driver : map (λ s. s.seat.window) returned.driver_seats.items ≡ map (λ b. b.window) shared_binds
@@ -85,8 +86,8 @@ pub record HaveLeft {N Rd W : Type 0} (tasks : List (WorkerTask N W)) (reader_ta
   pub handed_back : WereHandedBack tasks reader_tasks driver_seats shared_binds failure.returned
 
 -- all threads were let go at this gate and gave back their results; or all left, and nothing was sent
-pub record HaveDriven {N Rd W : Type 0} (rules : Rules) (remaining : Rd → Option (List ℕ)) (latch : StartGate) (tasks : List (WorkerTask N W)) (reader_tasks : List (ReaderTask N Rd W)) (driver_seats : List (DriverSeat N)) (shared_binds : List (SharedBind N W)) (driven : ThreadResult (Result (Returned N) (StartFailure N))) : Type 0 where
+pub record HaveDriven {N Rd W : Type 0} (book : BookId) (rules : Rules) (remaining : Rd → Option (List ℕ)) (latch : StartGate) (tasks : List (WorkerTask N W)) (reader_tasks : List (ReaderTask N Rd W)) (driver_seats : List (DriverSeat N)) (shared_binds : List (SharedBind N W)) (driven : ThreadResult (Result (Returned N) (StartFailure N))) : Type 0 where
   pub at : IsFiredAt latch driven.started
   pub value : MatchResult driven.value
-      (λ returned. (command_of driven.started ≡ Go) × HaveReturned rules remaining tasks reader_tasks driver_seats shared_binds returned)
+      (λ returned. (command_of driven.started ≡ Go) × HaveReturned book rules remaining tasks reader_tasks driver_seats shared_binds returned)
       (λ failure. (command_of driven.started ≡ Leave) × HaveLeft tasks reader_tasks driver_seats shared_binds failure)

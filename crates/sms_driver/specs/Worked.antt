@@ -1,9 +1,10 @@
 -- What a worker gives back.
-use Rattle.std.specs.Prelude.{◌≡◌, ◌++◌, List, length, Result, MatchResult, Vec}
+use Rattle.std.specs.Prelude.{◌≡◌, ◌++◌, List, length, Result, MatchResult, Vec, true}
 use Rattle.std.specs.List.{AllZip}
 use Rattle.std.specs.declared.alloc.Global.{Global}
 use Rattle.rtrb.specs.Ring.{received, SameConsumer}
 use Rattle.sms_pdu.specs.declared.reply.Reply.{Reply}
+use Rattle.sms_book.specs.Name.{BookId}
 use Rattle.sms_book.specs.declared.amounts.Amounts.{Amounts}
 use Rattle.sms_message.specs.declared.message.Message.{Message}
 use Rattle.sms_message.specs.declared.rules.Rules.{Rules}
@@ -13,6 +14,7 @@ use Rattle.sms_worker.specs.Types.{MessageEnd}
 use Rattle.sms_worker.specs.declared.entry.work.Worker.{Worker}
 use Rattle.sms_worker.specs.declared.entry.work.WorkerEnd.{WorkerEnd}
 use Rattle.sms_worker.specs.Closing.{IsShut}
+use Rattle.sms_worker.specs.Credit.{IsCovered}
 use Rattle.sms_worker.specs.EndOf.{IsEndOf}
 use Rattle.sms_worker.specs.Apart.{NumbersApart, PlacesApart}
 use Rattle.sms_worker.specs.Told.{AllTold, Drew, Grew}
@@ -20,15 +22,16 @@ use Rattle.sms_worker.specs.ReadyState.{ReadyState}
 use Rattle.sms_worker.specs.ReasonsOf.{AllHaveReasons}
 use Rattle.sms_driver.specs.Closings.{SaysWhy}
 
--- the ends are those of the messages, and the share grew by them
-pub record Worked (rules : Rules) (old new : List Amounts) (ms : List Message) (es : List MessageEnd) : Type 0 where
+-- the ends are those of the messages, and the share grew by them; in a sealed book no message was begun that its account could never have paid
+pub record Worked (book : BookId) (rules : Rules) (old new : List Amounts) (ms : List Message) (es : List MessageEnd) : Type 0 where
   pub ends : AllZip (IsEndOf rules (length old)) ms es
   pub credits : Grew old new ms es
+  pub covered : book.sealed ≡ true → AllZip (IsCovered book.opening rules) ms es
 
 -- the work of an assignment, by the same worker: its share has the same number, its seat the same window, and it has the same
 -- end of its ring
-pub record IsWorkOf {N : Type 0} (rules : Rules) (a : ReadyState N) (d : WorkerEnd N) : Type 0 where
-  pub worked : Worked rules a.worker.shares.amounts d.shares.amounts a.messages d.ends.items
+pub record IsWorkOf {N : Type 0} (book : BookId) (rules : Rules) (a : ReadyState N) (d : WorkerEnd N) : Type 0 where
+  pub worked : Worked book rules a.worker.shares.amounts d.shares.amounts a.messages d.ends.items
   pub number : d.shares.number ≡ a.worker.shares.number
   pub window : d.seat.window ≡ a.worker.seat.window
   pub ring : SameConsumer a.worker.consumer d.consumer
@@ -47,8 +50,8 @@ pub record IsWorkOf {N : Type 0} (rules : Rules) (a : ReadyState N) (d : WorkerE
   pub reasons : AllHaveReasons rules.policy.attempts (IsShut d.closed) d.reasons d.ends.items
 
 -- the result of an assignment that was let go: its work
-abbrev pub IsResultOf : {N E M : Type 0} → Rules → ReadyState N → Result (WorkerEnd N) (E × Worker N × M) → Type 0
-IsResultOf rules a r = MatchResult r (IsWorkOf rules a) (λ e. ⊥)
+abbrev pub IsResultOf : {N E M : Type 0} → BookId → Rules → ReadyState N → Result (WorkerEnd N) (E × Worker N × M) → Type 0
+IsResultOf book rules a r = MatchResult r (IsWorkOf book rules a) (λ e. ⊥)
 
 -- the result of an assignment that left: the worker and its messages, as they were given
 abbrev pub IsHandedBack : {N E : Type 0} → ReadyState N → Result (WorkerEnd N) (E × Worker N × Vec Message Global) → Type 0

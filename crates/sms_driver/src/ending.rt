@@ -31,7 +31,7 @@ use crate::threads::WorkerResult;
 use crate::{DriverSeat, SharedBind, merged};
 use rtrb::Consumer;
 use sms_bind::{LogKeeper, LogName, ReaderEnd, SettledLog};
-use sms_book::{Book, BookName, Shares, Statement, Till, gather};
+use sms_book::{Book, BookName, Sealed, Shares, Statement, Till, gather};
 use sms_pdu::Reply;
 use sms_worker::laws::received_are_prefixes;
 use sms_worker::{MessageEnd, Reasons, WorkerEnd};
@@ -128,7 +128,7 @@ pub struct Sending {
 }
 
 /// The statement of a book, all of whose shares are back.
-fn settle<N: BookName>(book: Book<N>, till: Till<N>, shares: Vec<Shares<N>>) -> Statement
+fn settle<N: BookName>(book: Book<N>, till: Till<N, Sealed>, shares: Vec<Shares<N>>) -> Statement
     requires all { AreAll N.book.workers shares.items }
     ensures accounts { length result ≡ N.book.accounts }
     ensures sums { (i : ℕ) → i < length result → IsSumOf (row_at result i) i till shares.items }
@@ -184,7 +184,7 @@ pub(crate) struct RunOutput<N: BookName + LogName> {
 /// the binds' ends.
 pub(crate) fn conclude<N: BookName + LogName, W: Write + Drop>(
     book: Book<N>,
-    till: Till<N>,
+    till: Till<N, Sealed>,
     log: LogKeeper<N>,
     count: usize,
     output: RunOutput<N>,

@@ -3,6 +3,7 @@
 ghost use Rattle.std.specs.Prelude.{◌≡◌, ◌+◌, ◌*◌, [], ◌<◌, ◌≤◌, length, map, Ok, Some, IfErr, IfOk, IsOk, OnOk};
 ghost use Rattle.std.specs.List.{AllByRecursion, AllZip};
 ghost use Rattle.sms_bind.specs.LogRule.{all_parts};
+ghost use Rattle.sms_book.specs.Name.{as_sealed};
 ghost use Rattle.sms_book.specs.Shares.{opening_shares};
 ghost use Rattle.sms_driver.specs.Buffers.{AreBuffersFor, IsFree};
 ghost use Rattle.sms_driver.specs.Deals.{dealt};
@@ -290,7 +291,7 @@ fn send_over<
         move |scope| -> ThreadResult<Result<Returned<N>, StartFailure<N>>>
             requires seated { AreSeated context.now.rules.now tasks.items reader_tasks.items driver_seats.items shared_binds.now }
             requires trigger { trigger.latch.value ≡ latch.now }
-            ensures driven { HaveDriven context.entry.now.rules.now Rd.remaining latch.entry.now tasks.entry.items reader_tasks.entry.items driver_seats.items shared_binds.entry.now result }
+            ensures driven { HaveDriven N.book context.entry.now.rules.now Rd.remaining latch.entry.now tasks.entry.items reader_tasks.entry.items driver_seats.items shared_binds.entry.now result }
         {
             drive(
                 scope,
@@ -331,10 +332,11 @@ pub fn run<
     messages: Vec<Message>,
     devices: &Devices<'_, D, G, K, P>,
 ) -> Result<Sending, SendFault>
-    requires name { (blank.book ≡ N.book) × (log ≡ N.log) × (N.settings ≡ Some settings.now.bind_settings.settings) }
+    requires name { (as_sealed blank.book ≡ N.book) × (log ≡ N.log) × (N.settings ≡ Some settings.now.bind_settings.settings) }
     requires count { (0 < blank.book.workers) × (blank.book.workers ≡ settings.now.binds * settings.now.workers) }
     requires bound { (settings.now.binds ≤ 4) × (settings.now.workers < 62) }
     requires accounts { length blank.credits ≡ blank.book.accounts }
+    requires opening { blank.book.opening ≡ blank.credits }
     requires not_started { start.old.begun ≡ Idle }
     ensures latch { start.new.latch ≡ start.old.latch }
     ensures started { OnOk result (start.new.begun ≡ Released Go) }
@@ -343,7 +345,7 @@ pub fn run<
     ensures refused { IfErr result (IsFaultOfRun (D.refuses devices.now.dial.now) (D.told devices.now.dial.now) settings.now.bind_settings.settings.mode settings.now.binds) }
 {
     let count = messages.len();
-    let Ok((book, till, shares)) = blank.open::<N>(alloc) else {
+    let Ok((book, till, shares)) = blank.open_sealed::<N>(alloc) else {
         return Err(SendFault::OutOfMemory);
     };
     let Ok(mut log) = log.open::<N>(alloc) else {

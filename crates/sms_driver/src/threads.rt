@@ -39,7 +39,7 @@ impl<'s, N: BookName + LogName> Promise<ThreadResult<'s, WorkerResult<N>>> for W
     ghost use Rattle.sms_driver.specs.StartGates.{IsReleased};
     ghost use Rattle.sms_driver.specs.Worked.{IsHandedBack, IsResultOf};
 
-    ghost kept_by = { λ p thread_result. IsReleased p.latch.value (IsResultOf p.rules.value p.assignment.value) (IsHandedBack p.assignment.value) thread_result };
+    ghost kept_by = { λ p thread_result. IsReleased p.latch.value (IsResultOf N.book p.rules.value p.assignment.value) (IsHandedBack p.assignment.value) thread_result };
 }
 
 /// What a reader's thread is given.

@@ -120,7 +120,7 @@ pub(crate) fn drive<
 ) -> ThreadResult<'l, Result<Returned<N>, StartFailure<N>>>
     requires seated { AreSeated context.now.rules.now tasks.items reader_tasks.items driver_seats.items shared_binds.now }
     requires trigger { trigger.latch.value ≡ latch.now }
-    ensures driven { HaveDriven context.now.rules.now Rd.remaining latch.now tasks.entry.items reader_tasks.entry.items driver_seats.items shared_binds.now result }
+    ensures driven { HaveDriven N.book context.now.rules.now Rd.remaining latch.now tasks.entry.items reader_tasks.entry.items driver_seats.items shared_binds.now result }
 {
     let rt = context.rt;
     let mut crew = Crew::new(context.alloc);

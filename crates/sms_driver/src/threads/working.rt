@@ -30,7 +30,7 @@ fn work<'s, N: BookName + LogName, W: Write, G: Gate, K: Clock, P: Pause, R: Wai
     task: WorkerTask<N, W>,
 ) -> ThreadResult<'s, WorkerResult<N>>
     requires same_window { IsPrepared context.now.rules.now task }
-    ensures { IsReleased latch.now (IsResultOf context.now.rules.now task.entry.assignment) (IsHandedBack task.entry.assignment) result }
+    ensures { IsReleased latch.now (IsResultOf N.book context.now.rules.now task.entry.assignment) (IsHandedBack task.entry.assignment) result }
 {
     let started = latch.wait(context.rt);
     let WorkerTask {

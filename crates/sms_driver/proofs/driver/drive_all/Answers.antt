@@ -1,4 +1,4 @@
-use Rattle.std.proofs.Common.{◌*◌, ℕ, List, refl, subst, Err, IfOk}
+use Rattle.std.proofs.Common.{◌*◌, ◌∙◌, ℕ, List, refl, subst, sym, Err, IfOk}
 use Rattle.sms_book.specs.Openings.{credits_of}
 use Rattle.sms_driver.specs.Sendings.{Sent}
 use Rattle.sms_driver.proofs.Books.{book_is_one, book_told, run_told, tells_book, told_one}
@@ -30,3 +30,6 @@ returns-clause-sent g c =
     let blank = c.in-Ok.ensures.blank in
     subst (λ (n : ℕ). IfOk c.run.result (Sent settings told n (credits_of c.args.openings.now) ms)) blank.1
     (subst (λ (l : List ℕ). IfOk c.run.result (Sent settings told c.in-Ok.blank.book.accounts l ms)) blank.0 c.run.ensures.sent)
+
+pub run-requires-clause-opening : goal.run-requires-clause-opening
+run-requires-clause-opening g c κs within = c.in-Ok.ensures.name ∙ sym c.in-Ok.ensures.blank.0

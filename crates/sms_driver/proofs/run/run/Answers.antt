@@ -1,4 +1,4 @@
-use Rattle.std.proofs.Common.{[], Option, Some, ◌≡◌, ◌<◌, ◌≤◌, ◌*◌, ℕ, List, length, map, rules, arith, sym, ap, ◌∙◌, subst, inl, refl}
+use Rattle.std.proofs.Common.{[], Option, Some, true, ◌≡◌, ◌<◌, ◌≤◌, ◌*◌, ℕ, List, length, map, rules, arith, sym, ap, ◌∙◌, subst, inl, refl}
 use Rattle.std.specs.List.{AllZip}
 use Rattle.sms_bind.specs.Frames.{requests}
 use Rattle.sms_book.specs.Name.{BookId}
@@ -15,6 +15,7 @@ use Rattle.sms_driver.specs.Buffers.{AreBuffersFor}
 use Rattle.sms_driver.specs.Seated.{IsSeated, windows}
 use Rattle.sms_driver.specs.declared.binding.binds.SharedBind.{SharedBind}
 use Rattle.sms_driver.specs.Statements.{AreRows}
+use Rattle.sms_worker.specs.Credit.{IsCovered}
 use Rattle.sms_worker.specs.EndOf.{IsEndOf}
 use Rattle.rtrb.specs.Ring.{received}
 use Rattle.sms_driver.specs.Answered.{Hears, IsHeard, ends_at}
@@ -126,6 +127,10 @@ returns-clause-sent g c =
     let each : length shared_binds ≡ settings.binds = made.length ∙ c.in_ok-prepared.ensures.binds in
     record {
       ends = subst (λ (n : ℕ). AllZip (IsEndOf rules n) ms c.conclude.result.ends.items) accounts (subst (AllZip (IsEndOf rules g.N.BookName.book.accounts) ms) (sym ends) s.ends);
+      covered =
+          let sealed : g.N.BookName.book.sealed ≡ true = sym (ap (λ (b : BookId). b.sealed) c.requires.name.0) in
+          let opening : g.N.BookName.book.opening ≡ opened = sym (ap (λ (b : BookId). b.opening) c.requires.name.0) ∙ c.requires.opening in
+          subst (λ (l : List ℕ). AllZip (IsCovered l rules) ms c.conclude.result.ends.items) opening (subst (AllZip (IsCovered g.N.BookName.book.opening rules) ms) (sym ends) (s.covered sealed));
       heard =
           let long : length parts ≡ settings.binds = zip_length (IsSeated w) shared_binds parts made.seated ∙ each in
           let heard = are_heard rules.turns remaining settings.bind_settings.settings.mode told w shared_binds parts readers (map (λ (d : WorkerEnd g.row.N.Denot). d.consumer) ds) (map ends_of ds)

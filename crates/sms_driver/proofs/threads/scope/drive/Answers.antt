@@ -49,6 +49,7 @@ join_all-requires g c lives =
 
 pub returns-in-Ok : goal.returns-in-Ok
 returns-in-Ok g c =
+    let book = g.N.BookName.book in
     let rules : Rules = c.args.context.now.rules.now in
     let latch : StartGate = c.args.latch.now in
     let remaining = g.Rd.Read.remaining in
@@ -61,12 +62,12 @@ returns-in-Ok g c =
     let results = c.join_all-worker_results.result.items in
     let ends = c.join_all.result.items in
     let done =
-    subst (λ l. AllZip (IsResultOf rules) l results) all.1
-    (back_zip _ (command_of c.fire-started.result) (λ p. p.assignment.value) (λ p. (p.rules.value ≡ rules) × (p.latch.value ≡ latch)) (IsResultOf rules)
-    (λ p r f b. subst (λ (x : Rules). IsResultOf x p.assignment.value r) f.0 (subst (λ x. IsResultOf p.rules.value p.assignment.value x) b.is (b.keeps.on_go (b.command_is ∙ command))))
+    subst (λ l. AllZip (IsResultOf book rules) l results) all.1
+    (back_zip _ (command_of c.fire-started.result) (λ p. p.assignment.value) (λ p. (p.rules.value ≡ rules) × (p.latch.value ≡ latch)) (IsResultOf book rules)
+    (λ p r f b. subst (λ (x : Rules). IsResultOf book x p.assignment.value r) f.0 (subst (λ x. IsResultOf book p.rules.value p.assignment.value x) b.is (b.keeps.on_go (b.command_is ∙ command))))
     workers results c.start_workers-start_result.ensures.started.given c.join_all-worker_results.ensures.each)
     in
-    let long : length c.as_slice-results.result.now ≡ length c.args.tasks.items = ap length c.as_slice-results.ensures.value ∙ zip_length (IsResultOf rules) (map (λ t. t.assignment) c.args.tasks.items) results done ∙ length-map c.args.tasks.items (λ t. t.assignment) in
+    let long : length c.as_slice-results.result.now ≡ length c.args.tasks.items = ap length c.as_slice-results.ensures.value ∙ zip_length (IsResultOf book rules) (map (λ t. t.assignment) c.args.tasks.items) results done ∙ length-map c.args.tasks.items (λ t. t.assignment) in
     let heard =
     subst (λ l. AllZip (λ l d. (d.seat.window ≡ l.0.window) × HasRead rules.turns remaining l.1 d) l ends) listening.1
     (back_zip _ (command_of c.fire-started.result) (λ p. listener_promised p) (λ p. (p.latch.value ≡ latch) × (p.turns ≡ rules.turns)) (λ l d. (d.seat.window ≡ l.0.window) × HasRead rules.turns remaining l.1 d)
