@@ -111,12 +111,12 @@ whole_before notes round from end status h low there last =
     ∙ ap (λ (l : List Note). l ++ End status ∷ []) (sym (front_of notes round from end h low (omega (arith, within))))
 
 -- what is known of the ends by the notes before it
-pub known_before : (rules : Rules) (ms : List Message) (notes round : List Note) (from end status : ℕ) (es : List (MessageEnd (Unit {0}))) (known : Option (Bor (List (MessageEnd (Unit {0})))))
-    → IsBehind (take from notes) round notes → from ≤ length notes → slice_get round end ≡ Some (End status) → AllZip (IsRunEnd rules notes) ms es
-    → IfSome (option_copied known) (λ (k : List (MessageEnd (Unit {0}))). k ≡ es) → (IsSome known → length notes ≤ from + end + 1)
+pub known_before : (rules : Rules) (ms : List Message) (notes round : List Note) (from end status : ℕ) (ends known : Option (Bor (List (MessageEnd (Unit {0})))))
+    → IsBehind (take from notes) round notes → from ≤ length notes → slice_get round end ≡ Some (End status) → IfSome (option_copied ends) (AllZip (IsRunEnd rules notes) ms)
+    → IfSome (option_copied known) (λ (k : List (MessageEnd (Unit {0}))). option_copied ends ≡ Some k) → (IsSome known → length notes ≤ from + end + 1)
     → IfSome (option_copied known) (AllZip (IsRunEnd rules (take (from + end) notes)) ms)
-known_before rules ms notes round from end status es None h low there are same last = tt
-known_before rules ms notes round from end status es (Some ends) h low there are same last =
+known_before rules ms notes round from end status ends None h low there are same last = tt
+known_before rules ms notes round from end status ends (Some known) h low there are same last =
     let whole = whole_before notes round from end status h low there (last refl) in
-    subst (λ (l : List (MessageEnd (Unit {0}))). AllZip (IsRunEnd rules (take (from + end) notes)) ms l) (sym same)
-    (run_ends_kept rules (take (from + end) notes) status ms es (subst (λ (l : List Note). AllZip (IsRunEnd rules l) ms es) whole are))
+    let its : AllZip (IsRunEnd rules notes) ms known.now = subst (λ (o : Option (List (MessageEnd (Unit {0})))). IfSome o (AllZip (IsRunEnd rules notes) ms)) same are in
+    run_ends_kept rules (take (from + end) notes) status ms known.now (subst (λ (l : List Note). AllZip (IsRunEnd rules l) ms known.now) whole its)

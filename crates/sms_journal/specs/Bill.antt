@@ -21,7 +21,7 @@ use Rattle.sms_journal.specs.Text.{number_field}
 
 -- ---- parts
 
--- what is told of a part
+-- what is listed of a part
 pub record Billed : Type 0 where
   pub message : ℕ
   pub part : ℕ

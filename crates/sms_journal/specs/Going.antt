@@ -7,6 +7,7 @@ use Rattle.sms_message.specs.declared.ends.MessageEnd.{MessageEnd}
 use Rattle.sms_journal.specs.declared.notes.note.Note.{Note}
 use Rattle.sms_journal.specs.declared.notes.note.Note.TheVariants.{End}
 use Rattle.sms_journal.specs.declared.notes.rounds.Current.{Current}
+use Rattle.sms_journal.specs.declared.notes.run_check.LastRound.{LastRound}
 use Rattle.sms_journal.specs.declared.notes.run_size.RunSize.{RunSize}
 use Rattle.sms_journal.specs.Lawful.{end_in}
 use Rattle.sms_journal.specs.Left.{is_left}
@@ -57,6 +58,13 @@ pub record IsCurrent (rules : Rules) (size : RunSize) (ms : List Message) (notes
   pub lawful : IsRunJournal rules size ms (take c.from notes)
   pub goes : going_after (first_round size ms) (take c.from notes) ≡ going_of c
   pub given : IsGiven ms c.given
+
+-- no round begins behind it, and its notes before its end are lawful
+pub record IsLastRound (rules : Rules) (ms : List Message) (notes : List Note) (last : LastRound) : Type 0 where
+  pub within : last.going.from ≤ length notes
+  pub one : AreOfOneRound (between last.going.from (length notes) notes)
+  pub end : IsEndAt (between last.going.from (length notes) notes) last.end
+  pub goes : AllGoOn rules ms (take last.going.from notes) (going_of last.going) (take last.end (between last.going.from (length notes) notes))
 
 -- with the notes of a whole round
 abbrev pub noted_all : Going → List Note → Going

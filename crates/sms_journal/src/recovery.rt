@@ -5,6 +5,7 @@ mod fault;
 mod files;
 mod journaled;
 pub mod laws;
+mod reading;
 mod recovering;
 mod resuming;
 

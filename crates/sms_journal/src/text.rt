@@ -12,4 +12,4 @@ pub use header::{ConfigTie, Digests, JournalKind, ReportKeys, write_header};
 pub(crate) use note_fields::time_in;
 pub use note_line::write_note;
 pub use reader::{JournalNotes, read_notes};
-pub(crate) use reader::{feed_at, read_line};
+pub(crate) use reader::{LinesRead, feed_at, notes_of, read_ahead, read_line};

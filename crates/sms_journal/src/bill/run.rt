@@ -14,6 +14,7 @@ use crate::text::JournalKind;
 use sms_files::write_out;
 use std::alloc::Global;
 use std::io::Write;
+use std::thread::Threads;
 
 /// The notes behind a journal's first line, and their times.
 fn timed_notes(alloc: Global, journal: &[u8]) -> Result<TimedNotes, RecoveryFault>
@@ -99,8 +100,8 @@ fn print_listed<W: Write>(
 /// Prints the bill of a run of these files, or its parts in doubt, by its journal, over all its rounds, as if
 /// every connection had dropped just after the last complete record. The text is formed whole before its first
 /// octet is written. The journal of a trial is refused.
-pub fn run_listing<W: Write>(
-    alloc: Global,
+pub fn run_listing<R: AllocGlobal + Threads, W: Write>(
+    rt: &R,
     config: &[u8],
     accounts: &[u8],
     messages: &[u8],
@@ -113,11 +114,11 @@ pub fn run_listing<W: Write>(
     ensures refused { IfErr result (IsFaultOfRunListing config.now accounts.now messages.now (option_copied tariff.entry) journal.now listing (W.contents output.old) (W.contents output.new)) }
     ensures quiet { IfErr result (λ fault. fault ≢ output_failed → output.new ≡ output.old) }
 {
-    let found = match read_run(alloc, config, accounts, messages, tariff, journal, false) {
+    let found = match read_run(rt, config, accounts, messages, tariff, journal, false) {
         Ok(found) => found,
         Err(fault) => return Err(fault),
     };
-    let printed = print_listed(alloc, &found, journal, listing, output);
+    let printed = print_listed(rt.alloc(), &found, journal, listing, output);
     drop(found);
     printed
 }

@@ -31,12 +31,16 @@ use std::alloc::Global;
 pub(crate) struct Current {
     number: u32,
     size: RunSize,
-    given: Given,
-    from: usize,
+    pub(crate) given: Given,
+    pub(crate) from: usize,
 }
 
 /// The first round.
-fn first_round(alloc: Global, messages: &[Message], size: RunSize) -> Result<Current, NoMemory>
+pub(crate) fn first_round(
+    alloc: Global,
+    messages: &[Message],
+    size: RunSize,
+) -> Result<Current, NoMemory>
     ensures { (rules : TheRules) (notes : List TheNote) → IfOk result (IsCurrent rules size messages.now notes) }
 {
     let given = all_given(alloc, messages)?;
@@ -115,18 +119,18 @@ fn has_started(going: &Current, starts: &DenseMap<Option<MessageRefusal>>, round
     round.is_empty()
 }
 
-/// The ends by the notes before this place, where a run's end stands, if they are known: these, if none but that note
-/// stands behind.
+/// The ends by the notes before this place, where a run's end stands, if they are known: these, which are by all of the
+/// notes, if none but that note stands behind.
 fn ends_before<'a>(
     notes: &[Note],
-    ends: &'a [MessageEnd<()>],
+    ends: Option<&'a [MessageEnd<()>]>,
     place: usize,
 ) -> Option<&'a [MessageEnd<()>]>
-    ensures same { IfSome (option_copied result) (λ known. known ≡ ends.now) }
+    ensures same { IfSome (option_copied result) (λ known. option_copied ends.entry ≡ Some known) }
     ensures last { IsSome result → length notes.now ≤ place + 1 }
 {
     if place >= notes.len().saturating_sub(1) {
-        return Some(ends);
+        return ends;
     }
     None
 }
@@ -158,18 +162,18 @@ fn may_end_run(
     Ok(is_status_of(ends.as_slice(), status))
 }
 
-/// Checks the last notes of a round, from its end on, which has this place.
-fn check_end(
+/// Checks the last notes of a round, from its end on, which has this place. The ends by all of the notes may be known.
+pub(crate) fn check_end(
     alloc: Global,
     messages: &[Message],
     rules: &Rules,
     going: &Current,
     notes: &[Note],
     round: &[Note],
-    ends: &[MessageEnd<()>],
+    ends: Option<&[MessageEnd<()>]>,
     end: usize,
 ) -> Result<(), JournalError>
-    requires ends { AllZip (IsRunEnd rules.now notes.now) messages.now ends.now }
+    requires ends { IfSome (option_copied ends) (AllZip (IsRunEnd rules.now notes.now) messages.now) }
     requires one { AreOfOneRound round.now }
     requires end { IsEndAt round.now end }
     requires behind { IsBehind (take going.now.from notes.now) round.now notes.now }
@@ -197,6 +201,29 @@ fn check_end(
     Ok(())
 }
 
+/// Checks the notes before the end of the round that goes on, and gives the place of that. A faulty note has its place in
+/// the round.
+pub(crate) fn check_opening(
+    alloc: Global,
+    messages: &[Message],
+    rules: &Rules,
+    going: &Current,
+    round: &[Note],
+) -> Result<usize, JournalError>
+    requires given { IsGiven messages.now going.now.given }
+    requires one { AreOfOneRound round.now }
+    ensures end { IfOk result (IsEndAt round.now) }
+    ensures lawful { (before : List TheNote) → IfOk result (λ end. AllGoOn rules.now messages.now before (going_of going.now) (take end round.now)) }
+    ensures faulty { (k : ℕ) (before : List TheNote) → IsErrOf result (BadNote k) → IsFirstStop rules.now messages.now before (going_of going.now) round.now k }
+    ensures kinds { IfErr result IsOfNotes }
+{
+    let end = end_of(round);
+    match check_plain(alloc, messages, rules, going, &round[..end]) {
+        Ok(()) => Ok(end),
+        Err(error) => Err(error),
+    }
+}
+
 /// Checks the notes of the round that goes on. A faulty note has its place in the round.
 fn check_current(
     alloc: Global,
@@ -205,9 +232,7 @@ fn check_current(
     going: &Current,
     notes: &[Note],
     round: &[Note],
-    ends: &[MessageEnd<()>],
 ) -> Result<(), JournalError>
-    requires ends { AllZip (IsRunEnd rules.now notes.now) messages.now ends.now }
     requires given { IsGiven messages.now going.now.given }
     requires one { AreOfOneRound round.now }
     requires behind { IsBehind (take going.now.from notes.now) round.now notes.now }
@@ -216,9 +241,8 @@ fn check_current(
     ensures faulty { (k : ℕ) → IsErrOf result (BadNote k) → IsFirstStop rules.now messages.now (take going.now.from notes.now) (going_of going.now) round.now k }
     ensures kinds { IfErr result IsOfNotes }
 {
-    let end = end_of(round);
-    match check_plain(alloc, messages, rules, going, &round[..end]) {
-        Ok(()) => check_end(alloc, messages, rules, going, notes, round, ends, end),
+    match check_opening(alloc, messages, rules, going, round) {
+        Ok(end) => check_end(alloc, messages, rules, going, notes, round, None, end),
         Err(error) => Err(error),
     }
 }
@@ -270,10 +294,8 @@ fn check_before(
     rules: &Rules,
     going: &Current,
     notes: &[Note],
-    ends: &[MessageEnd<()>],
     to: usize,
 ) -> Result<(), JournalError>
-    requires ends { AllZip (IsRunEnd rules.now notes.now) messages.now ends.now }
     requires from { going.now.from ≤ to }
     requires to { to ≤ length notes.now }
     requires one { AreOfOneRound (between going.now.from to notes.now) }
@@ -283,7 +305,7 @@ fn check_before(
     ensures kinds { IfErr result IsOfNotes }
 {
     let round = &notes[going.from..to];
-    match check_current(alloc, messages, rules, going, notes, round, ends) {
+    match check_current(alloc, messages, rules, going, notes, round) {
         Ok(()) => Ok(()),
         Err(JournalError::BadNote(place)) => Err(JournalError::BadNote(going.from + place)),
         Err(other) => Err(other),
@@ -292,16 +314,14 @@ fn check_before(
 
 /// The round that goes on after the note at `place`, where `going` went on before it: another, after a check of the
 /// notes before it, where the note begins one.
-fn passed(
+pub(crate) fn passed(
     alloc: Global,
     messages: &[Message],
     rules: &Rules,
     going: Current,
     notes: &[Note],
-    ends: &[MessageEnd<()>],
     place: usize,
 ) -> Result<Current, JournalError>
-    requires ends { AllZip (IsRunEnd rules.now notes.now) messages.now ends.now }
     requires from { going.from ≤ place }
     requires place { place < length notes.now }
     requires one { AreOfOneRound (between going.from place notes.now) }
@@ -316,7 +336,7 @@ fn passed(
     let Some((number, binds, workers)) = round_in(note) else {
         return Ok(going);
     };
-    if let Err(error) = check_before(alloc, messages, rules, &going, notes, ends, place) {
+    if let Err(error) = check_before(alloc, messages, rules, &going, notes, place) {
         drop(going);
         return Err(error);
     }
@@ -329,44 +349,4 @@ fn passed(
         Ok(next) => Ok(next),
         Err(refused) => Err(JournalError::OutOfMemory(refused)),
     }
-}
-
-/// Checks that a run of these messages, whose first round has this size, can have written these notes, by which these
-/// are the ends of the messages. `BadNote` has the place of the first that may not go on from those before it.
-pub(crate) fn check_with_ends(
-    alloc: Global,
-    messages: &[Message],
-    rules: &Rules,
-    size: RunSize,
-    notes: &[Note],
-    ends: &[MessageEnd<()>],
-) -> Result<(), JournalError>
-    requires { AllZip (IsRunEnd rules.now notes.now) messages.now ends.now }
-    ensures lawful { OnOk result (IsRunJournal rules.now size messages.now notes.now) }
-    ensures faulty { (k : ℕ) → IsErrOf result (BadNote k) → IsFirstRunFault rules.now size messages.now notes.now k }
-    ensures kinds { IfErr result IsOfNotes }
-{
-    let mut going = first_round(alloc, messages, size)?;
-    for place in 0..notes.len() {
-        going = passed(alloc, messages, rules, going, notes, ends, place)?;
-    }
-    check_before(alloc, messages, rules, &going, notes, ends, notes.len())
-}
-
-/// Checks that a run of these messages, whose first round has this size, can have written these notes: each may go
-/// on from those before it. `BadNote` has the place of the first that may not. The time grows with the number of
-/// notes, and with that of the messages times the rounds.
-pub fn check_rounds(
-    alloc: Global,
-    messages: &[Message],
-    rules: &Rules,
-    size: RunSize,
-    notes: &[Note],
-) -> Result<(), JournalError>
-    ensures lawful { OnOk result (IsRunJournal rules.now size messages.now notes.now) }
-    ensures faulty { (k : ℕ) → IsErrOf result (BadNote k) → IsFirstRunFault rules.now size messages.now notes.now k }
-    ensures kinds { IfErr result IsOfNotes }
-{
-    let ends = recover_rounds(alloc, messages, rules, notes)?;
-    check_with_ends(alloc, messages, rules, size, notes, ends.as_slice())
 }

@@ -1,25 +1,32 @@
 //! The report of a run's notes, printed.
 
-ghost use Rattle.std.specs.Prelude.{◌≡◌, ◌≢◌, ◌⊎◌, ◌+◌, ◌<◌, IfErr, IfOk, OnOk, length};
+ghost use Rattle.std.specs.Prelude.{◌≡◌, ◌≢◌, ◌⊎◌, ◌+◌, ◌<◌, ℕ, IfErr, IfOk, IsErrOf, OnOk, length};
 ghost use Rattle.std.specs.Io.KnownBytes.{Appends};
 ghost use Rattle.std.specs.List.{AllZip};
-ghost use Rattle.sms_journal.specs.Rounds.{IsRunEnd, IsRunJournal};
+ghost use Rattle.sms_journal.specs.Going.{IsCurrent, IsLastRound};
+ghost use Rattle.sms_journal.specs.Rounds.{IsFirstRunFault, IsRunEnd, IsRunJournal};
 ghost use Rattle.sms_journal.specs.Sums.{AreCovered};
 ghost use Rattle.sms_journal.specs.Recovering.{AreRecoveredRows, IsFaultOfNotes, IsFaultOfRecovery, IsFaultOfReport, IsRecovered, Recovers};
 ghost use Rattle.sms_journal.specs.Files.{IsCut};
 ghost use Rattle.sms_files.specs.Report.{report_of, ends_status};
-ghost use Rattle.sms_journal.specs.Faults.{out_of_memory, output_failed};
+ghost use Rattle.sms_journal.specs.Faults.{IsOfNotes, out_of_memory, output_failed};
+ghost use Rattle.sms_journal.specs.declared.error.JournalError.TheVariants.{BadNote};
 ghost use Rattle.sms_journal.specs.declared.recovery.fault.RecoveryFault.TheVariants.{Journal, Overdrawn};
 
 use crate::error::JournalError;
-use crate::notes::{Note, RunSize, check_with_ends, recover_rounds, recovered_rows};
+use crate::notes::{
+    LastRound, Note, RunSize, check_front, check_last, recover_rounds, recovered_rows,
+};
 use crate::recovery::fault::RecoveryFault;
 use sms_book::Opening;
 use sms_core::Row;
+use sms_files::memory::NoMemory;
 use sms_files::{OutputFault, exit_status_of, write_rows_report};
 use sms_message::{Message, MessageEnd, Rules};
 use std::alloc::Global;
 use std::io::Write;
+use std::thread;
+use std::thread::Threads;
 
 /// The fault of the note at this place: its record is counted from 1, and the header is one.
 fn fault_at(notes: &[Note], place: usize) -> RecoveryFault
@@ -28,21 +35,70 @@ fn fault_at(notes: &[Note], place: usize) -> RecoveryFault
     RecoveryFault::Journal(place.min(notes.len()) + 2)
 }
 
-/// Checks that a run can have noted this, by which these are the ends of its messages.
-fn checked(
-    alloc: Global,
+/// Checks that a run of these messages can have noted this, and gives their ends. These are recovered beside the check of
+/// all but the last notes, which rests on them.
+fn checked_ends<R: AllocGlobal + Threads>(
+    rt: &R,
     rules: &Rules,
     size: RunSize,
     messages: &[Message],
     notes: &[Note],
-    ends: &[MessageEnd<()>],
-) -> Result<(), RecoveryFault>
-    requires { AllZip (IsRunEnd rules.now notes.now) messages.now ends.now }
+) -> Result<Vec<MessageEnd<()>>, JournalError>
+    ensures ends { IfOk result (λ ends. AllZip (IsRunEnd rules.now notes.now) messages.now ends.items) }
+    ensures lawful { OnOk result (IsRunJournal rules.now size messages.now notes.now) }
+    ensures faulty { (k : ℕ) → IsErrOf result (BadNote k) → IsFirstRunFault rules.now size messages.now notes.now k }
+    ensures kinds { IfErr result IsOfNotes }
+{
+    let alloc = rt.alloc();
+    let (front, ends) = thread::join(
+        rt,
+        || -> Result<LastRound, JournalError>
+            ensures last { IfOk result (IsLastRound rules.entry.now messages.entry.now notes.entry.now) }
+            ensures current { IfOk result (λ last. IsCurrent rules.entry.now size messages.entry.now notes.entry.now last.going) }
+            ensures faulty { (k : ℕ) → IsErrOf result (BadNote k) → IsFirstRunFault rules.entry.now size messages.entry.now notes.entry.now k }
+            ensures kinds { IfErr result IsOfNotes }
+        { check_front(alloc, messages, rules, size, notes) },
+        || -> Result<Vec<MessageEnd<()>>, NoMemory>
+            ensures { IfOk result (λ ends. AllZip (IsRunEnd rules.entry.now notes.entry.now) messages.entry.now ends.items) }
+        { recover_rounds(alloc, messages, rules, notes) },
+    );
+    let last = match front {
+        Ok(last) => last,
+        Err(error) => {
+            drop(ends);
+            return Err(error);
+        }
+    };
+    let ends = match ends {
+        Ok(ends) => ends,
+        Err(refused) => {
+            drop(last);
+            return Err(JournalError::OutOfMemory(refused));
+        }
+    };
+    match check_last(alloc, messages, rules, &last, notes, ends.as_slice()) {
+        Ok(()) => Ok(ends),
+        Err(error) => {
+            drop(ends);
+            Err(error)
+        }
+    }
+}
+
+/// The ends of the messages by notes that a run of them can have written.
+fn ends_by<R: AllocGlobal + Threads>(
+    rt: &R,
+    rules: &Rules,
+    size: RunSize,
+    messages: &[Message],
+    notes: &[Note],
+) -> Result<Vec<MessageEnd<()>>, RecoveryFault>
+    ensures ends { IfOk result (λ ends. AllZip (IsRunEnd rules.now notes.now) messages.now ends.items) }
     ensures lawful { OnOk result (IsRunJournal rules.now size messages.now notes.now) }
     ensures refused { IfErr result (IsFaultOfNotes rules.now size messages.now notes.now) }
 {
-    match check_with_ends(alloc, messages, rules, size, notes, ends) {
-        Ok(()) => Ok(()),
+    match checked_ends(rt, rules, size, messages, notes) {
+        Ok(ends) => Ok(ends),
         Err(error) => match error {
             JournalError::BadNote(place) => Err(fault_at(notes, place)),
             JournalError::OutOfMemory(refused) => Err(RecoveryFault::OutOfMemory(refused)),
@@ -94,8 +150,8 @@ fn print_report<W: Write>(
 
 /// What the run of these messages, whose first round has this size, would have reported if every connection had
 /// dropped just after the last of these notes: the end of each message, and the row of each account.
-pub fn reported(
-    alloc: Global,
+pub fn reported<R: AllocGlobal + Threads>(
+    rt: &R,
     rules: &Rules,
     size: RunSize,
     openings: &[Opening],
@@ -105,15 +161,11 @@ pub fn reported(
     ensures is { IfOk result (λ found. IsRecovered rules.now size openings.now messages.now notes.now found.0.items found.1.items) }
     ensures refused { IfErr result (IsFaultOfReport rules.now size openings.now messages.now notes.now) }
 {
-    let ends = match recover_rounds(alloc, messages, rules, notes) {
+    let ends = match ends_by(rt, rules, size, messages, notes) {
         Ok(ends) => ends,
-        Err(refused) => return Err(RecoveryFault::OutOfMemory(refused)),
+        Err(fault) => return Err(fault),
     };
-    if let Err(fault) = checked(alloc, rules, size, messages, notes, ends.as_slice()) {
-        drop(ends);
-        return Err(fault);
-    }
-    match rows_of(alloc, openings, messages, ends.as_slice()) {
+    match rows_of(rt.alloc(), openings, messages, ends.as_slice()) {
         Ok(rows) => Ok((ends, rows)),
         Err(fault) => {
             drop(ends);
@@ -123,8 +175,8 @@ pub fn reported(
 }
 
 /// Prints that report, and returns the exit status that the run would have had.
-pub fn recover_notes<W: Write>(
-    alloc: Global,
+pub fn recover_notes<R: AllocGlobal + Threads, W: Write>(
+    rt: &R,
     rules: &Rules,
     size: RunSize,
     openings: &[Opening],
@@ -136,8 +188,14 @@ pub fn recover_notes<W: Write>(
     ensures refused { IfErr result (IsFaultOfRecovery rules.now size openings.now messages.now notes.now (W.contents output.old) (W.contents output.new)) }
     ensures quiet { IfErr result (λ fault. fault ≢ output_failed → output.new ≡ output.old) }
 {
-    match reported(alloc, rules, size, openings, messages, notes) {
-        Ok((ends, rows)) => print_report(alloc, openings, ends.as_slice(), rows.as_slice(), output),
+    match reported(rt, rules, size, openings, messages, notes) {
+        Ok((ends, rows)) => print_report(
+            rt.alloc(),
+            openings,
+            ends.as_slice(),
+            rows.as_slice(),
+            output,
+        ),
         Err(fault) => Err(fault),
     }
 }

@@ -1,20 +1,23 @@
 //! The report of a run, from its files and its journal.
 
 ghost use Rattle.std.specs.Prelude.{◌≡◌, ◌≢◌, IfErr, IfOk, length, option_copied};
+ghost use Rattle.sms_journal.specs.Ahead.{IsReadAhead};
 ghost use Rattle.sms_journal.specs.Lines.{IsJournalText};
-ghost use Rattle.sms_journal.specs.Recovering.{IsTaken, RecoversInput, RecoversJournal, IsFaultOfInput, IsFaultOfJournal, IsFaultOfText, sized, ties_in};
+ghost use Rattle.sms_journal.specs.Recovering.{IsTaken, RecoversInput, RecoversJournal, IsFaultOfInput, IsFaultOfJournal, IsFaultOfText, sized};
 ghost use Rattle.sms_journal.specs.Faults.{output_failed};
 
 use crate::error::JournalError;
 use crate::notes::{Note, RunSize};
 use crate::recovery::fault::RecoveryFault;
-use crate::recovery::files::input_of;
 use crate::recovery::journaled::recover_notes;
-use crate::text::{FileTies, JournalKind, JournalNotes, digests_of, keys_of, read_notes};
+use crate::recovery::reading::{RunRead, read_beside};
+use crate::text::{FileTies, JournalKind, JournalNotes, LinesRead, notes_of};
 use sms_book::Opening;
+use sms_files::memory::NoMemory;
 use sms_files::{Config, Input, Limits, rules_of};
 use std::alloc::Global;
 use std::io::Write;
+use std::thread::Threads;
 
 /// What was recovered.
 #[derive(Clone, Copy, Debug, PartialEq, Eq)]
@@ -24,33 +27,19 @@ pub struct Recovered {
     pub kind: JournalKind,
 }
 
-/// What a journal of these files may be tied to, of which this input was read.
-pub(crate) fn ties_of(
-    config: &[u8],
-    accounts: &[u8],
-    messages: &[u8],
-    tariff: Option<&[u8]>,
-    input: &Input,
-) -> FileTies
-    ensures { result ≡ ties_in config.now accounts.now messages.now (option_copied tariff.entry) input.now }
-{
-    FileTies {
-        digests: digests_of(config, accounts, messages, tariff),
-        keys: keys_of(input.config()),
-    }
-}
-
-/// The notes of a run of these files, or of a trial where `trial` allows one.
+/// The notes of a run of these files, or of a trial where `trial` allows one, of whose journal this was read.
 pub(crate) fn notes_in(
     alloc: Global,
     files: &FileTies,
     journal: &[u8],
+    ahead: Result<Option<LinesRead>, NoMemory>,
     trial: bool,
 ) -> Result<JournalNotes, RecoveryFault>
+    requires { IfOk ahead (IsReadAhead journal.now) }
     ensures notes { IfOk result (λ read. IsJournalText files.now journal.now read.kind read.first read.notes.items × IsTaken trial read.kind) }
     ensures refused { IfErr result (IsFaultOfText files.now trial journal.now) }
 {
-    match read_notes(alloc, journal, files) {
+    match notes_of(alloc, journal, files, ahead) {
         Ok(read) => {
             if read.kind == JournalKind::Trial && !trial {
                 return Err(RecoveryFault::Trial);
@@ -83,8 +72,8 @@ pub(crate) fn size_by(openings: &[Opening], limits: Limits, first: Option<(u32, 
 
 /// Prints what a run of this input would have reported if every connection had dropped just after the last
 /// of these notes, and returns its exit status.
-fn recover_input<W: Write>(
-    alloc: Global,
+fn recover_input<R: AllocGlobal + Threads, W: Write>(
+    rt: &R,
     input: Input,
     first: Option<(u32, u32)>,
     notes: &[Note],
@@ -105,7 +94,7 @@ fn recover_input<W: Write>(
     let accounts = openings.as_slice();
     let size = size_by(accounts, limits, first);
     recover_notes(
-        alloc,
+        rt,
         &rules,
         size,
         accounts,
@@ -119,8 +108,8 @@ fn recover_input<W: Write>(
 /// the last complete record of its journal, and returns the exit status that it would have had: 4 where a part
 /// is unanswered, else 0. The report is formed whole before its first octet is written. The journal of a trial
 /// is refused unless `trial` allows it.
-pub fn run_recover<W: Write>(
-    alloc: Global,
+pub fn run_recover<R: AllocGlobal + Threads, W: Write>(
+    rt: &R,
     config: &[u8],
     accounts: &[u8],
     messages: &[u8],
@@ -133,19 +122,24 @@ pub fn run_recover<W: Write>(
     ensures refused { IfErr result (IsFaultOfJournal config.now accounts.now messages.now (option_copied tariff.entry) journal.now trial (W.contents output.old) (W.contents output.new)) }
     ensures quiet { IfErr result (λ fault. fault ≢ output_failed → output.new ≡ output.old) }
 {
-    let input = match input_of(alloc, config, accounts, messages, tariff) {
-        Ok(input) => input,
+    let alloc = rt.alloc();
+    let run = match read_beside(rt, alloc, config, accounts, messages, tariff, journal) {
+        Ok(run) => run,
         Err(fault) => return Err(fault),
     };
-    let files = ties_of(config, accounts, messages, tariff, &input);
-    let read = match notes_in(alloc, &files, journal, trial) {
+    let RunRead {
+        input,
+        files,
+        ahead,
+    } = run;
+    let read = match notes_in(alloc, &files, journal, ahead, trial) {
         Ok(read) => read,
         Err(fault) => {
             drop(input);
             return Err(fault);
         }
     };
-    match recover_input(alloc, input, read.first, read.notes.as_slice(), output) {
+    match recover_input(rt, input, read.first, read.notes.as_slice(), output) {
         Ok(status) => Ok(Recovered {
             status,
             kind: read.kind,

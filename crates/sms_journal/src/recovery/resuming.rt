@@ -9,15 +9,16 @@ ghost use Rattle.sms_journal.specs.declared.notes.run_size.RunSize.{RunSize as T
 
 use crate::notes::{Note, round_in};
 use crate::recovery::fault::RecoveryFault;
-use crate::recovery::files::input_of;
 use crate::recovery::journaled::reported;
-use crate::recovery::recovering::{notes_in, size_by, ties_of};
+use crate::recovery::reading::{RunRead, read_beside};
+use crate::recovery::recovering::{notes_in, size_by};
 use crate::text::{Digests, JournalKind, JournalNotes};
 use sms_book::{Opening, Tariff};
 use sms_core::Row;
 use sms_files::{Config, Input, check_quotes, rules_of};
 use sms_message::{Message, MessageEnd, Rules};
 use std::alloc::Global;
+use std::thread::Threads;
 
 /// What a journal says of its run.
 #[derive(Drop)]
@@ -97,8 +98,8 @@ fn check_closed(
 }
 
 /// What a run of this input, whose journal has these notes, came to.
-fn run_of(
-    alloc: Global,
+fn run_of<R: AllocGlobal + Threads>(
+    rt: &R,
     input: Input,
     digests: Digests,
     whole: usize,
@@ -113,7 +114,7 @@ fn run_of(
     let size = size_by(openings.as_slice(), config.limits, read.first);
     let rules = rules_of(config.retry, config.limits, config.flags, tariff, 0);
     let found = reported(
-        alloc,
+        rt,
         &rules,
         size,
         openings.as_slice(),
@@ -147,8 +148,8 @@ fn run_of(
 /// What a run of these files came to, by its journal: the end of each message and the row of each account, as
 /// `run_recover` prints them, and what a further round has to know. The journal may be that of a trial. Strictly, a
 /// messages file that ends within a quote is refused.
-pub fn read_run(
-    alloc: Global,
+pub fn read_run<R: AllocGlobal + Threads>(
+    rt: &R,
     config: &[u8],
     accounts: &[u8],
     messages: &[u8],
@@ -160,21 +161,27 @@ pub fn read_run(
     ensures closed { OnOk result (strict ≡ true → ¬ EndsQuoted messages.now) }
     ensures refused { IfErr result (IsFaultOfRun config.now accounts.now messages.now (option_copied tariff.entry) journal.now strict) }
 {
-    let input = match input_of(alloc, config, accounts, messages, tariff) {
-        Ok(input) => input,
+    let alloc = rt.alloc();
+    let run = match read_beside(rt, alloc, config, accounts, messages, tariff, journal) {
+        Ok(run) => run,
         Err(fault) => return Err(fault),
     };
+    let RunRead {
+        input,
+        files,
+        ahead,
+    } = run;
     if let Err(fault) = check_closed(alloc, messages, &input, strict) {
         drop(input);
+        drop(ahead);
         return Err(fault);
     }
-    let files = ties_of(config, accounts, messages, tariff, &input);
-    let read = match notes_in(alloc, &files, journal, true) {
+    let read = match notes_in(alloc, &files, journal, ahead, true) {
         Ok(read) => read,
         Err(fault) => {
             drop(input);
             return Err(fault);
         }
     };
-    run_of(alloc, input, files.keyed(), whole_of(journal), &read)
+    run_of(rt, input, files.keyed(), whole_of(journal), &read)
 }

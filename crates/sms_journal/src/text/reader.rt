@@ -1,7 +1,8 @@
 //! A journal read: its header, and the notes of its lines.
 
-ghost use Rattle.std.specs.Prelude.{◌≡◌, ◌<◌, IfErr, IfOk, IfSome, MatchOption, false, length};
+ghost use Rattle.std.specs.Prelude.{◌≡◌, ◌<◌, ℕ, IfErr, IfOk, IfSome, List, MatchOption, None, Some, [], false, length};
 ghost use Rattle.sms_journal.specs.Lines.{AreFaultyLines, AreNotes, IsFaultyText, IsFront, IsJournalText, IsRead, IsTruncated, IsUnbegun, feed_at as first_feed};
+ghost use Rattle.sms_journal.specs.Ahead.{IsReadAhead};
 ghost use Rattle.sms_journal.specs.Digests.{first_in_tie};
 ghost use Rattle.sms_journal.specs.declared.text.header.JournalKind.{JournalKind as TheKind};
 
@@ -85,24 +86,6 @@ fn first_in(tie: ConfigTie) -> Option<(u32, u32)>
     }
 }
 
-/// The notes after a header of this kind that ties its journal so.
-fn notes_after(
-    alloc: Global,
-    kind: JournalKind,
-    tie: ConfigTie,
-    text: &[u8],
-) -> Result<JournalNotes, JournalError>
-    ensures notes { IfOk result (λ read. (read.kind ≡ kind) × (read.first ≡ first_in_tie tie) × AreNotes text.now read.notes.items) }
-    ensures faulty { IfErr result (AreFaultyLines text.now) }
-{
-    let notes = read_lines(alloc, text)?;
-    Ok(JournalNotes {
-        kind,
-        first: first_in(tie),
-        notes,
-    })
-}
-
 /// Whether the text is a truncated header of this kind that says these digests.
 fn truncates(
     header: &mut String,
@@ -152,6 +135,89 @@ fn truncated_kind(
     Ok(None)
 }
 
+/// What is read of a journal's text whatever files it is of: what the header says that it begins with, and the notes of
+/// the lines behind that.
+#[derive(Drop)]
+pub(crate) struct LinesRead {
+    kind: JournalKind,
+    digests: Digests,
+    lines: Result<Vec<Note>, JournalError>,
+}
+
+/// Reads a journal's text before it is known of what files it is; nothing where it begins with no header.
+pub(crate) fn read_ahead(alloc: Global, text: &[u8]) -> Result<Option<LinesRead>, NoMemory>
+    ensures { IfOk result (IsReadAhead text.now) }
+{
+    let mut header = String::new(alloc);
+    match read_head(&mut header, text)? {
+        Some(head) => Ok(Some(LinesRead {
+            kind: head.kind,
+            digests: head.digests,
+            lines: read_lines(alloc, head.rest),
+        })),
+        None => Ok(None),
+    }
+}
+
+/// The notes of a journal of these files that begins with no header.
+fn unbegun_notes(alloc: Global, text: &[u8], files: &FileTies) -> Result<JournalNotes, JournalError>
+    requires { IsReadAhead text.now None }
+    ensures notes { IfOk result (λ read. IsUnbegun read.kind files.now text.now × (read.first ≡ None) × (read.notes.items ≡ [])) }
+    ensures faulty { IfErr result (IsFaultyText files.now text.now) }
+{
+    let mut header = String::new(alloc);
+    match truncated_kind(&mut header, files, text)? {
+        Some(kind) => Ok(JournalNotes {
+            kind,
+            first: None,
+            notes: Vec::new(alloc),
+        }),
+        None => Err(JournalError::BadRecord(1)),
+    }
+}
+
+/// The same of one that begins with a header, of which this was read.
+fn begun_notes(files: &FileTies, read: LinesRead) -> Result<JournalNotes, JournalError>
+    ensures notes { (text : List ℕ) → IsReadAhead text (Some read) → IfOk result (λ found. IsJournalText files.now text found.kind found.first found.notes.items) }
+    ensures faulty { (text : List ℕ) → IsReadAhead text (Some read) → IfErr result (IsFaultyText files.now text) }
+{
+    let LinesRead {
+        kind,
+        digests,
+        lines,
+    } = read;
+    if let Some(what) = first_difference(&digests, files) {
+        drop(lines);
+        return Err(JournalError::OtherFiles(what));
+    }
+    match lines {
+        Ok(notes) => Ok(JournalNotes {
+            kind,
+            first: first_in(digests.config),
+            notes,
+        }),
+        Err(error) => Err(error),
+    }
+}
+
+/// The notes of a journal of these files, of which this was read ahead.
+pub(crate) fn notes_of(
+    alloc: Global,
+    text: &[u8],
+    files: &FileTies,
+    ahead: Result<Option<LinesRead>, NoMemory>,
+) -> Result<JournalNotes, JournalError>
+    requires { IfOk ahead (IsReadAhead text.now) }
+    ensures notes { IfOk result (λ read. IsJournalText files.now text.now read.kind read.first read.notes.items) }
+    ensures faulty { IfErr result (IsFaultyText files.now text.now) }
+{
+    match ahead {
+        Ok(Some(read)) => begun_notes(files, read),
+        Ok(None) => unbegun_notes(alloc, text, files),
+        Err(refused) => Err(JournalError::OutOfMemory(refused)),
+    }
+}
+
 /// The notes of a journal of these files, in order, and what its first line says of its run's first round. Octets after
 /// the last line feed are a truncated line and don't count. A truncated header is a journal without notes: its run ended
 /// before it noted anything. An empty text is the journal of a run. `OtherFiles` is for a text that begins with the
@@ -165,19 +231,6 @@ pub fn read_notes(
     ensures notes { IfOk result (λ read. IsJournalText files.now text.now read.kind read.first read.notes.items) }
     ensures faulty { IfErr result (IsFaultyText files.now text.now) }
 {
-    let mut header = String::new(alloc);
-    if let Some(head) = read_head(&mut header, text)? {
-        return match first_difference(&head.digests, files) {
-            Some(what) => Err(JournalError::OtherFiles(what)),
-            None => notes_after(alloc, head.kind, head.digests.config, head.rest),
-        };
-    }
-    match truncated_kind(&mut header, files, text)? {
-        Some(kind) => Ok(JournalNotes {
-            kind,
-            first: None,
-            notes: Vec::new(alloc),
-        }),
-        None => Err(JournalError::BadRecord(1)),
-    }
+    let ahead = read_ahead(alloc, text);
+    notes_of(alloc, text, files, ahead)
 }

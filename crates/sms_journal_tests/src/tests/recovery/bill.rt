@@ -6,6 +6,7 @@ use super::same::same;
 use sms_journal::{JournalKind, Listing, digests_of, run_listing};
 use std::alloc::{AllocError, Global};
 use std::test::Fail;
+use std::thread::Threads;
 
 const CONFIG: &[u8] = b"workers = 2";
 
@@ -82,10 +83,15 @@ fn journal_of(alloc: Global, kind: JournalKind, records: &str) -> Result<String,
 }
 
 /// What is printed, or the fault.
-fn listed(alloc: Global, journal: &[u8], listing: Listing) -> Result<String, Fail> {
+fn listed(
+    rt: &(impl AllocGlobal + Threads),
+    journal: &[u8],
+    listing: Listing,
+) -> Result<String, Fail> {
+    let alloc = rt.alloc();
     let mut out = Vec::new(alloc);
     let printed = run_listing(
-        alloc, CONFIG, ACCOUNTS, MESSAGES, None, journal, listing, &mut out,
+        rt, CONFIG, ACCOUNTS, MESSAGES, None, journal, listing, &mut out,
     );
     match printed {
         Ok(()) => match std::str::from_utf8(out.as_slice()) {
@@ -101,10 +107,10 @@ fn lists_the_parts_of_a_run(rt: HostRuntime) -> Result<(), Fail> {
     let alloc = rt.alloc();
     for (records, bill, doubts) in RUNS {
         let journal = journal_of(alloc, JournalKind::Run, records)?;
-        let got = listed(alloc, journal.as_bytes(), Listing::Bill)?;
+        let got = listed(&rt, journal.as_bytes(), Listing::Bill)?;
         let wanted = format!(in alloc; "{BILL}{bill}")?;
         same(&rt, got.as_str(), wanted.as_str());
-        let got = listed(alloc, journal.as_bytes(), Listing::Doubtful)?;
+        let got = listed(&rt, journal.as_bytes(), Listing::Doubtful)?;
         let wanted = format!(in alloc; "{DOUBTS}{doubts}")?;
         same(&rt, got.as_str(), wanted.as_str());
     }
@@ -116,10 +122,10 @@ fn lists_nothing_of_a_trial(rt: HostRuntime) -> Result<(), Fail> {
     let alloc = rt.alloc();
     let records = "begun,5,0\nsent,6,0,1,0,1\n";
     let journal = journal_of(alloc, JournalKind::Trial, records)?;
-    let got = listed(alloc, journal.as_bytes(), Listing::Bill)?;
+    let got = listed(&rt, journal.as_bytes(), Listing::Bill)?;
     same(&rt, got.as_str(), "journal of a trial");
     let journal = journal_of(alloc, JournalKind::Run, "begun,5,0\nbegun,5,0\n")?;
-    let got = listed(alloc, journal.as_bytes(), Listing::Doubtful)?;
+    let got = listed(&rt, journal.as_bytes(), Listing::Doubtful)?;
     same(&rt, got.as_str(), "journal record 3");
     Ok(())
 }

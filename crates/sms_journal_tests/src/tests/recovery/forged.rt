@@ -7,6 +7,7 @@ use sms_journal::{Digests, JournalKind, digests_of, run_recover};
 use std::alloc::{AllocError, Global};
 use std::process::Abort;
 use std::test::Fail;
+use std::thread::Threads;
 
 /// Messages are dealt to four workers, of which two are at each bind.
 const CONFIG: &[u8] = b"binds = 2\nworkers = 2\nattempts = 2\n";
@@ -254,12 +255,18 @@ const ROUNDS: [(&str, &str); 27] = [
 ];
 
 /// The status of what is recovered of a journal with these records, or the fault.
-fn said(alloc: Global, messages: &[u8], digests: &Digests, records: &str) -> Result<String, Fail> {
+fn said(
+    rt: &(impl AllocGlobal + Threads),
+    messages: &[u8],
+    digests: &Digests,
+    records: &str,
+) -> Result<String, Fail> {
+    let alloc = rt.alloc();
     let mut journal = head_of(alloc, JournalKind::Run, digests)?;
     journal.push_str(records)?;
     let mut out = Vec::new(alloc);
     match run_recover(
-        alloc,
+        rt,
         CONFIG,
         ACCOUNTS,
         messages,
@@ -276,11 +283,14 @@ fn said(alloc: Global, messages: &[u8], digests: &Digests, records: &str) -> Res
     }
 }
 
-fn check_journals(rt: &impl Abort, alloc: Global, journals: &[(&str, &str)]) -> Result<(), Fail> {
-    let messages = messages_of(alloc)?;
+fn check_journals(
+    rt: &(impl AllocGlobal + Abort + Threads),
+    journals: &[(&str, &str)],
+) -> Result<(), Fail> {
+    let messages = messages_of(rt.alloc())?;
     let digests = digests_of(CONFIG, ACCOUNTS, messages.as_bytes(), None);
     for (records, wanted) in journals {
-        let got = said(alloc, messages.as_bytes(), &digests, *records)?;
+        let got = said(rt, messages.as_bytes(), &digests, *records)?;
         same(rt, got.as_str(), *wanted);
     }
     Ok(())
@@ -288,10 +298,10 @@ fn check_journals(rt: &impl Abort, alloc: Global, journals: &[(&str, &str)]) -> 
 
 #[test]
 fn a_journal_that_no_run_wrote_is_refused(rt: HostRuntime) -> Result<(), Fail> {
-    check_journals(&rt, rt.alloc(), JOURNALS.as_slice())
+    check_journals(&rt, JOURNALS.as_slice())
 }
 
 #[test]
 fn rounds_that_no_run_had_are_refused(rt: HostRuntime) -> Result<(), Fail> {
-    check_journals(&rt, rt.alloc(), ROUNDS.as_slice())
+    check_journals(&rt, ROUNDS.as_slice())
 }

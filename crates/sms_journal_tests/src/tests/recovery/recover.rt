@@ -7,6 +7,7 @@ use sms_journal::{JournalKind, Recovered, digests_of, run_recover};
 use std::alloc::{AllocError, Global};
 use std::fmt::Write;
 use std::test::Fail;
+use std::thread::Threads;
 
 const CONFIG: &[u8] = b"workers = 2";
 
@@ -129,20 +130,25 @@ fn journal_as(
 }
 
 /// What is printed and the status, or the fault.
-fn recovered(alloc: Global, accounts: &[u8], journal: &[u8]) -> Result<String, Fail> {
-    recovered_as(alloc, accounts, journal, false)
+fn recovered(
+    rt: &(impl AllocGlobal + Threads),
+    accounts: &[u8],
+    journal: &[u8],
+) -> Result<String, Fail> {
+    recovered_as(rt, accounts, journal, false)
 }
 
 /// The same, where the journal may be one of a trial, which is printed behind the status.
 fn recovered_as(
-    alloc: Global,
+    rt: &(impl AllocGlobal + Threads),
     accounts: &[u8],
     journal: &[u8],
     trial: bool,
 ) -> Result<String, Fail> {
+    let alloc = rt.alloc();
     let mut out = Vec::new(alloc);
     let recovered = run_recover(
-        alloc, CONFIG, accounts, MESSAGES, None, journal, trial, &mut out,
+        rt, CONFIG, accounts, MESSAGES, None, journal, trial, &mut out,
     );
     match recovered {
         Ok(Recovered { status, kind }) => {
@@ -171,7 +177,7 @@ fn prints_what_the_run_would_have_printed(rt: HostRuntime) -> Result<(), Fail> {
     let accounts = accounts_with(alloc, "3")?;
     for (records, lines, amounts, status) in RUNS {
         let journal = journal_of(alloc, accounts.as_bytes(), records)?;
-        let got = recovered(alloc, accounts.as_bytes(), journal.as_bytes())?;
+        let got = recovered(&rt, accounts.as_bytes(), journal.as_bytes())?;
         let wanted = format!(in alloc; "{HEAD}{lines}{STATEMENT}{amounts}\n{status}")?;
         same(&rt, got.as_str(), wanted.as_str());
     }
@@ -184,13 +190,13 @@ fn tells_what_is_no_journal_of_a_run(rt: HostRuntime) -> Result<(), Fail> {
     for (records, credits, fault) in FAULTY {
         let accounts = accounts_with(alloc, credits)?;
         let journal = journal_of(alloc, accounts.as_bytes(), records)?;
-        let got = recovered(alloc, accounts.as_bytes(), journal.as_bytes())?;
+        let got = recovered(&rt, accounts.as_bytes(), journal.as_bytes())?;
         same(&rt, got.as_str(), fault);
     }
     let accounts = accounts_with(alloc, "3")?;
     let others = accounts_with(alloc, "4")?;
     let journal = journal_of(alloc, others.as_bytes(), "begun,5,0\n")?;
-    let got = recovered(alloc, accounts.as_bytes(), journal.as_bytes())?;
+    let got = recovered(&rt, accounts.as_bytes(), journal.as_bytes())?;
     same(&rt, got.as_str(), "journal record 1");
     Ok(())
 }
@@ -202,13 +208,13 @@ fn recovers_a_trial_only_where_one_may_be(rt: HostRuntime) -> Result<(), Fail> {
     let records = "begun,5,0\nsent,6,0,1,0,1\nheard,7,0,1,0,0,m1\n";
     let report = "0,1,1,charged,0,m1\n1,0,0,bind-closed,,\n";
     let of_trial = journal_as(alloc, JournalKind::Trial, accounts.as_bytes(), records)?;
-    let refused = recovered(alloc, accounts.as_bytes(), of_trial.as_bytes())?;
+    let refused = recovered(&rt, accounts.as_bytes(), of_trial.as_bytes())?;
     same(&rt, refused.as_str(), "journal of a trial");
-    let taken = recovered_as(alloc, accounts.as_bytes(), of_trial.as_bytes(), true)?;
+    let taken = recovered_as(&rt, accounts.as_bytes(), of_trial.as_bytes(), true)?;
     let wanted = format!(in alloc; "{HEAD}{report}{STATEMENT}2,0,1,0\n0 trial")?;
     same(&rt, taken.as_str(), wanted.as_str());
     let of_run = journal_of(alloc, accounts.as_bytes(), records)?;
-    let taken = recovered_as(alloc, accounts.as_bytes(), of_run.as_bytes(), true)?;
+    let taken = recovered_as(&rt, accounts.as_bytes(), of_run.as_bytes(), true)?;
     let wanted = format!(in alloc; "{HEAD}{report}{STATEMENT}2,0,1,0\n0")?;
     same(&rt, taken.as_str(), wanted.as_str());
     Ok(())
@@ -226,7 +232,7 @@ fn tells_a_report_of_each_front_of_a_journal(rt: HostRuntime) -> Result<(), Fail
         let front = &journal.as_bytes()[..octets];
         let mut out = Vec::new(alloc);
         match run_recover(
-            alloc,
+            &rt,
             CONFIG,
             accounts.as_bytes(),
             MESSAGES,

@@ -11,6 +11,7 @@ use sms_message::{Message, MessageEnd};
 use std::alloc::{AllocError, Global};
 use std::fmt::Write;
 use std::test::Fail;
+use std::thread::Threads;
 
 const CONFIG: &[u8] = b"workers = 1";
 
@@ -53,19 +54,22 @@ fn journal_of(alloc: Global, records: &str) -> Result<String, AllocError> {
 
 /// The run, or the text of the fault.
 fn read_by(
-    alloc: Global,
+    rt: &(impl AllocGlobal + Threads),
     config: &[u8],
     journal: &[u8],
 ) -> Result<Result<JournaledRun, String>, Fail> {
-    match read_run(alloc, config, ACCOUNTS, MESSAGES, None, journal, true) {
+    match read_run(rt, config, ACCOUNTS, MESSAGES, None, journal, true) {
         Ok(run) => Ok(Ok(run)),
-        Err(fault) => Ok(Err(fault_text(alloc, fault)?)),
+        Err(fault) => Ok(Err(fault_text(rt.alloc(), fault)?)),
     }
 }
 
 /// The same by the config that it was begun with.
-fn read(alloc: Global, journal: &[u8]) -> Result<Result<JournaledRun, String>, Fail> {
-    read_by(alloc, CONFIG, journal)
+fn read(
+    rt: &(impl AllocGlobal + Threads),
+    journal: &[u8],
+) -> Result<Result<JournaledRun, String>, Fail> {
+    read_by(rt, CONFIG, journal)
 }
 
 /// The numbers of messages.
@@ -100,16 +104,20 @@ fn told(alloc: Global, run: &JournaledRun, length: usize) -> Result<String, Fail
 }
 
 /// What is said of the run of a journal, by this config, or the fault.
-fn said_by(alloc: Global, config: &[u8], journal: &[u8]) -> Result<String, Fail> {
-    match read_by(alloc, config, journal)? {
-        Ok(run) => told(alloc, &run, journal.len()),
+fn said_by(
+    rt: &(impl AllocGlobal + Threads),
+    config: &[u8],
+    journal: &[u8],
+) -> Result<String, Fail> {
+    match read_by(rt, config, journal)? {
+        Ok(run) => told(rt.alloc(), &run, journal.len()),
         Err(fault) => Ok(fault),
     }
 }
 
 /// The same by the config that it was begun with.
-fn said(alloc: Global, journal: &[u8]) -> Result<String, Fail> {
-    said_by(alloc, CONFIG, journal)
+fn said(rt: &(impl AllocGlobal + Threads), journal: &[u8]) -> Result<String, Fail> {
+    said_by(rt, CONFIG, journal)
 }
 
 #[test]
@@ -117,7 +125,7 @@ fn tells_what_a_run_has_left(rt: HostRuntime) -> Result<(), Fail> {
     let alloc = rt.alloc();
     for (records, wanted) in &RUNS {
         let journal = journal_of(alloc, *records)?;
-        let got = said(alloc, journal.as_bytes())?;
+        let got = said(&rt, journal.as_bytes())?;
         same(&rt, got.as_str(), *wanted);
     }
     Ok(())
@@ -129,7 +137,7 @@ fn a_truncated_header_is_cut_off(rt: HostRuntime) -> Result<(), Fail> {
     let alloc = rt.alloc();
     let journal = journal_of(alloc, "")?;
     let length = journal.len().saturating_sub(1);
-    let got = said(alloc, &journal.as_bytes()[..length])?;
+    let got = said(&rt, &journal.as_bytes()[..length])?;
     let wanted = format!(in alloc; "1,{length},3: 0 1 2, 6")?;
     same(&rt, got.as_str(), wanted.as_str());
     Ok(())
@@ -163,7 +171,7 @@ fn a_run_of_keys_goes_on_by_another_config(rt: HostRuntime) -> Result<(), Fail> 
     let mut journal = head_of(alloc, JournalKind::Run, &files.keyed())?;
     journal.push_str(OF_ONE_WORKER)?;
     for (config, wanted) in &CONFIGS {
-        let got = said_by(alloc, config.as_bytes(), journal.as_bytes())?;
+        let got = said_by(&rt, config.as_bytes(), journal.as_bytes())?;
         same(&rt, got.as_str(), *wanted);
     }
     Ok(())
@@ -220,8 +228,8 @@ fn put_over(alloc: Global, before: JournaledRun, later: JournaledRun) -> Result<
 #[test]
 fn a_further_round_is_put_over_those_before(rt: HostRuntime) -> Result<(), Fail> {
     let alloc = rt.alloc();
-    let before = read(alloc, journal_of(alloc, BEFORE)?.as_bytes())?;
-    let later = read(alloc, journal_of(alloc, LATER)?.as_bytes())?;
+    let before = read(&rt, journal_of(alloc, BEFORE)?.as_bytes())?;
+    let later = read(&rt, journal_of(alloc, LATER)?.as_bytes())?;
     let got = match (before, later) {
         (Ok(before), Ok(later)) => put_over(alloc, before, later)?,
         (Err(fault), _) | (_, Err(fault)) => fault,

@@ -21,7 +21,7 @@ may_end_run-requires-clause-known c =
     let says : end_in n ≡ Some status = sym c.status_in.ensures ∙ c.in-Some.is in
     let there : slice_get round a.end ≡ Some (End status) = subst (λ (m : Note). slice_get round a.end ≡ Some m) (end_is n status says) (got_at round a.end n (omega arith) c.index-round-end.is) in
     let known = c.ends_before-known in
-    known_before a.rules.now a.messages.now a.notes.now round going.from a.end status a.ends.now known.result c.requires.behind c.requires.from there c.requires.ends known.ensures.same known.ensures.last
+    known_before a.rules.now a.messages.now a.notes.now round going.from a.end status a.ends known.result c.requires.behind c.requires.from there c.requires.ends known.ensures.same known.ensures.last
 
 pub returns-then-not-branch-clause-faulty : goal.returns-then-not-branch-clause-faulty
 returns-then-not-branch-clause-faulty c = λ k is front.

@@ -12,7 +12,7 @@ use Rattle.sms_journal.proofs.NoteLists.{noted_fault, recovered_of}
 use Rattle.sms_journal.proofs.recovery.resuming.run_of.Goals as goal
 
 pub returns-in-Ok-clause-run : goal.returns-in-Ok-clause-run
-returns-in-Ok-clause-run c =
+returns-in-Ok-clause-run g c =
     let input = c.args.input in
     let first = c.args.read.now.first in
     let notes = c.args.read.now.notes.items in
@@ -39,7 +39,7 @@ returns-in-Ok-clause-run c =
     }
 
 pub returns-in-Err-clause-refused : goal.returns-in-Err-clause-refused
-returns-in-Err-clause-refused c =
+returns-in-Err-clause-refused g c =
     let input = c.args.input in
     let first = c.args.read.now.first in
     let rules = c.rules_of-rules.result in

@@ -1,6 +1,6 @@
 use Rattle.std.proofs.Common.{◌≤◌}
 use Rattle.sms_journal.specs.Going.{AreOfOneRound, IsCurrent, between}
-use Rattle.sms_journal.proofs.notes.rounds.check_with_ends.Given as goal
+use Rattle.sms_journal.proofs.notes.run_check.check_front.Given as goal
 
 abbrev pub invariant-loop-place : goal.invariant-loop-place
 invariant-loop-place l = record {

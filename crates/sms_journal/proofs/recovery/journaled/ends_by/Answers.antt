@@ -1,8 +1,8 @@
 use Rattle.std.proofs.Common.{rules}
 use Rattle.sms_journal.proofs.Recoveries.{note_fault}
-use Rattle.sms_journal.proofs.recovery.journaled.checked.Goals as goal
+use Rattle.sms_journal.proofs.recovery.journaled.ends_by.Goals as goal
 
 pub returns-in-BadNote-clause-refused : goal.returns-in-BadNote-clause-refused
-returns-in-BadNote-clause-refused c =
+returns-in-BadNote-clause-refused g c =
     note_fault c.args.rules.now c.args.size c.args.messages.now c.args.notes.now c.fault_at.result c.in-BadNote.place c.fault_at.ensures
-    (c.check_with_ends.ensures.faulty c.in-BadNote.place (search rules))
+    (c.checked_ends.ensures.faulty c.in-BadNote.place (search rules))
