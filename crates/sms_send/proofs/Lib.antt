@@ -27,4 +27,6 @@ pub mod Resuming
 pub mod Reaching
 pub mod Characters
 pub mod Paying
+pub mod CoveredParts
 pub mod ModelRuns
+pub mod NextRounds

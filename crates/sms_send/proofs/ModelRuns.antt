@@ -33,7 +33,7 @@ use Rattle.sms_worker.specs.Types.{MessageEnd}
 use Rattle.sms_driver.specs.declared.settings.RunSettings.{RunSettings}
 use Rattle.sms_files.specs.Inputs.{Told}
 use Rattle.sms_files.specs.declared.input.Input.{Input}
-use Rattle.sms_journal.specs.EndLaws.{IsEndBy, IsModelRun, IsRowBy}
+use Rattle.sms_journal.specs.EndLaws.{IsCoveredBy, IsEndBy, IsModelRun, IsRowBy}
 use Rattle.sms_journal.specs.Left.{SaysSame, left_in}
 use Rattle.sms_journal.specs.ScheduleLaws.{IsRunOf}
 use Rattle.sms_journal.specs.SentParts.{parts_sent}
@@ -42,6 +42,7 @@ use Rattle.sms_journal.proofs.Over.{holds_after}
 use Rattle.sms_send.specs.ModelLaws.{EachSendingIsARun, HasModel, IsModelled}
 use Rattle.sms_send.specs.Rounds.{AreRounds, IsSumUpTo, Round}
 use Rattle.sms_send.specs.declared.sending.sender.Ended.{Ended}
+use Rattle.sms_send.proofs.CoveredParts.{all_covered, covered_over_rounds, small_credits}
 
 -- ---- a message that says the same has the same end
 
@@ -123,9 +124,9 @@ counted sum n low (inr top) = let most = top.1 in absurd (omega arith)
 
 -- by the rules of the sending
 modelled : (input : Input) (sent : Ended) (rules : Rules) → rules.policy ≡ input.config.retry.policy → rules.tariff ≡ input.tariff → HasModel input sent
-    → AllZip (IsEndBy rules (length (credits_of input.openings.items))) input.messages.items sent.ends.items
+    → AllZip (IsCoveredBy (credits_of input.openings.items)) input.messages.items sent.ends.items → AllZip (IsEndBy rules (length (credits_of input.openings.items))) input.messages.items sent.ends.items
     → ((i : ℕ) → i < length (credits_of input.openings.items) → IsRowBy (topped_at (credits_of input.openings.items) i) i input.messages.items sent.ends.items (row_at sent.statement i)) → IsModelled input sent
-modelled input sent rules policy tariff h ends rows_are =
+modelled input sent rules policy tariff h covered ends rows_are =
     let opened : List ℕ = credits_of input.openings.items in
     let attempts : rules.policy.attempts ≡ input.config.retry.policy.attempts = ap (λ (p : Policy). p.attempts) policy in
     let is : IsModelRun rules opened input.messages.items sent.ends.items sent.statement = sendings_are_runs rules opened input.messages.items sent.ends.items sent.statement (record {
@@ -134,7 +135,7 @@ modelled input sent rules policy tariff h ends rows_are =
       tariff = subst IsTariff (sym tariff) h.tariff;
       ends = ends;
       rows_are = rows_are;
-      covered = h.covered;
+      covered = covered;
       numbers = h.numbers;
     }) in
     let as_asked : (run : IsRunOf input.config.retry.policy.attempts opened (parts_sent input.messages.items sent.ends.items)) × ((i : ℕ) → i < length opened → rows run.world i ≡ Some (row_at sent.statement i)) =
@@ -146,12 +147,13 @@ each_sending_is_a_run tells None input sent is h =
     let opened : List ℕ = credits_of input.openings.items in
     let long : length opened ≡ length input.openings.items = length-map input.openings.items (λ (o : Opening). o.credits) in
     modelled input sent is.rules is.says.policy is.says.tariff_is h
+    (all_covered is.rules (length input.openings.items) opened opened (λ i. omega arith) input.messages.items input.messages.items sent.ends.items (same_all input.messages.items) is.ends is.covered)
     (ends_by is.rules (length opened) input.messages.items input.messages.items sent.ends.items (same_all input.messages.items)
     (subst (λ (n : ℕ). AllZip (IsEndOf is.rules n) input.messages.items sent.ends.items) (sym long) is.ends))
     (λ i within. let row = is.rows.sums i within in record { topped_is = row.topped_is; reserved = row.reserved; charged = row.charged; returned = row.returned; balanced = row.balanced })
 each_sending_is_a_run tells (Some again) input sent is h =
     let opened : List ℕ = credits_of input.openings.items in
-    modelled input sent is.settings.rules is.are.says.policy is.are.says.tariff_is h (ends_over_rounds tells is.settings opened input.messages.items is.rounds sent.ends.items sent.statement is.come)
+    modelled input sent is.settings.rules is.are.says.policy is.are.says.tariff_is h (covered_over_rounds tells is.settings opened input.messages.items is.rounds sent.ends.items sent.statement (small_credits opened h.topped) is.come) (ends_over_rounds tells is.settings opened input.messages.items is.rounds sent.ends.items sent.statement is.come)
     (λ i within. let row = is.rows.sums i within in record {
       topped_is = row.topped_is;
       reserved = row.reserved;

@@ -5,6 +5,7 @@ use Rattle.std.specs.List.{AllZip}
 use Rattle.sms_book.specs.Openings.{credits_of}
 use Rattle.sms_book.specs.Tariffs.{Price}
 use Rattle.sms_bind.specs.Frames.{AreSame, requests}
+use Rattle.sms_worker.specs.Credit.{IsCovered}
 use Rattle.sms_worker.specs.EndOf.{IsEndOf}
 use Rattle.sms_worker.specs.Frames.{frames_in}
 use Rattle.sms_message.specs.Limits.{most_turns}
@@ -66,7 +67,8 @@ limits_by config throttle = record { answer_ms = config.retry.answer_ms; rate = 
 abbrev pub unbinds_in : List BindEnd → List (List ℕ)
 unbinds_in binds = flat (map (λ b. handed_in b.unbind_result) binds)
 
--- there is an end for each message, in order, which it meets by the rules, a row for each account,
+-- there is an end for each message, in order, which it meets by the rules, and it was begun only where its account was
+-- opened with what all of its parts cost; a row for each account,
 -- whose amounts are the sums over these ends, and an end for each of the config's binds, each of so
 -- many workers as the config says; and bind by bind each attempt with a reply has a place of its own,
 -- where that reply stands, among the answers in what was read of the bind, of which `told` is what it will give, where that is known, and no
@@ -81,6 +83,7 @@ pub record IsSent (told : ℕ → Told) (input : Input) (ended : Ended) : Type 0
   pub rules : Rules
   pub says : IsRulesOf input.config.retry input.config.limits input.config.flags input.tariff most_turns rules
   pub ends : AllZip (IsEndOf rules (length input.openings.items)) input.messages.items ended.ends.items
+  pub covered : AllZip (IsCovered (credits_of input.openings.items) rules) input.messages.items ended.ends.items
   pub rows : AreRows (credits_of input.openings.items) input.messages.items ended.ends.items ended.statement
   pub binds : AreBinds input.config.limits.binds input.config.limits.workers ended.binds.items
   pub settings : BindSettings

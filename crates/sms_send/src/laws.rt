@@ -32,8 +32,7 @@ pub fn each_charge_of_a_resumed_run_rests_on_an_answer()
 {}
 
 /// Whatever was sent, in one round or in several, is a run of the model, in which each event is done: its rows are the
-/// statement's, its requests are the parts that were sent, and no slot is held at its end. It is asked that no part costs
-/// more than its account was opened with.
+/// statement's, its requests are the parts that were sent, and no slot is held at its end.
 pub fn each_sending_is_a_run()
     ensures { EachSendingIsARun }
 {}

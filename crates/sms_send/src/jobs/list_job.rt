@@ -12,11 +12,11 @@ use crate::files::run_files::{RunFiles, read_run};
 use crate::jobs::recover_job::fault_of_run;
 use sms_devices::JournalFiles;
 use sms_journal::{Listing, run_listing};
-use std::alloc::Global;
 use std::io::Write;
+use std::thread::Threads;
 
 /// Prints what is listed of a run, by its journal. A journal that a process holds isn't read. The exit status is 0.
-pub fn list_job<R: AllocGlobal + InputFiles + JournalFiles, W: Write>(
+pub fn list_job<R: AllocGlobal + InputFiles + JournalFiles + Threads, W: Write>(
     rt: &R,
     context: &mut JobContext,
     order: ListArgs,
@@ -34,7 +34,7 @@ pub fn list_job<R: AllocGlobal + InputFiles + JournalFiles, W: Write>(
 }
 
 /// The same of a journal that no process holds.
-fn list_free<R: AllocGlobal + InputFiles, W: Write>(
+fn list_free<R: AllocGlobal + InputFiles + Threads, W: Write>(
     rt: &R,
     context: &mut JobContext,
     order: ListArgs,
@@ -51,14 +51,14 @@ fn list_free<R: AllocGlobal + InputFiles, W: Write>(
         Err(_) => return Err(Fault::OutOfMemory),
     };
     match read_run(rt, context, order.config, order.journal) {
-        Ok(run) => listed(rt.alloc(), name.as_str(), &run, listing, output),
+        Ok(run) => listed(rt, name.as_str(), &run, listing, output),
         Err(fault) => Err(fault),
     }
 }
 
 /// The same of files that were read, by a config of this name.
-fn listed<W: Write>(
-    alloc: Global,
+fn listed<R: AllocGlobal + Threads, W: Write>(
+    rt: &R,
     name: &str,
     run: &RunFiles,
     listing: Listing,
@@ -70,7 +70,7 @@ fn listed<W: Write>(
     ensures unwritten { IfErr result (λ fault. fault ≢ output_failed → output.new ≡ output.old) }
 {
     let printed = run_listing(
-        alloc,
+        rt,
         run.config.as_slice(),
         run.named.accounts.as_slice(),
         run.named.messages.as_slice(),
@@ -81,6 +81,6 @@ fn listed<W: Write>(
     );
     match printed {
         Ok(()) => Ok(0),
-        Err(fault) => Err(fault_of_run(alloc, name, &run.names, fault)),
+        Err(fault) => Err(fault_of_run(rt.alloc(), name, &run.names, fault)),
     }
 }

@@ -22,6 +22,7 @@ use sms_journal::{
 };
 use std::alloc::Global;
 use std::io::Write;
+use std::thread::Threads;
 
 /// The line of a trial.
 const TRIAL: &str = "trial: no message centre saw any of it\n";
@@ -29,7 +30,7 @@ const TRIAL: &str = "trial: no message centre saw any of it\n";
 /// Prints what a run would have reported, by its journal, and gives the exit status that it would have
 /// had. A journal that a process holds isn't read. Of a trial that is asked for standard error says that no
 /// message centre saw any of it.
-pub fn recover_job<R: AllocGlobal + InputFiles + JournalFiles, W: Write, E: Write>(
+pub fn recover_job<R: AllocGlobal + InputFiles + JournalFiles + Threads, W: Write, E: Write>(
     rt: &R,
     context: &mut JobContext,
     order: RecoverArgs,
@@ -50,7 +51,7 @@ pub fn recover_job<R: AllocGlobal + InputFiles + JournalFiles, W: Write, E: Writ
 }
 
 /// The same of a journal that no process holds.
-fn recover_free<R: AllocGlobal + InputFiles, W: Write, E: Write>(
+fn recover_free<R: AllocGlobal + InputFiles + Threads, W: Write, E: Write>(
     rt: &R,
     context: &mut JobContext,
     order: RecoverArgs,
@@ -70,14 +71,14 @@ fn recover_free<R: AllocGlobal + InputFiles, W: Write, E: Write>(
         Err(_) => return Err(Fault::OutOfMemory),
     };
     match read_run(rt, context, order.config, order.journal) {
-        Ok(run) => recover_run(rt.alloc(), name.as_str(), &run, trial, output, error),
+        Ok(run) => recover_run(rt, name.as_str(), &run, trial, output, error),
         Err(fault) => Err(fault),
     }
 }
 
 /// The same of files that were read, by a config of this name.
-fn recover_run<W: Write, E: Write>(
-    alloc: Global,
+fn recover_run<R: AllocGlobal + Threads, W: Write, E: Write>(
+    rt: &R,
     name: &str,
     run: &RunFiles,
     trial: bool,
@@ -90,15 +91,15 @@ fn recover_run<W: Write, E: Write>(
     ensures told { WritesFront (E.contents error.old) (E.contents error.new) trial_line }
     ensures unwritten { IfErr result (λ fault. fault ≢ output_failed → (output.new ≡ output.old) × (error.new ≡ error.old)) }
 {
-    match recovered(alloc, name, run, trial, output) {
+    match recovered(rt, name, run, trial, output) {
         Ok(done) => tell_kind(error, done),
         Err(fault) => Err(fault),
     }
 }
 
 /// What was recovered of files that were read, by a config of this name.
-fn recovered<W: Write>(
-    alloc: Global,
+fn recovered<R: AllocGlobal + Threads, W: Write>(
+    rt: &R,
     name: &str,
     run: &RunFiles,
     trial: bool,
@@ -110,7 +111,7 @@ fn recovered<W: Write>(
     ensures unwritten { IfErr result (λ fault. fault ≢ output_failed → output.new ≡ output.old) }
 {
     let recovered = run_recover(
-        alloc,
+        rt,
         run.config.as_slice(),
         run.named.accounts.as_slice(),
         run.named.messages.as_slice(),
@@ -121,7 +122,7 @@ fn recovered<W: Write>(
     );
     match recovered {
         Ok(done) => Ok(done),
-        Err(fault) => Err(fault_of_run(alloc, name, &run.names, fault)),
+        Err(fault) => Err(fault_of_run(rt.alloc(), name, &run.names, fault)),
     }
 }
 

@@ -31,6 +31,7 @@ use sms_journal::{JournalKind, JournaledRun, read_run};
 use std::alloc::Global;
 use std::io::Write;
 use std::marker::Brand;
+use std::thread::Threads;
 
 /// The journal of this name, which this process holds from here on. The name is the fault where it can't be opened, and
 /// the journal where a process holds it.
@@ -49,8 +50,8 @@ fn open_journal<R: AllocGlobal + JournalFiles>(rt: &R, name: &str) -> Result<R::
 }
 
 /// What the journal says of the run of these files, by a config of this name. One of a trial is refused.
-fn journaled(
-    alloc: Global,
+fn journaled<R: AllocGlobal + Threads>(
+    rt: &R,
     name: &str,
     files: &RunFiles,
     strict: bool,
@@ -59,7 +60,7 @@ fn journaled(
     ensures refused { IfErr result (FailsResumed strict files.now) }
 {
     let read = read_run(
-        alloc,
+        rt,
         files.config.as_slice(),
         files.named.accounts.as_slice(),
         files.named.messages.as_slice(),
@@ -69,7 +70,7 @@ fn journaled(
     );
     let run = match read {
         Ok(run) => run,
-        Err(fault) => return Err(fault_of_run(alloc, name, &files.names, fault)),
+        Err(fault) => return Err(fault_of_run(rt.alloc(), name, &files.names, fault)),
     };
     if run.kind == JournalKind::Trial {
         return Err(Fault::Trial);
@@ -121,7 +122,7 @@ fn read_journaled<R: FileModes + Host + InputFiles>(
         Ok(files) => files,
         Err(fault) => return Err(fault),
     };
-    let run = journaled(rt.alloc(), order.config.as_str(), &files, order.strict);
+    let run = journaled(rt, order.config.as_str(), &files, order.strict);
     drop(files);
     run
 }

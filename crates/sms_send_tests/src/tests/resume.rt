@@ -199,6 +199,26 @@ fn goes_on_by_a_journal(rt: HostRuntime) -> Result<(), Fail> {
     Ok(())
 }
 
+/// The octets of a first line that has the config's digest, up to the one behind that.
+const CONFIG_TIE: usize = 75;
+
+/// A journal that was truncated within its first line gets one anew, which has the config's keys and no digest of it.
+#[test]
+fn begins_a_truncated_journal_anew(rt: HostRuntime) -> Result<(), Fail> {
+    let centre = NearCentre::new(&rt);
+    centre.write_files(&rt, &NAMES, 1)?;
+    let head = first_line(&rt, &centre)?;
+    let others = head.as_str().get(CONFIG_TIE..).unwrap_or("");
+    let keyed = format!(in rt.alloc(); "journal,2,3,0,1,1,{others}")?;
+    want_resumed(&rt, &centre, ("", keyed.as_str()), (5, NONE_SENT))?;
+    let cut = head.as_str().get(..40).unwrap_or("");
+    want_resumed(&rt, &centre, (cut, keyed.as_str()), (5, NONE_SENT))?;
+    let cut = head.as_str().trim_end();
+    want_resumed(&rt, &centre, (cut, keyed.as_str()), (5, NONE_SENT))?;
+    remove_files(&rt, &NAMES);
+    Ok(())
+}
+
 // That the run doesn't go on, for this fault: nothing is printed, and the journal is as it was.
 fn want_refused<R: FileModes + FullNames + Host + InputFiles + LedgerFiles + Files + Abort>(
     rt: &R,

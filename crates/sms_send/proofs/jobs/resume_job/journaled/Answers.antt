@@ -4,7 +4,7 @@ use Rattle.sms_send.proofs.Runs.{of_files}
 use Rattle.sms_send.proofs.jobs.resume_job.journaled.Goals as goal
 
 pub returns-in-Err-clause-refused : goal.returns-in-Err-clause-refused
-returns-in-Err-clause-refused c =
+returns-in-Err-clause-refused g c =
     inl (
       c.in-Err.fault,
       of_files (λ x a m t w. IsFaultOfRun x a m t w c.args.strict c.in-Err.fault) _ _ _ _ _ _ _ _ _ _
@@ -13,7 +13,7 @@ returns-in-Err-clause-refused c =
     )
 
 pub returns-then-eq-clause-refused : goal.returns-then-eq-clause-refused
-returns-then-eq-clause-refused c =
+returns-then-eq-clause-refused g c =
     inr (
       refl,
       (
@@ -25,7 +25,7 @@ returns-then-eq-clause-refused c =
     )
 
 pub returns-clause-run : goal.returns-clause-run
-returns-clause-run c = (
+returns-clause-run g c = (
   of_files (λ x a m t w. IsRunOfJournal x a m t w c.in-Ok.run') _ _ _ _ _ _ _ _ _ _
       c.as_slice.ensures.value c.as_slice-2.ensures.value c.as_slice-3.ensures.value c.tariff.ensures c.as_slice-4.ensures.value c.in-Ok.ensures.run,
   search rules,

@@ -4,6 +4,7 @@ use Rattle.sms_book.specs.Openings.{credits_of}
 use Rattle.sms_book.specs.Tariffs.{Price}
 use Rattle.sms_book.specs.declared.opening.Opening.{Opening}
 use Rattle.sms_bind.specs.Frames.{AreSame, requests}
+use Rattle.sms_worker.specs.Credit.{IsCovered}
 use Rattle.sms_worker.specs.EndOf.{IsEndOf}
 use Rattle.sms_worker.specs.Frames.{frames_in}
 use Rattle.sms_message.specs.declared.message.Message.{Message}
@@ -44,6 +45,8 @@ returns-clause-sent g c =
       says = is.says;
       ends = subst (λ (os : List Opening). AllZip (IsEndOf run.rules (length os)) input.messages.items ends) slice
           (subst (λ (ms : Vec Message Global). AllZip (IsEndOf run.rules (length c.as_slice.result.now)) ms.items ends) e.messages sent.ends);
+      covered = subst (λ (os : List Opening). AllZip (IsCovered (credits_of os) run.rules) input.messages.items ends) slice
+          (subst (λ (ms : Vec Message Global). AllZip (IsCovered (credits_of c.as_slice.result.now) run.rules) ms.items ends) e.messages sent.covered);
       rows = subst (λ (os : List Opening). AreRows (credits_of os) input.messages.items ends c.in-Ok.sending.statement) slice
           (subst (λ (ms : Vec Message Global). AreRows (credits_of c.as_slice.result.now) ms.items ends c.in-Ok.sending.statement) e.messages sent.rows);
       binds = for_settings input.config input.tariff run is (λ b w. AreBinds b w binds) sent.binds;
