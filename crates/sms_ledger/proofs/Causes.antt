@@ -110,3 +110,10 @@ no_row_there a q f row none = here (bytes_eq a q) refl
     here : (b : Bool) → bytes_eq a q ≡ b → f q ≡ (if b then option_map (λ _. row) (f q) else f q)
     here true e = let gone : f q ≡ None = ap f (sym (same_text a q e)) ∙ none in gone ∙ sym (ap (option_map (λ _. row)) gone)
     here false e = refl
+
+pub row_there : (a q : List ℕ) (f : List ℕ → Option Row) (row : Row) → is_some (f a) ≡ true → (if bytes_eq a q then option_map (λ _. row) (f q) else f q) ≡ set_at a row f q
+row_there a q f row some = here (bytes_eq a q) refl
+  where
+    here : (b : Bool) → bytes_eq a q ≡ b → (if b then option_map (λ _. row) (f q) else f q) ≡ (if b then Some row else f q)
+    here true e = let there = some_is (f a) some in ap (option_map (λ _. row)) (ap f (sym (same_text a q e)) ∙ there.1)
+    here false e = refl

@@ -4,6 +4,7 @@ use Rattle.std.specs.Prelude.{◌==◌, unwrap_or, if◌then◌else◌, decimal}
 use Rattle.std.proofs.lemmas.Bool.{eqb-true}
 use Rattle.std.proofs.lemmas.Bool.Decides.{nat_tests}
 use Rattle.std.proofs.lemmas.List.{take-append-drop}
+use Rattle.memchr.specs.Find.{NoneBefore, Nowhere, Passes, is_byte}
 use Rattle.sms_ledger.specs.declared.entry.Entry.{Entry}
 use Rattle.sms_ledger.specs.declared.entry.Entry.TheVariants.{Paid, Taken, Returned, Decided}
 use Rattle.sms_ledger.specs.Lines.{BeginsWith, HasNoFeed, IsEntry, IsOneLine, IsU64, feed_at}
@@ -13,6 +14,24 @@ use Rattle.sms_ledger.proofs.Fields.{line_is, no_end_fate, no_end_number, no_end
 use Rattle.sms_ledger.proofs.NameFields.{HasNoEnd, no_end_name, no_end_run}
 
 -- ---- the first line of a text
+
+pub first_feed : (text : List ℕ) (k : ℕ) → NoneBefore (Passes (is_byte 10) text) 0 (length text) k → Passes (is_byte 10) text k → k ≡ feed_at text
+first_feed [] k n p = absurd (omega (arith, n.high))
+first_feed (c ∷ cs) zero n p = sym (ap (λ (b : Bool). if b then 0 else suc (feed_at cs)) p)
+first_feed (c ∷ cs) (suc j) n p =
+    here (c == 10) refl (first_feed cs j (record { low = omega arith; high = omega (arith, n.high); before = λ i low high there. n.before (suc i) (omega arith) (omega (arith, high)) there }) p)
+  where
+    here : (b : Bool) → (c == 10) ≡ b → j ≡ feed_at cs → suc j ≡ (if b then 0 else suc (feed_at cs))
+    here true is later = absurd (n.before 0 (omega arith) (omega arith) is)
+    here false is later = ap suc later
+
+pub no_feed_there : (text : List ℕ) → Nowhere (Passes (is_byte 10) text) 0 (length text) → length text ≡ feed_at text
+no_feed_there [] n = refl
+no_feed_there (c ∷ cs) n = here (c == 10) refl (no_feed_there cs (λ i low high there. n (suc i) (omega arith) (omega (arith, high)) there))
+  where
+    here : (b : Bool) → (c == 10) ≡ b → length cs ≡ feed_at cs → suc (length cs) ≡ (if b then 0 else suc (feed_at cs))
+    here true is later = absurd (n 0 (omega arith) (omega arith) is)
+    here false is later = ap suc later
 
 none_past : (text : List ℕ) → length text ≤ feed_at text → HasNoFeed text
 none_past [] h = tt

@@ -2,7 +2,7 @@
 use Rattle.std.proofs.Common.{◌≡◌, ℕ, List, [], ◌∷◌, ◌++◌, take, inl, inr, refl, sym, ap, ◌∙◌, subst, append-nil}
 use Rattle.std.proofs.lemmas.List.Concat.{flat_map-cons}
 use Rattle.sms_ledger.specs.declared.entry.Entry.{Entry}
-use Rattle.sms_ledger.specs.Books.{AreBooked, State, after_all, books_of}
+use Rattle.sms_ledger.specs.Books.{AreBooked, State, after_all}
 use Rattle.sms_ledger.specs.Lines.{IsBegunText, IsFileOf, IsU64, IsUnbegun, IsWholeLength, IsWholeText, Spells}
 use Rattle.sms_ledger.specs.Posting.{appended_text, lines_of}
 use Rattle.sms_ledger.specs.PostingLaws.{AreEntries, FilesGoOn, FilesTakeEntries}

@@ -1,6 +1,10 @@
 //! What is booked, and what is known of it.
 
+ghost use Rattle.std.specs.Prelude.{◌≡◌, IfOk};
+
 use crate::name::{Name, Run, RunAccount};
+use sms_files::memory::NoMemory;
+use std::alloc::Global;
 
 /// Credits that are paid for an account.
 #[derive(Debug, Drop)]
@@ -9,6 +13,22 @@ pub struct Payment {
     pub credits: u64,
     /// The payment's own name, if it has one.
     pub reference: Option<Name>,
+}
+
+impl Payment {
+    pub(crate) fn copy(&self, alloc: Global) -> Result<Payment, NoMemory>
+        ensures { IfOk result (λ p. p ≡ self.now) }
+    {
+        let reference = match &self.reference {
+            Some(reference) => Some(reference.copy(alloc)?),
+            None => None,
+        };
+        Ok(Payment {
+            account: self.account.copy(alloc)?,
+            credits: self.credits,
+            reference,
+        })
+    }
 }
 
 /// Free credits of an account that a run takes for its sending.

@@ -1,6 +1,6 @@
 //! Octets that are spelled by characters.
 
-ghost use Rattle.std.specs.Prelude.{◌≡◌, ◌++◌, IfOk, OnOk, string_bytes, ◌*◌, ◌+◌, ◌<◌, ◌≤◌, ℕ, List, ◌∷◌, true, false};
+ghost use Rattle.std.specs.Prelude.{◌≡◌, ◌++◌, IfOk, OnOk, string_bytes, ◌*◌, ◌+◌, ◌<◌, ◌≤◌, ℕ, List, ◌∷◌, true, false, drop, length};
 ghost use Rattle.sms_ledger.specs.Names.{hex_digit as digit_of, octet_text, octets_text, digit_in as digit_said, is_escaped as escaped, is_hex as hex, is_plain as plain};
 ghost use Rattle.sms_ledger.specs.declared.escape.Escape.TheVariants.{Plain};
 
@@ -86,12 +86,25 @@ fn next(escape: Escape, octet: u8) -> Escape
     }
 }
 
+/// How many octets at the front are letters, digits and others behind the comma that stand for themselves.
+fn plain_front(text: &[u8]) -> usize
+    ensures within { result ≤ length text.now }
+    ensures rest { escaped Plain (drop result text.now) ≡ escaped Plain text.now }
+{
+    let mut at = 0;
+    while at < text.len() && text[at] > b',' && text[at] <= b'~' {
+        at += 1;
+    }
+    at
+}
+
 /// Whether the text spells octets.
 pub(crate) fn is_escaped(text: &[u8]) -> bool
     ensures { result ≡ escaped Plain text.now }
 {
     let mut escape = Escape::Plain;
-    for octet in text {
+    let rest = &text[plain_front(text)..];
+    for octet in rest {
         escape = next(escape, *octet);
     }
     matches!(escape, Escape::Plain)

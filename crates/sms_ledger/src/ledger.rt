@@ -44,10 +44,21 @@ impl Ledger {
         ensures err { IfErr result (IsRefused entry.now (state_of self.old.books) (state_of self.new.books)) }
     {
         match entry {
-            Entry::Paid(p) => pay(&mut self.books, alloc, p),
+            Entry::Paid(p) => pay(&mut self.books, alloc, p.copy(alloc)?),
             Entry::Taken(t) => take(&mut self.books, alloc, t),
             Entry::Returned(b) => give_back(&mut self.books, alloc, b),
             Entry::Decided(d) => decide(&mut self.books, alloc, d),
+        }
+    }
+
+    /// The same of an entry that nobody needs afterwards, so that a payment's names aren't copied.
+    pub(crate) fn enter(&mut self, alloc: Global, entry: Entry) -> Result<(), Refusal>
+        ensures ok { OnOk result (IsBooked entry (state_of self.old.books) (state_of self.new.books)) }
+        ensures err { IfErr result (IsRefused entry (state_of self.old.books) (state_of self.new.books)) }
+    {
+        match entry {
+            Entry::Paid(p) => pay(&mut self.books, alloc, p),
+            other => self.book(alloc, &other),
         }
     }
 

@@ -9,9 +9,10 @@ ghost use Rattle.sms_ledger.specs.Lines.{BeginsWith, HasNoFeed, IsFaulty, IsFaul
 use crate::entry::Entry;
 use crate::fault::Fault;
 use crate::ledger::Ledger;
-use crate::reading::{entry_in, time_in};
+use crate::reading::{head_in, kind_in, u64_in};
 use crate::refusal::Refusal;
 use crate::text::write_entry;
+use memchr::memchr;
 use sms_files::memory::{self, NoMemory};
 use std::alloc::Global;
 
@@ -23,11 +24,10 @@ fn feed_at(text: &[u8]) -> usize
     ensures place { result ≡ first_feed text.now }
     ensures within { result ≤ length text.now }
 {
-    let mut at = 0;
-    while at < text.len() && text[at] != b'\n' {
-        at += 1;
+    match memchr(b'\n', text) {
+        Some(at) => at,
+        None => text.len(),
     }
-    at
 }
 
 /// The first line, and what stands after it.
@@ -57,10 +57,11 @@ fn behind<'a>(text: &'a [u8], front: &[u8]) -> Option<&'a [u8]>
 fn read_line(alloc: Global, written: &mut String, line: &[u8]) -> Result<Option<Entry>, NoMemory>
     ensures { IfOk result (IsRead line.now) }
 {
-    let Some(time) = time_in(line) else {
+    let head = head_in(line);
+    let Some(time) = u64_in(head.time) else {
         return Ok(None);
     };
-    let Some(entry) = entry_in(alloc, line)? else {
+    let Some(entry) = kind_in(alloc, head.word, head.rest)? else {
         return Ok(None);
     };
     written.clear();
@@ -99,11 +100,11 @@ pub fn with_header(alloc: Global, whole: &[u8], lines: String) -> Result<String,
 }
 
 /// Books the entry of a record.
-fn book_line(ledger: &mut Ledger, alloc: Global, entry: &Entry, place: usize) -> Result<(), Fault>
-    ensures ok { OnOk result (IsBooked entry.now (state_of ledger.old.books) (state_of ledger.new.books)) }
-    ensures err { IfErr result (IsRefusedAt place entry.now (state_of ledger.old.books)) }
+fn book_line(ledger: &mut Ledger, alloc: Global, entry: Entry, place: usize) -> Result<(), Fault>
+    ensures ok { OnOk result (IsBooked entry (state_of ledger.old.books) (state_of ledger.new.books)) }
+    ensures err { IfErr result (IsRefusedAt place entry (state_of ledger.old.books)) }
 {
-    let Err(refusal) = ledger.book(alloc, entry) else {
+    let Err(refusal) = ledger.enter(alloc, entry) else {
         return Ok(());
     };
     match refusal {
@@ -125,9 +126,7 @@ fn read_lines(alloc: Global, text: &[u8]) -> Result<Ledger, Fault>
         let Some(entry) = read_line(alloc, &mut written, line)? else {
             return Err(Fault::Unreadable(place));
         };
-        let booked = book_line(&mut ledger, alloc, &entry, place);
-        drop(entry);
-        booked?;
+        book_line(&mut ledger, alloc, entry, place)?;
         place += 1;
         left = rest;
     }

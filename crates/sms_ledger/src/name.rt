@@ -34,23 +34,15 @@ fn is_run(text: &[u8]) -> bool
     text.len() == DIGITS && are_hex(text)
 }
 
-fn push_octet(text: &mut String, octet: u8) -> Result<(), NoMemory>
-    requires { octet < 128 }
-    ensures { OnOk result (string_bytes text.new ≡ string_bytes text.old ++ octet ∷ []) }
-{
-    memory::append_char(text, char::from(octet))
-}
-
 /// The text of ASCII characters.
 fn ascii_text(alloc: Global, octets: &[u8]) -> Result<String, NoMemory>
     requires { All (λ c. c < 128) octets.now }
     ensures { IfOk result (λ text. string_bytes text ≡ octets.now) }
 {
-    let mut text = String::new(alloc);
-    for octet in octets {
-        push_octet(&mut text, *octet)?;
+    match str::from_utf8(octets) {
+        Ok(text) => memory::text_of(alloc, text),
+        Err(_error) => unreachable!(),
     }
-    Ok(text)
 }
 
 /// The name of an account or of a payment: 1 to 192 characters, which spell its octets as a journal
@@ -97,6 +89,13 @@ impl Name {
         ensures good { IsName self.now }
     {
         self.text.as_str()
+    }
+
+    pub(crate) fn into_text(self) -> String
+        ensures { string_bytes result ≡ self }
+    {
+        let Name { text } = self;
+        text
     }
 
     pub fn copy(&self, alloc: Global) -> Result<Name, NoMemory>

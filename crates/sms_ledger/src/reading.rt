@@ -1,7 +1,7 @@
 //! The fields of an entry's line.
 
-ghost use Rattle.std.specs.Prelude.{◌≡◌, ◌≤◌, ℕ, IfOk, OnOk, length};
-ghost use Rattle.sms_ledger.specs.Reading.{behind_field, decided_in as decided_said, end_at as first_end, entry_in as entry_said, fate_in as fate_said, field_in, is_end as ends, kind_in as kind_said, paid_in as paid_said, pair_in as pair_said, part_in as part_said, reference_in as reference_said, returned_in as returned_said, taken_in as taken_said, time_in as time_said, u64_in as u64_said, u8_in as u8_said};
+ghost use Rattle.std.specs.Prelude.{◌≡◌, ◌+◌, ◌≤◌, ℕ, IfOk, OnOk, drop, length};
+ghost use Rattle.sms_ledger.specs.Reading.{behind_field, decided_in as decided_said, end_at as first_end, fate_in as fate_said, field_in, is_end as ends, kind_in as kind_said, paid_in as paid_said, pair_in as pair_said, part_in as part_said, reference_in as reference_said, returned_in as returned_said, taken_in as taken_said, u64_in as u64_said, u8_in as u8_said};
 
 use crate::entry::{Decision, Entry, Fate, Payment, Statement, Taking};
 use crate::name::{Name, Run, RunAccount};
@@ -16,12 +16,24 @@ fn is_end(octet: u8) -> bool
     octet == b',' || octet == b'\n'
 }
 
+/// How many octets at the front are letters, digits and others behind the comma, which end no field.
+fn inner_front(text: &[u8]) -> usize
+    ensures within { result ≤ length text.now }
+    ensures place { first_end text.now ≡ result + first_end (drop result text.now) }
+{
+    let mut at = 0;
+    while at < text.len() && text[at] > b',' {
+        at += 1;
+    }
+    at
+}
+
 /// Where the first field ends.
 fn end_at(text: &[u8]) -> usize
     ensures place { result ≡ first_end text.now }
     ensures within { result ≤ length text.now }
 {
-    let mut at = 0;
+    let mut at = inner_front(text);
     while at < text.len() && !is_end(text[at]) {
         at += 1;
     }
@@ -43,7 +55,7 @@ fn cut(text: &[u8]) -> (&[u8], &[u8])
 }
 
 #[tactic(auto, unfolding(crate::specs::Reading::u64_in))]
-fn u64_in(field: &[u8]) -> Option<u64>
+pub(crate) fn u64_in(field: &[u8]) -> Option<u64>
     ensures { result ≡ u64_said field.now }
 {
     decimal_of(field, u64::MAX)
@@ -211,7 +223,7 @@ fn decided_in(alloc: Global, text: &[u8]) -> Result<Option<Entry>, NoMemory>
 }
 
 /// An entry by its word, and what stands after its time.
-fn kind_in(alloc: Global, word: &[u8], text: &[u8]) -> Result<Option<Entry>, NoMemory>
+pub(crate) fn kind_in(alloc: Global, word: &[u8], text: &[u8]) -> Result<Option<Entry>, NoMemory>
     ensures { IfOk result (λ entry. entry ≡ kind_said word.now text.now) }
 {
     if word == b"paid".as_slice() {
@@ -229,22 +241,21 @@ fn kind_in(alloc: Global, word: &[u8], text: &[u8]) -> Result<Option<Entry>, NoM
     Ok(None)
 }
 
-/// The time in a line.
-#[tactic(auto, unfolding(crate::specs::Reading::time_in))]
-pub(crate) fn time_in(line: &[u8]) -> Option<u64>
-    ensures { result ≡ time_said line.now }
-{
-    let (_word, rest) = cut(line);
-    let (time, _rest) = cut(rest);
-    u64_in(time)
+/// A line's word and time, and what stands behind them.
+#[derive(Clone, Copy)]
+pub(crate) struct Head<'a> {
+    pub(crate) word: &'a [u8],
+    pub(crate) time: &'a [u8],
+    pub(crate) rest: &'a [u8],
 }
 
-/// The entry of a line, if it is the line of one.
-#[tactic(auto, unfolding(crate::specs::Reading::entry_in))]
-pub(crate) fn entry_in(alloc: Global, line: &[u8]) -> Result<Option<Entry>, NoMemory>
-    ensures { IfOk result (λ entry. entry ≡ entry_said line.now) }
+/// The head of a line.
+pub(crate) fn head_in(line: &[u8]) -> Head<'_>
+    ensures word { result.word.now ≡ field_in line.now }
+    ensures time { result.time.now ≡ field_in (behind_field line.now) }
+    ensures rest { result.rest.now ≡ behind_field (behind_field line.now) }
 {
     let (word, rest) = cut(line);
-    let (_time, rest) = cut(rest);
-    kind_in(alloc, word, rest)
+    let (time, rest) = cut(rest);
+    Head { word, time, rest }
 }

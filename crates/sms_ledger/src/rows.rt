@@ -1,6 +1,6 @@
 //! Rows, places, payments and parts, found by names.
 
-ghost use Rattle.std.specs.Prelude.{◌≡◌, ◌++◌, ℕ, List, Some, None, IfOk, OnErr, OnOk, if◌then◌else◌, length, option_copied, option_map, string_bytes};
+ghost use Rattle.std.specs.Prelude.{◌≡◌, ◌++◌, ℕ, List, Some, None, IfOk, OnErr, OnOk, if◌then◌else◌, is_some, length, option_copied, option_map, string_bytes};
 ghost use Rattle.std.specs.Str.{bytes_eq};
 ghost use Rattle.std.specs.HashMap.{get_by_text};
 ghost use Rattle.sms_ledger.specs.Books.{part_name, payment_in, with_payment};
@@ -34,12 +34,17 @@ pub(crate) fn put_row(
     Ok(())
 }
 
-/// Changes the row of an account that has one.
-pub(crate) fn change_row(rows: &mut HashMap<String, Row>, name: &Name, row: Row)
-    ensures { (q : List ℕ) → get_by_text rows.new q ≡ (if bytes_eq name.now q then option_map (λ _. row) (get_by_text rows.old q) else get_by_text rows.old q) }
+/// Changes the row of an account that has one, and says whether it has.
+pub(crate) fn change_row(rows: &mut HashMap<String, Row>, name: &Name, row: Row) -> bool
+    ensures found { result ≡ is_some (get_by_text rows.old name.now) }
+    ensures row { (q : List ℕ) → get_by_text rows.new q ≡ (if bytes_eq name.now q then option_map (λ _. row) (get_by_text rows.old q) else get_by_text rows.old q) }
 {
-    if let Some(place) = rows.get_mut(name.as_str()) {
-        *place = row;
+    match rows.get_mut(name.as_str()) {
+        Some(place) => {
+            *place = row;
+            true
+        }
+        None => false,
     }
 }
 
@@ -79,30 +84,23 @@ pub(crate) fn payment_of<'a>(
     }
 }
 
-/// What a payment pays.
-fn deposit_of(alloc: Global, p: &Payment) -> Result<Deposit, NoMemory>
-    ensures { IfOk result (λ deposit. deposit ≡ record { account = p.now.account; credits = p.now.credits }) }
-{
-    Ok(Deposit {
-        account: p.account.copy(alloc)?,
-        credits: p.credits,
-    })
-}
-
 /// Keeps a payment by its reference, if it has one.
 pub(crate) fn keep_payment(
     payments: &mut HashMap<String, Deposit>,
-    alloc: Global,
-    p: &Payment,
+    p: Payment,
 ) -> Result<(), NoMemory>
-    ensures ok { OnOk result ((q : List ℕ) → get_by_text payments.new q ≡ with_payment p.now.reference (record { account = p.now.account; credits = p.now.credits }) (λ k. get_by_text payments.old k) q) }
+    ensures ok { OnOk result ((q : List ℕ) → get_by_text payments.new q ≡ with_payment p.reference (record { account = p.account; credits = p.credits }) (λ k. get_by_text payments.old k) q) }
 {
-    let Some(reference) = &p.reference else {
+    let Payment {
+        account,
+        credits,
+        reference,
+    } = p;
+    let Some(reference) = reference else {
         return Ok(());
     };
-    let deposit = deposit_of(alloc, p)?;
-    let key = memory::text_of(alloc, reference.as_str())?;
-    memory::insert(payments, key, deposit)?;
+    let deposit = Deposit { account, credits };
+    memory::insert(payments, reference.into_text(), deposit)?;
     Ok(())
 }
 

@@ -1,9 +1,9 @@
 //! Payments.
 
-ghost use Rattle.std.specs.Prelude.{◌≡◌, IfErr, OnErr, OnOk};
+ghost use Rattle.std.specs.Prelude.{◌≡◌, ℕ, List, IfErr, OnErr, OnOk};
 ghost use Rattle.sms_ledger.specs.declared.entry.Entry.TheVariants.{Paid};
 ghost use Rattle.sms_ledger.specs.Books.{IsBooked, IsRefused, with_opened};
-ghost use Rattle.sms_ledger.specs.Kept.{IsSound, state_of};
+ghost use Rattle.sms_ledger.specs.Kept.{IsSound, set_at, state_of};
 ghost use Rattle.std.specs.HashMap.{get_by_text};
 
 use crate::booking::row_or_none;
@@ -11,7 +11,7 @@ use crate::books::Books;
 use crate::entry::{Payment, Row};
 use crate::name::Name;
 use crate::refusal::Refusal;
-use crate::rows::{keep_payment, payment_of, put_row, row_in};
+use crate::rows::{change_row, keep_payment, payment_of, put_row};
 use sms_files::memory::{self, NoMemory};
 use std::alloc::Global;
 use std::collections::HashMap;
@@ -19,28 +19,31 @@ use std::collections::HashMap;
 /// The most that is paid for an account in all: 2^40.
 const MOST: u64 = 0x100_0000_0000;
 
-/// Adds an account to those that are opened, if it isn't.
-fn open(
+/// Gives an account this row. One that has none is opened.
+fn give_row(
     opened: &mut Vec<Name>,
-    rows: &HashMap<String, Row>,
+    rows: &mut HashMap<String, Row>,
     alloc: Global,
     name: &Name,
+    row: Row,
 ) -> Result<(), NoMemory>
-    ensures ok { OnOk result (opened.new.items ≡ with_opened name.now (get_by_text rows.now name.now) opened.old.items) }
-    ensures err { OnErr result (opened.new.items ≡ opened.old.items) }
+    ensures opened { OnOk result (opened.new.items ≡ with_opened name.now (get_by_text rows.old name.now) opened.old.items) }
+    ensures ok { OnOk result ((q : List ℕ) → get_by_text rows.new q ≡ set_at name.now row (λ p. get_by_text rows.old p) q) }
+    ensures err { OnErr result ((q : List ℕ) → get_by_text rows.new q ≡ get_by_text rows.old q) }
 {
-    if row_in(rows, name).is_some() {
+    if change_row(rows, name, row) {
         return Ok(());
     }
     let copy = name.copy(alloc)?;
-    memory::push(opened, copy)
+    memory::push(opened, copy)?;
+    put_row(rows, alloc, name, row)
 }
 
 /// Books a payment.
-pub(crate) fn pay(books: &mut Books, alloc: Global, p: &Payment) -> Result<(), Refusal>
+pub(crate) fn pay(books: &mut Books, alloc: Global, p: Payment) -> Result<(), Refusal>
     requires { IsSound books.old }
-    ensures ok { OnOk result (IsBooked (Paid p.now) (state_of books.old) (state_of books.new)) }
-    ensures err { IfErr result (IsRefused (Paid p.now) (state_of books.old) (state_of books.new)) }
+    ensures ok { OnOk result (IsBooked (Paid p) (state_of books.old) (state_of books.new)) }
+    ensures err { IfErr result (IsRefused (Paid p) (state_of books.old) (state_of books.new)) }
     ensures sound { IsSound books.new }
 {
     if p.credits == 0 {
@@ -53,8 +56,6 @@ pub(crate) fn pay(books: &mut Books, alloc: Global, p: &Payment) -> Result<(), R
     if p.credits > MOST || row.paid > MOST - p.credits {
         return Err(Refusal::TooMuch);
     }
-    keep_payment(&mut books.payments, alloc, p)?;
-    open(&mut books.opened, &books.rows, alloc, &p.account)?;
     let paid_row = Row {
         paid: row.paid + p.credits,
         free: row.free + p.credits,
@@ -62,6 +63,13 @@ pub(crate) fn pay(books: &mut Books, alloc: Global, p: &Payment) -> Result<(), R
         doubt: row.doubt,
         spent: row.spent,
     };
-    put_row(&mut books.rows, alloc, &p.account, paid_row)?;
+    give_row(
+        &mut books.opened,
+        &mut books.rows,
+        alloc,
+        &p.account,
+        paid_row,
+    )?;
+    keep_payment(&mut books.payments, p)?;
     Ok(())
 }

@@ -8,11 +8,10 @@ use Rattle.sms_ledger.proofs.rows.keep_payment.Goals as goal
 pub returns : goal.returns
 returns c = record {
   ok = λ q.
-      let p = c.args.p.now in
+      let p = c.args.p in
       let d : Deposit = record { account = p.account; credits = p.credits } in
-      let key : string_bytes c.in_ok-key.key ≡ c.in-Some.reference = search rules in
-      let deposit : c.in_ok-deposit.deposit ≡ d = search rules in
+      let key : string_bytes c.into_text.result ≡ c.in-Some.reference = search rules in
       let is : p.reference ≡ Some c.in-Some.reference = search rules in
-      let sets = hash_map_updates_text (string_bytes c.in_ok-key.key) c.args.payments.now c.insert.new.map _ c.in_ok-insert.ensures.updates q in
-      (rw (key, deposit) at sets) ∙ ap (λ o. with_payment o d (λ k. get_by_text c.args.payments.now k) q) (sym is);
+      let sets = hash_map_updates_text (string_bytes c.into_text.result) c.args.payments.now c.insert.new.map _ c.in_ok-insert.ensures.updates q in
+      (rw key at sets) ∙ ap (λ o. with_payment o d (λ k. get_by_text c.args.payments.now k) q) (sym is);
 }

@@ -29,7 +29,7 @@ returns-clause-ok c =
       decided_fits (s.decided part) d.cost c.in-Back.doubt (stand_of d.of.run d.of.account s) few first stand,
       same_state (λ q. get_by_text c.change_row.new.rows q) (moved d.of.account (settle d.fate d.cost) s.accounts) _ _ _ _ (λ q. get_by_text c.args.books.now.payments q) (λ q. get_by_text c.args.books.now.payments q)
           (λ q. get_by_text c.keep_fate.new.parts q) (with_fate part d.fate s.decided)
-          (λ q. c.change_row.ensures q ∙ moved_is d.of.account q s.accounts _ (settle d.fate d.cost) (c.settled-row.ensures ∙ ap (settle d.fate d.cost) c.covered_row.ensures.row)) refl
+          (λ q. c.change_row.ensures.row q ∙ moved_is d.of.account q s.accounts _ (settle d.fate d.cost) (c.settled-row.ensures ∙ ap (settle d.fate d.cost) c.covered_row.ensures.row)) refl
           (c.set_stand.ensures ∙ ap (λ x. with_stand d.of.run d.of.account x s.stakes) (sym (ap (less d.cost) stand))) (λ q. refl) (λ q. search rules),
     )
 

@@ -25,7 +25,7 @@ returns-clause-ok c =
     let whole : b.free + b.doubt + b.spent ≡ c.in-Out.taken = search rules in (
       ap (back_refusal (b.free + b.doubt + b.spent)) stand ∙ back_fits (b.free + b.doubt + b.spent) c.in-Out.taken whole,
       same_state (λ q. get_by_text c.change_row.new.rows q) (moved b.of.account (bring_back b.free b.doubt b.spent) s.accounts) _ _ _ _ (λ q. get_by_text c.args.books.now.payments q) (λ q. get_by_text c.args.books.now.payments q) (λ q. get_by_text c.args.books.now.parts q) (λ q. get_by_text c.args.books.now.parts q)
-          (λ q. c.change_row.ensures q ∙ moved_is b.of.account q s.accounts _ (bring_back b.free b.doubt b.spent) (rw (sym whole) (ap (bring_back b.free b.doubt b.spent) c.covered_row-row.ensures.row)))
+          (λ q. c.change_row.ensures.row q ∙ moved_is b.of.account q s.accounts _ (bring_back b.free b.doubt b.spent) (rw (sym whole) (ap (bring_back b.free b.doubt b.spent) c.covered_row-row.ensures.row)))
           refl c.set_stand.ensures (λ q. refl) (λ q. refl),
     )
 

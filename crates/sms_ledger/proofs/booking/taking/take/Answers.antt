@@ -37,7 +37,7 @@ returns-clause-ok c =
     let items = c.in_ok-add_stake.ensures.ok in (
       take_fits t.credits c.in-Some.row (s.accounts t.of.account) (stand_of t.of.run t.of.account s) (search rules) row none,
       same_state (λ q. get_by_text c.change_row.new.rows q) (moved t.of.account (take_out t.credits) s.accounts) _ _ _ _ (λ q. get_by_text c.args.books.now.payments q) (λ q. get_by_text c.args.books.now.payments q) (λ q. get_by_text c.args.books.now.parts q) (λ q. get_by_text c.args.books.now.parts q)
-          (λ q. c.change_row.ensures q ∙ moved_is t.of.account q s.accounts _ (take_out t.credits) (ap (λ o. take_out t.credits (unwrap_or o no_row)) (sym row))) refl items (λ q. refl) (λ q. refl),
+          (λ q. c.change_row.ensures.row q ∙ moved_is t.of.account q s.accounts _ (take_out t.credits) (ap (λ o. take_out t.credits (unwrap_or o no_row)) (sym row))) refl items (λ q. refl) (λ q. refl),
     )
 
 pub returns-clause-sound : goal.returns-clause-sound
