@@ -9,6 +9,8 @@ pub mod Lists
 pub mod MessageRecords
 pub mod NewAccounts
 pub mod ReadErrors
+pub mod RefRecords
+pub mod RefTexts
 pub mod Runs
 pub mod Schedules
 pub mod Tariffs

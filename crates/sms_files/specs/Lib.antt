@@ -32,3 +32,4 @@ pub mod QuoteText
 pub mod Quotes
 pub mod Totals
 pub mod Warnings
+pub mod Refs

@@ -1,7 +1,8 @@
-//! What a fault of a file says of the record that it names. Each law holds by the contract of its function, which
-//! does nothing.
+//! What a fault of a file says of the record that it names, and how a file is read that was written. Each law holds by the
+//! contract of its function, which does nothing.
 
 ghost use Rattle.sms_files.specs.Flaws.{BadAccountsHaveFlaws, BadMessagesHaveFlaws, BadRatesHaveFlaws, BadSchedulesHaveFlaws};
+ghost use Rattle.sms_files.specs.Refs.{PlainHasNoFault, PlainIsReadAgain};
 
 /// The record that a fault of a messages file names has the flaw that the fault names. Each record before it
 /// has none.
@@ -23,4 +24,12 @@ pub fn bad_accounts_have_flaws()
 /// and credits are looked at together, so one before it may have another.
 pub fn bad_rates_have_flaws()
     ensures { BadRatesHaveFlaws }
+{}
+
+/// What is left of a messages file without its column `ref` reads as what it was taken from: a header, and of each
+/// message the first four fields as they stood, whatever quotes, commas and line ends are in them. No record of it is
+/// faulty.
+pub fn messages_without_refs_are_read()
+    ensures read { PlainIsReadAgain }
+    ensures good { PlainHasNoFault }
 {}

@@ -10,6 +10,7 @@ mod flaw;
 mod input;
 pub mod laws;
 pub mod memory;
+pub mod refs;
 pub mod report;
 mod tables;
 

@@ -6,6 +6,7 @@ mod flaws;
 mod input;
 mod quoting;
 mod reading;
+mod refs;
 mod report;
 mod same;
 mod told;

@@ -37,7 +37,7 @@ pub fn u32_at(record: &ByteRecord, place: usize) -> Result<u32, Flaw>
 
 /// The text in the record's field at a place, from 0.
 pub fn text_at<'a>(record: &'a ByteRecord, place: usize) -> Result<&'a str, Flaw>
-    requires { place ≤ 3 }
+    requires { place ≤ 4 }
     ensures { MatchResult result (λ text. text_in (fields_of «record».now) place ≡ Some text.now)
         (λ flaw. (text_in (fields_of «record».now) place ≡ None) × (flaw ≡ Flaw.NotText (place + 1))) }
 {
