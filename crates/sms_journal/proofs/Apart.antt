@@ -17,11 +17,11 @@ abbrev pub HasNoFeed : List ℕ → Type 0
 HasNoFeed [] = ⊤
 HasNoFeed (c ∷ cs) = ((c == 10) ≡ false) × HasNoFeed cs
 
-no_feed : (f : List ℕ) → HasNoEnd f → HasNoFeed f
+pub no_feed : (f : List ℕ) → HasNoEnd f → HasNoFeed f
 no_feed [] h = tt
 no_feed (c ∷ cs) h = ((or_parts (c == 44) (c == 10) h.0).1, no_feed cs h.1)
 
-no_feed_append : (a b : List ℕ) → HasNoFeed a → HasNoFeed b → HasNoFeed (a ++ b)
+pub no_feed_append : (a b : List ℕ) → HasNoFeed a → HasNoFeed b → HasNoFeed (a ++ b)
 no_feed_append [] b ha hb = hb
 no_feed_append (x ∷ a) b ha hb = (ha.0, no_feed_append a b ha.1 hb)
 
@@ -112,7 +112,7 @@ feed_behind : (b rest : List ℕ) → HasNoFeed b → position_or_len (λ (c : �
 feed_behind [] rest h = refl
 feed_behind (x ∷ b) rest h = search (rules, feed_behind b rest h.1)
 
-no_cut : (l r cut : List ℕ) → IsLine l → cut ≡ l ++ r → feed_at cut ≡ None → ⊥
+pub no_cut : (l r cut : List ℕ) → IsLine l → cut ≡ l ++ r → feed_at cut ≡ None → ⊥
 no_cut l r cut hl is none =
     let whole : cut ≡ hl.body ++ 10 ∷ r = is ∙ ap (λ (x : List ℕ). x ++ r) hl.is ∙ append_assoc hl.body (10 ∷ []) r in
     let at = feed_behind hl.body r hl.whole in

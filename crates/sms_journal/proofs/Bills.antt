@@ -17,29 +17,29 @@ use Rattle.sms_message.specs.declared.ends.SegmentEnd.{SegmentEnd}
 use Rattle.sms_message.specs.Ends.{phase_of}
 use Rattle.sms_files.proofs.Lists.{drop_step}
 use Rattle.sms_files.specs.Report.{is_unanswered}
-use Rattle.sms_journal.specs.declared.bill.listing.Listing.{Listing}
+use Rattle.sms_journal.specs.declared.bill.listing.Columns.{Columns}
 use Rattle.sms_journal.specs.declared.bill.listing.Listing.TheVariants.{Doubtful}
 use Rattle.sms_journal.specs.declared.notes.note.Note.{Note}
-use Rattle.sms_journal.specs.Bill.{Billed, account_name, billed, billed_part, billed_parts, doubted_text, line_of, name_in, part_text}
-use Rattle.sms_journal.specs.BillLaws.{BillsAddUp, DoubtsAreOfTheBill, paid_by}
+use Rattle.sms_journal.specs.Bill.{Billed, account_name, billed, billed_part, billed_parts, doubted_fields, doubted_text, line_in, line_of, name_in, part_text, ref_end}
+use Rattle.sms_journal.specs.BillLaws.{BillsAddUp, DoubtsAreOfTheBill, DoubtsHaveRefs, paid_by}
 use Rattle.sms_journal.specs.Moments.{moments_of}
 use Rattle.sms_journal.specs.Sums.{credit_of_segment, credits_of_ends, parts_in, recovered_row, sum_parts}
 
 -- ---- lines
 
-module _ (listing : Listing) (os : List Opening) (ts : List ℕ) (ns : List Note) where
+module _ (listing : Columns) (os : List Opening) (ts : List ℕ) (ns : List Note) where
   abbrev lines : List Message → List (MessageEnd (Unit {0})) → List ℕ
-  lines ms es = flat_map (line_of listing) (billed os ts ns ms es)
+  lines ms es = flat_map (line_in listing) (billed os ts ns ms es)
 
   -- a message more
   pub message_more : (ms : List Message) (es : List (MessageEnd (Unit {0}))) (k : ℕ) (m : Message) (e : MessageEnd (Unit {0})) (text pushed all : List ℕ) → k < length ms → k < length es → m ≡ get_or ms k m → e ≡ get_or es k e
-      → text ++ flat_map (line_of listing) (billed os ts ns (drop k ms) (drop k es)) ≡ all → pushed ≡ text ++ flat_map (line_of listing) (billed_parts os ts ns m 1 (parts_in e.result))
-      → pushed ++ flat_map (line_of listing) (billed os ts ns (drop (k + 1) ms) (drop (k + 1) es)) ≡ all
+      → text ++ flat_map (line_in listing) (billed os ts ns (drop k ms) (drop k es)) ≡ all → pushed ≡ text ++ flat_map (line_in listing) (billed_parts os ts ns m 1 (parts_in e.result))
+      → pushed ++ flat_map (line_in listing) (billed os ts ns (drop (k + 1) ms) (drop (k + 1) es)) ≡ all
   message_more ms es k m e text pushed all low lower is its before grows =
-      let own = flat_map (line_of listing) (billed_parts os ts ns m 1 (parts_in e.result)) in
+      let own = flat_map (line_in listing) (billed_parts os ts ns m 1 (parts_in e.result)) in
       let rest = lines (drop (k + 1) ms) (drop (k + 1) es) in
       ap (λ (t : List ℕ). t ++ rest) grows ∙ append_assoc text own rest
-      ∙ ap (λ (t : List ℕ). text ++ t) (sym (flat_map-append (line_of listing) (billed_parts os ts ns m 1 (parts_in e.result)) (billed os ts ns (drop (k + 1) ms) (drop (k + 1) es))))
+      ∙ ap (λ (t : List ℕ). text ++ t) (sym (flat_map-append (line_in listing) (billed_parts os ts ns m 1 (parts_in e.result)) (billed os ts ns (drop (k + 1) ms) (drop (k + 1) es))))
       ∙ ap (λ (l : List (MessageEnd (Unit {0}))). text ++ lines (m ∷ drop (k + 1) ms) l) (sym (drop_step es k e lower its))
       ∙ ap (λ (l : List Message). text ++ lines l (drop k es)) (sym (drop_step ms k m low is)) ∙ before
 
@@ -56,8 +56,8 @@ module _ (listing : Listing) (os : List Opening) (ts : List ℕ) (ns : List Note
   all_billed (m ∷ ms) (e ∷ es) (suc k) h = all_billed ms es k (omega (arith, h))
 
   pub messages_end : (ms : List Message) (es : List (MessageEnd (Unit {0}))) (k : ℕ) (text all : List ℕ) → min (length ms) (length es) ≤ k
-      → text ++ flat_map (line_of listing) (billed os ts ns (drop k ms) (drop k es)) ≡ all → text ≡ all
-  messages_end ms es k text all high before = sym (append-nil text) ∙ ap (λ (bs : List Billed). text ++ flat_map (line_of listing) bs) (sym (all_billed ms es k high)) ∙ before
+      → text ++ flat_map (line_in listing) (billed os ts ns (drop k ms) (drop k es)) ≡ all → text ≡ all
+  messages_end ms es k text all high before = sym (append-nil text) ∙ ap (λ (bs : List Billed). text ++ flat_map (line_in listing) bs) (sym (all_billed ms es k high)) ∙ before
 
 -- ---- doubts
 
@@ -69,6 +69,19 @@ doubts (b ∷ bs) = by (is_unanswered b.outcome) refl (doubts bs)
         → flat_map (line_of Doubtful) (b ∷ bs) ≡ flat_map (λ (x : Billed). part_text x ++ doubted_text x) (filter (λ (x : Billed). is_unanswered x.outcome) (b ∷ bs))
     by true e rest = rw e (ap (λ (t : List ℕ). (part_text b ++ doubted_text b) ++ t) rest)
     by false e rest = rw e rest
+
+-- the line of a part in doubt with a reference, and no line of another
+with_ref : (line : Billed → List ℕ) (bs : List Billed) → flat_map (λ (b : Billed). if is_unanswered b.outcome then line b else []) bs ≡ flat_map line (filter (λ (b : Billed). is_unanswered b.outcome) bs)
+with_ref line [] = refl
+with_ref line (b ∷ bs) = by (is_unanswered b.outcome) refl (with_ref line bs)
+  where
+    by : (t : Bool) → is_unanswered b.outcome ≡ t → flat_map (λ (x : Billed). if is_unanswered x.outcome then line x else []) bs ≡ flat_map line (filter (λ (x : Billed). is_unanswered x.outcome) bs)
+        → flat_map (λ (x : Billed). if is_unanswered x.outcome then line x else []) (b ∷ bs) ≡ flat_map line (filter (λ (x : Billed). is_unanswered x.outcome) (b ∷ bs))
+    by true e rest = rw e (ap (λ (t : List ℕ). line b ++ t) rest)
+    by false e rest = rw e rest
+
+pub doubts_have_refs : DoubtsHaveRefs
+doubts_have_refs refs bs = with_ref (λ (b : Billed). part_text b ++ doubted_fields b ++ ref_end refs b.message) bs
 
 -- ---- names
 

@@ -33,7 +33,7 @@ octets_back [] h = refl
 octets_back (c ∷ cs) h =
     ap octets_in (flat_map-cons hex_octet c cs) ∙ ap (λ (n : ℕ). n ∷ octets_in (hex_text cs)) (octet_back c h.0) ∙ ap (λ (l : List ℕ). c ∷ l) (octets_back cs h.1)
 
-hex_length : (d : List ℕ) → length (hex_text d) ≡ length d + length d
+pub hex_length : (d : List ℕ) → length (hex_text d) ≡ length d + length d
 hex_length [] = refl
 hex_length (c ∷ cs) = let e = ap length (flat_map-cons hex_octet c cs) in let f = hex_length cs in omega (arith, e, f)
 

@@ -1,6 +1,8 @@
 -- What is printed of records, from a place on.
 use Rattle.std.proofs.Common.{◌≡◌, ◌∙◌, ◌≤◌, ◌<◌, sym, refl, ap, ℕ, zero, suc, ◌+◌, ◌-◌, min, List, [], ◌∷◌, ◌++◌, length, map, drop, take, get_or, append_assoc, arith}
 use Rattle.std.proofs.lemmas.List.{append-nil, length-drop, take_all}
+use Rattle.std.specs.Prelude.{Option, String}
+use Rattle.std.specs.declared.alloc.Global.{Global}
 use Rattle.sms_book.specs.declared.opening.Opening.{Opening}
 use Rattle.sms_files.specs.Fields.{Record}
 use Rattle.sms_files.proofs.Lists.{drop_step, drop_whole}
@@ -9,15 +11,15 @@ use Rattle.sms_journal.specs.Rest.{account_text, account_texts, is_unsent, left_
 
 module _ {A : Type 0} (f : A → Record) where
   -- a message more
-  pub left_more : (report : List Record) (xs : List A) (k : ℕ) (x : A) (text pushed all : List ℕ) → k < length xs → x ≡ get_or xs k x → text ++ left_texts report k (map f (drop k xs)) ≡ all
-      → pushed ≡ text ++ left_text (is_unsent k report) (f x) → pushed ++ left_texts report (k + 1) (map f (drop (k + 1) xs)) ≡ all
-  left_more report xs k x text pushed all low its before grows =
-      ap (λ (t : List ℕ). t ++ left_texts report (k + 1) (map f (drop (k + 1) xs))) grows
-      ∙ append_assoc text (left_text (is_unsent k report) (f x)) (left_texts report (k + 1) (map f (drop (k + 1) xs)))
-      ∙ ap (λ (l : List A). text ++ left_texts report k (map f l)) (sym (drop_step xs k x low its)) ∙ before
+  pub left_more : (refs : Option (List (String Global))) (report : List Record) (xs : List A) (k : ℕ) (x : A) (text pushed all : List ℕ) → k < length xs → x ≡ get_or xs k x → text ++ left_texts refs report k (map f (drop k xs)) ≡ all
+      → pushed ≡ text ++ left_text refs k (is_unsent k report) (f x) → pushed ++ left_texts refs report (k + 1) (map f (drop (k + 1) xs)) ≡ all
+  left_more refs report xs k x text pushed all low its before grows =
+      ap (λ (t : List ℕ). t ++ left_texts refs report (k + 1) (map f (drop (k + 1) xs))) grows
+      ∙ append_assoc text (left_text refs k (is_unsent k report) (f x)) (left_texts refs report (k + 1) (map f (drop (k + 1) xs)))
+      ∙ ap (λ (l : List A). text ++ left_texts refs report k (map f l)) (sym (drop_step xs k x low its)) ∙ before
 
-  pub left_end : (report : List Record) (xs : List A) (k : ℕ) (text all : List ℕ) → length xs ≤ k → text ++ left_texts report k (map f (drop k xs)) ≡ all → text ≡ all
-  left_end report xs k text all high before = sym (append-nil text) ∙ ap (λ (l : List A). text ++ left_texts report k (map f l)) (sym (drop_whole xs k high)) ∙ before
+  pub left_end : (refs : Option (List (String Global))) (report : List Record) (xs : List A) (k : ℕ) (text all : List ℕ) → length xs ≤ k → text ++ left_texts refs report k (map f (drop k xs)) ≡ all → text ≡ all
+  left_end refs report xs k text all high before = sym (append-nil text) ∙ ap (λ (l : List A). text ++ left_texts refs report k (map f l)) (sym (drop_whole xs k high)) ∙ before
 
   -- an account more
   pub account_more : (os : List Opening) (xs : List A) (k : ℕ) (o : Opening) (x : A) (text pushed all : List ℕ) → k < length os → k < length xs → o ≡ get_or os k o → x ≡ get_or xs k x

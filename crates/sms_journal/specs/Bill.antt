@@ -1,6 +1,7 @@
 -- What a business bills from: the parts of a run's messages, with their accounts, costs, outcomes and times; and those that nobody
 -- knows to be delivered or lost, with their texts.
-use Rattle.std.specs.Prelude.{ℕ, ◌+◌, ◌-◌, List, [], ◌∷◌, ◌++◌, length, Option, Some, None, slice_get, flat_map, string_bytes, codes, decimal, if◌then◌else◌}
+use Rattle.std.specs.Prelude.{ℕ, ◌+◌, ◌-◌, List, [], ◌∷◌, ◌++◌, length, Option, Some, None, slice_get, flat_map, string_bytes, codes, decimal, if◌then◌else◌, String}
+use Rattle.std.specs.declared.alloc.Global.{Global}
 use Rattle.sms_book.specs.declared.opening.Opening.{Opening}
 use Rattle.sms_pdu.specs.declared.reply.Reply.{Reply}
 use Rattle.sms_message.specs.declared.message.Message.{Message}
@@ -13,6 +14,8 @@ use Rattle.sms_files.specs.Report.{field_text, is_unanswered, shown_id}
 use Rattle.sms_journal.specs.declared.notes.note.Note.{Note}
 use Rattle.sms_journal.specs.declared.bill.listing.Listing.{Listing}
 use Rattle.sms_journal.specs.declared.bill.listing.Listing.TheVariants.{Bill, Doubtful}
+use Rattle.sms_journal.specs.declared.bill.listing.Columns.{Columns}
+use Rattle.sms_journal.specs.declared.bill.listing.Columns.TheVariants.{Usual, WithRefs}
 use Rattle.sms_journal.specs.declared.bill.moments.Moments.{Moments}
 use Rattle.sms_journal.specs.Instants.{moment_field}
 use Rattle.sms_journal.specs.Moments.{moments_of}
@@ -100,15 +103,50 @@ ended_text b = number_field b.cost ++ codes "," ++ outcome_name b.outcome ++ rep
 abbrev pub doubted_text : Billed → List ℕ
 doubted_text b = number_field b.cost ++ moment_field b.moments.sent ++ next_field b.text ++ codes "\n"
 
+-- the sender's own reference of a message, and nothing of a message that has none
+abbrev pub ref_text : Option (String Global) → List ℕ
+ref_text None = []
+ref_text (Some ref) = string_bytes ref
+
+abbrev pub ref_of : List (String Global) → ℕ → List ℕ
+ref_of refs message = ref_text (slice_get refs message)
+
+-- the same two without the end of the line, and the end with a message's reference before it
+abbrev pub ended_fields : Billed → List ℕ
+ended_fields b = number_field b.cost ++ codes "," ++ outcome_name b.outcome ++ reply_fields b.reply ++ moment_field b.moments.sent ++ moment_field b.moments.heard
+
+abbrev pub doubted_fields : Billed → List ℕ
+doubted_fields b = number_field b.cost ++ moment_field b.moments.sent ++ next_field b.text
+
+abbrev pub ref_end : List (String Global) → ℕ → List ℕ
+ref_end refs message = next_field (ref_of refs message) ++ codes "\n"
+
 -- a line for each part of a bill, and for each that is in doubt
 abbrev pub line_of : Listing → Billed → List ℕ
 line_of Bill b = part_text b ++ ended_text b
 line_of Doubtful b = if is_unanswered b.outcome then part_text b ++ doubted_text b else []
 
+-- the same with references
+abbrev pub line_with : Listing → List (String Global) → Billed → List ℕ
+line_with Bill refs b = part_text b ++ ended_fields b ++ ref_end refs b.message
+line_with Doubtful refs b = if is_unanswered b.outcome then part_text b ++ doubted_fields b ++ ref_end refs b.message else []
+
+abbrev pub line_in : Columns → Billed → List ℕ
+line_in (Usual listing) b = line_of listing b
+line_in (WithRefs listing refs) b = line_with listing refs.now b
+
 abbrev pub listing_header : Listing → List ℕ
 listing_header Bill = codes "message,part,account,source,destination,cost,outcome,status,id,sent,heard\n"
 listing_header Doubtful = codes "message,part,account,source,destination,cost,sent,text\n"
 
+abbrev pub refs_header : Listing → List ℕ
+refs_header Bill = codes "message,part,account,source,destination,cost,outcome,status,id,sent,heard,ref\n"
+refs_header Doubtful = codes "message,part,account,source,destination,cost,sent,text,ref\n"
+
+abbrev pub header_in : Columns → List ℕ
+header_in (Usual listing) = listing_header listing
+header_in (WithRefs listing refs) = refs_header listing
+
 -- what is printed of the parts of messages, by their ends and by notes with their times
-abbrev pub listing_of : Listing → List Opening → List ℕ → List Note → List Message → List (MessageEnd (Unit {0})) → List ℕ
-listing_of listing openings times notes ms es = listing_header listing ++ flat_map (line_of listing) (billed openings times notes ms es)
+abbrev pub listing_of : Columns → List Opening → List ℕ → List Note → List Message → List (MessageEnd (Unit {0})) → List ℕ
+listing_of listing openings times notes ms es = header_in listing ++ flat_map (line_in listing) (billed openings times notes ms es)

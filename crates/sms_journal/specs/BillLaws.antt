@@ -1,5 +1,6 @@
 -- What a bill comes to.
-use Rattle.std.specs.Prelude.{◌≡◌, ◌≢◌, ◌++◌, ℕ, List, [], Some, filter, slice_get, sum_by, string_bytes, flat_map, if◌then◌else◌}
+use Rattle.std.specs.Prelude.{◌≡◌, ◌≢◌, ◌++◌, ℕ, List, [], Some, filter, slice_get, sum_by, string_bytes, flat_map, if◌then◌else◌, String}
+use Rattle.std.specs.declared.alloc.Global.{Global}
 use Rattle.std.specs.Str.{bytes_eq}
 use Rattle.sms_core.specs.declared.request.Phase.{Phase}
 use Rattle.sms_core.specs.declared.row.Row.{Row}
@@ -12,7 +13,7 @@ use Rattle.sms_message.specs.Ends.{phase_of}
 use Rattle.sms_files.specs.Report.{is_unanswered}
 use Rattle.sms_journal.specs.declared.notes.note.Note.{Note}
 use Rattle.sms_journal.specs.declared.bill.listing.Listing.TheVariants.{Doubtful}
-use Rattle.sms_journal.specs.Bill.{Billed, billed, doubted_text, line_of, part_text}
+use Rattle.sms_journal.specs.Bill.{Billed, billed, doubted_fields, doubted_text, line_of, line_with, part_text, ref_end}
 use Rattle.sms_journal.specs.Recovering.{AreRecoveredRows}
 
 -- what a part adds to the account of this name
@@ -35,3 +36,10 @@ BillsAddUp =
 abbrev pub DoubtsAreOfTheBill : Type 0
 DoubtsAreOfTheBill =
     (parts : List Billed) → flat_map (line_of Doubtful) parts ≡ flat_map (λ (b : Billed). part_text b ++ doubted_text b) (filter (λ (b : Billed). is_unanswered b.outcome) parts)
+
+-- so they are with references, each line with that of its message
+abbrev pub DoubtsHaveRefs : Type 0
+DoubtsHaveRefs =
+    (refs : List (String Global)) (parts : List Billed)
+    → flat_map (line_with Doubtful refs) parts
+    ≡ flat_map (λ (b : Billed). part_text b ++ doubted_fields b ++ ref_end refs b.message) (filter (λ (b : Billed). is_unanswered b.outcome) parts)

@@ -2,7 +2,7 @@
 use Rattle.std.specs.Prelude.{◌≡◌, ◌⊎◌, ℕ, false, List, Option}
 use Rattle.std.specs.Io.KnownBytes.{Appends}
 use Rattle.sms_files.specs.Output.{WritesFront}
-use Rattle.sms_journal.specs.declared.bill.listing.Listing.{Listing}
+use Rattle.sms_journal.specs.declared.bill.listing.Columns.{Columns}
 use Rattle.sms_journal.specs.declared.notes.note.Note.{Note}
 use Rattle.sms_journal.specs.declared.recovery.fault.RecoveryFault.{RecoveryFault}
 use Rattle.sms_journal.specs.declared.recovery.fault.RecoveryFault.TheVariants as faults
@@ -27,7 +27,7 @@ IsFaultBehind journal fault = (fault ≡ out_of_memory) ⊎ ((k : ℕ) × (behin
 -- ---- of a run that was read
 
 -- the text lists its parts, by the times in its journal, which isn't a trial's
-pub record IsListed (run : JournaledRun) (journal : List ℕ) (listing : Listing) (text : List ℕ) : Type 0 where
+pub record IsListed (run : JournaledRun) (journal : List ℕ) (listing : Columns) (text : List ℕ) : Type 0 where
   pub kind : run.kind ≡ Run
   pub times : List ℕ
   pub notes : List Note
@@ -37,28 +37,28 @@ pub record IsListed (run : JournaledRun) (journal : List ℕ) (listing : Listing
 abbrev pub IsFaultOfListing : JournaledRun → List ℕ → RecoveryFault → Type 0
 IsFaultOfListing run journal fault = ((fault ≡ faults.Trial) × (run.kind ≡ Trial)) ⊎ IsFaultBehind journal fault
 
-pub record PrintsListing (run : JournaledRun) (journal : List ℕ) (listing : Listing) (old new : Option (List ℕ)) : Type 0 where
+pub record PrintsListing (run : JournaledRun) (journal : List ℕ) (listing : Columns) (old new : Option (List ℕ)) : Type 0 where
   pub text : List ℕ
   pub is : IsListed run journal listing text
   pub written : Appends old new text
 
 -- the output failed after part of it
-pub record IsListingCut (run : JournaledRun) (journal : List ℕ) (listing : Listing) (old new : Option (List ℕ)) : Type 0 where
+pub record IsListingCut (run : JournaledRun) (journal : List ℕ) (listing : Columns) (old new : Option (List ℕ)) : Type 0 where
   pub text : List ℕ
   pub is : IsListed run journal listing text
   pub front : WritesFront old new text
 
-abbrev pub IsFaultOfPrinting : JournaledRun → List ℕ → Listing → Option (List ℕ) → Option (List ℕ) → RecoveryFault → Type 0
+abbrev pub IsFaultOfPrinting : JournaledRun → List ℕ → Columns → Option (List ℕ) → Option (List ℕ) → RecoveryFault → Type 0
 IsFaultOfPrinting run journal listing old new fault = IsFaultOfListing run journal fault ⊎ ((fault ≡ output_failed) × IsListingCut run journal listing old new)
 
 -- ---- of a run's files and journal
 
-pub record ListsRun (config accounts messages : List ℕ) (tariff : Option (List ℕ)) (journal : List ℕ) (listing : Listing) (old new : Option (List ℕ)) : Type 0 where
+pub record ListsRun (config accounts messages : List ℕ) (tariff : Option (List ℕ)) (journal : List ℕ) (listing : Columns) (old new : Option (List ℕ)) : Type 0 where
   pub run : JournaledRun
   pub is : IsRunOfJournal config accounts messages tariff journal run
   pub prints : PrintsListing run journal listing old new
 
-abbrev pub IsFaultOfRunListing : List ℕ → List ℕ → List ℕ → Option (List ℕ) → List ℕ → Listing → Option (List ℕ) → Option (List ℕ) → RecoveryFault → Type 0
+abbrev pub IsFaultOfRunListing : List ℕ → List ℕ → List ℕ → Option (List ℕ) → List ℕ → Columns → Option (List ℕ) → Option (List ℕ) → RecoveryFault → Type 0
 IsFaultOfRunListing config accounts messages tariff journal listing old new fault =
     IsFaultOfRun config accounts messages tariff journal false fault
     ⊎ ((run : JournaledRun) × IsRunOfJournal config accounts messages tariff journal run × IsFaultOfPrinting run journal listing old new fault)

@@ -1,9 +1,11 @@
 -- What is left of a sending by its report: the messages that did not go out, and the credits that are free for them.
-use Rattle.std.specs.Prelude.{ℕ, ◌+◌, ◌-◌, ◌==◌, ◌&&◌, ◌||◌, not, Bool, true, List, [], ◌∷◌, ◌++◌, length, drop, Option, Some, None, if◌then◌else◌, codes, decimal, string_bytes}
+use Rattle.std.specs.Prelude.{String, ℕ, ◌+◌, ◌-◌, ◌==◌, ◌&&◌, ◌||◌, not, Bool, true, List, [], ◌∷◌, ◌++◌, length, drop, Option, Some, None, if◌then◌else◌, codes, decimal, string_bytes}
+use Rattle.std.specs.declared.alloc.Global.{Global}
 use Rattle.csv.specs.Records.{field_at}
 use Rattle.sms_book.specs.declared.opening.Opening.{Opening}
 use Rattle.sms_files.specs.Fields.{Field, Record}
 use Rattle.sms_files.specs.Report.{field_text}
+use Rattle.sms_journal.specs.Bill.{ref_end}
 use Rattle.sms_journal.specs.declared.rest.report_line.Line.{Line}
 use Rattle.sms_journal.specs.RecordLines.{amount_in, is_left, line_in}
 
@@ -34,20 +36,29 @@ field_or r place = or_empty (field_at r place)
 abbrev pub next_text : Record → ℕ → List ℕ
 next_text r place = codes "," ++ field_text (field_or r place)
 
-abbrev pub record_text : Record → List ℕ
-record_text r = field_text (field_or r 0) ++ next_text r 1 ++ next_text r 2 ++ next_text r 3 ++ codes "\n"
+-- its end, with the sender's reference of a message before it, where messages have references
+abbrev pub line_end : Option (List (String Global)) → ℕ → List ℕ
+line_end None i = codes "\n"
+line_end (Some refs) i = ref_end refs i
+
+abbrev pub record_text : Option (List (String Global)) → ℕ → Record → List ℕ
+record_text refs i r = field_text (field_or r 0) ++ next_text r 1 ++ next_text r 2 ++ next_text r 3 ++ line_end refs i
 
 -- the records, counted on from an index, whose messages are left
-abbrev pub left_text : Bool → Record → List ℕ
-left_text left r = if left then record_text r else []
+abbrev pub left_text : Option (List (String Global)) → ℕ → Bool → Record → List ℕ
+left_text refs i left r = if left then record_text refs i r else []
 
-abbrev pub left_texts : List Record → ℕ → List Record → List ℕ
-left_texts report i [] = []
-left_texts report i (r ∷ rs) = left_text (is_unsent i report) r ++ left_texts report (i + 1) rs
+abbrev pub left_texts : Option (List (String Global)) → List Record → ℕ → List Record → List ℕ
+left_texts refs report i [] = []
+left_texts refs report i (r ∷ rs) = left_text refs i (is_unsent i report) r ++ left_texts refs report (i + 1) rs
+
+abbrev pub rest_header : Option (List (String Global)) → List ℕ
+rest_header None = codes "account,source,destination,text\n"
+rest_header (Some refs) = codes "account,source,destination,text,ref\n"
 
 -- the messages file of what did not go out, by a report of the messages in these records, of which the first is the header
-abbrev pub rest_of : List Record → List Record → List ℕ
-rest_of report messages = codes "account,source,destination,text\n" ++ left_texts report 0 (drop 1 messages)
+abbrev pub rest_of : Option (List (String Global)) → List Record → List Record → List ℕ
+rest_of refs report messages = rest_header refs ++ left_texts refs report 0 (drop 1 messages)
 
 -- ---- accounts
 

@@ -1,5 +1,6 @@
 -- What is printed of a report of a run, and what a fault says.
-use Rattle.std.specs.Prelude.{◌≡◌, ◌⊎◌, ℕ, List, Option}
+use Rattle.std.specs.Prelude.{◌≡◌, ◌⊎◌, ℕ, List, Option, String}
+use Rattle.std.specs.declared.alloc.Global.{Global}
 use Rattle.std.specs.Io.KnownBytes.{Appends}
 use Rattle.sms_files.specs.Fields.{records_of}
 use Rattle.sms_files.specs.declared.input.Input.{Input as TheInput}
@@ -42,8 +43,8 @@ IsFaultOfPrinting config accounts messages tariff report text old new fault =
 
 -- what is left of the messages, and of the accounts
 
-abbrev pub rest_by : List ℕ → List ℕ → TheInput → List ℕ
-rest_by report messages input = rest_of (records_of report) (records_of messages)
+abbrev pub rest_by : Option (List (String Global)) → List ℕ → List ℕ → TheInput → List ℕ
+rest_by refs report messages input = rest_of refs (records_of report) (records_of messages)
 
 abbrev pub accounts_by : List ℕ → TheInput → List ℕ
 accounts_by report input = rest_accounts_of input.openings.items (records_of report)

@@ -11,5 +11,6 @@ mod parts;
 mod printing;
 mod run;
 
-pub use listing::Listing;
+pub use listing::{Columns, Listing};
+pub(crate) use parts::ref_of;
 pub use run::run_listing;

@@ -5,20 +5,25 @@
 
 pub mod audit;
 pub mod bill;
+mod decisions;
 mod error;
 pub mod further;
 pub mod laws;
 mod notes;
+pub mod of_ledger;
+pub mod plain;
 pub mod recovery;
 pub mod rest;
 mod text;
 
 pub use audit::{AuditFault, run_audit};
-pub use bill::{Listing, run_listing};
+pub use bill::{Columns, Listing, run_listing};
+pub use decisions::{DecisionFault, decisions_in};
 pub use error::JournalError;
 pub use notes::{
     Note, RequestId, RunSize, check_notes, check_rounds, recover, recover_rounds, recovered_rows,
 };
+pub use plain::{Heading, plain_of};
 pub use recovery::{JournaledRun, Recovered, RecoveryFault, read_run, run_recover};
 pub use rest::{run_rest, run_rest_accounts};
 pub use text::{

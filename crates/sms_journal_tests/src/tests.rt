@@ -1,6 +1,7 @@
 //! Journals written by hand, and what is recovered from them.
 
 mod lines;
+mod plain;
 mod reading;
 mod recovery;
 

@@ -8,3 +8,12 @@ pub enum Listing {
     /// Those of which nobody knows whether they were delivered, with their texts.
     Doubtful,
 }
+
+/// What is listed, and with which columns.
+#[derive(Clone, Copy, Debug)]
+pub enum Columns<'a> {
+    /// Its own.
+    Usual(Listing),
+    /// Its own, and as the last one the sender's own reference of each message. These are by the messages' indices.
+    WithRefs(Listing, &'a [String]),
+}

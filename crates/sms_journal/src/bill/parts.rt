@@ -2,10 +2,10 @@
 
 ghost use Rattle.std.specs.Prelude.{◌≡◌, ◌++◌, IfOk, OnOk, map, string_bytes, take};
 ghost use Rattle.sms_files.specs.Report.{is_unanswered as stays_unanswered, shown_id, shown_octet};
-ghost use Rattle.sms_journal.specs.Bill.{account_name as name_of_account, billed_part, doubted_text, ended_text, last_reply as reply_to_last, line_of, next_field, part_text, reply_fields};
+ghost use Rattle.sms_journal.specs.Bill.{account_name as name_of_account, billed_part, doubted_fields, ended_fields, last_reply as reply_to_last, line_in, next_field, part_text, ref_end, ref_of as ref_in, reply_fields};
 
 use crate::bill::instants::write_moment;
-use crate::bill::listing::Listing;
+use crate::bill::listing::{Columns, Listing};
 use crate::bill::moments::Moments;
 use sms_book::Opening;
 use sms_files::memory::{self, NoMemory};
@@ -98,7 +98,7 @@ fn write_part(
     write_next(text, message.dest.as_str())
 }
 
-/// What it costs, and what became of it.
+/// Which part it is, what it costs, and what became of it.
 fn write_ended(
     alloc: Global,
     text: &mut String,
@@ -108,18 +108,18 @@ fn write_ended(
     segment: &SegmentEnd<()>,
     moments: Moments,
 ) -> Result<(), NoMemory>
-    ensures { OnOk result (string_bytes text.new ≡ string_bytes text.old ++ ended_text (billed_part openings.now message.now part segment.now moments)) }
+    ensures { OnOk result (string_bytes text.new ≡ string_bytes text.old ++ part_text (billed_part openings.now message.now part segment.now moments) ++ ended_fields (billed_part openings.now message.now part segment.now moments)) }
 {
+    write_part(text, openings, message, part, segment, moments)?;
     memory::append_number(text, ",", u64::from(segment.cost))?;
     memory::append(text, ",")?;
     memory::append(text, outcome_name(segment.outcome))?;
     write_reply(alloc, text, &last_reply(segment.attempts.as_slice()))?;
     write_moment(text, moments.sent)?;
-    write_moment(text, moments.heard)?;
-    memory::append(text, "\n")
+    write_moment(text, moments.heard)
 }
 
-/// What it costs, when it was sent, and what it says.
+/// Which part it is, what it costs, when it was sent, and what it says.
 fn write_doubted(
     text: &mut String,
     openings: &[Opening],
@@ -128,12 +128,12 @@ fn write_doubted(
     segment: &SegmentEnd<()>,
     moments: Moments,
 ) -> Result<(), NoMemory>
-    ensures { OnOk result (string_bytes text.new ≡ string_bytes text.old ++ doubted_text (billed_part openings.now message.now part segment.now moments)) }
+    ensures { OnOk result (string_bytes text.new ≡ string_bytes text.old ++ part_text (billed_part openings.now message.now part segment.now moments) ++ doubted_fields (billed_part openings.now message.now part segment.now moments)) }
 {
+    write_part(text, openings, message, part, segment, moments)?;
     memory::append_number(text, ",", u64::from(segment.cost))?;
     write_moment(text, moments.sent)?;
-    write_next(text, message.text.as_str())?;
-    memory::append(text, "\n")
+    write_next(text, message.text.as_str())
 }
 
 fn is_unanswered(outcome: Outcome) -> bool
@@ -145,30 +145,59 @@ fn is_unanswered(outcome: Outcome) -> bool
     }
 }
 
+/// The reference of the message with this index, and none where there is none.
+pub(crate) fn ref_of(refs: &[String], index: u64) -> &str
+    ensures { result.now ≡ ref_in refs.now index }
+{
+    match refs.get(index as usize) {
+        Some(reference) => reference.as_str(),
+        None => "",
+    }
+}
+
+/// The reference of a message, and the end of the line.
+fn write_ref(text: &mut String, refs: &[String], index: u64) -> Result<(), NoMemory>
+    ensures { OnOk result (string_bytes text.new ≡ string_bytes text.old ++ ref_end refs.now index) }
+{
+    write_next(text, ref_of(refs, index))?;
+    memory::append(text, "\n")
+}
+
 /// The line of a part, where this listing has one.
 pub(crate) fn write_line(
     alloc: Global,
     text: &mut String,
-    listing: Listing,
+    listing: Columns<'_>,
     openings: &[Opening],
     message: &Message,
     part: usize,
     segment: &SegmentEnd<()>,
     moments: Moments,
 ) -> Result<(), NoMemory>
-    ensures { OnOk result (string_bytes text.new ≡ string_bytes text.old ++ line_of listing (billed_part openings.now message.now part segment.now moments)) }
+    ensures { OnOk result (string_bytes text.new ≡ string_bytes text.old ++ line_in listing.entry (billed_part openings.now message.now part segment.now moments)) }
 {
     match listing {
-        Listing::Bill => {
-            write_part(text, openings, message, part, segment, moments)?;
-            write_ended(alloc, text, openings, message, part, segment, moments)
+        Columns::Usual(Listing::Bill) => {
+            write_ended(alloc, text, openings, message, part, segment, moments)?;
+            memory::append(text, "\n")
         }
-        Listing::Doubtful => {
+        Columns::WithRefs(Listing::Bill, refs) => {
+            write_ended(alloc, text, openings, message, part, segment, moments)?;
+            write_ref(text, refs, message.index)
+        }
+        Columns::Usual(Listing::Doubtful) => {
             if !is_unanswered(segment.outcome) {
                 return Ok(());
             }
-            write_part(text, openings, message, part, segment, moments)?;
-            write_doubted(text, openings, message, part, segment, moments)
+            write_doubted(text, openings, message, part, segment, moments)?;
+            memory::append(text, "\n")
+        }
+        Columns::WithRefs(Listing::Doubtful, refs) => {
+            if !is_unanswered(segment.outcome) {
+                return Ok(());
+            }
+            write_doubted(text, openings, message, part, segment, moments)?;
+            write_ref(text, refs, message.index)
         }
     }
 }

@@ -1,11 +1,11 @@
 //! The lines of all parts.
 
 ghost use Rattle.std.specs.Prelude.{◌≡◌, ◌++◌, IfOk, OnOk, flat_map, string_bytes};
-ghost use Rattle.sms_journal.specs.Bill.{billed, billed_parts, line_of, listing_header, listing_of};
+ghost use Rattle.sms_journal.specs.Bill.{billed, billed_parts, line_in, header_in, listing_header, listing_of, refs_header};
 ghost use Rattle.sms_journal.specs.Moments.{AreMoments};
 ghost use Rattle.sms_journal.specs.Sums.{parts_in};
 
-use crate::bill::listing::Listing;
+use crate::bill::listing::{Columns, Listing};
 use crate::bill::moments::{Moments, all_moments, moments_of};
 use crate::bill::parts::write_line;
 use crate::notes::Note;
@@ -18,7 +18,7 @@ use std::collections::HashMap;
 /// What is listed, and by what.
 #[derive(Clone, Copy)]
 struct Source<'a> {
-    listing: Listing,
+    listing: Columns<'a>,
     openings: &'a [Opening],
     /// The times of the notes.
     times: &'a [u64],
@@ -36,7 +36,7 @@ fn write_parts(
     segments: &[SegmentEnd<()>],
 ) -> Result<(), NoMemory>
     requires { AreMoments source.now.times.now source.now.notes.now source.now.moments.now }
-    ensures { OnOk result (string_bytes text.new ≡ string_bytes text.old ++ flat_map (line_of source.now.listing) (billed_parts source.now.openings.now source.now.times.now source.now.notes.now message.now 1 segments.now)) }
+    ensures { OnOk result (string_bytes text.new ≡ string_bytes text.old ++ flat_map (line_in source.now.listing) (billed_parts source.now.openings.now source.now.times.now source.now.notes.now message.now 1 segments.now)) }
 {
     let index = message.index;
     for (place, segment) in segments.iter().enumerate() {
@@ -64,7 +64,7 @@ fn write_message(
     end: &MessageResult<()>,
 ) -> Result<(), NoMemory>
     requires { AreMoments source.now.times.now source.now.notes.now source.now.moments.now }
-    ensures { OnOk result (string_bytes text.new ≡ string_bytes text.old ++ flat_map (line_of source.now.listing) (billed_parts source.now.openings.now source.now.times.now source.now.notes.now message.now 1 (parts_in end.now))) }
+    ensures { OnOk result (string_bytes text.new ≡ string_bytes text.old ++ flat_map (line_in source.now.listing) (billed_parts source.now.openings.now source.now.times.now source.now.notes.now message.now 1 (parts_in end.now))) }
 {
     match end {
         MessageResult::Sent(segments) => {
@@ -83,7 +83,7 @@ fn write_messages(
     ends: &[MessageEnd<()>],
 ) -> Result<(), NoMemory>
     requires { AreMoments source.now.times.now source.now.notes.now source.now.moments.now }
-    ensures { OnOk result (string_bytes text.new ≡ string_bytes text.old ++ flat_map (line_of source.now.listing) (billed source.now.openings.now source.now.times.now source.now.notes.now messages.now ends.now)) }
+    ensures { OnOk result (string_bytes text.new ≡ string_bytes text.old ++ flat_map (line_in source.now.listing) (billed source.now.openings.now source.now.times.now source.now.notes.now messages.now ends.now)) }
 {
     for place in 0..messages.len().min(ends.len()) {
         let message = &messages[place];
@@ -93,7 +93,8 @@ fn write_messages(
     Ok(())
 }
 
-fn header_of(listing: Listing) -> &'static str
+/// The header of a listing with its own columns.
+fn usual_header(listing: Listing) -> &'static str
     ensures { result.now ≡ listing_header listing }
 {
     match listing {
@@ -104,17 +105,38 @@ fn header_of(listing: Listing) -> &'static str
     }
 }
 
+/// The same with references behind them.
+fn header_with_refs(listing: Listing) -> &'static str
+    ensures { result.now ≡ refs_header listing }
+{
+    match listing {
+        Listing::Bill => {
+            "message,part,account,source,destination,cost,outcome,status,id,sent,heard,ref\n"
+        }
+        Listing::Doubtful => "message,part,account,source,destination,cost,sent,text,ref\n",
+    }
+}
+
+fn header_of(listing: Columns<'_>) -> &'static str
+    ensures { result.now ≡ header_in listing.entry }
+{
+    match listing {
+        Columns::Usual(listing) => usual_header(listing),
+        Columns::WithRefs(listing, _) => header_with_refs(listing),
+    }
+}
+
 /// What is printed of the parts of these messages, by their ends and by notes with their times.
 pub(crate) fn listing_text(
     alloc: Global,
-    listing: Listing,
+    listing: Columns<'_>,
     openings: &[Opening],
     messages: &[Message],
     ends: &[MessageEnd<()>],
     times: &[u64],
     notes: &[Note],
 ) -> Result<String, NoMemory>
-    ensures { IfOk result (λ text. string_bytes text ≡ listing_of listing openings.now times.now notes.now messages.now ends.now) }
+    ensures { IfOk result (λ text. string_bytes text ≡ listing_of listing.entry openings.now times.now notes.now messages.now ends.now) }
 {
     let moments = all_moments(alloc, times, notes)?;
     let source = Source {

@@ -6,7 +6,7 @@ ghost use Rattle.sms_journal.specs.declared.text.header.JournalKind.TheVariants.
 ghost use Rattle.sms_journal.specs.Listings.{AreTimedBehind, IsFaultBehind, IsFaultOfListing, IsFaultOfPrinting, IsFaultOfRunListing, IsListed, ListsRun, PrintsListing};
 
 use crate::bill::lines::{TimedNotes, behind_first, read_timed};
-use crate::bill::listing::Listing;
+use crate::bill::listing::Columns;
 use crate::bill::printing::listing_text;
 use crate::error::JournalError;
 use crate::recovery::{JournaledRun, RecoveryFault, read_run};
@@ -36,10 +36,10 @@ fn listed_run(
     alloc: Global,
     run: &JournaledRun,
     journal: &[u8],
-    listing: Listing,
+    listing: Columns<'_>,
 ) -> Result<String, RecoveryFault>
     requires { run.now.kind ≡ Run }
-    ensures listed { IfOk result (λ text. IsListed run.now journal.now listing (string_bytes text)) }
+    ensures listed { IfOk result (λ text. IsListed run.now journal.now listing.entry (string_bytes text)) }
     ensures refused { IfErr result (IsFaultBehind journal.now) }
 {
     let read = match timed_notes(alloc, journal) {
@@ -65,9 +65,9 @@ fn listed(
     alloc: Global,
     run: &JournaledRun,
     journal: &[u8],
-    listing: Listing,
+    listing: Columns<'_>,
 ) -> Result<String, RecoveryFault>
-    ensures listed { IfOk result (λ text. IsListed run.now journal.now listing (string_bytes text)) }
+    ensures listed { IfOk result (λ text. IsListed run.now journal.now listing.entry (string_bytes text)) }
     ensures refused { IfErr result (IsFaultOfListing run.now journal.now) }
 {
     match run.kind {
@@ -81,11 +81,11 @@ fn print_listed<W: Write>(
     alloc: Global,
     run: &JournaledRun,
     journal: &[u8],
-    listing: Listing,
+    listing: Columns<'_>,
     output: &mut W,
 ) -> Result<(), RecoveryFault>
-    ensures printed { OnOk result (PrintsListing run.now journal.now listing (W.contents output.old) (W.contents output.new)) }
-    ensures refused { IfErr result (IsFaultOfPrinting run.now journal.now listing (W.contents output.old) (W.contents output.new)) }
+    ensures printed { OnOk result (PrintsListing run.now journal.now listing.entry (W.contents output.old) (W.contents output.new)) }
+    ensures refused { IfErr result (IsFaultOfPrinting run.now journal.now listing.entry (W.contents output.old) (W.contents output.new)) }
     ensures quiet { IfErr result (λ fault. fault ≢ output_failed → output.new ≡ output.old) }
 {
     match listed(alloc, run, journal, listing) {
@@ -107,11 +107,11 @@ pub fn run_listing<R: AllocGlobal + Threads, W: Write>(
     messages: &[u8],
     tariff: Option<&[u8]>,
     journal: &[u8],
-    listing: Listing,
+    listing: Columns<'_>,
     output: &mut W,
 ) -> Result<(), RecoveryFault>
-    ensures printed { OnOk result (ListsRun config.now accounts.now messages.now (option_copied tariff.entry) journal.now listing (W.contents output.old) (W.contents output.new)) }
-    ensures refused { IfErr result (IsFaultOfRunListing config.now accounts.now messages.now (option_copied tariff.entry) journal.now listing (W.contents output.old) (W.contents output.new)) }
+    ensures printed { OnOk result (ListsRun config.now accounts.now messages.now (option_copied tariff.entry) journal.now listing.entry (W.contents output.old) (W.contents output.new)) }
+    ensures refused { IfErr result (IsFaultOfRunListing config.now accounts.now messages.now (option_copied tariff.entry) journal.now listing.entry (W.contents output.old) (W.contents output.new)) }
     ensures quiet { IfErr result (λ fault. fault ≢ output_failed → output.new ≡ output.old) }
 {
     let found = match read_run(rt, config, accounts, messages, tariff, journal, false) {

@@ -1,11 +1,12 @@
 //! The messages file and the accounts file of what is left, as the program reads them.
 
-ghost use Rattle.std.specs.Prelude.{◌≡◌, ◌++◌, Bool, IfOk, OnOk, decimal, drop, map, slice_get};
+ghost use Rattle.std.specs.Prelude.{◌≡◌, ◌++◌, Bool, IfOk, OnOk, decimal, drop, map, option_copied, slice_get};
 ghost use Rattle.csv.specs.Records.{fields_of};
 ghost use Rattle.sms_files.specs.Report.{field_text, quoted};
 ghost use Rattle.sms_journal.specs.RecordLines.{amount_in};
-ghost use Rattle.sms_journal.specs.Rest.{account_text, account_texts, credits_text, field_or, left_text, left_texts, next_text, record_text, rest_accounts_of, rest_of, rows_in};
+ghost use Rattle.sms_journal.specs.Rest.{account_text, account_texts, credits_text, field_or, left_text, left_texts, line_end, next_text, record_text, rest_accounts_of, rest_header, rest_of, rows_in};
 
+use crate::bill::ref_of;
 use crate::rest::left::left_by;
 use crate::rest::report_line::free_of;
 use csv::ByteRecord;
@@ -36,7 +37,7 @@ fn push_quoted(text: &mut Vec<u8>, field: &[u8]) -> Result<(), NoMemory>
 }
 
 /// Adds a field of CSV.
-fn push_field(text: &mut Vec<u8>, field: &[u8]) -> Result<(), NoMemory>
+pub(crate) fn push_field(text: &mut Vec<u8>, field: &[u8]) -> Result<(), NoMemory>
     ensures { OnOk result (text.new.items ≡ text.old.items ++ field_text field.now) }
 {
     if !needs_quotes(field) {
@@ -48,7 +49,11 @@ fn push_field(text: &mut Vec<u8>, field: &[u8]) -> Result<(), NoMemory>
 }
 
 /// Adds the record's field at a place.
-fn push_field_at(text: &mut Vec<u8>, record: &ByteRecord, place: usize) -> Result<(), NoMemory>
+pub(crate) fn push_field_at(
+    text: &mut Vec<u8>,
+    record: &ByteRecord,
+    place: usize,
+) -> Result<(), NoMemory>
     ensures { OnOk result (text.new.items ≡ text.old.items ++ field_text (field_or (fields_of «record».now) place)) }
 {
     match record.get(place) {
@@ -58,30 +63,59 @@ fn push_field_at(text: &mut Vec<u8>, record: &ByteRecord, place: usize) -> Resul
 }
 
 /// Adds a comma and the field after it.
-fn push_next(text: &mut Vec<u8>, record: &ByteRecord, place: usize) -> Result<(), NoMemory>
+pub(crate) fn push_next(
+    text: &mut Vec<u8>,
+    record: &ByteRecord,
+    place: usize,
+) -> Result<(), NoMemory>
     ensures { OnOk result (text.new.items ≡ text.old.items ++ next_text (fields_of «record».now) place) }
 {
     push_all(text, b",")?;
     push_field_at(text, record, place)
 }
 
-/// Adds a message's record.
-fn push_record(text: &mut Vec<u8>, record: &ByteRecord) -> Result<(), NoMemory>
-    ensures { OnOk result (text.new.items ≡ text.old.items ++ record_text (fields_of «record».now)) }
+/// Adds the end of the line of the message with this index, with its reference before it, where messages have references.
+fn push_end(text: &mut Vec<u8>, refs: Option<&[String]>, index: usize) -> Result<(), NoMemory>
+    ensures { OnOk result (text.new.items ≡ text.old.items ++ line_end (option_copied refs.entry) index) }
+{
+    match refs {
+        Some(refs) => {
+            push_all(text, b",")?;
+            push_field(text, ref_of(refs, index as u64).as_bytes())?;
+            push_all(text, b"\n")
+        }
+        None => push_all(text, b"\n"),
+    }
+}
+
+/// Adds the record of the message with this index.
+fn push_record(
+    text: &mut Vec<u8>,
+    refs: Option<&[String]>,
+    index: usize,
+    record: &ByteRecord,
+) -> Result<(), NoMemory>
+    ensures { OnOk result (text.new.items ≡ text.old.items ++ record_text (option_copied refs.entry) index (fields_of «record».now)) }
 {
     push_field_at(text, record, 0)?;
     push_next(text, record, 1)?;
     push_next(text, record, 2)?;
     push_next(text, record, 3)?;
-    push_all(text, b"\n")
+    push_end(text, refs, index)
 }
 
-/// Adds a message's record where the message is left.
-fn push_left(text: &mut Vec<u8>, left: bool, record: &ByteRecord) -> Result<(), NoMemory>
-    ensures { OnOk result (text.new.items ≡ text.old.items ++ left_text left (fields_of «record».now)) }
+/// Adds the record of the message with this index where the message is left.
+fn push_left(
+    text: &mut Vec<u8>,
+    refs: Option<&[String]>,
+    index: usize,
+    left: bool,
+    record: &ByteRecord,
+) -> Result<(), NoMemory>
+    ensures { OnOk result (text.new.items ≡ text.old.items ++ left_text (option_copied refs.entry) index left (fields_of «record».now)) }
 {
     if left {
-        push_record(text, record)
+        push_record(text, refs, index, record)
     } else {
         Ok(())
     }
@@ -101,14 +135,16 @@ fn flag_at(left: &[bool], place: usize) -> bool
 fn push_all_left(
     alloc: Global,
     text: &mut Vec<u8>,
+    refs: Option<&[String]>,
     report: &[ByteRecord],
     messages: &[ByteRecord],
 ) -> Result<(), NoMemory>
-    ensures { OnOk result (text.new.items ≡ text.old.items ++ left_texts (map fields_of report.now) 0 (map fields_of messages.now)) }
+    ensures { OnOk result (text.new.items ≡ text.old.items ++ left_texts (option_copied refs.entry) (map fields_of report.now) 0 (map fields_of messages.now)) }
 {
     let left = left_by(alloc, messages.len(), report)?;
     for place in 0..messages.len() {
-        push_left(text, flag_at(left.as_slice(), place), &messages[place])?;
+        let flag = flag_at(left.as_slice(), place);
+        push_left(text, refs, place, flag, &messages[place])?;
     }
     Ok(())
 }
@@ -124,22 +160,33 @@ pub(crate) fn behind_first(records: &[ByteRecord]) -> &[ByteRecord]
     }
 }
 
+/// The header of the messages file of what is left.
+fn header_for(refs: Option<&[String]>) -> &'static str
+    ensures { result.now ≡ rest_header (option_copied refs.entry) }
+{
+    match refs {
+        Some(_) => "account,source,destination,text,ref\n",
+        None => "account,source,destination,text\n",
+    }
+}
+
 /// The messages file of the messages that are left.
 pub fn rest_text(
     alloc: Global,
+    refs: Option<&[String]>,
     report: &[ByteRecord],
     messages: &[ByteRecord],
 ) -> Result<Vec<u8>, NoMemory>
-    ensures { IfOk result (λ text. text.items ≡ rest_of (map fields_of report.now) (map fields_of messages.now)) }
+    ensures { IfOk result (λ text. text.items ≡ rest_of (option_copied refs.entry) (map fields_of report.now) (map fields_of messages.now)) }
 {
     let mut text = Vec::new(alloc);
-    push_all(&mut text, b"account,source,destination,text\n")?;
-    push_all_left(alloc, &mut text, report, behind_first(messages))?;
+    push_all(&mut text, header_for(refs).as_bytes())?;
+    push_all_left(alloc, &mut text, refs, report, behind_first(messages))?;
     Ok(text)
 }
 
 /// Adds a number in decimal digits.
-fn push_number(alloc: Global, text: &mut Vec<u8>, number: u64) -> Result<(), NoMemory>
+pub(crate) fn push_number(alloc: Global, text: &mut Vec<u8>, number: u64) -> Result<(), NoMemory>
     ensures { OnOk result (text.new.items ≡ text.old.items ++ decimal number) }
 {
     let mut digits = String::new(alloc);

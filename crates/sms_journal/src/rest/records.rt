@@ -11,7 +11,7 @@ use std::alloc::Global;
 use std::io::Read;
 
 /// A reader of all records, of whatever lengths, the header among them.
-fn read_all<R: Read>(alloc: Global, input: R) -> Reader<R>
+pub(crate) fn read_all<R: Read>(alloc: Global, input: R) -> Reader<R>
     ensures reads { ReadsAll result }
     ensures whole { reader_left R.remaining result ≡ option_map records_of (R.remaining input) }
 {

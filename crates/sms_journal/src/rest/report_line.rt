@@ -174,7 +174,7 @@ pub(crate) fn is_left(line: &Line) -> bool
 }
 
 /// Whether the record's field at a place is this one.
-fn is_field(record: &ByteRecord, place: usize, name: &[u8]) -> bool
+pub(crate) fn is_field(record: &ByteRecord, place: usize, name: &[u8]) -> bool
     ensures { result ≡ field_is (fields_of «record».now) place name.now }
 {
     match record.get(place) {

@@ -83,16 +83,17 @@ fn read_report(
 /// Prints the messages that are left.
 fn print_rest<W: Write>(
     alloc: Global,
+    refs: Option<&[String]>,
     report: &[ByteRecord],
     messages: &[u8],
     output: &mut W,
 ) -> Result<(), RecoveryFault>
-    ensures written { OnOk result (Appends (W.contents output.old) (W.contents output.new) (rest_of (map fields_of report.now) (records_of messages.now))) }
-    ensures refused { IfErr result (IsCut (rest_of (map fields_of report.now) (records_of messages.now)) (W.contents output.old) (W.contents output.new)) }
+    ensures written { OnOk result (Appends (W.contents output.old) (W.contents output.new) (rest_of (option_copied refs.entry) (map fields_of report.now) (records_of messages.now))) }
+    ensures refused { IfErr result (IsCut (rest_of (option_copied refs.entry) (map fields_of report.now) (records_of messages.now)) (W.contents output.old) (W.contents output.new)) }
     ensures quiet { IfErr result (λ fault. fault ≢ output_failed → output.new ≡ output.old) }
 {
     let messages = records_in(alloc, messages)?;
-    let text = rest_text(alloc, report, messages.as_slice())?;
+    let text = rest_text(alloc, refs, report, messages.as_slice())?;
     write_out(output, text.as_slice())?;
     Ok(())
 }
@@ -115,7 +116,7 @@ fn print_accounts<W: Write>(
 
 /// Prints the messages file of the messages that a run of these files did not send, by its report: those that
 /// were refused for a lost bind, for credit or for memory, and those of which no part was sent. Their records
-/// stand as in the messages file, in their order.
+/// stand as in the messages file, in their order, each with its reference where messages have references.
 pub fn run_rest<W: Write>(
     alloc: Global,
     config: &[u8],
@@ -123,17 +124,18 @@ pub fn run_rest<W: Write>(
     messages: &[u8],
     tariff: Option<&[u8]>,
     report: &[u8],
+    refs: Option<&[String]>,
     output: &mut W,
 ) -> Result<(), RecoveryFault>
-    ensures printed { OnOk result (Prints config.now accounts.now messages.now (option_copied tariff.entry) report.now (rest_by report.now messages.now) (W.contents output.old) (W.contents output.new)) }
-    ensures refused { IfErr result (IsFaultOfPrinting config.now accounts.now messages.now (option_copied tariff.entry) report.now (rest_by report.now messages.now) (W.contents output.old) (W.contents output.new)) }
+    ensures printed { OnOk result (Prints config.now accounts.now messages.now (option_copied tariff.entry) report.now (rest_by (option_copied refs.entry) report.now messages.now) (W.contents output.old) (W.contents output.new)) }
+    ensures refused { IfErr result (IsFaultOfPrinting config.now accounts.now messages.now (option_copied tariff.entry) report.now (rest_by (option_copied refs.entry) report.now messages.now) (W.contents output.old) (W.contents output.new)) }
     ensures quiet { IfErr result (λ fault. fault ≢ output_failed → output.new ≡ output.old) }
 {
     let reported = match read_report(alloc, config, accounts, messages, tariff, report) {
         Ok(reported) => reported,
         Err(fault) => return Err(fault),
     };
-    let printed = print_rest(alloc, reported.records.as_slice(), messages, output);
+    let printed = print_rest(alloc, refs, reported.records.as_slice(), messages, output);
     drop(reported);
     printed
 }

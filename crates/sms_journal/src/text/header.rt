@@ -74,7 +74,7 @@ pub(crate) fn write_hex_octet(text: &mut String, octet: u8) -> Result<(), NoMemo
 }
 
 /// Writes octets in hexadecimal digits.
-fn write_hex(text: &mut String, octets: &[u8]) -> Result<(), NoMemory>
+pub(crate) fn write_hex(text: &mut String, octets: &[u8]) -> Result<(), NoMemory>
     ensures { OnOk result (string_bytes text.new ≡ string_bytes text.old ++ hex_text octets.now) }
 {
     for octet in octets {

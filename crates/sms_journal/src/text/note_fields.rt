@@ -44,7 +44,7 @@ pub(crate) fn cut(text: &[u8]) -> (&[u8], &[u8])
 }
 
 #[tactic(auto, unfolding(crate::specs::Reading::u64_in))]
-fn u64_in(field: &[u8]) -> Option<u64>
+pub(crate) fn u64_in(field: &[u8]) -> Option<u64>
     ensures { result ≡ u64_said field.now }
 {
     decimal_of(field, u64::MAX)

@@ -5,6 +5,7 @@ mod bill;
 mod fault_text;
 mod forged;
 mod head;
+mod of_ledger;
 mod printed;
 mod recover;
 mod rest;

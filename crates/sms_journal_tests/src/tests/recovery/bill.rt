@@ -3,7 +3,7 @@
 use super::fault_text::fault_text;
 use super::head::head_of;
 use super::same::same;
-use sms_journal::{JournalKind, Listing, digests_of, run_listing};
+use sms_journal::{Columns, JournalKind, Listing, digests_of, run_listing};
 use std::alloc::{AllocError, Global};
 use std::test::Fail;
 use std::thread::Threads;
@@ -86,7 +86,7 @@ fn journal_of(alloc: Global, kind: JournalKind, records: &str) -> Result<String,
 fn listed(
     rt: &(impl AllocGlobal + Threads),
     journal: &[u8],
-    listing: Listing,
+    listing: Columns<'_>,
 ) -> Result<String, Fail> {
     let alloc = rt.alloc();
     let mut out = Vec::new(alloc);
@@ -107,13 +107,45 @@ fn lists_the_parts_of_a_run(rt: HostRuntime) -> Result<(), Fail> {
     let alloc = rt.alloc();
     for (records, bill, doubts) in RUNS {
         let journal = journal_of(alloc, JournalKind::Run, records)?;
-        let got = listed(&rt, journal.as_bytes(), Listing::Bill)?;
+        let got = listed(&rt, journal.as_bytes(), Columns::Usual(Listing::Bill))?;
         let wanted = format!(in alloc; "{BILL}{bill}")?;
         same(&rt, got.as_str(), wanted.as_str());
-        let got = listed(&rt, journal.as_bytes(), Listing::Doubtful)?;
+        let got = listed(&rt, journal.as_bytes(), Columns::Usual(Listing::Doubtful))?;
         let wanted = format!(in alloc; "{DOUBTS}{doubts}")?;
         same(&rt, got.as_str(), wanted.as_str());
     }
+    Ok(())
+}
+
+/// A reference that wants quotes, and none for the message behind it.
+#[test]
+fn lists_references_last(rt: HostRuntime) -> Result<(), Fail> {
+    let alloc = rt.alloc();
+    let mut refs = Vec::new(alloc);
+    refs.push(String::from_str(alloc, "R-1, \"x\"")?)?;
+    let (records, _, _) = RUNS[RUNS.len() - 1];
+    let journal = journal_of(alloc, JournalKind::Run, records)?;
+    let listing = Columns::WithRefs(Listing::Bill, refs.as_slice());
+    let got = listed(&rt, journal.as_bytes(), listing)?;
+    same(
+        &rt,
+        got.as_str(),
+        concat!(
+            "message,part,account,source,destination,cost,outcome,status,id,sent,heard,ref\n",
+            "0,1,\"m, n\",1,+44,1,unanswered,,,2026-11-30T06:28:00.000Z,,\"R-1, \"\"x\"\"\"\n",
+            "1,1,\"m, n\",2,+33,1,charged,0,m2,2026-11-30T06:28:01.000Z,2026-11-30T06:28:02.000Z,\n"
+        ),
+    );
+    let listing = Columns::WithRefs(Listing::Doubtful, refs.as_slice());
+    let got = listed(&rt, journal.as_bytes(), listing)?;
+    same(
+        &rt,
+        got.as_str(),
+        concat!(
+            "message,part,account,source,destination,cost,sent,text,ref\n",
+            "0,1,\"m, n\",1,+44,1,2026-11-30T06:28:00.000Z,\"a \"\"b\"\"\",\"R-1, \"\"x\"\"\"\n"
+        ),
+    );
     Ok(())
 }
 
@@ -122,10 +154,10 @@ fn lists_nothing_of_a_trial(rt: HostRuntime) -> Result<(), Fail> {
     let alloc = rt.alloc();
     let records = "begun,5,0\nsent,6,0,1,0,1\n";
     let journal = journal_of(alloc, JournalKind::Trial, records)?;
-    let got = listed(&rt, journal.as_bytes(), Listing::Bill)?;
+    let got = listed(&rt, journal.as_bytes(), Columns::Usual(Listing::Bill))?;
     same(&rt, got.as_str(), "journal of a trial");
     let journal = journal_of(alloc, JournalKind::Run, "begun,5,0\nbegun,5,0\n")?;
-    let got = listed(&rt, journal.as_bytes(), Listing::Doubtful)?;
+    let got = listed(&rt, journal.as_bytes(), Columns::Usual(Listing::Doubtful))?;
     same(&rt, got.as_str(), "journal record 3");
     Ok(())
 }

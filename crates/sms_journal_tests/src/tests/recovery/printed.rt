@@ -146,6 +146,7 @@ fn said_of(alloc: Global, report: &[u8]) -> Result<String, Fail> {
         MESSAGES.as_bytes(),
         Some(TARIFF),
         report,
+        None,
         &mut out,
     );
     match said {

@@ -27,6 +27,8 @@ const ROWS: &str = "main,10,10,0,0,0\n\"a, \"\"b\"\"\",3,2,0,1,0\n";
 
 const REST: &str = "account,source,destination,text\n";
 
+const WITH_REFS: &str = "account,source,destination,text,ref\n";
+
 const FIRST: &str = concat!(
     "main,1,2,",
     "one two three four five six seven eight nine ten one two three four five six seven eight nine ten ",
@@ -91,7 +93,12 @@ const LEFT: [Case; 6] = [
 
 const GOOD: &str = "0,0,0,no-credit,,\n1,1,1,charged,0,m\n2,0,0,bind-closed,,\n";
 
-fn rest_by(alloc: Global, report: &[u8]) -> Result<String, Fail> {
+/// With or without references, of which the third message has none.
+fn rest_by(alloc: Global, report: &[u8], refs: bool) -> Result<String, Fail> {
+    let mut all = Vec::new(alloc);
+    for reference in ["R-0", "say, \"R\""] {
+        all.push(String::from_str(alloc, reference)?)?;
+    }
     let mut out = Vec::new(alloc);
     match run_rest(
         alloc,
@@ -100,6 +107,7 @@ fn rest_by(alloc: Global, report: &[u8]) -> Result<String, Fail> {
         MESSAGES.as_bytes(),
         None,
         report,
+        if refs { Some(all.as_slice()) } else { None },
         &mut out,
     ) {
         Ok(()) => Ok(String::from_str(alloc, shown(out.as_slice()))?),
@@ -130,11 +138,18 @@ fn shown(octets: &[u8]) -> &str {
     }
 }
 
-fn wanted(alloc: Global, left: [bool; 3]) -> Result<String, AllocError> {
-    let mut text = String::from_str(alloc, REST)?;
-    for (is_left, record) in [(left[0], FIRST), (left[1], SECOND), (left[2], THIRD)] {
+fn wanted(alloc: Global, left: [bool; 3], refs: bool) -> Result<String, AllocError> {
+    let header = if refs { WITH_REFS } else { REST };
+    let mut text = String::from_str(alloc, header)?;
+    let records = [
+        (left[0], FIRST, ",R-0\n"),
+        (left[1], SECOND, ",\"say, \"\"R\"\"\"\n"),
+        (left[2], THIRD, ",\n"),
+    ];
+    for (is_left, record, end) in records {
         if is_left {
-            text.push_str(record)?;
+            text.push_str(record.trim_end_matches('\n'))?;
+            text.push_str(if refs { end } else { "\n" })?;
         }
     }
     Ok(text)
@@ -158,9 +173,11 @@ fn prints_the_messages_that_did_not_go_out(rt: HostRuntime) -> Result<(), Fail> 
     let alloc = rt.alloc();
     for case in &LEFT {
         let report = report_of(alloc, case)?;
-        let got = rest_by(alloc, report.as_bytes())?;
-        let text = wanted(alloc, case.left)?;
-        same(&rt, got.as_str(), text.as_str());
+        for refs in [false, true] {
+            let got = rest_by(alloc, report.as_bytes(), refs)?;
+            let text = wanted(alloc, case.left, refs)?;
+            same(&rt, got.as_str(), text.as_str());
+        }
         let accounts = accounts_by(alloc, report.as_bytes())?;
         let credits = credits_of(alloc, case)?;
         same(&rt, accounts.as_str(), credits.as_str());
@@ -283,7 +300,7 @@ fn tells_the_first_record_that_is_none_of_a_report(rt: HostRuntime) -> Result<()
     let alloc = rt.alloc();
     for (short, fault) in FAULTY {
         let report = spelled(alloc, short)?;
-        let got = rest_by(alloc, report.as_bytes())?;
+        let got = rest_by(alloc, report.as_bytes(), false)?;
         same(&rt, got.as_str(), fault);
         let accounts = accounts_by(alloc, report.as_bytes())?;
         same(&rt, accounts.as_str(), fault);
@@ -296,7 +313,7 @@ fn refuses_a_line_that_no_run_prints(rt: HostRuntime) -> Result<(), Fail> {
     let alloc = rt.alloc();
     for line in FORGED {
         let report = format!(in alloc; "{HEAD}{line}\n")?;
-        let got = rest_by(alloc, report.as_bytes())?;
+        let got = rest_by(alloc, report.as_bytes(), false)?;
         same(&rt, got.as_str(), "report record 2");
     }
     Ok(())
@@ -351,6 +368,7 @@ fn said_of(alloc: Global, report: &[u8]) -> Result<String, Fail> {
         REFUSED,
         Some(b"prefix,credits\n44,4\n"),
         report,
+        None,
         &mut out,
     );
     match said {

@@ -1,9 +1,9 @@
 use Rattle.std.proofs.Common.{◌≡◌, ◌++◌, ◌+◌, drop}
 use Rattle.std.specs.Prelude.{flat_map, string_bytes}
-use Rattle.sms_journal.specs.Bill.{billed_parts, line_of}
+use Rattle.sms_journal.specs.Bill.{billed_parts, line_in}
 use Rattle.sms_journal.proofs.bill.printing.write_parts.Given as goal
 
 abbrev pub invariant-loop-place : goal.invariant-loop-place
 invariant-loop-place l =
-    string_bytes l.text ++ flat_map (line_of l.source.listing) (billed_parts l.source.openings.now l.source.times.now l.source.notes.now l.message (l.place + 1) (drop l.place l.segments))
-    ≡ string_bytes l.initial.text ++ flat_map (line_of l.source.listing) (billed_parts l.source.openings.now l.source.times.now l.source.notes.now l.message 1 l.segments)
+    string_bytes l.text ++ flat_map (line_in l.source.listing) (billed_parts l.source.openings.now l.source.times.now l.source.notes.now l.message (l.place + 1) (drop l.place l.segments))
+    ≡ string_bytes l.initial.text ++ flat_map (line_in l.source.listing) (billed_parts l.source.openings.now l.source.times.now l.source.notes.now l.message 1 l.segments)

@@ -15,9 +15,9 @@ returns-clause-printed g c =
     let new = g.W.Write.contents c.print_rest-printed.new.output in
     let messages = c.args.messages.now in
     let records : map fields_of c.as_slice.result.now ≡ records_of c.args.report.now = ap (λ (rs : List Row). map fields_of rs) c.as_slice.ensures.value ∙ c.in-Ok.ensures.records in
-    let text = ap (λ (rs : List Record). rest_of rs (records_of messages)) records in
-    on_ok_weaker c.print_rest-printed.result (prints c.args.config.now c.args.accounts.now messages (option_copied c.args.tariff) c.args.report.now (rest_by c.args.report.now messages) old new c.in-Ok.reported.input
-    (rest_of (map fields_of c.as_slice.result.now) (records_of messages)) c.in-Ok.ensures.read c.in-Ok.ensures.report text) c.print_rest-printed.ensures.written
+    let text = ap (λ (rs : List Record). rest_of (option_copied c.args.refs) rs (records_of messages)) records in
+    on_ok_weaker c.print_rest-printed.result (prints c.args.config.now c.args.accounts.now messages (option_copied c.args.tariff) c.args.report.now (rest_by (option_copied c.args.refs) c.args.report.now messages) old new c.in-Ok.reported.input
+    (rest_of (option_copied c.args.refs) (map fields_of c.as_slice.result.now) (records_of messages)) c.in-Ok.ensures.read c.in-Ok.ensures.report text) c.print_rest-printed.ensures.written
 
 pub returns-clause-refused : goal.returns-clause-refused
 returns-clause-refused g c =
@@ -25,9 +25,9 @@ returns-clause-refused g c =
     let new = g.W.Write.contents c.print_rest-printed.new.output in
     let messages = c.args.messages.now in
     let records : map fields_of c.as_slice.result.now ≡ records_of c.args.report.now = ap (λ (rs : List Row). map fields_of rs) c.as_slice.ensures.value ∙ c.in-Ok.ensures.records in
-    let printed = rest_of (map fields_of c.as_slice.result.now) (records_of messages) in
-    let text = ap (λ (rs : List Record). rest_of rs (records_of messages)) records in
+    let printed = rest_of (option_copied c.args.refs) (map fields_of c.as_slice.result.now) (records_of messages) in
+    let text = ap (λ (rs : List Record). rest_of (option_copied c.args.refs) rs (records_of messages)) records in
     IfErr-weaker c.print_rest-printed.result (IsCut printed old new)
-    (IsFaultOfPrinting c.args.config.now c.args.accounts.now messages (option_copied c.args.tariff) c.args.report.now (rest_by c.args.report.now messages) old new)
-    (cut c.args.config.now c.args.accounts.now messages (option_copied c.args.tariff) c.args.report.now (rest_by c.args.report.now messages) old new c.in-Ok.reported.input printed
+    (IsFaultOfPrinting c.args.config.now c.args.accounts.now messages (option_copied c.args.tariff) c.args.report.now (rest_by (option_copied c.args.refs) c.args.report.now messages) old new)
+    (cut c.args.config.now c.args.accounts.now messages (option_copied c.args.tariff) c.args.report.now (rest_by (option_copied c.args.refs) c.args.report.now messages) old new c.in-Ok.reported.input printed
     c.in-Ok.ensures.read c.in-Ok.ensures.report text) c.print_rest-printed.ensures.refused
