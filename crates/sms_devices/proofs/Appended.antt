@@ -6,7 +6,7 @@ use Rattle.std.specs.declared.io.ErrorKind.{ErrorKind}
 use Rattle.std.specs.Io.KnownBytes.{Appends, Keeps}
 use Rattle.sms_files.specs.Output.{WritesFront}
 use Rattle.sms_devices.specs.declared.ledger.failure.LedgerFailure.{LedgerFailure}
-use Rattle.sms_devices.specs.declared.ledger.failure.LedgerFailure.TheVariants.{Locked, NoFile, OutOfMemory, Torn, Unopened, Unread, Unwritten}
+use Rattle.sms_devices.specs.declared.ledger.failure.LedgerFailure.TheVariants.{Locked, NoFile, OtherKind, OutOfMemory, Torn, Unopened, Unread, Unwritten}
 use Rattle.sms_devices.specs.Ledgers.{CutsBack, CutsTo, Leaves, Replaces, ReplacesPart}
 
 -- the octets are cut, and a text is written behind those that stay
@@ -51,6 +51,7 @@ leaves errs a b c d n text kind (Unwritten was) cut out erred back = (subst errs
 leaves errs a b c d n text kind (Torn was) cut out erred back = (subst errs (sym back.0) erred, part_left a b c d n text cut out back.1)
 leaves errs a b c d n text kind (Unopened was) cut out erred back = absurd back
 leaves errs a b c d n text kind NoFile cut out erred back = absurd back
+leaves errs a b c d n text kind OtherKind cut out erred back = absurd back
 leaves errs a b c d n text kind Locked cut out erred back = absurd back
 leaves errs a b c d n text kind (Unread was) cut out erred back = absurd back
 leaves errs a b c d n text kind (OutOfMemory refused) cut out erred back = absurd back

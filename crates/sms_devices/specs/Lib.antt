@@ -4,6 +4,7 @@ pub mod Centres
 pub mod Standard
 pub mod Journals
 pub mod Ledgers
+pub mod LedgerKinds
 pub mod Openings
 pub mod Buckets
 pub mod Headers

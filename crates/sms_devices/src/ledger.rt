@@ -7,8 +7,10 @@ mod appending;
 mod failure;
 mod files;
 mod held_file;
+mod kind;
 
 pub use appending::append_text;
 pub use failure::LedgerFailure;
 pub use files::LedgerFiles;
-pub use held_file::HeldFile;
+pub use held_file::{HeldFile, LedgerText};
+pub use kind::LedgerKind;

@@ -27,7 +27,7 @@ pub use host::Host;
 pub use journal::{
     Journal, JournalFailure, JournalFiles, MadeFile, Origin, StopSigns, Unmade, stop_sign, unix_ms,
 };
-pub use ledger::{HeldFile, LedgerFailure, LedgerFiles, append_text};
+pub use ledger::{HeldFile, LedgerFailure, LedgerFiles, LedgerKind, LedgerText, append_text};
 pub use terminal::{
     Notice, Notices, Pen, Progress, Screen, TakesNotices, Telling, Terminal, is_verbose, stand_ins,
 };

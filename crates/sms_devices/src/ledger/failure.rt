@@ -10,6 +10,8 @@ pub enum LedgerFailure {
     Unopened(ErrorKind),
     /// What has its name is no regular file.
     NoFile,
+    /// It is a ledger of the other kind.
+    OtherKind,
     /// Other programs held its lock for 10 seconds.
     Locked,
     /// It can't be locked or read: that answered an error of this kind.

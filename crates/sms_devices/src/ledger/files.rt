@@ -2,7 +2,8 @@
 
 use crate::journal::{folder_of, sync_folder};
 use crate::ledger::failure::LedgerFailure;
-use crate::ledger::held_file::HeldFile;
+use crate::ledger::held_file::{HeldFile, LedgerText};
+use crate::ledger::kind::LedgerKind;
 use std::fs::{File, OpenOptions, TryLockError};
 use std::time::Duration;
 use std::{fs, thread};
@@ -14,15 +15,18 @@ const LOCK_REST_MS: u64 = 10;
 
 /// Opens the files of ledgers. A file that other programs hold is waited for, 10 seconds at the most.
 pub trait LedgerFiles {
-    ghost use Rattle.std.specs.Prelude.{ℕ, List, IfErr, IfOk, ⊤};
+    ghost use Rattle.std.specs.Prelude.{ℕ, List, IfErr, IfOk, OnOk, ⊤};
     ghost use Rattle.sms_devices.specs.declared.ledger.failure.LedgerFailure.{LedgerFailure as Failure};
+    ghost use Rattle.sms_devices.specs.declared.ledger.kind.LedgerKind.{LedgerKind as Kind};
 
     type LedgerFile: HeldFile;
 
-    // What is known of a file that was opened by a name, and why none of a name can be.
+    // What is known of a file that was opened by a name, and why none of a name can be; and that what has a name is of a kind.
     ghost holds_ledger: { Self → List ℕ → Self.LedgerFile → Type 0 } = { λ _ _ _. ⊤ };
 
     ghost lacks_ledger: { Self → List ℕ → Failure → Type 0 } = { λ _ _ _. ⊤ };
+
+    ghost has_kind: { Self → List ℕ → Kind → Type 0 } = { λ _ _ _. ⊤ };
 
     /// The file of this name, to append to it. It is made, empty, if it isn't there, and its entry in its folder is
     /// made durable. Nobody else has it open until it is closed.
@@ -34,37 +38,65 @@ pub trait LedgerFiles {
     fn view_ledger(&self, name: &str) -> Result<Self::LedgerFile, LedgerFailure>
         ensures held { IfOk result (holds_ledger self.now name.now) }
         ensures refused { IfErr result (lacks_ledger self.now name.now) };
+
+    /// The file of this name, to append to it, where it is a ledger of this kind. With `makes` it is made one if it isn't there or has no
+    /// octets; else it has to be there. It never becomes one of the other kind. Nobody else has it open until it is closed.
+    fn open_kind(
+        &self,
+        name: &str,
+        kind: LedgerKind,
+        makes: bool,
+    ) -> Result<Self::LedgerFile, LedgerFailure>
+        ensures held { IfOk result (holds_ledger self.now name.now) }
+        ensures kind { OnOk result (has_kind self.now name.now kind) }
+        ensures refused { IfErr result (lacks_ledger self.now name.now) };
 }
 
 impl LedgerFiles for HostRuntime {
-    type LedgerFile = File;
+    type LedgerFile = LedgerText;
 
-    fn open_ledger(&self, name: &str) -> Result<File, LedgerFailure> {
-        let file = opened(self, name, true)?;
-        lock(self, &file, false)?;
-        match sync_folder(self, folder_of(name)) {
-            Ok(()) => Ok(file),
-            Err(error) => Err(LedgerFailure::Unopened(error.kind())),
-        }
+    fn open_ledger(&self, name: &str) -> Result<LedgerText, LedgerFailure> {
+        let file = held(self, name, true)?;
+        LedgerText::of(file, true)
     }
 
-    fn view_ledger(&self, name: &str) -> Result<File, LedgerFailure> {
-        let file = opened(self, name, false)?;
+    fn view_ledger(&self, name: &str) -> Result<LedgerText, LedgerFailure> {
+        let file = opened(self, name, false, false)?;
         lock(self, &file, true)?;
-        Ok(file)
+        LedgerText::of(file, false)
+    }
+
+    fn open_kind(
+        &self,
+        name: &str,
+        kind: LedgerKind,
+        makes: bool,
+    ) -> Result<LedgerText, LedgerFailure> {
+        let file = held(self, name, makes)?;
+        LedgerText::of_kind(file, kind, makes)
     }
 }
 
-/// The regular file of this name, to read and, with `appends`, to append to it. The reader of a pipe would wait for its
-/// writer, so what is no regular file isn't opened.
-fn opened(rt: &HostRuntime, name: &str, appends: bool) -> Result<File, LedgerFailure> {
+/// The file of this name, locked alone, to append to it. With `makes` it is made if it isn't there.
+fn held(rt: &HostRuntime, name: &str, makes: bool) -> Result<File, LedgerFailure> {
+    let file = opened(rt, name, true, makes)?;
+    lock(rt, &file, false)?;
+    match sync_folder(rt, folder_of(name)) {
+        Ok(()) => Ok(file),
+        Err(error) => Err(LedgerFailure::Unopened(error.kind())),
+    }
+}
+
+/// The regular file of this name, to read and, with `appends`, to append to it; with `makes` it is made if it isn't there. The reader of
+/// a pipe would wait for its writer, so what is no regular file isn't opened.
+fn opened(rt: &HostRuntime, name: &str, appends: bool, makes: bool) -> Result<File, LedgerFailure> {
     if has_no_file(rt, name) {
         return Err(LedgerFailure::NoFile);
     }
     let opened = OpenOptions::new()
         .read(true)
         .append(appends)
-        .create(appends)
+        .create(makes)
         .open(rt, name);
     match opened {
         Ok(file) => Ok(file),

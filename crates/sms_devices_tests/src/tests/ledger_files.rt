@@ -3,7 +3,7 @@
 ghost use Rattle.std.specs.Prelude.{◌≡◌};
 
 use super::same::same;
-use sms_devices::{HeldFile, LedgerFailure, LedgerFiles, append_text};
+use sms_devices::{HeldFile, LedgerFailure, LedgerFiles, LedgerKind, append_text};
 use std::alloc::Global;
 use std::fs;
 use std::io::ErrorKind;
@@ -224,6 +224,111 @@ fn want_missing<R: LedgerFiles + Abort>(rt: &R, name: &str) {
 fn want_no_file<R: LedgerFiles + Abort>(rt: &R, name: &str) {
     same(rt, unviewed(rt, name), LedgerFailure::NoFile);
     same(rt, unopened(rt, name), LedgerFailure::NoFile);
+}
+
+// The octets of the file of this name.
+fn octets_of<R: AllocGlobal + Files + Abort>(rt: &R, name: &str) -> Vec<u8> {
+    match fs::read(rt, name) {
+        Ok(octets) => octets,
+        Err(_) => panic!(rt; "not read"),
+    }
+}
+
+// The ledger of this name is of this kind, or why it isn't.
+fn of_kind<R: LedgerFiles>(
+    rt: &R,
+    name: &str,
+    kind: LedgerKind,
+    makes: bool,
+) -> Result<(), LedgerFailure> {
+    match rt.open_kind(name, kind, makes) {
+        Ok(file) => {
+            file.close();
+            Ok(())
+        }
+        Err(why) => Err(why),
+    }
+}
+
+// The ledger with these octets is of this kind alone, whether one may be made or not; and it has these then.
+fn want_kind<R: AllocGlobal + Files + LedgerFiles + Abort>(
+    rt: &R,
+    octets: &[u8],
+    kind: LedgerKind,
+    then: &[u8],
+) {
+    const NAME: &str = "ledger-of-a-kind";
+    let other = match kind {
+        LedgerKind::Paid => LedgerKind::Trial,
+        LedgerKind::Trial => LedgerKind::Paid,
+    };
+    for makes in [false, true] {
+        assert!(rt; fs::write(rt, NAME, octets).is_ok());
+        same(
+            rt,
+            of_kind(rt, NAME, other, makes),
+            Err(LedgerFailure::OtherKind),
+        );
+        same(rt, octets_of(rt, NAME).as_slice(), octets);
+        same(rt, of_kind(rt, NAME, kind, makes), Ok(()));
+        same(rt, octets_of(rt, NAME).as_slice(), then);
+    }
+    assert!(rt; fs::remove_file(rt, NAME).is_ok());
+}
+
+/// A ledger is of one kind from its first octets on. A truncated line of trials gets its rest where more may be appended.
+#[test]
+fn tells_kinds_apart(rt: HostRuntime) {
+    want_kind(&rt, b"ledger,1\n", LedgerKind::Paid, b"ledger,1\n");
+    want_kind(&rt, b"led", LedgerKind::Paid, b"led");
+    want_kind(&rt, b"trials", LedgerKind::Paid, b"trials");
+    want_kind(&rt, b"t", LedgerKind::Trial, b"trial\n");
+    want_kind(&rt, b"trial", LedgerKind::Trial, b"trial\n");
+    want_kind(&rt, b"trial\nled", LedgerKind::Trial, b"trial\nled");
+}
+
+// It isn't of this kind.
+fn want_other<R: LedgerFiles + Abort>(rt: &R, name: &str, kind: LedgerKind, makes: bool) {
+    let other = Err(LedgerFailure::OtherKind);
+    same(rt, of_kind(rt, name, kind, makes), other);
+}
+
+/// One that isn't there, or has nothing, becomes one of trials where it may be made so, and else never.
+#[test]
+fn begins_trials_where_nothing_is(rt: HostRuntime) {
+    const NAME: &str = "new-trials-of-a-test";
+    let _removed = fs::remove_file(&rt, NAME);
+    for kind in [LedgerKind::Paid, LedgerKind::Trial] {
+        let missing = Err(LedgerFailure::Unopened(ErrorKind::NotFound));
+        same(&rt, of_kind(&rt, NAME, kind, false), missing);
+    }
+    same(&rt, of_kind(&rt, NAME, LedgerKind::Paid, true), Ok(()));
+    want_other(&rt, NAME, LedgerKind::Trial, false);
+    same(&rt, octets_of(&rt, NAME).as_slice(), b"".as_slice());
+    same(&rt, of_kind(&rt, NAME, LedgerKind::Trial, true), Ok(()));
+    same(&rt, of_kind(&rt, NAME, LedgerKind::Trial, true), Ok(()));
+    want_other(&rt, NAME, LedgerKind::Paid, true);
+    same(&rt, octets_of(&rt, NAME).as_slice(), b"trial\n".as_slice());
+    assert!(rt; fs::remove_file(&rt, NAME).is_ok());
+}
+
+/// The line of trials isn't read or cut as the text behind it is.
+#[test]
+fn keeps_trials_apart(rt: HostRuntime) {
+    const NAME: &str = "trials-of-a-test";
+    assert!(rt; fs::write(&rt, NAME, b"trial\n").is_ok());
+    append_to(&rt, NAME, 0, "ledger,1\npai");
+    append_to(&rt, NAME, 9, "paid\n");
+    let text = b"ledger,1\npaid\n".as_slice();
+    same(&rt, viewed(&rt, NAME).as_slice(), text);
+    let whole = b"trial\nledger,1\npaid\n".as_slice();
+    same(&rt, octets_of(&rt, NAME).as_slice(), whole);
+    assert!(rt; fs::write(&rt, NAME, b"tria").is_ok());
+    same(&rt, viewed(&rt, NAME).as_slice(), b"".as_slice());
+    same(&rt, octets_of(&rt, NAME).as_slice(), b"tria".as_slice());
+    append_to(&rt, NAME, 0, "ledger,1\n");
+    same(&rt, octets_of(&rt, NAME).as_slice(), &whole[..15]);
+    assert!(rt; fs::remove_file(&rt, NAME).is_ok());
 }
 
 /// What is no regular file is no ledger; the system says why a file can't be made.
