@@ -16,7 +16,7 @@ use Rattle.sms_send.specs.declared.args.job.Job.{Job}
 pub of_asked : (has : Option (List Text) → Type 0) (verbose : Bool) (job : Job) (P : Job → Type 0) → AsksForJob has verbose job → P job → OfAsked has P
 of_asked has verbose job P asks holds = (asks.words, asks.given, job, asks.is, holds)
 
-pub works_asked : {S : Type 0} (r : Result ℕ Fault) (has : Option (List Text) → Type 0) (verbose : Bool) (job : Job) (standard : S → Told) (finds : List ℕ → Option Told → Type 0) (tells : CentreAt → Bool → ℕ → ℕ → Told) (books : Job → Option (List ℕ) → Option (List ℕ) → Type 0) (beside : Job → Type 0)
+pub works_asked : {S : Type 0} (r : Result ℕ Fault) (has : Option (List Text) → Type 0) (verbose : Bool) (job : Job) (standard : S → Told) (finds : List ℕ → Option Told → Type 0) (tells : CentreAt → Bool → ℕ → ℕ → Told) (books : Job → Option (List ℕ) → Option (List ℕ) → ℕ → Type 0) (beside : Job → Type 0)
     (old new : Option (List ℕ)) → AsksForJob has verbose job → IfOk r (IsStatusOf job) → IfOk r (Does standard finds tells books job old new) → OnOk r (beside job) → IfOk r (WorksAsAsked has standard finds tells books beside old new)
 works_asked (Ok status) has verbose job standard finds tells books beside old new asks is done warned =
     of_asked has verbose job (λ job. IsStatusOf job status × Does standard finds tells books job old new status × beside job) asks (is, done, warned)

@@ -4,7 +4,9 @@ pub mod Charging
 pub mod ConfigFiles
 pub mod Covering
 pub mod JobsDone
+pub mod LedgerArgs
 pub mod Lines
+pub mod ListedRefs
 pub mod Noting
 pub mod OneRound
 pub mod Plans
@@ -28,5 +30,15 @@ pub mod Reaching
 pub mod Characters
 pub mod Paying
 pub mod CoveredParts
+pub mod Posting
+pub mod Settling
+pub mod SettledRuns
+pub mod LedgerPhases
+pub mod Returned
+pub mod Planning
+pub mod LedgerSends
+pub mod OfKinds
+pub mod Keeping
 pub mod ModelRuns
 pub mod NextRounds
+pub mod PlainFiles

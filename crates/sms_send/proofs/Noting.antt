@@ -6,7 +6,7 @@ use Rattle.sms_devices.specs.declared.journal.files.Unmade.TheVariants.{Failed, 
 use Rattle.std.specs.Result.{IsErrAnd}
 use Rattle.std.proofs.lemmas.Result.{IfErr-weaker}
 use Rattle.sms_driver.specs.declared.start.StartPhase.{StartPhase}
-use Rattle.sms_send.specs.Faults.{ComesAt, HasLostJournal, output_failed}
+use Rattle.sms_send.specs.Faults.{ComesAt, HasLostJournal, IsUnsettled, output_failed}
 use Rattle.sms_send.specs.Noted.{FailsBegin, NotesEnd, fault_of_unmade}
 use Rattle.sms_send.specs.Sent.{SendingEnd}
 use Rattle.sms_send.specs.declared.args.send_args.JournalFile.{JournalFile}
@@ -85,14 +85,19 @@ ended_early (Err f) e strict sends fails begun same is bad comes = record {
 }
 
 -- nothing was written but where the output failed, and so where no journal did either
-pub quiet_too : {T : Type 0} (r : Result T Fault) (A : Type 0) → IfErr r (λ f. f ≢ output_failed → A) → IfErr r (λ f. f ≢ output_failed → ¬ HasLostJournal f → A)
+pub quiet_too : {T : Type 0} (r : Result T Fault) (A : Type 0) → IfErr r (λ f. f ≢ output_failed → A) → IfErr r (λ f. f ≢ output_failed → ¬ HasLostJournal f → ¬ IsUnsettled f → A)
 quiet_too (Ok x) A quiet = tt
-quiet_too (Err f) A quiet = λ other _. quiet other
+quiet_too (Err f) A quiet = λ other _ _. quiet other
 
 -- so of two outputs
-pub both_quiet : {T : Type 0} (r : Result T Fault) (A B : Type 0) → IfErr r (λ f. f ≢ output_failed → A × B) → IfErr r (λ f. f ≢ output_failed → ¬ HasLostJournal f → A)
+pub both_quiet : {T : Type 0} (r : Result T Fault) (A B : Type 0) → IfErr r (λ f. f ≢ output_failed → A × B) → IfErr r (λ f. f ≢ output_failed → ¬ HasLostJournal f → ¬ IsUnsettled f → A)
 both_quiet (Ok x) A B quiet = tt
-both_quiet (Err f) A B quiet = λ other _. (quiet other).0
+both_quiet (Err f) A B quiet = λ other _ _. (quiet other).0
+
+-- and of one where the journal may have failed behind the report
+pub noted_too : {T : Type 0} (r : Result T Fault) (A : Type 0) → IfErr r (λ f. f ≢ output_failed → ¬ HasLostJournal f → A) → IfErr r (λ f. f ≢ output_failed → ¬ HasLostJournal f → ¬ IsUnsettled f → A)
+noted_too (Ok x) A quiet = tt
+noted_too (Err f) A quiet = λ other kept _. quiet other kept
 
 -- no file was made for a journal, or a process holds it
 pub unmade_fails : {F : Type 0} (makes : List ℕ → F → Type 0) (refuses holds : List ℕ → Type 0) (journal : JournalFile) (name : List ℕ) (why : Unmade) (fault : Fault)

@@ -61,7 +61,7 @@ missing_at finds names b fault yet (inl (is, lost)) = file_at b _ fault yet is
 missing_at finds names b fault yet (inr (inl ((is, lost), found))) = file_at b _ fault yet is
 missing_at finds names b fault yet (inr (inr ((is, lost), some, accounts, messages))) = file_at b _ fault yet is
 
-octets_read_at : (b : StartPhase) (strict : Bool) (config : Config) (named : NamedFiles) (fault : Fault) → b ≡ Idle → IsFaultOfOctets strict config named fault → ComesAt b fault
+pub octets_read_at : (b : StartPhase) (strict : Bool) (config : Config) (named : NamedFiles) (fault : Fault) → b ≡ Idle → IsFaultOfOctets strict config named fault → ComesAt b fault
 octets_read_at b strict config named fault yet (inl tells) = read_at b _ fault yet tells
 octets_read_at b strict config named fault yet (inr (is, (some, read, tells))) = read_at b _ fault yet tells
 

@@ -6,7 +6,8 @@ use Rattle.std.specs.declared.io.Error.{Error as IoError}
 use Rattle.clap.specs.Words.{Text}
 use Rattle.sms_devices.specs.Centres.{CentreAt}
 use Rattle.sms_files.specs.Inputs.{Told}
-use Rattle.sms_send.specs.CommandLine.{IsJob, RefusesWords, asks_for_more, subcommand_in}
+use Rattle.sms_send.specs.CommandLine.{IsJob, RefusesWords, subcommand_in}
+use Rattle.sms_send.specs.Words.{asks_for_more}
 use Rattle.sms_send.specs.Faults.{IsWords, output_failed}
 use Rattle.sms_send.specs.Jobs.{Does, FailsJob, IsStatusOf}
 use Rattle.sms_send.specs.declared.faults.fault.Fault.{Fault}
@@ -32,7 +33,7 @@ abbrev pub OfAsked : (Option (List Text) → Type 0) → (Job → Type 0) → Ty
 OfAsked has P = (words : List Text) × has (Some words) × (job : Job) × IsJob (subcommand_in words) job × P job
 
 -- it was done with this status, and standard error has this of it
-abbrev pub WorksAsAsked : {S : Type 0} → (Option (List Text) → Type 0) → (S → Told) → (List ℕ → Option Told → Type 0) → (CentreAt → Bool → ℕ → ℕ → Told) → (Job → Option (List ℕ) → Option (List ℕ) → Type 0) → (Job → Type 0) → Option (List ℕ) → Option (List ℕ) → ℕ → Type 0
+abbrev pub WorksAsAsked : {S : Type 0} → (Option (List Text) → Type 0) → (S → Told) → (List ℕ → Option Told → Type 0) → (CentreAt → Bool → ℕ → ℕ → Told) → (Job → Option (List ℕ) → Option (List ℕ) → ℕ → Type 0) → (Job → Type 0) → Option (List ℕ) → Option (List ℕ) → ℕ → Type 0
 WorksAsAsked has standard finds tells books beside old new status = OfAsked has (λ job. IsStatusOf job status × Does standard finds tells books job old new status × beside job)
 
 -- there is no job: the arguments can't be had, or they are refused

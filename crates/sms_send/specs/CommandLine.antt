@@ -1,5 +1,5 @@
 -- The command line, in the words of the parser, and the job that it asks for.
-use Rattle.std.specs.Prelude.{◌≡◌, ◌≢◌, ◌⊎◌, ◌||◌, nat_le, ℕ, String, Bool, true, false, List, [], ◌∷◌, ◌++◌, Option, Some, None, codes, is_some, option_and_then, option_map, if◌then◌else◌}
+use Rattle.std.specs.Prelude.{◌≡◌, ◌≢◌, ◌⊎◌, nat_le, ℕ, String, Bool, true, false, List, [], ◌∷◌, ◌++◌, Option, Some, None, codes, is_some, option_and_then, option_map, if◌then◌else◌}
 use Rattle.std.specs.Str.{bytes_eq}
 use Rattle.std.specs.String.{string_bytes}
 use Rattle.std.specs.declared.alloc.Global.{Global}
@@ -20,9 +20,11 @@ use Rattle.sms_send.specs.declared.faults.argument_error.NumberOption.TheVariant
 use Rattle.sms_send.specs.declared.faults.fault.Fault.{Fault}
 use Rattle.sms_send.specs.declared.faults.fault.Fault.TheVariants.{Words, Help, Version, OutOfMemory}
 use Rattle.sms_send.specs.declared.args.job.Job.{Job}
-use Rattle.sms_send.specs.declared.args.job.Job.TheVariants.{Audit, Balance, List as Lists, Loop, Plan, Quote, Recover, Replay, Rest, Resume, Send, Stop, TopUp}
+use Rattle.sms_send.specs.declared.args.job.Job.TheVariants.{Audit, Balance, Decide, List as Lists, Loop, Plan, Quote, Recover, Replay, Rest, Resume, ResumeOn, Send, SendOn, Settle, Stop, TopUp}
+use Rattle.sms_send.specs.Words.{bytes_of, file_named, subcommand_named}
 use Rattle.sms_send.specs.declared.args.job.Subcommand.{Subcommand}
 use Rattle.sms_send.specs.declared.args.ledger_args.TopUpArgs.{TopUpArgs}
+use Rattle.sms_send.specs.declared.args.ledger_run_args.SettleArgs.{SettleArgs}
 use Rattle.sms_send.specs.declared.args.send_args.Again.{Again as AgainArgs}
 use Rattle.sms_send.specs.declared.args.send_args.AuditArgs.{AuditArgs}
 use Rattle.sms_send.specs.declared.args.send_args.JournalFile.{JournalFile}
@@ -33,6 +35,7 @@ use Rattle.sms_send.specs.declared.args.send_args.ResumeArgs.{ResumeArgs}
 use Rattle.sms_send.specs.declared.args.send_args.SendArgs.{SendArgs}
 use Rattle.sms_send.specs.declared.args.send_args.Throttle.{Throttle}
 use Rattle.sms_send.specs.declared.args.job.Subcommand.TheVariants as sub
+use Rattle.sms_send.specs.declared.sending.target.TargetKind.TheVariants.{Loopback, Remote}
 
 -- a subcommand with these arguments more, in this order
 abbrev pub with_rules : App → List Rule → App
@@ -43,8 +46,7 @@ with_rules app (rule ∷ rules) = with_rules (with_rule app rule) rules
 abbrev pub IsLine : App → Command → Type 0
 IsLine line command = (app_of command ≡ line) × ((fields_of command).has_globals ≡ false)
 
--- a word that has to be given, an option that has to be given a file, one that may be given a value, and one that is given
--- or not
+-- a word that has to be given, an option that has to be given a file, one that may be given a value, and one that is given or not
 abbrev pub name_rule : Text → Rule
 name_rule name = record (new_rule name) { required = true }
 
@@ -57,9 +59,12 @@ value_rule name = record (new_rule name) { long = Some name; value_names = 1 }
 abbrev pub flag_rule : Text → Rule
 flag_rule name = record (new_rule name) { long = Some name; action = Some SetTrue }
 
--- every subcommand may be asked for the detail lines of a fault
+-- every subcommand may be asked for the detail lines of a fault, and each that reads messages to read them with references
 abbrev pub verbose_rule : Rule
 verbose_rule = flag_rule (codes "verbose")
+
+abbrev pub refs_rule : Rule
+refs_rule = flag_rule (codes "refs")
 
 -- `replay FILE`
 abbrev pub replay_line : App
@@ -67,11 +72,11 @@ replay_line = with_rules (new_app (codes "replay")) (name_rule (codes "FILE") �
 
 -- `plan --messages FILE`, with `--long` or without
 abbrev pub plan_line : App
-plan_line = with_rules (new_app (codes "plan")) (file_rule (codes "messages") ∷ flag_rule (codes "long") ∷ verbose_rule ∷ [])
+plan_line = with_rules (new_app (codes "plan")) (file_rule (codes "messages") ∷ flag_rule (codes "long") ∷ refs_rule ∷ verbose_rule ∷ [])
 
 -- `quote --config FILE`
 abbrev pub quote_line : App
-quote_line = with_rules (new_app (codes "quote")) (file_rule (codes "config") ∷ verbose_rule ∷ [])
+quote_line = with_rules (new_app (codes "quote")) (file_rule (codes "config") ∷ refs_rule ∷ verbose_rule ∷ [])
 
 -- what bounds a sending
 abbrev pub throttle_rules : List Rule
@@ -86,15 +91,23 @@ abbrev pub config_rules : List Rule
 config_rules = file_rule (codes "config") ∷ flag_rule (codes "quiet") ∷ []
 
 abbrev pub sending_rules : List Rule
-sending_rules = flag_rule (codes "sync") ∷ flag_rule (codes "strict") ∷ verbose_rule ∷ throttle_rules ++ again_rules
+sending_rules = flag_rule (codes "sync") ∷ flag_rule (codes "strict") ∷ refs_rule ∷ verbose_rule ∷ throttle_rules ++ again_rules
 
 -- `loop --config FILE` or `send --config FILE`, with the other words or without
 abbrev pub sender_line : Text → App
 sender_line name = with_rules (with_rule (with_rules (new_app name) config_rules) (value_rule (codes "journal"))) sending_rules
 
+-- whose credits a sending has: a ledger's, where one is given
+abbrev pub ledger_rule : Rule
+ledger_rule = value_rule (codes "ledger")
+
+-- `loop` and `send` have that too
+abbrev pub send_line : Text → App
+send_line name = with_rule (sender_line name) ledger_rule
+
 -- `resume --config FILE --journal FILE`, with the other words of a sending or without
 abbrev pub resume_line : App
-resume_line = with_rules (with_rule (with_rules (new_app (codes "resume")) config_rules) (file_rule (codes "journal"))) sending_rules
+resume_line = with_rule (with_rules (with_rule (with_rules (new_app (codes "resume")) config_rules) (file_rule (codes "journal"))) sending_rules) ledger_rule
 
 -- `stop --journal FILE`
 abbrev pub stop_line : App
@@ -102,14 +115,14 @@ stop_line = with_rules (new_app (codes "stop")) (file_rule (codes "journal") ∷
 
 -- `recover --config FILE --journal FILE`, with `--trial` or without, and `rest --config FILE --report FILE`, with `--accounts` or without
 abbrev pub recover_line : App
-recover_line = with_rules (new_app (codes "recover")) (file_rule (codes "config") ∷ file_rule (codes "journal") ∷ flag_rule (codes "trial") ∷ verbose_rule ∷ [])
+recover_line = with_rules (new_app (codes "recover")) (file_rule (codes "config") ∷ file_rule (codes "journal") ∷ flag_rule (codes "trial") ∷ refs_rule ∷ verbose_rule ∷ [])
 
 abbrev pub rest_line : App
-rest_line = with_rules (new_app (codes "rest")) (file_rule (codes "config") ∷ file_rule (codes "report") ∷ flag_rule (codes "accounts") ∷ verbose_rule ∷ [])
+rest_line = with_rules (new_app (codes "rest")) (file_rule (codes "config") ∷ file_rule (codes "report") ∷ flag_rule (codes "accounts") ∷ refs_rule ∷ verbose_rule ∷ [])
 
 -- a subcommand of this name over a run's journal
 abbrev pub list_line : Text → App
-list_line name = with_rules (new_app name) (file_rule (codes "config") ∷ file_rule (codes "journal") ∷ verbose_rule ∷ [])
+list_line name = with_rules (new_app name) (file_rule (codes "config") ∷ file_rule (codes "journal") ∷ refs_rule ∷ verbose_rule ∷ [])
 
 abbrev pub bill_line : App
 bill_line = list_line (codes "bill")
@@ -119,14 +132,24 @@ doubtful_line = list_line (codes "doubtful")
 
 -- `audit --config FILE --report FILE`
 abbrev pub audit_line : App
-audit_line = with_rules (new_app (codes "audit")) (file_rule (codes "config") ∷ file_rule (codes "report") ∷ verbose_rule ∷ [])
+audit_line = with_rules (new_app (codes "audit")) (file_rule (codes "config") ∷ file_rule (codes "report") ∷ refs_rule ∷ verbose_rule ∷ [])
 
--- `topup --ledger FILE ACCOUNT CREDITS`, with `--ref REF` or without, and `balance --ledger FILE`
+-- `topup --ledger FILE ACCOUNT CREDITS`, with `--ref REF` or `--trial` or without, and `balance --ledger FILE`
 abbrev pub topup_line : App
-topup_line = with_rules (new_app (codes "topup")) (file_rule (codes "ledger") ∷ name_rule (codes "ACCOUNT") ∷ name_rule (codes "CREDITS") ∷ value_rule (codes "ref") ∷ verbose_rule ∷ [])
+topup_line = with_rules (new_app (codes "topup")) (file_rule (codes "ledger") ∷ name_rule (codes "ACCOUNT") ∷ name_rule (codes "CREDITS") ∷ value_rule (codes "ref") ∷ flag_rule (codes "trial") ∷ verbose_rule ∷ [])
 
 abbrev pub balance_line : App
 balance_line = with_rules (new_app (codes "balance")) (file_rule (codes "ledger") ∷ verbose_rule ∷ [])
+
+-- `settle --ledger FILE --config FILE --journal FILE`, and `decide` with `--decisions FILE` too
+abbrev pub run_rules : List Rule
+run_rules = file_rule (codes "ledger") ∷ file_rule (codes "config") ∷ file_rule (codes "journal") ∷ refs_rule ∷ []
+
+abbrev pub settle_line : App
+settle_line = with_rule (with_rules (new_app (codes "settle")) run_rules) verbose_rule
+
+abbrev pub decide_line : App
+decide_line = with_rule (with_rule (with_rules (new_app (codes "decide")) run_rules) (file_rule (codes "decisions"))) verbose_rule
 
 -- the program before its subcommands: it has a version, and its own name is not among the words
 abbrev pub program_line : App
@@ -137,8 +160,8 @@ program_line =
 -- no word, or a subcommand
 abbrev pub command_line : App
 command_line =
-    with_subcommand (with_subcommand (with_subcommand (with_subcommand (with_subcommand (with_subcommand (with_subcommand (with_subcommand (with_subcommand (with_subcommand (with_subcommand (with_subcommand (with_subcommand (with_subcommand program_line replay_line.top) plan_line.top) quote_line.top)
-    (sender_line (codes "loop")).top) (sender_line (codes "send")).top) resume_line.top) stop_line.top) recover_line.top) rest_line.top) bill_line.top) doubtful_line.top) audit_line.top) topup_line.top) balance_line.top
+    with_subcommand (with_subcommand (with_subcommand (with_subcommand (with_subcommand (with_subcommand (with_subcommand (with_subcommand (with_subcommand (with_subcommand (with_subcommand (with_subcommand (with_subcommand (with_subcommand (with_subcommand (with_subcommand program_line replay_line.top) plan_line.top) quote_line.top)
+    (send_line (codes "loop")).top) (send_line (codes "send")).top) resume_line.top) stop_line.top) recover_line.top) rest_line.top) bill_line.top) doubtful_line.top) audit_line.top) topup_line.top) balance_line.top) settle_line.top) decide_line.top
 
 -- the subcommand and its matches that the parser reads from the words
 abbrev pub subcommand_in : List Text → Option (Text × List Row)
@@ -147,33 +170,6 @@ subcommand_in words = subcommand_of command_line words
 -- why the parser refuses the words; nothing where it takes them
 abbrev pub refusals_of : List Text → Kinds
 refusals_of words = fault_of command_line words
-
--- `-` names standard input, which is no file
-abbrev pub file_named : Text → Option Text
-file_named name = if bytes_eq name (codes "-") then None else Some name
-
--- the file of a job
-abbrev pub bytes_of : {A : Type 0} → Option (String A) → Option Text
-bytes_of None = None
-bytes_of (Some name) = Some (string_bytes name)
-
--- the subcommand of a name
-abbrev pub subcommand_named : Text → Option Subcommand
-subcommand_named name =
-    if bytes_eq name (codes "replay") then Some sub.Replay
-    else (if bytes_eq name (codes "plan") then Some sub.Plan
-    else (if bytes_eq name (codes "quote") then Some sub.Quote
-    else (if bytes_eq name (codes "loop") then Some sub.Loop
-    else (if bytes_eq name (codes "send") then Some sub.Send
-    else (if bytes_eq name (codes "resume") then Some sub.Resume
-    else (if bytes_eq name (codes "stop") then Some sub.Stop
-    else (if bytes_eq name (codes "recover") then Some sub.Recover
-    else (if bytes_eq name (codes "rest") then Some sub.Rest
-    else (if bytes_eq name (codes "bill") then Some sub.Bill
-    else (if bytes_eq name (codes "doubtful") then Some sub.Doubtful
-    else (if bytes_eq name (codes "audit") then Some sub.Audit
-    else (if bytes_eq name (codes "topup") then Some sub.TopUp
-    else (if bytes_eq name (codes "balance") then Some sub.Balance else None)))))))))))))
 
 -- a flag was given, by the parser's value of it
 abbrev pub is_set : Option Text → Bool
@@ -220,6 +216,7 @@ pub record AsksToSend (rows : List Row) (order : SendArgs) : Type 0 where
   pub throttle : HasThrottle rows order.throttle
   pub again : AsksAgain rows order.again
   pub strict : is_set (first_of (codes "strict") rows) ≡ order.strict
+  pub refs : is_set (first_of (codes "refs") rows) ≡ order.refs
 
 -- the further round of a run that they ask for
 pub record AsksToResume (rows : List Row) (order : ResumeArgs) : Type 0 where
@@ -230,6 +227,7 @@ pub record AsksToResume (rows : List Row) (order : ResumeArgs) : Type 0 where
   pub throttle : HasThrottle rows order.throttle
   pub again : AsksAgain rows order.again
   pub strict : is_set (first_of (codes "strict") rows) ≡ order.strict
+  pub refs : is_set (first_of (codes "refs") rows) ≡ order.refs
 
 -- the names of the config and of the file of this other option
 abbrev pub HasNames : Text → List Row → String Global → String Global → Type 0
@@ -237,19 +235,19 @@ HasNames other rows config name = (first_of (codes "config") rows ≡ Some (stri
 
 -- the report by a journal that they ask for
 abbrev pub AsksToRecover : List Row → RecoverArgs → Type 0
-AsksToRecover rows order = HasNames (codes "journal") rows order.config order.journal × (is_set (first_of (codes "trial") rows) ≡ order.trial)
+AsksToRecover rows order = HasNames (codes "journal") rows order.config order.journal × (is_set (first_of (codes "trial") rows) ≡ order.trial) × (is_set (first_of (codes "refs") rows) ≡ order.refs)
 
 -- what is left of a run that they ask for
 abbrev pub AsksForRest : List Row → RestArgs → Type 0
-AsksForRest rows order = HasNames (codes "report") rows order.config order.report × (is_set (first_of (codes "accounts") rows) ≡ order.accounts)
+AsksForRest rows order = HasNames (codes "report") rows order.config order.report × (is_set (first_of (codes "accounts") rows) ≡ order.accounts) × (is_set (first_of (codes "refs") rows) ≡ order.refs)
 
 -- what is listed of a run that they ask for
 abbrev pub AsksToList : Listing → List Row → ListArgs → Type 0
-AsksToList listing rows order = HasNames (codes "journal") rows order.config order.journal × (order.listing ≡ listing)
+AsksToList listing rows order = HasNames (codes "journal") rows order.config order.journal × (order.listing ≡ listing) × (is_set (first_of (codes "refs") rows) ≡ order.refs)
 
 -- the run that they ask to be audited
 abbrev pub AsksToAudit : List Row → AuditArgs → Type 0
-AsksToAudit rows order = HasNames (codes "report") rows order.config order.report
+AsksToAudit rows order = HasNames (codes "report") rows order.config order.report × (is_set (first_of (codes "refs") rows) ≡ order.refs)
 
 -- the name of a ledger's that a text spells, if it does
 abbrev pub name_in : Text → Option (List ℕ)
@@ -275,16 +273,23 @@ pub record IsPaymentOf (rows : List Row) (payment : Payment) : Type 0 where
 
 -- the top-up that they ask for
 abbrev pub AsksToTopUp : List Row → TopUpArgs → Type 0
-AsksToTopUp rows order = (first_of (codes "ledger") rows ≡ Some (string_bytes order.ledger)) × IsPaymentOf rows order.payment
+AsksToTopUp rows order = (first_of (codes "ledger") rows ≡ Some (string_bytes order.ledger)) × (is_set (first_of (codes "trial") rows) ≡ order.trial) × IsPaymentOf rows order.payment
+
+-- the files of a run of a ledger that they name
+abbrev pub AsksToSettle : List Row → SettleArgs → Type 0
+AsksToSettle rows order = HasNames (codes "journal") rows order.config order.journal × (first_of (codes "ledger") rows ≡ Some (string_bytes order.ledger)) × (is_set (first_of (codes "refs") rows) ≡ order.refs)
 
 -- the job that a subcommand with these matches asks for
 abbrev pub AsksFor : Subcommand → List Row → Job → Type 0
 AsksFor sub.Replay rows (Replay file) = option_map file_named (first_of (codes "FILE") rows) ≡ Some (bytes_of file)
-AsksFor sub.Plan rows (Plan messages long) = (first_of (codes "messages") rows ≡ Some (string_bytes messages)) × (is_set (first_of (codes "long") rows) ≡ long)
-AsksFor sub.Quote rows (Quote config verbose) = (first_of (codes "config") rows ≡ Some (string_bytes config)) × (is_set (first_of (codes "verbose") rows) ≡ verbose)
-AsksFor sub.Loop rows (Loop order) = AsksToSend rows order
-AsksFor sub.Send rows (Send order) = AsksToSend rows order
-AsksFor sub.Resume rows (Resume order) = AsksToResume rows order
+AsksFor sub.Plan rows (Plan messages long refs) = (first_of (codes "messages") rows ≡ Some (string_bytes messages)) × (is_set (first_of (codes "long") rows) ≡ long) × (is_set (first_of (codes "refs") rows) ≡ refs)
+AsksFor sub.Quote rows (Quote config verbose refs) = (first_of (codes "config") rows ≡ Some (string_bytes config)) × (is_set (first_of (codes "verbose") rows) ≡ verbose) × (is_set (first_of (codes "refs") rows) ≡ refs)
+AsksFor sub.Loop rows (Loop order) = AsksToSend rows order × (first_of (codes "ledger") rows ≡ None)
+AsksFor sub.Loop rows (SendOn Loopback ledger order) = AsksToSend rows order × (first_of (codes "ledger") rows ≡ Some (string_bytes ledger)) × (is_some order.journal ≡ true)
+AsksFor sub.Send rows (Send order) = AsksToSend rows order × (first_of (codes "ledger") rows ≡ None)
+AsksFor sub.Send rows (SendOn Remote ledger order) = AsksToSend rows order × (first_of (codes "ledger") rows ≡ Some (string_bytes ledger)) × (is_some order.journal ≡ true)
+AsksFor sub.Resume rows (Resume order) = AsksToResume rows order × (first_of (codes "ledger") rows ≡ None)
+AsksFor sub.Resume rows (ResumeOn ledger order) = AsksToResume rows order × (first_of (codes "ledger") rows ≡ Some (string_bytes ledger))
 AsksFor sub.Stop rows (Stop journal) = first_of (codes "journal") rows ≡ Some (string_bytes journal)
 AsksFor sub.Recover rows (Recover order) = AsksToRecover rows order
 AsksFor sub.Rest rows (Rest order) = AsksForRest rows order
@@ -293,6 +298,8 @@ AsksFor sub.Doubtful rows (Lists order) = AsksToList Doubtful rows order
 AsksFor sub.Audit rows (Audit order) = AsksToAudit rows order
 AsksFor sub.TopUp rows (TopUp order) = AsksToTopUp rows order
 AsksFor sub.Balance rows (Balance ledger) = first_of (codes "ledger") rows ≡ Some (string_bytes ledger)
+AsksFor sub.Settle rows (Settle order) = AsksToSettle rows order
+AsksFor sub.Decide rows (Decide order) = AsksToSettle rows order.run × (first_of (codes "decisions") rows ≡ Some (string_bytes order.decisions))
 AsksFor _ rows _ = ⊥
 
 -- the job of a subcommand and its matches; without one it is to replay standard input
@@ -347,13 +354,21 @@ IsNoPayment rows = (name_given (first_of (codes "ACCOUNT") rows) ≡ None) ⊎ (
 abbrev pub AreRefusedTopUp : List Row → Type 0
 AreRefusedTopUp rows = (first_of (codes "ledger") rows ≡ None) ⊎ IsNoPayment rows
 
+-- a sending is to have credits of a ledger, and no journal
+abbrev pub IsLedgerAlone : List Row → Type 0
+IsLedgerAlone rows = (first_of (codes "ledger") rows ≢ None) × (first_of (codes "journal") rows ≡ None)
+
+-- a file of a run of a ledger isn't named
+abbrev pub AreRefusedSettle : List Row → Type 0
+AreRefusedSettle rows = LacksName (codes "journal") rows ⊎ (first_of (codes "ledger") rows ≡ None)
+
 -- what is wrong with the matches of a subcommand that asks for no job: a name is missing, it is a sender's, or a payment's
 abbrev pub IsRefused : Subcommand → List Row → Type 0
 IsRefused sub.Replay rows = first_of (codes "FILE") rows ≡ None
 IsRefused sub.Plan rows = first_of (codes "messages") rows ≡ None
 IsRefused sub.Quote rows = first_of (codes "config") rows ≡ None
-IsRefused sub.Loop rows = AreRefusedArgs rows
-IsRefused sub.Send rows = AreRefusedArgs rows
+IsRefused sub.Loop rows = AreRefusedArgs rows ⊎ IsLedgerAlone rows
+IsRefused sub.Send rows = AreRefusedArgs rows ⊎ IsLedgerAlone rows
 IsRefused sub.Resume rows = AreRefusedResumeArgs rows
 IsRefused sub.Stop rows = first_of (codes "journal") rows ≡ None
 IsRefused sub.Recover rows = LacksName (codes "journal") rows
@@ -363,9 +378,10 @@ IsRefused sub.Doubtful rows = LacksName (codes "journal") rows
 IsRefused sub.Audit rows = LacksName (codes "report") rows
 IsRefused sub.TopUp rows = AreRefusedTopUp rows
 IsRefused sub.Balance rows = first_of (codes "ledger") rows ≡ None
+IsRefused sub.Settle rows = AreRefusedSettle rows
+IsRefused sub.Decide rows = AreRefusedSettle rows ⊎ (first_of (codes "decisions") rows ≡ None)
 
--- why the subcommand that the parser met asks for no job, where it took the words: there is none of the name, or its
--- matches ask for none
+-- why the subcommand that the parser met asks for no job, where it took the words: there is none of the name, or its matches ask for none
 abbrev pub RefusesMatch : Option (Text × List Row) → Fault → Type 0
 RefusesMatch None fault = ⊥
 RefusesMatch (Some found) fault = RefusesFor ((subcommand_named found.0 ≡ None) ⊎ ((s : Subcommand) × (subcommand_named found.0 ≡ Some s) × IsRefused s found.1)) fault
@@ -382,8 +398,3 @@ RefusesAs kinds _ = ⊥
 abbrev pub RefusesWords : List Text → Fault → Type 0
 RefusesWords words fault =
     RefusesAs (refusals_of words) fault ⊎ ((refusals_of words ≡ []) × RefusesMatch (subcommand_in words) fault)
-
--- one of the arguments asks for the detail lines of a fault, also where they are refused
-abbrev pub asks_for_more : List Text → Bool
-asks_for_more [] = false
-asks_for_more (word ∷ words) = bytes_eq word (codes "--verbose") || asks_for_more words

@@ -4,7 +4,9 @@ use Rattle.std.specs.declared.alloc.Global.{Global}
 use Rattle.sms_send.specs.Shown.{shown}
 use Rattle.sms_send.specs.declared.faults.argument_error.ArgumentError.{ArgumentError}
 use Rattle.sms_send.specs.declared.faults.fault.Fault.{Fault}
-use Rattle.sms_send.specs.declared.faults.fault.Fault.TheVariants.{Words, Help, Version, File, UnreadFile, Unreadable, BadRecord, NotToml, BadKey, BindRefused, BindFailed, Unconnected, BadNote, BadReport, Unmade, JournalHeld, JournalFree, Unbegun, Journal, Overdrawn, Trial, OtherFile, OtherAttempts, OtherReference, LongSchedule, LedgerFile, Ledger, BadEntry, Payment, Output, OutOfMemory, Unreported}
+use Rattle.sms_send.specs.declared.faults.ledger_run.Unsettled.{Unsettled as WhyUnsettled}
+use Rattle.sms_send.specs.declared.faults.ledger_run.Unsettled.TheVariants as unsettled
+use Rattle.sms_send.specs.declared.faults.fault.Fault.TheVariants.{Words, Help, Version, File, UnreadFile, Unreadable, BadRecord, NotToml, BadKey, BindRefused, BindFailed, Unconnected, BadNote, BadReport, Unmade, JournalHeld, JournalFree, Unbegun, Journal, Overdrawn, Trial, OtherFile, OtherAttempts, OtherReference, LongSchedule, LedgerFile, Ledger, BadEntry, Payment, Booking, BadDecision, LedgerRun, Unsettled, Output, OutOfMemory, Unreported}
 use Rattle.sms_devices.specs.declared.transport.connecting.Unconnected.{Unconnected as Why}
 use Rattle.sms_devices.specs.declared.journal.failure.JournalFailure.{JournalFailure}
 use Rattle.sms_devices.specs.declared.ledger.failure.LedgerFailure.{LedgerFailure}
@@ -18,6 +20,8 @@ use Rattle.sms_driver.specs.declared.start.StartPhase.TheVariants.{Idle, Release
 use Rattle.sms_files.specs.Faults.{source_name}
 use Rattle.sms_files.specs.declared.fault.InputFault.{InputFault}
 use Rattle.sms_files.specs.declared.fault.InputFault.TheVariants as input
+use Rattle.sms_journal.specs.declared.decisions.fault.DecisionFault.{DecisionFault}
+use Rattle.sms_journal.specs.declared.decisions.fault.DecisionFault.TheVariants as decisions
 use Rattle.sms_journal.specs.declared.text.digests.RunFile.{RunFile}
 use Rattle.sms_journal.specs.declared.text.digests.RunFile.TheVariants.{Accounts, Attempts, Config, LongReference, Messages, Tariff}
 use Rattle.sms_journal.specs.declared.audit.fault.AuditFault.{AuditFault}
@@ -42,6 +46,10 @@ unreported = Unreported tt
 -- the journal failed once messages were sent, for whatever reason
 abbrev pub HasLostJournal : Fault → Type 0
 HasLostJournal fault = (why : JournalFailure) × (fault ≡ Journal why)
+
+-- the statement of a run wasn't booked behind its report, for whatever reason
+abbrev pub IsUnsettled : Fault → Type 0
+IsUnsettled fault = (why : WhyUnsettled) × (fault ≡ Unsettled why)
 
 -- the arguments are refused, for whatever reason
 abbrev pub IsWords : Fault → Type 0
@@ -78,6 +86,10 @@ fault_text (LedgerFile name kind) = codes "fault: file " ++ shown (string_bytes 
 fault_text (Ledger why) = codes "fault: ledger"
 fault_text (BadEntry place cause) = codes "fault: ledger record " ++ decimal place
 fault_text (Payment cause) = codes "fault: payment"
+fault_text (Booking cause) = codes "fault: booking"
+fault_text (BadDecision place) = codes "fault: decisions record " ++ decimal place
+fault_text (LedgerRun why) = codes "fault: ledger run"
+fault_text (Unsettled why) = codes "fault: unsettled"
 fault_text (Output unwritten) = codes "fault: output"
 fault_text OutOfMemory = codes "fault: out of memory"
 fault_text (Unreported refused) = codes "fault: out of memory"
@@ -107,7 +119,7 @@ fault_of_sending (send.BookRefused why) = OutOfMemory
 fault_of_sending send.ThreadRefused = OutOfMemory
 fault_of_sending send.OutOfMemory = OutOfMemory
 
--- the phase of a sending in which a fault comes, so that it says whether messages may have been sent: files, journal and binds are had before a worker is started; if
+-- the phase of a sending in which a fault comes, so that it says whether messages may have been sent: words, files, journal and binds are had before a worker is started; if
 -- memory or a thread is refused none was started, or all were ordered to leave; the report, and the end of the journal, come after all were started. No other fault
 -- is a sending's
 abbrev pub ComesAt : StartPhase → Fault → Type 0
@@ -123,10 +135,16 @@ ComesAt begun (Unconnected reason) = begun ≡ Idle
 ComesAt begun JournalHeld = begun ≡ Idle
 ComesAt begun (Unmade name kind) = begun ≡ Idle
 ComesAt begun (Unbegun why) = begun ≡ Idle
+ComesAt begun (LedgerFile name kind) = begun ≡ Idle
+ComesAt begun (Ledger why) = begun ≡ Idle
+ComesAt begun (BadEntry place cause) = begun ≡ Idle
+ComesAt begun (Booking cause) = begun ≡ Idle
+ComesAt begun (Unsettled why) = begun ≡ Released Go
 ComesAt begun (Journal why) = begun ≡ Released Go
 ComesAt begun (Output unwritten) = begun ≡ Released Go
 ComesAt begun OutOfMemory = (begun ≡ Idle) ⊎ (begun ≡ Released Leave)
 ComesAt begun (Unreported refused) = begun ≡ Released Go
+ComesAt begun (Words why) = begun ≡ Idle
 ComesAt begun _ = ⊥
 
 -- the fault of a bind without a connection gets the reason of that bind, and each other stays as it is
@@ -192,6 +210,24 @@ fault_of_ledger (flaw.Memory refused) = OutOfMemory
 abbrev pub fault_of_payment : Refusal → Fault
 fault_of_payment (refusal.OutOfMemory refused) = OutOfMemory
 fault_of_payment cause = Payment cause
+
+-- for why an entry of a run isn't
+abbrev pub fault_of_booking : Refusal → Fault
+fault_of_booking (refusal.OutOfMemory refused) = OutOfMemory
+fault_of_booking cause = Booking cause
+
+-- for why a decisions file can't be used
+abbrev pub fault_of_decisions : DecisionFault → Fault
+fault_of_decisions (decisions.Record place) = BadDecision place
+fault_of_decisions (decisions.OutOfMemory refused) = OutOfMemory
+
+-- why a statement wasn't booked behind the report, by the fault of booking it
+abbrev pub unsettled_by : Fault → WhyUnsettled
+unsettled_by (LedgerFile name kind) = unsettled.File kind
+unsettled_by (Ledger why) = unsettled.Use why
+unsettled_by (BadEntry place cause) = unsettled.Record place cause
+unsettled_by (Booking cause) = unsettled.Refused cause
+unsettled_by _ = unsettled.OutOfMemory
 
 -- for why a ledger's file can't be used
 abbrev pub fault_of_use : LedgerFailure → Fault

@@ -16,8 +16,6 @@ use Rattle.sms_ledger.specs.declared.entry.Payment.{Payment}
 use Rattle.sms_ledger.specs.declared.fault.Fault.{Fault as LedgerFault}
 use Rattle.sms_ledger.specs.declared.refusal.Refusal.{Refusal}
 use Rattle.sms_send.specs.Faults.{fault_of_ledger, fault_of_opening, fault_of_payment, fault_of_use, output_failed}
-use Rattle.sms_send.specs.declared.args.job.Job.{Job}
-use Rattle.sms_send.specs.declared.args.job.Job.TheVariants.{Balance, TopUp}
 use Rattle.sms_send.specs.declared.args.ledger_args.TopUpArgs.{TopUpArgs}
 use Rattle.sms_send.specs.declared.faults.fault.Fault.{Fault}
 use Rattle.sms_send.specs.declared.faults.fault.Fault.TheVariants.{Ledger, OutOfMemory}
@@ -181,20 +179,6 @@ abbrev pub FailsBalance : {F : Type 0} → (List ℕ → F → Type 0) → (List
 FailsBalance {F} holds lacks errs octets name old new fault =
     LacksLedger lacks name fault ⊎ ((file : F) × holds (string_bytes name) file × FailsReading errs octets file fault) ⊎ (fault ≡ OutOfMemory)
     ⊎ (LosesTable holds octets (string_bytes name) old new × (fault ≡ output_failed))
-
--- ---- the subcommands over a ledger among all jobs
-
--- what they did, in a world whose ledgers' files are so
-abbrev pub BooksJob : {F : Type 0} → (List ℕ → F → Type 0) → (F → Option (List ℕ)) → (F → Option (List ℕ)) → (F → ℕ) → (F → Type 0) → Job → Option (List ℕ) → Option (List ℕ) → Type 0
-BooksJob holds octets stored opening is_closed (TopUp order) old new = TopsUp holds octets stored opening is_closed order old new
-BooksJob holds octets stored opening is_closed (Balance name) old new = PrintsBalance holds octets (string_bytes name) old new
-BooksJob holds octets stored opening is_closed _ old new = Unit {0}
-
--- and why they failed
-abbrev pub FailsBooksJob : {F : Type 0} → (List ℕ → F → Type 0) → (List ℕ → LedgerFailure → Type 0) → (ErrorKind → Type 0) → (F → Option (List ℕ)) → (F → Option (List ℕ)) → (F → ℕ) → (F → Type 0) → Job → Option (List ℕ) → Option (List ℕ) → Fault → Type 0
-FailsBooksJob holds lacks errs octets stored opening is_closed (TopUp order) old new fault = FailsTopUp holds lacks errs octets stored opening is_closed order old new fault
-FailsBooksJob holds lacks errs octets stored opening is_closed (Balance name) old new fault = FailsBalance holds lacks errs octets name old new fault
-FailsBooksJob holds lacks errs octets stored opening is_closed _ old new fault = Unit {0}
 
 -- ---- what holds of every payment
 

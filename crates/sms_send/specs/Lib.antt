@@ -32,4 +32,15 @@ pub mod Resumed
 pub mod Stopped
 pub mod Settings
 pub mod Ledgers
+pub mod Headed
+pub mod Kept
+pub mod LedgerRuns
+pub mod LedgerJobs
+pub mod LedgerKinds
+pub mod LedgerSendings
+pub mod LedgerResuming
+pub mod LedgerWork
 pub mod Listed
+pub mod Words
+pub mod Refs
+pub mod PlainFiles

@@ -19,7 +19,7 @@ use Rattle.sms_send.specs.Sent.{FailsSending, SendsWork}
 use Rattle.sms_send.specs.declared.args.send_args.Again.{Again}
 use Rattle.sms_send.specs.declared.args.send_args.JournalFile.{JournalFile}
 use Rattle.sms_send.specs.declared.faults.fault.Fault.{Fault}
-use Rattle.sms_send.specs.declared.faults.fault.Fault.TheVariants.{JournalHeld, Unbegun, Unmade}
+use Rattle.sms_send.specs.declared.faults.fault.Fault.TheVariants.{JournalHeld, OutOfMemory, Unbegun, Unmade}
 use Rattle.sms_send.specs.declared.sending.target.Target.{Target}
 use Rattle.sms_send.specs.declared.sending.work.Work.{Work}
 use Rattle.sms_send.specs.declared.sending.work.Work.TheVariants.{All}
@@ -44,6 +44,10 @@ kind_of (Remote host port) = Run
 abbrev pub fault_of_unmade : String Global → WhyUnmade → Fault
 fault_of_unmade name unmade.Held = JournalHeld
 fault_of_unmade name (unmade.Failed kind) = Unmade name kind
+
+-- the same by a name that is kept; none where memory is refused for a copy of it
+abbrev pub IsUnmadeFor : List ℕ → WhyUnmade → Fault → Type 0
+IsUnmadeFor name why fault = (fault ≡ OutOfMemory) ⊎ ((text : String Global) × (string_bytes text ≡ name) × (fault ≡ fault_of_unmade text why))
 
 -- a process holds the journal of this name, as the system says
 abbrev pub IsHeld : (List ℕ → Type 0) → List ℕ → Fault → Type 0

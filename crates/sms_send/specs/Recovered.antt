@@ -15,6 +15,7 @@ use Rattle.sms_journal.specs.declared.recovery.fault.RecoveryFault.{RecoveryFaul
 use Rattle.sms_journal.specs.declared.recovery.recovering.Recovered.{Recovered}
 use Rattle.sms_send.specs.Faults.{IsFaultOfRecovery, output_failed}
 use Rattle.sms_send.specs.Noted.{IsHeld}
+use Rattle.sms_send.specs.Refs.{AsksBy, FailsRefs}
 use Rattle.sms_send.specs.Runs.{IsRun, FailsRunFiles, tariff_in}
 use Rattle.sms_send.specs.declared.faults.fault.Fault.{Fault}
 use Rattle.sms_send.specs.declared.faults.fault.Fault.TheVariants.{BadNote, OtherFile}
@@ -36,14 +37,18 @@ WritesKind Run error_old error_new = error_new ≡ error_old
 WritesKind Trial error_old error_new = Appends error_old error_new trial_line
 
 -- what by its report was not sent at all: the accounts for it, or its messages
-abbrev pub left_of : Bool → RunFiles → Input → List ℕ
-left_of true run = accounts_by run.written.items
-left_of false run = rest_by run.written.items run.named.messages.items
+abbrev pub left_of : Bool → Option (List (String Global)) → RunFiles → Input → List ℕ
+left_of true refs run = accounts_by run.written.items
+left_of false refs run = rest_by refs run.written.items run.named.messages.items
 
 -- that was written
-abbrev pub PrintsLeft : Bool → RunFiles → Option (List ℕ) → Option (List ℕ) → Type 0
-PrintsLeft accounts run old new =
-    Prints run.config.items run.named.accounts.items run.named.messages.items (tariff_in run.named) run.written.items (left_of accounts run) old new
+abbrev pub PrintsLeft : Bool → Option (List (String Global)) → RunFiles → Option (List ℕ) → Option (List ℕ) → Type 0
+PrintsLeft accounts refs run old new =
+    Prints run.config.items run.named.accounts.items run.named.messages.items (tariff_in run.named) run.written.items (left_of accounts refs run) old new
+
+-- the same as it was asked for: of a run as it stands, or of one whose messages have references
+abbrev pub PrintsAsked : (accounts refs : Bool) → RunFiles → Option (List ℕ) → Option (List ℕ) → Type 0
+PrintsAsked accounts refs run old new = AsksBy refs run (PrintsLeft accounts None run old new) (λ behind plain. PrintsLeft accounts (Some behind) plain old new)
 
 -- the name of a file of a run, by that of its config and by those that it names; a key of the config is no file
 abbrev pub name_of : List ℕ → FileNames → RunFile → Option (List ℕ)
@@ -66,9 +71,13 @@ abbrev pub FailsRecovering : RunFiles → Bool → Option (List ℕ) → Option 
 FailsRecovering run trial old new =
     FailsWith (IsFaultOfJournal run.config.items run.named.accounts.items run.named.messages.items (tariff_in run.named) run.written.items trial old new)
 
-abbrev pub FailsRest : Bool → RunFiles → Option (List ℕ) → Option (List ℕ) → Fault → Type 0
-FailsRest accounts run old new =
-    FailsWith (IsFaultOfPrinting run.config.items run.named.accounts.items run.named.messages.items (tariff_in run.named) run.written.items (left_of accounts run) old new)
+abbrev pub FailsRest : Bool → Option (List (String Global)) → RunFiles → Option (List ℕ) → Option (List ℕ) → Fault → Type 0
+FailsRest accounts refs run old new =
+    FailsWith (IsFaultOfPrinting run.config.items run.named.accounts.items run.named.messages.items (tariff_in run.named) run.written.items (left_of accounts refs run) old new)
+
+abbrev pub FailsRestAsked : (accounts refs : Bool) → RunFiles → Option (List ℕ) → Option (List ℕ) → Fault → Type 0
+FailsRestAsked accounts refs run old new fault =
+    AsksBy refs run (FailsRest accounts None run old new fault) (λ behind plain. FailsRest accounts (Some behind) plain old new fault) ⊎ ((refs ≡ true) × FailsRefs run fault)
 
 -- ---- the jobs
 
@@ -101,4 +110,4 @@ FailsRecoverJob holds finds order old new fault = IsHeld holds (string_bytes ord
 abbrev pub FailsRestJob : (List ℕ → Option Told → Type 0) → RestArgs → Option (List ℕ) → Option (List ℕ) → Fault → Type 0
 FailsRestJob finds order old new fault =
     FailsRunFiles finds order.config order.report fault
-    ⊎ ((run : RunFiles) × IsRun finds (string_bytes order.config) (string_bytes order.report) run × FailsRest order.accounts run old new fault)
+    ⊎ ((run : RunFiles) × IsRun finds (string_bytes order.config) (string_bytes order.report) run × FailsRestAsked order.accounts order.refs run old new fault)

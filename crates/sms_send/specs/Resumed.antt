@@ -1,5 +1,5 @@
 -- What `resume` does with a run, and why it fails.
-use Rattle.std.specs.Prelude.{◌≡◌, ◌⊎◌, ℕ, ◌<◌, Bool, true, String, List, Option, string_bytes}
+use Rattle.std.specs.Prelude.{◌≡◌, ◌⊎◌, ℕ, ◌<◌, Bool, false, true, String, List, Option, is_some, string_bytes}
 use Rattle.std.specs.declared.alloc.Global.{Global}
 use Rattle.std.specs.declared.io.ErrorKind.{ErrorKind}
 use Rattle.std.specs.Io.KnownBytes.{Appends}
@@ -18,23 +18,28 @@ use Rattle.sms_send.specs.Faults.{ComesAt, output_failed, unreported}
 use Rattle.sms_send.specs.Noted.{FailsNotedWork, IsHeld, IsNotedIn, TakesNoRound}
 use Rattle.sms_send.specs.Reached.{centre_in}
 use Rattle.sms_send.specs.Recovered.{FailsWith}
+use Rattle.sms_send.specs.PlainFiles.{sees}
 use Rattle.sms_send.specs.Runs.{FailsNamed, IsRun, tariff_in}
 use Rattle.sms_send.specs.Sent.{SendsLeft}
 use Rattle.sms_send.specs.Statuses.{status_by}
 use Rattle.sms_send.specs.declared.args.send_args.Again.{Again}
 use Rattle.sms_send.specs.declared.args.send_args.ResumeArgs.{ResumeArgs}
 use Rattle.sms_send.specs.declared.faults.fault.Fault.{Fault}
-use Rattle.sms_send.specs.declared.faults.fault.Fault.TheVariants.{File, OutOfMemory, Trial}
+use Rattle.sms_send.specs.declared.faults.fault.Fault.TheVariants.{File, LedgerRun, OutOfMemory, Trial}
+use Rattle.sms_send.specs.declared.faults.ledger_run.LedgerRunFlaw.TheVariants.{OfLedger}
 use Rattle.sms_send.specs.declared.files.run_files.RunFiles.{RunFiles}
 use Rattle.sms_send.specs.declared.sending.target.TargetKind.TheVariants.{Remote}
 use Rattle.sms_send.specs.declared.sending.work.Work.TheVariants.{Left}
 
 -- ---- the job
 
--- the files of the run, and what its journal says of it
+-- the files of the run or the trial, and what its journal says of it
+abbrev pub IsNotedRun : RunFiles → JournaledRun → Type 0
+IsNotedRun files run = IsRunOfJournal files.config.items files.named.accounts.items files.named.messages.items (tariff_in files.named) files.written.items run
+
+-- and of a run
 abbrev pub IsJournaled : RunFiles → JournaledRun → Type 0
-IsJournaled files run =
-    IsRunOfJournal files.config.items files.named.accounts.items files.named.messages.items (tariff_in files.named) files.written.items run × (run.kind ≡ OfRun)
+IsJournaled files run = IsNotedRun files run × (run.kind ≡ OfRun)
 
 -- the journal is of a trial of these files
 abbrev pub IsOfTrial : RunFiles → Type 0
@@ -52,9 +57,9 @@ pub record GoesOn (tells : ℕ → ℕ → Told) (again : Option Again) (strict 
   pub some : 0 < count_left run.ends.items
   pub sends : SendsLeft tells again strict run old new status
 
--- the journal that an order names says this of its run
+-- the journal that an order names says this of its run, which is of no ledger: one of a ledger goes on by its ledger alone
 abbrev pub IsJournaledBy : (List ℕ → Option Told → Type 0) → ResumeArgs → JournaledRun → Type 0
-IsJournaledBy finds order run = (files : RunFiles) × IsRun finds (string_bytes order.config) (string_bytes order.journal.name) files × IsJournaled files run
+IsJournaledBy finds order run = (files : RunFiles) × IsRun finds (string_bytes order.config) (string_bytes order.journal.name) files × (is_some files.run ≡ false) × IsJournaled files run
 
 -- the run that an order names was resumed with this status: nothing was left, or it went on
 abbrev pub ResumesBy : (List ℕ → Option Told → Type 0) → (CentreAt → Bool → ℕ → ℕ → Told) → ResumeArgs → Option (List ℕ) → Option (List ℕ) → ℕ → Type 0
@@ -68,7 +73,7 @@ EndsUnnoted finds order old new status = (run : JournaledRun) × IsJournaledBy f
 
 -- or the file that was opened by the journal's name was only written to since, and ends with the note of the run's end
 abbrev pub NotesRound : {F : Type 0} → (F → Option (List ℕ)) → (List ℕ → F → Type 0) → (List ℕ → Option Told → Type 0) → ResumeArgs → Option (List ℕ) → Option (List ℕ) → ℕ → Type 0
-NotesRound contents opens finds order old new status = EndsUnnoted finds order old new status ⊎ IsNotedIn contents (opens (string_bytes order.journal.name)) status
+NotesRound contents opens finds order old new status = EndsUnnoted (sees order.refs finds) order old new status ⊎ IsNotedIn contents (opens (string_bytes order.journal.name)) status
 
 -- ---- why it fails
 
@@ -77,10 +82,13 @@ abbrev pub FailsOpen : (List ℕ → Type 0) → (List ℕ → Type 0) → List 
 FailsOpen refuses holds name fault =
     IsHeld holds name fault ⊎ (((kind : ErrorKind) × (text : String Global) × (fault ≡ File text kind) × (string_bytes text ≡ name) × refuses name) ⊎ (fault ≡ OutOfMemory))
 
+-- the journal is none of a run or a trial of these files
+abbrev pub FailsNotedRun : Bool → RunFiles → Fault → Type 0
+FailsNotedRun strict files fault = FailsWith (λ f. IsFaultOfRun files.config.items files.named.accounts.items files.named.messages.items (tariff_in files.named) files.written.items strict f) fault
+
 -- what the journal says is none of a run of these files, or strictly, the messages file ends within a quote; or it is of a trial
 abbrev pub FailsResumed : Bool → RunFiles → Fault → Type 0
-FailsResumed strict files fault =
-    FailsWith (λ f. IsFaultOfRun files.config.items files.named.accounts.items files.named.messages.items (tariff_in files.named) files.written.items strict f) fault ⊎ ((fault ≡ Trial) × IsOfTrial files)
+FailsResumed strict files fault = FailsNotedRun strict files fault ⊎ ((fault ≡ Trial) × IsOfTrial files)
 
 -- the report of a run of which nothing is left can't be written
 abbrev pub FailsPrintingRun : JournaledRun → Option (List ℕ) → Option (List ℕ) → Fault → Type 0
@@ -96,11 +104,15 @@ FailsResuming centre tells again strict run old new fault =
 abbrev pub FailsGoingOn : CentreAt → (ℕ → ℕ → Told) → Option Again → Bool → JournaledRun → Option (List ℕ) → Option (List ℕ) → Fault → Type 0
 FailsGoingOn centre tells again strict run old new fault = ((fault ≡ OutOfMemory) × (new ≡ old)) ⊎ FailsResuming centre tells again strict run old new fault
 
--- there is no such run: a file can't be read, or the journal is none of a run of the files
+-- the journal is of a run of a ledger, which goes on with that alone
+abbrev pub IsOfLedger : RunFiles → Fault → Type 0
+IsOfLedger files fault = (fault ≡ LedgerRun OfLedger) × (is_some files.run ≡ true)
+
+-- there is no such run: a file can't be read, or the journal is none of a run of the files, or of one of a ledger
 abbrev pub FailsJournaled : (List ℕ → Option Told → Type 0) → ResumeArgs → Fault → Type 0
 FailsJournaled finds order fault =
     FailsNamed finds (string_bytes order.config) (string_bytes order.journal.name) fault
-    ⊎ ((files : RunFiles) × IsRun finds (string_bytes order.config) (string_bytes order.journal.name) files × FailsResumed order.strict files fault)
+    ⊎ ((files : RunFiles) × IsRun finds (string_bytes order.config) (string_bytes order.journal.name) files × (FailsResumed order.strict files fault ⊎ IsOfLedger files fault))
 
 -- by these arguments: the journal can't be opened, there is no such run, or it can't go on
 abbrev pub FailsResumeJob : (List ℕ → Type 0) → (List ℕ → Type 0) → (List ℕ → Option Told → Type 0) → (CentreAt → Bool → ℕ → ℕ → Told) → ResumeArgs → Option (List ℕ) → Option (List ℕ) → Fault → Type 0

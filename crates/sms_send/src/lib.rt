@@ -14,6 +14,7 @@ mod terminal;
 
 pub use args::job::{Job, job_of};
 pub use args::ledger_args::TopUpArgs;
+pub use args::ledger_run_args::{DecideArgs, SettleArgs};
 pub use args::program_args::ProgramWords;
 pub use args::send_args::{
     Again, AuditArgs, JournalFile, ListArgs, RecoverArgs, RestArgs, ResumeArgs, SendArgs, Throttle,
@@ -25,6 +26,7 @@ pub use faults::details::mode::is_open_to_others;
 pub use faults::exposed::FileModes;
 pub use faults::fault::Fault;
 pub use faults::full_names::{FullNames, files_told};
+pub use faults::ledger_run::{LedgerRunFlaw, Unsettled};
 pub use faults::report::FaultReport;
 pub use files::opened::InputFiles;
 pub use files::reading::setup_of;
@@ -34,5 +36,6 @@ pub use jobs::replay::run_replay;
 pub use jobs::send_job::run_sender;
 pub use program::{Untold, do_job, run, status_after, tell};
 pub use sending::status::status_of;
+pub use sending::target::TargetKind;
 pub use sms_journal::Listing;
 pub use terminal::standard_error::{StandardError, TakesLines};

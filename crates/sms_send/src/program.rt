@@ -6,9 +6,9 @@ ghost use Rattle.sms_driver.specs.declared.start.StartPhase.TheVariants.{Idle};
 ghost use Rattle.sms_files.specs.Output.{WritesFront};
 ghost use Rattle.sms_send.specs.Asked.{AsksForDetails, AsksForJob, FailsAsAsked, IsUntold, LacksJob, OfAsked, WorksAsAsked, printed_of};
 ghost use Rattle.sms_send.specs.FaultReports.{ReportsFault};
-ghost use Rattle.sms_send.specs.Faults.{HasLostJournal, status_of, output_failed};
+ghost use Rattle.sms_send.specs.Faults.{HasLostJournal, IsUnsettled, status_of, output_failed};
 ghost use Rattle.sms_send.specs.Jobs.{ComesIn, Does, FailsJob, HasBegun, IsStatusOf, NotesJob, WritesBeside, BeginsBeside};
-ghost use Rattle.sms_send.specs.Ledgers.{BooksJob, FailsBooksJob};
+ghost use Rattle.sms_send.specs.LedgerWork.{BooksJob, FailsBooksJob};
 ghost use Rattle.sms_send.specs.Noted.{FailsBegin, NotesEnd};
 ghost use Rattle.sms_send.specs.Resumed.{NotesRound};
 ghost use Rattle.sms_send.specs.Stopped.{StopsRun};
@@ -23,7 +23,10 @@ use crate::faults::full_names::FullNames;
 use crate::faults::report::{FaultReport, details_of, fixed_details};
 use crate::files::opened::{InputFiles, open};
 use crate::jobs::audit_job::audit_job;
+use crate::jobs::decide_job::decide_job;
 use crate::jobs::ledger_job::{balance_job, topup_job};
+use crate::jobs::ledger_resume::ledger_resume_job;
+use crate::jobs::ledger_send::ledger_send_job;
 use crate::jobs::list_job::list_job;
 use crate::jobs::plan_job::plan_job;
 use crate::jobs::quote_job::quote_job;
@@ -31,6 +34,7 @@ use crate::jobs::recover_job::{recover_job, rest_job};
 use crate::jobs::replay::run_replay;
 use crate::jobs::resume_job::resume_job;
 use crate::jobs::send_job::send_job;
+use crate::jobs::settle_job::settle_job;
 use crate::jobs::stop_job::stop_job;
 use crate::sending::target::TargetKind;
 use crate::terminal::standard_error::TakesLines;
@@ -73,9 +77,9 @@ pub fn run<
     W: Write,
     E: Write,
 >(rt: &R, context: &mut FaultContext, output: &mut W, error: &mut E) -> Result<u8, Fault>
-    ensures done { IfOk result (WorksAsAsked (R.has rt.now) R.Reader.remaining (R.finds rt.now) (R.tells rt.now) (BooksJob (R.holds_ledger rt.now) R.LedgerFile.octets R.LedgerFile.stored R.LedgerFile.opening R.LedgerFile.is_closed) (λ job. WritesBeside (R.finds rt.now) (R.is_full rt.now) (R.details rt.now) job (W.contents output.old) (W.contents output.new) (E.contents error.old) (E.contents error.new)) (W.contents output.old) (W.contents output.new)) }
-    ensures refused { IfErr result (FailsAsAsked (R.has rt.now) (FailsBegin (R.makes rt.now) (R.refuses rt.now) (R.holds rt.now)) (R.refuses rt.now) (R.holds rt.now) (FailsBooksJob (R.holds_ledger rt.now) (R.lacks_ledger rt.now) R.LedgerFile.errs R.LedgerFile.octets R.LedgerFile.stored R.LedgerFile.opening R.LedgerFile.is_closed) R.Reader.remaining (R.finds rt.now) (R.tells rt.now) (W.contents output.old) (W.contents output.new)) }
-    ensures unwritten { IfErr result (λ fault. fault ≢ output_failed → ¬ HasLostJournal fault → output.new ≡ output.old) }
+    ensures done { IfOk result (WorksAsAsked (R.has rt.now) R.Reader.remaining (R.finds rt.now) (R.tells rt.now) (BooksJob (R.makes rt.now) (R.opens rt.now) R.JournalFile.contents (R.finds rt.now) (R.tells rt.now) (R.has_kind rt.now) (R.holds_ledger rt.now) R.LedgerFile.octets R.LedgerFile.stored R.LedgerFile.opening R.LedgerFile.is_closed) (λ job. WritesBeside (R.finds rt.now) (R.is_full rt.now) (R.details rt.now) job (W.contents output.old) (W.contents output.new) (E.contents error.old) (E.contents error.new)) (W.contents output.old) (W.contents output.new)) }
+    ensures refused { IfErr result (FailsAsAsked (R.has rt.now) (FailsBegin (R.makes rt.now) (R.refuses rt.now) (R.holds rt.now)) (R.refuses rt.now) (R.holds rt.now) (FailsBooksJob (R.makes rt.now) (R.opens rt.now) R.JournalFile.contents (R.refuses rt.now) (R.holds rt.now) (R.finds rt.now) (R.tells rt.now) (R.holds_ledger rt.now) (R.lacks_ledger rt.now) R.LedgerFile.errs R.LedgerFile.octets R.LedgerFile.stored R.LedgerFile.opening R.LedgerFile.is_closed) R.Reader.remaining (R.finds rt.now) (R.tells rt.now) (W.contents output.old) (W.contents output.new)) }
+    ensures unwritten { IfErr result (λ fault. fault ≢ output_failed → ¬ HasLostJournal fault → ¬ IsUnsettled fault → output.new ≡ output.old) }
     ensures front { IfErr result (λ fault. fault ≡ output_failed → OfAsked (R.has rt.now) (λ job. BeginsBeside (R.finds rt.now) (R.is_full rt.now) (R.details rt.now) job (E.contents error.old) (E.contents error.new))) }
     ensures untold { IfErr result (λ fault. fault ≢ output_failed → error.new ≡ error.old) }
     ensures verbose { IfErr result (AsksForDetails (R.has rt.now) context.new.verbose) }
@@ -104,20 +108,22 @@ pub fn do_job<R: FileModes + FullNames + Host + InputFiles + LedgerFiles, W: Wri
     ensures latch { start.new.latch ≡ start.old.latch }
     ensures started { OnOk result (HasBegun job start.new.begun) }
     ensures status { IfOk result (IsStatusOf job) }
-    ensures done { IfOk result (Does R.Reader.remaining (R.finds rt.now) (R.tells rt.now) (BooksJob (R.holds_ledger rt.now) R.LedgerFile.octets R.LedgerFile.stored R.LedgerFile.opening R.LedgerFile.is_closed) job (W.contents output.old) (W.contents output.new)) }
+    ensures done { IfOk result (Does R.Reader.remaining (R.finds rt.now) (R.tells rt.now) (BooksJob (R.makes rt.now) (R.opens rt.now) R.JournalFile.contents (R.finds rt.now) (R.tells rt.now) (R.has_kind rt.now) (R.holds_ledger rt.now) R.LedgerFile.octets R.LedgerFile.stored R.LedgerFile.opening R.LedgerFile.is_closed) job (W.contents output.old) (W.contents output.new)) }
     ensures beside { OnOk result (WritesBeside (R.finds rt.now) (R.is_full rt.now) (R.details rt.now) job (W.contents output.old) (W.contents output.new) (E.contents error.old) (E.contents error.new)) }
     ensures front { IfErr result (λ fault. fault ≡ output_failed → BeginsBeside (R.finds rt.now) (R.is_full rt.now) (R.details rt.now) job (E.contents error.old) (E.contents error.new)) }
-    ensures refused { IfErr result (FailsJob (FailsBegin (R.makes rt.now) (R.refuses rt.now) (R.holds rt.now)) (R.refuses rt.now) (R.holds rt.now) (FailsBooksJob (R.holds_ledger rt.now) (R.lacks_ledger rt.now) R.LedgerFile.errs R.LedgerFile.octets R.LedgerFile.stored R.LedgerFile.opening R.LedgerFile.is_closed) R.Reader.remaining (R.finds rt.now) (R.tells rt.now) job (W.contents output.old) (W.contents output.new)) }
+    ensures refused { IfErr result (FailsJob (FailsBegin (R.makes rt.now) (R.refuses rt.now) (R.holds rt.now)) (R.refuses rt.now) (R.holds rt.now) (FailsBooksJob (R.makes rt.now) (R.opens rt.now) R.JournalFile.contents (R.refuses rt.now) (R.holds rt.now) (R.finds rt.now) (R.tells rt.now) (R.holds_ledger rt.now) (R.lacks_ledger rt.now) R.LedgerFile.errs R.LedgerFile.octets R.LedgerFile.stored R.LedgerFile.opening R.LedgerFile.is_closed) R.Reader.remaining (R.finds rt.now) (R.tells rt.now) job (W.contents output.old) (W.contents output.new)) }
     ensures noted { NotesJob (NotesEnd R.JournalFile.contents (R.makes rt.now)) (NotesRound R.JournalFile.contents (R.opens rt.now) (R.finds rt.now)) (StopsRun (R.holds rt.now) (R.stops rt.now)) job (W.contents output.old) (W.contents output.new) result }
     ensures phase { IfErr result (ComesIn job start.new.begun) }
-    ensures unwritten { IfErr result (λ fault. fault ≢ output_failed → ¬ HasLostJournal fault → output.new ≡ output.old) }
+    ensures unwritten { IfErr result (λ fault. fault ≢ output_failed → ¬ HasLostJournal fault → ¬ IsUnsettled fault → output.new ≡ output.old) }
     ensures untold { IfErr result (λ fault. fault ≢ output_failed → error.new ≡ error.old) }
 {
     match job {
         Job::Replay(None) => run_replay(rt.alloc(), rt.reader(), output),
         Job::Replay(Some(name)) => run_replay(rt.alloc(), open(rt, name)?, output),
-        Job::Plan(name, long) => plan_job(rt, name, long, output, error),
-        Job::Quote(config, verbose) => quote_job(rt, context, config, verbose, output, error),
+        Job::Plan(name, long, refs) => plan_job(rt, name, long, refs, output, error),
+        Job::Quote(config, verbose, refs) => {
+            quote_job(rt, context, config, verbose, refs, output, error)
+        }
         Job::Loop(order) => send_job(rt, context, start, TargetKind::Loopback, order, output),
         Job::Send(order) => send_job(rt, context, start, TargetKind::Remote, order, output),
         Job::Resume(order) => resume_job(rt, context, start, order, output),
@@ -128,6 +134,14 @@ pub fn do_job<R: FileModes + FullNames + Host + InputFiles + LedgerFiles, W: Wri
         Job::Audit(order) => audit_job(rt, context, order, output),
         Job::TopUp(order) => topup_job(rt, order, output),
         Job::Balance(ledger) => balance_job(rt, ledger, output),
+        Job::SendOn(kind, ledger, order) => {
+            ledger_send_job(rt, context, start, kind, ledger, order, output)
+        }
+        Job::ResumeOn(ledger, order) => {
+            ledger_resume_job(rt, context, start, ledger, order, output)
+        }
+        Job::Settle(order) => settle_job(rt, context, order, output),
+        Job::Decide(order) => decide_job(rt, context, order, output),
     }
 }
 

@@ -1,17 +1,19 @@
 //! A sending: how messages go to their message centre, and how the report of it is written.
 
-ghost use Rattle.std.specs.Prelude.{◌≡◌, ◌⊎◌, IfErr, IfOk, is_some};
+ghost use Rattle.std.specs.Prelude.{◌≡◌, ◌⊎◌, None, IfErr, IfOk, is_some};
 ghost use Rattle.sms_driver.specs.declared.start.StartPhase.TheVariants.{Idle};
 ghost use Rattle.sms_send.specs.Reached.{centre_of};
 ghost use Rattle.std.specs.Io.KnownBytes.{Appends};
 ghost use Rattle.sms_files.specs.Output.{WritesFront};
 ghost use Rattle.sms_files.specs.Report.{report_of};
 ghost use Rattle.sms_send.specs.Faults.{output_failed, unreported};
+ghost use Rattle.sms_send.specs.Kept.{KeepsSent};
 ghost use Rattle.sms_send.specs.Sent.{FailsOver, FailsPrinting, FailsSending, HasRows, PrintsSent, SendingEnd, SendsWork, limits_by};
 ghost use Rattle.sms_send.specs.Statuses.{status_by};
 
 pub mod came;
 pub mod interval;
+pub mod kept;
 pub mod noted;
 pub mod remarks;
 pub mod resumed;
@@ -27,6 +29,7 @@ use crate::faults::fault::Fault;
 use crate::faults::unconnected::reasoned;
 use crate::faults::unsent::report_unsent;
 use crate::sending::interval::Between;
+use crate::sending::kept::{Kept, kept_of};
 use crate::sending::remarks::Remarks;
 use crate::sending::round_dial::RoundDial;
 use crate::sending::sender::{Ended, write_ends};
@@ -91,11 +94,13 @@ impl<'r, R: Host> Sending<'r, R> {
         work: Work,
         journal: Option<&'j Journal<F>>,
         output: &mut W,
+        kept: &mut Option<Kept>,
     ) -> Result<u8, Fault>
         requires not_started { start.old.begun ≡ Idle }
         requires rows { HasRows work }
         ensures latch { start.new.latch ≡ start.old.latch }
         ensures ended { SendingEnd self.now.strict (SendsWork (R.tells self.now.rt.now (centre_of self.now.target) (is_some journal.entry)) self.now.again self.now.strict work (W.contents output.old) (W.contents output.new)) (FailsSending (centre_of self.now.target) (R.tells self.now.rt.now (centre_of self.now.target) (is_some journal.entry)) self.now.again work (W.contents output.old) (W.contents output.new)) start.new.begun output.old output.new result }
+        ensures kept { kept.old ≡ None → KeepsSent (W.contents output.old) (W.contents output.new) result kept.new }
     {
         let rt = self.rt;
         let outboxes = Outboxes::new(rt, journal, work.config().limits.workers);
@@ -114,7 +119,7 @@ impl<'r, R: Host> Sending<'r, R> {
                     host: host.as_str(),
                     port: *port,
                 };
-                let sent = self.send_over(start, work, &outboxes, &dial, &pause, output);
+                let sent = self.send_over(start, work, &outboxes, &dial, &pause, output, kept);
                 reasoned(&outboxes, sent)
             }
             Target::Loopback(bind_status, answers) => {
@@ -131,7 +136,7 @@ impl<'r, R: Host> Sending<'r, R> {
                     bind_status: *bind_status,
                     answers: answers.as_slice(),
                 };
-                let sent = self.send_over(start, work, &outboxes, &dial, &pause, output);
+                let sent = self.send_over(start, work, &outboxes, &dial, &pause, output, kept);
                 reasoned(&outboxes, sent)
             }
         }
@@ -147,12 +152,15 @@ impl<'r, R: Host> Sending<'r, R> {
         dial: &D,
         pause: &P,
         output: &mut W,
+        kept: &mut Option<Kept>,
     ) -> Result<u8, Fault>
         requires not_started { start.old.begun ≡ Idle }
         requires rows { HasRows work }
         ensures latch { start.new.latch ≡ start.old.latch }
         ensures ended { SendingEnd self.now.strict (SendsWork (λ round. D.told (D.of_round dial.now round)) self.now.again self.now.strict work (W.contents output.old) (W.contents output.new)) (FailsOver (λ round. D.refuses (D.of_round dial.now round)) (λ round. D.told (D.of_round dial.now round)) self.now.again work (W.contents output.old) (W.contents output.new)) start.new.begun output.old output.new result }
+        ensures kept { KeepsSent (W.contents output.old) (W.contents output.new) result kept.new }
     {
+        *kept = None;
         let rt = self.rt;
         let limits = gate_limits(work.config(), self.throttle);
         outboxes.set_patience(limits.answer_ms);
@@ -177,7 +185,7 @@ impl<'r, R: Host> Sending<'r, R> {
         outboxes.flush();
         progress.clear();
         match sent {
-            Ok(sent) => self.print_sent(sent, outboxes, &progress, output),
+            Ok(sent) => self.print_sent(sent, outboxes, &progress, output, kept),
             Err(fault) => Err(fault),
         }
     }
@@ -189,7 +197,9 @@ impl<'r, R: Host> Sending<'r, R> {
         outboxes: &Outboxes<'j, R, F>,
         progress: &Progress<'_, R, N, K>,
         output: &mut W,
+        kept: &mut Option<Kept>,
     ) -> Result<u8, Fault>
+        ensures kept { KeepsSent (W.contents output.old) (W.contents output.new) result kept.new }
         ensures printed { IfOk result (λ status. PrintsSent self.now.strict sent (W.contents output.old) (W.contents output.new) status) }
         ensures failed { IfErr result (FailsPrinting sent (W.contents output.old) (W.contents output.new)) }
         ensures quiet { IfErr result (λ fault. fault ≡ unreported → output.new ≡ output.old) }
@@ -202,6 +212,7 @@ impl<'r, R: Host> Sending<'r, R> {
                     ended.statement(),
                 );
                 let status = self.print(openings, ends, statement, progress, output);
+                *kept = kept_of(self.rt.alloc(), ends, statement, &status);
                 self.tell_unsent(&ended, outboxes);
                 // The process ends next, which frees it at once.
                 mem::forget(ended);
@@ -210,6 +221,7 @@ impl<'r, R: Host> Sending<'r, R> {
             SentWork::Resumed(run) => {
                 let (openings, ends, statement) = (run.openings(), run.ends(), run.statement());
                 let status = self.print(openings, ends, statement, progress, output);
+                *kept = kept_of(self.rt.alloc(), ends, statement, &status);
                 mem::forget(run);
                 status
             }

@@ -1,6 +1,7 @@
 //! The jobs of the program, and whole sendings over a message centre in memory, worked out by hand.
 
 mod answers;
+mod asked;
 mod audited;
 mod broken;
 mod details;
@@ -10,10 +11,13 @@ mod held;
 mod jobs;
 mod journal;
 mod ledger;
+mod ledger_runs;
+mod ledger_trials;
 mod listed;
 mod near_centre;
 mod plan;
 mod quote;
+mod referred;
 mod refusals;
 mod report;
 mod resume;

@@ -2,9 +2,10 @@
 
 ghost use Rattle.std.specs.Prelude.{◌≡◌, false, IfOk, IsOkAnd};
 ghost use Rattle.clap.specs.Words.{AddsSubcommand, App, Rule, app_of, new_app, rule_of, with_rule};
-ghost use Rattle.sms_send.specs.CommandLine.{IsLine, command_line as words_allowed, file_rule, flag_rule, name_rule, throttle_rules, again_rules, config_rules, plan_line, program_line, quote_line, replay_line, resume_line, sender_line, sending_rules, stop_line, value_rule, verbose_rule, with_rules};
+ghost use Rattle.sms_send.specs.CommandLine.{IsLine, command_line as words_allowed, file_rule, flag_rule, name_rule, throttle_rules, again_rules, config_rules, plan_line, program_line, quote_line, refs_rule, replay_line, resume_line, sender_line, sending_rules, stop_line, value_rule, verbose_rule, with_rules};
 
 use crate::args::ledger_commands::{balance_command, topup_command};
+use crate::args::ledger_run_commands::{decide_command, settle_command, with_ledger};
 use crate::args::run_commands::{
     audit_command, bill_command, doubtful_command, recover_command, rest_command,
 };
@@ -30,13 +31,13 @@ pub fn command_line<'a>(alloc: Global) -> Result<Command<'a>, AllocError>
         "loop",
         "Sends the messages that the config names through a test centre in this process, and prints a report",
     );
-    let either = with_subcommand(quoting, looping)?;
+    let either = with_subcommand(quoting, with_ledger(alloc, looping))?;
     let sending = sender_command(
         alloc,
         "send",
         "Sends the messages that the config names to its message centre, and prints a report",
     );
-    let both = with_subcommand(either, sending)?;
+    let both = with_subcommand(either, with_ledger(alloc, sending))?;
     let going_on = with_subcommand(both, resume_command(alloc))?;
     let stopping = with_subcommand(going_on, stop_command(alloc))?;
     let recovering = with_subcommand(stopping, recover_command(alloc))?;
@@ -45,7 +46,9 @@ pub fn command_line<'a>(alloc: Global) -> Result<Command<'a>, AllocError>
     let doubting = with_subcommand(billing, doubtful_command(alloc))?;
     let auditing = with_subcommand(doubting, audit_command(alloc))?;
     let paying = with_subcommand(auditing, topup_command(alloc))?;
-    with_subcommand(paying, balance_command(alloc))
+    let balancing = with_subcommand(paying, balance_command(alloc))?;
+    let settling = with_subcommand(balancing, settle_command(alloc))?;
+    with_subcommand(settling, decide_command(alloc))
 }
 
 /// The command with this subcommand too, where there was memory for both.
@@ -92,6 +95,18 @@ pub(crate) fn verbose_flag<'a>(alloc: Global) -> Arg<'a>
     )
 }
 
+/// The flag of messages that have references.
+pub(crate) fn refs_flag<'a>(alloc: Global) -> Arg<'a>
+    ensures rule { rule_of result ≡ refs_rule }
+    ensures local { result.global ≡ false }
+{
+    flag(
+        alloc,
+        "refs",
+        "The messages file has a last column ref, the sender's own reference of each message",
+    )
+}
+
 /// The subcommand `replay`.
 fn replay_command<'a>(alloc: Global) -> Result<Command<'a>, AllocError>
     ensures { IfOk result (IsLine replay_line) }
@@ -125,7 +140,8 @@ fn plan_command<'a>(alloc: Global) -> Result<Command<'a>, AllocError>
     );
     let filed = with_argument(Ok(begun), messages);
     let longer = with_argument(filed, long);
-    with_argument(longer, verbose_flag(alloc))
+    let referred = with_argument(longer, refs_flag(alloc));
+    with_argument(referred, verbose_flag(alloc))
 }
 
 /// The subcommand `quote`.
@@ -139,7 +155,8 @@ fn quote_command<'a>(alloc: Global) -> Result<Command<'a>, AllocError>
         "Prints what the messages that the config names would cost, and which would be refused; sends nothing",
     );
     let configured = with_argument(Ok(begun), config);
-    with_argument(configured, verbose_flag(alloc))
+    let referred = with_argument(configured, refs_flag(alloc));
+    with_argument(referred, verbose_flag(alloc))
 }
 
 /// The subcommand `resume`.
@@ -158,7 +175,7 @@ fn resume_command<'a>(alloc: Global) -> Result<Command<'a>, AllocError>
     );
     let quieted = with_config(alloc, Ok(begun));
     let noted = with_argument(quieted, journal);
-    with_sending(alloc, noted)
+    with_ledger(alloc, with_sending(alloc, noted))
 }
 
 /// The subcommand `stop`.
@@ -230,7 +247,8 @@ fn with_sending<'a>(
     );
     let synced = with_argument(command, sync);
     let stricter = with_argument(synced, strict);
-    let told = with_argument(stricter, verbose_flag(alloc));
+    let referred = with_argument(stricter, refs_flag(alloc));
+    let told = with_argument(referred, verbose_flag(alloc));
     let throttled = with_throttle(alloc, told);
     with_again(alloc, throttled)
 }

@@ -1,51 +1,42 @@
 //! What the command line asks for.
 
-ghost use Rattle.std.specs.Prelude.{◌≡◌, [], None, Some, IfErr, IfOk, IsErr, OnOk, map, string_bytes};
+ghost use Rattle.std.specs.Prelude.{◌≡◌, [], None, Some, IfErr, IfOk, OnOk, map, string_bytes};
 ghost use Rattle.clap.specs.Words.{found_of, rows_of, subcommand_rows_of};
-ghost use Rattle.sms_send.specs.CommandLine.{AreRefusedResumeArgs, AsksAgain, AsksFor, AsksToNote, AsksToResume, AsksToSend, HasThrottle, IsJob, IsRefused, AreRefusedArgs, IsWrongNumber, IsWrongPace, IsWrongSync, RefusesFor, RefusesMatch, RefusesWords, bytes_of, file_named, refusals_of, subcommand_in, subcommand_named as named};
-ghost use Rattle.sms_send.specs.Faults.{IsWords};
+ghost use Rattle.sms_send.specs.CommandLine.{AreRefusedResumeArgs, AsksFor, AsksToNote, AsksToResume, AsksToSend, IsJob, IsRefused, AreRefusedArgs, IsWrongSync, RefusesFor, RefusesMatch, RefusesWords, refusals_of, subcommand_in};
+ghost use Rattle.sms_send.specs.declared.args.job.Subcommand.TheVariants.{Plan, Quote};
+ghost use Rattle.sms_send.specs.Words.{bytes_of, file_named, subcommand_named as named};
 
 use crate::args::command_line::command_line;
 use crate::args::ledger_args::{TopUpArgs, balance_job_of, top_up_job_of};
+use crate::args::ledger_run_args::{
+    DecideArgs, SettleArgs, decide_job_of, loop_job_of, resume_job_of, send_job_of, settle_job_of,
+};
+use crate::args::pace::pace_of;
 use crate::args::parser_fault::fault_of;
 use crate::args::run_args::{
     audit_job_of, bill_job_of, doubtful_job_of, names_of, recover_job_of, rest_job_of,
 };
 use crate::args::send_args::{
-    Again, AuditArgs, JournalFile, ListArgs, RecoverArgs, RestArgs, ResumeArgs, SendArgs, Throttle,
+    AuditArgs, JournalFile, ListArgs, RecoverArgs, RestArgs, ResumeArgs, SendArgs,
 };
-use crate::args::values::{is_given, number_given, text_given, text_if_given};
-use crate::faults::argument_error::{ArgumentError, NumberOption};
+use crate::args::values::{is_given, text_given, text_if_given};
+use crate::faults::argument_error::ArgumentError;
 use crate::faults::fault::Fault;
+use crate::sending::target::TargetKind;
 use clap::ArgMatches;
 use std::alloc::Global;
-
-/// The most milliseconds until a bind has to be made.
-const MOST_CONNECT_MS: u64 = 600_000;
-
-/// The most requests a second.
-const MOST_RATE: u64 = 100_000;
-
-/// The most unanswered requests in a row.
-const MOST_UNANSWERED: u64 = 1_000_000;
-
-/// The most further rounds.
-const MOST_ROUNDS: u64 = 1_000_000;
-
-/// The most milliseconds before a further round, and how many there are where that isn't said.
-const MOST_WAIT_MS: u64 = 600_000;
-
-const USUAL_WAIT_MS: u32 = 1_000;
 
 /// What the program is asked to do.
 #[derive(Debug, Drop)]
 pub enum Job {
     /// To replay the schedule in the file of this name, or that of the standard input.
     Replay(Option<String>),
-    /// To plan the messages in the file of this name; with references of 16 bits where it is true.
-    Plan(String, bool),
-    /// To print what a sending by the config of this name would come to; where it is true, with details.
-    Quote(String, bool),
+    /// To plan the messages in the file of this name; with references of 16 bits where the first is true, of messages
+    /// with a column `ref` where the second is.
+    Plan(String, bool, bool),
+    /// To print what a sending by the config of this name would come to; where the first is true, with details, of
+    /// messages with a column `ref` where the second is.
+    Quote(String, bool, bool),
     /// To send through a test centre in the same process.
     Loop(SendArgs),
     /// The same to the message centre that the config names.
@@ -66,6 +57,14 @@ pub enum Job {
     TopUp(TopUpArgs),
     /// To print where the credits of the ledger in the file of this name are.
     Balance(String),
+    /// To send to such a centre with the credits of the ledger of this name.
+    SendOn(TargetKind, String, SendArgs),
+    /// To go on with a run that has credits of the ledger of this name.
+    ResumeOn(String, ResumeArgs),
+    /// To give back to a ledger what a run has of it, by its journal.
+    Settle(SettleArgs),
+    /// To book in a ledger what was decided of parts in doubt.
+    Decide(DecideArgs),
 }
 
 /// What the first word asks for.
@@ -85,6 +84,8 @@ enum Subcommand {
     Audit,
     TopUp,
     Balance,
+    Settle,
+    Decide,
 }
 
 /// The job that the words after the program's name ask for.
@@ -153,6 +154,10 @@ fn subcommand_named(name: &str) -> Option<Subcommand>
         Some(Subcommand::TopUp)
     } else if name == "balance" {
         Some(Subcommand::Balance)
+    } else if name == "settle" {
+        Some(Subcommand::Settle)
+    } else if name == "decide" {
+        Some(Subcommand::Decide)
     } else {
         None
     }
@@ -169,26 +174,11 @@ fn job_asked(alloc: Global, subcommand: Subcommand, found: &ArgMatches<'_>) -> R
             Ok(file) => Ok(Job::Replay(file_of(file))),
             Err(fault) => Err(fault),
         },
-        Subcommand::Plan => match text_given(alloc, found, "messages") {
-            Ok(messages) => Ok(Job::Plan(messages, is_given(found, "long"))),
-            Err(fault) => Err(fault),
-        },
-        Subcommand::Quote => match text_given(alloc, found, "config") {
-            Ok(config) => Ok(Job::Quote(config, is_given(found, "verbose"))),
-            Err(fault) => Err(fault),
-        },
-        Subcommand::Loop => match send_args_of(alloc, found) {
-            Ok(order) => Ok(Job::Loop(order)),
-            Err(fault) => Err(fault),
-        },
-        Subcommand::Send => match send_args_of(alloc, found) {
-            Ok(order) => Ok(Job::Send(order)),
-            Err(fault) => Err(fault),
-        },
-        Subcommand::Resume => match resume_args_of(alloc, found) {
-            Ok(order) => Ok(Job::Resume(order)),
-            Err(fault) => Err(fault),
-        },
+        Subcommand::Plan => plan_job_of(alloc, found),
+        Subcommand::Quote => quote_job_of(alloc, found),
+        Subcommand::Loop => loop_job_of(alloc, found),
+        Subcommand::Send => send_job_of(alloc, found),
+        Subcommand::Resume => resume_job_of(alloc, found),
         Subcommand::Stop => match text_given(alloc, found, "journal") {
             Ok(journal) => Ok(Job::Stop(journal)),
             Err(fault) => Err(fault),
@@ -200,11 +190,37 @@ fn job_asked(alloc: Global, subcommand: Subcommand, found: &ArgMatches<'_>) -> R
         Subcommand::Audit => audit_job_of(alloc, found),
         Subcommand::TopUp => top_up_job_of(alloc, found),
         Subcommand::Balance => balance_job_of(alloc, found),
+        Subcommand::Settle => settle_job_of(alloc, found),
+        Subcommand::Decide => decide_job_of(alloc, found),
+    }
+}
+
+/// The job of `plan`.
+fn plan_job_of(alloc: Global, found: &ArgMatches<'_>) -> Result<Job, Fault>
+    ensures job { IfOk result (AsksFor Plan (rows_of (found_of found.now))) }
+    ensures refused { IfErr result (RefusesFor (IsRefused Plan (rows_of (found_of found.now)))) }
+{
+    let (long, refs) = (is_given(found, "long"), is_given(found, "refs"));
+    match text_given(alloc, found, "messages") {
+        Ok(messages) => Ok(Job::Plan(messages, long, refs)),
+        Err(fault) => Err(fault),
+    }
+}
+
+/// The job of `quote`.
+fn quote_job_of(alloc: Global, found: &ArgMatches<'_>) -> Result<Job, Fault>
+    ensures job { IfOk result (AsksFor Quote (rows_of (found_of found.now))) }
+    ensures refused { IfErr result (RefusesFor (IsRefused Quote (rows_of (found_of found.now)))) }
+{
+    let (verbose, refs) = (is_given(found, "verbose"), is_given(found, "refs"));
+    match text_given(alloc, found, "config") {
+        Ok(config) => Ok(Job::Quote(config, verbose, refs)),
+        Err(fault) => Err(fault),
     }
 }
 
 /// What `loop` or `send` is asked for.
-fn send_args_of(alloc: Global, found: &ArgMatches<'_>) -> Result<SendArgs, Fault>
+pub(crate) fn send_args_of(alloc: Global, found: &ArgMatches<'_>) -> Result<SendArgs, Fault>
     ensures order { IfOk result (AsksToSend (rows_of (found_of found.now))) }
     ensures refused { IfErr result (RefusesFor (AreRefusedArgs (rows_of (found_of found.now)))) }
 {
@@ -225,6 +241,7 @@ fn send_args_of(alloc: Global, found: &ArgMatches<'_>) -> Result<SendArgs, Fault
             throttle,
             again,
             strict: is_given(found, "strict"),
+            refs: is_given(found, "refs"),
         }),
         Err(fault) => {
             drop(journal);
@@ -234,7 +251,7 @@ fn send_args_of(alloc: Global, found: &ArgMatches<'_>) -> Result<SendArgs, Fault
 }
 
 /// What `resume` is asked for.
-fn resume_args_of(alloc: Global, found: &ArgMatches<'_>) -> Result<ResumeArgs, Fault>
+pub(crate) fn resume_args_of(alloc: Global, found: &ArgMatches<'_>) -> Result<ResumeArgs, Fault>
     ensures order { IfOk result (AsksToResume (rows_of (found_of found.now))) }
     ensures refused { IfErr result (RefusesFor (AreRefusedResumeArgs (rows_of (found_of found.now)))) }
 {
@@ -244,6 +261,7 @@ fn resume_args_of(alloc: Global, found: &ArgMatches<'_>) -> Result<ResumeArgs, F
     };
     let (quiet, verbose) = (is_given(found, "quiet"), is_given(found, "verbose"));
     let (sync, strict) = (is_given(found, "sync"), is_given(found, "strict"));
+    let refs = is_given(found, "refs");
     match names_of(alloc, found, "journal") {
         Ok((config, name)) => Ok(ResumeArgs {
             config,
@@ -253,45 +271,9 @@ fn resume_args_of(alloc: Global, found: &ArgMatches<'_>) -> Result<ResumeArgs, F
             throttle,
             again,
             strict,
+            refs,
         }),
         Err(fault) => Err(fault),
-    }
-}
-
-/// What bounds a sending, and how often it goes on.
-fn pace_of(found: &ArgMatches<'_>) -> Result<(Throttle, Option<Again>), Fault>
-    ensures pace { IfOk result (λ pace. HasThrottle (rows_of (found_of found.now)) pace.0 × AsksAgain (rows_of (found_of found.now)) pace.1) }
-    ensures refused { IfErr result (λ fault. IsWords fault × IsWrongPace (rows_of (found_of found.now))) }
-{
-    let throttle = match throttle_of(found) {
-        Ok(throttle) => throttle,
-        Err(option) => return Err(Fault::Words(ArgumentError::Number(option))),
-    };
-    match again_of(found) {
-        Ok(again) => Ok((throttle, again)),
-        Err(why) => Err(Fault::Words(why)),
-    }
-}
-
-/// How often a sending goes on in a further round. How long it waits before can't be asked without that.
-fn again_of(found: &ArgMatches<'_>) -> Result<Option<Again>, ArgumentError>
-    ensures again { IfOk result (AsksAgain (rows_of (found_of found.now))) }
-    ensures refused { IsErr result → IsWrongPace (rows_of (found_of found.now)) }
-{
-    let Some(most) = number_given(found, "again", MOST_ROUNDS) else {
-        return Err(ArgumentError::Number(NumberOption::Again));
-    };
-    let Some(wait_ms) = number_given(found, "again-ms", MOST_WAIT_MS) else {
-        return Err(ArgumentError::Number(NumberOption::AgainMs));
-    };
-    match (most, wait_ms) {
-        (Some(most), Some(wait_ms)) => Ok(Some(Again { most, wait_ms })),
-        (Some(most), None) => Ok(Some(Again {
-            most,
-            wait_ms: USUAL_WAIT_MS,
-        })),
-        (None, Some(_)) => Err(ArgumentError::AgainMsAlone),
-        (None, None) => Ok(None),
     }
 }
 
@@ -307,27 +289,6 @@ fn journal_of(alloc: Global, found: &ArgMatches<'_>) -> Result<Option<JournalFil
         Ok(None) => Ok(None),
         Err(fault) => Err(fault),
     }
-}
-
-/// What bounds a sending; or the first option whose number is out of range.
-fn throttle_of(found: &ArgMatches<'_>) -> Result<Throttle, NumberOption>
-    ensures throttle { IfOk result (HasThrottle (rows_of (found_of found.now))) }
-    ensures refused { IfErr result (λ option. IsWrongNumber option (rows_of (found_of found.now))) }
-{
-    let Some(connect_ms) = number_given(found, "connect-ms", MOST_CONNECT_MS) else {
-        return Err(NumberOption::ConnectMs);
-    };
-    let Some(rate) = number_given(found, "rate", MOST_RATE) else {
-        return Err(NumberOption::Rate);
-    };
-    let Some(stop_after) = number_given(found, "stop-after", MOST_UNANSWERED) else {
-        return Err(NumberOption::StopAfter);
-    };
-    Ok(Throttle {
-        connect_ms,
-        rate,
-        stop_after,
-    })
 }
 
 /// The file of this name; `-` is standard input, which is none.

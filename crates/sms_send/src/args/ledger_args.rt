@@ -7,7 +7,7 @@ ghost use Rattle.sms_send.specs.declared.faults.fault.Fault.TheVariants.{OutOfMe
 ghost use Rattle.sms_send.specs.declared.args.job.Subcommand.TheVariants.{Balance, TopUp};
 
 use crate::args::job::Job;
-use crate::args::values::{text_given, text_if_given};
+use crate::args::values::{is_given, text_given, text_if_given};
 use crate::faults::argument_error::ArgumentError;
 use crate::faults::fault::Fault;
 use clap::ArgMatches;
@@ -23,6 +23,8 @@ const MOST_CREDITS: u64 = 0x100_0000_0000;
 pub struct TopUpArgs {
     /// The name of the ledger's file. It is made if it isn't there.
     pub ledger: String,
+    /// Whether it is a ledger of trials.
+    pub trial: bool,
     /// What is paid.
     pub payment: Payment,
 }
@@ -59,7 +61,11 @@ fn top_up_args_of(alloc: Global, found: &ArgMatches<'_>) -> Result<TopUpArgs, Fa
         Err(fault) => return Err(fault),
     };
     match text_given(alloc, found, "ledger") {
-        Ok(ledger) => Ok(TopUpArgs { ledger, payment }),
+        Ok(ledger) => Ok(TopUpArgs {
+            ledger,
+            trial: is_given(found, "trial"),
+            payment,
+        }),
         Err(fault) => {
             drop(payment);
             Err(fault)

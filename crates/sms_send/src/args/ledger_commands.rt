@@ -4,7 +4,7 @@ ghost use Rattle.std.specs.Prelude.{IfOk};
 ghost use Rattle.sms_send.specs.CommandLine.{IsLine, balance_line, topup_line};
 
 use crate::args::command_line::{
-    file_option, name_argument, subcommand, value_option, verbose_flag, with_argument,
+    file_option, flag, name_argument, subcommand, value_option, verbose_flag, with_argument,
 };
 use clap::Command;
 use std::alloc::{AllocError, Global};
@@ -22,6 +22,11 @@ pub(crate) fn topup_command<'a>(alloc: Global) -> Result<Command<'a>, AllocError
         "REF",
         "The payment's own name, by which it is booked once however often this is typed",
     );
+    let trial = flag(
+        alloc,
+        "trial",
+        "The ledger is one of trials, for loop alone",
+    );
     let begun = subcommand(
         alloc,
         "topup",
@@ -31,7 +36,8 @@ pub(crate) fn topup_command<'a>(alloc: Global) -> Result<Command<'a>, AllocError
     let named = with_argument(filed, account);
     let counted = with_argument(named, credits);
     let referred = with_argument(counted, reference);
-    with_argument(referred, verbose_flag(alloc))
+    let tried = with_argument(referred, trial);
+    with_argument(tried, verbose_flag(alloc))
 }
 
 /// The subcommand `balance`.

@@ -34,6 +34,7 @@ fn recover_args_of(alloc: Global, found: &ArgMatches<'_>) -> Result<RecoverArgs,
             config,
             journal,
             trial: is_given(found, "trial"),
+            refs: is_given(found, "refs"),
         }),
         Err(fault) => Err(fault),
     }
@@ -60,6 +61,7 @@ fn rest_args_of(alloc: Global, found: &ArgMatches<'_>) -> Result<RestArgs, Fault
             config,
             report,
             accounts: is_given(found, "accounts"),
+            refs: is_given(found, "refs"),
         }),
         Err(fault) => Err(fault),
     }
@@ -97,6 +99,7 @@ fn list_args_of(alloc: Global, found: &ArgMatches<'_>, listing: Listing) -> Resu
             config,
             journal,
             listing,
+            refs: is_given(found, "refs"),
         }),
         Err(fault) => Err(fault),
     }
@@ -119,7 +122,11 @@ fn audit_args_of(alloc: Global, found: &ArgMatches<'_>) -> Result<AuditArgs, Fau
     ensures refused { IfErr result (RefusesFor (LacksName (codes "report") (rows_of (found_of found.now)))) }
 {
     match names_of(alloc, found, "report") {
-        Ok((config, report)) => Ok(AuditArgs { config, report }),
+        Ok((config, report)) => Ok(AuditArgs {
+            config,
+            report,
+            refs: is_given(found, "refs"),
+        }),
         Err(fault) => Err(fault),
     }
 }

@@ -3,7 +3,9 @@
 ghost use Rattle.std.specs.Prelude.{IfOk};
 ghost use Rattle.sms_send.specs.CommandLine.{IsLine, audit_line, bill_line, doubtful_line, list_line, recover_line, rest_line};
 
-use crate::args::command_line::{file_option, flag, subcommand, verbose_flag, with_argument};
+use crate::args::command_line::{
+    file_option, flag, refs_flag, subcommand, verbose_flag, with_argument,
+};
 use clap::Command;
 use std::alloc::{AllocError, Global};
 
@@ -26,7 +28,8 @@ pub(crate) fn recover_command<'a>(alloc: Global) -> Result<Command<'a>, AllocErr
     let configured = with_argument(Ok(begun), config);
     let noted = with_argument(configured, journal);
     let tried = with_argument(noted, trial);
-    with_argument(tried, verbose_flag(alloc))
+    let referred = with_argument(tried, refs_flag(alloc));
+    with_argument(referred, verbose_flag(alloc))
 }
 
 /// The subcommand `rest`.
@@ -48,7 +51,8 @@ pub(crate) fn rest_command<'a>(alloc: Global) -> Result<Command<'a>, AllocError>
     let configured = with_argument(Ok(begun), config);
     let reported = with_argument(configured, report);
     let counted = with_argument(reported, accounts);
-    with_argument(counted, verbose_flag(alloc))
+    let referred = with_argument(counted, refs_flag(alloc));
+    with_argument(referred, verbose_flag(alloc))
 }
 
 /// A subcommand of this name over a run's journal.
@@ -60,7 +64,8 @@ fn list_command<'a>(alloc: Global, name: &'a str, about: &'a str) -> Result<Comm
     let begun = subcommand(alloc, name, about);
     let configured = with_argument(Ok(begun), config);
     let noted = with_argument(configured, journal);
-    with_argument(noted, verbose_flag(alloc))
+    let referred = with_argument(noted, refs_flag(alloc));
+    with_argument(referred, verbose_flag(alloc))
 }
 
 /// The subcommand `bill`.
@@ -98,5 +103,6 @@ pub(crate) fn audit_command<'a>(alloc: Global) -> Result<Command<'a>, AllocError
     );
     let configured = with_argument(Ok(begun), config);
     let reported = with_argument(configured, report);
-    with_argument(reported, verbose_flag(alloc))
+    let referred = with_argument(reported, refs_flag(alloc));
+    with_argument(referred, verbose_flag(alloc))
 }

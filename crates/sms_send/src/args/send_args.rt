@@ -19,6 +19,8 @@ pub struct SendArgs {
     pub again: Option<Again>,
     /// Whether the exit status says that a message was not sent whole.
     pub strict: bool,
+    /// Whether the messages have a column `ref`.
+    pub refs: bool,
 }
 
 /// A further round of a run as the command line asks for it.
@@ -38,6 +40,8 @@ pub struct ResumeArgs {
     pub again: Option<Again>,
     /// Whether the exit status says that a message was not sent whole.
     pub strict: bool,
+    /// Whether the messages have a column `ref`.
+    pub refs: bool,
 }
 
 /// When a sending goes on in a further round: where messages are left of which nothing was begun.
@@ -67,6 +71,8 @@ pub struct RecoverArgs {
     pub journal: String,
     /// Whether the journal may be of a trial.
     pub trial: bool,
+    /// Whether the messages have a column `ref`.
+    pub refs: bool,
 }
 
 /// What a run left as the command line asks for it.
@@ -78,6 +84,8 @@ pub struct RestArgs {
     pub report: String,
     /// Whether the accounts are asked for, and not the messages.
     pub accounts: bool,
+    /// Whether the messages have a column `ref`.
+    pub refs: bool,
 }
 
 /// What is listed of a run as the command line asks for it.
@@ -89,6 +97,8 @@ pub struct ListArgs {
     pub journal: String,
     /// What is listed.
     pub listing: Listing,
+    /// Whether the messages have a column `ref`, which is printed behind the others.
+    pub refs: bool,
 }
 
 /// A run as the command line asks for it to be audited.
@@ -98,6 +108,8 @@ pub struct AuditArgs {
     pub config: String,
     /// The name of its report.
     pub report: String,
+    /// Whether the messages have a column `ref`.
+    pub refs: bool,
 }
 
 /// What bounds a sending. Without its option nothing does.

@@ -31,4 +31,6 @@ pub enum ArgumentError {
     Credits,
     /// The text of `--ref` is the name of no payment.
     Reference,
+    /// `--ledger` was given to a sending without `--journal`.
+    LedgerAlone,
 }

@@ -4,7 +4,9 @@
 ghost use Rattle.std.specs.Prelude.{◌≡◌, ◌||◌};
 
 use crate::args::job::Job;
-use crate::args::send_args::{JournalFile, SendArgs};
+use crate::args::ledger_run_args::SettleArgs;
+use crate::args::send_args::{JournalFile, ResumeArgs, SendArgs};
+use crate::sending::target::TargetKind;
 use sms_files::{Config, FileNames, Source};
 use std::alloc::Global;
 
@@ -21,6 +23,16 @@ pub enum JobKind {
     Resume,
     /// It sends none: it books a payment.
     TopUp,
+}
+
+impl JobKind {
+    /// What a sending to such a centre does.
+    fn of(kind: TargetKind) -> JobKind {
+        match kind {
+            TargetKind::Loopback => JobKind::Loop,
+            TargetKind::Remote => JobKind::Send,
+        }
+    }
 }
 
 /// The message centre of a bind.
@@ -132,15 +144,11 @@ impl JobContext {
         match job {
             Job::Replay(None) => {}
             Job::Replay(Some(name)) => self.names.schedule = kept(alloc, name.as_str()),
-            Job::Plan(name, _) => self.names.messages = kept(alloc, name.as_str()),
-            Job::Quote(config, _) => self.names.config = kept(alloc, config.as_str()),
+            Job::Plan(name, _, _) => self.names.messages = kept(alloc, name.as_str()),
+            Job::Quote(config, _, _) => self.names.config = kept(alloc, config.as_str()),
             Job::Loop(order) => self.note_sending(alloc, JobKind::Loop, order),
             Job::Send(order) => self.note_sending(alloc, JobKind::Send, order),
-            Job::Resume(order) => {
-                self.kind = JobKind::Resume;
-                self.names.config = kept(alloc, order.config.as_str());
-                self.names.journal = kept(alloc, order.journal.name.as_str());
-            }
+            Job::Resume(order) => self.note_resume(alloc, order),
             Job::Stop(journal) => self.names.journal = kept(alloc, journal.as_str()),
             Job::Recover(order) => {
                 self.names.config = kept(alloc, order.config.as_str());
@@ -158,11 +166,29 @@ impl JobContext {
                 self.names.config = kept(alloc, order.config.as_str());
                 self.names.report = kept(alloc, order.report.as_str());
             }
+            _ => self.note_ledger_job(alloc, job),
+        }
+    }
+
+    /// Notes what they say of a job over a ledger.
+    fn note_ledger_job(&mut self, alloc: Global, job: &Job) {
+        match job {
             Job::TopUp(order) => {
                 self.kind = JobKind::TopUp;
                 self.names.ledger = kept(alloc, order.ledger.as_str());
             }
             Job::Balance(ledger) => self.names.ledger = kept(alloc, ledger.as_str()),
+            Job::SendOn(kind, ledger, order) => {
+                self.note_sending(alloc, JobKind::of(*kind), order);
+                self.names.ledger = kept(alloc, ledger.as_str());
+            }
+            Job::ResumeOn(ledger, order) => {
+                self.note_resume(alloc, order);
+                self.names.ledger = kept(alloc, ledger.as_str());
+            }
+            Job::Settle(order) => self.note_settling(alloc, order),
+            Job::Decide(order) => self.note_settling(alloc, &order.run),
+            _ => {}
         }
     }
 
@@ -173,6 +199,20 @@ impl JobContext {
         self.names.journal = journal_name(alloc, &order.journal);
     }
 
+    /// Notes what they say of a run that goes on.
+    fn note_resume(&mut self, alloc: Global, order: &ResumeArgs) {
+        self.kind = JobKind::Resume;
+        self.names.config = kept(alloc, order.config.as_str());
+        self.names.journal = kept(alloc, order.journal.name.as_str());
+    }
+
+    /// Notes what they say of a run that is settled.
+    fn note_settling(&mut self, alloc: Global, order: &SettleArgs) {
+        self.names.config = kept(alloc, order.config.as_str());
+        self.names.journal = kept(alloc, order.journal.as_str());
+        self.names.ledger = kept(alloc, order.ledger.as_str());
+    }
+
     /// Notes what the config says: the files that it names, and the message centre where messages go to that.
     pub fn note_config(&mut self, alloc: Global, config: &Config) {
         self.note_files(alloc, &config.files);
@@ -180,6 +220,15 @@ impl JobContext {
             let connection = &config.connection;
             self.centre = centre_of(alloc, connection.host.as_str(), connection.port);
         }
+    }
+
+    /// Notes that the accounts are those of the ledger.
+    pub fn note_ledger_accounts(&mut self, alloc: Global) {
+        let name = match text_of(&self.names.ledger) {
+            Some(name) => kept(alloc, name),
+            None => None,
+        };
+        self.names.accounts = name;
     }
 
     /// Notes the files that the config names.

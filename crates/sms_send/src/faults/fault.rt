@@ -7,6 +7,7 @@ ghost use Rattle.sms_send.specs.Shown.{shown};
 
 use crate::faults::argument_error::ArgumentError;
 use crate::faults::details::shown::write_shown;
+use crate::faults::ledger_run::{LedgerRunFlaw, Unsettled};
 use sms_devices::{JournalFailure, LedgerFailure, Reason};
 use sms_driver::{BindFailure, SendFault};
 use sms_files::memory::NoMemory;
@@ -81,6 +82,14 @@ pub enum Fault {
     BadEntry(usize, Option<Refusal>),
     /// A ledger refuses the payment for this cause.
     Payment(Refusal),
+    /// A ledger refuses an entry of a run for this cause.
+    Booking(Refusal),
+    /// The record of a decisions file, counted from 1, decides of no part that is in doubt.
+    BadDecision(usize),
+    /// The run isn't one of the ledger that is asked for, and this is why.
+    LedgerRun(LedgerRunFlaw),
+    /// The run's statement could not be booked behind its report, and this is why. All else was done.
+    Unsettled(Unsettled),
     /// What is to be printed can't be written.
     Output(Unwritten),
     /// Memory was refused, or a thread, and nothing was sent.
@@ -119,15 +128,17 @@ impl fmt::Display for Fault {
             | Fault::Unbegun(_)
             | Fault::Journal(_)
             | Fault::Overdrawn => f.write_str("fault: journal"),
-            Fault::Trial => {
-                f.write_str("fault: journal of a trial: no message centre saw any of it")
-            }
+            Fault::Trial => write_trial(f),
             Fault::OtherFile(_) | Fault::OtherAttempts | Fault::OtherReference => {
                 f.write_str("fault: journal record 1")
             }
             Fault::Ledger(_) => f.write_str("fault: ledger"),
             Fault::BadEntry(place, _) => write_record(f, "ledger", *place),
             Fault::Payment(_) => f.write_str("fault: payment"),
+            Fault::Booking(_) => f.write_str("fault: booking"),
+            Fault::BadDecision(place) => write_record(f, "decisions", *place),
+            Fault::LedgerRun(_) => f.write_str("fault: ledger run"),
+            Fault::Unsettled(_) => f.write_str("fault: unsettled"),
             Fault::Output(_) => f.write_str("fault: output"),
             Fault::OutOfMemory | Fault::Unreported(_) => f.write_str("fault: out of memory"),
         }
@@ -140,6 +151,13 @@ fn write_named<W: fmt::Write>(f: &mut fmt::Formatter<W>, what: &str, name: &str)
 {
     f.write_str(what)?;
     write_shown(f, name)
+}
+
+/// The line of a journal of a trial.
+fn write_trial<W: fmt::Write>(f: &mut fmt::Formatter<W>) -> fmt::Result
+    ensures { WritesOnOk W.write_str_gives f.old result (codes "fault: journal of a trial: no message centre saw any of it") f.new }
+{
+    f.write_str("fault: journal of a trial: no message centre saw any of it")
 }
 
 /// The line of what can't be read, by the name of its source.
@@ -202,6 +220,16 @@ impl<T: Drop> From<AllocFailed<T>> for Fault {
     ghost from_gives = { λ _ f. f ≡ OutOfMemory };
 
     fn from(_e: AllocFailed<T>) -> Fault {
+        Fault::OutOfMemory
+    }
+}
+
+impl From<NoMemory> for Fault {
+    ghost use Rattle.sms_send.specs.declared.faults.fault.Fault.TheVariants.{OutOfMemory};
+
+    ghost from_gives = { λ _ f. f ≡ OutOfMemory };
+
+    fn from(_refused: NoMemory) -> Fault {
         Fault::OutOfMemory
     }
 }

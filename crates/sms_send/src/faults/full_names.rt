@@ -3,7 +3,7 @@
 
 ghost use Rattle.std.specs.Prelude.{◌≡◌, None, Some, IfErr, IfOk, option_map, string_bytes, if◌then◌else◌};
 ghost use Rattle.sms_send.specs.FilesRead.{file_lines};
-ghost use Rattle.sms_send.specs.CommandLine.{bytes_of};
+ghost use Rattle.sms_send.specs.Words.{bytes_of};
 ghost use Rattle.sms_send.specs.FullNames.{IsFullIfNamed, AreFileLines, AreLinesIfKept};
 ghost use Rattle.sms_send.specs.declared.faults.fault.Fault.TheVariants.{OutOfMemory};
 

@@ -113,7 +113,7 @@ fn digests_in(config: &[u8], named: &NamedFiles) -> Digests
 
 /// What the octets of files say beside a config of these octets, and their digests, which are made in a thread of
 /// their own: they take as long as the records.
-fn read_digested<R: Threads>(
+pub(crate) fn read_digested<R: Threads>(
     rt: &R,
     alloc: Global,
     octets: &[u8],

@@ -3,11 +3,13 @@
 ghost use Rattle.std.specs.Prelude.{◌≡◌, ◌≢◌, IfErr, IfOk};
 ghost use Rattle.sms_send.specs.Audited.{AuditsBy, FailsAudit, FailsAuditJob, PrintsRun};
 ghost use Rattle.sms_send.specs.Faults.{output_failed};
+ghost use Rattle.sms_send.specs.PlainFiles.{sees};
 
 use crate::args::send_args::AuditArgs;
 use crate::faults::context::JobContext;
 use crate::faults::fault::Fault;
 use crate::files::opened::InputFiles;
+use crate::files::plain_files::PlainFiles;
 use crate::files::run_files::{RunFiles, read_run};
 use sms_journal::run_audit;
 use std::alloc::Global;
@@ -21,11 +23,15 @@ pub fn audit_job<R: AllocGlobal + InputFiles, W: Write>(
     output: &mut W,
 ) -> Result<u8, Fault>
     ensures status { IfOk result (λ status. status ≡ 0) }
-    ensures printed { IfOk result (λ status. AuditsBy (R.finds rt.now) order (W.contents output.old) (W.contents output.new)) }
-    ensures refused { IfErr result (FailsAuditJob (R.finds rt.now) order (W.contents output.old) (W.contents output.new)) }
+    ensures printed { IfOk result (λ status. AuditsBy (sees order.refs (R.finds rt.now)) order (W.contents output.old) (W.contents output.new)) }
+    ensures refused { IfErr result (FailsAuditJob (sees order.refs (R.finds rt.now)) order (W.contents output.old) (W.contents output.new)) }
     ensures unwritten { IfErr result (λ fault. fault ≢ output_failed → output.new ≡ output.old) }
 {
-    match read_run(rt, context, order.config, order.report) {
+    let seen = PlainFiles {
+        rt,
+        refs: order.refs,
+    };
+    match read_run(&seen, context, order.config, order.report) {
         Ok(run) => audited(rt.alloc(), &run, output),
         Err(fault) => Err(fault),
     }

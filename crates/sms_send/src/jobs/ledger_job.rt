@@ -7,10 +7,12 @@ ghost use Rattle.sms_ledger.specs.Balance.{account_text, balance_text};
 ghost use Rattle.sms_ledger.specs.InMemory.{state_in};
 ghost use Rattle.sms_send.specs.Faults.{fault_of_opening as opening_fault, fault_of_use as use_fault, output_failed};
 ghost use Rattle.sms_send.specs.declared.faults.fault.Fault.TheVariants.{OutOfMemory};
+ghost use Rattle.sms_send.specs.LedgerKinds.{kind_said};
 ghost use Rattle.sms_send.specs.Ledgers.{Books, FailsBalance, FailsBooking, FailsReading, FailsToKeep, FailsToTake, FailsTopUp, HasLine, IsRead, LacksLine, PrintsBalance, Takes, TopsUp};
 
 use crate::args::ledger_args::TopUpArgs;
 use crate::faults::fault::Fault;
+use crate::jobs::ledger_kind::kind_of;
 use sms_devices::{HeldFile, LedgerFailure, LedgerFiles, append_text, unix_ms};
 use sms_files::write_out;
 use sms_ledger::{Ledger, Payment, whole_len, with_header};
@@ -19,9 +21,10 @@ use std::io::Write;
 use std::time::Clock;
 
 /// A ledger that was read of its file.
-struct ReadLedger {
-    octets: Vec<u8>,
-    ledger: Ledger,
+#[derive(Drop)]
+pub(crate) struct ReadLedger {
+    pub(crate) octets: Vec<u8>,
+    pub(crate) ledger: Ledger,
 }
 
 /// What is appended for a payment, and what is printed of it.
@@ -42,7 +45,7 @@ fn fault_of_use(why: LedgerFailure) -> Fault
 }
 
 /// The fault of a ledger's file of this name that can't be had.
-fn fault_of_opening(name: String, why: LedgerFailure) -> Fault
+pub(crate) fn fault_of_opening(name: String, why: LedgerFailure) -> Fault
     ensures { result ≡ opening_fault name why }
 {
     match why {
@@ -52,7 +55,7 @@ fn fault_of_opening(name: String, why: LedgerFailure) -> Fault
 }
 
 /// The ledger of a file that is held.
-fn read_ledger<F: HeldFile>(alloc: Global, file: &F) -> Result<ReadLedger, Fault>
+pub(crate) fn read_ledger<F: HeldFile>(alloc: Global, file: &F) -> Result<ReadLedger, Fault>
     ensures read { IfOk result (λ read. IsRead F.octets file.now read.octets.items (state_in read.ledger)) }
     ensures refused { IfErr result (FailsReading F.errs F.octets file.now) }
 {
@@ -120,7 +123,7 @@ fn keep<F: HeldFile>(file: &mut F) -> Result<(), Fault>
 }
 
 /// Appends a line to a file of which these octets were read, if there is one, and makes durable what stands there.
-fn put_line<F: HeldFile>(
+pub(crate) fn put_line<F: HeldFile>(
     alloc: Global,
     file: &mut F,
     octets: &[u8],
@@ -182,7 +185,7 @@ fn book_payment<F: HeldFile>(
 }
 
 /// Prints a text. The exit status is 0.
-fn print<W: Write>(output: &mut W, text: &str) -> Result<u8, Fault>
+pub(crate) fn print<W: Write>(output: &mut W, text: &str) -> Result<u8, Fault>
     ensures status { IfOk result (λ status. status ≡ 0) }
     ensures printed { OnOk result (Appends (W.contents output.old) (W.contents output.new) text.now) }
     ensures front { WritesFront (W.contents output.old) (W.contents output.new) text.now }
@@ -203,11 +206,16 @@ pub fn topup_job<R: AllocGlobal + Clock + LedgerFiles, W: Write>(
 ) -> Result<u8, Fault>
     ensures status { IfOk result (λ status. status ≡ 0) }
     ensures booked { OnOk result (TopsUp (R.holds_ledger rt.now) R.LedgerFile.octets R.LedgerFile.stored R.LedgerFile.opening R.LedgerFile.is_closed order (W.contents output.old) (W.contents output.new)) }
+    ensures kind { OnOk result (R.has_kind rt.now (string_bytes order.ledger) (kind_said order.trial)) }
     ensures refused { IfErr result (FailsTopUp (R.holds_ledger rt.now) (R.lacks_ledger rt.now) R.LedgerFile.errs R.LedgerFile.octets R.LedgerFile.stored R.LedgerFile.opening R.LedgerFile.is_closed order (W.contents output.old) (W.contents output.new)) }
     ensures unwritten { IfErr result (λ fault. fault ≢ output_failed → output.new ≡ output.old) }
 {
-    let TopUpArgs { ledger, payment } = order;
-    let mut file = match rt.open_ledger(ledger.as_str()) {
+    let TopUpArgs {
+        ledger,
+        trial,
+        payment,
+    } = order;
+    let mut file = match rt.open_kind(ledger.as_str(), kind_of(trial), true) {
         Ok(file) => file,
         Err(why) => {
             drop(payment);

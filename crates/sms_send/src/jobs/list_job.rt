@@ -2,16 +2,17 @@
 
 ghost use Rattle.std.specs.Prelude.{◌≡◌, ◌≢◌, IfErr, IfOk};
 ghost use Rattle.sms_send.specs.Faults.{output_failed};
-ghost use Rattle.sms_send.specs.Listed.{FailsListFree, FailsListJob, FailsListing, ListsBy, ListsRun};
+ghost use Rattle.sms_send.specs.Listed.{FailsAsked, FailsListFree, FailsListJob, FailsListing, ListsAsked, ListsBy, ListsRun};
 
 use crate::args::send_args::ListArgs;
 use crate::faults::context::JobContext;
 use crate::faults::fault::Fault;
 use crate::files::opened::InputFiles;
+use crate::files::refs::without_refs;
 use crate::files::run_files::{RunFiles, read_run};
 use crate::jobs::recover_job::fault_of_run;
 use sms_devices::JournalFiles;
-use sms_journal::{Listing, run_listing};
+use sms_journal::{Columns, Listing, run_listing};
 use std::io::Write;
 use std::thread::Threads;
 
@@ -45,28 +46,54 @@ fn list_free<R: AllocGlobal + InputFiles + Threads, W: Write>(
     ensures refused { IfErr result (FailsListFree (R.finds rt.now) order (W.contents output.old) (W.contents output.new)) }
     ensures unwritten { IfErr result (λ fault. fault ≢ output_failed → output.new ≡ output.old) }
 {
-    let listing = order.listing;
+    let (listing, refs) = (order.listing, order.refs);
     let name = match String::from_str(rt.alloc(), order.config.as_str()) {
         Ok(name) => name,
         Err(_) => return Err(Fault::OutOfMemory),
     };
     match read_run(rt, context, order.config, order.journal) {
-        Ok(run) => listed(rt, name.as_str(), &run, listing, output),
+        Ok(run) => list_asked(rt, name.as_str(), run, listing, refs, output),
         Err(fault) => Err(fault),
     }
 }
 
-/// The same of files that were read, by a config of this name.
+/// The same of files that were read, by a config of this name, with or without the references of the messages.
+fn list_asked<R: AllocGlobal + Threads, W: Write>(
+    rt: &R,
+    name: &str,
+    run: RunFiles,
+    listing: Listing,
+    refs: bool,
+    output: &mut W,
+) -> Result<u8, Fault>
+    ensures status { IfOk result (λ status. status ≡ 0) }
+    ensures listed { IfOk result (λ status. ListsAsked listing refs run (W.contents output.old) (W.contents output.new)) }
+    ensures refused { IfErr result (FailsAsked listing refs run (W.contents output.old) (W.contents output.new)) }
+    ensures unwritten { IfErr result (λ fault. fault ≢ output_failed → output.new ≡ output.old) }
+{
+    if !refs {
+        return listed(rt, name, &run, Columns::Usual(listing), output);
+    }
+    match without_refs(rt.alloc(), run) {
+        Ok(plain) => {
+            let columns = Columns::WithRefs(listing, plain.refs.as_slice());
+            listed(rt, name, &plain.files, columns, output)
+        }
+        Err(fault) => Err(fault),
+    }
+}
+
+/// The same with these columns.
 fn listed<R: AllocGlobal + Threads, W: Write>(
     rt: &R,
     name: &str,
     run: &RunFiles,
-    listing: Listing,
+    columns: Columns<'_>,
     output: &mut W,
 ) -> Result<u8, Fault>
     ensures status { IfOk result (λ status. status ≡ 0) }
-    ensures listed { IfOk result (λ status. ListsRun run.now listing (W.contents output.old) (W.contents output.new)) }
-    ensures refused { IfErr result (FailsListing run.now listing (W.contents output.old) (W.contents output.new)) }
+    ensures listed { IfOk result (λ status. ListsRun run.now columns.entry (W.contents output.old) (W.contents output.new)) }
+    ensures refused { IfErr result (FailsListing run.now columns.entry (W.contents output.old) (W.contents output.new)) }
     ensures unwritten { IfErr result (λ fault. fault ≢ output_failed → output.new ≡ output.old) }
 {
     let printed = run_listing(
@@ -76,7 +103,7 @@ fn listed<R: AllocGlobal + Threads, W: Write>(
         run.named.messages.as_slice(),
         run.named.tariff(),
         run.written.as_slice(),
-        listing,
+        columns,
         output,
     );
     match printed {

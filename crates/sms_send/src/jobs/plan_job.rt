@@ -10,11 +10,13 @@ ghost use Rattle.sms_files.specs.PlanText.{kind_of, plan_of};
 ghost use Rattle.sms_send.specs.Faults.{IsReadFault, output_failed};
 ghost use Rattle.sms_send.specs.Jobs.{Plans};
 ghost use Rattle.sms_send.specs.Opened.{OfFile, FailsOpening};
+ghost use Rattle.sms_send.specs.PlainFiles.{sees};
 ghost use Rattle.sms_send.specs.Plans.{IsWarning, FailsPlan, Warns, BeginsWarning, quote_line};
 
 use crate::faults::fault::Fault;
 use crate::files::named_files::whole_of;
 use crate::files::opened::{InputFiles, open};
+use crate::files::plain_files::PlainFiles;
 use crate::jobs::plan::form_plan;
 use crate::terminal::written::write_both;
 use sms_files::{Source, ends_quoted};
@@ -101,17 +103,19 @@ pub fn plan_job<R: AllocGlobal + InputFiles, W: Write, E: Write>(
     rt: &R,
     name: String,
     long: bool,
+    refs: bool,
     output: &mut W,
     error: &mut E,
 ) -> Result<u8, Fault>
     ensures status { IfOk result (λ status. status ≡ 0) }
-    ensures planned { OnOk result (OfFile (R.finds rt.now) (string_bytes name) (λ bytes. Plans long bytes (W.contents output.old) (W.contents output.new))) }
-    ensures warned { OnOk result (OfFile (R.finds rt.now) (string_bytes name) (λ bytes. Warns bytes (E.contents error.old) (E.contents error.new))) }
-    ensures refused { IfErr result (λ fault. FailsOpening (R.finds rt.now) name fault ⊎ OfFile (R.finds rt.now) (string_bytes name) (λ bytes. FailsPlan (records_of bytes) fault)) }
-    ensures front { IfErr result (λ fault. fault ≡ output_failed → OfFile (R.finds rt.now) (string_bytes name) (λ bytes. BeginsWarning bytes (E.contents error.old) (E.contents error.new))) }
+    ensures planned { OnOk result (OfFile (sees refs (R.finds rt.now)) (string_bytes name) (λ bytes. Plans long bytes (W.contents output.old) (W.contents output.new))) }
+    ensures warned { OnOk result (OfFile (sees refs (R.finds rt.now)) (string_bytes name) (λ bytes. Warns bytes (E.contents error.old) (E.contents error.new))) }
+    ensures refused { IfErr result (λ fault. FailsOpening (sees refs (R.finds rt.now)) name fault ⊎ OfFile (sees refs (R.finds rt.now)) (string_bytes name) (λ bytes. FailsPlan (records_of bytes) fault)) }
+    ensures front { IfErr result (λ fault. fault ≡ output_failed → OfFile (sees refs (R.finds rt.now)) (string_bytes name) (λ bytes. BeginsWarning bytes (E.contents error.old) (E.contents error.new))) }
     ensures unwritten { IfErr result (λ fault. fault ≢ output_failed → (output.new ≡ output.old) × (error.new ≡ error.old)) }
 {
-    let file = match open(rt, name) {
+    let files = PlainFiles { rt, refs };
+    let file = match open(&files, name) {
         Ok(file) => file,
         Err(fault) => return Err(fault),
     };

@@ -7,6 +7,7 @@ ghost use Rattle.sms_files.specs.Inputs.{IsFaultOfFiles, IsInput, TellsInput};
 ghost use Rattle.sms_files.specs.Output.{WritesFront};
 ghost use Rattle.sms_send.specs.ConfigFiles.{OfConfig};
 ghost use Rattle.sms_send.specs.Faults.{IsReadFault, output_failed};
+ghost use Rattle.sms_send.specs.PlainFiles.{sees};
 ghost use Rattle.sms_send.specs.Quoted.{FailsQuote, FailsQuoteJob, FailsQuoting, BeginsAsAsked, HasQuote, BeginsNamedWarnings, PrintsQuote, Quotes, QuotesAsAsked, QuotesFiles, BeginsWarnings, QuotesNamed, warnings_of};
 ghost use Rattle.sms_send.specs.Reading.{IsInputBy};
 
@@ -16,6 +17,7 @@ use crate::faults::full_names::{FullNames, lines_at, name_at};
 use crate::files::config_file::{ConfigFile, read_config};
 use crate::files::open_input::{OpenInput, open_input};
 use crate::files::opened::InputFiles;
+use crate::files::plain_files::PlainFiles;
 use crate::files::reading::{parse_config, read_files};
 use crate::terminal::written::write_both;
 use sms_devices::Screen;
@@ -160,16 +162,18 @@ pub fn quote_job<R: AllocGlobal + FullNames + InputFiles + Screen, W: Write, E: 
     context: &mut JobContext,
     config: String,
     verbose: bool,
+    refs: bool,
     output: &mut W,
     error: &mut E,
 ) -> Result<u8, Fault>
     ensures status { IfOk result (λ status. status ≡ 0) }
-    ensures quoted { OnOk result (OfConfig (R.finds rt.now) (string_bytes config) (QuotesFiles (R.finds rt.now) (W.contents output.old) (W.contents output.new))) }
-    ensures beside { OnOk result (QuotesAsAsked (R.finds rt.now) (R.is_full rt.now) (R.details rt.now) config verbose (W.contents output.old) (W.contents output.new) (E.contents error.old) (E.contents error.new)) }
-    ensures refused { IfErr result (FailsQuoteJob (R.finds rt.now) config (W.contents output.old) (W.contents output.new)) }
-    ensures front { IfErr result (λ fault. fault ≡ output_failed → BeginsAsAsked (R.finds rt.now) (R.is_full rt.now) (R.details rt.now) config verbose (E.contents error.old) (E.contents error.new)) }
+    ensures quoted { OnOk result (OfConfig (sees refs (R.finds rt.now)) (string_bytes config) (QuotesFiles (sees refs (R.finds rt.now)) (W.contents output.old) (W.contents output.new))) }
+    ensures beside { OnOk result (QuotesAsAsked (sees refs (R.finds rt.now)) (R.is_full rt.now) (R.details rt.now) config verbose (W.contents output.old) (W.contents output.new) (E.contents error.old) (E.contents error.new)) }
+    ensures refused { IfErr result (FailsQuoteJob (sees refs (R.finds rt.now)) config (W.contents output.old) (W.contents output.new)) }
+    ensures front { IfErr result (λ fault. fault ≡ output_failed → BeginsAsAsked (sees refs (R.finds rt.now)) (R.is_full rt.now) (R.details rt.now) config verbose (E.contents error.old) (E.contents error.new)) }
     ensures unwritten { IfErr result (λ fault. fault ≢ output_failed → (output.new ≡ output.old) × (error.new ≡ error.old)) }
 {
+    let files = PlainFiles { rt, refs };
     let at_length = is_at_length(rt.has_details(), verbose);
-    quote_config(rt, context, config, at_length, output, error)
+    quote_config(&files, context, config, at_length, output, error)
 }

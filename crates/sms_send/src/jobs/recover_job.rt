@@ -1,11 +1,12 @@
 //! The jobs of `recover` and `rest`: what is left of a run, by its journal or its report.
 
-ghost use Rattle.std.specs.Prelude.{◌≡◌, ◌≢◌, ◌⊎◌, IfErr, IfOk, MatchOption, None, OnOk, Some, false, string_bytes, true};
+ghost use Rattle.std.specs.Prelude.{◌≡◌, ◌≢◌, ◌⊎◌, IfErr, IfOk, MatchOption, None, OnOk, Some, false, option_copied, string_bytes, true};
 ghost use Rattle.sms_journal.specs.declared.text.header.JournalKind.TheVariants.{Trial};
 ghost use Rattle.sms_journal.specs.declared.recovery.recovering.Recovered.{Recovered as IsDone};
 ghost use Rattle.sms_files.specs.Output.{WritesFront};
+ghost use Rattle.sms_send.specs.PlainFiles.{sees};
 ghost use Rattle.sms_send.specs.Statuses.{IsStatus};
-ghost use Rattle.sms_send.specs.Recovered.{LosesTrial, PrintsLeft, RecoversAndWarns, RecoversBy, RecoversRun, WritesKind, FailsRest, IsOfOtherFile, FailsRecovering, FailsRecoverFree, FailsRecoverJob, FailsRestJob, name_of, trial_line};
+ghost use Rattle.sms_send.specs.Recovered.{LosesTrial, PrintsAsked, PrintsLeft, RecoversAndWarns, RecoversBy, RecoversRun, WritesKind, FailsRest, FailsRestAsked, IsOfOtherFile, FailsRecovering, FailsRecoverFree, FailsRecoverJob, FailsRestJob, name_of, trial_line};
 ghost use Rattle.sms_send.specs.Runs.{IsRun};
 ghost use Rattle.sms_send.specs.Faults.{IsFaultOfRecovery, output_failed};
 ghost use Rattle.sms_send.specs.declared.files.run_files.RunFiles.{RunFiles as TheRunFiles};
@@ -14,6 +15,8 @@ use crate::args::send_args::{RecoverArgs, RestArgs};
 use crate::faults::context::JobContext;
 use crate::faults::fault::Fault;
 use crate::files::opened::InputFiles;
+use crate::files::plain_files::PlainFiles;
+use crate::files::refs::without_refs;
 use crate::files::run_files::{RunFiles, read_run};
 use sms_devices::JournalFiles;
 use sms_files::{FileNames, write_out};
@@ -37,10 +40,10 @@ pub fn recover_job<R: AllocGlobal + InputFiles + JournalFiles + Threads, W: Writ
     output: &mut W,
     error: &mut E,
 ) -> Result<u8, Fault>
-    ensures recovered { IfOk result (RecoversBy (R.finds rt.now) order (W.contents output.old) (W.contents output.new)) }
+    ensures recovered { IfOk result (RecoversBy (sees order.refs (R.finds rt.now)) order (W.contents output.old) (W.contents output.new)) }
     ensures status { IfOk result IsStatus }
-    ensures beside { OnOk result (RecoversAndWarns (R.finds rt.now) order (W.contents output.old) (W.contents output.new) (E.contents error.old) (E.contents error.new)) }
-    ensures refused { IfErr result (FailsRecoverJob (R.holds rt.now) (R.finds rt.now) order (W.contents output.old) (W.contents output.new)) }
+    ensures beside { OnOk result (RecoversAndWarns (sees order.refs (R.finds rt.now)) order (W.contents output.old) (W.contents output.new) (E.contents error.old) (E.contents error.new)) }
+    ensures refused { IfErr result (FailsRecoverJob (R.holds rt.now) (sees order.refs (R.finds rt.now)) order (W.contents output.old) (W.contents output.new)) }
     ensures told { WritesFront (E.contents error.old) (E.contents error.new) trial_line }
     ensures unwritten { IfErr result (λ fault. fault ≢ output_failed → (output.new ≡ output.old) × (error.new ≡ error.old)) }
 {
@@ -58,19 +61,23 @@ fn recover_free<R: AllocGlobal + InputFiles + Threads, W: Write, E: Write>(
     output: &mut W,
     error: &mut E,
 ) -> Result<u8, Fault>
-    ensures recovered { IfOk result (RecoversBy (R.finds rt.now) order (W.contents output.old) (W.contents output.new)) }
+    ensures recovered { IfOk result (RecoversBy (sees order.refs (R.finds rt.now)) order (W.contents output.old) (W.contents output.new)) }
     ensures status { IfOk result IsStatus }
-    ensures beside { OnOk result (RecoversAndWarns (R.finds rt.now) order (W.contents output.old) (W.contents output.new) (E.contents error.old) (E.contents error.new)) }
-    ensures refused { IfErr result (FailsRecoverFree (R.finds rt.now) order (W.contents output.old) (W.contents output.new)) }
+    ensures beside { OnOk result (RecoversAndWarns (sees order.refs (R.finds rt.now)) order (W.contents output.old) (W.contents output.new) (E.contents error.old) (E.contents error.new)) }
+    ensures refused { IfErr result (FailsRecoverFree (sees order.refs (R.finds rt.now)) order (W.contents output.old) (W.contents output.new)) }
     ensures told { WritesFront (E.contents error.old) (E.contents error.new) trial_line }
     ensures unwritten { IfErr result (λ fault. fault ≢ output_failed → (output.new ≡ output.old) × (error.new ≡ error.old)) }
 {
+    let seen = PlainFiles {
+        rt,
+        refs: order.refs,
+    };
     let trial = order.trial;
     let name = match String::from_str(rt.alloc(), order.config.as_str()) {
         Ok(name) => name,
         Err(_) => return Err(Fault::OutOfMemory),
     };
-    match read_run(rt, context, order.config, order.journal) {
+    match read_run(&seen, context, order.config, order.journal) {
         Ok(run) => recover_run(rt, name.as_str(), &run, trial, output, error),
         Err(fault) => Err(fault),
     }
@@ -191,13 +198,38 @@ pub fn rest_job<R: AllocGlobal + InputFiles, W: Write>(
     output: &mut W,
 ) -> Result<u8, Fault>
     ensures status { IfOk result (λ status. status ≡ 0) }
-    ensures printed { IfOk result (λ status. (run : TheRunFiles) × IsRun (R.finds rt.now) (string_bytes order.config) (string_bytes order.report) run × PrintsLeft order.accounts run (W.contents output.old) (W.contents output.new)) }
+    ensures printed { IfOk result (λ status. (run : TheRunFiles) × IsRun (R.finds rt.now) (string_bytes order.config) (string_bytes order.report) run × PrintsAsked order.accounts order.refs run (W.contents output.old) (W.contents output.new)) }
     ensures refused { IfErr result (FailsRestJob (R.finds rt.now) order (W.contents output.old) (W.contents output.new)) }
     ensures unwritten { IfErr result (λ fault. fault ≢ output_failed → output.new ≡ output.old) }
 {
-    let accounts = order.accounts;
+    let (accounts, refs) = (order.accounts, order.refs);
     match read_run(rt, context, order.config, order.report) {
-        Ok(run) => left(rt.alloc(), &run, accounts, output),
+        Ok(run) => left_asked(rt.alloc(), run, accounts, refs, output),
+        Err(fault) => Err(fault),
+    }
+}
+
+/// The same of files that were read, with or without the references of the messages.
+fn left_asked<W: Write>(
+    alloc: Global,
+    run: RunFiles,
+    accounts: bool,
+    refs: bool,
+    output: &mut W,
+) -> Result<u8, Fault>
+    ensures status { IfOk result (λ status. status ≡ 0) }
+    ensures printed { IfOk result (λ status. PrintsAsked accounts refs run (W.contents output.old) (W.contents output.new)) }
+    ensures refused { IfErr result (FailsRestAsked accounts refs run (W.contents output.old) (W.contents output.new)) }
+    ensures unwritten { IfErr result (λ fault. fault ≢ output_failed → output.new ≡ output.old) }
+{
+    if !refs {
+        return left(alloc, &run, accounts, None, output);
+    }
+    match without_refs(alloc, run) {
+        Ok(plain) => {
+            let behind = Some(plain.refs.as_slice());
+            left(alloc, &plain.files, accounts, behind, output)
+        }
         Err(fault) => Err(fault),
     }
 }
@@ -207,25 +239,26 @@ fn left<W: Write>(
     alloc: Global,
     run: &RunFiles,
     accounts: bool,
+    refs: Option<&[String]>,
     output: &mut W,
 ) -> Result<u8, Fault>
     ensures status { IfOk result (λ status. status ≡ 0) }
-    ensures printed { IfOk result (λ status. PrintsLeft accounts run.now (W.contents output.old) (W.contents output.new)) }
-    ensures refused { IfErr result (FailsRest accounts run.now (W.contents output.old) (W.contents output.new)) }
+    ensures printed { IfOk result (λ status. PrintsLeft accounts (option_copied refs.entry) run.now (W.contents output.old) (W.contents output.new)) }
+    ensures refused { IfErr result (FailsRest accounts (option_copied refs.entry) run.now (W.contents output.old) (W.contents output.new)) }
     ensures unwritten { IfErr result (λ fault. fault ≢ output_failed → output.new ≡ output.old) }
 {
     if accounts {
         accounts_left(alloc, run, output)
     } else {
-        messages_left(alloc, run, output)
+        messages_left(alloc, run, refs, output)
     }
 }
 
 /// Prints the accounts with what they have left.
 fn accounts_left<W: Write>(alloc: Global, run: &RunFiles, output: &mut W) -> Result<u8, Fault>
     ensures status { IfOk result (λ status. status ≡ 0) }
-    ensures printed { IfOk result (λ status. PrintsLeft true run.now (W.contents output.old) (W.contents output.new)) }
-    ensures refused { IfErr result (FailsRest true run.now (W.contents output.old) (W.contents output.new)) }
+    ensures printed { IfOk result (λ status. PrintsLeft true None run.now (W.contents output.old) (W.contents output.new)) }
+    ensures refused { IfErr result (FailsRest true None run.now (W.contents output.old) (W.contents output.new)) }
     ensures unwritten { IfErr result (λ fault. fault ≢ output_failed → output.new ≡ output.old) }
 {
     let printed = run_rest_accounts(
@@ -244,10 +277,15 @@ fn accounts_left<W: Write>(alloc: Global, run: &RunFiles, output: &mut W) -> Res
 }
 
 /// Prints the messages that were not sent at all.
-fn messages_left<W: Write>(alloc: Global, run: &RunFiles, output: &mut W) -> Result<u8, Fault>
+fn messages_left<W: Write>(
+    alloc: Global,
+    run: &RunFiles,
+    refs: Option<&[String]>,
+    output: &mut W,
+) -> Result<u8, Fault>
     ensures status { IfOk result (λ status. status ≡ 0) }
-    ensures printed { IfOk result (λ status. PrintsLeft false run.now (W.contents output.old) (W.contents output.new)) }
-    ensures refused { IfErr result (FailsRest false run.now (W.contents output.old) (W.contents output.new)) }
+    ensures printed { IfOk result (λ status. PrintsLeft false (option_copied refs.entry) run.now (W.contents output.old) (W.contents output.new)) }
+    ensures refused { IfErr result (FailsRest false (option_copied refs.entry) run.now (W.contents output.old) (W.contents output.new)) }
     ensures unwritten { IfErr result (λ fault. fault ≢ output_failed → output.new ≡ output.old) }
 {
     let printed = run_rest(
@@ -257,6 +295,7 @@ fn messages_left<W: Write>(alloc: Global, run: &RunFiles, output: &mut W) -> Res
         run.named.messages.as_slice(),
         run.named.tariff(),
         run.written.as_slice(),
+        refs,
         output,
     );
     match printed {

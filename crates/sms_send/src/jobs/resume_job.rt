@@ -4,9 +4,11 @@ ghost use Rattle.std.specs.Prelude.{◌≡◌, ◌≢◌, ◌⊎◌, ◌≤◌, 
 ghost use Rattle.sms_driver.specs.declared.start.StartPhase.TheVariants.{Idle};
 ghost use Rattle.sms_journal.specs.Left.{count_left as left_count};
 ghost use Rattle.sms_send.specs.Faults.{HasLostJournal, output_failed};
+ghost use Rattle.sms_send.specs.Kept.{KeepsThrough};
 ghost use Rattle.sms_send.specs.Noted.{IsNotedIn};
 ghost use Rattle.sms_send.specs.Reached.{centre_in};
-ghost use Rattle.sms_send.specs.Resumed.{ComesInResume, FailsGoingOn, FailsJournaled, FailsOpen, FailsPrintingRun, FailsResumeJob, FailsResumed, HasBegunResume, IsJournaled, IsJournaledBy, NotesRound, PrintsRun, ResumesBy};
+ghost use Rattle.sms_send.specs.PlainFiles.{sees};
+ghost use Rattle.sms_send.specs.Resumed.{ComesInResume, FailsGoingOn, FailsJournaled, FailsNotedRun, FailsOpen, FailsPrintingRun, FailsResumeJob, FailsResumed, HasBegunResume, IsJournaled, IsJournaledBy, IsNotedRun, NotesRound, PrintsRun, ResumesBy};
 ghost use Rattle.sms_send.specs.Sent.{SendingEnd, SendsLeft};
 ghost use Rattle.sms_send.specs.declared.sending.target.TargetKind.TheVariants.{Remote};
 ghost use Rattle.sms_send.specs.Statuses.{IsStatusBy};
@@ -15,10 +17,13 @@ use crate::args::send_args::ResumeArgs;
 use crate::faults::context::JobContext;
 use crate::faults::exposed::FileModes;
 use crate::faults::fault::Fault;
+use crate::faults::ledger_run::LedgerRunFlaw;
 use crate::files::opened::InputFiles;
+use crate::files::plain_files::PlainFiles;
 use crate::files::run_files::{RunFiles, read_warned_run};
 use crate::jobs::recover_job::fault_of_run;
 use crate::sending::Sending;
+use crate::sending::kept::Kept;
 use crate::sending::remarks::Remarks;
 use crate::sending::sender::write_ends;
 use crate::sending::status::status_of;
@@ -35,7 +40,10 @@ use std::thread::Threads;
 
 /// The journal of this name, which this process holds from here on. The name is the fault where it can't be opened, and
 /// the journal where a process holds it.
-fn open_journal<R: AllocGlobal + JournalFiles>(rt: &R, name: &str) -> Result<R::JournalFile, Fault>
+pub(crate) fn open_journal<R: AllocGlobal + JournalFiles>(
+    rt: &R,
+    name: &str,
+) -> Result<R::JournalFile, Fault>
     ensures opened { IfOk result (R.opens rt.now name.now) }
     ensures refused { IfErr result (FailsOpen (R.refuses rt.now) (R.holds rt.now) name.now) }
 {
@@ -49,15 +57,15 @@ fn open_journal<R: AllocGlobal + JournalFiles>(rt: &R, name: &str) -> Result<R::
     }
 }
 
-/// What the journal says of the run of these files, by a config of this name. One of a trial is refused.
-fn journaled<R: AllocGlobal + Threads>(
+/// What the journal says of the run or the trial of these files, by a config of this name.
+pub(crate) fn noted_run<R: AllocGlobal + Threads>(
     rt: &R,
     name: &str,
     files: &RunFiles,
     strict: bool,
 ) -> Result<JournaledRun, Fault>
-    ensures run { IfOk result (IsJournaled files.now) }
-    ensures refused { IfErr result (FailsResumed strict files.now) }
+    ensures run { IfOk result (IsNotedRun files.now) }
+    ensures refused { IfErr result (FailsNotedRun strict files.now) }
 {
     let read = read_run(
         rt,
@@ -68,9 +76,25 @@ fn journaled<R: AllocGlobal + Threads>(
         files.written.as_slice(),
         strict,
     );
-    let run = match read {
+    match read {
+        Ok(run) => Ok(run),
+        Err(fault) => Err(fault_of_run(rt.alloc(), name, &files.names, fault)),
+    }
+}
+
+/// What the journal says of the run of these files, by a config of this name. One of a trial is refused.
+fn journaled<R: AllocGlobal + Threads>(
+    rt: &R,
+    name: &str,
+    files: &RunFiles,
+    strict: bool,
+) -> Result<JournaledRun, Fault>
+    ensures run { IfOk result (IsJournaled files.now) }
+    ensures refused { IfErr result (FailsResumed strict files.now) }
+{
+    let run = match noted_run(rt, name, files, strict) {
         Ok(run) => run,
-        Err(fault) => return Err(fault_of_run(rt.alloc(), name, &files.names, fault)),
+        Err(fault) => return Err(fault),
     };
     if run.kind == JournalKind::Trial {
         return Err(Fault::Trial);
@@ -79,7 +103,7 @@ fn journaled<R: AllocGlobal + Threads>(
 }
 
 /// Prints the report of a run of which nothing is left, and gives its exit status.
-fn print_run<W: Write>(
+pub(crate) fn print_run<W: Write>(
     alloc: Global,
     run: JournaledRun,
     strict: bool,
@@ -115,26 +139,35 @@ fn read_journaled<R: FileModes + Host + InputFiles>(
     context: &mut JobContext,
     order: &ResumeArgs,
 ) -> Result<JournaledRun, Fault>
-    ensures run { IfOk result (IsJournaledBy (R.finds rt.now) order.now) }
-    ensures refused { IfErr result (FailsJournaled (R.finds rt.now) order.now) }
+    ensures run { IfOk result (IsJournaledBy (sees order.now.refs (R.finds rt.now)) order.now) }
+    ensures refused { IfErr result (FailsJournaled (sees order.now.refs (R.finds rt.now)) order.now) }
 {
-    let files = match read_warned_run(rt, context, order) {
+    let seen = PlainFiles {
+        rt,
+        refs: order.refs,
+    };
+    let files = match read_warned_run(&seen, context, order) {
         Ok(files) => files,
         Err(fault) => return Err(fault),
     };
+    if files.run.is_some() {
+        drop(files);
+        return Err(Fault::LedgerRun(LedgerRunFlaw::OfLedger));
+    }
     let run = journaled(rt, order.config.as_str(), &files, order.strict);
     drop(files);
     run
 }
 
 /// Sends in a further round what the rounds before left, and prints the report of the whole run.
-fn resume_run<R: FileModes + Host + InputFiles, W: Write>(
+pub(crate) fn resume_run<R: FileModes + Host + InputFiles, W: Write>(
     rt: &R,
     start: &mut Start<'_>,
     order: &ResumeArgs,
     run: JournaledRun,
     held: R::JournalFile,
     output: &mut W,
+    kept: &mut Option<Kept>,
 ) -> Result<u8, Fault>
     requires not_started { start.old.begun ≡ Idle }
     requires rows { length run.rows.items ≡ length run.openings.items }
@@ -143,7 +176,9 @@ fn resume_run<R: FileModes + Host + InputFiles, W: Write>(
     ensures latch { start.new.latch ≡ start.old.latch }
     ensures ended { SendingEnd order.now.strict (SendsLeft (R.tells rt.now (centre_in Remote run.config) true) order.now.again order.now.strict run (W.contents output.old) (W.contents output.new)) (FailsGoingOn (centre_in Remote run.config) (R.tells rt.now (centre_in Remote run.config) true) order.now.again order.now.strict run (W.contents output.old) (W.contents output.new)) start.new.begun output.old output.new result }
     ensures noted { IfOk result (IsNotedIn R.JournalFile.contents (R.opens rt.now (string_bytes order.now.journal.name))) }
+    ensures kept { KeepsThrough (W.contents output.old) (W.contents output.new) result kept.new }
 {
+    *kept = None;
     let target = match Target::new(rt.alloc(), TargetKind::Remote, &run.config) {
         Ok(target) => target,
         Err(fault) => {
@@ -166,7 +201,7 @@ fn resume_run<R: FileModes + Host + InputFiles, W: Write>(
         ),
         strict: order.strict,
     };
-    sending.resume_in_file::<Brand, W>(start, run, held, &order.journal, output)
+    sending.resume_in_file::<Brand, W>(start, run, held, &order.journal, output, kept)
 }
 
 /// Reads the config of this name, the files that it names and the journal, which this process holds; sends in a further
@@ -181,12 +216,12 @@ pub fn resume_job<R: FileModes + Host + InputFiles, W: Write>(
 ) -> Result<u8, Fault>
     requires not_started { start.old.begun ≡ Idle }
     ensures latch { start.new.latch ≡ start.old.latch }
-    ensures resumed { IfOk result (ResumesBy (R.finds rt.now) (R.tells rt.now) order (W.contents output.old) (W.contents output.new)) }
+    ensures resumed { IfOk result (ResumesBy (sees order.refs (R.finds rt.now)) (R.tells rt.now) order (W.contents output.old) (W.contents output.new)) }
     ensures status { IfOk result (IsStatusBy order.strict) }
     // The journal is the file that was opened by its name, and ends with the note of this, where something was left.
     ensures noted { IfOk result (NotesRound R.JournalFile.contents (R.opens rt.now) (R.finds rt.now) order (W.contents output.old) (W.contents output.new)) }
     ensures started { OnOk result (HasBegunResume start.new.begun) }
-    ensures refused { IfErr result (FailsResumeJob (R.refuses rt.now) (R.holds rt.now) (R.finds rt.now) (R.tells rt.now) order (W.contents output.old) (W.contents output.new)) }
+    ensures refused { IfErr result (FailsResumeJob (R.refuses rt.now) (R.holds rt.now) (sees order.refs (R.finds rt.now)) (R.tells rt.now) order (W.contents output.old) (W.contents output.new)) }
     ensures phase { IfErr result (ComesInResume start.new.begun) }
     ensures unwritten { IfErr result (λ fault. fault ≢ output_failed → ¬ HasLostJournal fault → output.new ≡ output.old) }
 {
@@ -205,5 +240,8 @@ pub fn resume_job<R: FileModes + Host + InputFiles, W: Write>(
         drop(held);
         return print_run(rt.alloc(), run, order.strict, output);
     }
-    resume_run(rt, start, &order, run, held, output)
+    let mut kept = None;
+    let resumed = resume_run(rt, start, &order, run, held, output, &mut kept);
+    drop(kept);
+    resumed
 }

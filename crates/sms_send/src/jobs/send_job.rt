@@ -6,6 +6,7 @@ ghost use Rattle.sms_driver.specs.declared.start.StartPhase.TheVariants.{Idle, R
 ghost use Rattle.sms_send.specs.ConfigFiles.{OfConfig};
 ghost use Rattle.sms_send.specs.Faults.{ComesAt, output_failed};
 ghost use Rattle.sms_send.specs.Noted.{FailsBegin, NotesEnd};
+ghost use Rattle.sms_send.specs.PlainFiles.{sees};
 ghost use Rattle.sms_send.specs.SendJobs.{FailsSendJob, SendsBy};
 ghost use Rattle.sms_send.specs.Sent.{FailsSender, RunsSender, SendingEnd};
 
@@ -16,6 +17,7 @@ use crate::faults::fault::Fault;
 use crate::files::config_file::ConfigFile;
 use crate::files::open_input::open_input;
 use crate::files::opened::InputFiles;
+use crate::files::plain_files::PlainFiles;
 use crate::files::reading::read_input;
 use crate::files::sending_input::{read_noted, read_plain};
 use crate::sending::Sending;
@@ -88,7 +90,7 @@ pub fn send_job<R: FileModes + Host + InputFiles, W: Write>(
 ) -> Result<u8, Fault>
     requires not_started { start.old.begun ≡ Idle }
     ensures latch { start.new.latch ≡ start.old.latch }
-    ensures ended { SendingEnd order.strict (λ status. OfConfig (R.finds rt.now) (string_bytes order.config) (SendsBy (R.finds rt.now) (R.tells rt.now) kind order.again order.strict (is_some order.journal) (W.contents output.old) (W.contents output.new) status)) (FailsSendJob (FailsBegin (R.makes rt.now) (R.refuses rt.now) (R.holds rt.now)) (R.finds rt.now) (R.tells rt.now) kind order (W.contents output.old) (W.contents output.new)) start.new.begun output.old output.new result }
+    ensures ended { SendingEnd order.strict (λ status. OfConfig (sees order.refs (R.finds rt.now)) (string_bytes order.config) (SendsBy (sees order.refs (R.finds rt.now)) (R.tells rt.now) kind order.again order.strict (is_some order.journal) (W.contents output.old) (W.contents output.new) status)) (FailsSendJob (FailsBegin (R.makes rt.now) (R.refuses rt.now) (R.holds rt.now)) (sees order.refs (R.finds rt.now)) (R.tells rt.now) kind order (W.contents output.old) (W.contents output.new)) start.new.begun output.old output.new result }
     // A journal that was asked for is the file that was made by its name, and ends with the note of this.
     ensures noted { IfOk result (NotesEnd R.JournalFile.contents (R.makes rt.now) order.journal) }
 {
@@ -100,14 +102,16 @@ pub fn send_job<R: FileModes + Host + InputFiles, W: Write>(
         throttle,
         again,
         strict,
+        refs,
     } = order;
+    let files = PlainFiles { rt, refs };
     let trial = kind == TargetKind::Loopback;
     let remarks = Remarks::new(quiet, verbose, rt.is_terminal(), rt.has_details(), trial);
-    let read = read_warned(rt, config, remarks.at_length)?;
+    let read = read_warned(&files, config, remarks.at_length)?;
     context.note_config(rt.alloc(), &read.config);
     let target = Target::new(rt.alloc(), kind, &read.config)?;
     let ConfigFile { octets, config } = read;
-    let opened = open_input(rt, config)?;
+    let opened = open_input(&files, config)?;
     let sending = Sending {
         rt,
         target,
@@ -119,7 +123,8 @@ pub fn send_job<R: FileModes + Host + InputFiles, W: Write>(
     match journal {
         None => {
             let input = read_plain(rt.alloc(), opened, strict)?;
-            sending.run::<MadeFile<R::JournalFile, Brand>, W>(start, Work::All(input), None, output)
+            let (work, mut kept) = (Work::All(input), None);
+            sending.run::<MadeFile<R::JournalFile, Brand>, W>(start, work, None, output, &mut kept)
         }
         Some(wanted) => {
             let noted = read_noted(rt, rt.alloc(), octets.as_slice(), opened, strict)?;

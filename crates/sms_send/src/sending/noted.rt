@@ -3,7 +3,8 @@
 ghost use Rattle.std.specs.Prelude.{◌≡◌, ◌⊎◌, ℕ, Err, Ok, IfErr, IfOk, length, string_bytes, true};
 ghost use Rattle.sms_driver.specs.declared.start.StartPhase.TheVariants.{Idle};
 ghost use Rattle.sms_send.specs.Faults.{HasLostJournal};
-ghost use Rattle.sms_send.specs.Noted.{FailsBegin, FailsNoted, IsNotedIn, LacksFirstLine, TakesNoRound, fault_of_unmade, head_by};
+ghost use Rattle.sms_send.specs.Kept.{KeepsSent, KeepsThrough};
+ghost use Rattle.sms_send.specs.Noted.{FailsBegin, FailsNoted, IsNotedIn, LacksFirstLine, TakesNoRound, IsUnmadeFor, fault_of_unmade, head_by};
 ghost use Rattle.sms_send.specs.Reached.{centre_of};
 ghost use Rattle.sms_send.specs.Resumed.{FailsResuming};
 ghost use Rattle.sms_send.specs.Sent.{FailsSending, HasRows, SendingEnd, SendsInput, SendsLeft, SendsWork};
@@ -12,6 +13,7 @@ ghost use Rattle.sms_send.specs.Stopped.{LooksForSign};
 use crate::args::send_args::{Again, JournalFile};
 use crate::faults::fault::Fault;
 use crate::sending::Sending;
+use crate::sending::kept::Kept;
 use crate::sending::work::Work;
 use sms_devices::{
     Host, Journal, JournalFailure, JournalFiles, MadeFile, Origin, Unmade, stop_sign,
@@ -19,6 +21,7 @@ use sms_devices::{
 use sms_driver::Start;
 use sms_files::Input;
 use sms_journal::{Digests, FileTies, JournalKind, JournaledRun, Note, keys_of};
+use std::alloc::Global;
 use std::fs::OpenFile;
 use std::io::Write;
 use std::marker::Brand;
@@ -34,6 +37,22 @@ fn unmade_fault(wanted: JournalFile, why: Unmade) -> Fault
     match why {
         Unmade::Held => Fault::JournalHeld,
         Unmade::Failed(kind) => Fault::Unmade(name, kind),
+    }
+}
+
+/// The same of a journal that is kept.
+pub(crate) fn unmade_for(alloc: Global, wanted: &JournalFile, why: Unmade) -> Fault
+    ensures { IsUnmadeFor (string_bytes wanted.now.name) why result }
+{
+    match String::from_str(alloc, wanted.name.as_str()) {
+        Ok(name) => unmade_fault(
+            JournalFile {
+                name,
+                sync: wanted.sync,
+            },
+            why,
+        ),
+        Err(_memory) => Fault::OutOfMemory,
     }
 }
 
@@ -178,11 +197,16 @@ impl<'r, R: Host> Sending<'r, R> {
             Ok(file) => file,
             Err(why) => return Err(unmade_fault(wanted, why)),
         };
-        self.run_in_file::<Brand, W>(start, input, digests, file, &wanted, output)
+        let mut kept = None;
+        let sent = self.run_in_file::<Brand, W>(
+            start, input, digests, file, &wanted, output, &mut kept,
+        );
+        drop(kept);
+        sent
     }
 
     /// Begins the journal in the file that was made for it, sends the messages of an input, and ends the journal.
-    fn run_in_file<O: Origin<R::JournalFile> + Send, W: Write>(
+    pub(crate) fn run_in_file<O: Origin<R::JournalFile> + Send, W: Write>(
         &self,
         start: &mut Start<'_>,
         input: Input,
@@ -190,13 +214,16 @@ impl<'r, R: Host> Sending<'r, R> {
         file: R::JournalFile,
         wanted: &JournalFile,
         output: &mut W,
+        kept: &mut Option<Kept>,
     ) -> Result<u8, Fault>
         requires not_started { start.old.begun ≡ Idle }
         requires made { O.made file }
         ensures latch { start.new.latch ≡ start.old.latch }
         ensures ended { SendingEnd self.now.strict (SendsInput (R.tells self.now.rt.now (centre_of self.now.target) true) self.now.again self.now.strict input (W.contents output.old) (W.contents output.new)) (FailsNoted LacksFirstLine (centre_of self.now.target) (R.tells self.now.rt.now (centre_of self.now.target) true) self.now.again self.now.strict input (W.contents output.old) (W.contents output.new)) start.new.begun output.old output.new result }
         ensures noted { IfOk result (IsNotedIn R.JournalFile.contents O.made) }
+        ensures kept { KeepsThrough (W.contents output.old) (W.contents output.new) result kept.new }
     {
+        *kept = None;
         let kind = self.target.journal_kind();
         let made: MadeFile<R::JournalFile, O> = MadeFile::new(file);
         let head = head_of(self.again, &input, digests);
@@ -204,7 +231,7 @@ impl<'r, R: Host> Sending<'r, R> {
             Ok(journal) => journal,
             Err(fault) => return Err(fault),
         };
-        let (sent, journal) = self.run_with_journal(start, Work::All(input), journal, output);
+        let (sent, journal) = self.run_with_journal(start, Work::All(input), journal, output, kept);
         end_journal(self.rt, journal, sent)
     }
 
@@ -216,6 +243,7 @@ impl<'r, R: Host> Sending<'r, R> {
         file: R::JournalFile,
         wanted: &JournalFile,
         output: &mut W,
+        kept: &mut Option<Kept>,
     ) -> Result<u8, Fault>
         requires not_started { start.old.begun ≡ Idle }
         requires rows { length run.rows.items ≡ length run.openings.items }
@@ -223,14 +251,16 @@ impl<'r, R: Host> Sending<'r, R> {
         ensures latch { start.new.latch ≡ start.old.latch }
         ensures ended { SendingEnd self.now.strict (SendsLeft (R.tells self.now.rt.now (centre_of self.now.target) true) self.now.again self.now.strict run (W.contents output.old) (W.contents output.new)) (FailsResuming (centre_of self.now.target) (R.tells self.now.rt.now (centre_of self.now.target) true) self.now.again self.now.strict run (W.contents output.old) (W.contents output.new)) start.new.begun output.old output.new result }
         ensures noted { IfOk result (IsNotedIn R.JournalFile.contents O.made) }
+        ensures kept { KeepsThrough (W.contents output.old) (W.contents output.new) result kept.new }
     {
+        *kept = None;
         let made: MadeFile<R::JournalFile, O> = MadeFile::new(file);
         let journal = match begin_round(self.rt, made, wanted, &run) {
             Ok(journal) => journal,
             Err(fault) => return Err(fault),
         };
         let left = Work::Left(run);
-        let (resumed, journal) = self.run_with_journal(start, left, journal, output);
+        let (resumed, journal) = self.run_with_journal(start, left, journal, output, kept);
         end_journal(self.rt, journal, resumed)
     }
 
@@ -241,13 +271,16 @@ impl<'r, R: Host> Sending<'r, R> {
         work: Work,
         journal: Journal<F>,
         output: &mut W,
+        kept: &mut Option<Kept>,
     ) -> (Result<u8, Fault>, Journal<F>)
         requires not_started { start.old.begun ≡ Idle }
         requires rows { HasRows work }
         ensures latch { start.new.latch ≡ start.old.latch }
         ensures ended { SendingEnd self.now.strict (SendsWork (R.tells self.now.rt.now (centre_of self.now.target) true) self.now.again self.now.strict work (W.contents output.old) (W.contents output.new)) (FailsSending (centre_of self.now.target) (R.tells self.now.rt.now (centre_of self.now.target) true) self.now.again work (W.contents output.old) (W.contents output.new)) start.new.begun output.old output.new result.0 }
+        ensures kept { KeepsSent (W.contents output.old) (W.contents output.new) result.0 kept.new }
     {
-        let sent = (&*self).run(start, work, Some(&journal), output);
+        *kept = None;
+        let sent = (&*self).run(start, work, Some(&journal), output, kept);
         (sent, journal)
     }
 }

@@ -67,6 +67,7 @@ fn audit_job(alloc: Global) -> Result<Job, AllocError> {
     Ok(Job::Audit(AuditArgs {
         config: String::from_str(alloc, FILES[0].0)?,
         report: String::from_str(alloc, NAME)?,
+        refs: false,
     }))
 }
 

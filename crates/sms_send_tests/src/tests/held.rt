@@ -47,6 +47,7 @@ fn noted_job(alloc: Global) -> Result<Job, AllocError> {
         },
         again: None,
         strict: false,
+        refs: false,
     }))
 }
 
@@ -56,6 +57,7 @@ fn recover_job(alloc: Global) -> Result<Job, AllocError> {
         config: String::from_str(alloc, FILES[0].0)?,
         journal: String::from_str(alloc, JOURNAL)?,
         trial: true,
+        refs: false,
     }))
 }
 
@@ -158,7 +160,7 @@ fn want_warning<R: FileModes + FullNames + Host + InputFiles + LedgerFiles + Fil
 ) -> Result<(), Fail> {
     let alloc = rt.alloc();
     assert!(rt; fs::write(rt, "open.csv", text).is_ok());
-    let job = Job::Plan(String::from_str(alloc, "open.csv")?, false);
+    let job = Job::Plan(String::from_str(alloc, "open.csv")?, false, false);
     let (mut output, mut error) = (Vec::new(alloc), Vec::new(alloc));
     let (latch, unsaid) = StartGate::new();
     let mut start = Start::new(&latch, unsaid);

@@ -156,14 +156,15 @@ fn quiet_order(config: String) -> SendArgs {
         throttle: UNBOUND,
         again: None,
         strict: false,
+        refs: false,
     }
 }
 
 // The job of this word and file.
 fn job_with(word: &str, name: String) -> Job {
     match word {
-        "plan" => Job::Plan(name, false),
-        "quote" => Job::Quote(name, false),
+        "plan" => Job::Plan(name, false, false),
+        "quote" => Job::Quote(name, false, false),
         "loop" => Job::Loop(quiet_order(name)),
         "send" => Job::Send(quiet_order(name)),
         _ => Job::Replay(Some(name)),

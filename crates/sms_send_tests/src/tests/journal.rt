@@ -46,6 +46,7 @@ fn noted_job(alloc: Global) -> Result<Job, AllocError> {
         },
         again: None,
         strict: false,
+        refs: false,
     }))
 }
 
@@ -55,6 +56,7 @@ fn recover_job(alloc: Global, trial: bool) -> Result<Job, AllocError> {
         config: String::from_str(alloc, FILES[0].0)?,
         journal: String::from_str(alloc, JOURNAL)?,
         trial,
+        refs: false,
     }))
 }
 

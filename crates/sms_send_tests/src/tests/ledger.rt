@@ -21,9 +21,10 @@ const LEDGER: &str = "ledger-of-send-tests";
 
 /// Words of a top-up behind its ledger, and the account, credits and reference that they ask for, or the text of what is
 /// wrong with them.
-const PAID: [(&[&str], &str); 13] = [
+const PAID: [(&[&str], &str); 14] = [
     (&["bank", "500"], "bank 500"),
     (&["bank", "500", "--ref", "INV-1"], "bank 500 INV-1"),
+    (&["--trial", "bank", "500"], "bank 500 of trials"),
     (&["--ref=a,b", "%", "00001"], "%25 1 a%2cb"),
     (
         &["caf\u{e9} 1", "1099511627776"],
@@ -60,6 +61,9 @@ fn text_of(alloc: Global, order: &TopUpArgs) -> Result<String, Fail> {
     if let Some(name) = &payment.reference {
         text.push_str(" ")?;
         text.push_str(name.as_str())?;
+    }
+    if order.trial {
+        text.push_str(" of trials")?;
     }
     Ok(text)
 }

@@ -32,17 +32,24 @@ const BILL: &str = concat!(
     "1,1,main,12345,+447700900101,1,unanswered,,,2024-03-01T00:00:00.001Z,\n",
 );
 
+const BILL_WITH_REFS: &str = concat!(
+    "message,part,account,source,destination,cost,outcome,status,id,sent,heard,ref\n",
+    "0,1,main,12345,+447700900100,1,charged,0,\"m,1\",2024-02-29T23:59:59.999Z,2024-03-01T00:00:00.000Z,R-0\n",
+    "1,1,main,12345,+447700900101,1,unanswered,,,2024-03-01T00:00:00.001Z,,R-1\n",
+);
+
 const DOUBTS: &str = concat!(
     "message,part,account,source,destination,cost,sent,text\n",
     "1,1,main,12345,+447700900101,1,2024-03-01T00:00:00.001Z,b\n",
 );
 
 // The job that lists this of the run.
-fn list_job(alloc: Global, listing: Listing) -> Result<Job, AllocError> {
+fn list_job(alloc: Global, listing: Listing, refs: bool) -> Result<Job, AllocError> {
     Ok(Job::List(ListArgs {
         config: String::from_str(alloc, NAMES.config)?,
         journal: String::from_str(alloc, NAMES.journal)?,
         listing,
+        refs,
     }))
 }
 
@@ -62,9 +69,10 @@ fn first_line<R: FileModes + FullNames + Host + InputFiles + LedgerFiles + Files
 fn want_listed<R: FileModes + FullNames + Host + InputFiles + LedgerFiles + Abort>(
     rt: &R,
     listing: Listing,
+    refs: bool,
     wanted: &str,
 ) -> Result<(), Fail> {
-    let done = done_by(rt, list_job(rt.alloc(), listing)?);
+    let done = done_by(rt, list_job(rt.alloc(), listing, refs)?);
     match &done.ended {
         Ok(status) => same(rt, *status, 0),
         Err(_) => panic!(rt; "a fault"),
@@ -79,7 +87,11 @@ fn want_unlisted<R: FileModes + FullNames + Host + InputFiles + LedgerFiles + Ab
     wanted: &str,
 ) -> Result<(), Fail> {
     for listing in [Listing::Bill, Listing::Doubtful] {
-        want_fault(rt, done_by(rt, list_job(rt.alloc(), listing)?), wanted)?;
+        want_fault(
+            rt,
+            done_by(rt, list_job(rt.alloc(), listing, false)?),
+            wanted,
+        )?;
     }
     Ok(())
 }
@@ -89,11 +101,41 @@ fn lists_a_run(rt: HostRuntime) -> Result<(), Fail> {
     let first = first_line(&rt)?;
     let journal = format!(in rt.alloc(); "{first}{NOTES}")?;
     write_file(&rt, NAMES.journal, journal.as_str());
-    want_listed(&rt, Listing::Bill, BILL)?;
-    want_listed(&rt, Listing::Doubtful, DOUBTS)?;
+    want_listed(&rt, Listing::Bill, false, BILL)?;
+    want_listed(&rt, Listing::Doubtful, false, DOUBTS)?;
     for room in [0, 10] {
-        want_unprinted(&rt, list_job(rt.alloc(), Listing::Bill)?, room)?;
+        want_unprinted(&rt, list_job(rt.alloc(), Listing::Bill, false)?, room)?;
     }
+    remove_files(&rt, &NAMES);
+    Ok(())
+}
+
+/// The messages of the run with a last column `ref`, which the run was sent without. A record without it is a fault.
+#[test]
+fn lists_references(rt: HostRuntime) -> Result<(), Fail> {
+    let alloc = rt.alloc();
+    let first = first_line(&rt)?;
+    let journal = format!(in alloc; "{first}{NOTES}")?;
+    write_file(&rt, NAMES.journal, journal.as_str());
+    let plain = text_in(&rt, NAMES.messages);
+    let (mut text, mut place) = (String::new(alloc), 0u64);
+    for line in plain.as_str().lines() {
+        text.push_str(line)?;
+        if place == 0 {
+            text.push_str(",ref\n")?;
+        } else {
+            let number = place - 1;
+            text.push_str(format!(in alloc; ",R-{number}\n")?.as_str())?;
+        }
+        place = place.wrapping_add(1);
+    }
+    write_file(&rt, NAMES.messages, text.as_str());
+    want_listed(&rt, Listing::Bill, true, BILL_WITH_REFS)?;
+    let job = list_job(alloc, Listing::Bill, false)?;
+    want_fault(&rt, done_by(&rt, job), "fault: messages record 1")?;
+    write_file(&rt, NAMES.messages, plain.as_str());
+    let job = list_job(alloc, Listing::Bill, true)?;
+    want_fault(&rt, done_by(&rt, job), "fault: messages record 1")?;
     remove_files(&rt, &NAMES);
     Ok(())
 }

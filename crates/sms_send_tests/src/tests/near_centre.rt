@@ -193,6 +193,7 @@ pub fn send_job(alloc: Global, names: &Names, again: Option<Again>) -> Result<Jo
         throttle: UNBOUND,
         again,
         strict: false,
+        refs: false,
     }))
 }
 
@@ -210,6 +211,7 @@ pub fn resume_job(alloc: Global, names: &Names, again: Option<Again>) -> Result<
         throttle: UNBOUND,
         again,
         strict: false,
+        refs: false,
     }))
 }
 
@@ -219,6 +221,7 @@ pub fn recover_job(alloc: Global, names: &Names) -> Result<Job, AllocError> {
         config: String::from_str(alloc, names.config)?,
         journal: String::from_str(alloc, names.journal)?,
         trial: false,
+        refs: false,
     }))
 }
 

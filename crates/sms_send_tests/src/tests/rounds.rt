@@ -76,6 +76,7 @@ fn job_again(alloc: Global, most: u32) -> Result<Job, AllocError> {
         },
         again: Some(Again { most, wait_ms: 1 }),
         strict: false,
+        refs: false,
     }))
 }
 

@@ -1,6 +1,7 @@
 //! The words of the subcommands over a run that was sent, and the jobs that they ask for.
 
-use super::words::{want_read, words_of};
+use super::asked::want_read;
+use super::words::words_of;
 
 /// Words, and the file of the job, or the text of the fault.
 const READ: [(&str, &str); 19] = [

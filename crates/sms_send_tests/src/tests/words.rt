@@ -1,13 +1,14 @@
 //! The words of the command line, and the jobs that they ask for.
 
+use super::asked::want_read;
 use super::same::same;
-use sms_send::{Fault, Job, JournalFile, Listing, SendArgs, job_of};
+use sms_send::{Fault, Job, JournalFile, SendArgs, job_of};
 use std::alloc::Global;
 use std::process::Abort;
 use std::test::Fail;
 
 /// Words, and the file of the job, or the text of the fault.
-const READ: [(&str, &str); 101] = [
+const READ: [(&str, &str); 113] = [
     ("", "standard input"),
     ("replay -", "standard input"),
     ("replay events.csv", "events.csv"),
@@ -118,6 +119,33 @@ const READ: [(&str, &str); 101] = [
     ("balance --verbose --ledger=l", "balance of l"),
     ("balance l", "fault: words"),
     ("balance --ledger l --ref r", "fault: words"),
+    ("send --config c --journal j --ledger l", "send on l"),
+    (
+        "send --config c --strict --journal j --ledger=l",
+        "strict send on l",
+    ),
+    ("send --config c --ledger l", "fault: words"),
+    ("loop --config c --journal j --ledger l", "loop on l"),
+    ("loop --config c --ledger l", "fault: words"),
+    (
+        "topup --trial --ledger l bank 500",
+        "top-up for trials of l",
+    ),
+    ("balance --trial --ledger l", "fault: words"),
+    (
+        "resume --config c --journal j --ledger l",
+        "resumption on l",
+    ),
+    (
+        "settle --ledger l --config c --journal j",
+        "settlement of j",
+    ),
+    ("settle --ledger l --config c", "fault: words"),
+    (
+        "decide --ledger l --config c --journal j --decisions d",
+        "decisions of d",
+    ),
+    ("decide --ledger l --config c --journal j", "fault: words"),
 ];
 
 /// The words of a line.
@@ -132,72 +160,6 @@ pub fn words_of(rt: &(impl AllocGlobal + Abort), line: &str) -> Vec<String> {
         }
     }
     words
-}
-
-// What a job is called, before its file.
-fn called(job: &Job) -> &str {
-    match job {
-        Job::Replay(None) => "standard input",
-        Job::Replay(Some(_)) => "",
-        Job::Plan(_, true) => "long plan of ",
-        Job::Plan(_, false) => "plan of ",
-        Job::Quote(_, true) => "verbose quote of ",
-        Job::Quote(_, false) => "quote of ",
-        Job::Loop(order) if order.strict => "strict loop of ",
-        Job::Send(order) if order.strict => "strict send of ",
-        Job::Loop(order) if order.quiet => "quiet loop of ",
-        Job::Loop(_) => "loop of ",
-        Job::Send(order) if order.quiet => "quiet send of ",
-        Job::Send(_) => "send of ",
-        Job::Resume(_) => "resumption of ",
-        Job::Stop(_) => "stop of ",
-        Job::Recover(order) if order.trial => "trial of ",
-        Job::Recover(_) => "recovery of ",
-        Job::Rest(order) if order.accounts => "accounts left of ",
-        Job::Rest(_) => "rest of ",
-        Job::List(order) if order.listing == Listing::Bill => "bill of ",
-        Job::List(_) => "doubts of ",
-        Job::Audit(_) => "audit of ",
-        Job::TopUp(_) => "top-up of ",
-        Job::Balance(_) => "balance of ",
-    }
-}
-
-// The file of a job.
-fn file_of(job: &Job) -> &str {
-    match job {
-        Job::Replay(None) => "",
-        Job::Replay(Some(name)) => name.as_str(),
-        Job::Plan(name, _) | Job::Quote(name, _) | Job::Stop(name) | Job::Balance(name) => {
-            name.as_str()
-        }
-        Job::Loop(order) | Job::Send(order) => order.config.as_str(),
-        Job::Resume(order) => order.journal.name.as_str(),
-        Job::Recover(order) => order.journal.as_str(),
-        Job::Rest(order) => order.report.as_str(),
-        Job::List(order) => order.journal.as_str(),
-        Job::Audit(order) => order.report.as_str(),
-        Job::TopUp(order) => order.ledger.as_str(),
-    }
-}
-
-// That the job is called so, with its file.
-fn want_job(rt: &impl Abort, job: &Job, wanted: &str) {
-    match wanted.strip_prefix(called(job)) {
-        Some(file) => same(rt, file_of(job), file),
-        None => panic!(rt; "another job"),
-    }
-}
-
-/// That this is read of the words.
-pub fn want_read(rt: &(impl AllocGlobal + Abort), words: &[String], wanted: &str) {
-    match job_of(rt.alloc(), words) {
-        Ok(job) => want_job(rt, &job, wanted),
-        Err(fault) => match fault.to_string(rt.alloc()) {
-            Ok(text) => same(rt, text.as_str(), wanted),
-            Err(_) => panic!(rt; "no memory"),
-        },
-    }
 }
 
 #[test]

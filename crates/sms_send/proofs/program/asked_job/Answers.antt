@@ -1,6 +1,7 @@
 use Rattle.std.proofs.Common.{◌∙◌, inl, inr, refl, ap, subst, List, String, Global}
 use Rattle.std.specs.Prelude.{map, string_bytes}
-use Rattle.sms_send.specs.CommandLine.{IsJob, RefusesWords, asks_for_more, subcommand_in}
+use Rattle.sms_send.specs.CommandLine.{IsJob, RefusesWords, subcommand_in}
+use Rattle.sms_send.specs.Words.{asks_for_more}
 use Rattle.sms_send.proofs.program.asked_job.Goals as goal
 
 pub returns-in-Ok-job_of-clause-asked : goal.returns-in-Ok-job_of-clause-asked

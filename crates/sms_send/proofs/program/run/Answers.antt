@@ -1,6 +1,6 @@
 use Rattle.std.proofs.Common.{inl}
 use Rattle.sms_send.specs.Jobs.{BeginsBeside, NotesJob, WritesBeside}
-use Rattle.sms_send.specs.Ledgers.{BooksJob, FailsBooksJob}
+use Rattle.sms_send.specs.LedgerWork.{BooksJob, FailsBooksJob}
 use Rattle.sms_send.specs.Noted.{FailsBegin, NotesEnd}
 use Rattle.sms_send.specs.Resumed.{NotesRound}
 use Rattle.sms_send.specs.Stopped.{StopsRun}
@@ -10,14 +10,14 @@ use Rattle.sms_send.proofs.program.run.Goals as goal
 pub returns-clause-done : goal.returns-clause-done
 returns-clause-done g c =
     works_asked c.do_job.result (g.R.ProgramWords.has c.args.rt.now) _ c.in-Ok.job g.R.Reader.Read.remaining (g.R.InputFiles.finds c.args.rt.now) (g.R.Connects.tells c.args.rt.now)
-    (BooksJob (g.R.LedgerFiles.holds_ledger c.args.rt.now) g.R.LedgerFile.HeldFile.octets g.R.LedgerFile.HeldFile.stored g.R.LedgerFile.HeldFile.opening g.R.LedgerFile.HeldFile.is_closed)
+    (BooksJob (g.R.JournalFiles.makes c.args.rt.now) (g.R.JournalFiles.opens c.args.rt.now) g.R.JournalFile.Write.contents (g.R.InputFiles.finds c.args.rt.now) (g.R.Connects.tells c.args.rt.now) (g.R.LedgerFiles.has_kind c.args.rt.now) (g.R.LedgerFiles.holds_ledger c.args.rt.now) g.R.LedgerFile.HeldFile.octets g.R.LedgerFile.HeldFile.stored g.R.LedgerFile.HeldFile.opening g.R.LedgerFile.HeldFile.is_closed)
     (λ job. WritesBeside (g.R.InputFiles.finds c.args.rt.now) (g.R.FullNames.is_full c.args.rt.now) (g.R.Screen.details c.args.rt.now) job (g.W.Write.contents c.args.output.now) (g.W.Write.contents c.do_job.new.output) (g.E.Write.contents c.args.error.now) (g.E.Write.contents c.do_job.new.error))
     _ _ c.in-Ok.ensures.asked c.do_job.ensures.status c.do_job.ensures.done c.do_job.ensures.beside
 
 pub returns-clause-refused : goal.returns-clause-refused
 returns-clause-refused g c =
     fails_asked c.do_job.result (g.R.ProgramWords.has c.args.rt.now) _ c.in-Ok.job (FailsBegin (g.R.JournalFiles.makes c.args.rt.now) (g.R.JournalFiles.refuses c.args.rt.now) (g.R.JournalFiles.holds c.args.rt.now)) (g.R.JournalFiles.refuses c.args.rt.now) (g.R.JournalFiles.holds c.args.rt.now)
-    (FailsBooksJob (g.R.LedgerFiles.holds_ledger c.args.rt.now) (g.R.LedgerFiles.lacks_ledger c.args.rt.now) g.R.LedgerFile.HeldFile.errs g.R.LedgerFile.HeldFile.octets g.R.LedgerFile.HeldFile.stored g.R.LedgerFile.HeldFile.opening g.R.LedgerFile.HeldFile.is_closed)
+    (FailsBooksJob (g.R.JournalFiles.makes c.args.rt.now) (g.R.JournalFiles.opens c.args.rt.now) g.R.JournalFile.Write.contents (g.R.JournalFiles.refuses c.args.rt.now) (g.R.JournalFiles.holds c.args.rt.now) (g.R.InputFiles.finds c.args.rt.now) (g.R.Connects.tells c.args.rt.now) (g.R.LedgerFiles.holds_ledger c.args.rt.now) (g.R.LedgerFiles.lacks_ledger c.args.rt.now) g.R.LedgerFile.HeldFile.errs g.R.LedgerFile.HeldFile.octets g.R.LedgerFile.HeldFile.stored g.R.LedgerFile.HeldFile.opening g.R.LedgerFile.HeldFile.is_closed)
     g.R.Reader.Read.remaining (g.R.InputFiles.finds c.args.rt.now) (g.R.Connects.tells c.args.rt.now) _ _ c.in-Ok.ensures.asked c.do_job.ensures.refused
 
 pub returns-clause-front : goal.returns-clause-front

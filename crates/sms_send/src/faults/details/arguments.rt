@@ -18,6 +18,7 @@ pub(crate) fn write_argument_error(
         ArgumentError::Account => "ACCOUNT is a name of 1 to 192 characters",
         ArgumentError::Credits => "CREDITS is a whole number from 1 to 1099511627776",
         ArgumentError::Reference => "--ref takes a name of 1 to 192 characters",
+        ArgumentError::LedgerAlone => "--ledger needs --journal FILE",
     })
 }
 

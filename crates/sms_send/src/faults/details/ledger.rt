@@ -4,6 +4,7 @@ use crate::faults::context::{JobNames, text_of};
 use crate::faults::details::journal::writing_text;
 use crate::faults::details::shown::Shown;
 use crate::faults::fault::Fault;
+use crate::faults::ledger_run::Unsettled;
 use sms_devices::{JournalFailure, LedgerFailure};
 use sms_ledger::Refusal;
 use std::alloc::AllocError;
@@ -21,7 +22,11 @@ pub(crate) fn write_ledger_lines(
         Fault::LedgerFile(_, kind) => text.push_str(opening_text(*kind)),
         Fault::Ledger(why) => write_failure(text, *why),
         Fault::BadEntry(_, cause) => write_bad_entry(text, text_of(&names.ledger), cause),
-        Fault::Payment(cause) => write_refusal(text, *cause),
+        Fault::Payment(cause) | Fault::Booking(cause) => write_refusal(text, *cause),
+        Fault::BadDecision(_) => {
+            text.push_str("it decides of no part of the run that is in doubt; nothing was booked")
+        }
+        Fault::Unsettled(why) => write_unsettled(text, *why),
         _ => Ok(()),
     }
 }
@@ -45,6 +50,9 @@ fn write_failure(text: &mut String, why: LedgerFailure) -> Result<(), AllocError
     match why {
         LedgerFailure::Unopened(kind) => text.push_str(opening_text(kind)),
         LedgerFailure::NoFile => text.push_str("it is no regular file"),
+        LedgerFailure::OtherKind => text.push_str(
+            "loop takes credits of a ledger that topup --trial began, and what is sent those of another",
+        ),
         LedgerFailure::Locked => {
             text.push_str("other programs have held it for 10 seconds; nothing was booked")
         }
@@ -61,6 +69,20 @@ fn write_failure(text: &mut String, why: LedgerFailure) -> Result<(), AllocError
         }
         LedgerFailure::OutOfMemory(_) => text.push_str("memory was refused; nothing was booked"),
     }
+}
+
+/// Writes why a run's statement wasn't booked, and what books it.
+fn write_unsettled(text: &mut String, why: Unsettled) -> Result<(), AllocError> {
+    match why {
+        Unsettled::File(kind) => text.push_str(opening_text(kind))?,
+        Unsettled::Use(why) => write_failure(text, why)?,
+        Unsettled::Record(place, _) => write!(text, "record {place} of the ledger is faulty")?,
+        Unsettled::Refused(cause) => write!(text, "{cause}")?,
+        Unsettled::OutOfMemory => text.push_str("memory was refused")?,
+    }
+    text.push_str(
+        "\nthe report is right, but the credits of the run are out still: settle brings them back",
+    )
 }
 
 /// Writes what is wrong with a record of a ledger of this name.

@@ -15,6 +15,7 @@ use crate::faults::details::ledger::write_ledger_lines;
 use crate::faults::details::record::{write_note, write_record, write_report_record};
 use crate::faults::fault::Fault;
 use crate::faults::full_names::FullNames;
+use crate::faults::ledger_run::LedgerRunFlaw;
 use std::alloc::AllocError;
 
 /// The detail line of a fault that always has the same one; empty where it has another. It takes no memory.
@@ -25,6 +26,15 @@ pub(crate) fn fixed_text(fault: &Fault) -> &'static str {
         Fault::Overdrawn => "it takes more of an account than that has",
         Fault::LongSchedule => "the run has more than 1000000 events, the most that replay takes",
         Fault::Trial => "--trial prints its report",
+        Fault::LedgerRun(LedgerRunFlaw::NoLedger) => {
+            "its accounts are those of an accounts file, and not of a ledger"
+        }
+        Fault::LedgerRun(LedgerRunFlaw::OfLedger) => {
+            "its accounts are those of a ledger: --ledger has to name that"
+        }
+        Fault::LedgerRun(LedgerRunFlaw::NotOut) => {
+            "what it took of the ledger isn't out with it: it is settled, or took nothing"
+        }
         Fault::OtherAttempts => "attempts in the config is not what this run was begun with",
         Fault::OtherReference => "long_reference in the config is not what this run was begun with",
         Fault::OutOfMemory => "memory or a thread was refused; nothing was sent",

@@ -1,7 +1,7 @@
 use Rattle.std.proofs.Common.{codes, ◌≡◌}
 use Rattle.std.proofs.lemmas.Result.{IfOk-weaker}
 use Rattle.clap.specs.Words.{App, app_of, with_subcommand}
-use Rattle.sms_send.specs.CommandLine.{audit_line, bill_line, doubtful_line, plan_line, program_line, quote_line, recover_line, replay_line, rest_line, resume_line, sender_line, stop_line, topup_line}
+use Rattle.sms_send.specs.CommandLine.{audit_line, balance_line, bill_line, doubtful_line, plan_line, program_line, quote_line, recover_line, replay_line, rest_line, resume_line, send_line, settle_line, stop_line, topup_line}
 use Rattle.sms_send.proofs.JobsDone.{subcommand-added}
 use Rattle.sms_send.proofs.args.command_line.command_line.Goals as goal
 
@@ -11,7 +11,7 @@ quoting_line = with_subcommand (with_subcommand (with_subcommand program_line re
 
 -- and with those that send
 abbrev senders_line : App
-senders_line = with_subcommand (with_subcommand quoting_line (sender_line (codes "loop")).top) (sender_line (codes "send")).top
+senders_line = with_subcommand (with_subcommand quoting_line (send_line (codes "loop")).top) (send_line (codes "send")).top
 
 -- and with those that look at what was sent
 abbrev left_line : App
@@ -21,6 +21,10 @@ left_line = with_subcommand (with_subcommand (with_subcommand (with_subcommand s
 abbrev listing_line : App
 listing_line = with_subcommand (with_subcommand left_line bill_line.top) doubtful_line.top
 
+-- and with the one that pays
+abbrev paying_line : App
+paying_line = with_subcommand (with_subcommand listing_line audit_line.top) topup_line.top
+
 pub returns : goal.returns
 returns c =
     let replaying : app_of c.in_ok-replaying.replaying ≡ with_subcommand program_line replay_line.top =
@@ -29,10 +33,10 @@ returns c =
     subcommand-added _ _ _ _ c.plan_command.result c.in_ok-planning.ensures c.plan_command.ensures replaying in
     let quoting : app_of c.in_ok-quoting.quoting ≡ quoting_line =
     subcommand-added _ _ _ _ c.quote_command.result c.in_ok-quoting.ensures c.quote_command.ensures planning in
-    let either : app_of c.in_ok-either.either ≡ with_subcommand quoting_line (sender_line (codes "loop")).top =
-    subcommand-added _ _ _ _ c.sender_command-looping.result c.in_ok-either.ensures c.sender_command-looping.ensures quoting in
+    let either : app_of c.in_ok-either.either ≡ with_subcommand quoting_line (send_line (codes "loop")).top =
+    subcommand-added _ _ _ _ c.with_ledger.result c.in_ok-either.ensures (c.with_ledger.ensures _ c.sender_command-looping.ensures) quoting in
     let both : app_of c.in_ok-both.both ≡ senders_line =
-    subcommand-added _ _ _ _ c.sender_command-sending.result c.in_ok-both.ensures c.sender_command-sending.ensures either in
+    subcommand-added _ _ _ _ c.with_ledger-2.result c.in_ok-both.ensures (c.with_ledger-2.ensures _ c.sender_command-sending.ensures) either in
     let going_on : app_of c.in_ok-going_on.going_on ≡ with_subcommand senders_line resume_line.top =
     subcommand-added _ _ _ _ c.resume_command.result c.in_ok-going_on.ensures c.resume_command.ensures both in
     let stopping : app_of c.in_ok-stopping.stopping ≡ with_subcommand (with_subcommand senders_line resume_line.top) stop_line.top =
@@ -49,4 +53,8 @@ returns c =
     subcommand-added _ _ _ _ c.audit_command.result c.in_ok-auditing.ensures c.audit_command.ensures doubting in
     let paying : app_of c.in_ok-paying.paying ≡ with_subcommand (with_subcommand listing_line audit_line.top) topup_line.top =
     subcommand-added _ _ _ _ c.topup_command.result c.in_ok-paying.ensures c.topup_command.ensures auditing in
-    IfOk-weaker c.with_subcommand-14.result _ _ (λ r adds. subcommand-added _ r _ _ c.balance_command.result adds c.balance_command.ensures paying) c.with_subcommand-14.ensures
+    let balancing : app_of c.in_ok-balancing.balancing ≡ with_subcommand paying_line balance_line.top =
+    subcommand-added _ _ _ _ c.balance_command.result c.in_ok-balancing.ensures c.balance_command.ensures paying in
+    let settling : app_of c.in_ok-settling.settling ≡ with_subcommand (with_subcommand paying_line balance_line.top) settle_line.top =
+    subcommand-added _ _ _ _ c.settle_command.result c.in_ok-settling.ensures c.settle_command.ensures balancing in
+    IfOk-weaker c.with_subcommand-16.result _ _ (λ r adds. subcommand-added _ r _ _ c.decide_command.result adds c.decide_command.ensures settling) c.with_subcommand-16.ensures

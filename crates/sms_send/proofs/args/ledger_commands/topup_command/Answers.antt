@@ -6,4 +6,5 @@ returns c =
     let named = c.with_argument-named.ensures _ _ c.name_argument-account.ensures.rule filed in
     let counted = c.with_argument-counted.ensures _ _ c.name_argument-credits.ensures.rule named in
     let referred = c.with_argument-referred.ensures _ _ c.value_option-reference.ensures.rule counted in
-    c.with_argument.ensures _ _ c.verbose_flag.ensures.rule referred
+    let tried = c.with_argument-tried.ensures _ _ c.flag-trial.ensures.rule referred in
+    c.with_argument.ensures _ _ c.verbose_flag.ensures.rule tried

@@ -4,4 +4,5 @@ pub returns : goal.returns
 returns c =
     let configured = c.with_argument-configured.ensures _ _ c.file_option-config.ensures.rule c.subcommand-begun.ensures in
     let noted = c.with_argument-noted.ensures _ _ c.file_option-journal.ensures.rule configured in
-    c.with_argument.ensures _ _ c.verbose_flag.ensures.rule noted
+    let referred = c.with_argument-referred.ensures _ _ c.refs_flag.ensures.rule noted in
+    c.with_argument.ensures _ _ c.verbose_flag.ensures.rule referred

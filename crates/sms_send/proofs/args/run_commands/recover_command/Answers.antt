@@ -5,4 +5,5 @@ returns c =
     let configured = c.with_argument-configured.ensures _ _ c.file_option-config.ensures.rule c.subcommand-begun.ensures in
     let noted = c.with_argument-noted.ensures _ _ c.file_option-journal.ensures.rule configured in
     let tried = c.with_argument-tried.ensures _ _ c.flag-trial.ensures.rule noted in
-    c.with_argument.ensures _ _ c.verbose_flag.ensures.rule tried
+    let referred = c.with_argument-referred.ensures _ _ c.refs_flag.ensures.rule tried in
+    c.with_argument.ensures _ _ c.verbose_flag.ensures.rule referred

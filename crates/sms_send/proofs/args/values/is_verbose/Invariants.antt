@@ -1,6 +1,6 @@
 use Rattle.std.proofs.Common.{◌≡◌, drop, map}
 use Rattle.std.specs.Prelude.{string_bytes}
-use Rattle.sms_send.specs.CommandLine.{asks_for_more}
+use Rattle.sms_send.specs.Words.{asks_for_more}
 use Rattle.sms_send.proofs.args.values.is_verbose.Given as goal
 
 abbrev pub invariant-loop-word : goal.invariant-loop-word

@@ -1,5 +1,6 @@
 use Rattle.std.specs.Prelude.{string_bytes}
 use Rattle.std.proofs.lemmas.Result.{IfErr-weaker, on_ok_weaker}
+use Rattle.sms_send.specs.PlainFiles.{sees}
 use Rattle.sms_send.proofs.Quoting.{front_asked, job_quotes, quotes_asked}
 use Rattle.sms_send.proofs.jobs.quote_job.quote_job.Goals as goal
 
@@ -9,19 +10,19 @@ returns-clause-status g c = c.quote_config.ensures.status
 pub returns-clause-quoted : goal.returns-clause-quoted
 returns-clause-quoted g c =
     on_ok_weaker c.quote_config.result
-    (job_quotes (g.R.InputFiles.finds c.args.rt.now) (g.R.FullNames.is_full c.args.rt.now) c.is_at_length-at_length.result (string_bytes c.args.config) _ _ _ _) c.quote_config.ensures.quoted
+    (job_quotes (sees c.args.refs (g.R.InputFiles.finds c.args.rt.now)) (g.R.FullNames.is_full c.args.rt.now) c.is_at_length-at_length.result (string_bytes c.args.config) _ _ _ _) c.quote_config.ensures.quoted
 
 pub returns-clause-beside : goal.returns-clause-beside
 returns-clause-beside g c =
     on_ok_weaker c.quote_config.result
-    (quotes_asked (g.R.InputFiles.finds c.args.rt.now) (g.R.FullNames.is_full c.args.rt.now) (g.R.Screen.details c.args.rt.now) c.args.config c.args.verbose c.has_details.result c.is_at_length-at_length.result _ _ _ _
+    (quotes_asked (sees c.args.refs (g.R.InputFiles.finds c.args.rt.now)) (g.R.FullNames.is_full c.args.rt.now) (g.R.Screen.details c.args.rt.now) c.args.config c.args.verbose c.has_details.result c.is_at_length-at_length.result _ _ _ _
     c.has_details.ensures c.is_at_length-at_length.ensures)
     c.quote_config.ensures.quoted
 
 pub returns-clause-front : goal.returns-clause-front
 returns-clause-front g c =
     IfErr-weaker c.quote_config.result _ _
-    (λ fault front failed. front_asked (g.R.InputFiles.finds c.args.rt.now) (g.R.FullNames.is_full c.args.rt.now) (g.R.Screen.details c.args.rt.now) c.args.config c.args.verbose c.has_details.result c.is_at_length-at_length.result _ _
+    (λ fault front failed. front_asked (sees c.args.refs (g.R.InputFiles.finds c.args.rt.now)) (g.R.FullNames.is_full c.args.rt.now) (g.R.Screen.details c.args.rt.now) c.args.config c.args.verbose c.has_details.result c.is_at_length-at_length.result _ _
     c.has_details.ensures c.is_at_length-at_length.ensures (front failed))
     c.quote_config.ensures.front
 

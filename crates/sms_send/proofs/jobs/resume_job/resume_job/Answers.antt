@@ -57,39 +57,39 @@ pub returns-then-count_left-eq0-clause-unwritten : goal.returns-then-count_left-
 returns-then-count_left-eq0-clause-unwritten g c =
     IfErr-weaker c.print_run.result _ _ (λ fault quiet other kept. quiet other) c.print_run.ensures.quiet
 
-pub resume_run-requires-clause-rows : goal.resume_run-requires-clause-rows
-resume_run-requires-clause-rows g c κs within =
-    rows_told c.in-Ok-read_journaled.ensures.run.0 c.in-Ok-read_journaled.run' c.in-Ok-read_journaled.ensures.run.2
+pub resume_run-resumed-requires-clause-rows : goal.resume_run-resumed-requires-clause-rows
+resume_run-resumed-requires-clause-rows g c κs within =
+    rows_told c.in-Ok-read_journaled.ensures.run.0 c.in-Ok-read_journaled.run' c.in-Ok-read_journaled.ensures.run.3
 
-pub resume_run-requires-clause-opened : goal.resume_run-requires-clause-opened
-resume_run-requires-clause-opened g c κs within =
+pub resume_run-resumed-requires-clause-opened : goal.resume_run-resumed-requires-clause-opened
+resume_run-resumed-requires-clause-opened g c κs within =
     subst (λ (n : List ℕ). g.R.JournalFiles.opens c.args.rt.now n c.in-Ok.held) c.as_str.ensures.value c.in-Ok.ensures.opened
 
 pub returns-clause-resumed : goal.returns-clause-resumed
 returns-clause-resumed g c =
     let some : 0 < count_left c.in-Ok-read_journaled.run'.ends.items = search rules in
-    IfOk-weaker c.resume_run.result _ _ (λ status sends. (c.in-Ok-read_journaled.run', c.in-Ok-read_journaled.ensures.run, inr (record { some = some; sends = sends }))) c.resume_run.ensures.ended.sent
+    IfOk-weaker c.resume_run-resumed.result _ _ (λ status sends. (c.in-Ok-read_journaled.run', c.in-Ok-read_journaled.ensures.run, inr (record { some = some; sends = sends }))) c.resume_run-resumed.ensures.ended.sent
 
 pub returns-clause-status : goal.returns-clause-status
 returns-clause-status g c =
-    c.resume_run.ensures.ended.status
+    c.resume_run-resumed.ensures.ended.status
 
 pub returns-clause-noted : goal.returns-clause-noted
 returns-clause-noted g c =
-    IfOk-weaker c.resume_run.result _ _ (λ status is. inr is) c.resume_run.ensures.noted
+    IfOk-weaker c.resume_run-resumed.result _ _ (λ status is. inr is) c.resume_run-resumed.ensures.noted
 
 pub returns-clause-started : goal.returns-clause-started
 returns-clause-started g c =
-    on_ok_weaker c.resume_run.result _ _ (λ go. inr go) c.resume_run.ensures.ended.started
+    on_ok_weaker c.resume_run-resumed.result _ _ (λ go. inr go) c.resume_run-resumed.ensures.ended.started
 
 pub returns-clause-refused : goal.returns-clause-refused
 returns-clause-refused g c =
-    IfErr-weaker c.resume_run.result _ _ (λ fault fails. inr (c.in-Ok-read_journaled.run', c.in-Ok-read_journaled.ensures.run, inr fails)) c.resume_run.ensures.ended.refused
+    IfErr-weaker c.resume_run-resumed.result _ _ (λ fault fails. inr (c.in-Ok-read_journaled.run', c.in-Ok-read_journaled.ensures.run, inr fails)) c.resume_run-resumed.ensures.ended.refused
 
 pub returns-clause-phase : goal.returns-clause-phase
 returns-clause-phase g c =
-    IfErr-weaker c.resume_run.result _ _ (λ fault comes. inr comes) c.resume_run.ensures.ended.phase
+    IfErr-weaker c.resume_run-resumed.result _ _ (λ fault comes. inr comes) c.resume_run-resumed.ensures.ended.phase
 
 pub returns-clause-unwritten : goal.returns-clause-unwritten
 returns-clause-unwritten g c =
-    c.resume_run.ensures.ended.unwritten
+    c.resume_run-resumed.ensures.ended.unwritten

@@ -1,4 +1,4 @@
-use Rattle.std.proofs.Common.{inl, inr, refl, subst, true}
+use Rattle.std.proofs.Common.{Err, inl, inr, refl, subst, true}
 use Rattle.sms_devices.specs.Centres.{CentreAt}
 use Rattle.sms_send.specs.Resumed.{FailsResuming}
 use Rattle.sms_send.specs.Sent.{SendingEnd, SendsLeft}
@@ -25,3 +25,6 @@ returns-in-Err-clause-ended g c = record {
   phase = memory_at _ _ c.requires.not_started c.in-Err.ensures.refused;
   unwritten = λ other kept. refl;
 }
+
+pub returns-in-Err-clause-kept : goal.returns-in-Err-clause-kept
+returns-in-Err-clause-kept g c = (Err c.in-Err.fault, tt, tt)

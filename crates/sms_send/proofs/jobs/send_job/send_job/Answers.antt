@@ -4,6 +4,7 @@ use Rattle.std.proofs.lemmas.Result.{IfErr-weaker, IfOk-weaker}
 use Rattle.sms_send.specs.Noted.{FailsBegin, NotesEnd}
 use Rattle.sms_send.specs.Reached.{centre_of}
 use Rattle.sms_send.specs.declared.args.send_args.JournalFile.{JournalFile}
+use Rattle.sms_send.specs.PlainFiles.{left_in, sees}
 use Rattle.sms_send.proofs.ConfigFiles.{early_at}
 use Rattle.sms_send.proofs.Noting.{ended_early, unwanted}
 use Rattle.sms_send.proofs.SendJobs.{input_fails, missing_fails, or_false, or_true, reading_fails, sends_by}
@@ -13,13 +14,13 @@ use Rattle.sms_send.proofs.jobs.send_job.send_job.Goals as goal
 pub returns-in-None-clause-ended : goal.returns-in-None-clause-ended
 returns-in-None-clause-ended g c = record {
   sent = IfOk-weaker c.run.result _ _
-      (λ status sends. sends_by (g.R.InputFiles.finds c.args.rt.now) (g.R.Connects.tells c.args.rt.now) _ c.args.kind c.in_ok-read.read (centre_of c.in_ok-target.target) c.in_ok-opened.opened.config _ _ _ c.args.order.again c.args.order.strict c.args.order.strict false _ c.in_ok-input-in-None.input _ _ status
+      (λ status sends. sends_by (sees c.args.order.refs (g.R.InputFiles.finds c.args.rt.now)) (g.R.Connects.tells c.args.rt.now) _ c.args.kind c.in_ok-read.read (centre_of c.in_ok-target.target) c.in_ok-opened.opened.config _ _ _ c.args.order.again c.args.order.strict c.args.order.strict false _ c.in_ok-input-in-None.input _ _ status
       c.in_ok-read.ensures.read (record { config_is = c.in_ok-opened.ensures.config; found = c.in_ok-opened.ensures.found }) c.in_ok-target.ensures.centre (or_false c.args.order.strict) (ap is_some c.in-None.is) c.in_ok-input-in-None.ensures.read sends)
       c.run.ensures.ended.sent;
   status = c.run.ensures.ended.status;
   started = c.run.ensures.ended.started;
   refused = IfErr-weaker c.run.result _ _
-      (λ fault fails. input_fails (FailsBegin (g.R.JournalFiles.makes c.args.rt.now) (g.R.JournalFiles.refuses c.args.rt.now) (g.R.JournalFiles.holds c.args.rt.now)) (g.R.InputFiles.finds c.args.rt.now) (g.R.Connects.tells c.args.rt.now) c.args.kind c.args.order _ _ fault c.in_ok-read.read (centre_of c.in_ok-target.target) c.in_ok-opened.opened.config _ _ _ c.args.order.strict None c.in_ok-input-in-None.input
+      (λ fault fails. input_fails (FailsBegin (g.R.JournalFiles.makes c.args.rt.now) (g.R.JournalFiles.refuses c.args.rt.now) (g.R.JournalFiles.holds c.args.rt.now)) (sees c.args.order.refs (g.R.InputFiles.finds c.args.rt.now)) (g.R.Connects.tells c.args.rt.now) c.args.kind c.args.order _ _ fault c.in_ok-read.read (centre_of c.in_ok-target.target) c.in_ok-opened.opened.config _ _ _ c.args.order.strict None c.in_ok-input-in-None.input
       c.in_ok-read.ensures.read (record { config_is = c.in_ok-opened.ensures.config; found = c.in_ok-opened.ensures.found }) c.in_ok-target.ensures.centre c.in-None.is (or_false c.args.order.strict) c.in_ok-input-in-None.ensures.read fails)
       c.run.ensures.ended.refused;
   phase = c.run.ensures.ended.phase;
@@ -29,13 +30,13 @@ returns-in-None-clause-ended g c = record {
 pub returns-clause-ended : goal.returns-clause-ended
 returns-clause-ended g c = record {
   sent = IfOk-weaker c.run_noted.result _ _
-      (λ status sends. sends_by (g.R.InputFiles.finds c.args.rt.now) (g.R.Connects.tells c.args.rt.now) _ c.args.kind c.in_ok-read.read (centre_of c.in_ok-target.target) c.in_ok-opened.opened.config _ _ _ c.args.order.again true c.args.order.strict true _ c.in_ok-noted-in-Some.noted.input _ _ status
+      (λ status sends. sends_by (sees c.args.order.refs (g.R.InputFiles.finds c.args.rt.now)) (g.R.Connects.tells c.args.rt.now) _ c.args.kind c.in_ok-read.read (centre_of c.in_ok-target.target) c.in_ok-opened.opened.config _ _ _ c.args.order.again true c.args.order.strict true _ c.in_ok-noted-in-Some.noted.input _ _ status
       c.in_ok-read.ensures.read (record { config_is = c.in_ok-opened.ensures.config; found = c.in_ok-opened.ensures.found }) c.in_ok-target.ensures.centre (or_true c.args.order.strict) (ap is_some c.in-Some.is) c.in_ok-noted-in-Some.ensures.read sends)
       c.run_noted.ensures.ended.sent;
   status = c.run_noted.ensures.ended.status;
   started = c.run_noted.ensures.ended.started;
   refused = IfErr-weaker c.run_noted.result _ _
-      (λ fault fails. input_fails (FailsBegin (g.R.JournalFiles.makes c.args.rt.now) (g.R.JournalFiles.refuses c.args.rt.now) (g.R.JournalFiles.holds c.args.rt.now)) (g.R.InputFiles.finds c.args.rt.now) (g.R.Connects.tells c.args.rt.now) c.args.kind c.args.order _ _ fault c.in_ok-read.read (centre_of c.in_ok-target.target) c.in_ok-opened.opened.config _ _ _ true (Some c.in-Some.wanted) c.in_ok-noted-in-Some.noted.input
+      (λ fault fails. input_fails (FailsBegin (g.R.JournalFiles.makes c.args.rt.now) (g.R.JournalFiles.refuses c.args.rt.now) (g.R.JournalFiles.holds c.args.rt.now)) (sees c.args.order.refs (g.R.InputFiles.finds c.args.rt.now)) (g.R.Connects.tells c.args.rt.now) c.args.kind c.args.order _ _ fault c.in_ok-read.read (centre_of c.in_ok-target.target) c.in_ok-opened.opened.config _ _ _ true (Some c.in-Some.wanted) c.in_ok-noted-in-Some.noted.input
       c.in_ok-read.ensures.read (record { config_is = c.in_ok-opened.ensures.config; found = c.in_ok-opened.ensures.found }) c.in_ok-target.ensures.centre c.in-Some.is (or_true c.args.order.strict) c.in_ok-noted-in-Some.ensures.read fails)
       c.run_noted.ensures.ended.refused;
   phase = c.run_noted.ensures.ended.phase;
@@ -57,20 +58,20 @@ returns-in_err-target-clause-ended g c =
 pub returns-in_err-opened-clause-ended : goal.returns-in_err-opened-clause-ended
 returns-in_err-opened-clause-ended g c =
     ended_early c.from_residual-in_err-opened.result _ _ _ _ _ _ c.from_residual-in_err-opened.ensures.1
-    (missing_fails (FailsBegin (g.R.JournalFiles.makes c.args.rt.now) (g.R.JournalFiles.refuses c.args.rt.now) (g.R.JournalFiles.holds c.args.rt.now)) (g.R.InputFiles.finds c.args.rt.now) (g.R.Connects.tells c.args.rt.now) c.args.kind c.args.order _ _ _ c.in_ok-read.read c.in_ok-read.ensures.read c.in_err-opened.ensures.refused)
-    (missing_at (g.R.InputFiles.finds c.args.rt.now) _ _ _ c.requires.not_started c.in_err-opened.ensures.refused)
+    (missing_fails (FailsBegin (g.R.JournalFiles.makes c.args.rt.now) (g.R.JournalFiles.refuses c.args.rt.now) (g.R.JournalFiles.holds c.args.rt.now)) (sees c.args.order.refs (g.R.InputFiles.finds c.args.rt.now)) (g.R.Connects.tells c.args.rt.now) c.args.kind c.args.order _ _ _ c.in_ok-read.read c.in_ok-read.ensures.read c.in_err-opened.ensures.refused)
+    (missing_at (sees c.args.order.refs (g.R.InputFiles.finds c.args.rt.now)) _ _ _ c.requires.not_started c.in_err-opened.ensures.refused)
 
 pub returns-in_err-input-in-None-clause-ended : goal.returns-in_err-input-in-None-clause-ended
 returns-in_err-input-in-None-clause-ended g c =
     ended_early c.from_residual-in_err-input-in-None.result _ _ _ _ _ _ c.from_residual-in_err-input-in-None.ensures.1
-    (reading_fails (FailsBegin (g.R.JournalFiles.makes c.args.rt.now) (g.R.JournalFiles.refuses c.args.rt.now) (g.R.JournalFiles.holds c.args.rt.now)) (g.R.InputFiles.finds c.args.rt.now) (g.R.Connects.tells c.args.rt.now) c.args.kind c.args.order _ _ _ c.in_ok-read.read c.in_ok-opened.opened.config (g.R.InputFile.Read.remaining c.in_ok-opened.opened.accounts) (g.R.InputFile.Read.remaining c.in_ok-opened.opened.messages) (option_map g.R.InputFile.Read.remaining c.in_ok-opened.opened.tariff) c.args.order.strict c.in_ok-read.ensures.read (record { config_is = c.in_ok-opened.ensures.config; found = c.in_ok-opened.ensures.found }) (subst (λ (j : Option JournalFile). c.args.order.strict ≡ (c.args.order.strict || is_some j)) (sym c.in-None.is) (or_false c.args.order.strict)) c.in_err-input-in-None.ensures.refused)
-    (reading_at _ c.args.order.strict c.args.order.strict c.in_ok-opened.opened.config (g.R.InputFile.Read.remaining c.in_ok-opened.opened.accounts) (g.R.InputFile.Read.remaining c.in_ok-opened.opened.messages) (option_map g.R.InputFile.Read.remaining c.in_ok-opened.opened.tariff) _ c.requires.not_started c.in_err-input-in-None.ensures.refused)
+    (reading_fails (FailsBegin (g.R.JournalFiles.makes c.args.rt.now) (g.R.JournalFiles.refuses c.args.rt.now) (g.R.JournalFiles.holds c.args.rt.now)) (sees c.args.order.refs (g.R.InputFiles.finds c.args.rt.now)) (g.R.Connects.tells c.args.rt.now) c.args.kind c.args.order _ _ _ c.in_ok-read.read c.in_ok-opened.opened.config ((left_in g.R.InputFile.Read.remaining) c.in_ok-opened.opened.accounts) ((left_in g.R.InputFile.Read.remaining) c.in_ok-opened.opened.messages) (option_map (left_in g.R.InputFile.Read.remaining) c.in_ok-opened.opened.tariff) c.args.order.strict c.in_ok-read.ensures.read (record { config_is = c.in_ok-opened.ensures.config; found = c.in_ok-opened.ensures.found }) (subst (λ (j : Option JournalFile). c.args.order.strict ≡ (c.args.order.strict || is_some j)) (sym c.in-None.is) (or_false c.args.order.strict)) c.in_err-input-in-None.ensures.refused)
+    (reading_at _ c.args.order.strict c.args.order.strict c.in_ok-opened.opened.config ((left_in g.R.InputFile.Read.remaining) c.in_ok-opened.opened.accounts) ((left_in g.R.InputFile.Read.remaining) c.in_ok-opened.opened.messages) (option_map (left_in g.R.InputFile.Read.remaining) c.in_ok-opened.opened.tariff) _ c.requires.not_started c.in_err-input-in-None.ensures.refused)
 
 pub returns-in_err-noted-in-Some-clause-ended : goal.returns-in_err-noted-in-Some-clause-ended
 returns-in_err-noted-in-Some-clause-ended g c =
     ended_early c.from_residual-in_err-noted-in-Some.result _ _ _ _ _ _ c.from_residual-in_err-noted-in-Some.ensures.1
-    (reading_fails (FailsBegin (g.R.JournalFiles.makes c.args.rt.now) (g.R.JournalFiles.refuses c.args.rt.now) (g.R.JournalFiles.holds c.args.rt.now)) (g.R.InputFiles.finds c.args.rt.now) (g.R.Connects.tells c.args.rt.now) c.args.kind c.args.order _ _ _ c.in_ok-read.read c.in_ok-opened.opened.config (g.R.InputFile.Read.remaining c.in_ok-opened.opened.accounts) (g.R.InputFile.Read.remaining c.in_ok-opened.opened.messages) (option_map g.R.InputFile.Read.remaining c.in_ok-opened.opened.tariff) true c.in_ok-read.ensures.read (record { config_is = c.in_ok-opened.ensures.config; found = c.in_ok-opened.ensures.found }) (subst (λ (j : Option JournalFile). true ≡ (c.args.order.strict || is_some j)) (sym c.in-Some.is) (or_true c.args.order.strict)) c.in_err-noted-in-Some.ensures.refused)
-    (reading_at _ true c.args.order.strict c.in_ok-opened.opened.config (g.R.InputFile.Read.remaining c.in_ok-opened.opened.accounts) (g.R.InputFile.Read.remaining c.in_ok-opened.opened.messages) (option_map g.R.InputFile.Read.remaining c.in_ok-opened.opened.tariff) _ c.requires.not_started c.in_err-noted-in-Some.ensures.refused)
+    (reading_fails (FailsBegin (g.R.JournalFiles.makes c.args.rt.now) (g.R.JournalFiles.refuses c.args.rt.now) (g.R.JournalFiles.holds c.args.rt.now)) (sees c.args.order.refs (g.R.InputFiles.finds c.args.rt.now)) (g.R.Connects.tells c.args.rt.now) c.args.kind c.args.order _ _ _ c.in_ok-read.read c.in_ok-opened.opened.config ((left_in g.R.InputFile.Read.remaining) c.in_ok-opened.opened.accounts) ((left_in g.R.InputFile.Read.remaining) c.in_ok-opened.opened.messages) (option_map (left_in g.R.InputFile.Read.remaining) c.in_ok-opened.opened.tariff) true c.in_ok-read.ensures.read (record { config_is = c.in_ok-opened.ensures.config; found = c.in_ok-opened.ensures.found }) (subst (λ (j : Option JournalFile). true ≡ (c.args.order.strict || is_some j)) (sym c.in-Some.is) (or_true c.args.order.strict)) c.in_err-noted-in-Some.ensures.refused)
+    (reading_at _ true c.args.order.strict c.in_ok-opened.opened.config ((left_in g.R.InputFile.Read.remaining) c.in_ok-opened.opened.accounts) ((left_in g.R.InputFile.Read.remaining) c.in_ok-opened.opened.messages) (option_map (left_in g.R.InputFile.Read.remaining) c.in_ok-opened.opened.tariff) _ c.requires.not_started c.in_err-noted-in-Some.ensures.refused)
 
 pub returns-in-None-clause-noted : goal.returns-in-None-clause-noted
 returns-in-None-clause-noted g c = unwanted g.R.JournalFile.Write.contents (g.R.JournalFiles.makes c.args.rt.now) c.args.order.journal c.run.result c.in-None.is

@@ -1,4 +1,4 @@
-use Rattle.std.proofs.Common.{inl, refl}
+use Rattle.std.proofs.Common.{Err, inl, refl}
 use Rattle.sms_send.proofs.Noting.{ended_noted}
 use Rattle.sms_send.proofs.Starts.{unbegun_at}
 use Rattle.sms_send.proofs.sending.Sending.resume_in_file.Goals as goal
@@ -16,3 +16,9 @@ returns-in-Err-clause-ended g c = record {
   phase = unbegun_at _ _ c.requires.not_started c.in-Err.ensures.refused;
   unwritten = λ other kept. refl;
 }
+
+pub returns-clause-kept : goal.returns-clause-kept
+returns-clause-kept g c = (c.run_with_journal-resumed.result.0, c.run_with_journal-resumed.ensures.kept, c.end_journal.ensures.ended)
+
+pub returns-in-Err-clause-kept : goal.returns-in-Err-clause-kept
+returns-in-Err-clause-kept g c = (Err c.in-Err.fault, tt, tt)

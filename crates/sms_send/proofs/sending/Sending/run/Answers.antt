@@ -5,6 +5,7 @@ use Rattle.sms_send.specs.Reached.{centre_of}
 use Rattle.sms_send.specs.Sent.{IsDeaf, FailsOver, SendingEnd, SendsWork, unknown}
 use Rattle.sms_send.specs.declared.faults.fault.Fault.TheVariants.{BindFailed}
 use Rattle.sms_send.specs.declared.sending.target.Target.{Target}
+use Rattle.sms_send.proofs.Keeping.{kept_reasoned, unkept}
 use Rattle.sms_send.proofs.Reasons.{reasoned_end}
 use Rattle.sms_send.proofs.Reaching.{over_loopback, over_remote}
 use Rattle.sms_send.proofs.sending.Sending.run.Goals as goal
@@ -34,3 +35,13 @@ returns-clause-ended g c =
     (λ tells. SendingEnd c.args.self.now.strict (SendsWork tells c.args.self.now.again c.args.self.now.strict c.args.work (g.W.Write.contents c.args.output.now) (g.W.Write.contents c.send_over-sent-in-Loopback.new.output))
     (FailsOver unknown tells c.args.self.now.again c.args.work (g.W.Write.contents c.args.output.now) (g.W.Write.contents c.send_over-sent-in-Loopback.new.output)) c.send_over-sent-in-Loopback.new.start.begun c.args.output.now c.send_over-sent-in-Loopback.new.output c.send_over-sent-in-Loopback.result)
     _ _ _ _ _ c.in-Loopback.is (ap (map string_bytes) c.as_slice.ensures.value) c.new-outboxes.ensures.journal c.send_over-sent-in-Loopback.ensures.ended)
+
+pub returns-in-Remote-clause-kept : goal.returns-in-Remote-clause-kept
+returns-in-Remote-clause-kept g c = λ none. kept_reasoned c.reasoned.result c.send_over-sent.result _ _ _ c.reasoned.ensures.sent c.reasoned.ensures.told c.send_over-sent.ensures.kept
+
+pub returns-in_default-clause-kept : goal.returns-in_default-clause-kept
+returns-in_default-clause-kept g c = λ none. unkept (g.W.Write.contents c.args.output.now) (g.W.Write.contents c.args.output.now) (BindFailed 0 NoConnection) c.args.kept.now none
+
+pub returns-clause-kept : goal.returns-clause-kept
+returns-clause-kept g c =
+    λ none. kept_reasoned c.reasoned-in-Loopback.result c.send_over-sent-in-Loopback.result _ _ _ c.reasoned-in-Loopback.ensures.sent c.reasoned-in-Loopback.ensures.told c.send_over-sent-in-Loopback.ensures.kept

@@ -6,7 +6,7 @@ use Rattle.sms_send.proofs.sending.Sending.run_noted.Goals as goal
 
 pub returns-clause-ended : goal.returns-clause-ended
 returns-clause-ended g c =
-    ended_weaker c.run_in_file.result _ _ _ _ _ _ _ (λ fault. weaker_first (λ lacks. inr (inr (lacks, (c.in-Ok.file, subst (λ (name : List ℕ). g.R.JournalFiles.makes c.args.self.now.rt.now name c.in-Ok.file) c.as_str.ensures.value c.in-Ok.ensures.made))))) c.run_in_file.ensures.ended
+    ended_weaker c.run_in_file-sent.result _ _ _ _ _ _ _ (λ fault. weaker_first (λ lacks. inr (inr (lacks, (c.in-Ok.file, subst (λ (name : List ℕ). g.R.JournalFiles.makes c.args.self.now.rt.now name c.in-Ok.file) c.as_str.ensures.value c.in-Ok.ensures.made))))) c.run_in_file-sent.ensures.ended
 
 pub returns-in-Err-clause-ended : goal.returns-in-Err-clause-ended
 returns-in-Err-clause-ended g c =
