@@ -5,11 +5,13 @@ import os
 import re
 import tomllib
 
+from books import Ledger
 from tables import Fault, number, table
 
 CONFIG, PARTS = "send.toml", "parts"
 ACCOUNTS = ["account", "credits"]
 MESSAGES = ["account", "source", "destination", "text"]
+WITH_REFS = [*MESSAGES, "ref"]
 TARIFF = ["prefix", "credits"]
 NUMBERS = ["message"]
 MOST_CREDITS = 2**40
@@ -18,19 +20,23 @@ NAMES = {"accounts": "accounts.csv", "messages": "messages.csv", "tariff": "tari
 
 
 class Job:
-    """Config, accounts (name: credits), messages (four fields each) and tariff (prefix: credits) of a folder."""
+    """Config, accounts (name: credits), messages (four fields each, or five with the sender's references) and tariff (prefix: credits) of a folder. The accounts of a job on a ledger are
+    those that its messages name."""
 
-    def __init__(self, folder):
-        self.folder = folder
+    def __init__(self, folder, ledger=None):
+        self.folder, self.ledger = folder, ledger and Ledger(ledger)
         self.config = read_config(f"{folder}/{CONFIG}")
         names = {key: self.config[1].get(key, "" if key == "tariff" else name) for key, name in NAMES.items()}
-        self.accounts = read_accounts(self.path(names["accounts"]))
+        accounts = self.ledger.accounts if ledger else read_accounts(self.path(names["accounts"]))
         self.messages_name = self.path(names["messages"])
-        found = table(self.messages_name, MESSAGES)
+        found = table(self.messages_name, MESSAGES, WITH_REFS)
         for line, it in found:
-            if it[0] not in self.accounts:
-                raise Fault(self.messages_name, f"no account '{it[0]}' in {names['accounts']}", line)
+            if it[0] not in accounts:
+                raise Fault(self.messages_name, f"no account '{it[0]}' in {ledger or names['accounts']}", line)
         self.messages = [it for _, it in found]
+        self.columns = WITH_REFS if has_refs(self.messages) else MESSAGES
+        named = {it[0] for it in self.messages}
+        self.accounts = {it: credits for it, credits in accounts.items() if not ledger or it in named}
         self.tariff_name = self.path(names["tariff"]) if names["tariff"] else None
         self.tariff = read_tariff(self.tariff_name) if self.tariff_name else {}
 
@@ -45,6 +51,11 @@ class Job:
     def runs(self):
         """The folders of the runs, part by part."""
         return [it for it in map(runs_of_part, parts_of_job(self.folder)) if it]
+
+
+def has_refs(messages):
+    """Whether messages have references: those of a file all have, or none."""
+    return bool(messages) and len(messages[0]) == len(WITH_REFS)
 
 
 def parts_of_job(folder):
@@ -107,6 +118,11 @@ def read_tariff(name):
             raise Fault(name, f"prefix '{prefix}' is no 0 to 20 digits, or there twice", line)
         tariff[prefix] = number(name, line, credits, 1000)
     return tariff
+
+
+def messages_of(run):
+    """The messages of a run, by its folder."""
+    return [it for _, it in table(f"{run}/{NAMES['messages']}", MESSAGES, WITH_REFS)]
 
 
 def read_numbers(name):

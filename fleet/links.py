@@ -6,6 +6,7 @@ import functools
 import os
 import re
 
+from books import ledger_of_part, past_head
 from jobs import NAMES, read_accounts
 from reports import Report
 from tables import Fault, put_octets, rename
@@ -13,8 +14,8 @@ from tables import Fault, put_octets, rename
 BEGUN, JOURNAL, REPORT_NAME = "begun", "journal", "report.csv"
 # What a message was refused for that a further round sends.
 LEFT = ("bind-closed", "out-of-memory")
-# A journal that noted nothing: its head, and a line that was truncated. Whatever else there is counts as a note.
-NOTHING_NOTED = re.compile(rb"((journal|trial),1,[0-9a-f,]{0,300}\n)?[ -~]{0,400}")
+# A journal that noted nothing: its head, rounds in which no bind stood, and a line that was truncated. Whatever else there is counts as a note.
+NOTHING_NOTED = re.compile(rb"((journal|trial),[12],[0-9a-f,]{0,300}\n(round,[0-9,]{1,99}\n)*)?[ -~]{0,400}")
 
 
 class State(enum.Enum):
@@ -40,7 +41,8 @@ def noted(folder):
     if not os.path.exists(f"{folder}/{JOURNAL}"):
         return False
     with open(f"{folder}/{JOURNAL}", "rb") as file:
-        return not NOTHING_NOTED.fullmatch(file.read(1000))
+        past_head(file)
+        return not NOTHING_NOTED.fullmatch(file.read())
 
 
 def is_held(folder):
@@ -86,6 +88,8 @@ def doubt_of(begun, place, has_journal):
 
 def state_of_folder(folder):
     names, doubt = set(os.listdir(folder)), None
+    if ledger_of_part(os.path.dirname(folder)) is not None:
+        names.add(NAMES["accounts"])  # (it takes its credits when it begins)
     if BEGUN in names:
         doubt = doubt_of(read_text(f"{folder}/{BEGUN}"), here(), JOURNAL in names)
     return state_of(names, noted(folder), doubt)

@@ -1,7 +1,9 @@
 """Puts the reports of a job's runs together, and compares every sum."""
-from jobs import MESSAGES, NAMES, Job, read_numbers
+from books import ledger_of, past_head
+from jobs import PARTS, Job, messages_of, read_numbers
+from links import JOURNAL
 from reports import REPORT, STATEMENT, Report, booked, is_unsent
-from tables import put_lines, table
+from tables import put_lines
 
 SUMS = ("reserved", "charged", "returned")
 
@@ -24,7 +26,7 @@ class Merge:
     def add(self, part, folder):
         """Takes over what a run did."""
         numbers, report = read_numbers(f"{folder}/numbers.csv"), Report(f"{folder}/report.csv")
-        its = [it for _, it in table(f"{folder}/{NAMES['messages']}", MESSAGES)]
+        its = messages_of(folder)
         if not len(its) == len(numbers) == len(set(numbers)) == len(report.ends):
             counts = f"{len(its)} messages, {len(numbers)} numbers, {len(set(numbers))} of them unlike, {len(report.ends)} ends"
             self.wrong.append(f"{folder}: {counts}")
@@ -41,6 +43,20 @@ class Merge:
                     sums[message[0]][key] += amount
         for account, row in report.rows.items():
             self.add_row(part, folder, account, row, sums[account])
+        if self.job.ledger:
+            self.compare_with_ledger(folder, report)
+
+    def compare_with_ledger(self, folder, report):
+        """The ledger has of the run what its statement says: of each account what it took, and what came back of that."""
+        with open(f"{folder}/{JOURNAL}", "rb") as file:
+            booked = self.job.ledger.runs.get(past_head(file), {})
+        stated = {it: [row[key] for key in ("topped", "free", "reserved", "charged")] for it, row in report.rows.items() if row["topped"]}
+        for account in stated | booked:
+            took, *back = booked.get(account, [0])
+            if account in stated and not back and took == stated[account][0]:
+                self.wrong.append(f"{folder}: {took} credits of {account} are out with the run still")
+            elif [took, *back] != stated.get(account):
+                self.wrong.append(f"{folder}: of {account} the ledger has {[took, *back]}, and the statement {stated.get(account)}")
 
     def add_end(self, part, folder, k, end):
         """A message's end. Where an earlier run of the part had the message, it sent nothing of it; its end counts no more."""
@@ -59,7 +75,7 @@ class Merge:
             return
         if self.part_of.setdefault(account, part) != part:
             self.wrong.append(f"{folder}: account {account} is in {self.part_of[account]} too")
-        if row["topped"] != self.free[account]:
+        if not self.job.ledger and row["topped"] != self.free[account]:
             self.wrong.append(f"{folder}: account {account} was given {row['topped']}, and there were {self.free[account]}")
         if {key: row[key] for key in SUMS} != sums:
             self.wrong.append(f"{folder}: account {account} has {row}, and its parts come to {sums}")
@@ -72,17 +88,25 @@ class Merge:
     def compare(self):
         """Compares the whole: each message has an end, each account its top-ups, and each sum is that of the ends."""
         job, sums = self.job, {it: dict.fromkeys(SUMS, 0) for it in self.job.accounts}
-        for k, (account, _, destination, _) in enumerate(job.messages):
+        for k, (account, _, destination, *_) in enumerate(job.messages):
             if k not in self.ends:
                 self.wrong.append(f"message {k} is in no run")
                 continue
             for key, amount in booked(self.ends[k], job.cost(destination)).items():
                 sums[account][key] += amount
-        for account, credits in job.accounts.items():
+        for account in job.accounts:
+            credits = self.topped(account)
             if self.sums[account] != sums[account]:
                 self.wrong.append(f"account {account}: the runs come to {self.sums[account]}, and its parts to {sums[account]}")
             if credits != self.free[account] + sums[account]["reserved"] + sums[account]["charged"]:
                 self.wrong.append(f"account {account} was given {credits}, and has {self.free[account]} free and {sums[account]}")
+
+    def topped(self, account):
+        """What the job was given of an account. Of a ledger, into which others pay meanwhile and from which others take, it is what the job
+        used, and what its last run gave back."""
+        if not self.job.ledger:
+            return self.job.accounts[account]
+        return self.free[account] + self.sums[account]["reserved"] + self.sums[account]["charged"]
 
     def lines(self):
         """The job's report and statement."""
@@ -91,14 +115,14 @@ class Merge:
             for it in self.ends[k]:
                 yield [str(k), *it]
         yield STATEMENT
-        for account, credits in self.job.accounts.items():
+        for account in self.job.accounts:
             sums = [self.sums[account][key] for key in SUMS]
-            yield [account, *map(str, [credits, self.free[account], *sums])]
+            yield [account, *map(str, [self.topped(account), self.free[account], *sums])]
 
 
 def merge(folder):
     """Writes the job's report and gives how many messages it has, and whether a part of one is unanswered."""
-    job = Job(folder)
+    job = Job(folder, ledger_of(f"{folder}/{PARTS}"))
     found = Merge(job)
     for runs in job.runs():
         for it in runs:

@@ -4,10 +4,11 @@ import os
 import subprocess
 import sys
 
-from jobs import CONFIG, runs_of_part
+from books import ledger_of_part
+from jobs import CONFIG, NAMES, WITH_REFS, runs_of_part
 from links import BEGUN, JOURNAL, REPORT_NAME, State, beginning, is_held, next_run, put_accounts
 from reports import Report
-from tables import Fault, put_octets, put_text, sync_folder
+from tables import Fault, first_record, put_octets, put_text, sync_folder
 
 
 class Stopped(Exception):
@@ -24,12 +25,17 @@ class Part:
 
     def __init__(self, folder, program, is_synced=True, words=("send",)):
         self.folder, self.program, self.is_synced, self.words, self.lock = folder, program, is_synced, words, None
+        ledger = ledger_of_part(folder)
+        if ledger is not None and words[0] == "loop":
+            raise Fault(folder, "takes its credits from a ledger of what was paid, which no trial does: try a copy of the job that is split without --ledger")
+        self.ledger = [] if ledger is None else ["--ledger", ledger]
 
     def ask(self, run, *words):
         """What the program prints of a run; its status has to be 0 or 4, or 5 with --strict. The program has the part's lock too, so that nobody takes
         a run for cut while it is still sent, though what started it was killed: its journal's own lock begins a moment later."""
         more = {"cwd": run, "stdin": subprocess.DEVNULL, "capture_output": True, "pass_fds": [self.lock.fileno()]}
-        ended = subprocess.run([self.program, *words], check=False, env={**os.environ, "SMS_SEND_VERBOSE": "1"}, **more)
+        refs = ["--refs"] if first_record(f"{run}/{NAMES['messages']}") == WITH_REFS else []
+        ended = subprocess.run([self.program, *words, *refs], check=False, env={**os.environ, "SMS_SEND_VERBOSE": "1"}, **more)
         sys.stderr.buffer.write(ended.stderr)
         sys.stderr.flush()
         if ended.returncode not in (0, 4, 5):
@@ -40,15 +46,18 @@ class Part:
 
     def send(self, run, goes_on):
         """Sends a run that was not begun, or goes on with one. A trial begins anew, since no centre saw any of it. The report is put in
-        place when the program is done with it, also where its journal failed."""
+        place when the program is done with it, also where its journal failed. What a run that noted nothing took of a ledger comes back first."""
         goes_on = goes_on and self.words[0] == "send"
+        files = ["--config", CONFIG, "--journal", JOURNAL]
         if not goes_on and os.path.exists(f"{run}/{JOURNAL}"):
+            if self.ledger:
+                self.ask(run, "settle", *files, *self.ledger)
             os.remove(f"{run}/{JOURNAL}")
         put_text(beginning(self.is_synced), f"{run}/{BEGUN}")
         sync = ["--sync"] if self.is_synced else []
         words = ["resume" if goes_on else self.words[0], *self.words[1:]]
         try:
-            report = self.ask(run, *words, "--quiet", "--config", CONFIG, "--journal", JOURNAL, *sync)
+            report = self.ask(run, *words, "--quiet", *files, *sync, *self.ledger)
         except (Stopped, OSError) as why:
             if isinstance(why, Stopped) and why.report:
                 put_octets(why.report, f"{run}/{REPORT_NAME}")

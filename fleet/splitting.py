@@ -3,7 +3,8 @@ import heapq
 import os
 import shutil
 
-from jobs import ACCOUNTS, CONFIG, MESSAGES, NAMES, NUMBERS, PARTS, Job, config_of_run
+from books import LEDGER
+from jobs import ACCOUNTS, CONFIG, NAMES, NUMBERS, PARTS, Job, config_of_run
 from tables import Fault, put_lines, put_octets, put_text, rename, sync_folder
 
 # What a run takes at most (README.md).
@@ -39,12 +40,12 @@ def runs_of(accounts, counts, most=MOST_MESSAGES):
 
 
 def write_run(job, folder, run, numbers):
-    """A run's folder. One that goes on with an account has no accounts file: its credits are what the run before leaves free."""
+    """A run's folder. One that goes on with an account has no accounts file: its credits are what the run before leaves free. On a ledger none has."""
     os.makedirs(folder)
     mine = sorted(k for account, first, end in run for k in numbers[account][first:end])
-    if all(first == 0 for _, first, _ in run):
+    if not job.ledger and all(first == 0 for _, first, _ in run):
         put_lines([ACCOUNTS] + [[it, str(job.accounts[it])] for it, _, _ in run], f"{folder}/{NAMES['accounts']}")
-    put_lines([MESSAGES] + [job.messages[k] for k in mine], f"{folder}/{NAMES['messages']}")
+    put_lines([job.columns] + [job.messages[k] for k in mine], f"{folder}/{NAMES['messages']}")
     put_lines([NUMBERS] + [[str(k)] for k in mine], f"{folder}/numbers.csv")
     if job.tariff_name:
         with open(job.tariff_name, "rb") as file:
@@ -52,10 +53,10 @@ def write_run(job, folder, run, numbers):
     put_text(config_of_run(job.config, f"{job.folder}/{CONFIG}"), f"{folder}/{CONFIG}")
 
 
-def split(folder, parts, most=MOST_MESSAGES):
+def split(folder, parts, most=MOST_MESSAGES, ledger=None):
     """Writes a job's runs and gives how many messages each has, by part. They are written aside first, so that the folder
     parts/ is there whole or not at all."""
-    job = Job(folder)
+    job = Job(folder, ledger)
     whole, new = job.path(PARTS), job.path(f"{PARTS}.new")
     if os.path.exists(whole):
         raise Fault(whole, "is there: the job was split already")
@@ -73,6 +74,8 @@ def split(folder, parts, most=MOST_MESSAGES):
         for place, run in enumerate(runs):
             write_run(job, f"{new}/{k + 1:02d}/{place + 1}", run, numbers)
         sizes.append([sum(end - first for _, first, end in run) for run in runs])
+    if ledger:
+        put_text(os.path.abspath(ledger) + "\n", f"{new}/{LEDGER}")
     for it, _, _ in os.walk(new):
         sync_folder(it)
     rename(new, whole)

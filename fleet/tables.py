@@ -27,11 +27,21 @@ def records(name):
         raise Fault(name, f"is no CSV in UTF-8: {it}") from None
 
 
-def table(name, header):
-    """The records behind the header, which all have as many fields."""
+def first_record(name):
+    """The first record of a file, or none."""
+    try:
+        with open(name, newline="", encoding="utf-8-sig") as file:
+            return next((it for it in csv.reader(file) if it), None)
+    except (OSError, UnicodeDecodeError, csv.Error):
+        return None
+
+
+def table(name, *headers):
+    """The records behind the header, one of these, which all have as many fields."""
     found = records(name)
-    if not found or found[0][1] != header:
-        raise Fault(name, f"its first record has to be {','.join(header)}", 1)
+    header = next((it for it in headers if found and found[0][1] == it), None)
+    if header is None:
+        raise Fault(name, f"its first record has to be {' or '.join(map(','.join, headers))}", 1)
     for line, it in found[1:]:
         if len(it) != len(header):
             raise Fault(name, f"{len(header)} fields are wanted ({','.join(header)}), and there are {len(it)}", line)

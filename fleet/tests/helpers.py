@@ -3,9 +3,12 @@ import os
 import tempfile
 import unittest
 
-from jobs import ACCOUNTS, MESSAGES, Job, read_accounts, read_numbers
+from jobs import ACCOUNTS, MESSAGES, WITH_REFS, Job, messages_of, read_accounts, read_numbers
 from reports import REPORT, STATEMENT, booked
-from tables import put_lines, put_text, table
+from tables import put_lines, put_text
+
+HOME = os.path.dirname(os.path.dirname(os.path.dirname(os.path.realpath(__file__))))
+PROGRAM = f"{HOME}/release/sms-send-x86_64-linux-gnu"
 
 
 class Case(unittest.TestCase):
@@ -17,8 +20,8 @@ class Case(unittest.TestCase):
         self.folder = f"{room.name}/job"
         os.makedirs(self.folder)
 
-    def job(self, counts, credits=100, config="", tariff=None):
-        """A job whose accounts have so many messages each, dealt out in turns."""
+    def job(self, counts, credits=100, config="", tariff=None, refs=False):
+        """A job whose accounts have so many messages each, dealt out in turns, with references or without."""
         put_text(f"port = 2775\n{config}", f"{self.folder}/send.toml")
         put_lines([ACCOUNTS] + [[it, str(credits)] for it in counts], f"{self.folder}/accounts.csv")
         if tariff:
@@ -29,7 +32,9 @@ class Case(unittest.TestCase):
                 if left[account]:
                     left[account] -= 1
                     lines.append([account, "", f"44770090{len(lines):04d}", f"Text, number {len(lines)}"])
-        put_lines([MESSAGES, *lines], f"{self.folder}/messages.csv")
+        if refs:
+            lines = [[*it, f"R, {k}"] for k, it in enumerate(lines)]
+        put_lines([WITH_REFS if refs else MESSAGES, *lines], f"{self.folder}/messages.csv")
         return Job(self.folder)
 
 
@@ -40,7 +45,7 @@ def run(job, folder, outcome=lambda k: ["charged"], free=None):
         free = read_accounts(f"{folder}/accounts.csv")
     sums = {it: {"reserved": 0, "charged": 0, "returned": 0} for it in free}
     lines = [REPORT]
-    messages = [it for _, it in table(f"{folder}/messages.csv", MESSAGES)]
+    messages = messages_of(folder)
     for place, (k, message) in enumerate(zip(read_numbers(f"{folder}/numbers.csv"), messages)):
         end = ending(outcome(k))
         lines += [[str(place), *it] for it in end]

@@ -6,10 +6,7 @@ import unittest
 
 from reports import STATEMENT, Report
 from tables import put_lines, records
-from tests.helpers import Case
-
-HOME = os.path.dirname(os.path.dirname(os.path.dirname(os.path.realpath(__file__))))
-PROGRAM = f"{HOME}/release/sms-send-x86_64-linux-gnu"
+from tests.helpers import HOME, PROGRAM, Case
 
 
 class Example(Case):

@@ -1,7 +1,7 @@
 import os
 
 import tables
-from links import NOTHING_NOTED, State, beginning, doubt_of, here, is_left, state_of
+from links import NOTHING_NOTED, State, beginning, doubt_of, here, is_left, noted, state_of
 from tests.helpers import Case, ending
 
 
@@ -28,11 +28,26 @@ class Links(Case):
     def test_a_journal_that_noted_nothing(self):
         head = b"journal,1," + b",".join([b"ab" * 32] * 3) + b",\n"
         trial = head.replace(b"journal", b"trial")
-        for nothing in (b"", b"jour", head[:-1], head, head + b"begun,1", head + b"begun,1,0", trial, trial + b"begun,1,0"):
+        rounds = b"journal,2,3,0,1,1,a,b,\n" + b"".join(b"round,1790000000000,%d,1,1\n" % it for it in range(2, 300))
+        for nothing in (b"", b"jour", head[:-1], head, head + b"begun,1", head + b"begun,1,0", trial, trial + b"begun,1,0", rounds[:33], rounds):
             self.assertTrue(NOTHING_NOTED.fullmatch(nothing), nothing)
         lost = [b"\n", b"\0", b"\0" * 4096, head + b"\0\0", head + b"begun,1,0\n", head + b"begun,1,0\nsent,1,0", b"begun,1,0\n", head * 2, trial + head]
-        for text in lost + [head + b"x" * 500, b"journal,2,,,,\n"]:
+        for text in lost + [head + b"x" * 500, b"journal,3,,,,\n", b"round,1,2,1,1\n", rounds + b"begun,1,0\n"]:
             self.assertFalse(NOTHING_NOTED.fullmatch(text), text)
+
+    def test_a_journal_of_a_run_of_a_ledger(self):
+        """What stands before the journal is no note, whether it is whole or truncated."""
+        accounts = b"account,credits\na,5\nb,7\n"
+        head = b"run,1," + b"5c" * 16 + b",%d\n" % len(accounts) + accounts
+        first = b"journal,1,a,b,c,\n"
+        for size in range(len(head + first) + 1):
+            self.assertFalse(self.notes((head + first)[:size]), size)
+        for noted in (head + first + b"begun,1,0\n", head + first + b"refused,1,0,no-credit\n", head.replace(b"run,1", b"run,2"), head.replace(b"5c", b"5C")):
+            self.assertTrue(self.notes(noted), noted)
+
+    def notes(self, octets):
+        tables.put_octets(octets, f"{self.folder}/journal")
+        return noted(self.folder)
 
     def test_a_machine_that_went_down(self):
         place = ["one", "id", "start"]

@@ -58,6 +58,10 @@ class Whole(Merging):
         self.assertEqual(merge(self.folder), (5, False))
         self.assertEqual(self.merged().rows["a"], {"topped": 100, "free": 97, "reserved": 0, "charged": 3, "returned": 0})
 
+    def test_references_change_nothing(self):
+        self.made({"a": 3, "b": 2}, refs=True)
+        self.assertEqual(merge(self.folder), (5, False))
+
     def test_a_chain_goes_on_with_what_is_left(self):
         self.made({"a": 25, "b": 3}, size=10)
         merge(self.folder)

@@ -1,6 +1,6 @@
 import os
 
-from jobs import CONFIG, config_of_run, read_accounts, read_config, read_numbers
+from jobs import CONFIG, config_of_run, messages_of, read_accounts, read_config, read_numbers
 from splitting import dealt, runs_of, split
 from tables import Fault, put_lines, put_text, table
 from tests.helpers import Case
@@ -56,6 +56,14 @@ class Splitting(Case):
                     self.assertNotIn(k, found)
                     found[k] = message
         self.assertEqual([found[k] for k in range(12)], job.messages)
+
+    def test_references_stay_with_their_messages(self):
+        job = self.job({"a": 7, "b": 3}, refs=True)
+        split(self.folder, 2, 5)
+        runs = [it for part in job.runs() for it in part]
+        found = {k: message for it in runs for k, message in zip(read_numbers(f"{it}/numbers.csv"), messages_of(it))}
+        self.assertEqual([found[k] for k in range(10)], job.messages)
+        self.assertEqual([it[4] for it in job.messages], [f"R, {k}" for k in range(10)])
 
     def test_credits_stand_in_one_run(self):
         job = self.job({"a": 7, "b": 3, "d": 2, "idle": 0}, credits=9)
