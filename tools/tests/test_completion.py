@@ -37,7 +37,7 @@ class Completion(unittest.TestCase):
         self.assertEqual(self.offered("send", "--config", "="), wanted)
 
     def test_other_options_take_each_file(self):
-        for option in ("--journal", "--report", "--messages", "--ledger"):
+        for option in ("--journal", "--report", "--messages", "--ledger", "--decisions"):
             self.assertEqual(self.offered("recover", option, "a"), ["a b.toml", "a.csv", "a.toml", "accounts", "app.toml", "archive"])
 
     def test_a_number_has_no_offers(self):
@@ -51,11 +51,16 @@ class Completion(unittest.TestCase):
         self.assertEqual(self.offered("stop", "--"), ["--help", "--journal", "--verbose"])
         self.assertEqual(self.offered("b"), ["balance", "bill"])
         for word in ("bill", "doubtful"):
-            self.assertEqual(self.offered(word, "--"), ["--config", "--help", "--journal", "--verbose"])
-        self.assertEqual(self.offered("audit", "--"), ["--config", "--help", "--report", "--verbose"])
-        self.assertEqual(self.offered("topup", "--"), ["--help", "--ledger", "--ref", "--verbose"])
+            self.assertEqual(self.offered(word, "--"), ["--config", "--help", "--journal", "--refs", "--verbose"])
+        self.assertEqual(self.offered("audit", "--"), ["--config", "--help", "--refs", "--report", "--verbose"])
+        self.assertEqual(self.offered("topup", "--"), ["--help", "--ledger", "--ref", "--trial", "--verbose"])
         self.assertEqual(self.offered("balance", "--"), ["--help", "--ledger", "--verbose"])
         self.assertEqual(self.offered("topup", "--ref", ""), [])
+        for word in ("loop", "send"):
+            self.assertEqual(self.offered(word, "--l"), ["--ledger"])
+        self.assertEqual(self.offered("quote", "--l"), [])
+        self.assertEqual(self.offered("settle", "--"), ["--config", "--help", "--journal", "--ledger", "--refs", "--verbose"])
+        self.assertEqual(self.offered("decide", "--d"), ["--decisions"])
 
 
 if __name__ == "__main__":
