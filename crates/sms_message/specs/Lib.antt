@@ -2,8 +2,11 @@ pub mod Addresses
 pub mod Admission
 pub mod EndOf
 pub mod Ends
+pub mod Fields
+pub mod Laws
 pub mod Limits
 pub mod Names
 pub mod Results
+pub mod Room
 pub mod Submits
 pub mod UserData

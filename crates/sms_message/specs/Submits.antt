@@ -1,5 +1,5 @@
 -- The parts of a message, and the submit_sm of each (SMPP 3.4 4.4.1).
-use Rattle.std.specs.Prelude.{◌≡◌, ℕ, ◌%◌, Bool, List, [], string_bytes, if◌then◌else◌}
+use Rattle.std.specs.Prelude.{◌≡◌, ℕ, ◌%◌, Bool, List, string_bytes, if◌then◌else◌, unwrap_or}
 use Rattle.std.specs.Str.{chars}
 use Rattle.sms_pdu.specs.declared.body.Pdu.{Pdu}
 use Rattle.sms_pdu.specs.declared.body.Sm.{Sm}
@@ -41,27 +41,31 @@ message_parts rules m = parts_for rules.long_reference m
 abbrev pub registered : Bool → ℕ
 registered receipts = if receipts then 1 else 0
 
--- its fields; those that aren't told are empty or 0
+-- an earlier message is replaced (5.2.18)
+abbrev pub replaced : Bool → ℕ
+replaced replace = if replace then 1 else 0
+
+-- its fields: what the sending asks for, and else what the message and the rules say; those of which nothing is said are empty or 0
 abbrev pub submitted : Rules → Address → Address → Part → Sm
 submitted rules source dest part = record {
-  service_type = [];
-  source_ton = source.ton;
-  source_npi = source.npi;
+  service_type = rules.fields.service_type;
+  source_ton = unwrap_or rules.fields.source_ton source.ton;
+  source_npi = unwrap_or rules.fields.source_npi source.npi;
   source_addr = source.octets;
-  dest_ton = dest.ton;
-  dest_npi = dest.npi;
+  dest_ton = unwrap_or rules.fields.dest_ton dest.ton;
+  dest_npi = unwrap_or rules.fields.dest_npi dest.npi;
   dest_addr = dest.octets;
   esm_class = esm_class part.place;
-  protocol_id = 0;
-  priority = 0;
-  schedule = [];
-  validity = [];
-  registered = registered rules.receipts;
-  replace = 0;
+  protocol_id = rules.fields.protocol_id;
+  priority = rules.fields.priority;
+  schedule = rules.fields.schedule;
+  validity = rules.fields.validity;
+  registered = unwrap_or rules.fields.registered (registered rules.receipts);
+  replace = replaced rules.fields.replace;
   data_coding = data_coding part.coding;
   default_msg = 0;
   short_message = short_message part;
-  params = [];
+  params = rules.fields.params;
 }
 
 abbrev pub submit_sm : Rules → Address → Address → Part → ℕ → Pdu

@@ -4,6 +4,7 @@ ghost use Rattle.std.specs.Prelude.{◌≤◌};
 ghost use Rattle.sms_core.specs.Limits.{most_slots};
 ghost use Rattle.sms_message.specs.Limits.{most_turns};
 
+use crate::fields::Fields;
 use sms_book::Tariff;
 use sms_session::Policy;
 
@@ -23,6 +24,8 @@ pub struct Rules {
     pub tariff: Tariff,
     /// Whether the references of concatenated messages have 16 bits.
     pub long_reference: bool,
+    /// What else the submit_sm of a segment says.
+    pub fields: Fields,
     pub ghost bounded: { turns ≤ most_turns },
     pub ghost some_open: { 1 ≤ depth },
     pub ghost few_open: { depth ≤ most_slots },
