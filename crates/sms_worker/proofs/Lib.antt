@@ -24,7 +24,6 @@ pub mod ReasonsOf
 pub mod Resting
 pub mod Rising
 pub mod Standing
-pub mod Submits
 pub mod Sweeping
 pub mod TakingTurns
 pub mod Tallying

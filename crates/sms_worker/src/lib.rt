@@ -15,7 +15,7 @@ pub use ends::{Attempt, Attempts, MessageEnd, MessageResult, SegmentEnd, Segment
 pub use entry::context::RunContext;
 pub use entry::ready::ReadyWorker;
 pub use entry::work::{Worker, WorkerEnd, run_worker};
-pub use sms_message::{Message, MessageRefusal, Outcome, Rules};
+pub use sms_message::{Fields, Message, MessageRefusal, Outcome, Rules};
 pub use state::closing::ClosedBy;
 pub use state::reasons::{Reasons, Unlisted, UnsentPart, UnsentReason};
 pub use state::stop::NotBegun;

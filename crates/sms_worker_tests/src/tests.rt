@@ -12,8 +12,8 @@ use sms_pdu::Reply;
 use sms_session::Policy;
 use sms_window::{Window, WindowSeat};
 use sms_worker::{
-    Attempt, Clock, ClosedBy, Gate, Message, MessageEnd, MessageResult, Outcome, Pause, Reasons,
-    Rules, SegmentEnd, Worker, run_worker,
+    Attempt, Clock, ClosedBy, Fields, Gate, Message, MessageEnd, MessageResult, Outcome, Pause,
+    Reasons, Rules, SegmentEnd, Worker, run_worker,
 };
 use std::alloc::{AllocError, Global};
 use std::fmt::Debug;
@@ -182,10 +182,8 @@ fn rules_of(alloc: Global, case: Case<'_>) -> Option<Rules> {
     if case.turns > 1 << 40 || case.depth < 1 || case.depth > 64 {
         return None;
     }
-    let rates = [Rate {
-        prefix: String::from_str(alloc, "46").ok()?,
-        credits: 5,
-    }];
+    let prefix = String::from_str(alloc, "46").ok()?;
+    let rates = [Rate { prefix, credits: 5 }];
     let tariff = Tariff::new(alloc, rates.as_slice()).ok()?;
     Some(Rules {
         policy: Policy::new(case.attempts, case.base_ms).ok()?,
@@ -195,6 +193,7 @@ fn rules_of(alloc: Global, case: Case<'_>) -> Option<Rules> {
         receipts: false,
         tariff,
         long_reference: case.long_reference,
+        fields: Fields::none(alloc),
     })
 }
 

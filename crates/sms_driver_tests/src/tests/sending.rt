@@ -11,7 +11,7 @@ use sms_driver::{
 };
 use sms_pdu::{Mode, Octets, Tap};
 use sms_session::Policy;
-use sms_worker::{Clock, Gate, Message, Pause, Rules};
+use sms_worker::{Clock, Fields, Gate, Message, Pause, Rules};
 use std::alloc::{AllocError, Global};
 use std::sync::Wait;
 use std::thread::Threads;
@@ -146,6 +146,7 @@ fn rules(alloc: Global) -> Result<Rules, AllocError> {
         receipts: false,
         tariff,
         long_reference: false,
+        fields: Fields::none(alloc),
     })
 }
 

@@ -35,8 +35,8 @@ use crate::steps::retry_later::{Drawing, NoNumber, RetryLater, claim, draw_one, 
 use crate::steps::timestamp::Timestamp;
 use sms_bind::{LogName, LoggedWire, Receipt, Requests, WireFault};
 use sms_book::BookName;
-use sms_message::{Message, Rules, UserData, good_destination, good_source};
-use sms_pdu::{BodyRef, Frame, PduRef, SmRef};
+use sms_message::{Message, Rules, UserData, good_destination, good_source, submit_of};
+use sms_pdu::{BodyRef, Frame, PduRef};
 use sms_window::{Draw, Window, WindowSeat};
 use std::alloc::Global;
 use std::io::Write;
@@ -101,26 +101,7 @@ fn frame_for(
 {
     let from = good_source(message.source.as_str());
     let to = good_destination(message.dest.as_str());
-    let sm = SmRef {
-        service_type: &[],
-        source_ton: from.ton,
-        source_npi: from.npi,
-        source_addr: from.octets,
-        dest_ton: to.ton,
-        dest_npi: to.npi,
-        dest_addr: to.octets,
-        esm_class: user_data.esm_class,
-        protocol_id: 0,
-        priority: 0,
-        schedule: &[],
-        validity: &[],
-        registered: u8::from(rules.receipts),
-        replace: 0,
-        data_coding: user_data.data_coding,
-        default_msg: 0,
-        short_message: user_data.short_message.as_slice(),
-        params: &[],
-    };
+    let sm = submit_of(rules, from, to, user_data);
     let pdu = PduRef {
         status: 0,
         number,
