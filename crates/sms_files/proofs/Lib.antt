@@ -35,3 +35,8 @@ pub mod CountingQuotes
 pub mod Credit
 pub mod Refusals
 pub mod Quoted
+pub mod FieldKeys
+pub mod ParameterTexts
+pub mod TimeTexts
+pub mod TimeLaws
+pub mod ParameterLaws

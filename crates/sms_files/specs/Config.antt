@@ -1,9 +1,10 @@
 -- The config: its keys in their order, what each may hold, and its value where it is missing.
-use Rattle.std.specs.Prelude.{ℕ, ℤ, pos, negsuc, nat_le, nat_lt, ◌==◌, ◌&&◌, ◌||◌, not, Bool, true, false, List, [], ◌∷◌, length, Option, Some, None, option_and_then, is_some, if◌then◌else◌, codes}
+use Rattle.std.specs.Prelude.{ℕ, ℤ, pos, negsuc, nat_le, nat_lt, ◌&&◌, ◌||◌, Bool, true, false, List, [], ◌∷◌, length, Option, Some, None, option_and_then, is_some, if◌then◌else◌, codes}
 use Rattle.std.specs.Str.{bytes_eq}
 use Rattle.toml.specs.Data.{Data, Members, no_members, member, get_member, as_integer, as_str, as_array, as_bool}
 use Rattle.sms_centre.specs.Keys.{strings_in}
 use Rattle.sms_centre.specs.Texts.{treatment_of}
+pub use Rattle.sms_message.specs.Room.{has_no_zero}
 use Rattle.sms_pdu.specs.declared.command.Mode.{Mode}
 use Rattle.sms_pdu.specs.declared.command.Mode.TheVariants.{Transmitter, Transceiver}
 
@@ -29,11 +30,6 @@ flag_in (Some d) = as_bool d
 abbrev pub text_in : List ℕ → Option Data → Option (List ℕ)
 text_in default None = Some default
 text_in default (Some d) = as_str d
-
--- no octet of the text is 0
-abbrev pub has_no_zero : List ℕ → Bool
-has_no_zero [] = true
-has_no_zero (c ∷ cs) = not (c == 0) && has_no_zero cs
 
 -- a C-Octet String of a maximum, which counts its 0 (SMPP 3.4 3.1)
 abbrev pub c_octet_string : ℕ → List ℕ → Option (List ℕ)

@@ -32,4 +32,11 @@ pub mod QuoteText
 pub mod Quotes
 pub mod Totals
 pub mod Warnings
+pub mod Parameters
+pub mod SubmitFields
+pub mod Times
+pub mod TimeLaws
+pub mod ParameterLaws
+pub mod ParametersRead
+pub mod FieldGroups
 pub mod Refs

@@ -1,16 +1,17 @@
 //! The config: what its keys say, each with its value or its default; what the program takes from it before it
 //! sends; and what is wrong with a key or a text.
 
+use sms_message::Fields;
 use sms_session::{Policy, Settings};
 
-mod config_value;
+pub(crate) mod config_value;
 mod limits;
-mod reading;
+pub(crate) mod reading;
 mod run_rules;
 mod script;
 mod setup;
 mod toml_flaw;
-mod toml_value;
+pub(crate) mod toml_value;
 
 pub use config_value::ConfigValue;
 pub use limits::Limits;
@@ -85,4 +86,35 @@ pub struct Config {
     pub files: FileNames,
     /// What the test centre answers.
     pub answers: Answers,
+    /// What each submit_sm says beside its message: nothing, where a fields file doesn't say it.
+    pub fields: Fields,
+}
+
+impl Config {
+    ghost use Rattle.std.specs.Prelude.{◌≡◌};
+    ghost use Rattle.sms_files.specs.SubmitFields.{with_fields as with_its_fields};
+
+    /// The config with these fields in place of its own.
+    pub fn with_fields(self, fields: Fields) -> Config
+        ensures { result ≡ with_its_fields fields self }
+    {
+        let Config {
+            connection,
+            limits,
+            retry,
+            flags,
+            files,
+            answers,
+            ..
+        } = self;
+        Config {
+            connection,
+            limits,
+            retry,
+            flags,
+            files,
+            answers,
+            fields,
+        }
+    }
 }

@@ -1,6 +1,7 @@
 //! All that the sender reads before it sends: the config, the accounts, the messages and the tariff.
 
 ghost use Rattle.std.specs.Prelude.{◌≡◌, IfErr, IfOk, option_map};
+ghost use Rattle.sms_message.specs.Fields.{HasNoFields};
 ghost use Rattle.sms_files.specs.Inputs.{HasFiles, IsFaultOfFiles, IsInput, IsTariffOf, TellsInput, TellsTariffOf};
 
 use crate::config::{Config, config_of};
@@ -77,6 +78,8 @@ pub fn read_input<A: Read + Drop, M: Read + Drop, T: Read + Drop>(
     tariff: Option<T>,
 ) -> Result<Input, InputFault>
     ensures read { IfOk result (IsInput config.now (A.remaining accounts) (M.remaining messages) (option_map T.remaining tariff)) }
+    // No fields are asked for.
+    ensures no_fields { IfOk result (λ input. HasNoFields input.config.fields) }
 
     // A fault is of the first that has one.
     ensures refused { IfErr result (TellsInput config.now (A.remaining accounts) (M.remaining messages) (option_map T.remaining tariff)) }

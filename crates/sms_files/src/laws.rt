@@ -1,8 +1,10 @@
-//! What a fault of a file says of the record that it names, and how a file is read that was written. Each law holds by the
-//! contract of its function, which does nothing.
+//! What a fault of a file says of the record that it names, how a file is read that was written, and what a fields file can ask
+//! for. Each law holds by the contract of its function, which does nothing.
 
 ghost use Rattle.sms_files.specs.Flaws.{BadAccountsHaveFlaws, BadMessagesHaveFlaws, BadRatesHaveFlaws, BadSchedulesHaveFlaws};
+ghost use Rattle.sms_files.specs.ParameterLaws.{ParametersAreReadBack};
 ghost use Rattle.sms_files.specs.Refs.{PlainHasNoFault, PlainIsReadAgain};
+ghost use Rattle.sms_files.specs.TimeLaws.{SecondsAreReadBack};
 
 /// The record that a fault of a messages file names has the flaw that the fault names. Each record before it
 /// has none.
@@ -32,4 +34,14 @@ pub fn bad_rates_have_flaws()
 pub fn messages_without_refs_are_read()
     ensures read { PlainIsReadAgain }
     ensures good { PlainHasNoFault }
+{}
+
+/// A validity in seconds is sent as a time of so many seconds from now on (SMPP 3.4 7.1.1).
+pub fn seconds_are_read_back()
+    ensures { SecondsAreReadBack }
+{}
+
+/// Each optional parameter can be asked for: it is read of the text that spells it.
+pub fn parameters_are_read_back()
+    ensures { ParametersAreReadBack }
 {}

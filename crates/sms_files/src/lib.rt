@@ -1,11 +1,12 @@
-//! What the program reads: the config (TOML), the accounts, the messages and the tariff (CSV) of a
-//! sending, and the schedule (CSV) of a replay. Each is read and checked before anything is sent. An
+//! What the program reads: the config and the fields (TOML), the accounts, the messages and the tariff (CSV)
+//! of a sending, and the schedule (CSV) of a replay. Each is read and checked before anything is sent. An
 //! `InputFault` names the first record or key that can't be used, in the order in which they stand.
 
 #![tactic(auto)]
 
 mod config;
 mod fault;
+mod fields;
 mod flaw;
 mod input;
 pub mod laws;
@@ -19,6 +20,7 @@ pub use config::{
     config_in, config_of, rules_of, setup_of, table_of,
 };
 pub use fault::{InputFault, Source};
+pub use fields::fields_of;
 pub use flaw::Flaw;
 pub use input::{Input, read_files, read_input};
 pub use report::{

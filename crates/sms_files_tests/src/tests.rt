@@ -2,6 +2,7 @@
 
 mod broken;
 mod config;
+mod fields;
 mod flaws;
 mod input;
 mod quoting;

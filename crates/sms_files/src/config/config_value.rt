@@ -82,7 +82,7 @@ fn list_value(alloc: Global, values: &[Value]) -> Result<ConfigValue, NoMemory>
 }
 
 /// What is shown of a value.
-fn shown_value(alloc: Global, value: &Value) -> Result<ConfigValue, NoMemory>
+pub(crate) fn shown_value(alloc: Global, value: &Value) -> Result<ConfigValue, NoMemory>
     ensures { IfOk result (IsValueOf (view value.now)) }
 {
     match value {

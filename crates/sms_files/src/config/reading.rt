@@ -3,6 +3,7 @@
 ghost use Rattle.std.specs.Prelude.{◌≡◌, ◌≤◌, None, Some, IfErr, IfOk, map};
 ghost use Rattle.toml.specs.View.{table_view};
 ghost use Rattle.sms_session.specs.Settings.{setting};
+ghost use Rattle.sms_message.specs.Fields.{HasNoFields};
 ghost use Rattle.sms_files.specs.Config.{c_octet_string, connection_fault, faulty_key, files_fault, flags_fault, is_among, known_keys, limits_fault, retry_fault, script_fault, unknown_key as unknown_key_of};
 ghost use Rattle.sms_files.specs.ConfigFaults.{IsConfig, SaysAnswers, SaysConfig, SaysConnection, SaysFiles, SaysLimits, SaysFlags, SaysRetry, TellsConfig, TellsKey, TellsToml, toml_of};
 
@@ -13,6 +14,7 @@ use crate::config::toml_value::{bad_key, flag_at, mode_at, number_at, octets_at,
 use crate::config::{Answers, Config, Connection, FileNames, Flags, Retry};
 use crate::fault::InputFault;
 use crate::memory::toml_refusal;
+use sms_message::Fields;
 use sms_pdu::{Mode, Octets};
 use sms_session::{Policy, Settings};
 use std::alloc::Global;
@@ -153,7 +155,7 @@ const KEYS: [&str; 21] = [
 ];
 
 /// Whether the key is one of these.
-fn is_one_of(key: &str, names: &[&str]) -> bool
+pub(crate) fn is_one_of(key: &str, names: &[&str]) -> bool
     ensures { result ≡ is_among key.now (map (λ name. name.now) names.now) }
 {
     for name in names {
@@ -189,6 +191,7 @@ fn check_keys(alloc: Global, table: &Table) -> Result<(), InputFault>
 /// fields of `Config` and of its parts; then the least unknown key.
 pub fn config_in(alloc: Global, table: &Table) -> Result<Config, InputFault>
     ensures says { IfOk result (SaysConfig (table_view table.now)) }
+    ensures no_fields { IfOk result (λ config. HasNoFields config.fields) }
     ensures faultless { IfOk result (λ _. faulty_key (table_view table.now) ≡ None) }
     ensures refused { IfErr result (TellsKey (table_view table.now) (faulty_key (table_view table.now))) }
 {
@@ -206,6 +209,7 @@ pub fn config_in(alloc: Global, table: &Table) -> Result<Config, InputFault>
         flags,
         files,
         answers,
+        fields: Fields::none(alloc),
     })
 }
 
@@ -231,6 +235,7 @@ pub fn table_of(alloc: Global, octets: &[u8]) -> Result<Table, InputFault>
 /// What the octets of a config say: `table_of`, and then `config_in`.
 pub fn config_of(alloc: Global, octets: &[u8]) -> Result<Config, InputFault>
     ensures config { IfOk result (IsConfig octets.now) }
+    ensures no_fields { IfOk result (λ config. HasNoFields config.fields) }
     ensures refused { IfErr result (TellsConfig octets.now) }
 {
     let table = table_of(alloc, octets)?;

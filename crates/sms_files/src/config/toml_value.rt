@@ -5,6 +5,7 @@ ghost use Rattle.toml.specs.Data.{as_integer, get_member};
 ghost use Rattle.toml.specs.View.{table_view, view};
 ghost use Rattle.sms_files.specs.Config.{c_octet_string, fault_at, flag_in, has_no_zero as is_without_zero, in_range, mode_in, number_in, octets_in, text_in};
 ghost use Rattle.sms_files.specs.ConfigFaults.{TellsKey};
+ghost use Rattle.sms_files.specs.SubmitFields.{number_if};
 
 use crate::config::config_value::value_at;
 use crate::fault::InputFault;
@@ -61,6 +62,45 @@ pub fn number_at(
             Some(number) => Ok(number),
             None => Err(bad_key(alloc, table, key)),
         },
+    }
+}
+
+/// The number at a key, at least and at most these, where there is one.
+pub fn number_if_at(
+    alloc: Global,
+    table: &Table,
+    key: &str,
+    least: u32,
+    most: u32,
+) -> Result<Option<u32>, InputFault>
+    ensures bound { IfOk result (λ found. IfSome found (λ number. number ≤ most)) }
+    ensures number { IfOk result (λ found. number_if least most (get_member key.now (table_view table.now)) ≡ Some found) }
+    ensures refused { IfErr result (TellsKey (table_view table.now) (fault_at key.now (number_if least most (get_member key.now (table_view table.now))))) }
+{
+    match table.get(key) {
+        None => Ok(None),
+        Some(value) => match number_of(value, least, most) {
+            Some(number) => Ok(Some(number)),
+            None => Err(bad_key(alloc, table, key)),
+        },
+    }
+}
+
+/// The octet at a key, at most this, where there is one.
+pub fn octet_if_at(
+    alloc: Global,
+    table: &Table,
+    key: &str,
+    most: u32,
+) -> Result<Option<u8>, InputFault>
+    requires { most ≤ 255 }
+    ensures octet { IfOk result (λ found. number_if 0 most (get_member key.now (table_view table.now)) ≡ Some found) }
+    ensures refused { IfErr result (TellsKey (table_view table.now) (fault_at key.now (number_if 0 most (get_member key.now (table_view table.now))))) }
+{
+    match number_if_at(alloc, table, key, 0, most) {
+        Ok(Some(number)) => Ok(Some(number as u8)),
+        Ok(None) => Ok(None),
+        Err(fault) => Err(fault),
     }
 }
 
