@@ -1,6 +1,8 @@
 -- What the journal of a run says of it, so that the run may go on.
 use Rattle.std.specs.Prelude.{◌≡◌, ◌≢◌, ◌⊎◌, ℕ, ◌+◌, ◌≤◌, Bool, true, List, Option, Some, length, slice_get}
+use Rattle.sms_message.specs.declared.fields.Fields.{Fields}
 use Rattle.sms_message.specs.declared.rules.Rules.{Rules}
+use Rattle.sms_files.specs.SubmitFields.{with_fields}
 use Rattle.sms_files.specs.declared.fault.InputFault.{InputFault}
 use Rattle.sms_files.specs.declared.fault.Source.TheVariants.{Messages}
 use Rattle.sms_files.specs.declared.flaw.Flaw.TheVariants.{OpenQuote}
@@ -35,6 +37,10 @@ number_by number (Heard by reply) = number
 number_by number (Refused i refusal) = number
 number_by number (End status) = number
 number_by number (Round next binds workers) = next
+
+-- a run with these fields in place of its own
+abbrev pub run_with_fields : Fields → JournaledRun → JournaledRun
+run_with_fields fields run = record run { config = with_fields fields run.config }
 
 -- ---- of an input
 

@@ -7,7 +7,7 @@ mod recovery;
 
 use sms_book::{Opening, Tariff};
 use sms_journal::{JournalError, Note, RequestId, RunSize, check_notes, recover, recovered_rows};
-use sms_message::{Message, MessageEnd, MessageRefusal, MessageResult, Outcome, Rules};
+use sms_message::{Fields, Message, MessageEnd, MessageRefusal, MessageResult, Outcome, Rules};
 use sms_pdu::{MessageId, Reply};
 use sms_session::Policy;
 use std::alloc::{AllocError, Global};
@@ -230,6 +230,7 @@ fn rules_of(alloc: Global) -> Option<Rules> {
         receipts: false,
         tariff,
         long_reference: false,
+        fields: Fields::none(alloc),
     })
 }
 

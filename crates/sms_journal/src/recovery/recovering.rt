@@ -88,9 +88,10 @@ fn recover_input<R: AllocGlobal + Threads, W: Write>(
         limits,
         retry,
         flags,
+        fields,
         ..
     } = config;
-    let rules = rules_of(retry, limits, flags, tariff, 0);
+    let rules = rules_of(retry, limits, flags, fields, tariff, 0);
     let accounts = openings.as_slice();
     let size = size_by(accounts, limits, first);
     recover_notes(

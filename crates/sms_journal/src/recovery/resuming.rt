@@ -3,7 +3,7 @@
 ghost use Rattle.std.specs.Prelude.{◌≡◌, ℕ, IfErr, IfOk, List, OnOk, option_copied, true};
 ghost use Rattle.sms_files.specs.Quoting.{EndsQuoted};
 ghost use Rattle.sms_message.specs.declared.message.Message.{Message as TheMessage};
-ghost use Rattle.sms_journal.specs.Resuming.{AreWhole, IsFaultOfRun, IsOpenQuote, IsNotedRun, IsFaultOfNotedRun, IsRunOfJournal, number_by as round_by};
+ghost use Rattle.sms_journal.specs.Resuming.{AreWhole, IsFaultOfRun, IsOpenQuote, IsNotedRun, IsFaultOfNotedRun, IsRunOfJournal, number_by as round_by, run_with_fields};
 ghost use Rattle.sms_journal.specs.Rounds.{first_round, going_after};
 ghost use Rattle.sms_journal.specs.declared.notes.run_size.RunSize.{RunSize as TheRunSize};
 
@@ -16,7 +16,7 @@ use crate::text::{Digests, JournalKind, JournalNotes};
 use sms_book::{Opening, Tariff};
 use sms_core::Row;
 use sms_files::{Config, Input, check_quotes, rules_of};
-use sms_message::{Message, MessageEnd, Rules};
+use sms_message::{Fields, Message, MessageEnd, Rules};
 use std::alloc::Global;
 use std::thread::Threads;
 
@@ -42,6 +42,38 @@ pub struct JournaledRun {
     pub ends: Vec<MessageEnd<()>>,
     /// A row for each account, by these ends.
     pub rows: Vec<Row>,
+}
+
+impl JournaledRun {
+    /// The run with these fields in place of its own.
+    pub fn with_fields(self, fields: Fields) -> JournaledRun
+        ensures { result ≡ run_with_fields fields self }
+    {
+        let JournaledRun {
+            config,
+            openings,
+            messages,
+            tariff,
+            kind,
+            digests,
+            whole,
+            rounds,
+            ends,
+            rows,
+        } = self;
+        JournaledRun {
+            config: config.with_fields(fields),
+            openings,
+            messages,
+            tariff,
+            kind,
+            digests,
+            whole,
+            rounds,
+            ends,
+            rows,
+        }
+    }
 }
 
 /// How many octets the whole lines of a text take.
@@ -112,7 +144,10 @@ fn run_of<R: AllocGlobal + Threads>(
     let (config, openings, messages, tariff) = input.into_parts();
     let notes = read.notes.as_slice();
     let size = size_by(openings.as_slice(), config.limits, read.first);
-    let rules = rules_of(config.retry, config.limits, config.flags, tariff, 0);
+    // No part of what it came to is by the fields.
+    let fields = Fields::none(rt.alloc());
+    let (retry, limits, flags) = (config.retry, config.limits, config.flags);
+    let rules = rules_of(retry, limits, flags, fields, tariff, 0);
     let found = reported(
         rt,
         &rules,

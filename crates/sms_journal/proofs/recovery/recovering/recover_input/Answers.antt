@@ -18,7 +18,7 @@ returns-clause-recovered g c =
     let rules = c.rules_of-rules.result in
     let e = c.into_parts-config.ensures in
     let says = subst (λ (t : List Price). IsRulesOf input.config.retry input.config.limits input.config.flags t 0 rules) e.tariff
-    (subst (λ (k : Config). IsRulesOf k.retry k.limits k.flags c.into_parts-config.result.3 0 rules) e.config c.rules_of-rules.ensures) in
+    (subst (λ (k : Config). IsRulesOf k.retry k.limits k.flags c.into_parts-config.result.3 0 rules) e.config c.rules_of-rules.ensures.says) in
     let size : RunSize = c.size_by-size.result in
     let limits : c.into_parts-config.result.0.limits ≡ input.config.limits = ap (λ (k : Config). k.limits) e.config in
     let os : c.as_slice-accounts.result.now ≡ input.openings.items = c.as_slice-accounts.ensures.value ∙ ap (λ (v : Vec Opening Global). v.items) e.openings in
@@ -35,7 +35,7 @@ returns-clause-refused g c =
     let rules = c.rules_of-rules.result in
     let e = c.into_parts-config.ensures in
     let says = subst (λ (t : List Price). IsRulesOf input.config.retry input.config.limits input.config.flags t 0 rules) e.tariff
-    (subst (λ (k : Config). IsRulesOf k.retry k.limits k.flags c.into_parts-config.result.3 0 rules) e.config c.rules_of-rules.ensures) in
+    (subst (λ (k : Config). IsRulesOf k.retry k.limits k.flags c.into_parts-config.result.3 0 rules) e.config c.rules_of-rules.ensures.says) in
     let size : RunSize = c.size_by-size.result in
     let limits : c.into_parts-config.result.0.limits ≡ input.config.limits = ap (λ (k : Config). k.limits) e.config in
     let os : c.as_slice-accounts.result.now ≡ input.openings.items = c.as_slice-accounts.ensures.value ∙ ap (λ (v : Vec Opening Global). v.items) e.openings in

@@ -19,7 +19,7 @@ returns-in-Ok-clause-run g c =
     let rules = c.rules_of-rules.result in
     let e = c.into_parts-config.ensures in
     let says = subst (λ (t : List Price). IsRulesOf input.config.retry input.config.limits input.config.flags t 0 rules) e.tariff
-    (subst (λ (k : Config). IsRulesOf k.retry k.limits k.flags c.into_parts-config.result.3 0 rules) e.config c.rules_of-rules.ensures) in
+    (subst (λ (k : Config). IsRulesOf k.retry k.limits k.flags c.into_parts-config.result.3 0 rules) e.config c.rules_of-rules.ensures.says) in
     let size : RunSize = c.size_by-size.result in
     let limits : c.into_parts-config.result.0.limits ≡ input.config.limits = ap (λ (k : Config). k.limits) e.config in
     let openings = ap (λ (v : Vec Opening Global). v.items) e.openings in
@@ -31,21 +31,21 @@ returns-in-Ok-clause-run g c =
     let slice = c.as_slice-notes.result.now in
     let same : slice ≡ notes = c.as_slice-notes.ensures.value in
     record {
-      parts = record { config = e.config; openings = openings; messages = messages; tariff = c.rules_of-rules.ensures.tariff_is ∙ e.tariff };
+      parts = record { config = e.config; openings = openings; messages = messages; tariff = c.rules_of-rules.ensures.says.tariff_is ∙ e.tariff };
       rules = rules;
       says = says;
       is = recovered_of input first notes slice rules size c.as_slice-2.result.now c.as_slice-3.result.now says os ms large same c.in-Ok.ends.items c.in-Ok.rows.items c.in-Ok.ensures.is;
       rounds = c.last_round.ensures (size_in input first) input.messages.items ∙ ap (λ (n : List Note). (going_after (first_round (size_in input first) input.messages.items) n).number) same;
     }
 
-pub returns-in-Err-clause-refused : goal.returns-in-Err-clause-refused
-returns-in-Err-clause-refused g c =
+pub returns-clause-refused : goal.returns-clause-refused
+returns-clause-refused g c =
     let input = c.args.input in
     let first = c.args.read.now.first in
     let rules = c.rules_of-rules.result in
     let e = c.into_parts-config.ensures in
     let says = subst (λ (t : List Price). IsRulesOf input.config.retry input.config.limits input.config.flags t 0 rules) e.tariff
-    (subst (λ (k : Config). IsRulesOf k.retry k.limits k.flags c.into_parts-config.result.3 0 rules) e.config c.rules_of-rules.ensures) in
+    (subst (λ (k : Config). IsRulesOf k.retry k.limits k.flags c.into_parts-config.result.3 0 rules) e.config c.rules_of-rules.ensures.says) in
     let size : RunSize = c.size_by-size.result in
     let limits : c.into_parts-config.result.0.limits ≡ input.config.limits = ap (λ (k : Config). k.limits) e.config in
     let openings = ap (λ (v : Vec Opening Global). v.items) e.openings in
