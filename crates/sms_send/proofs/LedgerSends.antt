@@ -9,7 +9,8 @@ use Rattle.sms_files.specs.Inputs.{Told}
 use Rattle.sms_files.specs.declared.input.Input.{Input}
 use Rattle.sms_journal.specs.OfLedger.{run_head}
 use Rattle.sms_files.specs.declared.config.Config.{Config}
-use Rattle.sms_send.specs.ConfigFiles.{IsConfigFile}
+use Rattle.sms_send.specs.ConfigFiles.{FailsReadingConfig, IsConfigFile}
+use Rattle.sms_send.specs.FieldFiles.{AreFieldsAt, FailsFields}
 use Rattle.sms_send.specs.Headed.{FailsMessages, HasMessages}
 use Rattle.sms_send.specs.Kept.{KeepsThrough}
 use Rattle.sms_send.specs.LedgerSendings.{BeginsOn, EndsOn, FailsOnCredits, FailsOnLedger, FailsSendOn, IsHeadedFile, SendsLedger, SendsOn}
@@ -18,6 +19,7 @@ use Rattle.sms_send.specs.Noted.{FailsNoted, IsNotedIn, LacksFirstLine}
 use Rattle.sms_send.specs.Reached.{centre_in}
 use Rattle.sms_send.specs.Reading.{IsInputOf}
 use Rattle.sms_send.specs.Sent.{SendingEnd, SendsInput}
+use Rattle.sms_send.specs.Words.{bytes_of}
 use Rattle.sms_send.specs.declared.args.send_args.Again.{Again}
 use Rattle.sms_send.specs.declared.args.send_args.JournalFile.{JournalFile}
 use Rattle.sms_send.specs.declared.args.send_args.SendArgs.{SendArgs}
@@ -98,25 +100,32 @@ module _ {F J W : Type 0} (makes : List ℕ → J → Type 0) (contents : J → 
 
 -- ---- by the names of a config and a journal
 
-module _ {F J : Type 0} (makes : List ℕ → J → Type 0) (contents : J → Option (List ℕ)) (refuses held : List ℕ → Type 0) (finds : List ℕ → Option Told → Type 0) (tells : CentreAt → Bool → ℕ → ℕ → Told) (kind : TargetKind) (holds : List ℕ → F → Type 0) (lacks : List ℕ → LedgerFailure → Type 0) (errs : ErrorKind → Type 0) (octets stored : F → Option (List ℕ)) (opening : F → ℕ) (is_closed : F → Type 0) (slice ledger : List ℕ) (named_so : slice ≡ ledger) (order : SendArgs) (file : ConfigFile) (is : IsConfigFile finds (string_bytes order.config) file) (begun : StartPhase) (old new : Option (List ℕ)) where
+module _ {F J : Type 0} (makes : List ℕ → J → Type 0) (contents : J → Option (List ℕ)) (refuses held : List ℕ → Type 0) (finds : List ℕ → Option Told → Type 0) (tells : CentreAt → Bool → ℕ → ℕ → Told) (kind : TargetKind) (holds : List ℕ → F → Type 0) (lacks : List ℕ → LedgerFailure → Type 0) (errs : ErrorKind → Type 0) (octets stored : F → Option (List ℕ)) (opening : F → ℕ) (is_closed : F → Type 0) (slice ledger : List ℕ) (named_so : slice ≡ ledger) (order : SendArgs) (file : ConfigFile) (is : IsConfigFile finds (string_bytes order.config) file) (fielded : AreFieldsAt finds (bytes_of order.fields) file.config.fields) (begun : StartPhase) (old new : Option (List ℕ)) where
   pub sends_on : (named : NamedFiles) (wanted : JournalFile) (status : ℕ) → HasMessages finds file.config.files named → order.journal ≡ Some wanted → SendsLedger makes contents tells kind holds octets stored opening is_closed slice order.again order.strict named wanted old new status file.config
       → SendsOn makes contents finds tells kind holds octets stored opening is_closed ledger order old new status
   sends_on named wanted status has given sends =
       of_config finds (string_bytes order.config) file
-      (λ (config : Config). (named : NamedFiles) × HasMessages finds config.files named × (wanted : JournalFile) × (order.journal ≡ Some wanted) × SendsLedger makes contents tells kind holds octets stored opening is_closed ledger order.again order.strict named wanted old new status config)
-      is (named, has, wanted, given, subst (λ (l : List ℕ). SendsLedger makes contents tells kind holds octets stored opening is_closed l order.again order.strict named wanted old new status file.config) named_so sends)
+      (λ (config : Config). AreFieldsAt finds (bytes_of order.fields) config.fields × (named : NamedFiles) × HasMessages finds config.files named × (wanted : JournalFile) × (order.journal ≡ Some wanted) × SendsLedger makes contents tells kind holds octets stored opening is_closed ledger order.again order.strict named wanted old new status config)
+      is (fielded, named, has, wanted, given, subst (λ (l : List ℕ). SendsLedger makes contents tells kind holds octets stored opening is_closed l order.again order.strict named wanted old new status file.config) named_so sends)
 
   abbrev Why : Fault → Config → Type 0
   Why fault config =
       FailsMessages finds config.files fault
-      ⊎ ((named : NamedFiles) × HasMessages finds config.files named × (read : ConfigFile) × (read.config ≡ config) × (wanted : JournalFile) × (order.journal ≡ Some wanted)
+      ⊎ (AreFieldsAt finds (bytes_of order.fields) config.fields × (named : NamedFiles) × HasMessages finds config.files named × (read : ConfigFile) × (read.config ≡ config) × (wanted : JournalFile) × (order.journal ≡ Some wanted)
       × FailsOnLedger makes refuses held tells kind holds lacks errs octets stored opening is_closed ledger order.again order.strict read named wanted begun old new fault)
 
   pub fails_on : (named : NamedFiles) (wanted : JournalFile) (fault : Fault) → HasMessages finds file.config.files named → order.journal ≡ Some wanted
       → FailsOnLedger makes refuses held tells kind holds lacks errs octets stored opening is_closed slice order.again order.strict file named wanted begun old new fault → FailsSendOn makes refuses held finds tells kind holds lacks errs octets stored opening is_closed ledger order begun old new fault
   fails_on named wanted fault has given fails =
-      inr (inr (inr (of_config finds (string_bytes order.config) file (Why fault) is
-      (inr (named, has, file, refl, wanted, given, subst (λ (l : List ℕ). FailsOnLedger makes refuses held tells kind holds lacks errs octets stored opening is_closed l order.again order.strict file named wanted begun old new fault) named_so fails)))))
+      inr (inr (inr (inr (of_config finds (string_bytes order.config) file (Why fault) is
+      (inr (fielded, named, has, file, refl, wanted, given, subst (λ (l : List ℕ). FailsOnLedger makes refuses held tells kind holds lacks errs octets stored opening is_closed l order.again order.strict file named wanted begun old new fault) named_so fails))))))
 
   pub without_messages : (fault : Fault) → FailsMessages finds file.config.files fault → FailsSendOn makes refuses held finds tells kind holds lacks errs octets stored opening is_closed ledger order begun old new fault
-  without_messages fault fails = inr (inr (inr (of_config finds (string_bytes order.config) file (Why fault) is (inl fails))))
+  without_messages fault fails = inr (inr (inr (inr (of_config finds (string_bytes order.config) file (Why fault) is (inl fails)))))
+
+-- the config or the fields can't be read
+pub without_config : {F J : Type 0} (makes : List ℕ → J → Type 0) (refuses held : List ℕ → Type 0) (finds : List ℕ → Option Told → Type 0) (tells : CentreAt → Bool → ℕ → ℕ → Told) (kind : TargetKind) (holds : List ℕ → F → Type 0) (lacks : List ℕ → LedgerFailure → Type 0) (errs : ErrorKind → Type 0) (octets stored : F → Option (List ℕ))
+    (opening : F → ℕ) (is_closed : F → Type 0) (ledger : List ℕ) (order : SendArgs) (begun : StartPhase) (old new : Option (List ℕ)) (fault : Fault)
+    → FailsReadingConfig finds order.config fault ⊎ FailsFields finds (bytes_of order.fields) fault → FailsSendOn makes refuses held finds tells kind holds lacks errs octets stored opening is_closed ledger order begun old new fault
+without_config makes refuses held finds tells kind holds lacks errs octets stored opening is_closed ledger order begun old new fault (inl fails) = inr (inr (inl fails))
+without_config makes refuses held finds tells kind holds lacks errs octets stored opening is_closed ledger order begun old new fault (inr fails) = inr (inr (inr (inl fails)))

@@ -3,6 +3,7 @@ pub mod Asking
 pub mod Charging
 pub mod ConfigFiles
 pub mod Covering
+pub mod FieldFiles
 pub mod JobsDone
 pub mod LedgerArgs
 pub mod Lines

@@ -88,7 +88,7 @@ again_rules = value_rule (codes "again") ∷ value_rule (codes "again-ms") ∷ [
 
 -- what each sending is asked for before its journal, and behind it
 abbrev pub config_rules : List Rule
-config_rules = file_rule (codes "config") ∷ flag_rule (codes "quiet") ∷ []
+config_rules = file_rule (codes "config") ∷ value_rule (codes "fields") ∷ flag_rule (codes "quiet") ∷ []
 
 abbrev pub sending_rules : List Rule
 sending_rules = flag_rule (codes "sync") ∷ flag_rule (codes "strict") ∷ refs_rule ∷ verbose_rule ∷ throttle_rules ++ again_rules
@@ -203,13 +203,13 @@ pub record HasThrottle (rows : List Row) (throttle : Throttle) : Type 0 where
 abbrev pub AsksAgain : List Row → Option AgainArgs → Type 0
 AsksAgain rows None = (first_of (codes "again") rows ≡ None) × (first_of (codes "again-ms") rows ≡ None)
 AsksAgain rows (Some again) =
-    (number_of 1000000 (first_of (codes "again") rows) ≡ Some (Some again.most))
-    × (number_of 600000 (first_of (codes "again-ms") rows) ≡ Some (if is_some (first_of (codes "again-ms") rows) then Some again.wait_ms else None))
+    (number_of 1000000 (first_of (codes "again") rows) ≡ Some (Some again.most)) × (number_of 600000 (first_of (codes "again-ms") rows) ≡ Some (if is_some (first_of (codes "again-ms") rows) then Some again.wait_ms else None))
     × (first_of (codes "again-ms") rows ≡ None → again.wait_ms ≡ 1000)
 
 -- the sending that they ask for
 pub record AsksToSend (rows : List Row) (order : SendArgs) : Type 0 where
   pub config : first_of (codes "config") rows ≡ Some (string_bytes order.config)
+  pub fields : first_of (codes "fields") rows ≡ bytes_of order.fields
   pub quiet : is_set (first_of (codes "quiet") rows) ≡ order.quiet
   pub verbose : is_set (first_of (codes "verbose") rows) ≡ order.verbose
   pub journal : AsksToNote rows order.journal
@@ -221,6 +221,7 @@ pub record AsksToSend (rows : List Row) (order : SendArgs) : Type 0 where
 -- the further round of a run that they ask for
 pub record AsksToResume (rows : List Row) (order : ResumeArgs) : Type 0 where
   pub config : first_of (codes "config") rows ≡ Some (string_bytes order.config)
+  pub fields : first_of (codes "fields") rows ≡ bytes_of order.fields
   pub quiet : is_set (first_of (codes "quiet") rows) ≡ order.quiet
   pub verbose : is_set (first_of (codes "verbose") rows) ≡ order.verbose
   pub journal : AsksToNote rows (Some order.journal)
@@ -396,5 +397,4 @@ RefusesAs kinds _ = ⊥
 
 -- why words are refused: the parser refuses them, or takes them and they ask for no job
 abbrev pub RefusesWords : List Text → Fault → Type 0
-RefusesWords words fault =
-    RefusesAs (refusals_of words) fault ⊎ ((refusals_of words ≡ []) × RefusesMatch (subcommand_in words) fault)
+RefusesWords words fault = RefusesAs (refusals_of words) fault ⊎ ((refusals_of words ≡ []) × RefusesMatch (subcommand_in words) fault)

@@ -6,7 +6,7 @@ use Rattle.sms_send.specs.declared.faults.argument_error.ArgumentError.{Argument
 use Rattle.sms_send.specs.declared.faults.fault.Fault.{Fault}
 use Rattle.sms_send.specs.declared.faults.ledger_run.Unsettled.{Unsettled as WhyUnsettled}
 use Rattle.sms_send.specs.declared.faults.ledger_run.Unsettled.TheVariants as unsettled
-use Rattle.sms_send.specs.declared.faults.fault.Fault.TheVariants.{Words, Help, Version, File, UnreadFile, Unreadable, BadRecord, NotToml, BadKey, BindRefused, BindFailed, Unconnected, BadNote, BadReport, Unmade, JournalHeld, JournalFree, Unbegun, Journal, Overdrawn, Trial, OtherFile, OtherAttempts, OtherReference, LongSchedule, LedgerFile, Ledger, BadEntry, Payment, Booking, BadDecision, LedgerRun, Unsettled, Output, OutOfMemory, Unreported}
+use Rattle.sms_send.specs.declared.faults.fault.Fault.TheVariants.{Words, Help, Version, File, UnreadFile, Unreadable, BadRecord, NotToml, BadKey, NotFields, BadField, BindRefused, BindFailed, Unconnected, BadNote, BadReport, Unmade, JournalHeld, JournalFree, Unbegun, Journal, Overdrawn, Trial, OtherFile, OtherAttempts, OtherReference, LongSchedule, LedgerFile, Ledger, BadEntry, Payment, Booking, BadDecision, LedgerRun, Unsettled, Output, OutOfMemory, Unreported}
 use Rattle.sms_devices.specs.declared.transport.connecting.Unconnected.{Unconnected as Why}
 use Rattle.sms_devices.specs.declared.journal.failure.JournalFailure.{JournalFailure}
 use Rattle.sms_devices.specs.declared.ledger.failure.LedgerFailure.{LedgerFailure}
@@ -66,6 +66,8 @@ fault_text (Unreadable source error) = codes "fault: file " ++ source_name sourc
 fault_text (BadRecord source place record_flaw) = codes "fault: " ++ source_name source ++ codes " record " ++ decimal place
 fault_text (NotToml flaw) = codes "fault: config"
 fault_text (BadKey key found) = codes "fault: config " ++ shown (string_bytes key)
+fault_text (NotFields flaw) = codes "fault: fields"
+fault_text (BadField key found) = codes "fault: fields " ++ shown (string_bytes key)
 fault_text (BindRefused bind status) = codes "fault: bind " ++ decimal bind ++ codes " refused " ++ decimal status
 fault_text (BindFailed bind why) = codes "fault: bind " ++ decimal bind ++ codes " failed"
 fault_text (Unconnected reason) = codes "fault: bind " ++ decimal reason.bind ++ codes " failed"
@@ -111,6 +113,14 @@ fault_of_input (input.NotToml flaw) = NotToml flaw
 fault_of_input (input.BadKey key found) = BadKey key found
 fault_of_input (input.OutOfMemory refused) = OutOfMemory
 
+-- for what is wrong with a fields file
+abbrev pub fault_of_fields : InputFault → Fault
+fault_of_fields (input.Unreadable source error) = Unreadable source error
+fault_of_fields (input.BadRecord source place record_flaw) = BadRecord source place record_flaw
+fault_of_fields (input.NotToml flaw) = NotFields flaw
+fault_of_fields (input.BadKey key found) = BadField key found
+fault_of_fields (input.OutOfMemory refused) = OutOfMemory
+
 -- for why nothing is sent; a thread that is refused counts as memory, and so do accounts that no book opens with
 abbrev pub fault_of_sending : SendFault → Fault
 fault_of_sending (send.BindRefused bind status) = BindRefused bind status
@@ -129,6 +139,8 @@ ComesAt begun (Unreadable source error) = begun ≡ Idle
 ComesAt begun (BadRecord source place record_flaw) = begun ≡ Idle
 ComesAt begun (NotToml flaw) = begun ≡ Idle
 ComesAt begun (BadKey key found) = begun ≡ Idle
+ComesAt begun (NotFields flaw) = begun ≡ Idle
+ComesAt begun (BadField key found) = begun ≡ Idle
 ComesAt begun (BindRefused bind status) = begun ≡ Idle
 ComesAt begun (BindFailed bind why) = begun ≡ Idle
 ComesAt begun (Unconnected reason) = begun ≡ Idle

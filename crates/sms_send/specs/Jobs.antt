@@ -3,6 +3,7 @@ use Rattle.std.specs.Prelude.{◌≡◌, ◌⊎◌, Bool, ℕ, List, Option, Non
 use Rattle.std.specs.Io.KnownBytes.{Appends}
 use Rattle.sms_devices.specs.Centres.{CentreAt}
 use Rattle.sms_send.specs.Audited.{AuditsBy, FailsAuditJob}
+use Rattle.sms_send.specs.Words.{bytes_of}
 use Rattle.sms_send.specs.ConfigFiles.{OfConfig}
 use Rattle.sms_send.specs.Faults.{ComesAt}
 use Rattle.sms_files.specs.Fields.{records_of}
@@ -64,8 +65,8 @@ Does standard finds tells books (Replay None) old new status = OfInput standard 
 Does standard finds tells books (Replay (Some name)) old new status = OfFile finds (string_bytes name) (λ bytes. Replays bytes old new)
 Does standard finds tells books (Plan name long refs) old new status = OfFile (sees refs finds) (string_bytes name) (λ bytes. Plans long bytes old new)
 Does standard finds tells books (Quote config verbose refs) old new status = OfConfig (sees refs finds) (string_bytes config) (QuotesFiles (sees refs finds) old new)
-Does standard finds tells books (Loop order) old new status = OfConfig (sees order.refs finds) (string_bytes order.config) (SendsBy (sees order.refs finds) tells Loopback order.again order.strict (is_some order.journal) old new status)
-Does standard finds tells books (Send order) old new status = OfConfig (sees order.refs finds) (string_bytes order.config) (SendsBy (sees order.refs finds) tells Remote order.again order.strict (is_some order.journal) old new status)
+Does standard finds tells books (Loop order) old new status = OfConfig (sees order.refs finds) (string_bytes order.config) (SendsBy (sees order.refs finds) tells Loopback (bytes_of order.fields) order.again order.strict (is_some order.journal) old new status)
+Does standard finds tells books (Send order) old new status = OfConfig (sees order.refs finds) (string_bytes order.config) (SendsBy (sees order.refs finds) tells Remote (bytes_of order.fields) order.again order.strict (is_some order.journal) old new status)
 Does standard finds tells books (Resume order) old new status = ResumesBy (sees order.refs finds) tells order old new status
 Does standard finds tells books (Stop journal) old new status = new ≡ old
 Does standard finds tells books (Recover order) old new status = RecoversBy (sees order.refs finds) order old new status

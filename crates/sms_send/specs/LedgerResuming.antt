@@ -7,9 +7,12 @@ use Rattle.sms_driver.specs.declared.start_gate.Command.TheVariants.{Go}
 use Rattle.sms_driver.specs.declared.start.StartPhase.TheVariants.{Released}
 use Rattle.sms_files.specs.Inputs.{Told}
 use Rattle.sms_journal.specs.OfLedger.{are_out}
+use Rattle.sms_journal.specs.Resuming.{run_with_fields}
 use Rattle.sms_journal.specs.declared.recovery.resuming.JournaledRun.{JournaledRun}
 use Rattle.sms_journal.specs.declared.text.header.JournalKind.TheVariants.{Run as OfRun}
 use Rattle.sms_ledger.specs.Books.{State}
+use Rattle.sms_message.specs.declared.fields.Fields.{Fields}
+use Rattle.sms_send.specs.FieldFiles.{AreFieldsAt, FailsFields}
 use Rattle.sms_send.specs.Kept.{KeepsThrough}
 use Rattle.sms_send.specs.LedgerJobs.{FailsLedgerRun, FailsReadingJournal, IsLedgerRun, IsOfCutFile, LacksNamed}
 use Rattle.sms_send.specs.LedgerSendings.{EndsOn, IsSettled, ReturnsBooked}
@@ -18,6 +21,7 @@ use Rattle.sms_send.specs.Noted.{IsNotedIn}
 use Rattle.sms_send.specs.Reached.{centre_in}
 use Rattle.sms_send.specs.Resumed.{FailsGoingOn, FailsOpen, FailsPrintingRun, GoesOn, IsOfTrial, PrintsRun}
 use Rattle.sms_send.specs.Runs.{FailsNamed, IsRun}
+use Rattle.sms_send.specs.Words.{bytes_of}
 use Rattle.sms_send.specs.declared.args.send_args.ResumeArgs.{ResumeArgs}
 use Rattle.sms_send.specs.declared.faults.fault.Fault.{Fault}
 use Rattle.sms_send.specs.declared.faults.fault.Fault.TheVariants.{LedgerRun, OutOfMemory, Trial}
@@ -49,17 +53,22 @@ FailsOut {F} holds lacks errs octets ledger read fault =
 
 -- ---- its journal
 
--- the run that is to go on, by its files; and how many octets stand before its journal
-abbrev pub IsGoing : (List ℕ → Option Told → Type 0) → ResumeArgs → TheRun → ℕ → Type 0
-IsGoing finds order read before = (files : RunFiles) × IsRun finds (string_bytes order.config) (string_bytes order.journal.name) files × IsLedgerRun files read × (before ≡ files.before) × (read.run.kind ≡ OfRun)
+-- a run of a ledger with these fields in place of its own
+abbrev pub ledger_run_with : Fields → TheRun → TheRun
+ledger_run_with fields read = record read { run = run_with_fields fields read.run }
 
--- it can't be had: its files can't, its journal is a truncated head, or none of a run of a ledger of these files
+-- the run that is to go on, by its files, with the fields that the order wants; and how many octets stand before its journal
+abbrev pub IsGoing : (List ℕ → Option Told → Type 0) → ResumeArgs → TheRun → ℕ → Type 0
+IsGoing finds order read before = (files : RunFiles) × IsRun finds (string_bytes order.config) (string_bytes order.journal.name) files × IsLedgerRun files read × (before ≡ files.before) × (read.run.kind ≡ OfRun) × AreFieldsAt finds (bytes_of order.fields) read.run.config.fields
+
+-- it can't be had: its files can't, its journal is a truncated head, or none of a run of a ledger of these files, or the fields can't be read
 abbrev pub FailsGoing : (List ℕ → Option Told → Type 0) → ResumeArgs → Fault → Type 0
 FailsGoing finds order fault =
     FailsReadingJournal finds (string_bytes order.journal.name) fault
     ⊎ IsOfCutFile finds (string_bytes order.journal.name) fault
     ⊎ FailsNamed finds (string_bytes order.config) (string_bytes order.journal.name) fault
     ⊎ ((files : RunFiles) × IsRun finds (string_bytes order.config) (string_bytes order.journal.name) files × (FailsLedgerRun order.strict files fault ⊎ ((fault ≡ Trial) × IsOfTrial files)))
+    ⊎ FailsFields finds (bytes_of order.fields) fault
 
 -- ---- its end
 

@@ -21,6 +21,7 @@ use Rattle.sms_ledger.specs.Books.{State}
 use Rattle.sms_ledger.specs.Posting.{ArePosted}
 use Rattle.sms_send.specs.ConfigFiles.{FailsReadingConfig, OfConfig}
 use Rattle.sms_send.specs.Faults.{IsWords, unsettled_by}
+use Rattle.sms_send.specs.FieldFiles.{AreFieldsAt, FailsFields}
 use Rattle.sms_send.specs.Headed.{FailsMessages, HasMessages}
 use Rattle.sms_send.specs.Kept.{KeepsThrough}
 use Rattle.sms_send.specs.LedgerJobs.{DoneIn, FailsGivingBackIn, GivesBackIn, LacksNamed, LacksNames}
@@ -31,6 +32,7 @@ use Rattle.sms_send.specs.Reached.{centre_in}
 use Rattle.sms_send.specs.Reading.{IsFaultOfOctets, IsInputOf}
 use Rattle.sms_send.specs.Runs.{tariff_in}
 use Rattle.sms_send.specs.Sent.{SendsInput}
+use Rattle.sms_send.specs.Words.{bytes_of}
 use Rattle.sms_send.specs.declared.args.send_args.Again.{Again}
 use Rattle.sms_send.specs.declared.args.send_args.JournalFile.{JournalFile}
 use Rattle.sms_send.specs.declared.args.send_args.SendArgs.{SendArgs}
@@ -173,8 +175,8 @@ pub record SendsLedger {F J : Type 0} (makes : List ℕ → J → Type 0) (conte
 
 abbrev pub SendsOn : {F J : Type 0} → (List ℕ → J → Type 0) → (J → Option (List ℕ)) → (List ℕ → Option Told → Type 0) → (CentreAt → Bool → ℕ → ℕ → Told) → TargetKind → (List ℕ → F → Type 0) → (F → Option (List ℕ)) → (F → Option (List ℕ)) → (F → ℕ) → (F → Type 0) → List ℕ → SendArgs → Option (List ℕ) → Option (List ℕ) → ℕ → Type 0
 SendsOn makes contents finds tells kind holds octets stored opening is_closed ledger order old new status =
-    OfConfig finds (string_bytes order.config) (λ config.
-    (named : NamedFiles) × HasMessages finds config.files named × (wanted : JournalFile) × (order.journal ≡ Some wanted)
+    OfConfig finds (string_bytes order.config) (λ config. AreFieldsAt finds (bytes_of order.fields) config.fields
+    × (named : NamedFiles) × HasMessages finds config.files named × (wanted : JournalFile) × (order.journal ≡ Some wanted)
     × SendsLedger makes contents tells kind holds octets stored opening is_closed ledger order.again order.strict named wanted old new status config)
 
 -- ---- why they fail
@@ -204,10 +206,10 @@ FailsOnLedger makes refuses held tells kind holds lacks errs octets stored openi
     ⊎ DoneIn holds opening is_closed ledger (λ first last. FailsBeginOn (FailsHead makes refuses held wanted) errs octets read named strict first last fault)
     ⊎ FailsOnCredits tells kind holds lacks errs octets stored opening is_closed ledger again strict named begun old new fault read.config
 
--- or the config, the messages or the tariff can't be had
+-- or the config, the fields, the messages or the tariff can't be had
 abbrev pub FailsSendOn : {F J : Type 0} → (List ℕ → J → Type 0) → (List ℕ → Type 0) → (List ℕ → Type 0) → (List ℕ → Option Told → Type 0) → (CentreAt → Bool → ℕ → ℕ → Told) → TargetKind → (List ℕ → F → Type 0) → (List ℕ → LedgerFailure → Type 0) → (ErrorKind → Type 0) → (F → Option (List ℕ)) → (F → Option (List ℕ)) → (F → ℕ) → (F → Type 0) → List ℕ → SendArgs → StartPhase → Option (List ℕ) → Option (List ℕ) → Fault → Type 0
 FailsSendOn makes refuses held finds tells kind holds lacks errs octets stored opening is_closed ledger order begun old new fault =
-    (IsWords fault × (order.journal ≡ None)) ⊎ (fault ≡ OutOfMemory) ⊎ FailsReadingConfig finds order.config fault
+    (IsWords fault × (order.journal ≡ None)) ⊎ (fault ≡ OutOfMemory) ⊎ FailsReadingConfig finds order.config fault ⊎ FailsFields finds (bytes_of order.fields) fault
     ⊎ OfConfig finds (string_bytes order.config) (λ config. FailsMessages finds config.files fault
-    ⊎ ((named : NamedFiles) × HasMessages finds config.files named × (read : ConfigFile) × (read.config ≡ config) × (wanted : JournalFile) × (order.journal ≡ Some wanted)
+    ⊎ (AreFieldsAt finds (bytes_of order.fields) config.fields × (named : NamedFiles) × HasMessages finds config.files named × (read : ConfigFile) × (read.config ≡ config) × (wanted : JournalFile) × (order.journal ≡ Some wanted)
     × FailsOnLedger makes refuses held tells kind holds lacks errs octets stored opening is_closed ledger order.again order.strict read named wanted begun old new fault))

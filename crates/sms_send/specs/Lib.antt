@@ -1,6 +1,7 @@
 pub mod Asked
 pub mod Exposed
 pub mod Faults
+pub mod FieldFiles
 pub mod FaultReports
 pub mod FullNames
 pub mod Opened

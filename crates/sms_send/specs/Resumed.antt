@@ -14,6 +14,8 @@ use Rattle.sms_journal.specs.Left.{count_left}
 use Rattle.sms_journal.specs.Resuming.{IsFaultOfRun, IsRunOfJournal}
 use Rattle.sms_journal.specs.declared.recovery.resuming.JournaledRun.{JournaledRun}
 use Rattle.sms_journal.specs.declared.text.header.JournalKind.TheVariants.{Run as OfRun, Trial as OfTrial}
+use Rattle.sms_send.specs.Words.{bytes_of}
+use Rattle.sms_send.specs.FieldFiles.{AreFieldsAt, FailsFields}
 use Rattle.sms_send.specs.Faults.{ComesAt, output_failed, unreported}
 use Rattle.sms_send.specs.Noted.{FailsNotedWork, IsHeld, IsNotedIn, TakesNoRound}
 use Rattle.sms_send.specs.Reached.{centre_in}
@@ -57,9 +59,11 @@ pub record GoesOn (tells : ℕ → ℕ → Told) (again : Option Again) (strict 
   pub some : 0 < count_left run.ends.items
   pub sends : SendsLeft tells again strict run old new status
 
--- the journal that an order names says this of its run, which is of no ledger: one of a ledger goes on by its ledger alone
+-- the journal that an order names says this of its run, which has the fields that the order wants and is of no ledger: one of a ledger goes on by its ledger alone
 abbrev pub IsJournaledBy : (List ℕ → Option Told → Type 0) → ResumeArgs → JournaledRun → Type 0
-IsJournaledBy finds order run = (files : RunFiles) × IsRun finds (string_bytes order.config) (string_bytes order.journal.name) files × (is_some files.run ≡ false) × IsJournaled files run
+IsJournaledBy finds order run =
+    (files : RunFiles) × IsRun finds (string_bytes order.config) (string_bytes order.journal.name) files × (is_some files.run ≡ false) × IsJournaled files run
+    × AreFieldsAt finds (bytes_of order.fields) run.config.fields
 
 -- the run that an order names was resumed with this status: nothing was left, or it went on
 abbrev pub ResumesBy : (List ℕ → Option Told → Type 0) → (CentreAt → Bool → ℕ → ℕ → Told) → ResumeArgs → Option (List ℕ) → Option (List ℕ) → ℕ → Type 0
@@ -108,11 +112,12 @@ FailsGoingOn centre tells again strict run old new fault = ((fault ≡ OutOfMemo
 abbrev pub IsOfLedger : RunFiles → Fault → Type 0
 IsOfLedger files fault = (fault ≡ LedgerRun OfLedger) × (is_some files.run ≡ true)
 
--- there is no such run: a file can't be read, or the journal is none of a run of the files, or of one of a ledger
+-- there is no such run: a file can't be read, the journal is none of a run of the files, or of one of a ledger, or the fields can't be read
 abbrev pub FailsJournaled : (List ℕ → Option Told → Type 0) → ResumeArgs → Fault → Type 0
 FailsJournaled finds order fault =
     FailsNamed finds (string_bytes order.config) (string_bytes order.journal.name) fault
-    ⊎ ((files : RunFiles) × IsRun finds (string_bytes order.config) (string_bytes order.journal.name) files × (FailsResumed order.strict files fault ⊎ IsOfLedger files fault))
+    ⊎ (((files : RunFiles) × IsRun finds (string_bytes order.config) (string_bytes order.journal.name) files × (FailsResumed order.strict files fault ⊎ IsOfLedger files fault))
+    ⊎ FailsFields finds (bytes_of order.fields) fault)
 
 -- by these arguments: the journal can't be opened, there is no such run, or it can't go on
 abbrev pub FailsResumeJob : (List ℕ → Type 0) → (List ℕ → Type 0) → (List ℕ → Option Told → Type 0) → (CentreAt → Bool → ℕ → ℕ → Told) → ResumeArgs → Option (List ℕ) → Option (List ℕ) → Fault → Type 0

@@ -8,6 +8,7 @@ use Rattle.sms_bind.specs.Frames.{AreSame, requests}
 use Rattle.sms_worker.specs.Credit.{IsCovered}
 use Rattle.sms_worker.specs.EndOf.{IsEndOf}
 use Rattle.sms_worker.specs.Frames.{frames_in}
+use Rattle.sms_message.specs.Fields.{HasNoFields}
 use Rattle.sms_message.specs.Limits.{most_turns}
 use Rattle.sms_message.specs.declared.rules.Rules.{Rules}
 use Rattle.sms_driver.specs.Answered.{AreHeard}
@@ -82,6 +83,7 @@ pub record IsSent (told : ℕ → Told) (input : Input) (ended : Ended) : Type 0
   pub openings : ended.openings ≡ input.openings
   pub rules : Rules
   pub says : IsRulesOf input.config.retry input.config.limits input.config.flags input.tariff most_turns rules
+  pub fields : rules.fields ≡ input.config.fields
   pub ends : AllZip (IsEndOf rules (length input.openings.items)) input.messages.items ended.ends.items
   pub covered : AllZip (IsCovered (credits_of input.openings.items) rules) input.messages.items ended.ends.items
   pub rows : AreRows (credits_of input.openings.items) input.messages.items ended.ends.items ended.statement
@@ -117,10 +119,10 @@ pub record SendsInput (tells : ℕ → ℕ → Told) (again : Option Again) (str
   pub written : Appends old new (report_in ended)
   pub status_is : status ≡ status_by strict ended.ends.items
 
--- the config, the accounts, the messages and the tariff were read, and sent so
+-- the config, the accounts, the messages and the tariff were read, and sent so, without fields
 abbrev pub RunsSender : (ℕ → Told) → Bool → List ℕ → Told → Told → Option Told → Option (List ℕ) → Option (List ℕ) → ℕ → Type 0
 RunsSender told strict config accounts messages tariff old new status =
-    (input : Input) × IsInput config accounts messages tariff input × SendsInput (λ round. told) None strict input old new status
+    (input : Input) × IsInput config accounts messages tariff input × HasNoFields input.config.fields × SendsInput (λ round. told) None strict input old new status
 
 -- ---- why nothing was sent in a round
 
@@ -148,7 +150,7 @@ FailsInputOver refuses tells again input old new fault =
 abbrev pub FailsSender : (ℕ → Type 0) → (ℕ → Told) → List ℕ → Told → Told → Option Told → Option (List ℕ) → Option (List ℕ) → Fault → Type 0
 FailsSender refuses told config accounts messages tariff old new fault =
     IsReadFault (TellsInput config accounts messages tariff) fault
-    ⊎ ((input : Input) × IsInput config accounts messages tariff input × FailsInputOver (λ round. refuses) (λ round. told) None input old new fault)
+    ⊎ ((input : Input) × IsInput config accounts messages tariff input × HasNoFields input.config.fields × FailsInputOver (λ round. refuses) (λ round. told) None input old new fault)
 
 -- ---- what there is to send: what was read, or what a run has left
 

@@ -16,9 +16,10 @@ pub record AreSettingsOf (connection : Connection) (limits : Limits) (flags : Fl
   pub limit : all.limit ≡ limits.window
   pub follow : all.follow ≡ flags.follow
 
--- a sending has as many binds and workers as the config says, and the rules of config and tariff
+-- a sending has as many binds and workers as the config says, and the rules of config and tariff, with its fields
 pub record AreRunSettings (config : Config) (tariff : List Price) (run : RunSettings) : Type 0 where
   pub binds : run.binds ≡ config.limits.binds
   pub workers : run.workers ≡ config.limits.workers
   pub asks : AreSettingsOf config.connection config.limits config.flags run.bind_settings
   pub says : IsRulesOf config.retry config.limits config.flags tariff most_turns run.rules
+  pub fields : run.rules.fields ≡ config.fields

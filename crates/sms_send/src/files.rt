@@ -1,6 +1,7 @@
 //! The files that the program reads, by their names.
 
 pub mod config_file;
+pub mod fields_file;
 pub mod headed;
 pub mod named_files;
 pub mod open_input;

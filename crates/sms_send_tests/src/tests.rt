@@ -5,6 +5,7 @@ mod asked;
 mod audited;
 mod broken;
 mod details;
+mod field_words;
 mod frames;
 mod full_names;
 mod held;

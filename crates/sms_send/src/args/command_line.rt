@@ -224,8 +224,15 @@ fn with_config<'a>(
         "quiet",
         "Prints nothing but faults on standard error",
     );
+    let fields = value_option(
+        alloc,
+        "fields",
+        "FILE",
+        "What else each request says, as TOML: its validity, its priority and more",
+    );
     let configured = with_argument(command, config);
-    with_argument(configured, quiet)
+    let fielded = with_argument(configured, fields);
+    with_argument(fielded, quiet)
 }
 
 /// The command with the options that each sending has behind its journal.

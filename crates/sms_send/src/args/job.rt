@@ -232,9 +232,17 @@ pub(crate) fn send_args_of(alloc: Global, found: &ArgMatches<'_>) -> Result<Send
         Ok(journal) => journal,
         Err(fault) => return Err(fault),
     };
+    let fields = match text_if_given(alloc, found, "fields") {
+        Ok(fields) => fields,
+        Err(fault) => {
+            drop(journal);
+            return Err(fault);
+        }
+    };
     match text_given(alloc, found, "config") {
         Ok(config) => Ok(SendArgs {
             config,
+            fields,
             quiet: is_given(found, "quiet"),
             verbose: is_given(found, "verbose"),
             journal,
@@ -245,6 +253,7 @@ pub(crate) fn send_args_of(alloc: Global, found: &ArgMatches<'_>) -> Result<Send
         }),
         Err(fault) => {
             drop(journal);
+            drop(fields);
             Err(fault)
         }
     }
@@ -262,9 +271,14 @@ pub(crate) fn resume_args_of(alloc: Global, found: &ArgMatches<'_>) -> Result<Re
     let (quiet, verbose) = (is_given(found, "quiet"), is_given(found, "verbose"));
     let (sync, strict) = (is_given(found, "sync"), is_given(found, "strict"));
     let refs = is_given(found, "refs");
+    let fields = match text_if_given(alloc, found, "fields") {
+        Ok(fields) => fields,
+        Err(fault) => return Err(fault),
+    };
     match names_of(alloc, found, "journal") {
         Ok((config, name)) => Ok(ResumeArgs {
             config,
+            fields,
             quiet,
             verbose,
             journal: JournalFile { name, sync },
@@ -273,7 +287,10 @@ pub(crate) fn resume_args_of(alloc: Global, found: &ArgMatches<'_>) -> Result<Re
             strict,
             refs,
         }),
-        Err(fault) => Err(fault),
+        Err(fault) => {
+            drop(fields);
+            Err(fault)
+        }
     }
 }
 

@@ -7,6 +7,8 @@ use sms_journal::Listing;
 pub struct SendArgs {
     /// The name of the config.
     pub config: String,
+    /// The name of the file of what else each request says; none without the option.
+    pub fields: Option<String>,
     /// Whether nothing but a fault is printed on standard error.
     pub quiet: bool,
     /// Whether details are printed there of what needs an operator.
@@ -28,6 +30,8 @@ pub struct SendArgs {
 pub struct ResumeArgs {
     /// The name of the config of the run.
     pub config: String,
+    /// The name of the file of what else each request says; none without the option.
+    pub fields: Option<String>,
     /// Whether nothing but a fault is printed on standard error.
     pub quiet: bool,
     /// Whether details are printed there of what needs an operator.

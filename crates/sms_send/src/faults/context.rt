@@ -49,6 +49,7 @@ pub struct Address {
 #[derive(Debug, Drop)]
 pub struct JobNames {
     pub config: Option<String>,
+    pub fields: Option<String>,
     pub schedule: Option<String>,
     pub accounts: Option<String>,
     pub messages: Option<String>,
@@ -95,11 +96,20 @@ fn kept_if_named(alloc: Global, name: &str) -> Option<String> {
     }
 }
 
+/// The same of a name that an argument needn't give.
+fn kept_if_given(alloc: Global, name: &Option<String>) -> Option<String> {
+    match name {
+        Some(name) => kept(alloc, name.as_str()),
+        None => None,
+    }
+}
+
 impl JobNames {
     /// No names.
     fn new() -> JobNames {
         JobNames {
             config: None,
+            fields: None,
             schedule: None,
             accounts: None,
             messages: None,
@@ -196,6 +206,7 @@ impl JobContext {
     fn note_sending(&mut self, alloc: Global, kind: JobKind, order: &SendArgs) {
         self.kind = kind;
         self.names.config = kept(alloc, order.config.as_str());
+        self.names.fields = kept_if_given(alloc, &order.fields);
         self.names.journal = journal_name(alloc, &order.journal);
     }
 
@@ -203,6 +214,7 @@ impl JobContext {
     fn note_resume(&mut self, alloc: Global, order: &ResumeArgs) {
         self.kind = JobKind::Resume;
         self.names.config = kept(alloc, order.config.as_str());
+        self.names.fields = kept_if_given(alloc, &order.fields);
         self.names.journal = kept(alloc, order.journal.name.as_str());
     }
 
@@ -222,8 +234,9 @@ impl JobContext {
         }
     }
 
-    /// Notes that the accounts are those of the ledger.
-    pub fn note_ledger_accounts(&mut self, alloc: Global) {
+    /// Notes what the config of a run on a ledger says: its accounts are those of the ledger.
+    pub fn note_ledger_config(&mut self, alloc: Global, config: &Config) {
+        self.note_config(alloc, config);
         let name = match text_of(&self.names.ledger) {
             Some(name) => kept(alloc, name),
             None => None,

@@ -42,6 +42,10 @@ pub enum Fault {
     NotToml(TomlFlaw),
     /// The config has this value at this key, which isn't a good one, or may not have the key.
     BadKey(String, ConfigValue),
+    /// The fields file isn't TOML, and this is why.
+    NotFields(TomlFlaw),
+    /// The fields file has this value at this key, which isn't a good one, or may not have the key.
+    BadField(String, ConfigValue),
     /// The bind of this number, counted from 0, was refused with this command_status.
     BindRefused(u32, u32),
     /// The bind of this number failed otherwise, or there was no connection.
@@ -117,6 +121,8 @@ impl fmt::Display for Fault {
             Fault::BadRecord(source, place, _) => write_record(f, source.name(), *place),
             Fault::NotToml(_) => f.write_str("fault: config"),
             Fault::BadKey(key, _) => write_named(f, "fault: config ", key.as_str()),
+            Fault::NotFields(_) => f.write_str("fault: fields"),
+            Fault::BadField(key, _) => write_named(f, "fault: fields ", key.as_str()),
             Fault::BindRefused(bind, status) => write_refused(f, *bind, *status),
             Fault::BindFailed(bind, _) => write_failed(f, *bind),
             Fault::Unconnected(reason) => write_failed(f, reason.bind),

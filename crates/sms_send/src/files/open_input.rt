@@ -93,6 +93,7 @@ pub fn open_input<R: InputFiles>(rt: &R, config: Config) -> Result<OpenInput<R::
         flags,
         files,
         answers,
+        fields,
     } = config;
     let OpenFiles {
         names,
@@ -111,6 +112,7 @@ pub fn open_input<R: InputFiles>(rt: &R, config: Config) -> Result<OpenInput<R::
             flags,
             files: names,
             answers,
+            fields,
         },
         accounts,
         messages,

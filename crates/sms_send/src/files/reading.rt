@@ -4,6 +4,7 @@ ghost use Rattle.std.specs.Prelude.{◌≡◌, IfErr, IfOk, option_map};
 ghost use Rattle.sms_files.specs.ConfigFaults.{IsConfig, TellsConfig};
 ghost use Rattle.sms_files.specs.Inputs.{IsFaultOfFiles, IsInput, TellsInput};
 ghost use Rattle.sms_files.specs.Setups.{setup_in};
+ghost use Rattle.sms_message.specs.Fields.{HasNoFields};
 ghost use Rattle.sms_files.specs.declared.config.Config.{Config as ConfigRecord};
 ghost use Rattle.sms_send.specs.Faults.{IsReadFault};
 ghost use Rattle.sms_send.specs.Reading.{IsInputBy};
@@ -63,6 +64,8 @@ pub fn read_input<A: Read + Drop, M: Read + Drop, T: Read + Drop>(
     tariff: Option<T>,
 ) -> Result<Input, Fault>
     ensures read { IfOk result (IsInput config.now (A.remaining accounts) (M.remaining messages) (option_map T.remaining tariff)) }
+    // No fields are asked for.
+    ensures no_fields { IfOk result (λ input. HasNoFields input.config.fields) }
 
     // A fault is of the first that has one.
     ensures refused { IfErr result (IsReadFault (TellsInput config.now (A.remaining accounts) (M.remaining messages) (option_map T.remaining tariff))) }

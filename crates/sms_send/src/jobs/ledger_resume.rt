@@ -3,15 +3,17 @@
 ghost use Rattle.std.specs.Prelude.{◌≡◌, ◌≢◌, ◌⊎◌, ◌<◌, ◌≤◌, IfErr, IfOk, IfSome, OnOk, length, string_bytes};
 ghost use Rattle.sms_driver.specs.declared.start.StartPhase.TheVariants.{Idle, Released};
 ghost use Rattle.sms_send.specs.Faults.{HasLostJournal, IsUnsettled, output_failed};
+ghost use Rattle.sms_send.specs.FieldFiles.{AreFieldsAt, FailsFields};
 ghost use Rattle.sms_journal.specs.Left.{count_left as left_count};
 ghost use Rattle.sms_send.specs.Kept.{HasPrinted};
 ghost use Rattle.sms_send.specs.LedgerSendings.{EndsOn};
 ghost use Rattle.sms_driver.specs.declared.start_gate.Command.TheVariants.{Go};
-ghost use Rattle.sms_send.specs.LedgerResuming.{EndsGoing, EndsWhole, FailsGoing, FailsGoingWith, FailsOut, FailsResumeOn, FailsWhole, IsGoing, IsOutWith, ResumesOn};
+ghost use Rattle.sms_send.specs.LedgerResuming.{EndsGoing, EndsWhole, FailsGoing, FailsGoingWith, FailsOut, FailsResumeOn, FailsWhole, IsGoing, IsOutWith, ResumesOn, ledger_run_with};
 ghost use Rattle.sms_send.specs.declared.faults.fault.Fault.TheVariants.{OutOfMemory};
 ghost use Rattle.sms_send.specs.PlainFiles.{sees};
 ghost use Rattle.sms_send.specs.Resumed.{ComesInResume, HasBegunResume};
 ghost use Rattle.sms_send.specs.Statuses.{IsStatusBy};
+ghost use Rattle.sms_send.specs.Words.{bytes_of};
 
 use crate::args::send_args::ResumeArgs;
 use crate::faults::context::JobContext;
@@ -26,7 +28,7 @@ use crate::jobs::ledger_job::read_ledger;
 use crate::jobs::ledger_kind::join_kind;
 use crate::jobs::ledger_run::{LedgerRun, check_taken, ledger_run_of};
 use crate::jobs::ledger_send::Debtor;
-use crate::jobs::resume_job::{open_journal, print_run, resume_run};
+use crate::jobs::resume_job::{open_journal, print_run, resume_run, with_wanted};
 use crate::sending::kept::{Kept, is_printing, rows_of};
 use sms_core::Row;
 use sms_devices::{HeldFile, Host, LedgerFiles, LedgerKind};
@@ -66,7 +68,36 @@ fn check_out<R: AllocGlobal + LedgerFiles>(
     }
 }
 
-/// What the journal says of the run that is to go on and how many octets stand before it.
+/// A run of a ledger with the fields that are wanted.
+fn with_its_fields<R: AllocGlobal + InputFiles>(
+    rt: &R,
+    read: LedgerRun,
+    wanted: &Option<String>,
+) -> Result<LedgerRun, Fault>
+    ensures run { IfOk result (λ with. with ≡ ledger_run_with with.run.config.fields read) }
+    ensures fields { IfOk result (λ with. AreFieldsAt (R.finds rt.now) (bytes_of wanted.now) with.run.config.fields) }
+    ensures refused { IfErr result (FailsFields (R.finds rt.now) (bytes_of wanted.now)) }
+{
+    let LedgerRun {
+        name,
+        accounts,
+        run,
+    } = read;
+    match with_wanted(rt, run, wanted) {
+        Ok(run) => Ok(LedgerRun {
+            name,
+            accounts,
+            run,
+        }),
+        Err(fault) => {
+            drop(name);
+            drop(accounts);
+            Err(fault)
+        }
+    }
+}
+
+/// What the journal says of the run that is to go on, with the fields of its further round, and how many octets stand before it.
 fn read_going<R: FileModes + Host + InputFiles>(
     rt: &R,
     context: &mut JobContext,
@@ -92,7 +123,10 @@ fn read_going<R: FileModes + Host + InputFiles>(
     };
     match read.run.kind {
         JournalKind::Trial => Err(Fault::Trial),
-        JournalKind::Run => Ok((read, files.before)),
+        JournalKind::Run => match with_its_fields(&seen, read, &order.fields) {
+            Ok(read) => Ok((read, files.before)),
+            Err(fault) => Err(fault),
+        },
     }
 }
 

@@ -23,9 +23,10 @@ ghost use Rattle.sms_send.specs.Statuses.{IsStatusBy};
 use crate::args::send_args::{JournalFile, SendArgs};
 use crate::faults::argument_error::ArgumentError;
 use crate::faults::context::JobContext;
-use crate::faults::exposed::{FileModes, read_warned};
+use crate::faults::exposed::FileModes;
 use crate::faults::fault::Fault;
 use crate::files::config_file::ConfigFile;
+use crate::files::fields_file::read_sending;
 use crate::files::headed::files_with;
 use crate::files::named_files::NamedFiles;
 use crate::files::opened::InputFiles;
@@ -207,7 +208,7 @@ fn begin_on<R: Host + LedgerFiles>(
     })
 }
 
-/// Reads the config of this name and its messages, opens the accounts that these name with all that is free of them in the ledger of this
+/// Reads the config of this name with the fields of the sending, and its messages, opens the accounts that these name with all that is free of them in the ledger of this
 /// name, takes that out, sends, prints the report, and gives back what its statement says. Gives the exit status.
 pub fn ledger_send_job<R: FileModes + Host + InputFiles + LedgerFiles, W: Write>(
     rt: &R,
@@ -230,6 +231,7 @@ pub fn ledger_send_job<R: FileModes + Host + InputFiles + LedgerFiles, W: Write>
 {
     let SendArgs {
         config,
+        fields,
         quiet,
         verbose,
         journal,
@@ -243,9 +245,8 @@ pub fn ledger_send_job<R: FileModes + Host + InputFiles + LedgerFiles, W: Write>
     };
     let (files, trial) = (PlainFiles { rt, refs }, kind == TargetKind::Loopback);
     let remarks = Remarks::new(quiet, verbose, rt.is_terminal(), rt.has_details(), trial);
-    let read = read_warned(&files, config, remarks.at_length)?;
-    context.note_config(rt.alloc(), &read.config);
-    context.note_ledger_accounts(rt.alloc());
+    let read = read_sending(&files, config, &fields, remarks.at_length)?;
+    context.note_ledger_config(rt.alloc(), &read.config);
     let target = Target::new(rt.alloc(), kind, &read.config)?;
     let named = files_with(&files, &read.config.files, Vec::new(rt.alloc()))?;
     let sending = Sending {

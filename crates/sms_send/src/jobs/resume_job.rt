@@ -3,7 +3,10 @@
 ghost use Rattle.std.specs.Prelude.{◌≡◌, ◌≢◌, ◌⊎◌, ◌≤◌, IfErr, IfOk, OnOk, length, string_bytes, true};
 ghost use Rattle.sms_driver.specs.declared.start.StartPhase.TheVariants.{Idle};
 ghost use Rattle.sms_journal.specs.Left.{count_left as left_count};
+ghost use Rattle.sms_send.specs.Words.{bytes_of};
 ghost use Rattle.sms_send.specs.Faults.{HasLostJournal, output_failed};
+ghost use Rattle.sms_send.specs.FieldFiles.{AreFieldsAt, FailsFields};
+ghost use Rattle.sms_journal.specs.Resuming.{run_with_fields};
 ghost use Rattle.sms_send.specs.Kept.{KeepsThrough};
 ghost use Rattle.sms_send.specs.Noted.{IsNotedIn};
 ghost use Rattle.sms_send.specs.Reached.{centre_in};
@@ -18,6 +21,7 @@ use crate::faults::context::JobContext;
 use crate::faults::exposed::FileModes;
 use crate::faults::fault::Fault;
 use crate::faults::ledger_run::LedgerRunFlaw;
+use crate::files::fields_file::read_fields;
 use crate::files::opened::InputFiles;
 use crate::files::plain_files::PlainFiles;
 use crate::files::run_files::{RunFiles, read_warned_run};
@@ -133,7 +137,26 @@ pub(crate) fn print_run<W: Write>(
     }
 }
 
-/// What the journal of a run says of it, by the files that its config names.
+/// A run with the fields that an order wants.
+pub(crate) fn with_wanted<R: AllocGlobal + InputFiles>(
+    rt: &R,
+    run: JournaledRun,
+    wanted: &Option<String>,
+) -> Result<JournaledRun, Fault>
+    ensures run { IfOk result (λ with. with ≡ run_with_fields with.config.fields run) }
+    ensures fields { IfOk result (λ with. AreFieldsAt (R.finds rt.now) (bytes_of wanted.now) with.config.fields) }
+    ensures refused { IfErr result (FailsFields (R.finds rt.now) (bytes_of wanted.now)) }
+{
+    match read_fields(rt, wanted) {
+        Ok(fields) => Ok(run.with_fields(fields)),
+        Err(fault) => {
+            drop(run);
+            Err(fault)
+        }
+    }
+}
+
+/// What the journal of a run says of it, by the files that its config names, with the fields that are wanted.
 fn read_journaled<R: FileModes + Host + InputFiles>(
     rt: &R,
     context: &mut JobContext,
@@ -156,7 +179,10 @@ fn read_journaled<R: FileModes + Host + InputFiles>(
     }
     let run = journaled(rt, order.config.as_str(), &files, order.strict);
     drop(files);
-    run
+    match run {
+        Ok(run) => with_wanted(&seen, run, &order.fields),
+        Err(fault) => Err(fault),
+    }
 }
 
 /// Sends in a further round what the rounds before left, and prints the report of the whole run.

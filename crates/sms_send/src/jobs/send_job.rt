@@ -3,6 +3,7 @@
 ghost use Rattle.std.specs.Prelude.{◌≡◌, ◌≢◌, IfErr, IfOk, OnOk, is_some, option_map, string_bytes};
 ghost use Rattle.sms_driver.specs.declared.start_gate.Command.TheVariants.{Go};
 ghost use Rattle.sms_driver.specs.declared.start.StartPhase.TheVariants.{Idle, Released};
+ghost use Rattle.sms_send.specs.Words.{bytes_of};
 ghost use Rattle.sms_send.specs.ConfigFiles.{OfConfig};
 ghost use Rattle.sms_send.specs.Faults.{ComesAt, output_failed};
 ghost use Rattle.sms_send.specs.Noted.{FailsBegin, NotesEnd};
@@ -12,9 +13,10 @@ ghost use Rattle.sms_send.specs.Sent.{FailsSender, RunsSender, SendingEnd};
 
 use crate::args::send_args::SendArgs;
 use crate::faults::context::JobContext;
-use crate::faults::exposed::{FileModes, read_warned};
+use crate::faults::exposed::FileModes;
 use crate::faults::fault::Fault;
 use crate::files::config_file::ConfigFile;
+use crate::files::fields_file::read_sending;
 use crate::files::open_input::open_input;
 use crate::files::opened::InputFiles;
 use crate::files::plain_files::PlainFiles;
@@ -90,12 +92,13 @@ pub fn send_job<R: FileModes + Host + InputFiles, W: Write>(
 ) -> Result<u8, Fault>
     requires not_started { start.old.begun ≡ Idle }
     ensures latch { start.new.latch ≡ start.old.latch }
-    ensures ended { SendingEnd order.strict (λ status. OfConfig (sees order.refs (R.finds rt.now)) (string_bytes order.config) (SendsBy (sees order.refs (R.finds rt.now)) (R.tells rt.now) kind order.again order.strict (is_some order.journal) (W.contents output.old) (W.contents output.new) status)) (FailsSendJob (FailsBegin (R.makes rt.now) (R.refuses rt.now) (R.holds rt.now)) (sees order.refs (R.finds rt.now)) (R.tells rt.now) kind order (W.contents output.old) (W.contents output.new)) start.new.begun output.old output.new result }
+    ensures ended { SendingEnd order.strict (λ status. OfConfig (sees order.refs (R.finds rt.now)) (string_bytes order.config) (SendsBy (sees order.refs (R.finds rt.now)) (R.tells rt.now) kind (bytes_of order.fields) order.again order.strict (is_some order.journal) (W.contents output.old) (W.contents output.new) status)) (FailsSendJob (FailsBegin (R.makes rt.now) (R.refuses rt.now) (R.holds rt.now)) (sees order.refs (R.finds rt.now)) (R.tells rt.now) kind order (W.contents output.old) (W.contents output.new)) start.new.begun output.old output.new result }
     // A journal that was asked for is the file that was made by its name, and ends with the note of this.
     ensures noted { IfOk result (NotesEnd R.JournalFile.contents (R.makes rt.now) order.journal) }
 {
     let SendArgs {
         config,
+        fields,
         quiet,
         verbose,
         journal,
@@ -107,7 +110,7 @@ pub fn send_job<R: FileModes + Host + InputFiles, W: Write>(
     let files = PlainFiles { rt, refs };
     let trial = kind == TargetKind::Loopback;
     let remarks = Remarks::new(quiet, verbose, rt.is_terminal(), rt.has_details(), trial);
-    let read = read_warned(&files, config, remarks.at_length)?;
+    let read = read_sending(&files, config, &fields, remarks.at_length)?;
     context.note_config(rt.alloc(), &read.config);
     let target = Target::new(rt.alloc(), kind, &read.config)?;
     let ConfigFile { octets, config } = read;

@@ -127,13 +127,14 @@ pub(crate) fn settings_of(config: Config, tariff: Tariff) -> RunSettings
         limits,
         retry,
         flags,
+        fields,
         ..
     } = config;
     RunSettings {
         binds: limits.binds as usize,
         workers: limits.workers as usize,
         bind_settings: bind_settings_of(connection, limits, flags),
-        rules: rules_of(retry, limits, flags, tariff, TURNS),
+        rules: rules_of(retry, limits, flags, fields, tariff, TURNS),
     }
 }
 

@@ -150,6 +150,7 @@ const UNBOUND: Throttle = Throttle {
 fn quiet_order(config: String) -> SendArgs {
     SendArgs {
         config,
+        fields: None,
         quiet: true,
         verbose: false,
         journal: None,

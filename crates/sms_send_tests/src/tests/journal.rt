@@ -36,6 +36,7 @@ fn noted_job(alloc: Global) -> Result<Job, AllocError> {
     };
     Ok(Job::Loop(SendArgs {
         config: String::from_str(alloc, FILES[0].0)?,
+        fields: None,
         quiet: true,
         verbose: false,
         journal: Some(journal),

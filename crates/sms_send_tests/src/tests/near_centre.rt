@@ -187,6 +187,7 @@ pub fn send_job(alloc: Global, names: &Names, again: Option<Again>) -> Result<Jo
     };
     Ok(Job::Send(SendArgs {
         config: String::from_str(alloc, names.config)?,
+        fields: None,
         quiet: true,
         verbose: false,
         journal: Some(journal),
@@ -205,6 +206,7 @@ pub fn resume_job(alloc: Global, names: &Names, again: Option<Again>) -> Result<
     };
     Ok(Job::Resume(ResumeArgs {
         config: String::from_str(alloc, names.config)?,
+        fields: None,
         quiet: true,
         verbose: false,
         journal,

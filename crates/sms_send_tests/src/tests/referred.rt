@@ -68,6 +68,7 @@ fn job_of(alloc: Global, word: &str, refs: bool) -> Result<Job, AllocError> {
         }),
         _ => Job::Loop(SendArgs {
             config,
+            fields: None,
             quiet: true,
             verbose: false,
             journal: Some(JournalFile {

@@ -66,6 +66,7 @@ const RUNS: [(&str, u32, &str, &str, u8); 4] = [
 fn job_again(alloc: Global, most: u32) -> Result<Job, AllocError> {
     Ok(Job::Loop(SendArgs {
         config: String::from_str(alloc, CONFIG)?,
+        fields: None,
         quiet: true,
         verbose: false,
         journal: None,

@@ -340,6 +340,7 @@ fn gives_help_and_version(rt: HostRuntime) -> Result<(), Fail> {
         ("help send", "--connect-ms <N>"),
         ("help loop", "--strict"),
         ("help send", "--again <N>"),
+        ("help resume", "--fields <FILE>"),
         ("resume --help", "Usage: sms-send resume"),
         ("quote --help", "Usage: sms-send quote"),
         ("help replay", "Usage: sms-send replay"),

@@ -1,4 +1,4 @@
-//! What the keys of a config may hold, and the detail lines of a config.
+//! What the keys of a config and of a fields file may hold, and the detail lines of these.
 
 use crate::faults::context::text_of;
 use crate::faults::details::short::Short;
@@ -7,8 +7,11 @@ use sms_files::{ConfigValue, TomlFlaw};
 use std::alloc::AllocError;
 use std::fmt::Write as _;
 
-/// The keys of a config, each with what it should hold.
-const KEYS: [(&str, &str); 21] = [
+/// A key, with what it should hold.
+type Key = (&'static str, &'static str);
+
+/// The keys of a config.
+pub(crate) const CONFIG_KEYS: [Key; 21] = [
     ("host", "a text"),
     ("port", "1 to 65535"),
     ("system_id", "a text of at most 15 octets, none of them 0"),
@@ -35,11 +38,38 @@ const KEYS: [(&str, &str); 21] = [
     ("follow", "true or false"),
 ];
 
+/// The keys of a fields file.
+pub(crate) const FIELD_KEYS: [Key; 13] = [
+    ("service_type", "a text of at most 5 octets, none of them 0"),
+    ("source_ton", "0 to 255"),
+    ("source_npi", "0 to 255"),
+    ("destination_ton", "0 to 255"),
+    ("destination_npi", "0 to 255"),
+    ("protocol_id", "0 to 255"),
+    ("priority", "0 to 3"),
+    ("registered_delivery", "0 to 31"),
+    ("replace", "true or false"),
+    ("schedule", TIME),
+    ("validity", TIME),
+    (
+        "validity_s",
+        "1 to 2592000 seconds, and not beside validity",
+    ),
+    (
+        "parameters",
+        "a list of texts TAG:VALUE in hexadecimal digits, four of the tag, of at most 1024 octets in all",
+    ),
+];
+
+/// What a time should be.
+const TIME: &str =
+    "a time YYMMDDhhmmsstnn and +, - or R, as 000000000500000R for five minutes from now on";
+
 /// What the key of this name should hold; none where there is no such key.
-fn range_of(key: &str) -> Option<&'static str> {
-    for (name, range) in KEYS {
-        if name == key {
-            return Some(range);
+fn range_of(keys: &[Key], key: &str) -> Option<&'static str> {
+    for (name, range) in keys {
+        if *name == key {
+            return Some(*range);
         }
     }
     None
@@ -72,10 +102,10 @@ fn is_near(key: &str, name: &str) -> bool {
 }
 
 /// The key that a name that is none is near to.
-fn nearest_key(name: &str) -> Option<&'static str> {
-    for (key, _) in KEYS {
-        if is_near(key, name) {
-            return Some(key);
+fn nearest_key(keys: &[Key], name: &str) -> Option<&'static str> {
+    for (key, _) in keys {
+        if is_near(*key, name) {
+            return Some(*key);
         }
     }
     None
@@ -85,15 +115,16 @@ fn nearest_key(name: &str) -> Option<&'static str> {
 /// stands at a key that there isn't may be a secret, and isn't written.
 pub(crate) fn write_key(
     text: &mut String,
+    keys: &[Key],
     key: &str,
     value: &ConfigValue,
 ) -> Result<(), AllocError> {
-    match range_of(key) {
+    match range_of(keys, key) {
         Some(range) => {
             write!(text, "{key} should be {range}")?;
             write_value(text, value)
         }
-        None => match nearest_key(key) {
+        None => match nearest_key(keys, key) {
             Some(near) => write!(text, "there is no such key: is it {near}?"),
             None => text.push_str("there is no such key"),
         },
@@ -126,13 +157,13 @@ fn write_value(text: &mut String, value: &ConfigValue) -> Result<(), AllocError>
     }
 }
 
-/// Writes on which line a config isn't TOML, and why.
+/// Writes on which line the file of this name isn't TOML, and why.
 pub(crate) fn write_toml_flaw(
     text: &mut String,
-    config: &Option<String>,
+    name: &Option<String>,
     flaw: &TomlFlaw,
 ) -> Result<(), AllocError> {
-    match text_of(config) {
+    match text_of(name) {
         Some(name) => {
             let name = Shown(name);
             write!(text, "{name} ")?;

@@ -10,7 +10,7 @@ use crate::faults::details::file::{
     write_unread_source,
 };
 use crate::faults::details::journal::{write_unbegun, write_unnoted, write_unprinted};
-use crate::faults::details::key::{write_key, write_toml_flaw};
+use crate::faults::details::key::{CONFIG_KEYS, FIELD_KEYS, write_key, write_toml_flaw};
 use crate::faults::details::ledger::write_ledger_lines;
 use crate::faults::details::record::{write_note, write_record, write_report_record};
 use crate::faults::fault::Fault;
@@ -72,7 +72,9 @@ pub(crate) fn write_lines<R: AllocGlobal + FullNames>(
             write_record(text, &job.names, *source, *place, record)
         }
         Fault::NotToml(flaw) => write_toml_flaw(text, &job.names.config, flaw),
-        Fault::BadKey(key, value) => write_key(text, key.as_str(), value),
+        Fault::BadKey(key, value) => write_key(text, &CONFIG_KEYS, key.as_str(), value),
+        Fault::NotFields(flaw) => write_toml_flaw(text, &job.names.fields, flaw),
+        Fault::BadField(key, value) => write_key(text, &FIELD_KEYS, key.as_str(), value),
         Fault::BindRefused(_, status) => write_status(text, *status),
         Fault::BindFailed(_, why) => write_bind_failure(text, &job.centre, failure_text(*why)),
         Fault::Unconnected(reason) => {

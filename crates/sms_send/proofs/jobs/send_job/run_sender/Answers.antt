@@ -8,6 +8,7 @@ pub returns-clause-sent : goal.returns-clause-sent
 returns-clause-sent g c = (
   c.in_ok-input.input,
   c.in_ok-input.ensures.read,
+  c.in_ok-input.ensures.no_fields,
   record { ended = c.in_ok-ended.ended; sent = c.in_ok-ended.ensures.sent; written = c.in_ok-write_report.ensures.written; status_is = c.exit_status.ensures },
 )
 
@@ -17,7 +18,7 @@ returns-in_err-input-clause-refused g c = told_so c.from_residual.result _ _ c.f
 pub returns-in_err-ended-clause-refused : goal.returns-in_err-ended-clause-refused
 returns-in_err-ended-clause-refused g c =
     told_so c.from_residual-in_err-ended.result _ _ c.from_residual-in_err-ended.ensures.1
-    (inr (c.in_ok-input.input, c.in_ok-input.ensures.read, inl (unsent_once (g.D.Dial.refuses c.args.dial.now) (g.D.Dial.told c.args.dial.now) c.in_ok-input.input.config _ _ c.in_err-ended.ensures.refused)))
+    (inr (c.in_ok-input.input, c.in_ok-input.ensures.read, c.in_ok-input.ensures.no_fields, inl (unsent_once (g.D.Dial.refuses c.args.dial.now) (g.D.Dial.told c.args.dial.now) c.in_ok-input.input.config _ _ c.in_err-ended.ensures.refused)))
 
 pub returns-in_err-write_report-clause-refused : goal.returns-in_err-write_report-clause-refused
 returns-in_err-write_report-clause-refused g c =
@@ -25,6 +26,7 @@ returns-in_err-write_report-clause-refused g c =
     (inr (
       c.in_ok-input.input,
       c.in_ok-input.ensures.read,
+      c.in_ok-input.ensures.no_fields,
       unwritten_told (λ round. g.D.Dial.refuses c.args.dial.now) (λ round. g.D.Dial.told c.args.dial.now) _ c.in_ok-ended.ended _ _ _ c.in_ok-ended.ensures.sent c.in_err-write_report.ensures.failed c.in_err-write_report.ensures.front (λ memory. ap g.W.Write.contents (c.in_err-write_report.ensures.quiet memory)),
     ))
 

@@ -43,6 +43,7 @@ returns-clause-sent g c =
       openings = e.openings;
       rules = run.rules;
       says = is.says;
+      fields = is.fields;
       ends = subst (λ (os : List Opening). AllZip (IsEndOf run.rules (length os)) input.messages.items ends) slice
           (subst (λ (ms : Vec Message Global). AllZip (IsEndOf run.rules (length c.as_slice.result.now)) ms.items ends) e.messages sent.ends);
       covered = subst (λ (os : List Opening). AllZip (IsCovered (credits_of os) run.rules) input.messages.items ends) slice
