@@ -8,7 +8,7 @@ import tomllib
 from books import Ledger
 from tables import Fault, number, table
 
-CONFIG, PARTS = "send.toml", "parts"
+CONFIG, FIELDS, PARTS = "send.toml", "fields.toml", "parts"
 ACCOUNTS = ["account", "credits"]
 MESSAGES = ["account", "source", "destination", "text"]
 WITH_REFS = [*MESSAGES, "ref"]
@@ -20,11 +20,12 @@ NAMES = {"accounts": "accounts.csv", "messages": "messages.csv", "tariff": "tari
 
 
 class Job:
-    """Config, accounts (name: credits), messages (four fields each, or five with the sender's references) and tariff (prefix: credits) of a folder. The accounts of a job on a ledger are
-    those that its messages name."""
+    """Config, accounts (name: credits), messages (four fields each, or five with the sender's references) and tariff (prefix: credits) of a folder, and
+    the text of a fields file. The accounts of a job on a ledger are those that its messages name."""
 
-    def __init__(self, folder, ledger=None):
+    def __init__(self, folder, ledger=None, fields=None):
         self.folder, self.ledger = folder, ledger and Ledger(ledger)
+        self.fields = fields and read_toml(fields)[0]
         self.config = read_config(f"{folder}/{CONFIG}")
         names = {key: self.config[1].get(key, "" if key == "tariff" else name) for key, name in NAMES.items()}
         accounts = self.ledger.accounts if ledger else read_accounts(self.path(names["accounts"]))
@@ -73,8 +74,8 @@ def runs_of_part(folder):
     return sorted(runs, key=lambda it: [int(number) for number in os.path.basename(it).split(".")])
 
 
-def read_config(name):
-    """The text of a config and what it says."""
+def read_toml(name):
+    """The text of a file and what it says."""
     try:
         with open(name, newline="", encoding="utf-8") as file:
             text = file.read()
@@ -83,6 +84,12 @@ def read_config(name):
         raise Fault(name, it.strerror) from None
     except (UnicodeDecodeError, tomllib.TOMLDecodeError) as it:
         raise Fault(name, f"is no TOML: {it}") from None
+    return text, found
+
+
+def read_config(name):
+    """The text of a config and what it says."""
+    text, found = read_toml(name)
     for key in NAMES:
         if not isinstance(found.get(key, ""), str):
             raise Fault(name, f"{key} has to be a file's name")

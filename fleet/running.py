@@ -5,7 +5,7 @@ import subprocess
 import sys
 
 from books import ledger_of_part
-from jobs import CONFIG, NAMES, WITH_REFS, runs_of_part
+from jobs import CONFIG, FIELDS, NAMES, WITH_REFS, runs_of_part
 from links import BEGUN, JOURNAL, REPORT_NAME, State, beginning, is_held, next_run, put_accounts
 from reports import Report
 from tables import Fault, first_record, put_octets, put_text, sync_folder
@@ -54,10 +54,10 @@ class Part:
                 self.ask(run, "settle", *files, *self.ledger)
             os.remove(f"{run}/{JOURNAL}")
         put_text(beginning(self.is_synced), f"{run}/{BEGUN}")
-        sync = ["--sync"] if self.is_synced else []
+        more = ["--fields", FIELDS] * os.path.exists(f"{run}/{FIELDS}") + ["--sync"] * self.is_synced + self.ledger
         words = ["resume" if goes_on else self.words[0], *self.words[1:]]
         try:
-            report = self.ask(run, *words, "--quiet", *files, *sync, *self.ledger)
+            report = self.ask(run, *words, "--quiet", *files, *more)
         except (Stopped, OSError) as why:
             if isinstance(why, Stopped) and why.report:
                 put_octets(why.report, f"{run}/{REPORT_NAME}")

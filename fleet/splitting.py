@@ -4,7 +4,7 @@ import os
 import shutil
 
 from books import LEDGER
-from jobs import ACCOUNTS, CONFIG, NAMES, NUMBERS, PARTS, Job, config_of_run
+from jobs import ACCOUNTS, CONFIG, FIELDS, NAMES, NUMBERS, PARTS, Job, config_of_run
 from tables import Fault, put_lines, put_octets, put_text, rename, sync_folder
 
 # What a run takes at most (README.md).
@@ -50,13 +50,15 @@ def write_run(job, folder, run, numbers):
     if job.tariff_name:
         with open(job.tariff_name, "rb") as file:
             put_octets(file.read(), f"{folder}/{NAMES['tariff']}")
+    if job.fields is not None:
+        put_text(job.fields, f"{folder}/{FIELDS}")
     put_text(config_of_run(job.config, f"{job.folder}/{CONFIG}"), f"{folder}/{CONFIG}")
 
 
-def split(folder, parts, most=MOST_MESSAGES, ledger=None):
+def split(folder, parts, most=MOST_MESSAGES, ledger=None, fields=None):
     """Writes a job's runs and gives how many messages each has, by part. They are written aside first, so that the folder
     parts/ is there whole or not at all."""
-    job = Job(folder, ledger)
+    job = Job(folder, ledger, fields)
     whole, new = job.path(PARTS), job.path(f"{PARTS}.new")
     if os.path.exists(whole):
         raise Fault(whole, "is there: the job was split already")

@@ -318,6 +318,22 @@ class Running(Case):
         self.assertEqual(said[1], said[0].replace("send ", "resume ", 1))
         self.assertEqual(len(said), 3)
 
+    def test_a_run_has_its_fields_also_when_it_goes_on(self):
+        self.job({"a": 5})
+        put_text("priority = 3\n", f"{self.folder}/urgent.toml")
+        split(self.folder, 1, fields=f"{self.folder}/urgent.toml")
+        os.remove(f"{self.folder}/urgent.toml")
+        asked = f"{self.folder}/asked"
+        put_text(f'#!/bin/sh\necho "$@" "$(cat fields.toml)" >> {asked}\nexec {PROGRAM} "$@"\n', f"{self.folder}/program")
+        os.chmod(f"{self.folder}/program", 0o755)
+        self.does("01/1", "kill 2")
+        self.run_part(1, "--program", f"{self.folder}/program")
+        self.run_part(0, "--program", f"{self.folder}/program")
+        with open(asked) as file:
+            said = file.read().splitlines()
+        words = "--quiet --config send.toml --journal journal --fields fields.toml --sync priority = 3"
+        self.assertEqual(said, [f"send {words}", f"resume {words}"])
+
     @unittest.skipIf(shutil.which("sms-send", path="/usr/bin:/bin"), "sms-send is installed")
     def test_the_program_is_found(self):
         """sms-send on the PATH, or else the launcher of the checkout that the scripts lie in."""

@@ -170,6 +170,14 @@ class Faults(Case):
         put_text("port =", f"{self.folder}/send.toml")
         self.refused("send.toml: is no TOML")
 
+    def test_a_fields_file_that_is_none(self):
+        self.job({"a": 1})
+        put_text("priority =", f"{self.folder}/urgent.toml")
+        for name, why in (("urgent.toml", "is no TOML"), ("none.toml", "No such file")):
+            with self.assertRaisesRegex(Fault, f"{name}: {why}"):
+                split(self.folder, 1, fields=f"{self.folder}/{name}")
+        self.assertFalse(os.path.exists(f"{self.folder}/parts"))
+
     def test_octets_that_are_no_utf_8(self):
         self.job({"a": 1})
         with open(f"{self.folder}/accounts.csv", "wb") as file:
