@@ -94,7 +94,8 @@ class Capture:
         if os.path.exists(PLACES["tshark"]):
             words = ["tshark", "-q", "-i", "lo", "-f", f"tcp port {port}", "-w", room.path("capture")]
             self.child = room.start(words, "tshark.log")
-            wait_until(lambda: "Capture started" in read(room.path("tshark.log")) or self.child.poll() is not None, "tshark captures")
+            # (where other programs take the processors, its start takes a while)
+            wait_until(lambda: "Capture started" in read(room.path("tshark.log")) or self.child.poll() is not None, "tshark captures", 60)
             time.sleep(0.3)
 
     def stop(self):

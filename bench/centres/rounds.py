@@ -1,6 +1,7 @@
 """A folder with the files of a run before a centre that counts, for tools/rounds, and what has to hold of the run over all its rounds."""
 import contextlib
 import os
+import signal
 import subprocess
 import sys
 
@@ -24,6 +25,16 @@ class Wrong(Exception):
 def expect(is_so, what):
     if not is_so:
         raise Wrong(what)
+
+
+def stop(child):
+    """Stops the process, and returns once none of its threads runs on; says whether it hadn't ended before."""
+    child.send_signal(signal.SIGSTOP)
+    try:
+        os.waitid(os.P_PID, child.pid, os.WSTOPPED)
+    except ChildProcessError:
+        return False
+    return True
 
 
 class HangsUp(Centre):
