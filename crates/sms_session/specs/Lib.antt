@@ -1,3 +1,4 @@
 pub mod Decisions
+pub mod Enquiries
 pub mod Session
 pub mod Settings

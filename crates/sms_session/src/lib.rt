@@ -3,12 +3,14 @@
 
 #![tactic(auto)]
 
+mod enquiry;
 mod policy;
 mod session;
 mod settings;
 #[cfg(test)]
 mod tests;
 
+pub use enquiry::{Enquiry, Look, silent_lines_were_asked};
 pub use policy::{Decision, Policy, PolicyError, decide};
 pub use session::{Action, OpenFault, Opened, Response, Session, State};
 pub use settings::Settings;
