@@ -1,0 +1,11 @@
+pub mod Cuts
+pub mod Escapes
+pub mod Examples
+pub mod Feeds
+pub mod Hearing
+pub mod Keys
+pub mod Reading
+pub mod Rows
+pub mod Spelling
+pub mod Splits
+pub mod Walks

@@ -1,0 +1,12 @@
+use Rattle.std.proofs.Common.{◌≡◌, ◌+◌, ◌-◌, ◌≤◌, drop, length}
+use Rattle.sms_inbox.specs.Lines.{feed_at}
+use Rattle.sms_inbox.proofs.lines.feed_at.Given as goal
+
+abbrev pub invariant-loop-at : goal.invariant-loop-at
+invariant-loop-at l = record {
+  place : feed_at l.text ≡ l.at + feed_at (drop l.at l.text);
+  within : l.at ≤ length l.text;
+}
+
+abbrev pub decreases-loop-at : goal.decreases-loop-at
+decreases-loop-at l = length l.text - l.at

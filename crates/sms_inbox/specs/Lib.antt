@@ -1,0 +1,15 @@
+pub mod Arrivals
+pub mod Delivered
+pub mod DeliveredLaws
+pub mod Escape
+pub mod Fields
+pub mod Files
+pub mod Ids
+pub mod LineLaws
+pub mod Lines
+pub mod Parameters
+pub mod Receipt
+pub mod ReceiptLaws
+pub mod Record
+pub mod State
+pub mod Words
