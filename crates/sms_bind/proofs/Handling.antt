@@ -1,6 +1,10 @@
 -- Frames that were handled one after another.
-use Rattle.std.proofs.Common.{◌≡◌, ◌⊎◌, ℕ, ◌+◌, ◌<◌, List, [], ◌∷◌, ◌++◌, inl, inr, get_or, length, map, drop, Option, Some, None, refl, sym, ap, ◌∙◌, subst, arith, append-nil}
+use Rattle.std.proofs.Common.{◌≡◌, ◌≢◌, ◌⊎◌, ℕ, ◌+◌, ◌-◌, ◌^◌, ◌<◌, Bool, true, false, min, List, [], ◌∷◌, ◌++◌, inl, inr, get_or, length, map, drop, Option, Some, None, refl, sym, ap, ◌∙◌, subst, arith, append-nil}
+use Rattle.std.specs.Prelude.{if◌then◌else◌}
 use Rattle.std.specs.List.{concat}
+use Rattle.std.specs.declared.io.ErrorKind.{ErrorKind}
+use Rattle.sms_pdu.specs.Faults.{Counts, failures_after}
+use Rattle.sms_pdu.specs.Turn.{gives_nothing}
 use Rattle.std.proofs.lemmas.List.{drop_more}
 use Rattle.rtrb.specs.Ring.{sent, SameProducer}
 use Rattle.rtrb.specs.declared.producer.Producer.{Producer}
@@ -23,11 +27,11 @@ use Rattle.sms_bind.specs.ReaderStates.{Handled}
 use Rattle.sms_bind.proofs.Logs.{log-append, tallies-append, counted-append, follow-append, take-append, suits-append, state-append}
 
 pub handled_none : (s : State) (a : ReaderState) → Handled s None a a []
-handled_none s a = record { deeds = []; each = tt; reaches = refl; breaks = refl; rings = same_rings a.producers.items; sends = refl; room = refl; counts = refl; follows = refl }
+handled_none s a = record { deeds = []; each = tt; keeps = refl; reaches = refl; breaks = refl; rings = same_rings a.producers.items; sends = refl; room = refl; counts = refl; follows = refl }
 
 -- nothing was handled, and the reader ends
 pub handled_nothing : (s : State) (end : Option ReaderCause) (a : ReaderState) → Reaches end s s → broken_at end ≡ 0 → Handled s end a a []
-handled_nothing s end a reaches quiet = record { deeds = []; each = tt; reaches = reaches; breaks = sym quiet; rings = same_rings a.producers.items; sends = refl; room = refl; counts = refl; follows = refl }
+handled_nothing s end a reaches quiet = record { deeds = []; each = tt; keeps = refl; reaches = reaches; breaks = sym quiet; rings = same_rings a.producers.items; sends = refl; room = refl; counts = refl; follows = refl }
 
 -- a ring that stayed the same twice
 same_on : {T A P : Type 0} (x y z : Producer T A P) → SameProducer x y → SameProducer y z → SameProducer x z
@@ -39,7 +43,8 @@ handled_more s up end a b c fs gs p q =
     let breaks = counted-append (of_response (λ response written. is_broken written)) p.deeds q.deeds in
     record {
       deeds = p.deeds ++ q.deeds;
-      each = suits-append s fs gs p.deeds q.deeds p.each (subst IsBound (sym p.reaches) up) p.breaks (subst (λ t. SuitAll t gs q.deeds) (sym p.reaches) q.each);
+      each = suits-append a.keeps s fs gs p.deeds q.deeds p.each (subst IsBound (sym p.reaches) up) p.breaks (subst (λ t. SuitAll a.keeps t gs q.deeds) (sym p.reaches) (subst (λ k. SuitAll k s gs q.deeds) p.keeps q.each));
+      keeps = q.keeps ∙ p.keeps;
       reaches = subst (Reaches end s) (sym same) q.reaches;
       breaks = omega (arith, breaks, p.breaks, q.breaks);
       rings = AllZip-trans SameProducer same_on a.producers.items b.producers.items c.producers.items p.rings q.rings;
@@ -55,6 +60,7 @@ handled_ends s end a b fs reaches quiet p =
     record {
       deeds = p.deeds;
       each = p.each;
+      keeps = p.keeps;
       reaches = subst (Reaches end s) (sym p.reaches) reaches;
       breaks = p.breaks ∙ sym quiet;
       rings = p.rings;
@@ -89,6 +95,7 @@ leaves_end (cause.Stopped seen) left held kept h = h
 leaves_end cause.Turns left held kept h = h
 leaves_end cause.OutOfMemory left held kept h = h
 leaves_end cause.Unstarted left held kept h = h
+leaves_end cause.Silent left held kept h = h
 
 -- octets that were not read yet stand after the others
 went_beside : (P : List (List ℕ) → Type 0) (stream left more : List ℕ) → Went P stream left → Went P (stream ++ more) (left ++ more)
@@ -121,10 +128,33 @@ reads_begun P begun left more r w none rest =
 -- ---- a read that failed
 
 -- it changes nothing, and the reader goes on or not
-pub reads_failed : (s : State) (a : ReaderState) (end : Option ReaderCause) (held : List ℕ) (r t : Option (List ℕ)) → (end ≡ None) ⊎ (end ≡ Some cause.ReadFault) → Keeps r t → IsRest held → ¬ IsBad held
+pub reads_failed : (s : State) (a : ReaderState) (end : Option ReaderCause) (held : List ℕ) (r t : Option (List ℕ)) → (end ≡ None) ⊎ (end ≡ Some cause.ReadFault) ⊎ (end ≡ Some cause.Silent) → Keeps r t → IsRest held → ¬ IsBad held
     → Reads (Handled s end a a) held r t (stretch_of end) held
 reads_failed s a end held r t (inl e) kept rest good =
     subst (λ (x : Option ReaderCause). Reads (Handled s x a a) held r t (stretch_of x) held) (sym e) (reads_none (Handled s None a a) held held r t going (handled_none s a) (consumes_nothing r t kept) (rest, refl))
-reads_failed s a end held r t (inr e) kept rest good =
+reads_failed s a end held r t (inr (inl e)) kept rest good =
     subst (λ (x : Option ReaderCause). Reads (Handled s x a a) held r t (stretch_of x) held) (sym e)
     (reads_none (Handled s (Some cause.ReadFault) a a) held held r t complete (handled_nothing s (Some cause.ReadFault) a refl refl) (consumes_nothing r t kept) (rest, good))
+reads_failed s a end held r t (inr (inr e)) kept rest good =
+    subst (λ (x : Option ReaderCause). Reads (Handled s x a a) held r t (stretch_of x) held) (sym e)
+    (reads_none (Handled s (Some cause.Silent) a a) held held r t complete (handled_nothing s (Some cause.Silent) a refl refl) (consumes_nothing r t kept) (rest, good))
+
+-- and it ends for no other cause
+pub fails_not : (end : Option ReaderCause) (other : ReaderCause) → (end ≡ None) ⊎ (end ≡ Some cause.ReadFault) ⊎ (end ≡ Some cause.Silent) → ¬ (other ≡ cause.ReadFault) → ¬ (other ≡ cause.Silent) → end ≢ Some other
+fails_not end other (inl e) read quiet is = absurd cc
+fails_not end other (inr (inl e)) read quiet is = read cc
+fails_not end other (inr (inr e)) read quiet is = quiet cc
+
+-- it counts as a failure where it ends the reader for that cause
+pub failed_counts : (kind : ErrorKind) (end : Option ReaderCause) (old new : ℕ) → new ≡ failures_after kind old → (gives_nothing kind ≡ true → (end ≡ None) ⊎ (end ≡ Some cause.Silent)) → (gives_nothing kind ≡ false → end ≡ Some cause.ReadFault)
+    → (end ≡ Some cause.ReadFault → Counts old new) × (¬ (end ≡ Some cause.ReadFault) → new ≡ old)
+failed_counts kind end old new is again fault = by_case (gives_nothing kind) is again fault
+  where
+    never : (end ≡ None) ⊎ (end ≡ Some cause.Silent) → end ≡ Some cause.ReadFault → ⊥
+    never (inl e) f = absurd cc
+    never (inr e) f = absurd cc
+
+    by_case : (b : Bool) → new ≡ (if b then old else min (old + 1) (2 ^ 64 - 1)) → (b ≡ true → (end ≡ None) ⊎ (end ≡ Some cause.Silent)) → (b ≡ false → end ≡ Some cause.ReadFault)
+        → (end ≡ Some cause.ReadFault → Counts old new) × (¬ (end ≡ Some cause.ReadFault) → new ≡ old)
+    by_case true is again fault = (λ e. absurd (never (again refl) e), λ other. is)
+    by_case false is again fault = (λ e. is, λ other. absurd (other (fault refl)))

@@ -1,5 +1,5 @@
 -- What was handled of a stream, as the contract of the reader says it.
-use Rattle.std.proofs.Common.{◌≡◌, ◌≢◌, ◌↔◌, ℕ, List, [], ◌++◌, inr, map, Option, Some, refl, sym, ap, ◌∙◌, subst, arith}
+use Rattle.std.proofs.Common.{◌≡◌, ◌≢◌, ◌↔◌, ℕ, Bool, List, [], ◌++◌, inr, map, Option, Some, refl, sym, ap, ◌∙◌, subst, arith}
 use Rattle.std.proofs.KnownBytes.{Consumes-nil}
 use Rattle.rtrb.specs.Ring.{sent, known_free}
 use Rattle.sms_pdu.specs.declared.reply.Reply.{Reply}
@@ -40,6 +40,7 @@ lost_where (cause.Stopped seen) left held late h = (λ e. absurd cc, λ bad. abs
 lost_where cause.Turns left held late h = (λ e. absurd cc, λ bad. absurd (h.1 bad))
 lost_where cause.OutOfMemory left held late h = absurd (late refl)
 lost_where cause.Unstarted left held late h = absurd (late refl)
+lost_where cause.Silent left held late h = (λ e. absurd cc, λ bad. absurd (h.1 bad))
 
 -- the counts that began at 0
 tells : (ds : List FrameOutcome) (c : Counts) (end : ReaderEnd) → c ≡ tallies no_counts ds
@@ -71,13 +72,13 @@ end_of d errors cause = record { answered = d.counts.answered; unknown = d.count
 
 pub hands_on : (s : State) (a b : ReaderState) (begun kept : List ℕ) (r t : Option (List ℕ)) (errors : ℕ) (end : ReaderCause) → IsBound s → a.counts ≡ no_counts
     → Reads (Handled s (Some end) a b) begun r t (stretch_of (Some end)) kept
-    → HandsOn s begun r t (map sent a.producers.items) (map sent b.producers.items) a.follower (end_of b errors end)
+    → HandsOn a.keeps s begun r t (map sent a.producers.items) (map sent b.producers.items) a.follower (end_of b errors end)
 hands_on s a b begun kept r t errors end up none p =
     let w = p.went in
     let d = each_divided p.left in
     let left = λ (late : stretch_of (Some end) ≢ early). rest_divided p.left d.frames d.rest (rest_left (stretch_of (Some end)) p.left kept late p.leaves) d.divided in
     let ds = w.done.deeds in
-    let same = log_answers s w.frames ds (λ more. up) w.each w.done.each in
+    let same = log_answers a.keeps s w.frames ds (λ more. up) w.each w.done.each in
     record {
       got = p.got;
       consumed = p.consumed;
@@ -114,10 +115,10 @@ leaves_room s a b begun kept r t errors end none p =
     }
 
 -- nothing was read or handled
-pub hands_none : (s : State) (begun : List ℕ) (r : Option (List ℕ)) (rings : List (List Reply)) (held : Held) (end : ReaderEnd) → end.cause ≡ cause.OutOfMemory
+pub hands_none : (k : Bool) (s : State) (begun : List ℕ) (r : Option (List ℕ)) (rings : List (List Reply)) (held : Held) (end : ReaderEnd) → end.cause ≡ cause.OutOfMemory
     → end.answered ≡ 0 → end.unknown ≡ 0 → end.overrun ≡ 0 → end.delivered ≡ 0 → end.noted ≡ 0 → end.nacked ≡ 0 → end.unreplied ≡ 0 → end.seat ≡ held.now
-    → HandsOn s begun r r rings rings held end
-hands_none s begun r rings held end is e1 e2 e3 e4 e5 e6 e7 seat =
+    → HandsOn k s begun r r rings rings held end
+hands_none k s begun r rings held end is e1 e2 e3 e4 e5 e6 e7 seat =
     let d = each_divided (begun ++ []) in
     record {
       got = [];

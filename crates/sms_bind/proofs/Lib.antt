@@ -6,6 +6,8 @@ pub mod LogWrites
 pub mod Responses
 pub mod Tables
 pub mod Logs
+pub mod Keepings
 pub mod Handling
 pub mod Hands
 pub mod Turning
+pub mod ReadBinds

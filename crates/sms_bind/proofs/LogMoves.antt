@@ -5,9 +5,9 @@ use lib.ListN.{get_elem?}
 use Rattle.atomic_table.specs.Table.{State, Me, Allows, Splits, Joins, keeps, opening}
 use Rattle.atomic_table.proofs.Lists.{at_set, at_snoc, set_again}
 use Rattle.sms_bind.specs.declared.log.rule.View.{View}
-use Rattle.sms_bind.specs.Frames.{requests, weigh, IsRequest, IsResponse}
+use Rattle.sms_bind.specs.Frames.{requests, weigh, IsRequest, IsUnclaimed}
 use Rattle.sms_bind.specs.LogRule.{total, given_weight, claimed_weight, IsIdle, IsKept, first_seat, joined, spent, dealer, dealt, wire_seat, wire_after, pass_after, noted, IsSettled, Settles}
-use Rattle.sms_bind.proofs.Weights.{weigh-append, requests-append, requests-of_response, requests-of_request, total_set, total_snoc, total_least}
+use Rattle.sms_bind.proofs.Weights.{weigh-append, requests-append, requests-of_unclaimed, requests-of_request, total_set, total_snoc, total_least}
 
 -- what a split has to keep: the parts, and the balance of requests and claims
 pub record Cuts (v left right : View) : Type 0 where
@@ -73,11 +73,11 @@ claims id v frame two is = splits id v (wire_after frame v) (pass_after frame v)
       idle_right = λ none. absurd (omega arith);
     }
 
-pub notes : (id : ℕ) (v : View) (frame : List ℕ) → 0 < v.parts → IsResponse frame → Splits {S = Unit {0}} IsKept id v (noted frame v) spent
+pub notes : (id : ℕ) (v : View) (frame : List ℕ) → 0 < v.parts → IsUnclaimed frame → Splits {S = Unit {0}} IsKept id v (noted frame v) spent
 notes id v frame some_part is = splits id v (noted frame v) spent
     record {
       parts = omega arith;
-      balance = λ h. let a = ap (weigh h) (requests-of_response v.given frame is) in omega arith;
+      balance = λ h. let a = ap (weigh h) (requests-of_unclaimed v.given frame is) in omega arith;
       idle_left = λ none. absurd (omega arith);
       idle_right = nothing;
     }

@@ -111,15 +111,15 @@ nothing_here d t [] on up e = ends_nothing d t up e
 nothing_here d t (f ∷ fs) on up e = on (λ k. absurd cc)
 
 -- frames after which the session is bound and the wire sound, and the frames after them
-pub suits-append : (s : State) (fs gs : List (List ℕ)) (ds es : List FrameOutcome) → SuitAll s fs ds → IsBound (state_after s fs) → counted breaks ds ≡ 0 → SuitAll (state_after s fs) gs es → SuitAll s (fs ++ gs) (ds ++ es)
-suits-append s [] gs [] es p up none q = q
-suits-append s [] gs (d ∷ ds) es p up none q = absurd p
-suits-append s (f ∷ fs) gs [] es p up none q = absurd p
-suits-append s (f ∷ fs) gs (d ∷ ds) es (suits, on, later) up none q =
+pub suits-append : (k : Bool) (s : State) (fs gs : List (List ℕ)) (ds es : List FrameOutcome) → SuitAll k s fs ds → IsBound (state_after s fs) → counted breaks ds ≡ 0 → SuitAll k (state_after s fs) gs es → SuitAll k s (fs ++ gs) (ds ++ es)
+suits-append k s [] gs [] es p up none q = q
+suits-append k s [] gs (d ∷ ds) es p up none q = absurd p
+suits-append k s (f ∷ fs) gs [] es p up none q = absurd p
+suits-append k s (f ∷ fs) gs (d ∷ ds) es (suits, on, later) up none q =
     let t = state_after s (f ∷ []) in
     let here : one_if (breaks d) ≡ 0 = omega (arith, none) in
     let there : counted breaks ds ≡ 0 = omega (arith, none) in
-    (suits, (λ more. nothing_here d t fs on up here), suits-append t fs gs ds es later up there q)
+    (suits, (λ more. nothing_here d t fs on up here), suits-append k t fs gs ds es later up there q)
 
 pub take-append : (ds es : List FrameOutcome) (a b c : List ℕ) → TakeRoomAll ds a b → TakeRoomAll es b c → TakeRoomAll (ds ++ es) a c
 take-append [] es a b c p q = subst (λ l. TakeRoomAll es l c) p q
@@ -127,24 +127,24 @@ take-append (d ∷ ds) es a b c (next, one, rest) q = (next, one, take-append ds
 
 -- ---- the log has the frames' answers
 
-entry_by : (a : Action) (f : List ℕ) (d : FrameOutcome) (rest : List Reply) → (a ≢ action.Answer → reply_in f ≡ None) → Does a f d → map first (entry d) ++ rest ≡ cons_option (reply_in f) rest
-entry_by action.Answer f d rest other (reply, delivery, is, deed) = rw (deed, is) refl
-entry_by (action.Reply response) f d rest other (written, deed, how) = rw (deed, other (λ e. absurd cc)) refl
-entry_by (action.ReplyClose response) f d rest other (written, deed, how) = rw (deed, other (λ e. absurd cc)) refl
-entry_by action.Note f d rest other does = rw (does, other (λ e. absurd cc)) refl
-entry_by action.Close f d rest other does = rw (does, other (λ e. absurd cc)) refl
-entry_by action.Drop f d rest other does = rw (does, other (λ e. absurd cc)) refl
+entry_by : (k : Bool) (a : Action) (f : List ℕ) (d : FrameOutcome) (rest : List Reply) → (a ≢ action.Answer → reply_in f ≡ None) → Does k a f d → map first (entry d) ++ rest ≡ cons_option (reply_in f) rest
+entry_by k action.Answer f d rest other (reply, delivery, is, deed) = rw (deed, is) refl
+entry_by k (action.Reply response) f d rest other a = let (written, deed, how) = a.responded in rw (deed, other (λ e. absurd cc)) refl
+entry_by k (action.ReplyClose response) f d rest other a = let (written, deed, how) = a.responded in rw (deed, other (λ e. absurd cc)) refl
+entry_by k action.Note f d rest other does = rw (does, other (λ e. absurd cc)) refl
+entry_by k action.Close f d rest other does = rw (does, other (λ e. absurd cc)) refl
+entry_by k action.Drop f d rest other does = rw (does, other (λ e. absurd cc)) refl
 
-pub log_answers : (s : State) (fs : List (List ℕ)) (ds : List FrameOutcome) → (fs ≢ [] → IsBound s) → AllByRecursion IsFrame fs → SuitAll s fs ds → map first (log ds) ≡ answers fs
-log_answers s [] [] up each all = refl
-log_answers s [] (d ∷ ds) up each all = absurd all
-log_answers s (f ∷ fs) [] up each all = absurd all
-log_answers s (f ∷ fs) (d ∷ ds) up each (suits, on, later) =
+pub log_answers : (k : Bool) (s : State) (fs : List (List ℕ)) (ds : List FrameOutcome) → (fs ≢ [] → IsBound s) → AllByRecursion IsFrame fs → SuitAll k s fs ds → map first (log ds) ≡ answers fs
+log_answers k s [] [] up each all = refl
+log_answers k s [] (d ∷ ds) up each all = absurd all
+log_answers k s (f ∷ fs) [] up each all = absurd all
+log_answers k s (f ∷ fs) (d ∷ ds) up each (suits, on, later) =
     let long : 16 ≤ length f = each.0.good.least in
     let t = state_after s (f ∷ []) in
     map-append first (entry d) (log ds)
-    ∙ ap (λ l. map first (entry d) ++ l) (log_answers t fs ds (λ more. bound_after d t (on more)) each.1 later)
-    ∙ entry_by (on_table s (header_at_front f)).0 f d (answers fs) (no_reply s f (up (λ e. absurd cc)) long) suits
+    ∙ ap (λ l. map first (entry d) ++ l) (log_answers k t fs ds (λ more. bound_after d t (on more)) each.1 later)
+    ∙ entry_by k (on_table s (header_at_front f)).0 f d (answers fs) (no_reply s f (up (λ e. absurd cc)) long) suits
 
 -- ---- the counts
 

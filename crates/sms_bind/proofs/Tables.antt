@@ -10,6 +10,7 @@ use Rattle.sms_pdu.specs.Header.{header_at_front, number_at}
 use Rattle.sms_pdu.specs.Reply.{reply_in}
 use Rattle.sms_session.specs.declared.session.State.{State}
 use Rattle.sms_session.specs.declared.session.State.TheVariants.{BoundTx, BoundTrx, Closed}
+use Rattle.sms_session.specs.declared.session.Action.{Action}
 use Rattle.sms_session.specs.declared.session.Action.TheVariants as action
 use Rattle.sms_session.specs.Session.{Row, table, by_rows, on_table, bound, is, IsBound}
 
@@ -84,3 +85,21 @@ no_reply s f up long e =
       | inl on ↦ absurd (e (first_row s (header_at_front f) (bound_true s up) (test f) refl on))
       | inr other ↦ rw low (by_command (is command.SubmitSmResp (number_at 4 f)) (is command.GenericNack (number_at 4 f)) _ _ other)
     ]
+
+-- ---- responses
+
+-- a response has the number of its request
+abbrev pub HasNumber : ℕ → Action → Type 0
+HasNumber number action.Answer = Unit {0}
+HasNumber number (action.Reply response) = response.number ≡ number
+HasNumber number (action.ReplyClose response) = response.number ≡ number
+HasNumber number action.Note = Unit {0}
+HasNumber number action.Close = Unit {0}
+HasNumber number action.Drop = Unit {0}
+
+rows_number : (rows : List Row) (s : State) (h : Header) → AllByRecursion (λ r. HasNumber h.number (r.does h)) rows → HasNumber h.number (by_rows rows s h).0
+rows_number [] s h all = tt
+rows_number (r ∷ rs) s h all = either (λ x. HasNumber h.number x.0) (r.from s && r.takes h.command) (r.does h, r.next s) (by_rows rs s h) all.0 (rows_number rs s h all.1)
+
+pub has_number : (s : State) (h : Header) → HasNumber h.number (on_table s h).0
+has_number s h = rows_number table s h (tt, (refl, (refl, (tt, (refl, (refl, (tt, (refl, tt))))))))

@@ -3,10 +3,9 @@ use Rattle.std.proofs.Common.{◌≡◌, ℕ, zero, suc, ◌+◌, List, [], ◌�
 use Rattle.std.specs.Prelude.{if◌then◌else◌}
 use mathlib.Core.Option.{some, some-ne-none, some-injective}
 use lib.ListN.{get_elem?}
-use Rattle.sms_pdu.specs.Command.{is_response}
 use Rattle.sms_pdu.specs.Header.{number_at}
 use Rattle.sms_bind.specs.declared.log.rule.View.{View}
-use Rattle.sms_bind.specs.Frames.{requests, weigh, IsRequest, IsResponse}
+use Rattle.sms_bind.specs.Frames.{is_unclaimed, requests, weigh, IsRequest, IsUnclaimed}
 use Rattle.sms_bind.specs.LogRule.{total}
 
 pub weigh-append : (h : List ℕ → ℕ) (xs ys : List (List ℕ)) → weigh h (xs ++ ys) ≡ weigh h xs + weigh h ys
@@ -15,15 +14,15 @@ weigh-append h (x ∷ xs) ys = let e = weigh-append h xs ys in omega arith
 
 pub requests-append : (xs ys : List (List ℕ)) → requests (xs ++ ys) ≡ requests xs ++ requests ys
 requests-append [] ys = refl
-requests-append (x ∷ xs) ys = by_case (is_response (number_at 4 x)) (requests-append xs ys)
+requests-append (x ∷ xs) ys = by_case (is_unclaimed (number_at 4 x)) (requests-append xs ys)
   where
     by_case : (b : Bool) → requests (xs ++ ys) ≡ requests xs ++ requests ys → (if b then requests (xs ++ ys) else x ∷ requests (xs ++ ys)) ≡ (if b then requests xs else x ∷ requests xs) ++ requests ys
     by_case true e = e
     by_case false e = ap (λ (l : List (List ℕ)). x ∷ l) e
 
-pub requests-of_response : (xs : List (List ℕ)) (x : List ℕ) → IsResponse x → requests (xs ++ x ∷ []) ≡ requests xs
-requests-of_response [] x is = ap (λ (b : Bool). if b then [] else x ∷ []) is
-requests-of_response (y ∷ ys) x is = by_case (is_response (number_at 4 y)) (requests-of_response ys x is)
+pub requests-of_unclaimed : (xs : List (List ℕ)) (x : List ℕ) → IsUnclaimed x → requests (xs ++ x ∷ []) ≡ requests xs
+requests-of_unclaimed [] x is = ap (λ (b : Bool). if b then [] else x ∷ []) is
+requests-of_unclaimed (y ∷ ys) x is = by_case (is_unclaimed (number_at 4 y)) (requests-of_unclaimed ys x is)
   where
     by_case : (b : Bool) → requests (ys ++ x ∷ []) ≡ requests ys → (if b then requests (ys ++ x ∷ []) else y ∷ requests (ys ++ x ∷ [])) ≡ (if b then requests ys else y ∷ requests ys)
     by_case true e = e

@@ -1,6 +1,6 @@
 -- The outcomes of frames, and how they are counted. A list of outcomes, one a frame, is named `deeds`.
 use Rattle.std.specs.Prelude.{◌≡◌, ◌≢◌, ℕ, ◌+◌, ◌≤◌, List, [], ◌∷◌, ◌++◌, length, Option, Some, None, Bool, true, false, ◌==◌, if◌then◌else◌}
-use Rattle.sms_core.specs.Statuses.{bad_command_length}
+use Rattle.sms_core.specs.Statuses.{bad_command_length, no_error}
 use Rattle.sms_pdu.specs.declared.body.Pdu.{Pdu}
 use Rattle.sms_pdu.specs.declared.body.Body.{Body}
 use Rattle.sms_pdu.specs.declared.body.Body.TheVariants as body
@@ -27,6 +27,8 @@ use Rattle.sms_bind.specs.declared.outcome.Written.TheVariants.{Sent, NoMemory, 
 use Rattle.sms_bind.specs.declared.ending.ReaderCause.{ReaderCause}
 use Rattle.sms_bind.specs.declared.ending.ReaderCause.TheVariants as cause
 use Rattle.sms_bind.specs.declared.counts.Counts.{Counts}
+use Rattle.sms_bind.specs.declared.device.Keeping.{Keeping}
+use Rattle.sms_bind.specs.Keepings.{answer_to, is_asked}
 use Rattle.sms_bind.specs.Held.{Held}
 use Rattle.sms_bind.specs.Follows.{Notes}
 
@@ -46,6 +48,10 @@ pdu_for r = record { status = r.status; number = r.number; body = body_for r.com
 abbrev pub bad_length_response : Response
 bad_length_response = record { command = id_of command.GenericNack; status = bad_command_length; number = 0 }
 
+-- an enquire_link with this number (SMPP 3.4 4.11.1)
+abbrev pub enquiry_of : ℕ → Pdu
+enquiry_of number = record { status = no_error; number = number; body = body.EnquireLink }
+
 -- the octets that were given to the wire encode the response; a reason why it wasn't written is of its number
 abbrev pub IsWritten : Response → Written → Type 0
 IsWritten response (Sent octets) = Spells (pdu_for response) octets
@@ -58,18 +64,24 @@ IsWritten response (Broken lack) = lack.number ≡ response.number
 abbrev pub Responded : Response → FrameOutcome → Type 0
 Responded response deed = (written : Written) × (deed ≡ Replied response written) × IsWritten response written
 
+-- The outcome is the response that is asked for. Where deliver_sm are to be kept (`keeps`), one that wasn't is refused for a time.
+pub record Answered (keeps : Bool) (response : Response) (deed : FrameOutcome) : Type 0 where
+  pub keeping : Keeping
+  pub asked : is_asked keeping ≡ keeps
+  pub responded : Responded (answer_to keeping response) deed
+
 -- the frame's outcome is what the action asks for
-abbrev pub Does : Action → List ℕ → FrameOutcome → Type 0
-Does action.Answer frame deed = (reply : Reply) × (delivery : Delivery) × (reply_in frame ≡ Some reply) × (deed ≡ Answer reply delivery)
-Does (action.Reply response) frame deed = Responded response deed
-Does (action.ReplyClose response) frame deed = Responded response deed
-Does action.Note frame deed = deed ≡ Noted
-Does action.Close frame deed = deed ≡ Closed
-Does action.Drop frame deed = deed ≡ Closed
+abbrev pub Does : Bool → Action → List ℕ → FrameOutcome → Type 0
+Does keeps action.Answer frame deed = (reply : Reply) × (delivery : Delivery) × (reply_in frame ≡ Some reply) × (deed ≡ Answer reply delivery)
+Does keeps (action.Reply response) frame deed = Answered keeps response deed
+Does keeps (action.ReplyClose response) frame deed = Answered keeps response deed
+Does keeps action.Note frame deed = deed ≡ Noted
+Does keeps action.Close frame deed = deed ≡ Closed
+Does keeps action.Drop frame deed = deed ≡ Closed
 
 -- the frame's outcome is what the session's table asks for
-abbrev pub Suits : State → List ℕ → FrameOutcome → Type 0
-Suits state frame deed = Does (on_table state (header_at_front frame)).0 frame deed
+abbrev pub Suits : Bool → State → List ℕ → FrameOutcome → Type 0
+Suits keeps state frame deed = Does keeps (on_table state (header_at_front frame)).0 frame deed
 
 -- the state that the table leads to, frame by frame
 abbrev pub state_after : State → List (List ℕ) → State
@@ -130,11 +142,12 @@ cause_after Closed state = cause_by state
 
 -- Each outcome is what the table asks for in the state after the frames before, and no frame is handled after one that ended the
 -- reader: one that closed the session or broke the wire.
-abbrev pub SuitAll : State → List (List ℕ) → List FrameOutcome → Type 0
-SuitAll state [] [] = Unit {0}
-SuitAll state [] (deed ∷ deeds) = ⊥
-SuitAll state (frame ∷ frames) [] = ⊥
-SuitAll state (frame ∷ frames) (deed ∷ deeds) = Suits state frame deed × (frames ≢ [] → cause_after deed (state_after state (frame ∷ [])) ≡ None) × SuitAll (state_after state (frame ∷ [])) frames deeds
+abbrev pub SuitAll : Bool → State → List (List ℕ) → List FrameOutcome → Type 0
+SuitAll keeps state [] [] = Unit {0}
+SuitAll keeps state [] (deed ∷ deeds) = ⊥
+SuitAll keeps state (frame ∷ frames) [] = ⊥
+SuitAll keeps state (frame ∷ frames) (deed ∷ deeds) =
+    Suits keeps state frame deed × (frames ≢ [] → cause_after deed (state_after state (frame ∷ [])) ≡ None) × SuitAll keeps (state_after state (frame ∷ [])) frames deeds
 
 -- How far the stream was handled: all whole frames, unless the session closed, the wire broke or memory ran out; and a bad length
 -- is next iff the reader ended for it.
@@ -149,6 +162,7 @@ stretch_of (Some (cause.Stopped seen)) = complete
 stretch_of (Some cause.Turns) = complete
 stretch_of (Some cause.OutOfMemory) = early
 stretch_of (Some cause.Unstarted) = early
+stretch_of (Some cause.Silent) = complete
 
 -- the state after the handled frames: the session is closed iff that ended the reader; where the wire broke it may be; a reader that
 -- handles frames has begun
@@ -163,6 +177,7 @@ Reaches (Some (cause.Stopped seen)) state reached = reached ≡ state
 Reaches (Some cause.Turns) state reached = reached ≡ state
 Reaches (Some cause.OutOfMemory) state reached = reached ≡ state
 Reaches (Some cause.Unstarted) state reached = ⊥
+Reaches (Some cause.Silent) state reached = reached ≡ state
 
 -- how many responses the wire refused
 abbrev pub broken_at : Option ReaderCause → ℕ
@@ -176,6 +191,7 @@ broken_at (Some (cause.Stopped seen)) = 0
 broken_at (Some cause.Turns) = 0
 broken_at (Some cause.OutOfMemory) = 0
 broken_at (Some cause.Unstarted) = 0
+broken_at (Some cause.Silent) = 0
 
 -- ---- how many outcomes there are of each kind
 

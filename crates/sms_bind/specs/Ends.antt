@@ -1,5 +1,5 @@
 -- What a reader promises of what it read.
-use Rattle.std.specs.Prelude.{◌≡◌, ◌≢◌, ◌↔◌, ℕ, ◌+◌, List, [], ◌++◌, length, map, Option, Some}
+use Rattle.std.specs.Prelude.{◌≡◌, ◌≢◌, ◌↔◌, ℕ, ◌+◌, List, [], ◌++◌, length, map, Bool, Option, Some}
 use mathlib.Core.List.{IsPrefix}
 use Rattle.std.specs.Io.KnownBytes.{Consumes}
 use Rattle.sms_pdu.specs.declared.reply.Reply.{Reply}
@@ -32,9 +32,9 @@ pub record LeavesRoom (old new : List (List Reply)) (before after : List ℕ) (e
   pub counts : Tells deeds end
   pub room : TakeRoomAll deeds before after
 
--- The session was bound in `state`, and `begun` had been read already. `before` and `after` are what the input had left, `old` and
--- `new` the answers that each ring had taken.
-pub record HandsOn (state : State) (begun : List ℕ) (before after : Option (List ℕ)) (old new : List (List Reply)) (held : Held) (end : ReaderEnd) : Type 0 where
+-- The session was bound in `state`, and `begun` had been read already; `keeps` says whether deliver_sm are to be kept. `before` and `after`
+-- are what the input had left, `old` and `new` the answers that each ring had taken.
+pub record HandsOn (keeps : Bool) (state : State) (begun : List ℕ) (before after : Option (List ℕ)) (old new : List (List Reply)) (held : Held) (end : ReaderEnd) : Type 0 where
   -- what was read: the frames that were handled (`worked`), the frames that were not, and the rest
   pub got : List ℕ
   pub consumed : Consumes before after got
@@ -47,7 +47,7 @@ pub record HandsOn (state : State) (begun : List ℕ) (before after : Option (Li
   pub lost : stretch_of (Some end.cause) ≢ early → (end.cause ≡ Lost) ↔ IsBad rest
   -- the outcome of each frame, and the session's state after them
   pub deeds : List FrameOutcome
-  pub each : SuitAll state worked deeds
+  pub each : SuitAll keeps state worked deeds
   pub reaches : Reaches (Some end.cause) state (state_after state worked)
   pub breaks : counted (of_response (λ response written. is_broken written)) deeds ≡ broken_at (Some end.cause)
   -- the answers among the handled frames are a prefix of the stream's answers, each with the place of the ring that took it

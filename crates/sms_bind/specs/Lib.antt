@@ -1,6 +1,8 @@
 pub mod Answers
 pub mod Wires
+pub mod Devices
 pub mod Frames
+pub mod Keepings
 pub mod LogRule
 pub mod Logs
 pub mod Downs
@@ -10,3 +12,4 @@ pub mod Deeds
 pub mod ReaderStates
 pub mod Ends
 pub mod Turns
+pub mod ReadBinds

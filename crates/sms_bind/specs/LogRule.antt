@@ -71,7 +71,7 @@ wire_after frame v = record { parts = v.parts - 1; first = v.first; given = v.gi
 abbrev pub pass_after : List ℕ → View → View
 pass_after frame v = seat 1 [] (v.claims ++ frame ∷ [])
 
--- a wire is given a response, which nobody claims
+-- a wire is given a frame that nobody claims
 abbrev pub noted : List ℕ → View → View
 noted frame v = record { parts = v.parts; first = v.first; given = v.given ++ frame ∷ []; claims = v.claims }
 

@@ -1,5 +1,5 @@
 -- The state of a reader before and after it handles frames.
-use Rattle.std.specs.Prelude.{◌≡◌, ℕ, ◌+◌, ◌≤◌, List, length, map, Option}
+use Rattle.std.specs.Prelude.{◌≡◌, ℕ, ◌+◌, ◌≤◌, List, length, map, Bool, Option}
 use Rattle.std.specs.List.{AllZip}
 use Rattle.rtrb.specs.Ring.{sent, known_free, SameProducer}
 use Rattle.sms_pdu.specs.Frame.{IsRest, IsBad}
@@ -14,7 +14,9 @@ use Rattle.sms_bind.specs.Deeds.{SuitAll, FollowAll, TakeRoomAll, Reaches, state
 -- the frames were handled one after another, beginning in this state of the session, and that ended the reader where `end` is a cause
 pub record Handled (state : State) (end : Option ReaderCause) (old new : ReaderState) (frames : List (List ℕ)) : Type 0 where
   pub deeds : List FrameOutcome
-  pub each : SuitAll state frames deeds
+  -- by whether deliver_sm are to be kept, which stays
+  pub each : SuitAll old.keeps state frames deeds
+  pub keeps : new.keeps ≡ old.keeps
   pub reaches : Reaches end state (state_after state frames)
   pub breaks : counted (of_response (λ response written. is_broken written)) deeds ≡ broken_at end
   pub rings : AllZip SameProducer old.producers.items new.producers.items
@@ -23,10 +25,15 @@ pub record Handled (state : State) (end : Option ReaderCause) (old new : ReaderS
   pub counts : new.counts ≡ tallies old.counts deeds
   pub follows : FollowAll deeds old.follower new.follower
 
--- the reader can take a turn: its session is bound, no count is more than its frames, and it holds the beginning of a frame
-pub record CanRead (state : ReaderState) (held : List ℕ) : Type 0 where
+-- the reader can handle frames: its session is bound, no count is more than its frames, and it knows whether deliver_sm are to be kept
+pub record IsReady (asked : Bool) (state : ReaderState) : Type 0 where
   pub bound : IsBound state.session
   pub within : IsWithin state.counts
+  pub keeps : asked ≡ state.keeps
+
+-- the reader can take a turn: it can handle frames, and holds the beginning of one
+pub record CanRead (keeps : Bool) (state : ReaderState) (held : List ℕ) : Type 0 where
+  pub ready : IsReady keeps state
   pub rest : IsRest held
   pub good : ¬ IsBad held
 

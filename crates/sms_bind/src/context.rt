@@ -8,7 +8,7 @@ use std::io::Write;
 
 /// What a reader is given, the same in each turn.
 #[derive(Drop)]
-pub(crate) struct ReaderContext<'a, N: LogName, W: Write, S> {
+pub struct ReaderContext<'a, N: LogName, W: Write, S> {
     pub rt: &'a S,
     pub alloc: Global,
     /// What it shares with the workers of its bind.

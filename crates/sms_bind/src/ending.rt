@@ -26,6 +26,8 @@ pub enum ReaderCause {
     OutOfMemory,
     /// The reader never began: its sending wasn't started.
     Unstarted,
+    /// The line was asked, and nothing came for as long as it has to answer.
+    Silent,
 }
 
 /// What is left when a reader has ended.

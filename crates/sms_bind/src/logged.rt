@@ -1,14 +1,19 @@
 //! A wire with its log.
 
 ghost use Rattle.std.specs.Prelude.{◌≡◌, ◌+◌, ◌-◌, ◌<◌, ◌++◌, ◌∷◌, [], true, false, IfOk, OnOk, OnErr};
-ghost use Rattle.sms_bind.specs.Frames.{IsRequest, IsResponse};
+ghost use Rattle.sms_pdu.specs.Header.{number_at};
+ghost use Rattle.sms_bind.specs.Devices.{number_of};
+ghost use Rattle.sms_bind.specs.Frames.{IsEnquiry, IsRequest, IsResponse, IsUnclaimed};
+ghost use Rattle.sms_bind.specs.Keepings.{IsAcknowledgement, Permits};
 ghost use Rattle.sms_bind.specs.LogRule.{all_parts};
 ghost use Rattle.sms_bind.specs.Logs.{BeginsBehind, Wrote};
 ghost use Rattle.sms_bind.specs.Wires.{Sends, writer, is_broken};
 
+use crate::device::Keeping;
 use crate::log::rule::View;
 use crate::log::steps::{begin, claim, note, take_in};
 use crate::log::{Log, LogKeeper, LogName, Requests};
+use crate::reader::EnquiryNumber;
 use crate::wire::{Receipt, Wire, WireFault};
 use atomic_table::Badge;
 use sms_pdu::Frame;
@@ -122,9 +127,52 @@ impl<N: LogName, W: Write> LoggedWire<N, W> {
         wire.send(frame)
     }
 
-    /// Sends a response (SMPP 3.4 5.1.2.1). A broken wire is given nothing.
+    /// Sends a response (SMPP 3.4 5.1.2.1) that acknowledges no deliver_sm. A broken wire is given nothing.
     pub fn respond(&mut self, frame: Frame) -> Result<Receipt, WireFault>
         requires response { IsResponse frame }
+        requires other { ¬ IsAcknowledgement frame }
+        ensures sends { Sends W.contents self.old.wire self.new.wire frame result }
+        ensures first { self.new.first ≡ self.old.first }
+        ensures given { is_broken self.old.wire ≡ false → self.new.log ≡ self.old.log ++ frame ∷ [] }
+        ensures kept { is_broken self.old.wire ≡ true → self.new.log ≡ self.old.log }
+    {
+        self.give(frame)
+    }
+
+    /// Acknowledges the deliver_sm of a frame (SMPP 3.4 4.6.2), where what became of the deliver_sm of its stream allows it. A
+    /// broken wire is given nothing.
+    pub fn acknowledge(
+        &mut self,
+        frame: Frame,
+        keeping: Keeping<'_>,
+        _delivery: &[u8],
+    ) -> Result<Receipt, WireFault>
+        requires response { IsResponse frame }
+        requires permitted { Permits keeping _delivery.now frame }
+        ensures sends { Sends W.contents self.old.wire self.new.wire frame result }
+        ensures first { self.new.first ≡ self.old.first }
+        ensures given { is_broken self.old.wire ≡ false → self.new.log ≡ self.old.log ++ frame ∷ [] }
+        ensures kept { is_broken self.old.wire ≡ true → self.new.log ≡ self.old.log }
+    {
+        let _keeping = keeping;
+        self.give(frame)
+    }
+
+    /// Asks whether the line is alive (SMPP 3.4 4.11), by the reader's own number. A broken wire is given nothing.
+    pub fn enquire(&mut self, frame: Frame, _number: EnquiryNumber) -> Result<Receipt, WireFault>
+        requires enquiry { IsEnquiry frame }
+        requires own { number_at 12 frame ≡ number_of _number }
+        ensures sends { Sends W.contents self.old.wire self.new.wire frame result }
+        ensures first { self.new.first ≡ self.old.first }
+        ensures given { is_broken self.old.wire ≡ false → self.new.log ≡ self.old.log ++ frame ∷ [] }
+        ensures kept { is_broken self.old.wire ≡ true → self.new.log ≡ self.old.log }
+    {
+        self.give(frame)
+    }
+
+    /// Sends a frame that nobody claims.
+    fn give(&mut self, frame: Frame) -> Result<Receipt, WireFault>
+        requires unclaimed { IsUnclaimed frame }
         ensures sends { Sends W.contents self.old.wire self.new.wire frame result }
         ensures first { self.new.first ≡ self.old.first }
         ensures given { is_broken self.old.wire ≡ false → self.new.log ≡ self.old.log ++ frame ∷ [] }

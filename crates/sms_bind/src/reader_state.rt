@@ -3,24 +3,29 @@
 ghost use Rattle.std.specs.Prelude.{◌≡◌, ◌≢◌, ◌+◌, ◌<◌, ◌^◌, ◌∷◌, [], map, None, Some, IfSome};
 ghost use Rattle.std.specs.List.{AllZip};
 ghost use Rattle.rtrb.specs.Ring.{sent, known_free, SameProducer};
-ghost use Rattle.sms_pdu.specs.Header.{header_at_front};
+ghost use Rattle.sms_pdu.specs.Header.{header_at_front, number_at};
 ghost use Rattle.sms_pdu.specs.Frame.{IsFrame};
 ghost use Rattle.sms_pdu.specs.Streams.{early};
 ghost use Rattle.sms_session.specs.Session.{IsBound, on_table};
+ghost use Rattle.sms_session.specs.declared.session.Action.TheVariants.{Reply as ReplyAction};
+ghost use Rattle.sms_session.specs.declared.session.Response.{Response};
 ghost use Rattle.sms_slot.specs.Rings.{handed};
 ghost use Rattle.sms_bind.specs.Deeds.{Suits, Follow, TakesRoom, Responded, entry, stretch_of, IsWithin};
 ghost use Rattle.sms_bind.specs.Follows.{Follows};
-ghost use Rattle.sms_bind.specs.ReaderStates.{Handled};
+ghost use Rattle.sms_bind.specs.Keepings.{Covers, allows, answer_to, is_asked, refused};
+ghost use Rattle.sms_bind.specs.ReaderStates.{Handled, IsReady};
 ghost use Rattle.sms_bind.specs.declared.outcome.FrameOutcome.TheVariants.{Answer};
 ghost use Rattle.sms_bind.specs.declared.ending.ReaderCause.TheVariants.{OutOfMemory};
 
 use crate::context::ReaderContext;
 use crate::counts::Counts;
+use crate::device::Keeping;
 use crate::ending::ReaderCause;
 use crate::follower::Follower;
 use crate::log::LogName;
 use crate::outcome::{FrameOutcome, cause_of};
-use crate::replying::reply;
+use crate::reader::EnquiryNumber;
+use crate::replying::{acknowledge, acknowledges, reply};
 use rtrb::Producer;
 use sms_pdu::{Reply, frame_header, reply_of};
 use sms_session::{Action, Response, Session};
@@ -35,19 +40,25 @@ pub(crate) struct ReaderState {
     pub producers: Vec<Producer<Reply>>,
     pub counts: Counts,
     pub follower: Follower,
+    /// Whether deliver_sm are to be kept.
+    pub keeps: bool,
+    /// The sequence_number by which the line is asked.
+    pub number: EnquiryNumber,
 }
 
 impl ReaderState {
-    /// Handles a frame and counts it. Returns why the reader ends, if it does.
+    /// Handles a frame and counts it; `keeping` is what became of the deliver_sm of its stream. Returns why the reader ends,
+    /// if it does.
     pub fn handle<N: LogName, W: Write, S: Wait>(
         &mut self,
         context: &ReaderContext<N, W, S>,
         frame: &[u8],
+        keeping: Keeping<'_>,
     ) -> Option<ReaderCause>
-        requires bound { IsBound self.old.session }
+        requires ready { IsReady (is_asked keeping) self.old }
         requires same_window { self.old.follower.now.window ≡ context.now.window.now }
         requires frame { IsFrame frame.now }
-        requires within { IsWithin self.old.counts }
+        requires covers { Covers frame.now keeping }
         requires room { self.old.counts.frames + 1 < 2 ^ 64 }
         ensures follows { Follows self.old.follower self.new.follower }
         ensures handled { Handled self.old.session result self.old self.new (frame.now ∷ []) }
@@ -57,7 +68,7 @@ impl ReaderState {
         ensures stretch { IfSome result (λ c. stretch_of (Some c) ≡ early) }
         ensures not_out_of_memory { result ≢ Some OutOfMemory }
     {
-        let outcome = self.dispatch(context, frame);
+        let outcome = self.dispatch(context, frame, keeping);
         self.counts.add(&outcome);
         cause_of(&outcome, self.session.state())
     }
@@ -67,17 +78,20 @@ impl ReaderState {
         &mut self,
         context: &ReaderContext<N, W, S>,
         frame: &[u8],
+        keeping: Keeping<'_>,
     ) -> FrameOutcome
-        requires bound { IsBound self.old.session }
+        requires bound { IsBound self.old.session × (is_asked keeping ≡ self.old.keeps) }
         requires same_window { self.old.follower.now.window ≡ context.now.window.now }
-        requires frame { IsFrame frame.now }
+        requires frame { IsFrame frame.now × Covers frame.now keeping }
         ensures follows { Follows self.old.follower self.new.follower }
         ensures follow { Follow result self.old.follower self.new.follower }
-        ensures suits { Suits self.old.session frame.now result }
+        ensures suits { Suits self.old.keeps self.old.session frame.now result }
+        // It is what became of this stream's deliver_sm that decides.
+        ensures answered { (response : Response) → (on_table self.old.session (header_at_front frame.now)).0 ≡ ReplyAction response → Responded (answer_to keeping.entry response) result }
         ensures rings { AllZip SameProducer self.old.producers.items self.new.producers.items }
         ensures sends { map sent self.new.producers.items ≡ handed (map sent self.old.producers.items) (entry result) }
         ensures room { TakesRoom result (map known_free self.old.producers.items) (map known_free self.new.producers.items) }
-        ensures counts { self.new.counts ≡ self.old.counts }
+        ensures unchanged { (self.new.counts ≡ self.old.counts) × (self.new.keeps ≡ self.old.keeps) }
         ensures session { self.new.session ≡ (on_table self.old.session (header_at_front frame.now)).1 }
     {
         match self.session.on(&frame_header(frame)) {
@@ -90,8 +104,8 @@ impl ReaderState {
                     delivery: self.apply_reply(context, &answer),
                 }
             }
-            Action::Reply(response) => respond(context, response),
-            Action::ReplyClose(response) => respond(context, response),
+            Action::Reply(response) => respond(context, frame, keeping, response),
+            Action::ReplyClose(response) => respond(context, frame, keeping, response),
             Action::Note => FrameOutcome::Noted,
             Action::Close => FrameOutcome::Closed,
             Action::Drop => FrameOutcome::Closed,
@@ -110,7 +124,7 @@ impl ReaderState {
         ensures rings { AllZip SameProducer self.old.producers.items self.new.producers.items }
         ensures sends { map sent self.new.producers.items ≡ handed (map sent self.old.producers.items) (entry (Answer reply.now result)) }
         ensures room { TakesRoom (Answer reply.now result) (map known_free self.old.producers.items) (map known_free self.new.producers.items) }
-        ensures unchanged { (self.new.session ≡ self.old.session) × (self.new.counts ≡ self.old.counts) }
+        ensures unchanged { (self.new.session ≡ self.old.session) × (self.new.counts ≡ self.old.counts) × (self.new.keeps ≡ self.old.keeps) }
     {
         let rings = self.producers.as_mut_slice();
         let delivery = context.line.slots.answer(context.rt, *reply, rings);
@@ -123,15 +137,62 @@ impl ReaderState {
     }
 }
 
-/// Writes a response to a request.
+/// Writes the response to the request of a frame. A deliver_sm is acknowledged only where it was kept, if it was to be, and else
+/// refused for a time.
 fn respond<N: LogName, W: Write, S: Wait>(
     context: &ReaderContext<N, W, S>,
+    frame: &[u8],
+    keeping: Keeping<'_>,
     response: Response,
 ) -> FrameOutcome
-    ensures { Responded response result }
+    requires covers { Covers frame.now keeping }
+    requires number { response.number ≡ number_at 12 frame.now }
+    ensures { Responded (answer_to keeping.entry response) result }
 {
-    FrameOutcome::Replied {
-        response,
-        written: reply(context, &response),
+    if !acknowledges(&response) {
+        let written = reply(context, &response);
+        return FrameOutcome::Replied { response, written };
     }
+    if permits(&keeping) {
+        let written = acknowledge(context, &response, keeping, frame);
+        return FrameOutcome::Replied { response, written };
+    }
+    refuse(context, &response)
+}
+
+/// Whether deliver_sm may be acknowledged.
+fn permits(keeping: &Keeping<'_>) -> bool
+    ensures { result ≡ allows keeping.now }
+{
+    match keeping {
+        Keeping::Unasked => true,
+        Keeping::Kept(_) => true,
+        Keeping::Unkept(_) => false,
+    }
+}
+
+/// ESME_RX_T_APPN (SMPP 3.4 5.1.3): the message centre tries again.
+const TEMPORARY_ERROR: u32 = 0x64;
+
+/// The response by which a deliver_sm is refused that couldn't be kept.
+fn refusal_of(response: &Response) -> Response
+    ensures { result ≡ refused response.now }
+{
+    Response {
+        command: response.command,
+        status: TEMPORARY_ERROR,
+        number: response.number,
+    }
+}
+
+/// Refuses a deliver_sm for a time.
+fn refuse<N: LogName, W: Write, S: Wait>(
+    context: &ReaderContext<N, W, S>,
+    response: &Response,
+) -> FrameOutcome
+    ensures { Responded (refused response.now) result }
+{
+    let response = refusal_of(response);
+    let written = reply(context, &response);
+    FrameOutcome::Replied { response, written }
 }

@@ -16,6 +16,7 @@ use std::test::Fail;
 mod early;
 mod faults;
 mod following;
+mod keeping;
 mod log;
 mod memory;
 mod reader;

@@ -207,7 +207,7 @@ rest_in frames more ess r = record { place = r.place; accepted = λ x. let a = r
 
 -- over the rings of a bind
 pub charges_rest : (producers : List (Producer Reply Global AnyItems)) (consumers : List (Consumer Reply Global AnyItems)) → AllZip HasReceived producers consumers → ChargesRestOnFrames producers consumers
-charges_rest producers consumers met rings state begun before after held end ess h all = record {
+charges_rest producers consumers met rings keeps state begun before after held end ess h all = record {
   got = h.got;
   consumed = h.consumed;
   frames = h.worked ++ h.others;

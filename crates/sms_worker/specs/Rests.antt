@@ -1,5 +1,5 @@
 -- On which of the frames that a bind's reader read the charges of the bind's workers rest.
-use Rattle.std.specs.Prelude.{◌≡◌, ℕ, suc, List, ◌++◌, Option, Some, length, map, slice_get}
+use Rattle.std.specs.Prelude.{◌≡◌, ℕ, suc, Bool, List, ◌++◌, Option, Some, length, map, slice_get}
 use Rattle.std.specs.List.{AllZip}
 use mathlib.Core.List.{IsPrefix}
 use Rattle.std.specs.Io.KnownBytes.{Consumes}
@@ -91,7 +91,7 @@ pub record Worked (rings : List (Producer Reply Global AnyItems)) (consumers : L
 -- the workers gave back these consumers
 abbrev pub ChargesRestOnFrames : List (Producer Reply Global AnyItems) → List (Consumer Reply Global AnyItems) → Type 0
 ChargesRestOnFrames producers consumers =
-    (rings : List (Producer Reply Global AnyItems)) (state : State) (begun : List ℕ) (before after : Option (List ℕ)) (held : Held) (end : ReaderEnd) (ess : List (List MessageEnd))
-    → HandsOn state begun before after (map sent rings) (map sent producers) held end
+    (rings : List (Producer Reply Global AnyItems)) (keeps : Bool) (state : State) (begun : List ℕ) (before after : Option (List ℕ)) (held : Held) (end : ReaderEnd) (ess : List (List MessageEnd))
+    → HandsOn keeps state begun before after (map sent rings) (map sent producers) held end
     → ((worker : ℕ) (ends : List MessageEnd) → slice_get ess worker ≡ Some ends → Worked rings consumers worker ends)
     → RestOnRead begun before after ess

@@ -99,7 +99,7 @@ impl<F: Given> Split<View> for Claims<F> {
     ghost right = { λ v. pass_after F.frame v };
 }
 
-/// The wire is given a response, which the call picks.
+/// The wire is given a frame that nobody claims, which the call picks.
 pub struct Notes<F>(PhantomData<F>);
 
 impl<F: Given> Split<View> for Notes<F> {

@@ -5,7 +5,7 @@
 ghost use Rattle.std.specs.Prelude.{◌≡◌, ℕ, ◌<◌, List, [], ◌∷◌, ◌++◌, Option};
 ghost use Rattle.atomic_table.specs.Table.{Splits};
 ghost use Rattle.sms_bind.specs.declared.log.rule.View.{View};
-ghost use Rattle.sms_bind.specs.Frames.{IsRequest, IsResponse};
+ghost use Rattle.sms_bind.specs.Frames.{IsRequest, IsUnclaimed};
 ghost use Rattle.sms_bind.specs.LogRule.{IsKept, IsSettled, seat, wire_seat, joined, dealer, dealt, noted};
 ghost use Rattle.sms_bind.specs.Wires.{writer};
 
@@ -94,11 +94,11 @@ pub fn claim<F: Given>(
     *pass = split_off::<Claims<F>>(table, wire);
 }
 
-/// Gives a wire a response.
+/// Gives a wire a frame that nobody claims.
 pub fn note<F: Given>(table: &LogTable, wire: &mut Badge<View>, frame: &Frame)
     requires picked { frame.now ≡ F.frame }
     requires table { (wire.old.table_id ≡ table.now.table_id) × (0 < table.now.table_id.words) }
-    requires response { IsResponse frame.now }
+    requires unclaimed { IsUnclaimed frame.now }
     requires wire { (v : View) × (wire.old.views ≡ v ∷ []) × (0 < v.parts) }
     ensures table { wire.new.table_id ≡ wire.old.table_id }
     ensures given { (v : View) → wire.old.views ≡ v ∷ [] → wire.new.views ≡ noted frame.now v ∷ [] }

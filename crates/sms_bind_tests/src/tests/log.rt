@@ -5,7 +5,7 @@ ghost use Rattle.sms_bind.specs.Frames.{IsRequest, AreSame, requests as requests
 
 use super::{Sink, blank_log, frame, same, wire_to};
 use sms_bind::{BlankLog, LogKeeper, LogName, LoggedWire, Requests, SettledLog};
-use sms_pdu::Frame;
+use sms_pdu::{Frame, SUBMIT_SM};
 use std::alloc::Global;
 use std::marker::Brand;
 use std::process::Abort;
@@ -14,15 +14,15 @@ use std::test::Fail;
 use std::thread;
 use std::thread::Threads;
 
-// An enquire_link with this sequence_number, as a frame.
+// A submit_sm without a body and with this sequence_number, as a frame.
 fn request(rt: &impl Abort, alloc: Global, number: u8) -> Result<Frame, Fail>
     ensures { IfOk result IsRequest }
 {
     let made = frame(
         alloc,
-        &[0, 0, 0, 16, 0, 0, 0, 0x15, 0, 0, 0, 0, 0, 0, 0, number],
+        &[0, 0, 0, 16, 0, 0, 0, 4, 0, 0, 0, 0, 0, 0, 0, number],
     )?;
-    assert!(rt; made.header().command < 0x8000_0000);
+    assert!(rt; made.header().command == SUBMIT_SM);
     Ok(made)
 }
 

@@ -2,6 +2,7 @@
 
 ghost use Rattle.std.specs.Prelude.{◌≡◌, IfSome, None};
 ghost use Rattle.sms_bind.specs.Frames.{IsResponse};
+ghost use Rattle.sms_bind.specs.Keepings.{IsAcknowledgement};
 
 use super::beside::{Beside, line_with_fuse};
 use super::notes::{Log, Note};
@@ -12,7 +13,7 @@ use super::{
 };
 use sms_bind::{BlankLog, Line, LogName};
 use sms_book::{Blank, Book, BookName, Shares};
-use sms_pdu::{BodyRef, Frame, PduRef, Reply, encode_into};
+use sms_pdu::{BodyRef, DELIVER_SM_RESP, Frame, PduRef, Reply, encode_into};
 use sms_worker::{Clock, Gate, MessageRefusal, Outcome, Pause, Rules, Worker};
 use std::alloc::Global;
 use std::cell::RefCell;
@@ -153,7 +154,8 @@ enum Trouble {
 
 // A frame that no worker sends.
 fn link_response(alloc: Global) -> Option<Frame>
-    ensures { IfSome result IsResponse }
+    ensures response { IfSome result IsResponse }
+    ensures other { IfSome result (λ frame. ¬ IsAcknowledgement frame) }
 {
     let pdu = PduRef {
         status: 0,
@@ -165,7 +167,8 @@ fn link_response(alloc: Global) -> Option<Frame>
         return None;
     }
     let frame = Frame::new(octets);
-    if frame.header().command < 0x8000_0000 {
+    let command = frame.header().command;
+    if command < 0x8000_0000 || command == DELIVER_SM_RESP {
         return None;
     }
     Some(frame)

@@ -1,4 +1,13 @@
+use Rattle.std.proofs.Common.{◌≡◌, ◌∙◌, sym, subst, rules}
+use Rattle.sms_pdu.specs.Header.{header_at_front}
+use Rattle.sms_session.specs.declared.session.Action.{Action}
+use Rattle.sms_session.specs.declared.session.Action.TheVariants as action
+use Rattle.sms_session.specs.declared.session.Response.{Response}
+use Rattle.sms_session.specs.Session.{on_table}
 use Rattle.sms_slot.proofs.Rings.{same_rings}
+use Rattle.sms_bind.specs.Deeds.{Answered, Does, Responded}
+use Rattle.sms_bind.specs.Keepings.{answer_to}
+use Rattle.sms_bind.proofs.Tables.{HasNumber, has_number}
 use Rattle.sms_bind.proofs.reader_state.ReaderState.dispatch.Goals as goal
 
 pub returns-in-Reply-clause-rings : goal.returns-in-Reply-clause-rings
@@ -12,3 +21,39 @@ returns-in-Note-clause-rings g c = same_rings c.args.self.now.producers.items
 
 pub returns-in-Close-clause-rings : goal.returns-in-Close-clause-rings
 returns-in-Close-clause-rings g c = same_rings c.args.self.now.producers.items
+
+-- the response has the frame's number
+pub respond-requires-clause-number : goal.respond-requires-clause-number
+respond-requires-clause-number g c =
+    let h = header_at_front c.args.frame.now in
+    let is : (on_table c.args.self.now.session h).0 ≡ action.Reply c.in-Reply.response = search rules in
+    subst (HasNumber h.number) is (has_number c.args.self.now.session h)
+
+pub respond-requires-in-ReplyClose-clause-number : goal.respond-requires-in-ReplyClose-clause-number
+respond-requires-in-ReplyClose-clause-number g c =
+    let h = header_at_front c.args.frame.now in
+    let is : (on_table c.args.self.now.session h).0 ≡ action.ReplyClose c.in-ReplyClose.response = search rules in
+    subst (HasNumber h.number) is (has_number c.args.self.now.session h)
+
+pub returns-in-Reply-clause-suits : goal.returns-in-Reply-clause-suits
+returns-in-Reply-clause-suits g c =
+    let h = header_at_front c.args.frame.now in
+    let is : (on_table c.args.self.now.session h).0 ≡ action.Reply c.in-Reply.response = search rules in
+    let answered : Answered c.args.self.now.keeps c.in-Reply.response c.respond.result = record { keeping = c.args.keeping; asked = c.requires.bound.1; responded = c.respond.ensures } in
+    subst (λ (a : Action). Does c.args.self.now.keeps a c.args.frame.now c.respond.result) (sym is) answered
+
+pub returns-in-ReplyClose-clause-suits : goal.returns-in-ReplyClose-clause-suits
+returns-in-ReplyClose-clause-suits g c =
+    let h = header_at_front c.args.frame.now in
+    let is : (on_table c.args.self.now.session h).0 ≡ action.ReplyClose c.in-ReplyClose.response = search rules in
+    let done = c.respond-in-ReplyClose in
+    let answered : Answered c.args.self.now.keeps c.in-ReplyClose.response done.result = record { keeping = c.args.keeping; asked = c.requires.bound.1; responded = done.ensures } in
+    subst (λ (a : Action). Does c.args.self.now.keeps a c.args.frame.now done.result) (sym is) answered
+
+pub returns-in-Reply-clause-answered : goal.returns-in-Reply-clause-answered
+returns-in-Reply-clause-answered g c = λ r e.
+    let h = header_at_front c.args.frame.now in
+    let is : (on_table c.args.self.now.session h).0 ≡ action.Reply c.in-Reply.response = search rules in
+    let both : action.Reply c.in-Reply.response ≡ action.Reply r = sym is ∙ e in
+    let same : c.in-Reply.response ≡ r = cc in
+    subst (λ (x : Response). Responded (answer_to c.args.keeping x) c.respond.result) same c.respond.ensures

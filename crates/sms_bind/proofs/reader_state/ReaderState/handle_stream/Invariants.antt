@@ -10,6 +10,7 @@ invariant-loop-length g l = record {
   follows : Follows l.initial.self.follower l.self.follower;
   same : l.self.session ≡ l.initial.self.session;
   within : IsWithin l.self.counts;
+  keeps : l.self.keeps ≡ l.initial.self.keeps;
   went : Went (Handled l.initial.self.session None l.initial.self l.self) l.stream l.left;
   room : l.self.counts.frames + length l.left ≤ l.initial.self.counts.frames + length l.stream;
 }

@@ -1,10 +1,10 @@
-use Rattle.std.proofs.Common.{◌++◌, [], Option, None, Some, refl, sym, ap, subst, rules, arith}
+use Rattle.std.proofs.Common.{◌++◌, ◌∙◌, [], Option, None, Some, refl, sym, ap, subst, rules, arith}
 use Rattle.std.specs.List.{concat}
 use Rattle.sms_pdu.specs.Devices.{device}
 use Rattle.sms_pdu.specs.Frame.{IsBad}
 use Rattle.sms_pdu.specs.Streams.{Reads, lost}
 use Rattle.sms_bind.specs.declared.ending.ReaderCause.{ReaderCause}
-use Rattle.sms_bind.specs.declared.ending.ReaderCause.TheVariants.{Ended, Lost, ReadFault, Stopped, Turns}
+use Rattle.sms_bind.specs.declared.ending.ReaderCause.TheVariants.{Ended, Lost, ReadFault, Silent, Stopped, Turns}
 use Rattle.sms_session.specs.Session.{IsBound}
 use Rattle.sms_bind.specs.Deeds.{stretch_of}
 use Rattle.sms_bind.specs.ReaderStates.{Handled}
@@ -46,15 +46,14 @@ returns-clause-reads g c =
     let r = g.R.Read.remaining (device c.args.reader.now) in
     let u = g.R.Read.remaining (device c.read_turns.new.reader) in
     let one = subst (λ x. Reads (Handled x end b d) rest r u (stretch_of end) []) (c.in_default.ensures.going refl) c.read_turns.ensures.reads in
-    reads_more (Handled s None a b) (Handled s end b d) (Handled s end a d) (before ++ rest) rest [] r r u (stretch_of end) (reads_begun (Handled s None a b) before left rest r went (whole refl) c.requires.rest) one (λ fs gs p q. handled_more s c.requires.bound end a b d fs gs p q)
+    reads_more (Handled s None a b) (Handled s end b d) (Handled s end a d) (before ++ rest) rest [] r r u (stretch_of end) (reads_begun (Handled s None a b) before left rest r went (whole refl) c.requires.rest) one (λ fs gs p q. handled_more s c.requires.ready.bound end a b d fs gs p q)
 
 pub returns-in-Some-clause-not_out_of_memory : goal.returns-in-Some-clause-not_out_of_memory
 returns-in-Some-clause-not_out_of_memory g c = λ bad e. c.in-Some.ensures.not_out_of_memory (ap (λ x. Some x) e)
 
 pub read_turns-requires-clause-reading : goal.read_turns-requires-clause-reading
 read_turns-requires-clause-reading g c = record {
-  bound = subst IsBound (sym (c.in_default.ensures.going refl)) c.requires.bound;
-  within = c.handle_all.ensures.within;
+  ready = record { bound = subst IsBound (sym (c.in_default.ensures.going refl)) c.requires.ready.bound; within = c.handle_all.ensures.within; keeps = c.handle_all.ensures.same.0 ∙ c.requires.ready.keeps ∙ sym (let (left, went, whole) = c.in_default.ensures.handled in went.done.keeps) };
   rest = c.requires.rest;
   good = search rules;
 }
@@ -90,3 +89,6 @@ returns-then-is_bad-clause-read g c = record {
 
 pub returns-clause-read : goal.returns-clause-read
 returns-clause-read g c = c.read_turns.ensures.read
+
+pub returns-in-Some-clause-silent : goal.returns-in-Some-clause-silent
+returns-in-Some-clause-silent g c = λ e. absurd (not_early c.in-Some.cause Silent c.in-Some.ensures.stretch refl e)

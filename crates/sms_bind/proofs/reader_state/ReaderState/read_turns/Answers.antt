@@ -29,7 +29,8 @@ loop-turn-init g c =
     record {
       follows = follows_same a.follower;
       same = refl;
-      within = c.requires.reading.within;
+      within = c.requires.reading.ready.within;
+      keeps = refl;
       reads = reads_none (Handled a.session None a a) held held r r going (handled_none a.session a) (Consumes-nil r) (c.requires.reading.rest, refl);
       turned = turned_begins _ _;
       took = λ room. took_none _ _;
@@ -80,7 +81,7 @@ returns-in-Some-turn-clause-reads g c =
     let end : Option ReaderCause = Some c.in-Some-turn.cause in
     let one = subst (λ x. Reads (Handled x end b d) held t u (stretch_of end) kept) i.same c.in-Some-turn.ensures.reads in
     reads_ended (Handled s end a d) begun kept [] r u (stretch_of end)
-    (reads_more (Handled s None a b) (Handled s end b d) (Handled s end a d) begun held kept r t u (stretch_of end) i.reads one (λ fs gs p q. handled_more s c.requires.reading.bound end a b d fs gs p q))
+    (reads_more (Handled s None a b) (Handled s end b d) (Handled s end a d) begun held kept r t u (stretch_of end) i.reads one (λ fs gs p q. handled_more s c.requires.reading.ready.bound end a b d fs gs p q))
     (λ left. leaves_end c.in-Some-turn.cause left kept [])
 
 pub loop-turn-preserved : goal.loop-turn-preserved
@@ -100,13 +101,14 @@ loop-turn-preserved g c =
     record {
       follows = follows_on a.follower b.follower d.follower i.follows c.turn.ensures.follows;
       same = (c.in_default-turn.ensures.going refl).session ∙ i.same;
-      within = c.turn.ensures.within;
-      reads = reads_more (Handled s None a b) (Handled s None b d) (Handled s None a d) begun held kept r t u going i.reads one (λ fs gs p q. handled_more s c.requires.reading.bound None a b d fs gs p q);
+      within = c.turn.ensures.same.0;
+      keeps = c.turn.ensures.same.2 ∙ i.keeps;
+      reads = reads_more (Handled s None a b) (Handled s None b d) (Handled s None a d) begun held kept r t u going i.reads one (λ fs gs p q. handled_more s c.requires.reading.ready.bound None a b d fs gs p q);
       turned = turned_more c.loop-turn._turn _ _ _ _ _ _ _ c.in_default-turn.ensures.read.grows i.turned c.in_default-turn.ensures.read.turned refl;
       took = took_more c.loop-turn._turn _ _ _ _ _ _ i.faults c.in_default-turn.ensures.read.grows i.took (λ room. c.in_default-turn.ensures.read.took room refl);
       faults = (let f = c.in_default-turn.ensures.read.grows in let h = i.faults in omega (arith, f, h));
       failures = c.in_default-turn.ensures.read.no_failure (λ e. absurd cc) ∙ i.failures;
-      piece = c.turn.ensures.piece;
+      piece = c.turn.ensures.same.1;
       good = (c.in_default-turn.ensures.going refl).good;
       room = (let n = (c.in_default-turn.ensures.going refl).room in let m = i.room in omega (arith, n, m));
     }
@@ -115,8 +117,7 @@ pub turn-requires-clause-reading : goal.turn-requires-clause-reading
 turn-requires-clause-reading g c =
     let i = c.loop-turn.invariant in
     record {
-      bound = subst IsBound (sym i.same) c.requires.reading.bound;
-      within = i.within;
+      ready = record { bound = subst IsBound (sym i.same) c.requires.reading.ready.bound; within = i.within; keeps = i.keeps ∙ c.requires.reading.ready.keeps ∙ sym i.reads.went.done.keeps };
       rest = reads_rest (Handled c.args.self.now.session None c.args.self.now c.loop-turn.self) c.args.held.items c.loop-turn.held.items (g.R.Read.remaining (device c.args.reader.now)) (g.R.Read.remaining (device c.loop-turn.reader)) i.reads;
       good = i.good;
     }
@@ -184,3 +185,6 @@ returns-clause-read g c =
       failed = λ e. absurd cc;
       no_failure = λ other. i.failures;
     }
+
+pub returns-in-Some-turn-clause-silent : goal.returns-in-Some-turn-clause-silent
+returns-in-Some-turn-clause-silent g c = λ e. c.in-Some-turn.ensures.watched.silent (ap (λ x. Some x) e)

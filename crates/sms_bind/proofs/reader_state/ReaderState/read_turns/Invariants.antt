@@ -14,6 +14,7 @@ invariant-loop-turn g l = record {
   follows : Follows l.fn.self.follower l.self.follower;
   same : l.self.session ≡ l.fn.self.session;
   within : IsWithin l.self.counts;
+  keeps : g.D.ReaderDevice.keeps l.device ≡ g.D.ReaderDevice.keeps l.fn.device;
   reads : Reads (Handled l.fn.self.session None l.fn.self l.self) l.fn.held.items (g.R.Read.remaining (device l.fn.reader)) (g.R.Read.remaining (device l.reader)) going l.held.items;
   turned : Turned l._turn (Unit {0}) (g.R.Read.remaining (device l.fn.reader)) (g.R.Read.remaining (device l.reader)) (faults_of l.fn.reader) (faults_of l.reader);
   took : faults_of l.fn.reader + l._turn < 2 ^ 64 → TookTurns l._turn (faults_of l.reader - faults_of l.fn.reader) (g.R.Read.remaining (device l.fn.reader)) (g.R.Read.remaining (device l.reader));

@@ -1,13 +1,14 @@
-use Rattle.std.proofs.Common.{◌≡◌, ◌++◌, ℕ, take, Some, refl, subst, rules, arith}
+use Rattle.std.proofs.Common.{◌≡◌, ◌∙◌, ◌++◌, ℕ, take, Some, refl, subst, rules, arith}
 use Rattle.std.specs.Io.KnownBytes.{Consumes}
 use Rattle.sms_pdu.specs.Devices.{device}
 use Rattle.sms_pdu.specs.Streams.{complete, early}
 use Rattle.sms_pdu.proofs.Streams.{reads_none, reads_once, went_none}
-use Rattle.sms_pdu.proofs.Turns.{not_spent, not_failed, turned_ends, turned_read, turned_fault}
-use Rattle.sms_bind.specs.declared.ending.ReaderCause.TheVariants.{Ended, ReadFault, Stopped, Turns, OutOfMemory}
+use Rattle.sms_pdu.proofs.Turns.{not_spent, turned_ends, turned_read, turned_fault}
+use Rattle.sms_bind.specs.declared.ending.ReaderCause.TheVariants.{Ended, OutOfMemory, Stopped, Turns}
 use Rattle.sms_bind.specs.ReaderStates.{Handled}
 use Rattle.sms_bind.proofs.Turning.{took_fault, took_read}
-use Rattle.sms_bind.proofs.Handling.{handled_nothing, reads_failed}
+use Rattle.std.specs.IoError.{error_kind}
+use Rattle.sms_bind.proofs.Handling.{failed_counts, fails_not, handled_nothing, reads_failed}
 use Rattle.sms_bind.proofs.reader_state.ReaderState.turn.Goals as goal
 
 pub returns-then-is_err-clause-reads : goal.returns-then-is_err-clause-reads
@@ -32,10 +33,10 @@ returns-in-Ok-eq0-clause-reads g c =
 
 pub returns-in-Err-clause-reads : goal.returns-in-Err-clause-reads
 returns-in-Err-clause-reads g c =
-    reads_failed c.args.self.now.session c.args.self.now c.fault_of.result c.args.held.now.items _ _ c.fault_of.ensures.one c.in-Err.ensures.bytes c.requires.reading.rest c.requires.reading.good
+    reads_failed c.args.self.now.session c.args.self.now c.failed.result c.args.held.now.items _ _ c.failed.ensures.one c.in-Err.ensures.bytes c.requires.reading.rest c.requires.reading.good
 
 pub returns-in-Err-clause-cause : goal.returns-in-Err-clause-cause
-returns-in-Err-clause-cause g c = (λ seen. not_failed c.fault_of.result ReadFault (Stopped seen) c.fault_of.ensures.one (λ e. absurd cc), not_failed c.fault_of.result ReadFault Turns c.fault_of.ensures.one (λ e. absurd cc))
+returns-in-Err-clause-cause g c = (λ seen. fails_not c.failed.result (Stopped seen) c.failed.ensures.one (λ e. absurd cc) (λ e. absurd cc), fails_not c.failed.result Turns c.failed.ensures.one (λ e. absurd cc) (λ e. absurd cc))
 
 pub returns-then-is_err-clause-ended_input : goal.returns-then-is_err-clause-ended_input
 returns-then-is_err-clause-ended_input g c = λ spent quiet. absurd (not_spent _ _ (take c.in-Ok.n c.read.new.buf) (search rules) c.in-Ok.ensures.bytes.0 spent)
@@ -83,25 +84,26 @@ returns-in-Ok-eq0-clause-read g c = record {
 }
 
 pub returns-in-Err-clause-read : goal.returns-in-Err-clause-read
-returns-in-Err-clause-read g c = record {
-  turned = turned_fault _ _ _ _ _ c.in-Err.ensures.counted c.read.ensures.grows c.in-Err.ensures.bytes;
-  took = λ room e. took_fault _ _ _ _ room c.in-Err.ensures.faults c.in-Err.ensures.bytes;
-  errors_counted = refl;
-  grows = c.read.ensures.grows;
-  stopped = λ seen e. absurd (not_failed c.fault_of.result ReadFault (Stopped seen) c.fault_of.ensures.one (λ e. absurd cc) e);
-  end = λ e. absurd (not_failed c.fault_of.result ReadFault Ended c.fault_of.ensures.one (λ e. absurd cc) e);
-  fault = search rules;
-  failed = search rules;
-  no_failure = search rules;
-}
+returns-in-Err-clause-read g c =
+    let counts = failed_counts (error_kind c.in-Err.e) c.failed.result _ _ c.in-Err.ensures.failures c.failed.ensures.again c.failed.ensures.fault in record {
+      turned = turned_fault _ _ _ _ _ c.in-Err.ensures.counted c.read.ensures.grows c.in-Err.ensures.bytes;
+      took = λ room e. took_fault _ _ _ _ room c.in-Err.ensures.faults c.in-Err.ensures.bytes;
+      errors_counted = refl;
+      grows = c.read.ensures.grows;
+      stopped = λ seen e. absurd (fails_not c.failed.result (Stopped seen) c.failed.ensures.one (λ e. absurd cc) (λ e. absurd cc) e);
+      end = λ e. absurd (fails_not c.failed.result Ended c.failed.ensures.one (λ e. absurd cc) (λ e. absurd cc) e);
+      fault = λ e. c.in-Err.ensures.counted;
+      failed = counts.0;
+      no_failure = counts.1;
+    }
 
 pub returns-then-is_err-clause-going : goal.returns-then-is_err-clause-going
 returns-then-is_err-clause-going g c = λ e. absurd cc
 
 pub returns-else-is_err-clause-going : goal.returns-else-is_err-clause-going
 returns-else-is_err-clause-going g c = λ e. record {
-  session = c.handle_held.ensures.going e;
-  good = c.handle_held.ensures.good e;
+  session = (c.handle_held.ensures.going e).1;
+  good = (c.handle_held.ensures.going e).0;
   room = search rules;
 }
 
@@ -110,3 +112,40 @@ returns-in-Ok-eq0-clause-going g c = λ e. absurd cc
 
 pub returns-in-Err-clause-going : goal.returns-in-Err-clause-going
 returns-in-Err-clause-going g c = λ e. record { session = refl; good = c.requires.reading.good; room = omega arith }
+
+pub handle_held-requires-clause-ready : goal.handle_held-requires-clause-ready
+handle_held-requires-clause-ready g c = record {
+  bound = c.requires.reading.ready.bound;
+  within = c.requires.reading.ready.within;
+  keeps = c.heard.ensures.same.0 ∙ c.requires.reading.ready.keeps;
+}
+
+-- ---- the watch
+
+pub returns-then-is_err-clause-watched : goal.returns-then-is_err-clause-watched
+returns-then-is_err-clause-watched g c = record {
+  heard = λ same other full. absurd (full refl);
+  quiet = λ more. absurd (let same = c.in-Ok.ensures.faults in omega (arith, more, same));
+  silent = λ e. absurd cc;
+}
+
+pub returns-else-is_err-clause-watched : goal.returns-else-is_err-clause-watched
+returns-else-is_err-clause-watched g c = record {
+  heard = λ same other full. (c.heard.ensures.watch.0, c.handle_held.ensures.same.1 ∙ c.heard.ensures.watch.1);
+  quiet = λ more. absurd (let same = c.in-Ok.ensures.faults in omega (arith, more, same));
+  silent = λ e. absurd (c.handle_held.ensures.cause.5 e);
+}
+
+pub returns-in-Ok-eq0-clause-watched : goal.returns-in-Ok-eq0-clause-watched
+returns-in-Ok-eq0-clause-watched g c = record {
+  heard = λ same other full. absurd (other refl);
+  quiet = λ more. absurd (let same = c.in-Ok-eq0.ensures.faults in omega (arith, more, same));
+  silent = λ e. absurd cc;
+}
+
+pub returns-in-Err-clause-watched : goal.returns-in-Err-clause-watched
+returns-in-Err-clause-watched g c = record {
+  heard = λ same other full. absurd (same c.in-Err.ensures.counted);
+  quiet = λ other. c.failed.ensures.quiet;
+  silent = c.failed.ensures.silent;
+}
